@@ -1,0 +1,3 @@
+pub mod Counting
+pub mod Names
+pub mod Noting

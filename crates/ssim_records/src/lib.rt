@@ -1,0 +1,17 @@
+//! The plain types that every layer of the inventory shares, and reading and writing whole texts.
+//! It knows records and names of the airline standards, and nothing of flights, seats or sessions.
+#![tactic(auto)]
+
+mod counted;
+mod memory;
+mod names;
+mod place;
+mod reading;
+mod writing;
+
+pub use counted::{Counted, Failures, NotedRead, NotedWrite};
+pub use memory::Memory;
+pub use names::{Airline, Class, Code, Locator, Station};
+pub use place::Place;
+pub use reading::{ReadFault, read_all};
+pub use writing::{WriteFault, put_all};

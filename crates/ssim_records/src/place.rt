@@ -1,0 +1,7 @@
+/// The legs `from` to `to` of a dated flight, both counted from 0 and included.
+#[derive(Clone, Copy, Debug, PartialEq, Eq)]
+pub struct Place {
+    pub flight: u32,
+    pub from: u8,
+    pub to: u8,
+}

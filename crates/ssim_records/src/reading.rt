@@ -1,0 +1,53 @@
+// All bytes of a reader, up to a bound.
+ghost use Rattle.std.specs.Prelude.{◌≡◌, ℕ, ◌+◌, ◌<◌, ◌≤◌, List, length, ◌++◌, IfOk, IfErr, OnOk, OnErr, IfSome, true, false};
+ghost use Rattle.std.specs.Io.KnownBytes.{Consumes, IsAtEnd};
+ghost use Rattle.ssim_records.specs.Noting.{noted, GaveMore, Turned};
+
+use super::counted::NotedRead;
+use std::alloc::Global;
+
+#[derive(Clone, Copy, PartialEq, Eq, Drop)]
+pub enum ReadFault {
+    Device,
+    TooLarge,
+    Memory,
+}
+
+/// All the bytes that `reader` gives until its end, at most `max`.
+pub fn read_all<R: NotedRead>(alloc: Global, reader: &mut R, max: u64) -> Result<Vec<u8>, ReadFault>
+    ensures bound { IfOk result (λ v. length v.items ≤ max) }
+    ensures bytes { IfOk result (λ v. Consumes (R.remaining reader.old) (R.remaining reader.new) v.items) }
+    ensures end { OnOk result (IsAtEnd (R.remaining reader.new)) }
+    ensures whole { IfOk result (λ v. IfSome (R.remaining reader.old) (λ xs. v.items ≡ xs)) }
+    ensures device { IfErr result (λ f. f ≡ ReadFault.Device → R.failure_count reader.new ≡ noted (R.failure_count reader.old)) }
+    ensures large { IfErr result (λ f. f ≡ ReadFault.TooLarge → IfSome (R.remaining reader.old) (λ xs. max < length xs)) }
+    ensures counted { OnOk result (R.failure_count reader.new ≡ R.failure_count reader.old) }
+{
+    let mut bytes = Vec::new(alloc);
+    while take_turn(reader, &mut bytes, max)? {}
+    Ok(bytes)
+}
+
+// One read. The answer says whether it gave a byte.
+fn take_turn<R: NotedRead>(reader: &mut R, bytes: &mut Vec<u8>, max: u64) -> Result<bool, ReadFault>
+    requires room { length bytes.old.items ≤ max }
+    ensures turned { IfOk result (Turned max (R.remaining reader.old) (R.remaining reader.new) bytes.old.items bytes.new.items) }
+    ensures counted { OnOk result (R.failure_count reader.new ≡ R.failure_count reader.old) }
+    ensures device { IfErr result (λ f. f ≡ ReadFault.Device → R.failure_count reader.new ≡ noted (R.failure_count reader.old)) }
+    ensures large { IfErr result (λ f. f ≡ ReadFault.TooLarge → GaveMore max (length bytes.old.items) (R.remaining reader.old)) }
+{
+    let mut piece = [0u8; 4096];
+    match reader.read_noted(&mut piece) {
+        Ok(0) => Ok(false),
+        Ok(n) => {
+            if max - (bytes.len() as u64) < n as u64 {
+                return Err(ReadFault::TooLarge);
+            }
+            match bytes.extend_from_slice(&piece[..n]) {
+                Ok(()) => Ok(true),
+                Err(_) => Err(ReadFault::Memory),
+            }
+        }
+        Err(_) => Err(ReadFault::Device),
+    }
+}
