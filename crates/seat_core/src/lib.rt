@@ -14,7 +14,7 @@ mod request;
 pub use booking::{Booking, Status};
 pub use commit::Effect;
 pub use fault::CoreFault;
-pub use inventory::Core;
+pub use inventory::{Core, Prepared};
 pub use laws::{
     applying_is_the_step, entry_gives_what_is_held, held_by_rank, held_seats_are_the_totals,
     legal_by_recursion, live_bookings_differ, none_fits_after_a_step, pass_is_by_table,
