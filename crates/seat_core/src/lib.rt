@@ -2,17 +2,20 @@
 //! It knows bookings, waiting lists and legal histories, and nothing of threads, of texts or of where commands come from.
 #![tactic(auto)]
 
-mod book;
 mod booking;
-mod commit;
+mod bookings;
+mod effect;
 mod fault;
 mod inventory;
 mod laws;
 mod one_flight;
+mod reply;
 mod request;
+mod rooms;
+mod waitlist;
 
 pub use booking::{Booking, Status};
-pub use commit::Effect;
+pub use effect::Effect;
 pub use fault::CoreFault;
 pub use inventory::{Core, Prepared};
 pub use laws::{
