@@ -9,7 +9,7 @@ use crate::booking::{Booking, Status};
 use crate::bookings::{add, find_booking, take_off};
 use crate::request::{Request, Wish, request_of};
 use crate::rooms::{may_wait_at, room_of};
-use crate::waitlist::pass_all;
+use crate::waitlist::confirm_waiting;
 use seat_journal::{Advice, Command};
 use seat_nesting::Grid;
 use ssim_records::{Code, Place};
@@ -46,11 +46,11 @@ pub fn carry_out(
     let found = find_booking(bookings, command, place);
     match request {
         Request::Seats(wish) => match found {
-            None => want(grid, bookings, advices, number, command, place, wish),
+            None => book_seats(grid, bookings, advices, number, command, place, wish),
             Some(_) => reply(*b"NO"),
         },
         Request::Cancel => match found {
-            Some(at) => cancel(grid, bookings, advices, at, command, place),
+            Some(at) => cancel_seats(grid, bookings, advices, at, command, place),
             None => reply(*b"NO"),
         },
         Request::Other => reply(*b"NO"),
@@ -59,7 +59,7 @@ pub fn carry_out(
 
 #[tactic(auto, using(crate::proofs::Reducing::waiting_more))]
 /// Answers NN, SS or LL, where there is no booking of the same locator, place and class.
-fn want(
+fn book_seats(
     grid: &Grid,
     bookings: &mut Vec<Booking>,
     advices: &mut Vec<Advice>,
@@ -87,7 +87,7 @@ fn want(
         }
         Wish::Waitlist if wait => {
             add(bookings, number, command, place, Status::Waiting);
-            pass_all(grid, bookings, advices);
+            confirm_waiting(grid, bookings, advices);
             reply(*b"HL")
         }
         _ => reply(*b"UC"),
@@ -96,7 +96,7 @@ fn want(
 
 #[tactic(auto, using(crate::proofs::Reducing::waiting_reduced, crate::proofs::Reducing::length_reduced))]
 /// Answers XX, where the booking of the same locator, place and class stands at this index.
-fn cancel(
+fn cancel_seats(
     grid: &Grid,
     bookings: &mut Vec<Booking>,
     advices: &mut Vec<Advice>,
@@ -116,7 +116,7 @@ fn cancel(
     }
     let released = booking.released(command.seats);
     take_off(bookings, at, command, place);
-    pass_all(grid, bookings, advices);
+    confirm_waiting(grid, bookings, advices);
     Answer {
         reply: Code::of(*b"HX"),
         released,

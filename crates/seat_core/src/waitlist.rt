@@ -9,7 +9,7 @@ use seat_journal::Advice;
 use seat_nesting::Grid;
 
 /// Confirms each waiting booking that fits, in order, and tells of it.
-fn pass(grid: &Grid, bookings: &mut [Booking], advices: &mut Vec<Advice>)
+fn consider_each(grid: &Grid, bookings: &mut [Booking], advices: &mut Vec<Advice>)
     requires few { length bookings.old < 2 ^ 32 }
     requires none { advices.old.items ≡ [] }
     requires room { waiting_count bookings.old ≤ vec_capacity advices.old }
@@ -17,24 +17,24 @@ fn pass(grid: &Grid, bookings: &mut [Booking], advices: &mut Vec<Advice>)
     ensures advices { advices.new.items ≡ (pass grid.now [] [] bookings.old).advices }
 {
     for at in 0..bookings.len() {
-        confirm(grid, bookings, at, advices);
+        consider(grid, bookings, at, advices);
     }
 }
 
 /// The pass over a list of bookings.
-pub fn pass_all(grid: &Grid, bookings: &mut Vec<Booking>, advices: &mut Vec<Advice>)
+pub fn confirm_waiting(grid: &Grid, bookings: &mut Vec<Booking>, advices: &mut Vec<Advice>)
     requires few { vec_len bookings.old < 2 ^ 32 }
     requires none { advices.old.items ≡ [] }
     requires room { waiting_count bookings.old.items ≤ vec_capacity advices.old }
     ensures bookings { bookings.new.items ≡ (pass grid.now [] [] bookings.old.items).bookings }
     ensures advices { advices.new.items ≡ (pass grid.now [] [] bookings.old.items).advices }
 {
-    pass(grid, bookings, advices);
+    consider_each(grid, bookings, advices);
 }
 
 #[tactic(auto, using(crate::proofs::Passing::pass_yes, crate::proofs::Passing::pass_no, crate::proofs::Passing::count_yes, crate::proofs::Passing::count_le))]
 /// Confirms one booking, where it waits and fits, and tells of it: the pass goes on from the next.
-fn confirm(grid: &Grid, bookings: &mut [Booking], at: usize, advices: &mut Vec<Advice>)
+fn consider(grid: &Grid, bookings: &mut [Booking], at: usize, advices: &mut Vec<Advice>)
     requires few { length bookings.old < 2 ^ 32 }
     requires there { at < length bookings.old }
     requires room { vec_len advices.old + waiting_count (drop at bookings.old) ≤ vec_capacity advices.old }
