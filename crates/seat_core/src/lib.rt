@@ -12,6 +12,7 @@ mod one_flight;
 mod reply;
 mod request;
 mod rooms;
+mod totals;
 mod waitlist;
 
 pub use booking::{Booking, Status};
@@ -30,3 +31,4 @@ pub use one_flight::{
 };
 pub use request::{Request, Wish};
 pub use seat_journal::{Advice, Advices, Command, Entry};
+pub use totals::Totals;
