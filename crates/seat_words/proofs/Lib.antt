@@ -1,0 +1,4 @@
+pub mod Building
+pub mod Lines
+pub mod Taken
+mod Found

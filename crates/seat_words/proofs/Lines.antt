@@ -1,0 +1,27 @@
+-- What the reading of the matches cites.
+use Rattle.std.proofs.Common.{◌≡◌, ◌∙◌, ap, true, false, Some, None, Option, List, [], unwrap_or, Box, is_some, option_map}
+use Rattle.std.specs.Box.{box_value}
+use Rattle.clap.specs.Words.{Row, Text, first_value, first_of, rows_of, subcommand_rows}
+use Rattle.clap.specs.declared.parser.matches.Found.{Found}
+use Rattle.clap.specs.declared.parser.matches.SubCommand.{SubCommand}
+use Rattle.clap.specs.declared.parser.matches.ArgMatches.TheViews.{out-SubCommand}
+use Rattle.clap.proofs.WalkLemmas.{first_value-rows}
+use Rattle.seat_words.specs.Jobs.{is_answerable}
+
+-- a value that was got is the one in the rows
+pub some_text : (f : Found) (id t : Text) → Some t ≡ first_value f id → t ≡ unwrap_or (first_of id (rows_of f)) []
+some_text f id t e = ap (λ (o : Option Text). unwrap_or o []) (e ∙ first_value-rows f id)
+
+pub no_text : (f : Found) (id : Text) → None ≡ first_value f id → [] ≡ unwrap_or (first_of id (rows_of f)) []
+no_text f id e = ap (λ (o : Option Text). unwrap_or o []) (e ∙ first_value-rows f id)
+
+module _ {Z : Type 0} where
+  pub nothing_found : (sub : Option (Box SubCommand Z)) → false ≡ is_some sub → is_answerable (subcommand_rows sub) ≡ true → ⊥
+  nothing_found None e h = cc
+  nothing_found (Some b) e h = cc
+
+  -- the name and the rows of the subcommand are its line
+  pub line_found : (sub : Option (Box SubCommand Z)) (name : Text) (rows : List Row) → Some name ≡ option_map (λ b. (out-SubCommand (box_value b)).name.now) sub
+      → Some rows ≡ option_map (λ p. p.1) (subcommand_rows sub) → subcommand_rows sub ≡ Some (name, rows)
+  line_found None name rows e f = cc
+  line_found (Some b) name rows e f = cc

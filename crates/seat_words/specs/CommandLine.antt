@@ -1,0 +1,51 @@
+-- The command line of seatdesk, as clap reads it: five commands, each with the values that it asks for.
+use Rattle.std.specs.Prelude.{◌≡◌, Some, [], codes, true, false}
+use Rattle.clap.specs.Words.{App, Rule, Text, app_of, new_app, new_rule, rule_of, with_rule, with_subcommand}
+use Rattle.clap.specs.declared.builder.arg.Arg.{Arg}
+use Rattle.clap.specs.declared.builder.command.Command.{Command}
+use Rattle.clap.specs.declared.builder.command.Command.TheViews.{out-Command as fields_of}
+
+-- a value by its place, which must be there
+abbrev pub required_value : Text → Rule
+required_value id = record (new_rule id) { required = true; value_names = 1 }
+
+-- an option with a value, which must be there
+abbrev pub required_option : Text → Rule
+required_option id = record (new_rule id) { long = Some id; required = true; value_names = 1 }
+
+abbrev pub ladder_app : App
+ladder_app = new_app (codes "ladder")
+
+abbrev pub check_app : App
+check_app = with_rule (new_app (codes "check")) (required_value (codes "set"))
+
+abbrev pub flights_app : App
+flights_app = with_rule (with_rule (with_rule (new_app (codes "flights"))
+    (required_option (codes "first")))
+    (required_option (codes "days")))
+    (required_value (codes "set"))
+
+-- the program before its commands
+abbrev pub bare_app : App
+bare_app = record {
+  top = record (new_app (codes "seatdesk")).top {
+    has_version = true;
+    subcommand_required = true;
+    disable_help_subcommand = true;
+  };
+  subs = [];
+}
+
+unfoldable pub seatdesk_app : App
+seatdesk_app = with_subcommand (with_subcommand (with_subcommand bare_app
+    ladder_app.top) check_app.top) flights_app.top
+
+-- the command is read as a, and its options are its own
+pub record IsBuiltAs (a : App) (c : Command) : Type 0 where
+  pub app : app_of c ≡ a
+  pub local : (fields_of c).has_globals ≡ false
+
+-- the argument is read as r, and belongs to its own command
+pub record IsReadAs (r : Rule) (a : Arg) : Type 0 where
+  pub rule : rule_of a ≡ r
+  pub local : a.global ≡ false

@@ -1,0 +1,80 @@
+//! What the command line asks for.
+ghost use Rattle.std.specs.Prelude.{◌≡◌, IfOk, IfErr, IsSomeAnd, [], true, unwrap_or};
+ghost use Rattle.clap.specs.Walk.{texts};
+ghost use Rattle.clap.specs.Words.{FailsBy, fault_of, first_of, found_of, kind_of, rows_of, subcommand_of, subcommand_rows_of, takes};
+ghost use Rattle.clap.specs.declared.error.kind.ErrorKind.TheVariants.{OutOfMemory};
+ghost use Rattle.seat_words.specs.CommandLine.{seatdesk_app};
+ghost use Rattle.seat_words.specs.Jobs.{Asks, is_answerable, is_complete};
+
+use super::commands::seatdesk_command;
+use clap::{ArgMatches, Error};
+use std::alloc::Global;
+
+/// One command of the program, with the values of its options as they were written.
+#[derive(Clone, Copy, Debug, PartialEq, Eq)]
+pub enum Job<'a> {
+    /// `seatdesk ladder`
+    Ladder,
+    /// `seatdesk check SET`
+    Check {
+        set: &'a str,
+    },
+    /// `seatdesk flights --first DATE --days N SET`
+    Flights {
+        set: &'a str,
+        first: &'a str,
+        days: &'a str,
+    },
+}
+
+/// The command that the words name; the first word is the program's own name.
+/// An error is clap's: what its help and its faults say, or want of memory.
+pub fn read_words<'a>(alloc: Global, words: &'a [&'a str]) -> Result<Job<'a>, Error>
+    ensures asks { IfOk result (λ job. IsSomeAnd (subcommand_of seatdesk_app (texts words.entry.now)) (Asks job)) }
+    ensures passes { IfErr result (λ e.
+        takes seatdesk_app (texts words.entry.now) ≡ true → kind_of e ≡ OutOfMemory) }
+    ensures kinds { FailsBy (fault_of seatdesk_app (texts words.entry.now)) result }
+{
+    let command = seatdesk_command(alloc)?;
+    let matches = command.try_get_matches_from(words)?;
+    Ok(job_of(&matches))
+}
+
+#[tactic(auto, using(crate::proofs::Lines::nothing_found, crate::proofs::Lines::line_found))]
+fn job_of<'a>(matches: &ArgMatches<'a>) -> Job<'a>
+    requires { is_answerable (subcommand_rows_of matches.now) ≡ true }
+    ensures { IsSomeAnd (subcommand_rows_of matches.now) (Asks result) }
+{
+    let Some((name, inner)) = matches.subcommand() else {
+        unreachable!()
+    };
+    job_named(name, inner)
+}
+
+fn job_named<'a>(name: &str, matches: &ArgMatches<'a>) -> Job<'a>
+    requires { is_complete (name.now, rows_of (found_of matches.now)) ≡ true }
+    ensures { Asks result (name.now, rows_of (found_of matches.now)) }
+{
+    match name {
+        "ladder" => Job::Ladder,
+        "check" => Job::Check {
+            set: value_of(matches, "set"),
+        },
+        "flights" => Job::Flights {
+            set: value_of(matches, "set"),
+            first: value_of(matches, "first"),
+            days: value_of(matches, "days"),
+        },
+        _ => unreachable!(),
+    }
+}
+
+#[tactic(auto, using(crate::proofs::Lines::some_text, crate::proofs::Lines::no_text))]
+fn value_of<'a>(matches: &ArgMatches<'a>, id: &str) -> &'a str
+    ensures { result.now ≡ unwrap_or (first_of id.now (rows_of (found_of matches.now))) [] }
+{
+    match matches.get_str(id) {
+        Some(text) => text,
+        None => "",
+    }
+}

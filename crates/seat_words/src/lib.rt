@@ -1,0 +1,8 @@
+//! The words of the command line: which command they name, with the values of its options.
+//! It knows clap and dates, and nothing of what the commands do.
+#![tactic(auto)]
+
+mod commands;
+mod job;
+
+pub use job::{Job, read_words};
