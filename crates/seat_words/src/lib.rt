@@ -4,5 +4,7 @@
 
 mod commands;
 mod job;
+mod scripts;
 
 pub use job::{Job, read_words};
+pub use scripts::Scripts;

@@ -45,7 +45,7 @@ returns-clause-asks c =
     let free = ap is_simple_and_free c.in_ok-command.ensures.app ∙ seatdesk_is_free in
     let same = faultless (app_of c.in_ok-command.command) c.in_ok-matches.matches (texts c.args.words.now) c.in_ok-command.ensures.app
     c.in_ok-matches.ensures.matches (c.in_ok-matches.ensures.kinds free) in
-    subst (λ (found : Option Line). IsSomeAnd found (Asks c.job_of.result)) same.0 c.job_of.ensures
+    subst (λ (found : Option Line). IsSomeAnd found (Asks c.in_ok-job.job)) same.0 c.in_ok-job.ensures
 
 pub returns-clause-kinds : goal.returns-clause-kinds
 returns-clause-kinds c =
