@@ -1,0 +1,6 @@
+//! The commands of `seatdesk`, as functions over readers and writers.
+//! It knows the texts that come and go and the order in which they are checked, and leaves every answer to the crates below.
+#![tactic(auto)]
+
+mod lines;
+mod orders;
