@@ -1,11 +1,9 @@
 //! The command lines of a ladder's input.
-ghost use Rattle.std.specs.Prelude.{◌≡◌, ◌≤◌, ◌<◌, ◌^◌, IfSome, IsTrue, length};
-ghost use Rattle.std.specs.Char.{is_ascii_digit};
-ghost use Rattle.std.specs.List.{list_all};
-ghost use Rattle.std.specs.Str.Parse.{digits_value};
-ghost use Rattle.seat_desk.specs.Orders.{order_in, seats_in};
+ghost use Rattle.std.specs.Prelude.{◌≡◌, ◌<◌, ◌≤◌, IfSome, length};
+ghost use Rattle.seat_desk.specs.Orders.{order_in, parts_in, seats_in};
 
 use seat_journal::Command;
+use ssim_records::fields::{are_digits, value_of};
 use ssim_records::{Class, Code, Locator, Place};
 
 /// The command that a line `LOCATOR CLASS CODE SEATS` spells, on the only leg there is.
@@ -13,26 +11,32 @@ use ssim_records::{Class, Code, Locator, Place};
 pub fn order_of(line: &[u8]) -> Option<Command>
     ensures { result ≡ order_in line.now }
 {
-    match line {
-        [a, b, c, d, e, f, b' ', class, b' ', x, y, b' ', digits @ ..] => {
-            let locator = Locator::new(&[*a, *b, *c, *d, *e, *f])?;
-            let class = Class::new(*class)?;
-            let code = Code::new(&[*x, *y])?;
-            let seats = seats_of(digits)?;
-            Some(Command {
-                locator,
-                place: Some(Place {
-                    flight: 0,
-                    from: 0,
-                    to: 0,
-                }),
-                class,
-                code,
-                seats,
-            })
-        }
-        _ => None,
+    if line.len() < 13 || line[6] != b' ' || line[8] != b' ' || line[11] != b' ' {
+        return None;
     }
+    parts_of(line)
+}
+
+#[tactic(auto, unfolding(crate::specs::Orders::parts_in))]
+fn parts_of(line: &[u8]) -> Option<Command>
+    requires { 13 ≤ length line.now }
+    ensures { result ≡ parts_in line.now }
+{
+    let locator = Locator::new(&line[..6])?;
+    let class = Class::new(line[7])?;
+    let code = Code::new(&line[9..11])?;
+    let seats = seats_of(&line[12..])?;
+    Some(Command {
+        locator,
+        place: Some(Place {
+            flight: 0,
+            from: 0,
+            to: 0,
+        }),
+        class,
+        code,
+        seats,
+    })
 }
 
 #[tactic(auto, unfolding(crate::specs::Orders::seats_in))]
@@ -47,24 +51,5 @@ fn seats_of(digits: &[u8]) -> Option<u16>
     if value == 0 {
         return None;
     }
-    Some(value)
-}
-
-fn are_digits(text: &[u8]) -> bool
-    ensures { result ≡ list_all is_ascii_digit text.now }
-{
-    text.iter().all(|c| c.is_ascii_digit())
-}
-
-fn value_of(digits: &[u8]) -> u16
-    requires short { length digits.now ≤ 3 }
-    requires digits { IsTrue (list_all is_ascii_digit digits.now) }
-    ensures value { result ≡ digits_value 10 digits.now }
-    ensures small { result < 10 ^ length digits.now }
-{
-    let mut number = 0u16;
-    for digit in digits {
-        number = number * 10 + (*digit - b'0') as u16;
-    }
-    number
+    Some(value as u16)
 }
