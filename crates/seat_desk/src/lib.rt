@@ -2,5 +2,9 @@
 //! It knows the texts that come and go and the order in which they are checked, and leaves every answer to the crates below.
 #![tactic(auto)]
 
+mod fault;
 mod lines;
 mod orders;
+mod text;
+
+pub use fault::DeskFault;
