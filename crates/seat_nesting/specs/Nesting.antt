@@ -1,6 +1,7 @@
 -- Nested booking limits (Talluri and van Ryzin): ladders, grids, and the room that a table of held seats leaves.
-use Rattle.std.specs.Prelude.{◌≢◌, ℕ, zero, suc, ◌+◌, ◌-◌, ◌<◌, ◌≤◌, ◌==◌, ◌&&◌, ◌||◌, Bool, false, nat_le, min, List, [], ◌∷◌, length, unwrap_or, slice_get, if◌then◌else◌}
-use Rattle.std.specs.List.{sum_by, AllByRecursion}
+use Rattle.std.specs.Prelude.{◌≢◌, ℕ, zero, suc, ◌+◌, ◌-◌, ◌<◌, ◌≤◌, ◌==◌, ◌&&◌, ◌||◌, Bool, false, nat_le, min, List, [], ◌∷◌, length, unwrap_or, slice_get, if◌then◌else◌, IsTrue}
+use Rattle.std.specs.Char.{is_ascii_uppercase}
+use Rattle.std.specs.List.{sum_by, list_any, AllByRecursion}
 use Rattle.seat_nesting.specs.declared.ladder.Step.{Step}
 use Rattle.ssim_records.specs.declared.place.Place.{Place}
 
@@ -18,8 +19,11 @@ LacksClass class steps = AllByRecursion (λ s. class ≢ s.class) steps
 
 -- the class stands in these steps
 abbrev pub has_class : Steps → ℕ → Bool
-has_class [] class = false
-has_class (s ∷ lower) class = (class == s.class) || has_class lower class
+has_class steps class = list_any (λ s. class == s.class) steps
+
+-- each class is a letter
+abbrev pub HasLetters : Steps → Type 0
+HasLetters steps = AllByRecursion (λ s. IsTrue (is_ascii_uppercase s.class)) steps
 
 -- no class stands twice
 abbrev pub IsDistinct : Steps → Type 0

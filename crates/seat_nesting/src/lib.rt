@@ -4,6 +4,8 @@
 
 mod grid;
 mod ladder;
+mod limit_fault;
 
 pub use grid::Grid;
 pub use ladder::{Ladder, LadderFault, Step};
+pub use limit_fault::{LimitFault, LimitKind};
