@@ -1,5 +1,5 @@
 -- The command lines of a ladder's input: LOCATOR CLASS CODE SEATS, as `A00001 Y NN 6`.
-use Rattle.std.specs.Prelude.{ℕ, ◌-◌, Bool, ◌&&◌, ◌==◌, nat_le, nat_lt, List, length, slice_index_or, Option, Some, None, if◌then◌else◌}
+use Rattle.std.specs.Prelude.{◌≡◌, ◌≤◌, ℕ, ◌-◌, Bool, ◌&&◌, ◌==◌, nat_le, nat_lt, List, length, slice_index_or, Option, Some, None, if◌then◌else◌}
 use Rattle.std.specs.Char.{is_ascii_digit, is_ascii_uppercase}
 use Rattle.std.specs.List.{list_all}
 use Rattle.std.specs.Str.Parse.{digits_value}
@@ -44,3 +44,9 @@ parts_in line = order_of (locator_in (field 1 6 line)) (class_in (slice_index_or
 unfoldable pub order_in : List ℕ → Option Command
 order_in line =
     (if nat_le 13 (length line) && is_blank 7 line && is_blank 9 line && is_blank 12 line then parts_in line else None)
+
+-- what every command of a ladder's input is
+pub record IsOrder (c : Command) : Type 0 where
+  pub some : 1 ≤ c.seats
+  pub most : c.seats ≤ 999
+  pub place : c.place ≡ Some only_leg
