@@ -3,6 +3,7 @@
 #![tactic(auto)]
 
 mod fault;
+mod ladder;
 mod lines;
 mod orders;
 mod text;
