@@ -1,8 +1,12 @@
+use seat_nesting::LimitFault;
 use thiserror::Error;
 
 /// Why a command is refused. Its text is the code, and where the fault stands.
 #[derive(Clone, Copy, Debug, PartialEq, Eq, Error)]
 pub enum DeskFault {
+    /// A ladder or a limit row is malformed.
+    #[error("{0}")]
+    Limit(LimitFault),
     /// A line is no command.
     #[error("E1 {line}")]
     Command { line: u32 },

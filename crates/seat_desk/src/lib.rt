@@ -6,6 +6,8 @@ mod fault;
 mod ladder;
 mod lines;
 mod orders;
+mod streams;
 mod text;
 
 pub use fault::DeskFault;
+pub use ladder::desk_ladder;

@@ -12,6 +12,13 @@ use ssim_records::fields::{are_digits, value_of};
 use ssim_records::{Class, Code, Locator, Place};
 use std::alloc::Global;
 
+/// The only leg of the only flight.
+pub const ONLY_LEG: Place = Place {
+    flight: 0,
+    from: 0,
+    to: 0,
+};
+
 /// A ladder, and as many commands as a journal has lines.
 const MOST_LINES: u32 = 1_000_000;
 
@@ -79,11 +86,7 @@ fn parts_of(line: &[u8]) -> Option<Command>
     let seats = seats_of(&line[12..])?;
     Some(Command {
         locator,
-        place: Some(Place {
-            flight: 0,
-            from: 0,
-            to: 0,
-        }),
+        place: Some(ONLY_LEG),
         class,
         code,
         seats,
