@@ -1,5 +1,5 @@
 -- Why steps are no ladder: the first fault in the order L1 to L4.
-use Rattle.std.specs.Prelude.{ℕ, ◌==◌, ◌||◌, nat_lt, Bool, true, false, if◌then◌else◌, Option, Some, None, List, [], ◌∷◌, length}
+use Rattle.std.specs.Prelude.{ℕ, ◌==◌, ◌||◌, nat_lt, Bool, false, if◌then◌else◌, Option, Some, None, [], ◌∷◌, length}
 use Rattle.std.specs.List.{list_any}
 use Rattle.seat_nesting.specs.Nesting.{Steps, has_class}
 use Rattle.seat_nesting.specs.declared.ladder.LadderFault.{LadderFault}

@@ -1,5 +1,5 @@
 -- Nested booking limits (Talluri and van Ryzin): ladders, grids, and the room that a table of held seats leaves.
-use Rattle.std.specs.Prelude.{◌≢◌, ℕ, zero, suc, ◌+◌, ◌-◌, ◌<◌, ◌≤◌, ◌==◌, ◌&&◌, ◌||◌, Bool, false, nat_le, min, List, [], ◌∷◌, length, unwrap_or, slice_get, if◌then◌else◌, IsTrue}
+use Rattle.std.specs.Prelude.{◌≢◌, ℕ, zero, suc, ◌+◌, ◌-◌, ◌<◌, ◌≤◌, ◌==◌, ◌&&◌, Bool, false, nat_le, min, List, [], ◌∷◌, length, unwrap_or, slice_get, if◌then◌else◌, IsTrue}
 use Rattle.std.specs.Char.{is_ascii_uppercase}
 use Rattle.std.specs.List.{sum_by, list_any, AllByRecursion}
 use Rattle.seat_nesting.specs.declared.ladder.Step.{Step}

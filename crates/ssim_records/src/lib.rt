@@ -17,6 +17,7 @@ mod set;
 mod set_fault;
 mod set_reading;
 mod state;
+mod steps;
 mod writing;
 
 pub use carrier::{Carrier, Leg};
