@@ -26,6 +26,7 @@ const MOST_LINES: u32 = 1_000_000;
 pub fn read_orders(alloc: Global, bytes: &[u8]) -> Result<Vec<Command>, DeskFault>
     ensures ok { IfOk result (λ orders. orders_after 2 [] (lines_of bytes.now) ≡ Ok orders.items) }
     ensures fault { IfErr result (λ f. f ≢ DeskFault.Memory → orders_after 2 [] (lines_of bytes.now) ≡ Err f) }
+    ensures kind { IfErr result (λ f. (f ≢ DeskFault.Device) × (f ≢ DeskFault.TooLarge)) }
     ensures orders { IfOk result (λ orders. All IsOrder orders.items) }
     ensures few { IfOk result (λ orders. length orders.items ≤ 999999) }
 {
@@ -44,6 +45,7 @@ fn take_order<'a>(orders: &mut Vec<Command>, bytes: &'a [u8]) -> Result<&'a [u8]
     requires orders { All IsOrder orders.old.items }
     ensures ok { IfOk result (λ rest. orders_after (length orders.old.items + 2) orders.old.items (lines_of bytes.now) ≡ orders_after (length orders.new.items + 2) orders.new.items (lines_of rest.now)) }
     ensures fault { IfErr result (λ f. f ≢ DeskFault.Memory → orders_after (length orders.old.items + 2) orders.old.items (lines_of bytes.now) ≡ Err f) }
+    ensures kind { IfErr result (λ f. (f ≢ DeskFault.Device) × (f ≢ DeskFault.TooLarge)) }
     ensures shorter { IfOk result (λ rest. length rest.now < length bytes.now) }
     ensures orders { OnOk result (All IsOrder orders.new.items) }
     ensures few { OnOk result (length orders.new.items ≤ 999999) }
