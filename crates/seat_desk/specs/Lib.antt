@@ -1,4 +1,5 @@
 pub mod Desk
+pub mod LadderDesk
 pub mod Lines
 pub mod Orders
-pub mod LadderDesk
+pub mod Status
