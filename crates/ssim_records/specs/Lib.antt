@@ -7,5 +7,6 @@ pub mod Names
 pub mod Noting
 pub mod Reach
 pub mod RecordFields
+pub mod RightSet
 pub mod SetSteps
 pub mod SetText
