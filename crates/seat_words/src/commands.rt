@@ -163,7 +163,9 @@ fn today_option<'a>(alloc: Global) -> Arg<'a>
     Arg::new(alloc, "today")
         .long("today")
         .value_name("DATE")
-        .help("The day of the run, as 2024-06-01, from 2000 to 2099: requests name no year")
+        .help(
+            "The day of the run, as 2024-06-01, from 2000 to 2099; it gives the requests their year",
+        )
         .required(true)
 }
 
