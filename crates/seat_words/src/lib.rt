@@ -10,3 +10,6 @@ mod scripts;
 pub use days::{date_word, days_word};
 pub use job::{Job, read_words};
 pub use scripts::Scripts;
+
+#[cfg(test)]
+mod tests;
