@@ -1,5 +1,5 @@
 -- Reading a data set record by record, with the first fault that is met.
-use Rattle.std.specs.Prelude.{◌≡◌, ℕ, ◌+◌, ◌-◌, ◌≤◌, Bool, true, false, not, ◌&&◌, ◌==◌, nat_lt, if◌then◌else◌, List, [], ◌∷◌, ◌++◌, length, Option, Some, None, Result, Ok, Err}
+use Rattle.std.specs.Prelude.{◌⊎◌, MatchResult, ◌≡◌, ℕ, ◌+◌, ◌-◌, ◌≤◌, Bool, true, false, not, ◌&&◌, ◌==◌, nat_lt, if◌then◌else◌, List, [], ◌∷◌, ◌++◌, length, Option, Some, None, Result, Ok, Err}
 use Rattle.ssim_records.specs.declared.set_fault.SetKind.{SetKind}
 use Rattle.ssim_records.specs.declared.set_fault.SetKind.TheVariants as kinds
 use Rattle.ssim_records.specs.declared.carrier.Carrier.{Carrier}
@@ -12,7 +12,7 @@ use Rattle.ssim_records.specs.Bytes.{field, same_text, is_filler, set_title}
 use Rattle.ssim_records.specs.Cut.{cut_at}
 use Rattle.ssim_records.specs.Days.{date_in}
 use Rattle.ssim_records.specs.RecordFields.{padded_in, positive_in, six_in, mode_in, designator_in, station_in, suffix_in, byte_in, until_in, days_in, rate_in, time_in, offset_in, shift_in, continued_in}
-use Rattle.ssim_records.specs.Reach.{reach}
+use Rattle.ssim_records.specs.Reach.{reach, IsFirst}
 
 infixl 10 ◌>>=◌
 abbrev pub ◌>>=◌ : {A B : Type 0} → Result A SetKind → (A → Result B SetKind) → Result B SetKind
@@ -182,31 +182,42 @@ cut_then most s (Ok p) = moved p.1 (step most s p.0)
 unfoldable pub next : ℕ → Reader → List ℕ → Result (Reader × List ℕ) SetKind
 next most s bytes = cut_then most s (cut_at bytes)
 
--- ---- faults
+-- ---- what the code keeps, and its answers
+
+-- segment data are among the records counted
+abbrev pub IsCounted : ℕ → Reader → Type 0
+IsCounted most s = (s.count ≤ most) × (s.segments ≤ s.count)
+
+-- a record of 200 bytes comes to a reader that has counted no more than it may
+abbrev pub IsReady : ℕ → Reader → List ℕ → Type 0
+IsReady most s text = (most ≤ 999999) × (length text ≡ 200) × IsCounted most s
+
+-- the reader has one leg more
+abbrev pub HasLegMore : Reader → Result Reader SetKind → Type 0
+HasLegMore s (Ok t) = length t.legs ≡ length s.legs + 1
+HasLegMore s (Err kind) = ⊥
+
+-- a record that is not taken: this is its fault, or there was no room for its leg
+abbrev pub IsRefused : Reader → Result Reader SetKind → SetKind → Type 0
+IsRefused s said kind = (said ≡ Err kind) ⊎ ((kind ≡ kinds.Memory) × HasLegMore s said)
+
+-- the reader goes on as was said, or refuses
+abbrev pub Takes : Reader → Reader → Result (Unit {0}) SetKind → Result Reader SetKind → Type 0
+Takes old new answer said = MatchResult answer (λ _. said ≡ Ok new) (IsRefused old said)
+
+-- ---- the end
+
+abbrev pub missing : Phase → Option SetKind
+missing Start = Some kinds.NoHeader
+missing Open = Some kinds.NoTrailer
+missing (Body c) = Some kinds.NoTrailer
+missing (Done c) = None
 
 -- the bytes end where another record must come
-abbrev pub at_end : Phase → Option SetKind
-at_end Start = Some kinds.NoHeader
-at_end Open = Some kinds.NoTrailer
-at_end (Body c) = Some kinds.NoTrailer
-at_end (Done c) = None
+abbrev pub at_end : Reader → Option SetKind
+at_end s = missing s.phase
 
-abbrev pub fault_of : Result (Reader × List ℕ) SetKind → Option SetKind
-fault_of (Err kind) = Some kind
-fault_of (Ok p) = None
-
--- the first fault at the next record
-abbrev pub fault_at : ℕ → Reader → List ℕ → Option SetKind
-fault_at most s [] = at_end s.phase
-fault_at most s (c ∷ rest) = fault_of (next most s (c ∷ rest))
-
--- the records before the nth have no fault, and this is the first one of the nth
-abbrev pub IsFirst : ℕ → List ℕ → ℕ → SetKind → Type 0
-IsFirst most bytes nth kind = (s : Reader) × (rest : List ℕ) × (1 ≤ nth) × (reach (next most) fresh bytes (nth - 1) ≡ Ok (s, rest)) × (fault_at most s rest ≡ Some kind)
-
-abbrev pub OrMemory : SetKind → Type 0 → Type 0
-OrMemory kinds.Memory P = Unit {0}
-OrMemory _ P = P
+-- ---- the whole
 
 -- the data set that a reader holds behind the trailer
 abbrev pub set_of : Carrier → Reader → DataSet
@@ -215,3 +226,20 @@ set_of c s = record { carrier = c; legs = s.legs; segments = s.segments }
 -- the bytes are read to their end as this data set
 abbrev pub ReadsAs : ℕ → List ℕ → DataSet → Type 0
 ReadsAs most bytes set = (n : ℕ) × (s : Reader) × (c : Carrier) × (reach (next most) fresh bytes n ≡ Ok (s, [])) × (s.phase ≡ Done c) × (set_of c s ≡ set)
+
+-- the first fault of the bytes is this one, of the nth record
+abbrev pub IsFirstFault : ℕ → List ℕ → ℕ → SetKind → Type 0
+IsFirstFault most bytes nth kind = IsFirst (next most) at_end fresh bytes nth kind
+
+-- the next record is a leg's, and has no fault
+abbrev pub IsRoomWanted : Reader → Result (Reader × List ℕ) SetKind → Type 0
+IsRoomWanted s (Ok p) = length p.0.legs ≡ length s.legs + 1
+IsRoomWanted s (Err kind) = ⊥
+
+-- no record has a fault up to the nth, which is a leg's
+abbrev pub WantsRoom : ℕ → List ℕ → ℕ → Type 0
+WantsRoom most bytes nth = (s : Reader) × (rest : List ℕ) × (1 ≤ nth) × (reach (next most) fresh bytes (nth - 1) ≡ Ok (s, rest)) × IsRoomWanted s (next most s rest)
+
+-- a refusal by this record, of this kind
+abbrev pub IsRefusal : ℕ → List ℕ → ℕ → SetKind → Type 0
+IsRefusal most bytes nth kind = IsFirstFault most bytes nth kind ⊎ ((kind ≡ kinds.Memory) × WantsRoom most bytes nth)
