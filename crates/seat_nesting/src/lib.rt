@@ -4,6 +4,10 @@
 
 mod grid;
 mod ladder;
+mod ladder_text;
+mod limit_fault;
 
 pub use grid::Grid;
 pub use ladder::{Ladder, LadderFault, Step};
+pub use ladder_text::read_ladder;
+pub use limit_fault::{LimitFault, LimitKind};

@@ -1,3 +1,11 @@
+pub mod Bytes
 pub mod Counting
+pub mod Cut
+pub mod Days
+pub mod Fields
 pub mod Names
 pub mod Noting
+pub mod Reach
+pub mod RecordFields
+pub mod SetSteps
+pub mod SetText
