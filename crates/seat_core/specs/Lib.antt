@@ -12,4 +12,5 @@ pub mod Replaying
 pub mod Tables
 pub mod Applying
 pub mod Flights
+pub mod Books
 pub mod Laws

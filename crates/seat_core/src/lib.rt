@@ -4,6 +4,7 @@
 
 mod booking;
 mod bookings;
+mod books;
 mod effect;
 mod fault;
 mod inventory;
