@@ -6,7 +6,6 @@ use clap::{Arg, ArgAction, Command};
 use std::alloc::{AllocError, Global};
 
 /// The whole command line.
-
 pub(crate) fn seatdesk_command<'a>(alloc: Global) -> Result<Command<'a>, AllocError>
     ensures { IfOk result (IsBuiltAs seatdesk_app) }
 {

@@ -3,8 +3,10 @@
 #![tactic(auto)]
 
 mod commands;
+mod days;
 mod job;
 mod scripts;
 
+pub use days::{date_word, days_word};
 pub use job::{Job, read_words};
 pub use scripts::Scripts;
