@@ -1,3 +1,4 @@
+pub mod CheckDesk
 pub mod Desk
 pub mod LadderDesk
 pub mod Lines

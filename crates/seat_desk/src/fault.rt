@@ -2,11 +2,15 @@ ghost use Rattle.std.specs.Prelude.{◌≡◌};
 ghost use Rattle.seat_desk.specs.Status.{status_of};
 
 use seat_nesting::LimitFault;
+use ssim_records::SetFault;
 use thiserror::Error;
 
 /// Why a command is refused. Its text is the code, and where the fault stands.
 #[derive(Clone, Copy, Debug, PartialEq, Eq, Error)]
 pub enum DeskFault {
+    /// The bytes are no data set.
+    #[error("{0}")]
+    Set(SetFault),
     /// A ladder or a limit row is malformed.
     #[error("{0}")]
     Limit(LimitFault),

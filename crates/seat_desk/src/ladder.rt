@@ -1,12 +1,11 @@
 //! `ladder`: one leg from the input, and each command on it answered.
-ghost use Rattle.std.specs.Prelude.{◌≡◌, ◌≢◌, ◌+◌, ◌++◌, ◌∷◌, ◌<◌, ◌≤◌, ◌⊎◌, [], IfErr, IfOk, IfSome, OnOk, Ok, Err, codes, length};
+ghost use Rattle.std.specs.Prelude.{◌≡◌, ◌≢◌, ◌+◌, ◌++◌, ◌∷◌, ◌<◌, ◌≤◌, [], IfErr, IfOk, IfSome, OnOk, Ok, Err, codes, length};
 ghost use Rattle.std.specs.Io.KnownBytes.{Appends};
 ghost use Rattle.std.specs.List.{All, flat_map};
-ghost use Rattle.ssim_records.specs.Noting.{noted};
 ghost use Rattle.seat_nesting.specs.Nesting.{Fits, ladder_at};
 ghost use Rattle.seat_core.specs.Inventory.{state_now};
 ghost use Rattle.seat_core.specs.Journal.{calls_of, next_line};
-ghost use Rattle.seat_desk.specs.Desk.{IsAnswered, IsBegun, IsOfInput};
+ghost use Rattle.seat_desk.specs.Desk.{HasFailed, IsBegun, IsOfInput, IsWritten};
 ghost use Rattle.seat_desk.specs.LadderDesk.{class_text, entry_text, first_line, ladder_answer, ladder_text, later_lines, lines_after, most_bytes, room_text};
 ghost use Rattle.seat_desk.specs.Lines.{lines_of};
 ghost use Rattle.seat_desk.specs.Orders.{IsOrder, only_leg};
@@ -34,12 +33,11 @@ pub fn desk_ladder<R: NotedRead, W: NotedWrite>(
     input: &mut R,
     out: &mut W,
 ) -> Result<(), DeskFault>
-    ensures ok { OnOk result (IfSome (R.remaining input.old) (λ xs. IsAnswered most_bytes ladder_answer xs (W.contents out.old) (W.contents out.new))) }
+    ensures ok { OnOk result (IfSome (R.remaining input.old) (λ xs. (length xs ≤ most_bytes) × IsWritten (λ text. ladder_answer xs ≡ Ok text) (W.contents out.old) (W.contents out.new))) }
     ensures fault { IfErr result (λ f. IsOfInput f → IfSome (R.remaining input.old) (λ xs. ladder_answer xs ≡ Err f)) }
     ensures large { IfErr result (λ f. f ≡ DeskFault.TooLarge → IfSome (R.remaining input.old) (λ xs. most_bytes < length xs)) }
-    ensures device { IfErr result (λ f. f ≡ DeskFault.Device →
-        ((R.failure_count input.new ≡ noted (R.failure_count input.old)) × (out.new ≡ out.old))
-        ⊎ ((W.failure_count out.new ≡ noted (W.failure_count out.old)) × IfSome (R.remaining input.old) (λ xs. IsBegun ladder_answer xs (W.contents out.old) (W.contents out.new)))) }
+    ensures device { IfErr result (λ f. f ≡ DeskFault.Device → HasFailed (R.failure_count input.old) (R.failure_count input.new) (W.failure_count out.old) (W.failure_count out.new)
+        (out.new ≡ out.old) (IfSome (R.remaining input.old) (λ xs. IsBegun (λ text. ladder_answer xs ≡ Ok text) (W.contents out.old) (W.contents out.new)))) }
     ensures untouched { IfErr result (λ f. f ≢ DeskFault.Device → out.new ≡ out.old) }
 {
     let bytes = read_input(alloc, input, MOST_BYTES)?;
@@ -132,7 +130,7 @@ fn put_room(text: &mut Vec<u8>, core: &Core, class: Class) -> Result<(), AllocEr
 {
     put(text, b" ")?;
     put(text, &[class.letter()])?;
-    put_number(text, u32::from(core.room(ONLY_LEG, class)))
+    put_number(text, u64::from(core.room(ONLY_LEG, class)))
 }
 
 /// Answers each command as session 1's next call.

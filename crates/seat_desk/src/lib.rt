@@ -2,6 +2,7 @@
 //! It knows the texts that come and go and the order in which they are checked, and leaves every answer to the crates below.
 #![tactic(auto)]
 
+mod check;
 mod fault;
 mod ladder;
 mod lines;
@@ -9,5 +10,6 @@ mod orders;
 mod streams;
 mod text;
 
+pub use check::desk_check;
 pub use fault::DeskFault;
 pub use ladder::desk_ladder;

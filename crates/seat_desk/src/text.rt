@@ -15,7 +15,7 @@ pub fn put(text: &mut Vec<u8>, bytes: &[u8]) -> Result<(), AllocError>
 }
 
 /// Adds a number, without leading zeros.
-pub fn put_number(text: &mut Vec<u8>, number: u32) -> Result<(), AllocError>
+pub fn put_number(text: &mut Vec<u8>, number: u64) -> Result<(), AllocError>
     ensures { OnOk result (text.new.items ≡ text.old.items ++ decimal number) }
 {
     let mut buffer = Buffer::new();
@@ -26,9 +26,9 @@ fn put_advice(text: &mut Vec<u8>, advice: &Advice) -> Result<(), AllocError>
     ensures { OnOk result (text.new.items ≡ text.old.items ++ advice_text advice.now) }
 {
     put(text, b" KL")?;
-    put_number(text, u32::from(advice.seats))?;
+    put_number(text, u64::from(advice.seats))?;
     put(text, b"/")?;
-    put_number(text, advice.number)
+    put_number(text, u64::from(advice.number))
 }
 
 #[tactic(auto, using(std::proofs::lemmas::List::flat_map_more))]
@@ -45,10 +45,10 @@ fn put_advices(text: &mut Vec<u8>, advices: &[Advice]) -> Result<(), AllocError>
 pub fn put_entry(text: &mut Vec<u8>, entry: &Entry) -> Result<(), AllocError>
     ensures { OnOk result (text.new.items ≡ text.old.items ++ entry_text entry.now) }
 {
-    put_number(text, entry.number)?;
+    put_number(text, u64::from(entry.number))?;
     put(text, b" ")?;
     put(text, &entry.reply.letters())?;
-    put_number(text, u32::from(entry.command.seats))?;
+    put_number(text, u64::from(entry.command.seats))?;
     put_advices(text, entry.advices.as_slice())?;
     put(text, b"\n")
 }

@@ -3,10 +3,11 @@
 #![tactic(auto)]
 
 use clap::error::ErrorKind;
-use seat_desk::{DeskFault, desk_ladder};
+use seat_desk::{DeskFault, desk_check, desk_ladder};
 use seat_words::{Job, read_words};
 use ssim_records::Counted;
-use std::io;
+use std::fs::File;
+use std::{fs, io};
 use std::process::ExitCode;
 
 fn main(rt: HostRuntime) -> ExitCode {
@@ -36,7 +37,21 @@ fn carry_out(rt: &HostRuntime, job: &Job<'_>) -> Result<(), DeskFault> {
             let mut out = Counted::new(rt.stdout());
             desk_ladder(rt.alloc(), &mut input, &mut out)
         }
+        Job::Check { set } => {
+            let mut set = opened(rt, set)?;
+            let mut out = Counted::new(rt.stdout());
+            desk_check(rt.alloc(), &mut set, &mut out)
+        }
         _ => Err(DeskFault::Memory),
+    }
+}
+
+/// An input file.
+fn opened(rt: &HostRuntime, path: &str) -> Result<Counted<File>, DeskFault> {
+    match fs::open(rt, path) {
+        Ok(file) => Ok(Counted::new(file)),
+        Err(error) if error.kind() == io::ErrorKind::OutOfMemory => Err(DeskFault::Memory),
+        Err(_) => Err(DeskFault::Device),
     }
 }
 
