@@ -146,17 +146,6 @@ fn named_command<'a>(alloc: Global, name: &'a str, about: &'a str, more: &'a str
     Command::new(alloc, name).about(about).after_help(more)
 }
 
-// An option whose value must be there.
-fn wanted_option<'a>(alloc: Global, id: &'a str, value: &'a str, help: &'a str) -> Arg<'a>
-    ensures { IsReadAs (required_option id.entry.now) result }
-{
-    Arg::new(alloc, id)
-        .long(id)
-        .value_name(value)
-        .required(true)
-        .help(help)
-}
-
 // A value by its place, which must be there.
 fn wanted_value<'a>(alloc: Global, id: &'a str, value: &'a str, help: &'a str) -> Arg<'a>
     ensures { IsReadAs (required_value id.entry.now) result }
@@ -167,7 +156,14 @@ fn wanted_value<'a>(alloc: Global, id: &'a str, value: &'a str, help: &'a str) -
         .help(help)
 }
 
-// The same, of which there may be more.
+// An option whose value must be there.
+fn wanted_option<'a>(alloc: Global, id: &'a str, value: &'a str, help: &'a str) -> Arg<'a>
+    ensures { IsReadAs (required_option id.entry.now) result }
+{
+    wanted_value(alloc, id, value, help).long(id)
+}
+
+// A value by its place, of which there may be more.
 fn wanted_values<'a>(alloc: Global, id: &'a str, value: &'a str, help: &'a str) -> Arg<'a>
     ensures { IsReadAs (required_values id.entry.now) result }
 {
