@@ -55,16 +55,16 @@ named x y z k a b c m name low high h =
     let third : c ≡ z = eqb-true c z p.1 in
     rw (← h.1, first, second, third) (record { name = name; low = low; high = high })
 
-month_takes : (a b c m : ℕ) → month_of a b c ≡ Some m → IsMonth a b c m
+pub month_takes : (a b c m : ℕ) → month_of a b c ≡ Some m → IsMonth a b c m
 month_takes a b c m e =
     elim (chosen (is_name 74 65 78 a b c) 1 _ m e) [ inl h ↦ named 74 65 78 1 a b c m refl (omega arith) (omega arith) h | inr e1 ↦ elim (chosen (is_name 70 69 66 a b c) 2 _ m e1) [ inl h ↦ named 70 69 66 2 a b c m refl (omega arith) (omega arith) h | inr e2 ↦ elim (chosen (is_name 77 65 82 a b c) 3 _ m e2) [ inl h ↦ named 77 65 82 3 a b c m refl (omega arith) (omega arith) h | inr e3 ↦ elim (chosen (is_name 65 80 82 a b c) 4 _ m e3) [ inl h ↦ named 65 80 82 4 a b c m refl (omega arith) (omega arith) h | inr e4 ↦ elim (chosen (is_name 77 65 89 a b c) 5 _ m e4) [ inl h ↦ named 77 65 89 5 a b c m refl (omega arith) (omega arith) h | inr e5 ↦ elim (chosen (is_name 74 85 78 a b c) 6 _ m e5) [ inl h ↦ named 74 85 78 6 a b c m refl (omega arith) (omega arith) h | inr e6 ↦ elim (chosen (is_name 74 85 76 a b c) 7 _ m e6) [ inl h ↦ named 74 85 76 7 a b c m refl (omega arith) (omega arith) h | inr e7 ↦ elim (chosen (is_name 65 85 71 a b c) 8 _ m e7) [ inl h ↦ named 65 85 71 8 a b c m refl (omega arith) (omega arith) h | inr e8 ↦ elim (chosen (is_name 83 69 80 a b c) 9 _ m e8) [ inl h ↦ named 83 69 80 9 a b c m refl (omega arith) (omega arith) h | inr e9 ↦ elim (chosen (is_name 79 67 84 a b c) 10 _ m e9) [ inl h ↦ named 79 67 84 10 a b c m refl (omega arith) (omega arith) h | inr e10 ↦ elim (chosen (is_name 78 79 86 a b c) 11 _ m e10) [ inl h ↦ named 78 79 86 11 a b c m refl (omega arith) (omega arith) h | inr e11 ↦ elim (chosen (is_name 68 69 67 a b c) 12 nothing m e11) [ inl h ↦ named 68 69 67 12 a b c m refl (omega arith) (omega arith) h | inr r ↦ absurd (none_some m r) ] ] ] ] ] ] ] ] ] ] ] ]
 
 -- the name of each month is read
-abbrev reads_month : ℕ → List ℕ → Type 0
+abbrev pub reads_month : ℕ → List ℕ → Type 0
 reads_month m (a ∷ b ∷ c ∷ []) = month_of a b c ≡ Some m
 reads_month m _ = ⊥
 
-month_again : (m : ℕ) → 1 ≤ m → m ≤ 12 → reads_month m (month_name m)
+pub month_again : (m : ℕ) → 1 ≤ m → m ≤ 12 → reads_month m (month_name m)
 month_again zero low high = absurd (omega arith)
 month_again (suc zero) low high = refl
 month_again (suc (suc zero)) low high = refl
@@ -82,7 +82,7 @@ month_again (suc (suc (suc (suc (suc (suc (suc (suc (suc (suc (suc (suc (suc n))
 
 -- ---- the calendar
 
-from_zero : (z : ℤ) → pos 10592 ≤ℤ z → z ≡ pos (unsigned_abs z)
+pub from_zero : (z : ℤ) → pos 10592 ≤ℤ z → z ≡ pos (unsigned_abs z)
 from_zero (pos n) low = refl
 from_zero (negsuc n) low = absurd (omega (arith, signed_arith))
 
