@@ -5,11 +5,17 @@
 mod date;
 mod fault;
 mod fields;
+mod lines;
+mod messages;
 mod reading;
 mod reply;
+mod requests;
+mod script;
 mod segment;
 
-pub use fault::LineFault;
+pub use fault::{LineFault, ScriptFault, ScriptKind};
 pub use reading::read_segment;
 pub use reply::reply_text;
+pub use requests::{Request, Requests};
+pub use script::read_script;
 pub use segment::Segment;
