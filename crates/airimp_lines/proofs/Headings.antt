@@ -8,7 +8,7 @@ use Rattle.ssim_records.proofs.Tests.{passed, both_true}
 use Rattle.airimp_lines.specs.Fields.{fixed_at, byte_at}
 use Rattle.airimp_lines.specs.Messages.{is_address, address_at, is_remark, heading_at, ◌>>=◌}
 use Rattle.airimp_lines.specs.Script.{IsHeading}
-use Rattle.airimp_lines.proofs.Laws.{fixed_takes, fixed_again, byte_takes}
+use Rattle.airimp_lines.proofs.FieldLaws.{fixed_takes, fixed_again, byte_takes}
 
 -- a step that was taken, and what follows it
 with_step : {A B C : Type 0} (o : Option A) (f : A → Option B) (y : B) → (o >>= f) ≡ Some y → ((x : A) → o ≡ Some x → f x ≡ Some y → C) → C

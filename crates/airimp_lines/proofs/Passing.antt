@@ -1,5 +1,5 @@
 -- One line of a script, and what remains behind it.
-use Rattle.std.proofs.Common.{◌≡◌, ℕ, ◌+◌, Bool, true, false, cond, not, ◌==◌, List, [], ◌∷◌, ◌++◌, length, Option, Some, None, Result, Ok, Err, refl, sym, ap, subst, ◌∙◌}
+use Rattle.std.proofs.Common.{◌≡◌, ℕ, ◌+◌, Bool, true, false, cond, not, ◌==◌, List, [], ◌∷◌, ◌++◌, length, Option, Some, None, Result, Ok, Err, inr, refl, sym, ap, subst, ◌∙◌}
 use Rattle.std.specs.Result.{IsErrAnd, IfErr}
 use Rattle.ssim_records.proofs.Tests.{some_is, none_some, nothing}
 use Rattle.airimp_lines.specs.declared.fault.LineFault.{LineFault}
@@ -10,7 +10,7 @@ use Rattle.airimp_lines.specs.declared.segment.Undated.{Undated}
 use Rattle.airimp_lines.specs.Messages.{heading_at, is_passed_over}
 use Rattle.airimp_lines.specs.Reading.{undated_at}
 use Rattle.airimp_lines.specs.Script.{Line, parted, segment_lines, IsRequest, AreRequests, AreMessages}
-use Rattle.airimp_lines.specs.Steps.{Message, opened, asked, step, IsAsked, IsStop}
+use Rattle.airimp_lines.specs.Steps.{Message, opened, asked, step, HasRequest, IsAsked, IsStop}
 use Rattle.std.specs.List.{enumerate_from}
 use Rattle.airimp_lines.proofs.Headings.{heading_takes, heading_again}
 use Rattle.airimp_lines.proofs.Remaining.{AreLeft, Remain, more_left, less_left, open_message, opened_message, part_more, part_split, same_requests}
@@ -150,6 +150,31 @@ asked_one today locator n (c ∷ text) q some pass h =
     let P : Bool → Type 0 = λ b. AreRequests today locator (cond (not b) ((n, c ∷ text) ∷ []) []) (q ∷ []) in
     subst P (sym pass) (h, tt)
 
-pub memory_stop : (message : Message) (text : List ℕ) (after : Message) (r : Result Message ScriptKind) → IsErrAnd r (λ kind. kind ≡ kinds.Memory) → step message text ≡ Ok after → IfErr r (λ kind. IsStop message text kind)
-memory_stop message text after (Ok next) h e = tt
-memory_stop message text after (Err kind) h e = subst (λ (k : ScriptKind). IsStop message text k) (sym h) (after, e)
+pub has_request : (locator text : List ℕ) (u : Undated) → (length text == 0) ≡ false → is_passed_over text ≡ false → undated_at text ≡ Ok u → HasRequest (Some locator) text
+has_request locator [] u some pass e = absurd cc
+has_request locator (c ∷ text) u some pass e = (rw pass refl, rw e refl)
+
+pub memory_stop : (message : Message) (text : List ℕ) (r : Result Message ScriptKind) → IsErrAnd r (λ kind. kind ≡ kinds.Memory) → HasRequest message text → IfErr r (λ kind. IsStop message text kind)
+memory_stop message text (Ok next) h e = tt
+memory_stop message text (Err kind) h e = inr (h, e)
+
+-- ---- a stop
+
+opened_memory : (o : Option (List ℕ)) → opened o ≡ Err kinds.Memory → ⊥
+opened_memory None e = absurd cc
+opened_memory (Some locator) e = absurd cc
+
+asked_memory : (locator : List ℕ) (r : Result Undated LineFault) → asked locator r ≡ Err kinds.Memory → ⊥
+asked_memory locator (Ok u) e = absurd cc
+asked_memory locator (Err fault) e = absurd cc
+
+other_memory : (b : Bool) (locator : List ℕ) (r : Result Undated LineFault) → cond b (gives (Some locator)) (asked locator r) ≡ Err kinds.Memory → ⊥
+other_memory true locator r e = absurd cc
+other_memory false locator r e = asked_memory locator r e
+
+-- no line has a fault of memory
+pub never_memory : (message : Message) (text : List ℕ) → step message text ≡ Err kinds.Memory → ⊥
+never_memory None [] e = absurd cc
+never_memory (Some locator) [] e = absurd cc
+never_memory None (c ∷ text) e = opened_memory (heading_at (c ∷ text)) e
+never_memory (Some locator) (c ∷ text) e = other_memory (is_passed_over (c ∷ text)) locator (undated_at (c ∷ text)) e

@@ -1,5 +1,5 @@
 -- How far a script is read: what was found so far, and what remains.
-use Rattle.std.proofs.Common.{◌≡◌, ◌==◌, Bool, true, false, ℕ, suc, ◌+◌, ◌-◌, ◌<◌, List, [], ◌∷◌, ◌++◌, length, Some, None, Ok, Err, refl, sym, ap, subst, ◌∙◌, arith, append_assoc, append-nil}
+use Rattle.std.proofs.Common.{◌≡◌, ◌≢◌, inl, inr, ◌==◌, Bool, true, false, ℕ, suc, ◌+◌, ◌-◌, ◌<◌, List, [], ◌∷◌, ◌++◌, length, Some, None, Ok, Err, refl, sym, ap, subst, ◌∙◌, arith, append_assoc, append-nil}
 use Rattle.std.specs.Str.Lines.{lines}
 use Rattle.std.proofs.lemmas.Bool.Decides.{nat_tests}
 use Rattle.std.proofs.lemmas.List.{nil_from_length}
@@ -7,12 +7,12 @@ use Rattle.airimp_lines.specs.declared.fault.ScriptKind.{ScriptKind}
 use Rattle.airimp_lines.specs.declared.fault.ScriptKind.TheVariants as kinds
 use Rattle.airimp_lines.specs.declared.requests.Request.{Request}
 use Rattle.airimp_lines.specs.Lines.{line_at}
-use Rattle.airimp_lines.specs.Reach.{reach}
+use Rattle.ssim_records.specs.Reach.{reach, fault_at}
 use Rattle.airimp_lines.specs.Script.{IsScript}
-use Rattle.airimp_lines.specs.Steps.{Message, step, next, Adds, IsStop, IsRefusal, IsFirstFault}
+use Rattle.airimp_lines.specs.Steps.{Message, step, next, at_end, Adds, IsStop, IsFirstFault, WantsRoom}
 use Rattle.airimp_lines.proofs.Cutting.{lines_are, rest_shorter}
-use Rattle.airimp_lines.proofs.Passing.{Behind, onward, behind, none_remain}
-use Rattle.airimp_lines.proofs.Reaches.{reach_one}
+use Rattle.airimp_lines.proofs.Passing.{Behind, onward, behind, none_remain, never_memory}
+use Rattle.ssim_records.proofs.Reaches.{reach_one}
 use Rattle.airimp_lines.proofs.Remaining.{Remain}
 
 -- these requests are those of the first lines, so many; the message goes on; the rest is left
@@ -77,14 +77,14 @@ only_none today None n others (own, more, none, rest, all) = all ∙ ap (λ (x :
 only_none today (Some locator) n others ([], more, none, rest, all) = all ∙ rest
 only_none today (Some locator) n others (q ∷ own, more, none, rest, all) = absurd none
 
-pub at_end : (today : ℕ) (bytes : List ℕ) (line : ℕ) (message : Message) (rest : List ℕ) (requests : List Request) → IsAt today bytes line message rest requests → length rest ≡ 0 → IsScript today bytes requests
-at_end today bytes line message rest requests at none =
+pub whole_found : (today : ℕ) (bytes : List ℕ) (line : ℕ) (message : Message) (rest : List ℕ) (requests : List Request) → IsAt today bytes line message rest requests → length rest ≡ 0 → IsScript today bytes requests
+whole_found today bytes line message rest requests at none =
     let e : rest ≡ [] = nil_from_length rest none in
     let left : Remain today message (line + 1) (lines rest) [] = subst (λ (x : List ℕ). Remain today message (line + 1) (lines x) []) (sym e) (none_left today message (line + 1)) in
     subst (IsScript today bytes) (append-nil requests) (at.leads [] left)
 
-pub at_end_only : (today : ℕ) (bytes : List ℕ) (line : ℕ) (message : Message) (rest : List ℕ) (requests all : List Request) → IsAt today bytes line message rest requests → length rest ≡ 0 → IsScript today bytes all → requests ≡ all
-at_end_only today bytes line message rest requests all at none h =
+pub whole_only : (today : ℕ) (bytes : List ℕ) (line : ℕ) (message : Message) (rest : List ℕ) (requests all : List Request) → IsAt today bytes line message rest requests → length rest ≡ 0 → IsScript today bytes all → requests ≡ all
+whole_only today bytes line message rest requests all at none h =
     let e : rest ≡ [] = nil_from_length rest none in
     let b = at.traces all h in
     let left : Remain today message (line + 1) (lines []) b.others = subst (λ (x : List ℕ). Remain today message (line + 1) (lines x) b.others) e b.remain in
@@ -92,11 +92,10 @@ at_end_only today bytes line message rest requests all at none h =
 
 -- ---- a refusal
 
-first_fault : (today : ℕ) (bytes : List ℕ) (line : ℕ) (message : Message) (rest : List ℕ) (requests : List Request) (kind : ScriptKind)
-    → IsAt today bytes line message rest requests → step message (line_at rest).0 ≡ Err kind → IsFirstFault bytes (line + 1) kind
-first_fault today bytes line message rest requests kind at e =
-    let one : line + 1 - 1 ≡ line = omega arith in
-    (message, rest, omega arith, ap (reach next None bytes) one ∙ at.reached, next_fails message rest kind e)
+some_rest : (message : Message) (rest : List ℕ) (kind : ScriptKind) → next message rest ≡ Err kind → fault_at next at_end message rest ≡ Some kind
+unfolding next line_at
+some_rest message [] kind e = absurd cc
+some_rest message (c ∷ rest) kind e = rw e refl
 
 no_script : (today : ℕ) (bytes : List ℕ) (line : ℕ) (message : Message) (rest : List ℕ) (requests all : List Request) (kind : ScriptKind)
     → IsAt today bytes line message rest requests → 0 < length rest → step message (line_at rest).0 ≡ Err kind → IsScript today bytes all → ⊥
@@ -104,19 +103,26 @@ no_script today bytes line message rest requests all kind at some e h =
     let b = at.traces all h in
     none_remain today message (line + 1) (line_at rest).0 (lines (line_at rest).1) b.others kind e (split today message (line + 1) rest b.others some b.remain)
 
-pub at_stop : (today : ℕ) (bytes : List ℕ) (line : ℕ) (message : Message) (rest : List ℕ) (requests : List Request) (kind : ScriptKind)
-    → IsAt today bytes line message rest requests → IsStop message (line_at rest).0 kind → IsRefusal bytes (line + 1) kind
-at_stop today bytes line message rest requests kinds.Memory at (after, e) =
-    let one : line + 1 ≡ suc line = omega arith in
-    (after, (line_at rest).1, ap (reach next None bytes) one ∙ reach_one next None bytes line (message, rest) at.reached ∙ next_is message after rest e)
-at_stop today bytes line message rest requests kinds.Locator at e = first_fault today bytes line message rest requests kinds.Locator at e
-at_stop today bytes line message rest requests (kinds.Line fault) at e = first_fault today bytes line message rest requests (kinds.Line fault) at e
+-- a fault is the first
+pub at_fault : (today : ℕ) (bytes : List ℕ) (line : ℕ) (message : Message) (rest : List ℕ) (requests : List Request) (kind : ScriptKind)
+    → IsAt today bytes line message rest requests → IsStop message (line_at rest).0 kind → kind ≢ kinds.Memory → IsFirstFault bytes (line + 1) kind
+at_fault today bytes line message rest requests kind at (inl e) other =
+    let one : line + 1 - 1 ≡ line = omega arith in
+    (message, rest, omega arith, ap (reach next None bytes) one ∙ at.reached, some_rest message rest kind (next_fails message rest kind e))
+at_fault today bytes line message rest requests kind at (inr memory) other = absurd (other memory.0)
+
+-- memory is wanted where no line has a fault
+pub at_memory : (today : ℕ) (bytes : List ℕ) (line : ℕ) (message : Message) (rest : List ℕ) (requests : List Request) (kind : ScriptKind)
+    → IsAt today bytes line message rest requests → IsStop message (line_at rest).0 kind → kind ≡ kinds.Memory → WantsRoom bytes (line + 1)
+at_memory today bytes line message rest requests kind at (inl e) is = absurd (never_memory message (line_at rest).0 (subst (λ (k : ScriptKind). step message (line_at rest).0 ≡ Err k) is e))
+at_memory today bytes line message rest requests kind at (inr memory) is =
+    let one : line + 1 - 1 ≡ line = omega arith in
+    (message, rest, omega arith, ap (reach next None bytes) one ∙ at.reached, memory.1)
 
 pub stop_only : (today : ℕ) (bytes : List ℕ) (line : ℕ) (message : Message) (rest : List ℕ) (requests all : List Request) (kind : ScriptKind)
     → IsAt today bytes line message rest requests → 0 < length rest → IsStop message (line_at rest).0 kind → IsScript today bytes all → kind ≡ kinds.Memory
-stop_only today bytes line message rest requests all kinds.Memory at some e h = refl
-stop_only today bytes line message rest requests all kinds.Locator at some e h = absurd (no_script today bytes line message rest requests all kinds.Locator at some e h)
-stop_only today bytes line message rest requests all (kinds.Line fault) at some e h = absurd (no_script today bytes line message rest requests all (kinds.Line fault) at some e h)
+stop_only today bytes line message rest requests all kind at some (inl e) h = absurd (no_script today bytes line message rest requests all kind at some e h)
+stop_only today bytes line message rest requests all kind at some (inr memory) h = memory.0
 
 -- ---- the line that was cut off
 

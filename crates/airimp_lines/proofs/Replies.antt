@@ -11,8 +11,8 @@ use Rattle.ssim_records.specs.Days.{day_month, two_digits, month_name}
 use Rattle.ssim_records.proofs.Years.{same_parts}
 use Rattle.airimp_lines.specs.Fields.{is_tail}
 use Rattle.airimp_lines.specs.declared.segment.Segment.{Segment}
-use Rattle.airimp_lines.specs.Grammar.{IsNumeral, letters_text, SpellsSegment, plain_line, IsSegment, IsPlainLine, replied}
-use Rattle.airimp_lines.proofs.Laws.{length_airline, length_station, length_code, length_name}
+use Rattle.airimp_lines.specs.Grammar.{IsNumeral, letters_text, SpellsSegment, plain_line, IsPlain, IsPlainLine, replied}
+use Rattle.airimp_lines.proofs.FieldLaws.{length_airline, length_station, length_code, length_name}
 
 one : (n : ℕ) → n < 10 → list_all is_ascii_digit ((48 + n) ∷ []) ≡ true
 one n lt =
@@ -62,7 +62,7 @@ unfolding is_tail
 tail_none = refl
 
 -- a segment that some line spells is spelled by its reply, with that code and number
-pub reply_spelled : (today : ℕ) (line : List ℕ) (s : Segment) (code : List ℕ) (seats : ℕ) (text : List ℕ) → is_code code ≡ true → 0 < seats → seats < 10 ^ 3 → IsSegment s → IsPlainLine (replied s code seats) text → SpellsSegment today line s → SpellsSegment today text (replied s code seats)
+pub reply_spelled : (today : ℕ) (line : List ℕ) (s : Segment) (code : List ℕ) (seats : ℕ) (text : List ℕ) → is_code code ≡ true → 0 < seats → seats < 10 ^ 3 → IsPlain s → IsPlainLine (replied s code seats) text → SpellsSegment today line s → SpellsSegment today text (replied s code seats)
 reply_spelled today line s code seats text is positive small fits p h =
     let same = same_parts p.year p.month p.day h.date.year h.month h.day s.day p.date h.date.date in
     let number = decimal_numeral 4 s.number (omega arith) fits.number.0 fits.number.1 (omega (arith, fits.number.1)) in

@@ -5,7 +5,7 @@ use Rattle.airimp_lines.specs.declared.segment.Segment.{Segment}
 use Rattle.airimp_lines.specs.declared.segment.Undated.{Undated}
 use Rattle.airimp_lines.specs.Reading.{undated_at}
 use Rattle.airimp_lines.specs.Grammar.{SpellsSegment, IsNextDate, undated_of}
-use Rattle.airimp_lines.proofs.Laws.{undated_takes, undated_again, done, ok_is}
+use Rattle.airimp_lines.proofs.LineLaws.{undated_takes, undated_again, done, ok_is}
 use Rattle.airimp_lines.proofs.Dates.{has_year, same_next}
 
 abbrev pub dated : Undated → ℕ → Segment

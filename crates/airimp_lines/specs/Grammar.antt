@@ -43,10 +43,6 @@ pub record Spells (line : List ℕ) (u : Undated) : Type 0 where
   pub is_seats : IsNumeral 3 seats u.seats
   pub is_tail : IsTrue (is_tail tail)
 
--- a day of the years 2000 to 2099
-abbrev pub IsToday : ℕ → Type 0
-IsToday n = (10957 ≤ n) × (n ≤ 47481)
-
 -- the earliest such date on or after today
 pub record IsNextDate (today day month n : ℕ) : Type 0 where
   pub year : ℕ
@@ -81,10 +77,15 @@ abbrev pub plain_line : ℕ → ℕ → Segment → List ℕ
 plain_line day month s =
     s.airline ++ (decimal s.number ++ (letters_text s.suffix s.class ++ (day_month day month ++ (32 ∷ (s.board ++ (s.off ++ (32 ∷ (s.code ++ decimal s.seats))))))))
 
--- what may be printed
-pub record IsSegment (s : Segment) : Type 0 where
+-- a number of one to four digits above 0, and a letter as the suffix, if there is one
+pub record IsPlain (s : Segment) : Type 0 where
   pub number : (0 < s.number) × (s.number < 10 ^ 4)
   pub suffix : IfSome s.suffix (λ c. IsTrue (is_ascii_uppercase c))
+
+-- and 1 to 999 seats
+pub record IsRightSegment (s : Segment) : Type 0 where
+  pub plain : IsPlain s
+  pub seats : (0 < s.seats) × (s.seats < 10 ^ 3)
 
 -- the text says the segment, and its day
 pub record IsPlainLine (s : Segment) (text : List ℕ) : Type 0 where

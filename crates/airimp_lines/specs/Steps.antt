@@ -1,6 +1,7 @@
 -- Reading a script line by line, with the first fault that is met.
-use Rattle.std.specs.Prelude.{◌≡◌, ℕ, ◌-◌, ◌≤◌, ◌++◌, if◌then◌else◌, List, [], ◌∷◌, Option, Some, None, Result, Ok, Err}
-use Rattle.airimp_lines.specs.Reach.{reach}
+use Rattle.std.specs.Prelude.{◌≡◌, ◌⊎◌, ℕ, IsTrue, not, ◌-◌, ◌≤◌, ◌++◌, if◌then◌else◌, List, [], ◌∷◌, Option, Some, None, Result, Ok, Err}
+use Rattle.ssim_records.specs.Reach.{reach, IsFirst}
+use Rattle.std.specs.Result.{IsOk}
 use Rattle.airimp_lines.specs.Lines.{line_at}
 use Rattle.airimp_lines.specs.Messages.{heading_at, is_passed_over}
 use Rattle.airimp_lines.specs.Reading.{undated_at}
@@ -39,18 +40,23 @@ moved rest (Ok message) = Ok (message, rest)
 unfoldable pub next : Message → List ℕ → Result (Message × List ℕ) ScriptKind
 next message bytes = moved (line_at bytes).1 (step message (line_at bytes).0)
 
--- the first lines, so many, have no fault
-abbrev pub IsRight : List ℕ → ℕ → Type 0
-IsRight bytes lines = (message : Message) × (rest : List ℕ) × (reach next None bytes lines ≡ Ok (message, rest))
+-- a script may end behind any line
+abbrev pub at_end : Message → Option ScriptKind
+at_end message = None
 
 -- the lines before this one have no fault, and this is the first one of the line
 abbrev pub IsFirstFault : List ℕ → ℕ → ScriptKind → Type 0
-IsFirstFault bytes line kind = (message : Message) × (rest : List ℕ) × (1 ≤ line) × (reach next None bytes (line - 1) ≡ Ok (message, rest)) × (next message rest ≡ Err kind)
+IsFirstFault bytes line kind = IsFirst next at_end None bytes line kind
 
--- for want of memory no line is refused that has a fault or stands behind one
-abbrev pub IsRefusal : List ℕ → ℕ → ScriptKind → Type 0
-IsRefusal bytes line kinds.Memory = IsRight bytes line
-IsRefusal bytes line kind = IsFirstFault bytes line kind
+-- a segment line of a message, without a fault
+abbrev pub HasRequest : Message → List ℕ → Type 0
+HasRequest None text = ⊥
+HasRequest (Some locator) [] = ⊥
+HasRequest (Some locator) (c ∷ text) = IsTrue (not (is_passed_over (c ∷ text))) × IsOk (undated_at (c ∷ text))
+
+-- no line has a fault up to this one, which has a request
+abbrev pub WantsRoom : List ℕ → ℕ → Type 0
+WantsRoom bytes line = (message : Message) × (rest : List ℕ) × (1 ≤ line) × (reach next None bytes (line - 1) ≡ Ok (message, rest)) × HasRequest message (line_at rest).0
 
 -- ---- one line
 
@@ -66,7 +72,6 @@ pub record Adds (today : ℕ) (message : Message) (line : Line) (old new : List 
   pub all : new ≡ old ++ added
   pub asked : IsAsked today message line added
 
--- a fault of the line, or want of memory at a line without one
+-- a line that is refused: this is its fault, or there was no room for its request
 abbrev pub IsStop : Message → List ℕ → ScriptKind → Type 0
-IsStop message text kinds.Memory = (after : Message) × (step message text ≡ Ok after)
-IsStop message text kind = step message text ≡ Err kind
+IsStop message text kind = (step message text ≡ Err kind) ⊎ ((kind ≡ kinds.Memory) × HasRequest message text)

@@ -1,9 +1,10 @@
 //! Scripts: booking messages with empty lines between them.
-ghost use Rattle.std.specs.Prelude.{◌≡◌, ℕ, ◌+◌, ◌<◌, ◌^◌, ◌++◌, List, [], ◌∷◌, length, Ok, Err, IfOk, IfErr, OnErr};
+ghost use Rattle.std.specs.Prelude.{◌≢◌, All, ◌≡◌, ℕ, ◌+◌, ◌<◌, ◌^◌, ◌++◌, List, [], ◌∷◌, length, Ok, Err, IfOk, IfErr, OnErr};
 ghost use Rattle.std.specs.Result.{MatchResult};
-ghost use Rattle.airimp_lines.specs.Grammar.{IsToday};
+ghost use Rattle.ssim_records.specs.Days.{IsCenturyDay};
+ghost use Rattle.airimp_lines.specs.Grammar.{IsRightSegment};
 ghost use Rattle.airimp_lines.specs.Script.{IsScript};
-ghost use Rattle.airimp_lines.specs.Steps.{step, Adds, IsRefusal, IsStop};
+ghost use Rattle.airimp_lines.specs.Steps.{step, Adds, IsFirstFault, IsStop, WantsRoom};
 ghost use Rattle.airimp_lines.specs.declared.requests.Request.{Request as Asked};
 ghost use Rattle.airimp_lines.specs.declared.fault.ScriptKind.TheVariants.{Memory};
 
@@ -17,14 +18,18 @@ use std::alloc::Global;
 
 /// The requests of a script, whose days are the earliest such dates on or after `today`.
 pub fn read_script(alloc: Global, bytes: &[u8], today: Day) -> Result<Requests, ScriptFault>
-    requires today { IsToday today }
+    requires today { IsCenturyDay today }
     requires size { length bytes.now < 2 ^ 32 }
     // What is read are the requests of the script.
     ensures found { IfOk result (IsScript today bytes.now) }
     // The requests of a script are read, unless memory is wanting.
     ensures only { (requests : List Asked) → IsScript today bytes.now requests → MatchResult result (λ r. r ≡ requests) (λ f. f.kind ≡ Memory) }
     // Which line is refused: the first with a fault, and its first fault.
-    ensures fault { IfErr result (λ f. IsRefusal bytes.now f.line f.kind) }
+    ensures fault { IfErr result (λ f. f.kind ≢ Memory → IsFirstFault bytes.now f.line f.kind) }
+    // Want of memory is met at a segment line, where no line up to it has a fault.
+    ensures memory { IfErr result (λ f. f.kind ≡ Memory → WantsRoom bytes.now f.line) }
+    // Each segment of it has numbers and a suffix as they may be.
+    ensures right { IfOk result (All (λ request. IsRightSegment request.segment)) }
 {
     let mut requests = Requests::new(alloc);
     let mut message = None;
@@ -50,7 +55,7 @@ fn take_line(
     line: u32,
     today: Day,
 ) -> Result<Option<Locator>, ScriptKind>
-    requires { IsToday today }
+    requires { IsCenturyDay today }
     ensures taken { IfOk result (λ next. step message text.now ≡ Ok next) }
     ensures added { IfOk result (λ _. Adds today message (line, text.now) requests.old requests.new) }
     ensures fault { IfErr result (λ kind. IsStop message text.now kind) }

@@ -1,5 +1,6 @@
 -- The bytes of a text, by their places and kinds.
-use Rattle.std.specs.Prelude.{ℕ, ◌-◌, Bool, ◌&&◌, nat_eq, nat_le, List, slice_range}
+use Rattle.std.specs.Prelude.{ℕ, ◌-◌, Bool, ◌&&◌, ◌==◌, nat_eq, nat_le, List, slice_range, codes}
+use Rattle.std.specs.List.{list_all}
 use Rattle.std.specs.Cmp.Lexicographic.{pointwise}
 
 -- from the blank to `~`
@@ -12,3 +13,14 @@ field from to text = slice_range text (from - 1) to
 
 abbrev pub same_text : List ℕ → List ℕ → Bool
 same_text a b = pointwise nat_eq a b
+
+-- 200 characters `0`
+abbrev pub is_filler : List ℕ → Bool
+is_filler text = list_all (λ c. c == 48) text
+
+abbrev pub set_title : List ℕ
+set_title = codes "AIRLINE STANDARD SCHEDULE DATA SET"
+
+-- a "to" date that is none
+abbrev pub open_end : List ℕ
+open_end = codes "00XXX00"

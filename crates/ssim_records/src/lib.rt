@@ -4,13 +4,21 @@
 
 mod carrier;
 mod counted;
+mod cut;
 mod days;
 pub mod fields;
+pub mod laws;
 mod memory;
 mod names;
 mod place;
 mod reading;
+mod record_fields;
+mod records;
 mod set;
+mod set_fault;
+mod set_reading;
+mod state;
+mod steps;
 mod writing;
 
 pub use carrier::{Carrier, Leg};
@@ -21,4 +29,6 @@ pub use names::{Airline, Class, Code, Locator, Station};
 pub use place::Place;
 pub use reading::{ReadFault, read_all};
 pub use set::{DataSet, Legs};
+pub use set_fault::{SetFault, SetKind};
+pub use set_reading::read_set;
 pub use writing::{WriteFault, put_all};

@@ -1,6 +1,7 @@
 use Rattle.std.proofs.Common.{arith, length}
 use Rattle.std.specs.Char.{is_ascii_digit}
-use Rattle.airimp_lines.proofs.Runs.{run_all, numeral_small}
+use Rattle.ssim_records.proofs.LeadingRuns.{run_all}
+use Rattle.airimp_lines.proofs.Runs.{numeral_small}
 use Rattle.airimp_lines.proofs.fields.numeral_of.Goals as goal
 
 pub value_of-number-requires-clause-digits : goal.value_of-number-requires-clause-digits

@@ -1,5 +1,6 @@
 use Rattle.std.proofs.Common.{arith}
-use Rattle.airimp_lines.proofs.Progress.{at_start, at_end, at_end_only, at_stop, stop_only, cut_next, cut_stop, cut_shorter, not_done, done_is}
+use Rattle.airimp_lines.proofs.Progress.{at_start, whole_found, whole_only, at_fault, at_memory, stop_only, cut_next, cut_stop, cut_shorter, not_done, done_is}
+use Rattle.airimp_lines.proofs.RightLines.{right_script}
 use Rattle.airimp_lines.proofs.script.read_script.Goals as goal
 
 pub loop-rest-init : goal.loop-rest-init
@@ -12,9 +13,14 @@ returns-in-Err-clause-only c = λ requests h.
     stop_only c.args.today c.args.bytes.now c.loop-rest.line c.loop-rest.message c.loop-rest.rest.now c.loop-rest.requests requests c.in-Err.kind c.loop-rest.invariant.at some stop h
 
 pub returns-in-Err-clause-fault : goal.returns-in-Err-clause-fault
-returns-in-Err-clause-fault c =
+returns-in-Err-clause-fault c = λ other.
     let stop = cut_stop c.loop-rest.message c.loop-rest.rest.now c.cut_line.result.0.now c.cut_line.result.1.now c.in-Err.kind c.cut_line.ensures c.in-Err.ensures.fault in
-    at_stop c.args.today c.args.bytes.now c.loop-rest.line c.loop-rest.message c.loop-rest.rest.now c.loop-rest.requests c.in-Err.kind c.loop-rest.invariant.at stop
+    at_fault c.args.today c.args.bytes.now c.loop-rest.line c.loop-rest.message c.loop-rest.rest.now c.loop-rest.requests c.in-Err.kind c.loop-rest.invariant.at stop other
+
+pub returns-in-Err-clause-memory : goal.returns-in-Err-clause-memory
+returns-in-Err-clause-memory c = λ is.
+    let stop = cut_stop c.loop-rest.message c.loop-rest.rest.now c.cut_line.result.0.now c.cut_line.result.1.now c.in-Err.kind c.cut_line.ensures c.in-Err.ensures.fault in
+    at_memory c.args.today c.args.bytes.now c.loop-rest.line c.loop-rest.message c.loop-rest.rest.now c.loop-rest.requests c.in-Err.kind c.loop-rest.invariant.at stop is
 
 pub loop-rest-smaller : goal.loop-rest-smaller
 loop-rest-smaller c = cut_shorter c.loop-rest.rest.now c.cut_line.result.0.now c.cut_line.result.1.now c.cut_line.ensures (not_done c.is_empty.result c.loop-rest.rest.now c.is_empty.ensures c.loop-rest-test.true)
@@ -28,7 +34,10 @@ loop-rest-preserved c =
     }
 
 pub returns-clause-found : goal.returns-clause-found
-returns-clause-found c = at_end c.args.today c.args.bytes.now c.loop-rest.line c.loop-rest.message c.loop-rest.rest.now c.loop-rest.requests c.loop-rest.invariant.at (done_is c.is_empty.result c.loop-rest.rest.now c.is_empty.ensures c.loop-rest-test.false)
+returns-clause-found c = whole_found c.args.today c.args.bytes.now c.loop-rest.line c.loop-rest.message c.loop-rest.rest.now c.loop-rest.requests c.loop-rest.invariant.at (done_is c.is_empty.result c.loop-rest.rest.now c.is_empty.ensures c.loop-rest-test.false)
 
 pub returns-clause-only : goal.returns-clause-only
-returns-clause-only c = λ requests h. at_end_only c.args.today c.args.bytes.now c.loop-rest.line c.loop-rest.message c.loop-rest.rest.now c.loop-rest.requests requests c.loop-rest.invariant.at (done_is c.is_empty.result c.loop-rest.rest.now c.is_empty.ensures c.loop-rest-test.false) h
+returns-clause-only c = λ requests h. whole_only c.args.today c.args.bytes.now c.loop-rest.line c.loop-rest.message c.loop-rest.rest.now c.loop-rest.requests requests c.loop-rest.invariant.at (done_is c.is_empty.result c.loop-rest.rest.now c.is_empty.ensures c.loop-rest-test.false) h
+
+pub returns-clause-right : goal.returns-clause-right
+returns-clause-right c = right_script c.args.today c.args.bytes.now c.loop-rest.requests (returns-clause-found c)

@@ -1,0 +1,245 @@
+-- Reading a data set record by record, with the first fault that is met.
+use Rattle.std.specs.Prelude.{◌⊎◌, MatchResult, ◌≡◌, ℕ, ◌+◌, ◌-◌, ◌≤◌, Bool, true, false, not, ◌&&◌, ◌==◌, nat_lt, if◌then◌else◌, List, [], ◌∷◌, ◌++◌, length, Option, Some, None, Result, Ok, Err}
+use Rattle.ssim_records.specs.declared.set_fault.SetKind.{SetKind}
+use Rattle.ssim_records.specs.declared.set_fault.SetKind.TheVariants as kinds
+use Rattle.ssim_records.specs.declared.carrier.Carrier.{Carrier}
+use Rattle.ssim_records.specs.declared.carrier.Leg.{Leg}
+use Rattle.ssim_records.specs.declared.set.DataSet.{DataSet}
+use Rattle.ssim_records.specs.declared.state.Phase.{Phase}
+use Rattle.ssim_records.specs.declared.state.Phase.TheVariants.{Start, Open, Body, Done}
+use Rattle.ssim_records.specs.declared.state.Reader.{Reader}
+use Rattle.ssim_records.specs.Bytes.{field, same_text, is_filler, set_title}
+use Rattle.ssim_records.specs.Cut.{cut_at}
+use Rattle.ssim_records.specs.Days.{date_in}
+use Rattle.ssim_records.specs.RecordFields.{padded_in, positive_in, six_in, mode_in, designator_in, station_in, suffix_in, byte_in, until_in, days_in, rate_in, time_in, offset_in, shift_in, continued_in}
+use Rattle.ssim_records.specs.Reach.{reach, IsFirst}
+
+infixl 10 ◌>>=◌
+abbrev pub ◌>>=◌ : {A B : Type 0} → Result A SetKind → (A → Result B SetKind) → Result B SetKind
+(Ok x) >>= f = f x
+(Err e) >>= f = Err e
+
+-- the field that begins at this byte, or the fault that names it
+abbrev pub want : {A : Type 0} → ℕ → Option A → Result A SetKind
+want place None = Err (kinds.BadField place)
+want place (Some x) = Ok x
+
+abbrev pub check : SetKind → Bool → Result (Unit {0}) SetKind
+check kind true = Ok tt
+check kind false = Err kind
+
+-- ---- records
+
+unfoldable pub carrier_at : List ℕ → Result Carrier SetKind
+carrier_at text = do
+  local ← want 2 (mode_in (field 2 2 text))
+  airline ← want 3 (designator_in (field 3 5 text))
+  from ← want 15 (date_in (field 15 21 text))
+  to ← want 22 (until_in from (field 22 28 text))
+  Ok (record { airline = airline; local = local; from = from; to = to })
+
+unfoldable pub leg_at : List ℕ → ℕ → List ℕ → Result Leg SetKind
+leg_at airline serial text = do
+  suffix ← want 2 (suffix_in (field 2 2 text))
+  own ← want 3 (designator_in (field 3 5 text))
+  number ← want 6 (positive_in (field 6 9 text))
+  variation ← want 10 (padded_in (field 10 11 text))
+  sequence ← want 12 (positive_in (field 12 13 text))
+  from ← want 15 (date_in (field 15 21 text))
+  to ← want 22 (until_in from (field 22 28 text))
+  days ← want 29 (days_in (field 29 35 text))
+  second_week ← want 36 (rate_in (field 36 36 text))
+  board ← want 37 (station_in (field 37 39 text))
+  std ← want 44 (time_in (field 44 47 text))
+  offset ← want 48 (offset_in (field 48 52 text))
+  off ← want 55 (station_in (field 55 57 text))
+  overflow ← want 128 (byte_in (field 128 128 text))
+  shift ← want 193 (shift_in (field 193 193 text))
+  _ ← check kinds.OtherAirline (same_text own airline)
+  Ok (record {
+    serial = serial;
+    number = number;
+    suffix = suffix;
+    variation = variation;
+    overflow = overflow;
+    sequence = sequence;
+    from = from;
+    to = to;
+    days = days;
+    second_week = second_week;
+    board = board;
+    std = std;
+    offset = offset;
+    off = off;
+    shift = shift;
+  })
+
+-- the trailer after the record with this serial
+unfoldable pub trailer_at : List ℕ → ℕ → List ℕ → Result (Unit {0}) SetKind
+trailer_at airline before text = do
+  own ← want 3 (designator_in (field 3 5 text))
+  reference ← want 188 (six_in (field 188 193 text))
+  more ← want 194 (continued_in (field 194 194 text))
+  _ ← check kinds.OtherAirline (same_text own airline)
+  _ ← check kinds.BadCheck (reference == before)
+  _ ← check kinds.Continued (not more)
+  Ok tt
+
+-- ---- the reader's state
+
+abbrev pub fresh : Reader
+fresh = record { phase = Start; count = 0; legs = []; segments = 0 }
+
+-- the type of a record is its first byte
+abbrev pub type_of : List ℕ → ℕ
+type_of [] = 0
+type_of (c ∷ rest) = c
+
+abbrev pub is_number : ℕ → Option ℕ → Bool
+is_number n None = false
+is_number n (Some k) = k == n
+
+-- the six digits of this serial
+unfoldable pub has_serial : ℕ → List ℕ → Bool
+has_serial serial text = is_number serial (six_in (field 195 200 text))
+
+-- the header
+unfoldable pub header_at : ℕ → List ℕ → Result (Unit {0}) SetKind
+header_at serial text = do
+  _ ← check kinds.NoHeader (type_of text == 49)
+  _ ← check kinds.BadTitle (same_text (field 2 35 text) set_title)
+  _ ← check kinds.BadSerial (has_serial serial text)
+  Ok tt
+
+-- the record behind the header
+unfoldable pub second_at : ℕ → List ℕ → Result Carrier SetKind
+second_at serial text = do
+  _ ← check kinds.BadOrder (type_of text == 50)
+  _ ← check kinds.BadSerial (has_serial serial text)
+  carrier_at text
+
+-- segment data, which follows a leg
+unfoldable pub segment_at : Bool → ℕ → List ℕ → Result (Unit {0}) SetKind
+segment_at none serial text = do
+  _ ← check kinds.BadOrder (not none)
+  _ ← check kinds.BadSerial (has_serial serial text)
+  Ok tt
+
+-- a record that may stand here, by its number
+unfoldable pub numbered_at : {A : Type 0} → ℕ → Result A SetKind → List ℕ → Result A SetKind
+numbered_at serial r text = check kinds.BadSerial (has_serial serial text) >>= (λ _. r)
+
+unfoldable pub header_step : Reader → List ℕ → Result Reader SetKind
+header_step s text = header_at (s.count + 1) text >>= (λ _. Ok (record s { phase = Open; count = s.count + 1 }))
+
+unfoldable pub carrier_step : Reader → List ℕ → Result Reader SetKind
+carrier_step s text = second_at (s.count + 1) text >>= (λ carrier. Ok (record s { phase = Body carrier; count = s.count + 1 }))
+
+unfoldable pub leg_step : Carrier → Reader → List ℕ → Result Reader SetKind
+leg_step c s text = numbered_at (s.count + 1) (leg_at c.airline (s.count + 1) text) text >>= (λ leg. Ok (record s { legs = s.legs ++ leg ∷ []; count = s.count + 1 }))
+
+unfoldable pub segment_step : Reader → List ℕ → Result Reader SetKind
+segment_step s text = segment_at (length s.legs == 0) (s.count + 1) text >>= (λ _. Ok (record s { segments = s.segments + 1; count = s.count + 1 }))
+
+unfoldable pub trailer_step : Carrier → Reader → List ℕ → Result Reader SetKind
+trailer_step c s text = numbered_at (s.count + 1) (trailer_at c.airline s.count text) text >>= (λ _. Ok (record s { phase = Done c; count = s.count + 1 }))
+
+-- the record after the carrier's
+unfoldable pub body_step : ℕ → Carrier → Reader → List ℕ → Result Reader SetKind
+body_step t c s text =
+    if t == 51 then leg_step c s text else if t == 52 then segment_step s text
+    else if t == 53 then trailer_step c s text else Err kinds.BadOrder
+
+abbrev pub taken : Phase → Reader → List ℕ → Result Reader SetKind
+taken Start s text = header_step s text
+taken Open s text = carrier_step s text
+taken (Body c) s text = body_step (type_of text) c s text
+taken (Done c) s text = Err kinds.AfterTrailer
+
+-- a right record beyond the most is too many
+abbrev pub within : ℕ → Reader → Result Reader SetKind → Result Reader SetKind
+within most s (Err kind) = Err kind
+within most s (Ok next) = if nat_lt s.count most then Ok next else Err kinds.TooLarge
+
+abbrev pub is_start : Phase → Bool
+is_start Start = true
+is_start _ = false
+
+-- a record
+unfoldable pub step : ℕ → Reader → List ℕ → Result Reader SetKind
+step most s text =
+    if is_filler text && not (is_start s.phase) then Ok s else within most s (taken s.phase s text)
+
+abbrev pub moved : List ℕ → Result Reader SetKind → Result (Reader × List ℕ) SetKind
+moved rest (Err kind) = Err kind
+moved rest (Ok s) = Ok (s, rest)
+
+abbrev pub cut_then : ℕ → Reader → Result (List ℕ × List ℕ) SetKind → Result (Reader × List ℕ) SetKind
+cut_then most s (Err kind) = Err kind
+cut_then most s (Ok p) = moved p.1 (step most s p.0)
+
+-- a record and its end
+unfoldable pub next : ℕ → Reader → List ℕ → Result (Reader × List ℕ) SetKind
+next most s bytes = cut_then most s (cut_at bytes)
+
+-- ---- what the code keeps, and its answers
+
+-- segment data are among the records counted
+abbrev pub IsCounted : ℕ → Reader → Type 0
+IsCounted most s = (s.count ≤ most) × (s.segments ≤ s.count)
+
+-- a record of 200 bytes comes to a reader that has counted no more than it may
+abbrev pub IsReady : ℕ → Reader → List ℕ → Type 0
+IsReady most s text = (most ≤ 999999) × (length text ≡ 200) × IsCounted most s
+
+-- the reader has one leg more
+abbrev pub HasLegMore : Reader → Result Reader SetKind → Type 0
+HasLegMore s (Ok t) = length t.legs ≡ length s.legs + 1
+HasLegMore s (Err kind) = ⊥
+
+-- a record that is not taken: this is its fault, or there was no room for its leg
+abbrev pub IsRefused : Reader → Result Reader SetKind → SetKind → Type 0
+IsRefused s said kind = (said ≡ Err kind) ⊎ ((kind ≡ kinds.Memory) × HasLegMore s said)
+
+-- the reader goes on as was said, or refuses
+abbrev pub Takes : Reader → Reader → Result (Unit {0}) SetKind → Result Reader SetKind → Type 0
+Takes old new answer said = MatchResult answer (λ _. said ≡ Ok new) (IsRefused old said)
+
+-- ---- the end
+
+abbrev pub missing : Phase → Option SetKind
+missing Start = Some kinds.NoHeader
+missing Open = Some kinds.NoTrailer
+missing (Body c) = Some kinds.NoTrailer
+missing (Done c) = None
+
+-- the bytes end where another record must come
+abbrev pub at_end : Reader → Option SetKind
+at_end s = missing s.phase
+
+-- ---- the whole
+
+-- the data set that a reader holds behind the trailer
+abbrev pub set_of : Carrier → Reader → DataSet
+set_of c s = record { carrier = c; legs = s.legs; segments = s.segments }
+
+-- the bytes are read to their end as this data set
+abbrev pub ReadsAs : ℕ → List ℕ → DataSet → Type 0
+ReadsAs most bytes set = (n : ℕ) × (s : Reader) × (c : Carrier) × (reach (next most) fresh bytes n ≡ Ok (s, [])) × (s.phase ≡ Done c) × (set_of c s ≡ set)
+
+-- the first fault of the bytes is this one, of the nth record
+abbrev pub IsFirstFault : ℕ → List ℕ → ℕ → SetKind → Type 0
+IsFirstFault most bytes nth kind = IsFirst (next most) at_end fresh bytes nth kind
+
+-- the next record is a leg's, and has no fault
+abbrev pub IsRoomWanted : Reader → Result (Reader × List ℕ) SetKind → Type 0
+IsRoomWanted s (Ok p) = length p.0.legs ≡ length s.legs + 1
+IsRoomWanted s (Err kind) = ⊥
+
+-- no record has a fault up to the nth, which is a leg's
+abbrev pub WantsRoom : ℕ → List ℕ → ℕ → Type 0
+WantsRoom most bytes nth = (s : Reader) × (rest : List ℕ) × (1 ≤ nth) × (reach (next most) fresh bytes (nth - 1) ≡ Ok (s, rest)) × IsRoomWanted s (next most s rest)
+
+-- a refusal by this record, of this kind
+abbrev pub IsRefusal : ℕ → List ℕ → ℕ → SetKind → Type 0
+IsRefusal most bytes nth kind = IsFirstFault most bytes nth kind ⊎ ((kind ≡ kinds.Memory) × WantsRoom most bytes nth)

@@ -1,0 +1,199 @@
+ghost use Rattle.std.specs.Prelude.{◌≡◌, ◌≤◌, ◌==◌, ◌+◌, ℕ, length};
+ghost use Rattle.ssim_records.specs.Bytes.{same_text, set_title};
+ghost use Rattle.ssim_records.specs.SetSteps.{type_of, has_serial, header_at, carrier_at, second_at, leg_at, numbered_at, segment_at, trailer_at};
+
+use crate::carrier::{Carrier, Leg};
+use crate::days::Day;
+use crate::names::Airline;
+use crate::record_fields::{
+    byte_of, continued_of, days_of, designator_of, mode_of, number_of, offset_of, rate_of,
+    sequence_of, shift_of, six_of, small_of, station_of, suffix_of, time_of, until_of,
+};
+use crate::set_fault::SetKind;
+
+fn is_same(a: Airline, b: Airline) -> bool
+    ensures { result ≡ same_text a b }
+{
+    a.characters().as_slice() == b.characters().as_slice()
+}
+
+fn is_title(text: &[u8]) -> bool
+    ensures { result ≡ same_text text.now set_title }
+{
+    text == b"AIRLINE STANDARD SCHEDULE DATA SET".as_slice()
+}
+
+pub fn type_of(text: &[u8]) -> u8
+    ensures { result ≡ type_of text.now }
+{
+    match text {
+        [first, ..] => *first,
+        _ => 0,
+    }
+}
+
+#[tactic(auto, unfolding(crate::specs::SetSteps::has_serial))]
+fn has_serial(text: &[u8], serial: u32) -> bool
+    requires { length text.now ≡ 200 }
+    ensures { result ≡ has_serial serial text.now }
+{
+    match six_of(&text[194..200]) {
+        Some(number) => number == serial,
+        None => false,
+    }
+}
+
+/// The header.
+#[tactic(auto, unfolding(crate::specs::SetSteps::header_at))]
+pub fn header(text: &[u8], serial: u32) -> Result<(), SetKind>
+    requires { length text.now ≡ 200 }
+    ensures { result ≡ header_at serial text.now }
+{
+    if type_of(text) != b'1' {
+        return Err(SetKind::NoHeader);
+    }
+    if !is_title(&text[1..35]) {
+        return Err(SetKind::BadTitle);
+    }
+    if !has_serial(text, serial) {
+        return Err(SetKind::BadSerial);
+    }
+    Ok(())
+}
+
+/// The fields of the carrier's record.
+#[tactic(auto, unfolding(crate::specs::SetSteps::carrier_at))]
+fn carrier_fields(text: &[u8]) -> Result<Carrier, SetKind>
+    requires { length text.now ≡ 200 }
+    ensures { result ≡ carrier_at text.now }
+{
+    let local = mode_of(&text[1..2]).ok_or(SetKind::BadField(2))?;
+    let airline = designator_of(&text[2..5]).ok_or(SetKind::BadField(3))?;
+    let from = Day::read(&text[14..21]).ok_or(SetKind::BadField(15))?;
+    let to = until_of(from, &text[21..28]).ok_or(SetKind::BadField(22))?;
+    Ok(Carrier {
+        airline,
+        local,
+        from,
+        to,
+    })
+}
+
+/// The record behind the header.
+#[tactic(auto, unfolding(crate::specs::SetSteps::second_at))]
+pub fn carrier(text: &[u8], serial: u32) -> Result<Carrier, SetKind>
+    requires { length text.now ≡ 200 }
+    ensures { result ≡ second_at serial text.now }
+{
+    if type_of(text) != b'2' {
+        return Err(SetKind::BadOrder);
+    }
+    if !has_serial(text, serial) {
+        return Err(SetKind::BadSerial);
+    }
+    carrier_fields(text)
+}
+
+/// The fields of a leg's record.
+#[tactic(auto, unfolding(crate::specs::SetSteps::leg_at))]
+fn leg_fields(text: &[u8], airline: Airline, serial: u32) -> Result<Leg, SetKind>
+    requires { length text.now ≡ 200 }
+    ensures { result ≡ leg_at airline serial text.now }
+{
+    let suffix = suffix_of(&text[1..2]).ok_or(SetKind::BadField(2))?;
+    let own = designator_of(&text[2..5]).ok_or(SetKind::BadField(3))?;
+    let number = number_of(&text[5..9]).ok_or(SetKind::BadField(6))?;
+    let variation = small_of(&text[9..11]).ok_or(SetKind::BadField(10))?;
+    let sequence = sequence_of(&text[11..13]).ok_or(SetKind::BadField(12))?;
+    let from = Day::read(&text[14..21]).ok_or(SetKind::BadField(15))?;
+    let to = until_of(from, &text[21..28]).ok_or(SetKind::BadField(22))?;
+    let days = days_of(&text[28..35]).ok_or(SetKind::BadField(29))?;
+    let second_week = rate_of(&text[35..36]).ok_or(SetKind::BadField(36))?;
+    let board = station_of(&text[36..39]).ok_or(SetKind::BadField(37))?;
+    let std = time_of(&text[43..47]).ok_or(SetKind::BadField(44))?;
+    let offset = offset_of(&text[47..52]).ok_or(SetKind::BadField(48))?;
+    let off = station_of(&text[54..57]).ok_or(SetKind::BadField(55))?;
+    let overflow = byte_of(&text[127..128]).ok_or(SetKind::BadField(128))?;
+    let shift = shift_of(&text[192..193]).ok_or(SetKind::BadField(193))?;
+    if !is_same(own, airline) {
+        return Err(SetKind::OtherAirline);
+    }
+    Ok(Leg {
+        serial,
+        number,
+        suffix,
+        variation,
+        overflow,
+        sequence,
+        from,
+        to,
+        days,
+        second_week,
+        board,
+        std,
+        offset,
+        off,
+        shift,
+    })
+}
+
+/// A leg's record.
+#[tactic(auto, unfolding(crate::specs::SetSteps::numbered_at))]
+pub fn leg(text: &[u8], airline: Airline, serial: u32) -> Result<Leg, SetKind>
+    requires { length text.now ≡ 200 }
+    ensures { result ≡ numbered_at serial (leg_at airline serial text.now) text.now }
+{
+    if !has_serial(text, serial) {
+        return Err(SetKind::BadSerial);
+    }
+    leg_fields(text, airline, serial)
+}
+
+/// Segment data, which follows a leg.
+#[tactic(auto, unfolding(crate::specs::SetSteps::segment_at))]
+pub fn segment(text: &[u8], none: bool, serial: u32) -> Result<(), SetKind>
+    requires { length text.now ≡ 200 }
+    ensures { result ≡ segment_at none serial text.now }
+{
+    if none {
+        return Err(SetKind::BadOrder);
+    }
+    if !has_serial(text, serial) {
+        return Err(SetKind::BadSerial);
+    }
+    Ok(())
+}
+
+/// The fields of the trailer, which follows the record with this serial.
+#[tactic(auto, unfolding(crate::specs::SetSteps::trailer_at))]
+fn trailer_fields(text: &[u8], airline: Airline, before: u32) -> Result<(), SetKind>
+    requires { length text.now ≡ 200 }
+    ensures { result ≡ trailer_at airline before text.now }
+{
+    let own = designator_of(&text[2..5]).ok_or(SetKind::BadField(3))?;
+    let reference = six_of(&text[187..193]).ok_or(SetKind::BadField(188))?;
+    let more = continued_of(&text[193..194]).ok_or(SetKind::BadField(194))?;
+    if !is_same(own, airline) {
+        return Err(SetKind::OtherAirline);
+    }
+    if reference != before {
+        return Err(SetKind::BadCheck);
+    }
+    if more {
+        return Err(SetKind::Continued);
+    }
+    Ok(())
+}
+
+/// The trailer.
+#[tactic(auto, unfolding(crate::specs::SetSteps::numbered_at))]
+pub fn trailer(text: &[u8], airline: Airline, before: u32) -> Result<(), SetKind>
+    requires length { length text.now ≡ 200 }
+    requires before { before ≤ 999999 }
+    ensures { result ≡ numbered_at (before + 1) (trailer_at airline before text.now) text.now }
+{
+    if !has_serial(text, before + 1) {
+        return Err(SetKind::BadSerial);
+    }
+    trailer_fields(text, airline, before)
+}
