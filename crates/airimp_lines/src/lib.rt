@@ -5,12 +5,16 @@
 mod date;
 mod fault;
 mod fields;
+#[cfg(test)]
+mod line_tests;
 mod lines;
 mod messages;
 mod reading;
 mod reply;
 mod requests;
 mod script;
+#[cfg(test)]
+mod script_tests;
 mod segment;
 
 pub use fault::{LineFault, ScriptFault, ScriptKind};
