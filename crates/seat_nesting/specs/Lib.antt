@@ -1,0 +1,3 @@
+pub mod LadderText
+pub mod Ladders
+pub mod Nesting
