@@ -2,8 +2,10 @@
 //! It knows legs and days, and nothing of seats, bookings or sessions.
 #![tactic(auto)]
 
+mod days;
 mod flight;
 mod flights;
 
+pub use days::{Days, operating_days};
 pub use flight::{DatedLeg, DatedLegs, Flight, Wanted};
 pub use flights::Flights;
