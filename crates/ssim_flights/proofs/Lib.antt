@@ -1,1 +1,2 @@
+mod Indexing
 mod OperatingDays

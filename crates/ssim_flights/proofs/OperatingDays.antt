@@ -20,8 +20,8 @@ days_more : (p : ℕ → Bool) (a n m d : ℕ) → m ≡ n + 1 → d ≡ a + n �
 days_more p a n m d more at =
     let e : m ≡ suc n = more ∙ add-one n in
     subst (λ (k : ℕ). filter p (range_with_len a k) ≡ filter p (range_with_len a n) ++ cond (p d) (d ∷ []) []) (sym e)
-      (subst (λ (k : ℕ). filter p (range_with_len a (suc n)) ≡ filter p (range_with_len a n) ++ cond (p k) (k ∷ []) []) (sym at)
-        (ap (filter p) (range_push a n) ∙ filter-append p (range_with_len a n) ((a + n) ∷ [])))
+    (subst (λ (k : ℕ). filter p (range_with_len a (suc n)) ≡ filter p (range_with_len a n) ++ cond (p k) (k ∷ []) []) (sym at)
+    (ap (filter p) (range_push a n) ∙ filter-append p (range_with_len a n) ((a + n) ∷ [])))
 
 pub days_more_yes : (p : ℕ → Bool) (a n m d : ℕ) → m ≡ n + 1 → d ≡ a + n → p d ≡ true → filter p (range_with_len a m) ≡ filter p (range_with_len a n) ++ d ∷ []
 days_more_yes p a n m d more at passes = days_more p a n m d more at ∙ rw passes
@@ -47,14 +47,18 @@ has_day p a (suc n) d low high passes = ⊎_elim here (λ ne. there (has_day p (
   where
     after : (a ≡ d → ⊥) → a + 1 ≤ d
     after ne = omega arith
+
     keeps : (b : Bool) (rest : List ℕ) → Contains rest d → Contains (cond b (a ∷ rest) rest) d
     keeps true rest h = Contains-append_right (a ∷ []) rest d h
     keeps false rest h = h
+
     begins : (x : ℕ) (b : Bool) (rest : List ℕ) → x ≡ d → b ≡ true → Contains (cond b (x ∷ rest) rest) d
     begins x true rest e passing = (0, omega arith, e)
     begins x false rest e passing = absurd (false≢true passing)
+
     here : a ≡ d → Contains (filter p (range_with_len a (suc n))) d
     here e = begins a (p a) (filter p (range_with_len (a + 1) n)) e (ap p e ∙ passes)
+
     there : Contains (filter p (range_with_len (a + 1) n)) d → Contains (filter p (range_with_len a (suc n))) d
     there h = keeps (p a) (filter p (range_with_len (a + 1) n)) h
 
@@ -62,8 +66,8 @@ has_day p a (suc n) d low high passes = ⊎_elim here (λ ne. there (has_day p (
 pub days_within : (leg : Leg) (end : ℕ) → All (λ d. (leg.from ≤ d) × (d ≤ last_day leg end)) (operating_days leg end)
 days_within leg end =
     All-filter (operates leg) (λ d. (leg.from ≤ d) × (d ≤ last_day leg end)) (range_with_len leg.from (last_day leg end + 1 - leg.from))
-      (All-weaker (λ d. (leg.from ≤ d) × (d < leg.from + (last_day leg end + 1 - leg.from))) (λ d. (leg.from ≤ d) × (d ≤ last_day leg end)) (λ d h. (h.0, omega arith)) (range_with_len leg.from (last_day leg end + 1 - leg.from))
-        (range_within leg.from (last_day leg end + 1 - leg.from)))
+    (All-weaker (λ d. (leg.from ≤ d) × (d < leg.from + (last_day leg end + 1 - leg.from))) (λ d. (leg.from ≤ d) × (d ≤ last_day leg end)) (λ d h. (h.0, omega arith)) (range_with_len leg.from (last_day leg end + 1 - leg.from))
+    (range_within leg.from (last_day leg end + 1 - leg.from)))
 
 pub days_exact : (leg : Leg) (end d : ℕ) → Contains (operating_days leg end) d ↔ Operates leg end d
 days_exact leg end d = (found, kept)
@@ -74,6 +78,7 @@ days_exact leg end d = (found, kept)
         let passes = All-contains (λ d. operates leg d ≡ true) (operating_days leg end) d (filter_passes (operates leg) (range_with_len leg.from (last_day leg end + 1 - leg.from))) h in
         let both = and_parts (is_listed leg d) (is_in_week leg d) passes in
         record { begun = at.0; lasts = at.1; listed = both.0; in_week = both.1 }
+
     kept : Operates leg end d → Contains (operating_days leg end) d
     kept h =
         let begun = h.begun in

@@ -1,2 +1,4 @@
 pub mod Few
+pub mod Index
 pub mod Operating
+pub mod Places

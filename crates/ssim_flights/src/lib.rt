@@ -5,6 +5,7 @@
 mod days;
 mod flight;
 mod flights;
+mod index;
 
 pub use days::{Days, operating_days};
 pub use flight::{DatedLeg, DatedLegs, Flight, Wanted};

@@ -14,8 +14,9 @@ loop-past-preserved c =
     let yes = days_more_yes (operates leg) leg.from n (n + 1) (c.number-first.result + n) refl at in
     let no = days_more_no (operates leg) leg.from n (n + 1) (c.number-first.result + n) refl at in
     elim c.if-operates.branch [
-      then-operates+in_ok-push w ↦ let e = yes (sym c.operates.ensures ∙ w.if-operates.true) in let p = w.in_ok-push.ensures.ok in cc
-    | else-operates w ↦ let e = no (sym c.operates.ensures ∙ w.if-operates.false) in cc ]
+      | then-operates+in_ok-push w ↦ let e = yes (sym c.operates.ensures ∙ w.if-operates.true) in let p = w.in_ok-push.ensures.ok in cc
+      | else-operates w ↦ let e = no (sym c.operates.ensures ∙ w.if-operates.false) in cc
+    ]
 
 pub returns-clause-value : goal.returns-clause-value
 returns-clause-value c =
