@@ -2,7 +2,7 @@
 use Rattle.std.specs.Prelude.{◌≡◌, ◌⊎◌, ℕ, IsTrue, not, ◌-◌, ◌≤◌, ◌++◌, if◌then◌else◌, List, [], ◌∷◌, Option, Some, None, Result, Ok, Err}
 use Rattle.ssim_records.specs.Reach.{reach, IsFirst}
 use Rattle.std.specs.Result.{IsOk}
-use Rattle.airimp_lines.specs.Lines.{line_at}
+use Rattle.ssim_records.specs.Lines.{line_at}
 use Rattle.airimp_lines.specs.Messages.{heading_at, is_passed_over}
 use Rattle.airimp_lines.specs.Reading.{undated_at}
 use Rattle.airimp_lines.specs.declared.fault.LineFault.{LineFault}

@@ -7,7 +7,6 @@ mod fault;
 mod fields;
 #[cfg(test)]
 mod line_tests;
-mod lines;
 mod messages;
 mod reading;
 mod reply;

@@ -9,10 +9,10 @@ ghost use Rattle.airimp_lines.specs.declared.requests.Request.{Request as Asked}
 ghost use Rattle.airimp_lines.specs.declared.fault.ScriptKind.TheVariants.{Memory};
 
 use crate::fault::{ScriptFault, ScriptKind};
-use crate::lines::cut_line;
 use crate::messages::{heading_of, is_passed_over};
 use crate::reading::read_segment;
 use crate::requests::{Request, Requests};
+use ssim_records::lines::cut_line;
 use ssim_records::{Day, Locator};
 use std::alloc::Global;
 
