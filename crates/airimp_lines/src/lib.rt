@@ -5,6 +5,7 @@
 mod date;
 mod fault;
 mod fields;
+pub mod laws;
 #[cfg(test)]
 mod line_tests;
 mod messages;
