@@ -1,23 +1,19 @@
 -- One step: how many bookings it leaves, and that they stay within the limits.
-use Rattle.std.proofs.Common.{◌≡◌, ◌≢◌, ◌==◌, ◌&&◌, ℕ, ◌+◌, ◌-◌, ◌≤◌, Bool, true, false, nat_le, List, [], ◌∷◌, ◌++◌, length, Option, Some, None, if◌then◌else◌, arith, refl, ap, subst, ◌∙◌, length-append, append_assoc}
+use Rattle.std.proofs.Common.{◌≡◌, ◌≢◌, ◌==◌, ◌&&◌, ℕ, ◌+◌, ◌-◌, ◌≤◌, Bool, true, false, nat_le, List, [], ◌∷◌, ◌++◌, length, if◌then◌else◌, arith, refl, ap, subst, ◌∙◌, length-append, append_assoc}
 use Rattle.std.proofs.lemmas.Bool.Decides.{nat_tests}
 use Rattle.std.proofs.lemmas.List.Sums.{sum_by-cons, sum_by-append, sum_by_push}
 use Rattle.ssim_records.specs.declared.place.Place.{Place}
-use Rattle.seat_nesting.specs.Nesting.{Legs, ladder_at, room_on, room, may_wait, IsWithin, HasLadders}
+use Rattle.seat_nesting.specs.Nesting.{Legs, ladder_at, room_on, room, IsWithin, HasLadders}
 use Rattle.seat_core.specs.declared.booking.Booking.{Booking}
 use Rattle.seat_core.specs.declared.booking.Status.TheVariants.{Held, Waiting}
 use Rattle.seat_journal.specs.declared.entry.Command.{Command}
-use Rattle.seat_core.specs.declared.request.Request.{Request}
-use Rattle.seat_core.specs.declared.request.Request.TheVariants.{Seats, Cancel, Other}
-use Rattle.seat_core.specs.declared.request.Wish.{Wish}
-use Rattle.seat_core.specs.declared.request.Wish.TheVariants.{Need, Sell, Waitlist}
 use Rattle.seat_core.specs.declared.booking.Status.{Status}
 use Rattle.seat_journal.specs.declared.entry.Advice.{Advice}
+use Rattle.seat_core.proofs.Outcomes.{each_outcome}
 use Rattle.seat_core.proofs.Reducing.{length_reduced}
 use Rattle.std.proofs.lemmas.List.{append-nil}
-use Rattle.seat_core.specs.Codes.{request_of}
-use Rattle.seat_core.specs.Bookings.{is_for, is_held, is_waiting, seats_on, held, waiting, covers}
-use Rattle.seat_core.specs.Sequential.{State, state_of, room_left, reduced, booking_of, booking_for, want, want_new, cancel, answer, answer_to, pass, may_confirm, confirmed, advice_of}
+use Rattle.seat_core.specs.Bookings.{is_for, is_held, is_waiting, seats_on, held, covers}
+use Rattle.seat_core.specs.Sequential.{state_of, room_left, reduced, booking_of, answer, pass, may_confirm, confirmed, advice_of}
 use Rattle.seat_core.specs.Inventory.{KeepsLimits}
 use Rattle.seat_core.proofs.Limits.{within_less, within_more, least_le}
 
@@ -36,56 +32,18 @@ each_pass P grid confirm done (b ∷ bs) told h =
     cases true e rest = rw e (rest (confirmed b) (told ++ advice_of b ∷ []) (rw append_assoc (confirm done b bs h e)))
     cases false e rest = rw e (rest b told (rw append_assoc h))
 
--- what holds of the bookings after each answer
-pub each_answer : (P : List Booking → Type 0) (grid : Legs) (bookings : List Booking) (number : ℕ) (c : Command) → P bookings
-    → ((place : Place) → c.seats ≤ room_left (state_of grid bookings) place c.class → P (bookings ++ booking_of number c place Held ∷ []))
-    → ((place : Place) → P (bookings ++ booking_of number c place Waiting ∷ []))
-    → ((test : Booking → Bool) (n : ℕ) → P (reduced test n bookings))
-    → ((done : List Booking) (b : Booking) (bs : List Booking) → P (done ++ b ∷ bs) → may_confirm grid (done ++ b ∷ bs) b ≡ true → P (done ++ confirmed b ∷ bs))
-    → P (answer (state_of grid bookings) number c).state.bookings
-each_answer P grid bookings number c same more wait less confirm = by_request (request_of c.code) c.place where
-  s : State
-  s = state_of grid bookings
-
-  le_of : (place : Place) → nat_le c.seats (room_left s place c.class) ≡ true → c.seats ≤ room_left s place c.class
-  le_of place e = grind (arith, nat_tests)
-
-  want_if : (place : Place) (w : Wish) (fits may : Bool) → nat_le c.seats (room_left s place c.class) ≡ fits → P (want_new w s number c place fits may).state.bookings
-  want_if place Need true may e = more place (le_of place e)
-  want_if place Need false may e = same
-  want_if place Sell true may e = more place (le_of place e)
-  want_if place Sell false true e = wait place
-  want_if place Sell false false e = same
-  want_if place Waitlist fits true e = each_pass P grid confirm [] (bookings ++ booking_of number c place Waiting ∷ []) [] (wait place)
-  want_if place Waitlist fits false e = same
-
-  by_found : (place : Place) (w : Wish) (o : Option Booking) → P (want w s number c place o).state.bookings
-  by_found place w (Some b) = same
-  by_found place w None = want_if place w (nat_le c.seats (room_left s place c.class)) (may_wait grid (waiting bookings) place c.class c.seats) refl
-
-  cancel_if : (place : Place) (b : Booking) (t : Bool) → nat_le c.seats b.seats ≡ t → P (cancel s c place (Some b)).state.bookings
-  cancel_if place b true e = rw e (each_pass P grid confirm [] (reduced (is_for c.locator place c.class) c.seats bookings) [] (less (is_for c.locator place c.class) c.seats))
-  cancel_if place b false e = rw e same
-
-  by_held : (place : Place) (o : Option Booking) → P (cancel s c place o).state.bookings
-  by_held place None = same
-  by_held place (Some b) = cancel_if place b (nat_le c.seats b.seats) refl
-
-  by_request : (r : Request) (o : Option Place) → P (answer_to r o s number c).state.bookings
-  by_request Other o = same
-  by_request (Seats w) None = same
-  by_request (Seats w) (Some place) = by_found place w (booking_for s c place)
-  by_request Cancel None = same
-  by_request Cancel (Some place) = by_held place (booking_for s c place)
-
 pub few_answer : (grid : Legs) (bookings : List Booking) (number : ℕ) (c : Command) → length (answer (state_of grid bookings) number c).state.bookings ≤ length bookings + 1
 few_answer grid bookings number c =
-    each_answer (λ l. length l ≤ length bookings + 1) grid bookings number c
-    (omega arith)
-    (λ place fits. omega (arith, length-append bookings (booking_of number c place Held ∷ [])))
-    (λ place. omega (arith, length-append bookings (booking_of number c place Waiting ∷ [])))
-    (λ test n. omega (arith, length_reduced test n bookings))
-    (λ done b bs h e. omega (arith, h, length-append done (b ∷ bs), length-append done (confirmed b ∷ bs)))
+    each_outcome (λ o. length o.state.bookings ≤ length bookings + 1) (state_of grid bookings) number c
+    (λ r. omega arith)
+    (λ place at none fits. omega (arith, length-append bookings (booking_of number c place Held ∷ [])))
+    (λ place at none over. omega (arith, length-append bookings (booking_of number c place Waiting ∷ [])))
+    (λ place at none. after_pass (bookings ++ booking_of number c place Waiting ∷ []) (omega (arith, length-append bookings (booking_of number c place Waiting ∷ []))))
+    (λ place b at found le. after_pass (reduced (is_for c.locator place c.class) c.seats bookings) (omega (arith, length_reduced (is_for c.locator place c.class) c.seats bookings)))
+  where
+    after_pass : (xs : List Booking) → length xs ≤ length bookings + 1 → length (pass grid [] [] xs).bookings ≤ length bookings + 1
+    after_pass xs h =
+        each_pass (λ l. length l ≤ length bookings + 1) grid (λ done b bs h e. omega (arith, h, length-append done (b ∷ bs), length-append done (confirmed b ∷ bs))) [] xs [] h
 
 -- a place that covers a leg
 covers_facts : (flight leg : ℕ) (p : Place) → covers flight leg p ≡ true → (p.flight ≡ flight) × (p.from ≤ leg) × (leg ≤ p.to)
@@ -213,10 +171,22 @@ keeps_confirm grid done b bs ladders keeps may flight leg = cases (covers flight
 pub keeps_answer : (grid : Legs) (bookings : List Booking) (number : ℕ) (c : Command) → HasLadders grid → KeepsLimits grid bookings
     → KeepsLimits grid (answer (state_of grid bookings) number c).state.bookings
 keeps_answer grid bookings number c ladders keeps =
-    each_answer (KeepsLimits grid) grid bookings number c keeps
-    (λ place fits. keeps_more grid bookings number c place ladders keeps fits)
-    (λ place flight leg. within_less (ladder_at grid flight leg) (held (bookings ++ booking_of number c place Waiting ∷ []) flight leg) (held bookings flight leg)
-    (λ k. omega (arith, held_push bookings (booking_of number c place Waiting) flight leg k)) (keeps flight leg))
-    (λ test n flight leg. within_less (ladder_at grid flight leg) (held (reduced test n bookings) flight leg) (held bookings flight leg)
-    (λ k. held_reduced test n bookings flight leg k) (keeps flight leg))
-    (λ done b bs h e. keeps_confirm grid done b bs ladders h e)
+    each_outcome (λ o. KeepsLimits grid o.state.bookings) (state_of grid bookings) number c
+    (λ r. keeps)
+    (λ place at none fits. keeps_more grid bookings number c place ladders keeps fits)
+    (λ place at none over. waits place)
+    (λ place at none. after_pass (bookings ++ booking_of number c place Waiting ∷ []) (waits place))
+    (λ place b at found le. after_pass (reduced (is_for c.locator place c.class) c.seats bookings) (less (is_for c.locator place c.class)))
+  where
+    waits : (place : Place) → KeepsLimits grid (bookings ++ booking_of number c place Waiting ∷ [])
+    waits place flight leg =
+        within_less (ladder_at grid flight leg) (held (bookings ++ booking_of number c place Waiting ∷ []) flight leg) (held bookings flight leg)
+        (λ k. omega (arith, held_push bookings (booking_of number c place Waiting) flight leg k)) (keeps flight leg)
+
+    less : (test : Booking → Bool) → KeepsLimits grid (reduced test c.seats bookings)
+    less test flight leg =
+        within_less (ladder_at grid flight leg) (held (reduced test c.seats bookings) flight leg) (held bookings flight leg)
+        (λ k. held_reduced test c.seats bookings flight leg k) (keeps flight leg)
+
+    after_pass : (xs : List Booking) → KeepsLimits grid xs → KeepsLimits grid (pass grid [] [] xs).bookings
+    after_pass xs h = each_pass (KeepsLimits grid) grid (λ done b bs h e. keeps_confirm grid done b bs ladders h e) [] xs [] h

@@ -2,7 +2,7 @@
 use Rattle.std.specs.Prelude.{◌≡◌, List}
 use Rattle.seat_nesting.specs.Nesting.{Legs}
 use Rattle.seat_core.specs.declared.booking.Booking.{Booking}
-use Rattle.seat_core.specs.declared.book.Answer.{Answer}
+use Rattle.seat_core.specs.declared.reply.Answer.{Answer}
 use Rattle.seat_journal.specs.declared.entry.Advice.{Advice}
 use Rattle.seat_core.specs.Sequential.{Outcome, state_of}
 

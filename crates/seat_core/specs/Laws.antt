@@ -11,7 +11,7 @@ use Rattle.seat_journal.specs.declared.entry.Entry.{Entry}
 use Rattle.seat_core.specs.Sequential.{answer, pass, NoneFits}
 use Rattle.seat_core.specs.Journal.{replay, after, next_line, IsNext, IsLegal, IsLegalAfter}
 use Rattle.seat_core.specs.Tables.{given, show, nothing_held, advices_by}
-use Rattle.seat_core.specs.Applying.{apply, IsNumbered}
+use Rattle.seat_core.specs.Applying.{applied, IsNumbered}
 
 -- a history is legal where its entries may follow one another from the first
 abbrev pub LegalByRecursion : Type 0
@@ -53,7 +53,7 @@ ReplayIsNumbered = (grid : Legs) (journal : List Entry) → IsLegal grid journal
 abbrev pub ApplyingIsTheStep : Type 0
 ApplyingIsTheStep = (grid : Legs) (past : List Entry) (session call : ℕ) (command : Command) → IsLegal grid past →
     let line = next_line grid past session call command in
-    apply (replay grid past).bookings line ≡ (after (replay grid past) line).bookings
+    applied (replay grid past).bookings line ≡ (after (replay grid past) line).bookings
 
 -- the next line gives back no more than is held
 abbrev pub EntryGivesWhatIsHeld : Type 0

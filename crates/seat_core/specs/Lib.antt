@@ -11,5 +11,4 @@ pub mod Totals
 pub mod Tables
 pub mod Applying
 pub mod Flights
-pub mod Numbering
 pub mod Laws

@@ -19,6 +19,7 @@ pub fn read_ladder(text: &[u8]) -> Result<Ladder, LimitKind>
     // The ladder that is spelled so is read.
     ensures only { (l : Steps) → SpellsSteps text.now l → IsLadder l → result ≡ Ok l }
     ensures fault { IfErr result (IsLadderRefusal text.now) }
+    ensures value { result ≡ ladder_in text.now }
 {
     ladder_of(text)
 }

@@ -7,6 +7,7 @@ mod counted;
 mod cut;
 mod days;
 pub mod fields;
+pub mod laws;
 mod memory;
 mod names;
 mod place;
