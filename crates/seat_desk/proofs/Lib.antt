@@ -1,3 +1,4 @@
 mod Cuts
 mod Auditing
 mod Texts
+mod Schedules

@@ -4,6 +4,7 @@ ghost use Rattle.seat_desk.specs.Status.{status_of};
 use seat_core::ReplayFault;
 use seat_journal::JournalFault;
 use seat_nesting::LimitFault;
+use ssim_flights::FlightFault;
 use ssim_records::SetFault;
 use thiserror::Error;
 
@@ -13,6 +14,9 @@ pub enum DeskFault {
     /// The bytes are no data set.
     #[error("{0}")]
     Set(SetFault),
+    /// The legs are no flights.
+    #[error("{0}")]
+    Flight(FlightFault),
     /// A ladder or a limit row is malformed.
     #[error("{0}")]
     Limit(LimitFault),

@@ -14,4 +14,5 @@ mod text;
 
 pub use check::desk_check;
 pub use fault::DeskFault;
+pub use flights::desk_flights;
 pub use ladder::desk_ladder;
