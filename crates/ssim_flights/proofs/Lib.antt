@@ -1,6 +1,10 @@
+mod Addings
+mod Chaining
 mod Chains
 mod Clocks
+mod Expanding
 mod Grouping
 mod Indexing
 mod OperatingDays
+pub mod RightSets
 mod Walks

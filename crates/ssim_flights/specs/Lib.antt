@@ -1,3 +1,4 @@
+pub mod Adding
 pub mod Chains
 pub mod Few
 pub mod Flown

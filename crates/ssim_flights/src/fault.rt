@@ -1,4 +1,7 @@
 //! Why legs are no flights.
+ghost use Rattle.std.specs.Prelude.{◌≡◌};
+
+use ssim_records::Memory;
 use std::fmt;
 
 /// The first fault of the first itinerary that has one.
@@ -30,6 +33,19 @@ pub enum FlightKind {
     TooManyFlights,
     /// Memory was wanted.
     Memory,
+}
+
+impl From<Memory> for FlightFault {
+    ghost use Rattle.ssim_flights.specs.Flown.{memory_fault};
+
+    ghost from_gives = { λ _ fault. fault ≡ memory_fault };
+
+    fn from(_memory: Memory) -> FlightFault {
+        FlightFault {
+            serial: 0,
+            kind: FlightKind::Memory,
+        }
+    }
 }
 
 impl fmt::Display for FlightKind {

@@ -2,8 +2,11 @@
 //! It knows legs and days, and nothing of seats, bookings or sessions.
 #![tactic(auto)]
 
+mod adding;
 mod chain;
 mod days;
+mod expansion;
+
 mod fault;
 mod flight;
 mod flights;
@@ -16,6 +19,7 @@ mod rows;
 mod schedule;
 
 pub use days::{Days, operating_days};
+pub use expansion::expand;
 pub use fault::{FlightFault, FlightKind};
 pub use flight::{DatedLeg, DatedLegs, Flight, Wanted};
 pub use flights::Flights;
