@@ -1,5 +1,5 @@
 -- Nested booking limits (Talluri and van Ryzin): ladders, grids, and the room that a table of held seats leaves.
-use Rattle.std.specs.Prelude.{◌≢◌, ℕ, zero, suc, ◌+◌, ◌-◌, ◌<◌, ◌≤◌, ◌==◌, ◌&&◌, Bool, false, nat_le, min, List, [], ◌∷◌, length, unwrap_or, slice_get, if◌then◌else◌, IsTrue}
+use Rattle.std.specs.Prelude.{◌≢◌, ℕ, zero, suc, ◌+◌, ◌-◌, ◌<◌, ◌≤◌, ◌==◌, ◌&&◌, Bool, false, nat_le, min, List, [], ◌∷◌, length, Option, unwrap_or, slice_get, if◌then◌else◌, IsTrue}
 use Rattle.std.specs.Char.{is_ascii_uppercase}
 use Rattle.std.specs.List.{sum_by, list_any, AllByRecursion}
 use Rattle.seat_nesting.specs.declared.ladder.Step.{Step}
@@ -43,12 +43,20 @@ pub record IsLadder (steps : Steps) : Type 0 where
   pub not_rising : IsNotRising steps
   pub bounded : AllByRecursion (λ s. (s.limit ≤ 999) × (s.wait ≤ 999)) steps
 
+-- the steps of a leg that has a ladder or none
+abbrev pub steps_of : Option Steps → Steps
+steps_of ladder = unwrap_or ladder []
+
+-- the steps of a flight's leg; none where the leg is not there
+abbrev pub steps_at : List Steps → ℕ → Steps
+steps_at legs leg = unwrap_or (slice_get legs leg) []
+
 abbrev pub legs_of : Legs → ℕ → List Steps
 legs_of grid flight = unwrap_or (slice_get grid flight) []
 
 -- the steps of one leg; none where the flight or the leg is not there
 abbrev pub ladder_at : Legs → ℕ → ℕ → Steps
-ladder_at grid flight leg = unwrap_or (slice_get (legs_of grid flight) leg) []
+ladder_at grid flight leg = steps_at (legs_of grid flight) leg
 
 -- the flight and both legs are there
 abbrev pub Fits : Legs → Place → Type 0
