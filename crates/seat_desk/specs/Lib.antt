@@ -1,3 +1,4 @@
+pub mod AuditDesk
 pub mod CheckDesk
 pub mod Desk
 pub mod LadderDesk
