@@ -243,3 +243,9 @@ WantsRoom most bytes nth = (s : Reader) × (rest : List ℕ) × (1 ≤ nth) × (
 -- a refusal by this record, of this kind
 abbrev pub IsRefusal : ℕ → List ℕ → ℕ → SetKind → Type 0
 IsRefusal most bytes nth kind = IsFirstFault most bytes nth kind ⊎ ((kind ≡ kinds.Memory) × WantsRoom most bytes nth)
+
+-- ---- a law
+
+-- no bytes have two first faults
+abbrev pub OneFirstFault : Type 0
+OneFirstFault = (most : ℕ) (bytes : List ℕ) (n m : ℕ) (a b : SetKind) → IsFirstFault most bytes n a → IsFirstFault most bytes m b → (n ≡ m) × (a ≡ b)
