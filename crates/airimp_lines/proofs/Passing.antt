@@ -9,8 +9,8 @@ use Rattle.airimp_lines.specs.declared.requests.Request.{Request}
 use Rattle.airimp_lines.specs.declared.segment.Undated.{Undated}
 use Rattle.airimp_lines.specs.Messages.{heading_at, is_passed_over}
 use Rattle.airimp_lines.specs.Reading.{undated_at}
-use Rattle.airimp_lines.specs.Script.{Line, parted, segment_lines, IsRequest, AreRequests, AreMessages}
-use Rattle.airimp_lines.specs.Steps.{Message, opened, asked, step, HasRequest, IsAsked, IsStop}
+use Rattle.airimp_lines.specs.Script.{Line, runs_of, segment_lines, IsRequest, AreRequests, AreMessages}
+use Rattle.airimp_lines.specs.Steps.{Message, after_heading, after_segment, step, HasRequest, AreOwn, IsStop}
 use Rattle.std.specs.List.{enumerate_from}
 use Rattle.airimp_lines.proofs.Headings.{heading_takes, heading_again}
 use Rattle.airimp_lines.proofs.Remaining.{AreLeft, Remain, more_left, less_left, open_message, opened_message, part_more, part_split, same_requests}
@@ -28,27 +28,27 @@ gives_is m n e = cc
 apart : (m : Message) (kind : ScriptKind) → gives m ≡ fails kind → ⊥
 apart m kind e = absurd cc
 
-opened_is : (o : Option (List ℕ)) (next : Message) → opened o ≡ Ok next → (locator : List ℕ) × (o ≡ Some locator) × (next ≡ Some locator)
+opened_is : (o : Option (List ℕ)) (next : Message) → after_heading o ≡ Ok next → (locator : List ℕ) × (o ≡ Some locator) × (next ≡ Some locator)
 opened_is None next e = absurd (apart next kinds.Locator (sym e))
 opened_is (Some locator) next e = (locator, refl, sym (gives_is (Some locator) next e))
 
-opened_fails : (o : Option (List ℕ)) (kind : ScriptKind) → opened o ≡ Err kind → o ≡ nothing
+opened_fails : (o : Option (List ℕ)) (kind : ScriptKind) → after_heading o ≡ Err kind → o ≡ nothing
 opened_fails None kind e = refl
 opened_fails (Some locator) kind e = absurd (apart (Some locator) kind e)
 
-asked_is : (locator : List ℕ) (r : Result Undated LineFault) (next : Message) → asked locator r ≡ Ok next → next ≡ Some locator
+asked_is : (locator : List ℕ) (r : Result Undated LineFault) (next : Message) → after_segment locator r ≡ Ok next → next ≡ Some locator
 asked_is locator (Ok u) next e = sym (gives_is (Some locator) next e)
 asked_is locator (Err fault) next e = absurd (apart next (kinds.Line fault) (sym e))
 
-asked_fails : (locator : List ℕ) (r : Result Undated LineFault) (kind : ScriptKind) → asked locator r ≡ Err kind → (fault : LineFault) × (r ≡ Err fault)
+asked_fails : (locator : List ℕ) (r : Result Undated LineFault) (kind : ScriptKind) → after_segment locator r ≡ Err kind → (fault : LineFault) × (r ≡ Err fault)
 asked_fails locator (Ok u) kind e = absurd (apart (Some locator) kind e)
 asked_fails locator (Err fault) kind e = (fault, refl)
 
-other_is : (b : Bool) (locator : List ℕ) (r : Result Undated LineFault) (next : Message) → cond b (gives (Some locator)) (asked locator r) ≡ Ok next → next ≡ Some locator
+other_is : (b : Bool) (locator : List ℕ) (r : Result Undated LineFault) (next : Message) → cond b (gives (Some locator)) (after_segment locator r) ≡ Ok next → next ≡ Some locator
 other_is true locator r next e = sym (gives_is (Some locator) next e)
 other_is false locator r next e = asked_is locator r next e
 
-other_fails : (b : Bool) (locator : List ℕ) (r : Result Undated LineFault) (kind : ScriptKind) → cond b (gives (Some locator)) (asked locator r) ≡ Err kind → (b ≡ false) × (fault : LineFault) × (r ≡ Err fault)
+other_fails : (b : Bool) (locator : List ℕ) (r : Result Undated LineFault) (kind : ScriptKind) → cond b (gives (Some locator)) (after_segment locator r) ≡ Err kind → (b ≡ false) × (fault : LineFault) × (r ≡ Err fault)
 other_fails true locator r kind e = absurd (apart (Some locator) kind e)
 other_fails false locator r kind e = let f = asked_fails locator r kind e in (refl, f.0, f.1)
 
@@ -56,7 +56,7 @@ other_fails false locator r kind e = let f = asked_fails locator r kind e in (re
 
 -- with the line's requests, those behind it are all from it on
 pub onward : (today : ℕ) (message next : Message) (n : ℕ) (text : List ℕ) (texts : List (List ℕ)) (added others : List Request)
-    → step message text ≡ Ok next → IsAsked today message (n, text) added → Remain today next (n + 1) texts others → Remain today message n (text ∷ texts) (added ++ others)
+    → step message text ≡ Ok next → AreOwn today message (n, text) added → Remain today next (n + 1) texts others → Remain today message n (text ∷ texts) (added ++ others)
 onward today None next n [] texts added others e h k =
     let is : next ≡ nothing = sym (gives_is None next e) in
     ([], others, refl, subst (λ (m : Message). Remain today m (n + 1) texts others) is k, ap (λ (x : List Request). x ++ others) h)
@@ -65,13 +65,13 @@ onward today (Some locator) next n [] texts added others e h k =
     ([], others, tt, subst (λ (m : Message). Remain today m (n + 1) texts others) is k, ap (λ (x : List Request). x ++ others) h)
 onward today None next n (c ∷ text) texts added others e h k =
     let o = opened_is (heading_at (c ∷ text)) next e in
-    let left : AreLeft today o.0 (parted (enumerate_from (n + 1) texts)) others = subst (λ (m : Message). Remain today m (n + 1) texts others) o.2 k in
-    let all = open_message today o.0 (n, c ∷ text) (parted (enumerate_from (n + 1) texts)) others (heading_takes (c ∷ text) o.0 o.1) left in
+    let left : AreLeft today o.0 (runs_of (enumerate_from (n + 1) texts)) others = subst (λ (m : Message). Remain today m (n + 1) texts others) o.2 k in
+    let all = open_message today o.0 (n, c ∷ text) (runs_of (enumerate_from (n + 1) texts)) others (heading_takes (c ∷ text) o.0 o.1) left in
     subst (λ (x : List Request). Remain today None n ((c ∷ text) ∷ texts) (x ++ others)) (sym h) (subst (λ (parts : List (List Line)). AreMessages today parts others) (sym (part_more n c text texts)) all)
 onward today (Some locator) next n (c ∷ text) texts added others e h k =
     let is = other_is (is_passed_over (c ∷ text)) locator (undated_at (c ∷ text)) next e in
-    let left : AreLeft today locator (parted (enumerate_from (n + 1) texts)) others = subst (λ (m : Message). Remain today m (n + 1) texts others) is k in
-    subst (λ (parts : List (List Line)). AreLeft today locator parts (added ++ others)) (sym (part_more n c text texts)) (more_left today locator (n, c ∷ text) (parted (enumerate_from (n + 1) texts)) added others h left)
+    let left : AreLeft today locator (runs_of (enumerate_from (n + 1) texts)) others = subst (λ (m : Message). Remain today m (n + 1) texts others) is k in
+    subst (λ (parts : List (List Line)). AreLeft today locator parts (added ++ others)) (sym (part_more n c text texts)) (more_left today locator (n, c ∷ text) (runs_of (enumerate_from (n + 1) texts)) added others h left)
 
 -- what remains behind a line
 pub record Behind (today : ℕ) (next : Message) (n : ℕ) (texts : List (List ℕ)) (added all : List Request) : Type 0 where
@@ -81,7 +81,7 @@ pub record Behind (today : ℕ) (next : Message) (n : ℕ) (texts : List (List �
 
 -- of all from a line on, those behind the line's own
 pub behind : (today : ℕ) (message next : Message) (n : ℕ) (text : List ℕ) (texts : List (List ℕ)) (added all : List Request)
-    → step message text ≡ Ok next → IsAsked today message (n, text) added → Remain today message n (text ∷ texts) all → Behind today next (n + 1) texts added all
+    → step message text ≡ Ok next → AreOwn today message (n, text) added → Remain today message n (text ∷ texts) all → Behind today next (n + 1) texts added all
 behind today None next n [] texts added all e h (own, others, none, more, joined) =
     let is : next ≡ nothing = sym (gives_is None next e) in
     record {
@@ -99,7 +99,7 @@ behind today (Some locator) next n [] texts added all e h ([], others, none, mor
 behind today (Some locator) next n [] texts added all e h (q ∷ own, others, none, more, joined) = absurd none
 behind today None next n (c ∷ text) texts added all e h k =
     let o = opened_is (heading_at (c ∷ text)) next e in
-    let parts = parted (enumerate_from (n + 1) texts) in
+    let parts = runs_of (enumerate_from (n + 1) texts) in
     let m = opened_message today (n, c ∷ text) parts all (part_split (n + 1) texts) (subst (λ (x : List (List Line)). AreMessages today x all) (part_more n c text texts) k) in
     let same : m.0 ≡ o.0 = some_is m.0 o.0 (sym (heading_again (c ∷ text) m.0 m.1) ∙ o.1) in
     record {
@@ -109,7 +109,7 @@ behind today None next n (c ∷ text) texts added all e h k =
     }
 behind today (Some locator) next n (c ∷ text) texts added all e h k =
     let is = other_is (is_passed_over (c ∷ text)) locator (undated_at (c ∷ text)) next e in
-    let parts = parted (enumerate_from (n + 1) texts) in
+    let parts = runs_of (enumerate_from (n + 1) texts) in
     let l = less_left today locator (n, c ∷ text) parts all (part_split (n + 1) texts) (subst (λ (x : List (List Line)). AreLeft today locator x all) (part_more n c text texts) k) in
     record {
       others = l.others;
@@ -131,11 +131,11 @@ none_remain today None n [] texts all kind e k = apart None kind e
 none_remain today (Some locator) n [] texts all kind e k = apart None kind e
 none_remain today None n (c ∷ text) texts all kind e k =
     let none = opened_fails (heading_at (c ∷ text)) kind e in
-    let m = opened_message today (n, c ∷ text) (parted (enumerate_from (n + 1) texts)) all (part_split (n + 1) texts) (subst (λ (x : List (List Line)). AreMessages today x all) (part_more n c text texts) k) in
+    let m = opened_message today (n, c ∷ text) (runs_of (enumerate_from (n + 1) texts)) all (part_split (n + 1) texts) (subst (λ (x : List (List Line)). AreMessages today x all) (part_more n c text texts) k) in
     none_some m.0 (sym none ∙ heading_again (c ∷ text) m.0 m.1)
 none_remain today (Some locator) n (c ∷ text) texts all kind e k =
     let f = other_fails (is_passed_over (c ∷ text)) locator (undated_at (c ∷ text)) kind e in
-    let l = less_left today locator (n, c ∷ text) (parted (enumerate_from (n + 1) texts)) all (part_split (n + 1) texts) (subst (λ (x : List (List Line)). AreLeft today locator x all) (part_more n c text texts) k) in
+    let l = less_left today locator (n, c ∷ text) (runs_of (enumerate_from (n + 1) texts)) all (part_split (n + 1) texts) (subst (λ (x : List (List Line)). AreLeft today locator x all) (part_more n c text texts) k) in
     fault_asked today locator n (c ∷ text) f.1 (is_passed_over (c ∷ text)) l.own f.0 f.2 l.asked
 
 -- ---- a segment line
@@ -144,7 +144,7 @@ pub asked_step : (locator text : List ℕ) (u : Undated) → (length text == 0) 
 asked_step locator [] u some pass e = absurd cc
 asked_step locator (c ∷ text) u some pass e = rw (pass, e) refl
 
-pub asked_one : (today : ℕ) (locator : List ℕ) (n : ℕ) (text : List ℕ) (q : Request) → (length text == 0) ≡ false → is_passed_over text ≡ false → IsRequest today locator (n, text) q → IsAsked today (Some locator) (n, text) (q ∷ [])
+pub asked_one : (today : ℕ) (locator : List ℕ) (n : ℕ) (text : List ℕ) (q : Request) → (length text == 0) ≡ false → is_passed_over text ≡ false → IsRequest today locator (n, text) q → AreOwn today (Some locator) (n, text) (q ∷ [])
 asked_one today locator n [] q some pass h = absurd cc
 asked_one today locator n (c ∷ text) q some pass h =
     let P : Bool → Type 0 = λ b. AreRequests today locator (cond (not b) ((n, c ∷ text) ∷ []) []) (q ∷ []) in
@@ -160,15 +160,15 @@ memory_stop message text (Err kind) h e = inr (h, e)
 
 -- ---- a stop
 
-opened_memory : (o : Option (List ℕ)) → opened o ≡ Err kinds.Memory → ⊥
+opened_memory : (o : Option (List ℕ)) → after_heading o ≡ Err kinds.Memory → ⊥
 opened_memory None e = absurd cc
 opened_memory (Some locator) e = absurd cc
 
-asked_memory : (locator : List ℕ) (r : Result Undated LineFault) → asked locator r ≡ Err kinds.Memory → ⊥
+asked_memory : (locator : List ℕ) (r : Result Undated LineFault) → after_segment locator r ≡ Err kinds.Memory → ⊥
 asked_memory locator (Ok u) e = absurd cc
 asked_memory locator (Err fault) e = absurd cc
 
-other_memory : (b : Bool) (locator : List ℕ) (r : Result Undated LineFault) → cond b (gives (Some locator)) (asked locator r) ≡ Err kinds.Memory → ⊥
+other_memory : (b : Bool) (locator : List ℕ) (r : Result Undated LineFault) → cond b (gives (Some locator)) (after_segment locator r) ≡ Err kinds.Memory → ⊥
 other_memory true locator r e = absurd cc
 other_memory false locator r e = asked_memory locator r e
 

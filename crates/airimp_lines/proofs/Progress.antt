@@ -6,11 +6,11 @@ use Rattle.std.proofs.lemmas.List.{nil_from_length}
 use Rattle.airimp_lines.specs.declared.fault.ScriptKind.{ScriptKind}
 use Rattle.airimp_lines.specs.declared.fault.ScriptKind.TheVariants as kinds
 use Rattle.airimp_lines.specs.declared.requests.Request.{Request}
-use Rattle.airimp_lines.specs.Lines.{line_at}
+use Rattle.ssim_records.specs.Lines.{line_at}
 use Rattle.ssim_records.specs.Reach.{reach, fault_at}
 use Rattle.airimp_lines.specs.Script.{IsScript}
 use Rattle.airimp_lines.specs.Steps.{Message, step, next, at_end, Adds, IsStop, IsFirstFault, WantsRoom}
-use Rattle.airimp_lines.proofs.Cutting.{lines_are, rest_shorter}
+use Rattle.ssim_records.proofs.LineCuts.{Cut, lines_are}
 use Rattle.airimp_lines.proofs.Passing.{Behind, onward, behind, none_remain, never_memory}
 use Rattle.ssim_records.proofs.Reaches.{reach_one}
 use Rattle.airimp_lines.proofs.Remaining.{Remain}
@@ -126,9 +126,6 @@ stop_only today bytes line message rest requests all kind at some (inr memory) h
 
 -- ---- the line that was cut off
 
-abbrev pub Cut : List ℕ → List ℕ → List ℕ → Type 0
-Cut text after rest = ◌≡◌ {A = List ℕ × List ℕ} (text, after) (line_at rest)
-
 pub cut_next : (today : ℕ) (bytes : List ℕ) (line : ℕ) (message goes : Message) (rest text after : List ℕ) (requests more : List Request)
     → Cut text after rest → IsAt today bytes line message rest requests → 0 < length rest → step message text ≡ Ok goes → Adds today message (line + 1, text) requests more → IsAt today bytes (line + 1) goes after more
 cut_next today bytes line message goes rest text after requests more cut at some e adds =
@@ -140,9 +137,6 @@ cut_next today bytes line message goes rest text after requests more cut at some
 
 pub cut_stop : (message : Message) (rest text after : List ℕ) (kind : ScriptKind) → Cut text after rest → IsStop message text kind → IsStop message (line_at rest).0 kind
 cut_stop message rest text after kind cut h = subst (λ (x : List ℕ). IsStop message x kind) (ap (λ (p : List ℕ × List ℕ). p.0) cut) h
-
-pub cut_shorter : (rest text after : List ℕ) → Cut text after rest → 0 < length rest → length after < length rest
-cut_shorter rest text after cut some = omega (arith, ap length (ap (λ (p : List ℕ × List ℕ). p.1) cut), rest_shorter rest some)
 
 pub not_done : (b : Bool) (rest : List ℕ) → b ≡ (length rest == 0) → b ≡ false → 0 < length rest
 not_done b rest e off = grind (arith, nat_tests)

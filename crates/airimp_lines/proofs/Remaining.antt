@@ -6,9 +6,9 @@ use Rattle.airimp_lines.specs.declared.requests.Request.{Request}
 use Rattle.airimp_lines.specs.declared.segment.Segment.{Segment}
 use Rattle.airimp_lines.specs.Grammar.{SpellsSegment, undated_of}
 use Rattle.airimp_lines.specs.Messages.{is_passed_over}
-use Rattle.airimp_lines.specs.Script.{Line, parted, segment_lines, IsHeading, IsRequest, AreRequests, AreMessages}
+use Rattle.airimp_lines.specs.Script.{Line, runs_of, segment_lines, IsHeading, IsRequest, AreRequests, AreMessages}
 use Rattle.airimp_lines.specs.Steps.{Message}
-use Rattle.airimp_lines.proofs.Cutting.{IsSplit, is_split}
+use Rattle.ssim_records.proofs.LineCuts.{IsSplit, is_split}
 use Rattle.airimp_lines.proofs.Segments.{is_only, is_read}
 
 -- the rest of the message with this locator, and the messages behind it
@@ -18,8 +18,8 @@ AreLeft today locator (others ∷ messages) requests = (own more : List Request)
 
 -- the lines from this number on, in the message that goes on
 abbrev pub Remain : ℕ → Message → ℕ → List (List ℕ) → List Request → Type 0
-Remain today None n texts requests = AreMessages today (parted (enumerate_from n texts)) requests
-Remain today (Some locator) n texts requests = AreLeft today locator (parted (enumerate_from n texts)) requests
+Remain today None n texts requests = AreMessages today (runs_of (enumerate_from n texts)) requests
+Remain today (Some locator) n texts requests = AreLeft today locator (runs_of (enumerate_from n texts)) requests
 
 -- ---- requests of a line
 
@@ -100,8 +100,8 @@ opened_message today line (lines ∷ messages) requests s (own, more, (locator, 
 not_empty : (c : ℕ) (text : List ℕ) → eqb (length (c ∷ text)) 0 ≡ false
 not_empty c text = grind (arith, nat_tests)
 
-pub part_more : (n c : ℕ) (text : List ℕ) (texts : List (List ℕ)) → parted (enumerate_from n ((c ∷ text) ∷ texts)) ≡ onto_first (n, c ∷ text) (parted (enumerate_from (n + 1) texts))
+pub part_more : (n c : ℕ) (text : List ℕ) (texts : List (List ℕ)) → runs_of (enumerate_from n ((c ∷ text) ∷ texts)) ≡ onto_first (n, c ∷ text) (runs_of (enumerate_from (n + 1) texts))
 part_more n c text texts = rw (not_empty c text) refl
 
-pub part_split : (n : ℕ) (texts : List (List ℕ)) → IsSplit (parted (enumerate_from n texts))
+pub part_split : (n : ℕ) (texts : List (List ℕ)) → IsSplit (runs_of (enumerate_from n texts))
 part_split n texts = is_split (λ (line : Line). length line.1 == 0) (enumerate_from n texts)

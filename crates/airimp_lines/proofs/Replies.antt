@@ -11,7 +11,7 @@ use Rattle.ssim_records.specs.Days.{day_month, two_digits, month_name}
 use Rattle.ssim_records.proofs.Years.{same_parts}
 use Rattle.airimp_lines.specs.Fields.{is_tail}
 use Rattle.airimp_lines.specs.declared.segment.Segment.{Segment}
-use Rattle.airimp_lines.specs.Grammar.{IsNumeral, letters_text, SpellsSegment, plain_line, IsPlain, IsPlainLine, replied}
+use Rattle.airimp_lines.specs.Grammar.{IsNumeral, letters_text, SpellsSegment, plain_line, IsWritable, IsPlainLine, reply_of}
 use Rattle.airimp_lines.proofs.FieldLaws.{length_airline, length_station, length_code, length_name}
 
 one : (n : ℕ) → n < 10 → list_all is_ascii_digit ((48 + n) ∷ []) ≡ true
@@ -62,12 +62,12 @@ unfolding is_tail
 tail_none = refl
 
 -- a segment that some line spells is spelled by its reply, with that code and number
-pub reply_spelled : (today : ℕ) (line : List ℕ) (s : Segment) (code : List ℕ) (seats : ℕ) (text : List ℕ) → is_code code ≡ true → 0 < seats → seats < 10 ^ 3 → IsPlain s → IsPlainLine (replied s code seats) text → SpellsSegment today line s → SpellsSegment today text (replied s code seats)
+pub reply_spelled : (today : ℕ) (line : List ℕ) (s : Segment) (code : List ℕ) (seats : ℕ) (text : List ℕ) → is_code code ≡ true → 0 < seats → seats < 10 ^ 3 → IsWritable s → IsPlainLine (reply_of s code seats) text → SpellsSegment today line s → SpellsSegment today text (reply_of s code seats)
 reply_spelled today line s code seats text is positive small fits p h =
     let same = same_parts p.year p.month p.day h.date.year h.month h.day s.day p.date h.date.date in
     let number = decimal_numeral 4 s.number (omega arith) fits.number.0 fits.number.1 (omega (arith, fits.number.1)) in
     let count = decimal_numeral 3 seats (omega arith) positive small (omega arith) in
-    let written : text ≡ plain_line h.day h.month (replied s code seats) = p.written ∙ ap (λ (k : ℕ). plain_line k p.month (replied s code seats)) same.2 ∙ ap (λ (k : ℕ). plain_line h.day k (replied s code seats)) same.1 in
+    let written : text ≡ plain_line h.day h.month (reply_of s code seats) = p.written ∙ ap (λ (k : ℕ). plain_line k p.month (reply_of s code seats)) same.2 ∙ ap (λ (k : ℕ). plain_line h.day k (reply_of s code seats)) same.1 in
     let len = ap length written ∙ length_all s.airline (decimal s.number) (letters_text s.suffix s.class) (day_month h.day h.month) s.board s.off code (decimal seats) in
     let month = h.date.date.0.1 in
     let bounds : (20 ≤ length text) × (length text ≤ 69) = length_bounds (length text) (length s.airline) (length (decimal s.number)) (length (letters_text s.suffix s.class)) (length (day_month h.day h.month)) (length s.board) (length s.off) (length code) (length (decimal seats)) len (length_airline s.airline h.spelled.is_airline) (decimal_nonempty s.number (omega (arith, fits.number.1))) number.few (length_letters s.suffix s.class) (length_day h.day h.month month.0 month.1) (length_station s.board h.spelled.is_board) (length_station s.off h.spelled.is_off) (length_code code is) (decimal_nonempty seats (omega arith)) count.few in

@@ -18,7 +18,7 @@ numeral_below most digits n is =
 
 pub right_segment : (today : ℕ) (line : List ℕ) (s : Segment) → SpellsSegment today line s → IsRightSegment s
 right_segment today line s h = record {
-  plain = record { number = (h.spelled.is_number.positive, numeral_below 4 h.spelled.number s.number h.spelled.is_number); suffix = h.spelled.is_suffix };
+  writable = record { number = (h.spelled.is_number.positive, numeral_below 4 h.spelled.number s.number h.spelled.is_number); suffix = h.spelled.is_suffix };
   seats = (h.spelled.is_seats.positive, numeral_below 3 h.spelled.seats s.seats h.spelled.is_seats);
 }
 

@@ -1,4 +1,5 @@
--- The grammar of segment lines, apart from how one is read.
+-- The grammar of segment lines (AIRIMP), apart from how one is read. The single blanks, the suffix, the tail and the
+-- choice of the year are this product's own.
 use Rattle.std.specs.Prelude.{◌^◌, decimal, ◌≡◌, ℕ, ◌≤◌, ◌<◌, IsTrue, List, [], ◌∷◌, ◌++◌, length, Option, Some, None, IfSome}
 use Rattle.std.specs.Char.{is_ascii_uppercase, is_ascii_digit}
 use Rattle.std.specs.List.{list_all}
@@ -25,7 +26,7 @@ suffix_text (Some letter) = letter ∷ []
 abbrev pub letters_text : Option ℕ → ℕ → List ℕ
 letters_text suffix class = suffix_text suffix ++ class ∷ []
 
--- designator, number, suffix, class, day and month, pair, code, seats, tail
+-- airline, number, suffix, class, day and month, a blank, board and off point, a blank, code, seats, tail
 pub record Spells (line : List ℕ) (u : Undated) : Type 0 where
   pub number : List ℕ
   pub seats : List ℕ
@@ -43,7 +44,7 @@ pub record Spells (line : List ℕ) (u : Undated) : Type 0 where
   pub is_seats : IsNumeral 3 seats u.seats
   pub is_tail : IsTrue (is_tail tail)
 
--- the earliest such date on or after today
+-- the earliest date with this day and month on or after today
 pub record IsNextDate (today day month n : ℕ) : Type 0 where
   pub year : ℕ
   pub date : IsDate year month day n
@@ -65,12 +66,16 @@ undated_of day month s = record {
   seats = s.seats;
 }
 
--- the line spells the segment for that day
+-- the line spells the segment for that day of reference
 pub record SpellsSegment (today : ℕ) (line : List ℕ) (s : Segment) : Type 0 where
   pub day : ℕ
   pub month : ℕ
   pub date : IsNextDate today day month s.day
   pub spelled : Spells line (undated_of day month s)
+
+-- no line spells two segments on one day
+abbrev pub OneSegment : Type 0
+OneSegment = (today : ℕ) (line : List ℕ) (s t : Segment) → SpellsSegment today line s → SpellsSegment today line t → s ≡ t
 
 -- the line of a segment without leading zeros and without a tail
 abbrev pub plain_line : ℕ → ℕ → Segment → List ℕ
@@ -78,13 +83,13 @@ plain_line day month s =
     s.airline ++ (decimal s.number ++ (letters_text s.suffix s.class ++ (day_month day month ++ (32 ∷ (s.board ++ (s.off ++ (32 ∷ (s.code ++ decimal s.seats))))))))
 
 -- a number of one to four digits above 0, and a letter as the suffix, if there is one
-pub record IsPlain (s : Segment) : Type 0 where
+pub record IsWritable (s : Segment) : Type 0 where
   pub number : (0 < s.number) × (s.number < 10 ^ 4)
   pub suffix : IfSome s.suffix (λ c. IsTrue (is_ascii_uppercase c))
 
 -- and 1 to 999 seats
 pub record IsRightSegment (s : Segment) : Type 0 where
-  pub plain : IsPlain s
+  pub writable : IsWritable s
   pub seats : (0 < s.seats) × (s.seats < 10 ^ 3)
 
 -- the text says the segment, and its day
@@ -95,6 +100,6 @@ pub record IsPlainLine (s : Segment) (text : List ℕ) : Type 0 where
   pub date : IsDate year month day s.day
   pub written : text ≡ plain_line day month s
 
--- with another code and number of seats
-abbrev pub replied : Segment → List ℕ → ℕ → Segment
-replied s code seats = record s { code = code; seats = seats }
+-- the segment with another code and number of seats
+abbrev pub reply_of : Segment → List ℕ → ℕ → Segment
+reply_of s code seats = record s { code = code; seats = seats }

@@ -12,8 +12,8 @@ abbrev pub Line : Type 0
 Line = ℕ × List ℕ
 
 -- the runs of lines between empty lines: each that has a line is a message
-abbrev pub parted : List Line → List (List Line)
-parted lines = slice_split (λ line. length line.1 == 0) lines
+abbrev pub runs_of : List Line → List (List Line)
+runs_of lines = slice_split (λ line. length line.1 == 0) lines
 
 -- an address, a blank, the locator, and nothing or a remark
 pub record IsHeading (text locator : List ℕ) : Type 0 where
@@ -52,4 +52,8 @@ AreMessages today (message ∷ messages) requests = (own others : List Request) 
 
 -- the requests of a script on that day: lines count from 1
 abbrev pub IsScript : ℕ → List ℕ → List Request → Type 0
-IsScript today bytes requests = AreMessages today (parted (enumerate_from 1 (lines bytes))) requests
+IsScript today bytes requests = AreMessages today (runs_of (enumerate_from 1 (lines bytes))) requests
+
+-- no script has two lists of requests on one day
+abbrev pub OneScript : Type 0
+OneScript = (today : ℕ) (bytes : List ℕ) (a b : List Request) → IsScript today bytes a → IsScript today bytes b → a ≡ b

@@ -2,7 +2,7 @@
 use Rattle.std.specs.Prelude.{◌≡◌, ◌⊎◌, ℕ, IsTrue, not, ◌-◌, ◌≤◌, ◌++◌, if◌then◌else◌, List, [], ◌∷◌, Option, Some, None, Result, Ok, Err}
 use Rattle.ssim_records.specs.Reach.{reach, IsFirst}
 use Rattle.std.specs.Result.{IsOk}
-use Rattle.airimp_lines.specs.Lines.{line_at}
+use Rattle.ssim_records.specs.Lines.{line_at}
 use Rattle.airimp_lines.specs.Messages.{heading_at, is_passed_over}
 use Rattle.airimp_lines.specs.Reading.{undated_at}
 use Rattle.airimp_lines.specs.declared.fault.LineFault.{LineFault}
@@ -16,29 +16,29 @@ use Rattle.airimp_lines.specs.Script.{Line, AreRequests, segment_lines}
 abbrev pub Message : Type 0
 Message = Option (List ℕ)
 
--- a line that opens a message
-abbrev pub opened : Option (List ℕ) → Result Message ScriptKind
-opened None = Err kinds.Locator
-opened (Some locator) = Ok (Some locator)
+-- behind the first line of a message
+abbrev pub after_heading : Option (List ℕ) → Result Message ScriptKind
+after_heading None = Err kinds.Locator
+after_heading (Some locator) = Ok (Some locator)
 
--- a segment line of a message
-abbrev pub asked : List ℕ → Result Undated LineFault → Result Message ScriptKind
-asked locator (Err fault) = Err (kinds.Line fault)
-asked locator (Ok segment) = Ok (Some locator)
+-- behind a segment line
+abbrev pub after_segment : List ℕ → Result Undated LineFault → Result Message ScriptKind
+after_segment locator (Err fault) = Err (kinds.Line fault)
+after_segment locator (Ok segment) = Ok (Some locator)
 
--- a line: an empty one ends the message
+-- the message behind a line: an empty line ends it
 abbrev pub step : Message → List ℕ → Result Message ScriptKind
 step message [] = Ok None
-step None (c ∷ text) = opened (heading_at (c ∷ text))
-step (Some locator) (c ∷ text) = if is_passed_over (c ∷ text) then Ok (Some locator) else asked locator (undated_at (c ∷ text))
+step None (c ∷ text) = after_heading (heading_at (c ∷ text))
+step (Some locator) (c ∷ text) = if is_passed_over (c ∷ text) then Ok (Some locator) else after_segment locator (undated_at (c ∷ text))
 
-abbrev pub moved : List ℕ → Result Message ScriptKind → Result (Message × List ℕ) ScriptKind
-moved rest (Err kind) = Err kind
-moved rest (Ok message) = Ok (message, rest)
+abbrev pub with_rest : List ℕ → Result Message ScriptKind → Result (Message × List ℕ) ScriptKind
+with_rest rest (Err kind) = Err kind
+with_rest rest (Ok message) = Ok (message, rest)
 
 -- a line and its end
 unfoldable pub next : Message → List ℕ → Result (Message × List ℕ) ScriptKind
-next message bytes = moved (line_at bytes).1 (step message (line_at bytes).0)
+next message bytes = with_rest (line_at bytes).1 (step message (line_at bytes).0)
 
 -- a script may end behind any line
 abbrev pub at_end : Message → Option ScriptKind
@@ -60,17 +60,17 @@ WantsRoom bytes line = (message : Message) × (rest : List ℕ) × (1 ≤ line) 
 
 -- ---- one line
 
--- the request of a line that asks for seats, and nothing for any other
-abbrev pub IsAsked : ℕ → Message → Line → List Request → Type 0
-IsAsked today None line added = added ≡ []
-IsAsked today (Some locator) (n, []) added = added ≡ []
-IsAsked today (Some locator) (n, c ∷ text) added = AreRequests today locator (segment_lines ((n, c ∷ text) ∷ [])) added
+-- the line's own requests: one for a segment line in a message, none for any other line
+abbrev pub AreOwn : ℕ → Message → Line → List Request → Type 0
+AreOwn today None line added = added ≡ []
+AreOwn today (Some locator) (n, []) added = added ≡ []
+AreOwn today (Some locator) (n, c ∷ text) added = AreRequests today locator (segment_lines ((n, c ∷ text) ∷ [])) added
 
 -- the line's request stands behind those before it
 pub record Adds (today : ℕ) (message : Message) (line : Line) (old new : List Request) : Type 0 where
   pub added : List Request
   pub all : new ≡ old ++ added
-  pub asked : IsAsked today message line added
+  pub asked : AreOwn today message line added
 
 -- a line that is refused: this is its fault, or there was no room for its request
 abbrev pub IsStop : Message → List ℕ → ScriptKind → Type 0

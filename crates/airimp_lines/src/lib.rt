@@ -5,9 +5,9 @@
 mod date;
 mod fault;
 mod fields;
+pub mod laws;
 #[cfg(test)]
 mod line_tests;
-mod lines;
 mod messages;
 mod reading;
 mod reply;

@@ -1,5 +1,5 @@
 //! The lines of a booking message.
-ghost use Rattle.std.specs.Prelude.{◌≡◌, ℕ, List, option_map};
+ghost use Rattle.std.specs.Prelude.{◌≡◌, option_map};
 ghost use Rattle.std.specs.List.{list_all};
 ghost use Rattle.ssim_records.specs.Names.{is_name_byte, is_locator};
 ghost use Rattle.airimp_lines.specs.Fields.{fixed_at};

@@ -30,6 +30,7 @@ impl Model for Requests {
 }
 
 impl Requests {
+    /// The requests, in the order of their lines.
     pub fn as_slice(&self) -> &[Request]
         ensures { result.now ≡ self.now }
     {

@@ -1,5 +1,5 @@
 //! Scripts: booking messages with empty lines between them.
-ghost use Rattle.std.specs.Prelude.{◌≢◌, All, ◌≡◌, ℕ, ◌+◌, ◌<◌, ◌^◌, ◌++◌, List, [], ◌∷◌, length, Ok, Err, IfOk, IfErr, OnErr};
+ghost use Rattle.std.specs.Prelude.{◌≢◌, All, ◌≡◌, ◌<◌, ◌^◌, List, length, Ok, IfOk, IfErr};
 ghost use Rattle.std.specs.Result.{MatchResult};
 ghost use Rattle.ssim_records.specs.Days.{IsCenturyDay};
 ghost use Rattle.airimp_lines.specs.Grammar.{IsRightSegment};
@@ -9,14 +9,15 @@ ghost use Rattle.airimp_lines.specs.declared.requests.Request.{Request as Asked}
 ghost use Rattle.airimp_lines.specs.declared.fault.ScriptKind.TheVariants.{Memory};
 
 use crate::fault::{ScriptFault, ScriptKind};
-use crate::lines::cut_line;
 use crate::messages::{heading_of, is_passed_over};
 use crate::reading::read_segment;
 use crate::requests::{Request, Requests};
+use ssim_records::lines::cut_line;
 use ssim_records::{Day, Locator};
 use std::alloc::Global;
 
-/// The requests of a script, whose days are the earliest such dates on or after `today`.
+/// The requests of a script of booking messages (AIRIMP), of less than 4 GiB. Their days are the earliest such dates on or
+/// after `today`, a day of the years 2000 to 2099. A script is refused by its first faulty line.
 pub fn read_script(alloc: Global, bytes: &[u8], today: Day) -> Result<Requests, ScriptFault>
     requires today { IsCenturyDay today }
     requires size { length bytes.now < 2 ^ 32 }

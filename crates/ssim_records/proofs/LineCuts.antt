@@ -6,7 +6,7 @@ use Rattle.std.proofs.lemmas.Bool.Decides.{nat_tests}
 use Rattle.std.proofs.lemmas.Bool.{ltb-true, ltb-false}
 use Rattle.std.proofs.lemmas.List.{drop_all}
 use Rattle.std.proofs.lemmas.List.Splits.{slice_split_first}
-use Rattle.airimp_lines.specs.Lines.{is_line_feed, line_at}
+use Rattle.ssim_records.specs.Lines.{is_line_feed, line_at}
 
 -- ---- parts
 
@@ -52,18 +52,18 @@ last_line (x ∷ xs) h = let some : eqb (length (x ∷ xs)) 0 ≡ false = grind 
 nothing_left : (n : ℕ) (xs : List ℕ) → length xs ≤ n → drop (n + 1) xs ≡ []
 nothing_left n xs h = drop_all (n + 1) xs (omega arith)
 
-cut_lines : (bytes : List ℕ) (b : Bool) → nat_lt (position_or_len is_line_feed bytes) (length bytes) ≡ b → 0 < length bytes
+lines_by : (bytes : List ℕ) (b : Bool) → nat_lt (position_or_len is_line_feed bytes) (length bytes) ≡ b → 0 < length bytes
     → lines bytes ≡ cond b (strip_carriage_return (before_first is_line_feed bytes)) bytes ∷ lines (after_first is_line_feed bytes)
-cut_lines bytes true e some =
+lines_by bytes true e some =
     ap lines_of_parts (slice_split_first is_line_feed bytes 0 (ltb-true _ _ e))
     ∙ front_line (before_first is_line_feed bytes) (slice_split is_line_feed (after_first is_line_feed bytes)) (is_split is_line_feed (after_first is_line_feed bytes))
-cut_lines bytes false e some =
+lines_by bytes false e some =
     let all : length bytes ≤ position_or_len is_line_feed bytes = ltb-false _ _ e in
     ap lines_of_parts (no_feed is_line_feed bytes all) ∙ last_line bytes some ∙ ap (λ (rest : List ℕ). bytes ∷ lines rest) (sym (nothing_left (position_or_len is_line_feed bytes) bytes all))
 
 pub lines_are : (bytes : List ℕ) → 0 < length bytes → lines bytes ≡ (line_at bytes).0 ∷ lines (line_at bytes).1
 unfolding line_at
-lines_are bytes some = cut_lines bytes (nat_lt (position_or_len is_line_feed bytes) (length bytes)) refl some
+lines_are bytes some = lines_by bytes (nat_lt (position_or_len is_line_feed bytes) (length bytes)) refl some
 
 pub rest_shorter : (bytes : List ℕ) → 0 < length bytes → length (line_at bytes).1 < length bytes
 unfolding line_at
@@ -91,3 +91,15 @@ cut_none bytes e = of (nat_lt (position_or_len is_line_feed bytes) (length bytes
         → ◌≡◌ {A = List ℕ × List ℕ} (bytes, []) (cond b (strip_carriage_return (before_first is_line_feed bytes)) bytes, after_first is_line_feed bytes)
     of true is h = absurd cc
     of false is h = rw (nothing_left (position_or_len is_line_feed bytes) bytes (ltb-false _ _ is)) refl
+
+-- ---- what was cut off is the first line
+
+abbrev pub Cut : List ℕ → List ℕ → List ℕ → Type 0
+Cut text after bytes = ◌≡◌ {A = List ℕ × List ℕ} (text, after) (line_at bytes)
+
+pub cut_lines : (bytes text after : List ℕ) → Cut text after bytes → 0 < length bytes → lines bytes ≡ text ∷ lines after
+cut_lines bytes text after cut some =
+    lines_are bytes some ∙ sym (ap (λ (p : List ℕ × List ℕ). p.0 ∷ lines p.1) cut)
+
+pub cut_shorter : (bytes text after : List ℕ) → Cut text after bytes → 0 < length bytes → length after < length bytes
+cut_shorter bytes text after cut some = omega (arith, ap (λ (p : List ℕ × List ℕ). length p.1) cut, rest_shorter bytes some)
