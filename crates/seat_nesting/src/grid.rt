@@ -1,6 +1,6 @@
 //! The ladder of each leg of each dated flight.
-ghost use Rattle.std.specs.Prelude.{◌≡◌, ◌≤◌, ℕ, length, [], ◌∷◌, IfOk, IfSome, IfNone, IsTrue, ◌↔◌};
-ghost use Rattle.seat_nesting.specs.Nesting.{Fits, ladder_at, IsDistinct, HasLadders, steps_at};
+ghost use Rattle.std.specs.Prelude.{◌≡◌, ◌≤◌, ℕ, length, [], ◌∷◌, IfOk, IfSome, IfNone, IsTrue, map, ◌↔◌};
+ghost use Rattle.seat_nesting.specs.Nesting.{Fits, ladder_at, IsDistinct, HasLadders, steps_at, steps_of};
 
 use crate::ladder::{Ladder, Step};
 use ssim_records::{Memory, Place};
@@ -9,7 +9,7 @@ use std::marker::Model;
 
 /// The ladders of the legs of one flight; a leg without limits has none.
 #[derive(Drop)]
-struct FlightLegs {
+pub struct FlightLegs {
     ladders: Vec<Option<Ladder>>,
 }
 
@@ -102,6 +102,13 @@ impl Grid {
         }
     }
 
+    /// The legs of each flight.
+    pub fn flights(&self) -> &[FlightLegs]
+        ensures { result.now ≡ self.now }
+    {
+        &self.flights
+    }
+
     /// No class stands twice in a leg's steps.
     pub fn ladders_are_distinct(&self)
         ensures { HasLadders self.now }
@@ -111,6 +118,13 @@ impl Grid {
 }
 
 impl FlightLegs {
+    /// The ladder of each leg, where it has one.
+    pub fn ladders(&self) -> &[Option<Ladder>]
+        ensures { self.now ≡ map steps_of result.now }
+    {
+        &self.ladders
+    }
+
     fn len(&self) -> usize
         ensures { result ≡ length self.now }
     {
@@ -138,7 +152,8 @@ impl FlightLegs {
     }
 }
 
-fn copy_of(ladder: &Option<Ladder>) -> Option<Ladder>
+/// The same ladder once more, if there is one.
+pub fn copy_of(ladder: &Option<Ladder>) -> Option<Ladder>
     ensures { result ≡ ladder.now }
 {
     match ladder {
