@@ -1,2 +1,3 @@
 mod Cuts
 mod Auditing
+mod Texts

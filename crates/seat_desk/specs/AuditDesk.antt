@@ -2,7 +2,7 @@
 use Rattle.std.specs.Prelude.{◌≡◌, ◌≤◌, ℕ, List, [], ◌∷◌, ◌++◌, length, decimal, codes, Some}
 use Rattle.seat_nesting.specs.Nesting.{Legs}
 use Rattle.seat_journal.specs.Text.{IsJournalText}
-use Rattle.seat_journal.specs.Reading.{IsFirst}
+use Rattle.seat_journal.specs.Reading.{IsFirstFault}
 use Rattle.seat_journal.specs.declared.entry.Entry.{Entry}
 use Rattle.seat_journal.specs.declared.fault.JournalFault.{JournalFault}
 use Rattle.seat_journal.specs.declared.fault.JournalKind.{JournalKind}
@@ -37,7 +37,7 @@ pub record IsAudited (grid : Legs) (bytes line : List ℕ) : Type 0 where
 
 -- the fault is the first of the text, or that of the entries that it is the text of
 abbrev pub IsRefusedJournal : Legs → DeskFault → List ℕ → Type 0
-IsRefusedJournal grid (Journal fault) bytes = IsFirst bytes fault.line fault.kind
+IsRefusedJournal grid (Journal fault) bytes = IsFirstFault bytes fault.line fault.kind
 IsRefusedJournal grid (Replay fault) bytes =
     (entries : List Entry) × IsJournalText bytes entries × (replay_fault grid most_lines entries ≡ Some fault)
 IsRefusedJournal grid _ bytes = ⊥

@@ -5,6 +5,7 @@
 mod audit;
 mod check;
 mod fault;
+mod flights;
 mod ladder;
 mod lines;
 mod orders;
