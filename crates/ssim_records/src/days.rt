@@ -12,7 +12,7 @@ use std::marker::Model;
 const DAYS_BEFORE_1970: u32 = 4_371_587;
 
 /// A day of the years 1999 to 2199, by its number from 1 January 1970.
-#[derive(Clone, Copy, Debug, PartialEq, Eq, PartialOrd, Ord)]
+#[derive(Clone, Copy, Debug, PartialEq, Eq, PartialOrd, Ord, Hash)]
 pub struct Day {
     number: u32,
 }
@@ -56,6 +56,14 @@ impl Day {
             }
             _ => None,
         }
+    }
+
+    /// The day with this number, counted from 1 January 1970.
+    pub fn numbered(number: u32) -> Self
+        requires { IsDay number }
+        ensures { result ≡ number }
+    {
+        Day { number }
     }
 
     /// Its number, counted from 1 January 1970.

@@ -6,7 +6,7 @@ ghost use Rattle.ssim_records.specs.Names.{is_station, is_airline, is_code, is_l
 use std::marker::Model;
 
 /// A city or an airport: three letters A to Z (IATA location identifier).
-#[derive(Clone, Copy, Debug, PartialEq, Eq)]
+#[derive(Clone, Copy, Debug, PartialEq, Eq, Hash)]
 pub struct Station {
     letters: [u8; 3],
 }
@@ -46,7 +46,7 @@ impl Station {
 }
 
 /// An airline: two of A to Z and 0 to 9, at least one a letter (IATA designator).
-#[derive(Clone, Copy, Debug, PartialEq, Eq)]
+#[derive(Clone, Copy, Debug, PartialEq, Eq, Hash)]
 pub struct Airline {
     characters: [u8; 2],
 }
