@@ -28,8 +28,20 @@ faulty first days bytes set fault is wrong flights s =
     let both : Some fault ≡ None = sym wrong ∙ right in
     cc
 
-cases : (first days : ℕ) (bytes : List ℕ) (set : DataSet) (kind : FlightKind) (fault : FlightFault) → fault.kind ≡ kind → IsDataSet most_records bytes set
-    → IsRefusal fault (first_fault (plan_for set first days) (itineraries set.legs)) → expansion_fault_of kind fault ≢ Memory
+found : (fault : FlightFault) (first : Option FlightFault) → fault.kind ≢ flight_kinds.Memory → IsRefusal fault first → first ≡ Some fault
+found fault first not refused =
+    ⊎_elim (λ (m : fault ≡ memory_fault). absurd (not (ap (λ (f : FlightFault). f.kind) m))) (λ (s : first ≡ Some fault). s) refused
+
+cases : (first days : ℕ) (bytes : List ℕ) (set : DataSet) (kind : FlightKind) (fault : FlightFault) → IsDataSet most_records bytes set
+    → (kind ≢ flight_kinds.Memory → first_fault (plan_for set first days) (itineraries set.legs) ≡ Some fault) → expansion_fault_of kind fault ≢ Memory
     → IsRefusedSchedule first days (expansion_fault_of kind fault) bytes × HasNoSchedule first days bytes
-cases first days bytes set flight_kinds.Memory fault e is refused not = absurd (not refl)
-cases first days bytes set kind fault e is refused not = ?
+cases first days bytes set flight_kinds.Memory fault is first_is not = absurd (not refl)
+cases first days bytes set kind fault is first_is not =
+    let wrong : first_fault (plan_for set first days) (itineraries set.legs) ≡ Some fault = first_is (λ e. cc) in
+    (record { set = set; is_set = is; wrong = wrong }, faulty first days bytes set fault is wrong)
+
+pub refused_expansion : (first days : ℕ) (bytes : List ℕ) (set : DataSet) (fault : FlightFault) → IsDataSet most_records bytes set
+    → IsRefusal fault (first_fault (plan_for set first days) (itineraries set.legs)) → expansion_fault fault ≢ Memory
+    → IsRefusedSchedule first days (expansion_fault fault) bytes × HasNoSchedule first days bytes
+refused_expansion first days bytes set fault is refused =
+    cases first days bytes set fault.kind fault is (λ not. found fault (first_fault (plan_for set first days) (itineraries set.legs)) not refused)

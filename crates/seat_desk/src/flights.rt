@@ -59,6 +59,7 @@ fn listing(alloc: Global, bytes: &[u8], first: Day, days: u16) -> Result<Vec<u8>
 }
 
 /// The dated flights of the data set that these bytes are.
+#[tactic(auto, using(crate::proofs::Schedules::no_set, crate::proofs::Schedules::refused_expansion))]
 pub fn scheduled(alloc: Global, bytes: &[u8], first: Day, days: u16) -> Result<Flights, DeskFault>
     requires size { length bytes.now ≤ most_bytes }
     requires first { IsOfCentury first }
