@@ -18,25 +18,28 @@ use Rattle.ssim_flights.proofs.Chaining.{departures_are, flights_are, fault_days
 -- the flights of the rows were added
 pub added_rows : (plan : Plan) (legs : List Leg) (first : Scheduled) (rest chained : List Scheduled) (is : List ℕ) (old new : Flown) → chained ≡ first ∷ rest → is ≡ rows plan chained → days_fault plan (has_departure old.taken) (length old.flights.items) legs chained ≡ None → new.flights.items ≡ old.flights.items ++ map (flight_on plan first.leg chained) is → Takes old.taken new.taken (map (departure first) is) → IsChainAdded plan legs chained old new
 added_rows plan legs first rest chained is old new e r none flights taken = record {
-    faultless = none;
-    flights = flights ∙ ap (λ (fs : List Flight). old.flights.items ++ fs) (sym (flights_are plan first rest chained is e r));
-    taken = subst (λ (ds : List Departure). Takes old.taken new.taken ds) (sym (departures_are plan first rest chained is e r)) taken }
+  faultless = none;
+  flights = flights ∙ ap (λ (fs : List Flight). old.flights.items ++ fs) (sym (flights_are plan first rest chained is e r));
+  taken = subst (λ (ds : List Departure). Takes old.taken new.taken ds) (sym (departures_are plan first rest chained is e r)) taken;
+}
 
 -- a chain of no legs
 pub added_none : (plan : Plan) (legs : List Leg) (chained : List Scheduled) (flown : Flown) → chained ≡ [] → days_fault plan (has_departure flown.taken) (length flown.flights.items) legs chained ≡ None → IsChainAdded plan legs chained flown flown
 unfolding flights_on departures_on
 added_none plan legs chained flown e none = record {
-    faultless = none;
-    flights = sym (append-nil flown.flights.items) ∙ ap (λ (c : List Scheduled). flown.flights.items ++ flights_on plan c) (sym e);
-    taken = subst (λ (c : List Scheduled). Takes flown.taken flown.taken (departures_on plan c)) (sym e) (record { at = λ d. refl }) }
+  faultless = none;
+  flights = sym (append-nil flown.flights.items) ∙ ap (λ (c : List Scheduled). flown.flights.items ++ flights_on plan c) (sym e);
+  taken = subst (λ (c : List Scheduled). Takes flown.taken flown.taken (departures_on plan c)) (sym e) (record { at = λ d. refl });
+}
 
 -- a chain's flights are its itinerary's
 pub added_chain : (plan : Plan) (legs : List Leg) (chained : List Scheduled) (old new : Flown) → chained ≡ schedule plan (chain legs) → missing_leg legs ≡ None → repeated_leg legs ≡ None → broken_chain (chain legs) ≡ None → IsChainAdded plan legs chained old new → IsAdded plan legs old new
 unfolding flights_of departures_of
 added_chain plan legs chained old new e a b c added = record {
-    faultless = fault_days plan (has_departure old.taken) (length old.flights.items) legs a b c ∙ ap (days_fault plan (has_departure old.taken) (length old.flights.items) legs) (sym e) ∙ added.faultless;
-    flights = added.flights ∙ ap (λ (l : List Scheduled). old.flights.items ++ flights_on plan l) e;
-    taken = subst (λ (l : List Scheduled). Takes old.taken new.taken (departures_on plan l)) e added.taken }
+  faultless = fault_days plan (has_departure old.taken) (length old.flights.items) legs a b c ∙ ap (days_fault plan (has_departure old.taken) (length old.flights.items) legs) (sym e) ∙ added.faultless;
+  flights = added.flights ∙ ap (λ (l : List Scheduled). old.flights.items ++ flights_on plan l) e;
+  taken = subst (λ (l : List Scheduled). Takes old.taken new.taken (departures_on plan l)) e added.taken;
+}
 
 pub days_are : (plan : Plan) (taken : Departure → Bool) (count : ℕ) (legs : List Leg) (chained : List Scheduled) → chained ≡ schedule plan (chain legs) → missing_leg legs ≡ None → repeated_leg legs ≡ None → broken_chain (chain legs) ≡ None → days_fault plan taken count legs chained ≡ fault_of plan taken count legs
 days_are plan taken count legs chained e a b c = ap (days_fault plan taken count legs) e ∙ sym (fault_days plan taken count legs a b c)

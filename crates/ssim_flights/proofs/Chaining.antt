@@ -37,16 +37,16 @@ rows_reach plan [] = All-nil (Reaches [])
 rows_reach plan (leg ∷ legs) =
     let n = shortest (length leg.operations) legs in
     All-filter (λ i. is_in_horizon plan (day_at leg i)) (Reaches (leg ∷ legs)) (range_with_len 0 n)
-      (All-from_get_or (Reaches (leg ∷ legs)) (range_with_len 0 n) 0 (λ i h.
-        let l = length-range_with_len 0 n in
-        let e : get_or (range_with_len 0 n) i 0 ≡ i = get_or-range_with_len 0 n i 0 (omega arith) ∙ omega arith in
-        let reach = shortest_reach (length leg.operations) i legs (omega arith) in
-        subst (λ (k : ℕ). Reaches (leg ∷ legs) k) (sym e) (All-cons (λ each. i < length each.operations) leg legs reach.0 reach.1)))
+    (All-from_get_or (Reaches (leg ∷ legs)) (range_with_len 0 n) 0 (λ i h.
+    let l = length-range_with_len 0 n in
+    let e : get_or (range_with_len 0 n) i 0 ≡ i = get_or-range_with_len 0 n i 0 (omega arith) ∙ omega arith in
+    let reach = shortest_reach (length leg.operations) i legs (omega arith) in
+    subst (λ (k : ℕ). Reaches (leg ∷ legs) k) (sym e) (All-cons (λ each. i < length each.operations) leg legs reach.0 reach.1)))
 
 pub reach_first : (first : Scheduled) (rest chained : List Scheduled) (is : List ℕ) → chained ≡ first ∷ rest → All (Reaches chained) is → All (λ i. i < length first.operations) is
 reach_first first rest chained is e all =
     All-weaker (Reaches (first ∷ rest)) (λ i. i < length first.operations) (λ i h. All-head (λ each. i < length each.operations) first rest h) is
-      (subst (λ (c : List Scheduled). All (Reaches c) is) e all)
+    (subst (λ (c : List Scheduled). All (Reaches c) is) e all)
 
 -- ---- what leg 1 gives
 

@@ -1,8 +1,9 @@
 -- The walk along the itineraries.
-use Rattle.std.proofs.Common.{◌≡◌, ℕ, zero, suc, ◌+◌, ◌<◌, ◌≤◌, Bool, true, false, cond, nat_lt, ◌||◌, List, [], ◌∷◌, ◌++◌, length, get_or, map, filter, take, drop, All, Option, Some, None, refl, sym, ap, subst, ◌∙◌, inl, inr, ⊎_elim, unwrap_or, append-nil, arith, length-append}
+use Rattle.std.proofs.Common.{◌≡◌, ℕ, zero, suc, ◌+◌, ◌<◌, ◌≤◌, Bool, true, false, cond, nat_lt, nat_eq, ◌||◌, ◌&&◌, IsTrue, List, [], ◌∷◌, ◌++◌, length, get_or, map, filter, take, drop, All, Option, Some, None, refl, sym, ap, subst, ◌∙◌, inl, inr, ⊎_elim, unwrap_or, append-nil, arith, length-append}
 use Rattle.std.specs.Option.{option_or}
 use Rattle.std.specs.List.{list_any, flat_map}
-use Rattle.std.proofs.lemmas.Bool.{true≢false, ltb-false}
+use Rattle.std.specs.Cmp.Lexicographic.{pointwise}
+use Rattle.std.proofs.lemmas.Bool.{ltb-false}
 use Rattle.std.proofs.lemmas.List.{take_more, take_all, length-map}
 use Rattle.std.proofs.lemmas.List.Concat.{flat_map-append}
 use Rattle.std.proofs.lemmas.List.Elements.{All-nil, All-append, All-filter, All-map, All-from_get_or}
@@ -18,11 +19,11 @@ use Rattle.ssim_flights.specs.declared.itinerary.Name.{Name}
 use Rattle.ssim_flights.specs.declared.plan.Plan.{Plan}
 use Rattle.ssim_flights.specs.declared.schedule.Scheduled.{Scheduled}
 use Rattle.ssim_flights.specs.Adding.{IsAdded, IsFlown}
-use Rattle.ssim_flights.specs.Chains.{chain, sequences, first_record_if, missing_leg, repeated_leg, broken_chain}
-use Rattle.ssim_flights.specs.Few.{AreFew}
+use Rattle.ssim_flights.specs.Chains.{chain, sequences, first_record_if, missing_leg, repeated_leg, broken_chain, broken_after}
+use Rattle.ssim_flights.specs.Few.{AreFew, AreJoined, joins_after, joins_up}
 use Rattle.ssim_flights.specs.Flown.{dated_flights, days_fault, departures_of, departures_on, fault_after, fault_of, first_fault, flights_of, found, is_taken, leg_one_if, same_departure, IsRefusal}
 use Rattle.ssim_flights.specs.Itineraries.{itineraries, legs_of, name_of, names_after, same_name}
-use Rattle.ssim_flights.specs.Schedules.{differing, falling_back, plan_of, rows, schedule, flights_on, flight_on, dated_leg}
+use Rattle.ssim_flights.specs.Schedules.{differing, falling_back, rows, schedule, scheduled, flights_on, flight_on, dated_leg}
 use Rattle.ssim_flights.specs.Taken.{Departures, has_departure, Takes}
 use Rattle.ssim_flights.proofs.Walks.{drop_step}
 
@@ -68,8 +69,8 @@ unfolding flights_on
 short_on plan [] few = All-nil (λ f. length f.legs ≤ 8)
 short_on plan (leg ∷ legs) few =
     All-map (λ f. length f.legs ≤ 8) (flight_on plan leg.leg (leg ∷ legs)) (rows plan (leg ∷ legs))
-      (All-from_get_or (λ i. length (map (dated_leg i) (leg ∷ legs)) ≤ 8) (rows plan (leg ∷ legs)) 0
-        (λ k h. let n = length-map (leg ∷ legs) (dated_leg (get_or (rows plan (leg ∷ legs)) k 0)) in omega arith))
+    (All-from_get_or (λ i. length (map (dated_leg i) (leg ∷ legs)) ≤ 8) (rows plan (leg ∷ legs)) 0
+    (λ k h. let n = length-map (leg ∷ legs) (dated_leg (get_or (rows plan (leg ∷ legs)) k 0)) in omega arith))
 
 short_after : (plan : Plan) (legs : List Leg) → first_record_if (nat_lt 8 (length (schedule plan (chain legs)))) legs ≡ None → All (λ f. length f.legs ≤ 8) (flights_on plan (schedule plan (chain legs)))
 unfolding chain sequences
@@ -79,6 +80,38 @@ short_after plan (leg ∷ legs) none = by (nat_lt 8 (length (schedule plan (chai
     by : (b : Bool) → nat_lt 8 (length (schedule plan (chain (leg ∷ legs)))) ≡ b → cond b (Some leg.serial) None ≡ None → All (λ f. length f.legs ≤ 8) (flights_on plan (schedule plan (chain (leg ∷ legs))))
     by true e h = cc
     by false e h = short_on plan (schedule plan (chain (leg ∷ legs))) (ltb-false _ _ e)
+
+-- an itinerary without fault is not broken
+unbroken : (plan : Plan) (taken : Departure → Bool) (count : ℕ) (legs : List Leg) → fault_of plan taken count legs ≡ None → broken_chain (chain legs) ≡ None
+unfolding fault_of
+unbroken plan taken count legs e =
+    let a = found_parts kinds.MissingLeg (missing_leg legs) _ e in
+    let b = found_parts kinds.RepeatedLeg (repeated_leg legs) _ a.1 in
+    (found_parts kinds.BrokenChain (broken_chain (chain legs)) _ b.1).0
+
+joins_on : (plan : Plan) (i : ℕ) (before : List ℕ) (legs : List Leg) → broken_after before legs ≡ None → joins_after before (map (dated_leg i) (schedule plan legs)) ≡ true
+unfolding scheduled
+joins_on plan i before [] none = refl
+joins_on plan i before (leg ∷ legs) none = by (pointwise nat_eq before leg.board) none (λ rest. joins_on plan i leg.off legs rest)
+  where
+    by : (b : Bool) → cond b (broken_after leg.off legs) (Some leg.serial) ≡ None → (broken_after leg.off legs ≡ None → joins_after leg.off (map (dated_leg i) (schedule plan legs)) ≡ true) → (b && joins_after leg.off (map (dated_leg i) (schedule plan legs))) ≡ true
+    by true h outer = outer h
+    by false h outer = cc
+
+joins : (plan : Plan) (i : ℕ) (legs : List Leg) → broken_chain legs ≡ None → joins_up (map (dated_leg i) (schedule plan legs)) ≡ true
+unfolding scheduled broken_chain
+joins plan i [] none = refl
+joins plan i (leg ∷ legs) none = joins_on plan i leg.off legs none
+
+joined_on : (plan : Plan) (legs : List Leg) → broken_chain legs ≡ None → AreJoined (flights_on plan (schedule plan legs))
+unfolding flights_on
+joined_on plan [] none = record { joined = All-nil (λ f. IsTrue (joins_up f.legs)) }
+joined_on plan (leg ∷ legs) none = record {
+  joined =
+      All-map (λ f. IsTrue (joins_up f.legs)) (flight_on plan (scheduled plan leg).leg (schedule plan (leg ∷ legs))) (rows plan (schedule plan (leg ∷ legs)))
+      (All-from_get_or (λ i. IsTrue (joins_up (map (dated_leg i) (schedule plan (leg ∷ legs))))) (rows plan (schedule plan (leg ∷ legs))) 0
+      (λ k h. joins plan (get_or (rows plan (schedule plan (leg ∷ legs))) k 0) (leg ∷ legs) none));
+}
 
 -- ---- the steps
 
@@ -102,12 +135,18 @@ flown_more plan all i legs old new inside is flown added =
     record {
       flights = added.flights ∙ ap (λ (fs : List Flight). fs ++ flights_of plan legs) flown.flights ∙ sym (flat_map_more (flights_of plan) all i legs inside is);
       taken = λ d. added.taken.at d ∙ ap (λ b. list_any (same_departure d) (departures_of plan legs) || b) (flown.taken d)
-        ∙ or_flip (list_any (same_departure d) (departures_of plan legs)) (is_taken plan (take i all) d)
-        ∙ sym (list_any-append (same_departure d) (flat_map (departures_of plan) (take i all)) (departures_of plan legs))
-        ∙ ap (list_any (same_departure d)) (sym (flat_map_more (departures_of plan) all i legs inside is));
+          ∙ or_flip (list_any (same_departure d) (departures_of plan legs)) (is_taken plan (take i all) d)
+          ∙ sym (list_any-append (same_departure d) (flat_map (departures_of plan) (take i all)) (departures_of plan legs))
+          ∙ ap (list_any (same_departure d)) (sym (flat_map_more (departures_of plan) all i legs inside is));
       few = subst (λ (fs : List Flight). length fs ≤ plan.most) (sym added.flights) (subst (λ (n : ℕ). n ≤ plan.most) (sym (length-append old.flights.items (flights_of plan legs))) few);
       short = subst (λ (fs : List Flight). All (λ f. length f.legs ≤ 8) fs) (sym added.flights)
-        (All-append (λ f. length f.legs ≤ 8) old.flights.items (flights_of plan legs) flown.short (short_after plan legs checks.short)) }
+          (All-append (λ f. length f.legs ≤ 8) old.flights.items (flights_of plan legs) flown.short (short_after plan legs checks.short));
+      joined = subst (λ (fs : List Flight). AreJoined fs) (sym added.flights) (record {
+        joined =
+            All-append (λ f. IsTrue (joins_up f.legs)) old.flights.items (flights_of plan legs) flown.joined.joined
+            (joined_on plan (chain legs) (unbroken plan (has_departure old.taken) (length old.flights.items) legs added.faultless)).joined;
+      });
+    }
 
 -- an itinerary's fault, or those of the later ones
 pub fault_more : (plan : Plan) (all : List (List Leg)) (i : ℕ) (legs : List Leg) (old : Flown) (o : Option FlightFault) → i < length all → legs ≡ get_or all i legs → IsFlown plan (take i all) old → fault_of plan (has_departure old.taken) (length old.flights.items) legs ≡ o → fault_after plan (take i all) (drop i all) ≡ option_or o (fault_after plan (take (i + 1) all) (drop (i + 1) all))
@@ -115,8 +154,8 @@ fault_more plan all i legs old o inside is flown e =
     let front : take (i + 1) all ≡ take i all ++ legs ∷ [] = take_more all i legs inside ∙ ap (λ y. take i all ++ y ∷ []) (sym is) in
     let same : has_departure old.taken ≡ is_taken plan (take i all) = λ j d. flown.taken d j in
     let here : fault_of plan (is_taken plan (take i all)) (length (flat_map (flights_of plan) (take i all))) legs ≡ o =
-      ap (λ (fs : List Flight). fault_of plan (is_taken plan (take i all)) (length fs) legs) (sym flown.flights)
-      ∙ ap (λ (t : Departure → Bool). fault_of plan t (length old.flights.items) legs) (sym same) ∙ e in
+    ap (λ (fs : List Flight). fault_of plan (is_taken plan (take i all)) (length fs) legs) (sym flown.flights)
+    ∙ ap (λ (t : Departure → Bool). fault_of plan t (length old.flights.items) legs) (sym same) ∙ e in
     ap (fault_after plan (take i all)) (drop_step all i legs inside is)
     ∙ ap (λ x. option_or x (fault_after plan (take i all ++ legs ∷ []) (drop (i + 1) all))) here
     ∙ ap (λ earlier. option_or o (fault_after plan earlier (drop (i + 1) all))) (sym front)
@@ -125,10 +164,12 @@ fault_more plan all i legs old o inside is flown e =
 
 pub flown_none : (plan : Plan) (flown : Flown) → flown.flights.items ≡ [] → flown.taken.keys ≡ [] → IsFlown plan [] flown
 flown_none plan flown flights taken = record {
-    flights = flights;
-    taken = λ d. ap (list_any (same_departure d)) taken;
-    few = subst (λ (fs : List Flight). length fs ≤ plan.most) (sym flights) (omega arith);
-    short = subst (λ (fs : List Flight). All (λ f. length f.legs ≤ 8) fs) (sym flights) (All-nil (λ f. length f.legs ≤ 8)) }
+  flights = flights;
+  taken = λ d. ap (list_any (same_departure d)) taken;
+  few = subst (λ (fs : List Flight). length fs ≤ plan.most) (sym flights) (omega arith);
+  short = subst (λ (fs : List Flight). All (λ f. length f.legs ≤ 8) fs) (sym flights) (All-nil (λ f. length f.legs ≤ 8));
+  joined = subst (λ (fs : List Flight). AreJoined fs) (sym flights) (record { joined = All-nil (λ f. IsTrue (joins_up f.legs)) });
+}
 
 drop_past : {A : Type 0} (xs : List A) (i : ℕ) → length xs ≤ i → drop i xs ≡ []
 drop_past [] zero past = refl
@@ -151,7 +192,7 @@ pub itineraries_right : (P : Leg → Type 0) (legs : List Leg) → All P legs �
 unfolding itineraries
 itineraries_right P legs all =
     All-map (All P) (legs_of legs) (names_after [] legs)
-      (λ k d h. All-filter (λ leg. same_name (get_or (names_after [] legs) k d) (name_of leg)) P legs all)
+    (λ k d h. All-filter (λ leg. same_name (get_or (names_after [] legs) k d) (name_of leg)) P legs all)
 
 -- a refusal of the next itinerary is the first fault
 pub refusal_first : (plan : Plan) (all : List (List Leg)) (i : ℕ) (legs : List Leg) (old : Flown) (fault : FlightFault) → i < length all → legs ≡ get_or all i legs → IsFlown plan (take i all) old → first_fault plan all ≡ fault_after plan (take i all) (drop i all) → IsRefusal fault (fault_of plan (has_departure old.taken) (length old.flights.items) legs) → IsRefusal fault (first_fault plan all)

@@ -82,15 +82,21 @@ leg_right airline text leg is =
     let offset = offset_right _ leg.offset is.offset in
     let shift = shift_right _ leg.shift is.shift in
     record {
-      from = from; to = until_right leg.from _ leg.to from.lasts is.to; std = is.std.1;
-      early = offset.0; late = offset.1; earlier = shift.0; later = shift.1 }
+      from = from;
+      to = until_right leg.from _ leg.to from.lasts is.to;
+      std = is.std.1;
+      early = offset.0;
+      late = offset.1;
+      earlier = shift.0;
+      later = shift.1;
+    }
 
 body_right : (airline : List ℕ) (before : ℕ) (texts : List (List ℕ)) (legs : List Leg) (segments : ℕ) → IsBody airline before texts legs segments → All IsRightLeg legs
 body_right airline before [] legs segments h = subst (λ (l : List Leg). All IsRightLeg l) (sym h.0) (All-nil IsRightLeg)
 body_right airline before (text ∷ texts) legs segments h =
     ⊎_elim
-      (λ p. subst (λ (l : List Leg). All IsRightLeg l) (sym p.4) (All-cons IsRightLeg p.0 p.1 (leg_right airline text p.0 p.2) (body_right airline (before + 1) texts p.1 segments p.5)))
-      (λ p. body_right airline (before + 1) texts legs p.0 p.3) h
+    (λ p. subst (λ (l : List Leg). All IsRightLeg l) (sym p.4) (All-cons IsRightLeg p.0 p.1 (leg_right airline text p.0 p.2) (body_right airline (before + 1) texts p.1 segments p.5)))
+    (λ p. body_right airline (before + 1) texts legs p.0 p.3) h
 
 pub right_carrier : (most : ℕ) (bytes : List ℕ) (set : DataSet) → IsDataSet most bytes set → IsRightCarrier set.carrier
 right_carrier most bytes set is = record { to = end_right _ _ set.carrier.to is.is_carrier.to }

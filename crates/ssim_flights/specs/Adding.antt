@@ -6,6 +6,7 @@ use Rattle.ssim_flights.specs.declared.adding.Flown.{Flown}
 use Rattle.ssim_flights.specs.declared.flown.Departure.{Departure}
 use Rattle.ssim_flights.specs.declared.plan.Plan.{Plan}
 use Rattle.ssim_flights.specs.declared.schedule.Scheduled.{Scheduled}
+use Rattle.ssim_flights.specs.Few.{AreJoined}
 use Rattle.ssim_flights.specs.Flown.{days_fault, departures_of, departures_on, fault_of, flights_of, is_taken}
 use Rattle.ssim_flights.specs.Schedules.{flights_on}
 use Rattle.ssim_flights.specs.Taken.{has_departure, Takes}
@@ -28,3 +29,4 @@ pub record IsFlown (plan : Plan) (earlier : List (List Leg)) (flown : Flown) : T
   pub taken : (d : Departure) → has_departure flown.taken d ≡ is_taken plan earlier d
   pub few : length flown.flights.items ≤ plan.most
   pub short : All (λ f. length f.legs ≤ 8) flown.flights.items
+  pub joined : AreJoined flown.flights.items

@@ -75,7 +75,7 @@ abbrev pub fault_after : Plan → List (List Leg) → List (List Leg) → Option
 fault_after plan earlier [] = None
 fault_after plan earlier (legs ∷ more) =
     option_or (fault_of plan (is_taken plan earlier) (length (flat_map (flights_of plan) earlier)) legs)
-      (fault_after plan (earlier ++ legs ∷ []) more)
+    (fault_after plan (earlier ++ legs ∷ []) more)
 
 unfoldable pub first_fault : Plan → List (List Leg) → Option FlightFault
 first_fault plan all = fault_after plan [] all

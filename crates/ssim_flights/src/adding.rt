@@ -27,7 +27,12 @@ pub(crate) struct Flown {
 }
 
 /// Adds the flights of an itinerary.
-pub(crate) fn add(alloc: Global, plan: &Plan, legs: &[Leg], flown: &mut Flown) -> Result<(), FlightFault>
+pub(crate) fn add(
+    alloc: Global,
+    plan: &Plan,
+    legs: &[Leg],
+    flown: &mut Flown,
+) -> Result<(), FlightFault>
     requires right { All IsRightLeg legs.now }
     requires end { plan.now.end ≤ 47846 }
     ensures ok { OnOk result (IsAdded plan.now legs.now flown.old flown.new) }
@@ -76,7 +81,14 @@ fn add_chain(
     let Some((first, _rest)) = chained.split_first() else {
         return Ok(());
     };
-    fly_all(alloc, &mut flown.flights, plan, &first.leg, chained, indices)?;
+    fly_all(
+        alloc,
+        &mut flown.flights,
+        plan,
+        &first.leg,
+        chained,
+        indices,
+    )?;
     take_all(&mut flown.taken, first, indices)?;
     Ok(())
 }
@@ -152,7 +164,12 @@ fn too_many_legs(legs: &[Leg], chained: &[Scheduled]) -> Option<u32>
 
 /// The serial of leg 1, where these flights and the earlier ones are more than there may be.
 #[tactic(auto, using(crate::proofs::Chaining::too_many_is))]
-fn too_many_flights(plan: &Plan, count: usize, chained: &[Scheduled], indices: &[usize]) -> Option<u32>
+fn too_many_flights(
+    plan: &Plan,
+    count: usize,
+    chained: &[Scheduled],
+    indices: &[usize],
+) -> Option<u32>
     requires indices { indices.now ≡ rows plan.now chained.now }
     requires small { count < 2 ^ 63 }
     ensures { result ≡ leg_one_if (nat_lt plan.now.most (count + length (flights_on plan.now chained.now))) chained.now }

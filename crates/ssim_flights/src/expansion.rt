@@ -45,7 +45,10 @@ pub fn expand(
     for legs in all.as_slice() {
         add(alloc, &plan, legs.as_slice(), &mut flown)?;
     }
-    let Flown { flights, taken: _taken } = flown;
+    let Flown {
+        flights,
+        taken: _taken,
+    } = flown;
     let flights = Flights::of(alloc, flights)?;
     Ok(flights)
 }

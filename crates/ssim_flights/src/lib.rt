@@ -6,7 +6,6 @@ mod adding;
 mod chain;
 mod days;
 mod expansion;
-
 mod fault;
 mod flight;
 mod flights;
@@ -17,6 +16,8 @@ mod leg_list;
 mod plan;
 mod rows;
 mod schedule;
+#[cfg(test)]
+mod tests;
 
 pub use days::{Days, operating_days};
 pub use expansion::expand;

@@ -11,7 +11,7 @@ pub take_all-requires : goal.take_all-requires
 take_all-requires c =
     let parts : c.args.chained.now ≡ c.in-Some-split_first.first.now ∷ c.in-Some-split_first._rest.now = search rules in
     reach_first c.in-Some-split_first.first.now c.in-Some-split_first._rest.now c.args.chained.now c.as_slice-indices.result.now parts
-      (reach_from c.args.plan.now c.args.chained.now c.as_slice-indices.result.now (c.as_slice-indices.ensures.value ∙ c.in_ok-list.ensures))
+    (reach_from c.args.plan.now c.args.chained.now c.as_slice-indices.result.now (c.as_slice-indices.ensures.value ∙ c.in_ok-list.ensures))
 
 pub returns-in_default-split_first-clause-ok : goal.returns-in_default-split_first-clause-ok
 returns-in_default-split_first-clause-ok c =
@@ -23,4 +23,4 @@ pub returns-clause-ok : goal.returns-clause-ok
 returns-clause-ok c =
     let parts : c.args.chained.now ≡ c.in-Some-split_first.first.now ∷ c.in-Some-split_first._rest.now = search rules in
     added_rows c.args.plan.now c.args.legs.now c.in-Some-split_first.first.now c.in-Some-split_first._rest.now c.args.chained.now c.as_slice-indices.result.now c.args.flown.now _ parts
-      (c.as_slice-indices.ensures.value ∙ c.in_ok-list.ensures) (sym c.days_fault.ensures ∙ c.in_default.is) c.in_ok-fly_all.ensures c.in_ok-take_all.ensures
+    (c.as_slice-indices.ensures.value ∙ c.in_ok-list.ensures) (sym c.days_fault.ensures ∙ c.in_default.is) c.in_ok-fly_all.ensures c.in_ok-take_all.ensures

@@ -8,11 +8,11 @@ returns-then-count-indices c =
     let first = c.in-Some.first.now in
     let parts : c.args.chained.now ≡ first ∷ c.in-Some._rest.now = search rules in
     sym (too_many_is c.args.plan.now c.args.count first c.in-Some._rest.now c.args.chained.now c.args.indices.now parts c.requires.indices
-      ∙ ap (λ (b : Bool). cond b (Some first.leg.serial) None) (lt-ltb c.args.plan.now.most (c.args.count + length c.args.indices.now) (omega arith)))
+    ∙ ap (λ (b : Bool). cond b (Some first.leg.serial) None) (lt-ltb c.args.plan.now.most (c.args.count + length c.args.indices.now) (omega arith)))
 
 pub returns-else-count-indices : goal.returns-else-count-indices
 returns-else-count-indices c =
     let first = c.in-Some.first.now in
     let parts : c.args.chained.now ≡ first ∷ c.in-Some._rest.now = search rules in
     sym (too_many_is c.args.plan.now c.args.count first c.in-Some._rest.now c.args.chained.now c.args.indices.now parts c.requires.indices
-      ∙ ap (λ (b : Bool). cond b (Some first.leg.serial) None) (le-ltb c.args.plan.now.most (c.args.count + length c.args.indices.now) (omega arith)))
+    ∙ ap (λ (b : Bool). cond b (Some first.leg.serial) None) (le-ltb c.args.plan.now.most (c.args.count + length c.args.indices.now) (omega arith)))

@@ -13,11 +13,11 @@ returns-then-is_taken c =
     let first = c.in-Some.first.now in
     let parts : c.args.chained.now ≡ first ∷ c.in-Some._rest.now = search rules in
     sym (twice_is c.args.plan.now (has_departure c.args.taken.now) first c.in-Some._rest.now c.args.chained.now c.args.indices.now c.is_taken.result parts c.requires c.is_taken.ensures
-      ∙ ap (λ (b : Bool). cond b (Some first.leg.serial) None) c.if-is_taken.true)
+    ∙ ap (λ (b : Bool). cond b (Some first.leg.serial) None) c.if-is_taken.true)
 
 pub returns-else-is_taken : goal.returns-else-is_taken
 returns-else-is_taken c =
     let first = c.in-Some.first.now in
     let parts : c.args.chained.now ≡ first ∷ c.in-Some._rest.now = search rules in
     sym (twice_is c.args.plan.now (has_departure c.args.taken.now) first c.in-Some._rest.now c.args.chained.now c.args.indices.now c.is_taken.result parts c.requires c.is_taken.ensures
-      ∙ ap (λ (b : Bool). cond b (Some first.leg.serial) None) c.if-is_taken.false)
+    ∙ ap (λ (b : Bool). cond b (Some first.leg.serial) None) c.if-is_taken.false)

@@ -33,9 +33,9 @@ returns-in_err-add-clause-fault c =
     let items : c.as_slice-legs-items.result.now ≡ itineraries c.args.set.now.legs = c.as_slice-legs-items.ensures ∙ c.in_ok-all.ensures ∙ ap itineraries c.as_slice.ensures in
     let p = err_from_is_err_and c.from_residual-in_err-add.result c.from_residual-in_err-add.ensures.1 in
     rw (p.1, p.2) (same_refusal c.plan_of-plan.result _ c.as_slice-legs-items.result.now _ _ c.plan_of-plan.ensures items
-      (refusal_first c.plan_of-plan.result c.as_slice-legs-items.result.now c.loop-legs.legs-index c.as_slice-in-loop-legs.result.now c.loop-legs.flown _ (omega arith)
-        (named c.as_slice-legs-items.result.now c.loop-legs.legs-index c.legs-item.result c.as_slice-in-loop-legs.result.now c.as_slice-in-loop-legs.ensures c.legs-item.is)
-        c.loop-legs.invariant.0 c.loop-legs.invariant.1 c.in_err-add.ensures.fault))
+    (refusal_first c.plan_of-plan.result c.as_slice-legs-items.result.now c.loop-legs.legs-index c.as_slice-in-loop-legs.result.now c.loop-legs.flown _ (omega arith)
+    (named c.as_slice-legs-items.result.now c.loop-legs.legs-index c.legs-item.result c.as_slice-in-loop-legs.result.now c.as_slice-in-loop-legs.ensures c.legs-item.is)
+    c.loop-legs.invariant.0 c.loop-legs.invariant.1 c.in_err-add.ensures.fault))
 
 pub loop-legs-preserved : goal.loop-legs-preserved
 loop-legs-preserved c =
@@ -43,13 +43,17 @@ loop-legs-preserved c =
     let all = c.as_slice-legs-items.result.now in
     let i = c.loop-legs.legs-index in
     let legs = c.as_slice-in-loop-legs.result.now in
-    let is = named all i c.legs-item.result legs c.as_slice-in-loop-legs.ensures c.legs-item.is in
-    (flown_more plan all i legs c.loop-legs.flown c.add.new.flown (omega arith) is c.loop-legs.invariant.0 c.in_ok-add.ensures.ok,
-     c.loop-legs.invariant.1 ∙ fault_more plan all i legs c.loop-legs.flown None (omega arith) is c.loop-legs.invariant.0 c.in_ok-add.ensures.ok.faultless)
+    let is = named all i c.legs-item.result legs c.as_slice-in-loop-legs.ensures c.legs-item.is in (
+      flown_more plan all i legs c.loop-legs.flown c.add.new.flown (omega arith) is c.loop-legs.invariant.0 c.in_ok-add.ensures.ok,
+      c.loop-legs.invariant.1 ∙ fault_more plan all i legs c.loop-legs.flown None (omega arith) is c.loop-legs.invariant.0 c.in_ok-add.ensures.ok.faultless,
+    )
 
-pub of-requires : goal.of-requires
+pub of-requires-clause-joined : goal.of-requires-clause-joined
+of-requires-clause-joined c = c.loop-legs.invariant.0.joined
+
+pub of-requires-clause-few : goal.of-requires-clause-few
 unfolding plan_of
-of-requires c =
+of-requires-clause-few c =
     let most : c.plan_of-plan.result.most ≡ c.args.most = ap (λ (p : Plan). p.most) c.plan_of-plan.ensures in
     let high = c.requires.most in
     few_all c.plan_of-plan.result _ c.loop-legs.flown (omega arith) c.loop-legs.invariant.0
