@@ -46,6 +46,10 @@ IsRefusedJournal grid _ bytes = ⊥
 abbrev pub IsUnaudited : Legs → List ℕ → Type 0
 IsUnaudited grid bytes = (line : List ℕ) → IsAudited grid bytes line → ⊥
 
+pub record IsUnlawful (grid : Legs) (fault : DeskFault) (bytes : List ℕ) : Type 0 where
+  pub refused : IsRefusedJournal grid fault bytes
+  pub none : IsUnaudited grid bytes
+
 -- the desk's fault for one of the text, and for one of the replay
 abbrev pub journal_fault_of : JournalKind → JournalFault → DeskFault
 journal_fault_of journal_kinds.Memory fault = Memory

@@ -9,7 +9,6 @@ use Rattle.ssim_flights.specs.Schedules.{plan_of}
 use Rattle.ssim_flights.specs.declared.fault.FlightFault.{FlightFault}
 use Rattle.ssim_flights.specs.declared.fault.FlightKind.{FlightKind}
 use Rattle.ssim_flights.specs.declared.fault.FlightKind.TheVariants as flight_kinds
-use Rattle.ssim_flights.specs.declared.plan.Plan.{Plan}
 use Rattle.ssim_flights.specs.declared.flight.DatedLeg.{DatedLeg}
 use Rattle.ssim_flights.specs.declared.flight.Flight.{Flight as Flown}
 use Rattle.seat_desk.specs.CheckDesk.{IsRefusedSet, most_records}
@@ -60,21 +59,25 @@ pub record IsLinePut (index : ℕ) (flight : Flown) (old new : List ℕ) : Type 
 abbrev pub most_flights : ℕ
 most_flights = 100_000
 
-abbrev pub plan_for : DataSet → ℕ → ℕ → Plan
-plan_for set first days = plan_of set.carrier first days most_flights
+-- the dated flights of a data set on these days, and the first fault of its itineraries
+abbrev pub set_flights : DataSet → ℕ → ℕ → List Flown
+set_flights set first days = dated_flights (plan_of set.carrier first days most_flights) (itineraries set.legs)
+
+abbrev pub flights_fault : DataSet → ℕ → ℕ → Option FlightFault
+flights_fault set first days = first_fault (plan_of set.carrier first days most_flights) (itineraries set.legs)
 
 -- the bytes are a data set whose itineraries have no fault on these days, and these are its dated flights
 pub record IsSchedule (bytes : List ℕ) (first days : ℕ) (flights : List Flown) : Type 0 where
   pub set : DataSet
   pub is_set : IsDataSet most_records bytes set
-  pub right : first_fault (plan_for set first days) (itineraries set.legs) ≡ None
-  pub are_flights : flights ≡ dated_flights (plan_for set first days) (itineraries set.legs)
+  pub right : flights_fault set first days ≡ None
+  pub are_flights : flights ≡ set_flights set first days
 
 -- the bytes are a data set with this fault
 pub record HasFlightFault (bytes : List ℕ) (first days : ℕ) (fault : FlightFault) : Type 0 where
   pub set : DataSet
   pub is_set : IsDataSet most_records bytes set
-  pub wrong : first_fault (plan_for set first days) (itineraries set.legs) ≡ Some fault
+  pub wrong : flights_fault set first days ≡ Some fault
 
 -- the fault is the first: of the bytes, which are no data set, or of the itineraries
 abbrev pub IsRefusedSchedule : ℕ → ℕ → DeskFault → List ℕ → Type 0
@@ -93,6 +96,10 @@ expansion_fault fault = expansion_fault_of fault.kind fault
 -- and there are no flights
 abbrev pub HasNoSchedule : ℕ → ℕ → List ℕ → Type 0
 HasNoSchedule first days bytes = (flights : List Flown) → IsSchedule bytes first days flights → ⊥
+
+pub record IsUnscheduled (first days : ℕ) (fault : DeskFault) (bytes : List ℕ) : Type 0 where
+  pub refused : IsRefusedSchedule first days fault bytes
+  pub none : HasNoSchedule first days bytes
 
 -- the text is a line for each of the flights
 pub record IsListing (bytes : List ℕ) (first days : ℕ) (text : List ℕ) : Type 0 where

@@ -1,9 +1,9 @@
 //! `flights`: a data set on the dates of a horizon, and one line for each flight.
-ghost use Rattle.std.specs.Prelude.{◌≡◌, ◌≢◌, ◌++◌, ◌<◌, ◌≤◌, IfErr, IfOk, IfSome, OnOk, length};
+ghost use Rattle.std.specs.Prelude.{◌≡◌, ◌≢◌, ◌++◌, ◌<◌, ◌≤◌, ℕ, List, IfErr, IfOk, IfSome, OnOk, length};
 ghost use Rattle.ssim_flights.specs.Right.{IsOfCentury};
 ghost use Rattle.seat_desk.specs.CheckDesk.{most_bytes};
 ghost use Rattle.seat_desk.specs.Desk.{HasFailed, IsBegun, IsOfInput, IsWritten};
-ghost use Rattle.seat_desk.specs.FlightsDesk.{HasNoSchedule, IsFlightsText, IsLegText, IsLinePut, IsListing, IsPut, IsRefusedSchedule, IsSchedule, expansion_fault, head_text, suffix_text};
+ghost use Rattle.seat_desk.specs.FlightsDesk.{IsFlightsText, IsLegText, IsLinePut, IsListing, IsPut, IsSchedule, IsUnscheduled, expansion_fault, head_text, suffix_text};
 
 use crate::check::{MOST_BYTES, data_set};
 use crate::fault::DeskFault;
@@ -28,7 +28,7 @@ pub fn desk_flights<R: NotedRead, W: NotedWrite>(
     requires first { IsOfCentury first }
     requires days { (1 ≤ days) × (days ≤ 366) }
     ensures ok { OnOk result (IfSome (R.remaining input.old) (λ xs. (length xs ≤ most_bytes) × IsWritten (IsListing xs first days) (W.contents out.old) (W.contents out.new))) }
-    ensures fault { IfErr result (λ f. IsOfInput f → IfSome (R.remaining input.old) (λ xs. IsRefusedSchedule first days f xs × HasNoSchedule first days xs)) }
+    ensures fault { IfErr result (λ f. IsOfInput f → IfSome (R.remaining input.old) (λ xs. IsUnscheduled first days f xs)) }
     ensures large { IfErr result (λ f. f ≡ DeskFault.TooLarge → IfSome (R.remaining input.old) (λ xs. most_bytes < length xs)) }
     ensures device { IfErr result (λ f. f ≡ DeskFault.Device → HasFailed (R.failure_count input.old) (R.failure_count input.new) (W.failure_count out.old) (W.failure_count out.new)
         (out.new ≡ out.old) (IfSome (R.remaining input.old) (λ xs. IsBegun (IsListing xs first days) (W.contents out.old) (W.contents out.new)))) }
@@ -48,7 +48,7 @@ fn listing(alloc: Global, bytes: &[u8], first: Day, days: u16) -> Result<Vec<u8>
     requires first { IsOfCentury first }
     requires days { (1 ≤ days) × (days ≤ 366) }
     ensures ok { IfOk result (λ text. IsListing bytes.now first days text.items) }
-    ensures fault { IfErr result (λ f. f ≢ DeskFault.Memory → IsRefusedSchedule first days f bytes.now × HasNoSchedule first days bytes.now) }
+    ensures fault { IfErr result (λ f. f ≢ DeskFault.Memory → IsUnscheduled first days f bytes.now) }
     ensures kind { IfErr result (λ f. (f ≢ DeskFault.Device) × (f ≢ DeskFault.TooLarge)) }
 {
     let flights = scheduled(alloc, bytes, first, days)?;
@@ -59,16 +59,19 @@ fn listing(alloc: Global, bytes: &[u8], first: Day, days: u16) -> Result<Vec<u8>
 }
 
 /// The dated flights of the data set that these bytes are.
-#[tactic(auto, using(crate::proofs::Schedules::no_set, crate::proofs::Schedules::refused_expansion))]
+#[tactic(auto, using(ssim_flights::proofs::RightSets::right_carrier, ssim_flights::proofs::RightSets::right_legs))]
 pub fn scheduled(alloc: Global, bytes: &[u8], first: Day, days: u16) -> Result<Flights, DeskFault>
     requires size { length bytes.now ≤ most_bytes }
     requires first { IsOfCentury first }
     requires days { (1 ≤ days) × (days ≤ 366) }
     ensures ok { IfOk result (IsSchedule bytes.now first days) }
-    ensures fault { IfErr result (λ f. f ≢ DeskFault.Memory → IsRefusedSchedule first days f bytes.now × HasNoSchedule first days bytes.now) }
+    ensures fault { IfErr result (λ f. f ≢ DeskFault.Memory → IsUnscheduled first days f bytes.now) }
     ensures kind { IfErr result (λ f. (f ≢ DeskFault.Device) × (f ≢ DeskFault.TooLarge)) }
 {
-    let set = data_set(alloc, bytes)?;
+    let set = match data_set(alloc, bytes) {
+        Ok(set) => set,
+        Err(fault) => return Err(fault),
+    };
     match expand(alloc, &set, first, days, MOST_FLIGHTS) {
         Ok(flights) => Ok(flights),
         Err(fault) => Err(of_expansion(fault)),
