@@ -12,6 +12,7 @@ mod limit_reading;
 mod limit_row;
 mod lines;
 mod row_fields;
+mod row_index;
 mod row_reading;
 
 pub use counts::Counts;
