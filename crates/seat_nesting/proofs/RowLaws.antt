@@ -74,11 +74,21 @@ assemble line head airline number period from second to pair board off entries l
     let t10 = fixed_takes 3 is_station board.1 off.0 off.1 e10 in
     let t11 = blank_takes off.1 entries e11 in
     record {
-      number = t2.digits; from = t5.text; to = t7.text; entries = entries;
+      number = t2.digits;
+      from = t5.text;
+      to = t7.text;
+      entries = entries;
       written = joined line airline.0 t2.digits (suffix_text (suffix_at number.1).0) t5.text t7.text board.0 off.0 entries head airline.1 number.1 (suffix_at number.1).1 period from.1 second to.1 pair board.1 t0 t1.0 t2.written t3.written t4 t5.written t6 t7.written t8 t9.0 (t10.0 ∙ ap (λ (x : List ℕ). off.0 ++ x) t11);
-      is_airline = t1.1; is_number = t2.is_number; is_suffix = t3.letter; is_from = t5.is_day; is_to = t7.is_day;
-      in_order = leb-true from.0 to.0 e8; is_board = t9.1; is_off = t10.1;
-      spells_ladder = ladder_spelled entries ladder e12; is_ladder = is;
+      is_airline = t1.1;
+      is_number = t2.is_number;
+      is_suffix = t3.letter;
+      is_from = t5.is_day;
+      is_to = t7.is_day;
+      in_order = leb-true from.0 to.0 e8;
+      is_board = t9.1;
+      is_off = t10.1;
+      spells_ladder = ladder_spelled entries ladder e12;
+      is_ladder = is;
     }
 
 -- ---- no fault of a row is want of memory

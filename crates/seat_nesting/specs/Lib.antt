@@ -1,4 +1,6 @@
+pub mod Authorised
 pub mod Counting
+pub mod FaultText
 pub mod LadderText
 pub mod Ladders
 pub mod LimitRows

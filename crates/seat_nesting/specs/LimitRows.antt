@@ -90,8 +90,14 @@ row_at line = do
   entries ← want kinds.Entry (blank_at off.1)
   ladder ← ladder_in entries
   Ok (record {
-    airline = airline.0; number = number.0; suffix = (suffix_at number.1).0; from = from.0; to = to.0;
-    board = board.0; off = off.0; ladder = ladder
+    airline = airline.0;
+    number = number.0;
+    suffix = (suffix_at number.1).0;
+    from = from.0;
+    to = to.0;
+    board = board.0;
+    off = off.0;
+    ladder = ladder;
   })
 
 abbrev pub row_then : ℕ → Result LimitRow LimitKind → Result (List LimitRow) LimitFault → Result (List LimitRow) LimitFault
