@@ -35,3 +35,6 @@ pub use replaying::replay;
 pub use request::{Request, Wish};
 pub use seat_journal::{Advice, Advices, Command, Entry};
 pub use totals::Totals;
+
+#[cfg(test)]
+mod tests;
