@@ -51,6 +51,13 @@ steps_of ladder = unwrap_or ladder []
 abbrev pub steps_at : List Steps → ℕ → Steps
 steps_at legs leg = unwrap_or (slice_get legs leg) []
 
+-- the steps of a leg: a ladder, or none
+pub record IsLegLadder (steps : Steps) : Type 0 where
+  pub most : length steps ≤ 26
+  pub distinct : IsDistinct steps
+  pub not_rising : IsNotRising steps
+  pub bounded : AllByRecursion (λ s. (s.limit ≤ 999) × (s.wait ≤ 999)) steps
+
 abbrev pub legs_of : Legs → ℕ → List Steps
 legs_of grid flight = unwrap_or (slice_get grid flight) []
 
@@ -90,6 +97,14 @@ least f from (suc n) = min (least f from n) (f (from + suc n))
 -- the seats held by flight, leg and class
 abbrev pub Table : Type 0
 Table = ℕ → ℕ → ByClass
+
+-- the place covers the leg
+abbrev pub covers : ℕ → ℕ → Place → Bool
+covers flight leg place = (place.flight == flight) && nat_le place.from leg && nat_le leg place.to
+
+-- n seats on each leg of a place in a class
+abbrev pub seats_at : Place → ℕ → ℕ → Table
+seats_at place class n flight leg k = (if covers flight leg place && (class == k) then n else 0)
 
 -- Room(place, class): the least over the legs of the place
 abbrev pub room : Legs → Table → Place → ℕ → ℕ

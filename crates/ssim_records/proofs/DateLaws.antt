@@ -1,5 +1,5 @@
 -- A date that is read is written so, and what is written so is read.
-use Rattle.std.proofs.Common.{inl, inr, ◌≡◌, ℕ, zero, suc, ◌+◌, ◌-◌, ◌*◌, ◌/◌, ◌%◌, ◌<◌, ◌≤◌, Bool, true, false, cond, leb, eqb, ◌&&◌, ◌||◌, List, [], ◌∷◌, ◌++◌, Option, Some, None, refl, sym, ap, ◌∙◌, arith, ℤ, pos, negsuc, ◌≤ℤ◌, unsigned_abs}
+use Rattle.std.proofs.Common.{inl, inr, ◌≡◌, ℕ, zero, suc, ◌+◌, ◌-◌, ◌*◌, ◌/◌, ◌%◌, ◌<◌, ◌≤◌, Bool, true, false, cond, leb, eqb, ◌&&◌, ◌||◌, List, [], ◌∷◌, ◌++◌, Option, Some, None, refl, sym, ap, subst, ◌∙◌, arith, ℤ, pos, negsuc, ◌≤ℤ◌, unsigned_abs}
 use Rattle.std.specs.Prelude.{IsSome, IfSome}
 use Rattle.std.specs.Char.{is_ascii_digit}
 use Rattle.std.proofs.lemmas.Bool.{eqb-true}
@@ -7,8 +7,8 @@ use Rattle.std.proofs.lemmas.Bool.Decides.{nat_tests}
 use Rattle.jiff_core.specs.Calendar.{days_from_civil, days_in_month, IsCivilDate}
 use Rattle.jiff_core.proofs.SignedLemmas.{signed_arith}
 use Rattle.ssim_records.specs.Fields.{two_are, two_value, month_of}
-use Rattle.ssim_records.specs.Days.{IsDate, IsDayField, two_digits, month_name, is_civil, civil_in, dated, date_in}
-use Rattle.ssim_records.proofs.Years.{low_day}
+use Rattle.ssim_records.specs.Days.{day_month, IsCenturyDay, ReadIsWritten, WrittenIsRead, OneDateText, IsDate, IsDayField, two_digits, month_name, is_civil, civil_in, dated, date_in}
+use Rattle.ssim_records.proofs.Years.{low_day, low_century, high_century, from_2000, until_2099, same_parts}
 use Rattle.ssim_records.proofs.Tests.{passed, guarded, chosen, kept, both_true, both_are, none_some, nothing}
 
 -- ---- two digits
@@ -192,3 +192,51 @@ date_again text n h =
     let civil = h.date.0 in
     let day : h.day < 100 = short_month _ h.month h.day civil.2.1 in
     ap date_in h.written ∙ date_of h.day h.month h.year (month_name h.month) day h.century (month_again h.month civil.1.0 civil.1.1) ∙ civil_again (2000 + h.year) h.month h.day n h.date
+
+-- ---- the form and its reading
+
+pub century : (text : List ℕ) (n : ℕ) → IsDayField text n → IsCenturyDay n
+century text n h =
+    let small : h.year < 100 = h.century in
+    let low = low_century (pos (2000 + h.year)) h.month h.day h.date.0 (omega (arith, signed_arith)) in
+    let high = high_century (pos (2000 + h.year)) h.month h.day h.date.0 (omega (arith, signed_arith, small)) in
+    (omega (arith, signed_arith, low, h.date.1), omega (arith, signed_arith, high, h.date.1))
+
+shorten : (year : ℕ) → year < 100 → (2000 + year) % 100 ≡ year
+shorten year h = omega arith
+
+pub read_is_written : ReadIsWritten
+read_is_written n text e =
+    let h = date_takes text n e in (
+      century text n h,
+      record {
+        year = 2000 + h.year;
+        month = h.month;
+        day = h.day;
+        date = h.date;
+        written = h.written ∙ ap (λ (y : ℕ). day_month h.day h.month ++ two_digits y) (sym (shorten h.year h.century));
+      },
+    )
+
+pub written_is_read : WrittenIsRead
+written_is_read n text c h =
+    let low : 2000 ≤ h.year = by_pos 2000 h.year (from_2000 (pos h.year) h.month h.day h.date.0 (omega (arith, signed_arith, c.0, h.date.1))) in
+    let high : h.year ≤ 2099 = by_pos h.year 2099 (until_2099 (pos h.year) h.month h.day h.date.0 (omega (arith, signed_arith, c.1, h.date.1))) in
+    let year : h.year ≡ 2000 + (h.year - 2000) = omega (arith, low) in
+    let short : h.year % 100 ≡ h.year - 2000 = omega (arith, low, high) in
+    date_again text n (record {
+      year = h.year - 2000;
+      month = h.month;
+      day = h.day;
+      date = subst (λ (y : ℕ). IsDate y h.month h.day n) year h.date;
+      century = omega (arith, high);
+      written = h.written ∙ ap (λ (y : ℕ). day_month h.day h.month ++ two_digits y) short;
+    })
+  where
+    by_pos : (a b : ℕ) → pos a ≤ℤ pos b → a ≤ b
+    by_pos a b le = omega (arith, signed_arith, le)
+
+pub one_date_text : OneDateText
+one_date_text n a b h k =
+    let p = same_parts h.year h.month h.day k.year k.month k.day n h.date k.date in
+    h.written ∙ ap (λ (y : ℕ). day_month h.day h.month ++ two_digits (y % 100)) p.0 ∙ ap (λ (m : ℕ). day_month h.day m ++ two_digits (k.year % 100)) p.1 ∙ ap (λ (d : ℕ). day_month d k.month ++ two_digits (k.year % 100)) p.2 ∙ sym k.written

@@ -151,6 +151,9 @@ leg_again airline text leg h =
 
 -- ---- the trailer's record
 
+serial_less : (reference before : ℕ) → eqb reference before ≡ true → reference ≡ before + 1 - 1
+serial_less reference before h = omega (arith, eqb-true reference before h)
+
 pub trailer_takes : (airline : List ℕ) (before : ℕ) (text : List ℕ) (u : Unit {0}) → IsTyped 53 text → trailer_at airline before text ≡ Ok u → IsTrailer airline (before + 1) text
 unfolding trailer_at
 trailer_takes airline before text u typed e =
@@ -161,7 +164,7 @@ trailer_takes airline before text u typed e =
     with_check kinds.BadCheck _ _ u k4 (λ e5 k5.
     with_check kinds.Continued _ _ u k5 (λ e6 k6.
     let last : more ≡ false = last_of more e6 in
-    let back : reference ≡ before + 1 - 1 = omega (arith, eqb-true reference before e5) in
+    let back : reference ≡ before + 1 - 1 = serial_less reference before e5 in
     record {
       typed = typed;
       own = subst (IsDesignator (field 3 5 text)) (same_takes own airline e4) (designator_takes (field 3 5 text) own e1);

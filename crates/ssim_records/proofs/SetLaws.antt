@@ -12,9 +12,12 @@ use Rattle.ssim_records.specs.declared.state.Phase.TheVariants.{Start, Open, Bod
 use Rattle.ssim_records.specs.declared.state.Reader.{Reader}
 use Rattle.ssim_records.specs.Bytes.{field, is_filler}
 use Rattle.ssim_records.specs.SetSteps.{◌>>=◌, type_of, taken, within, step, fresh, set_of, ReadsAs, header_step, carrier_step, body_step}
-use Rattle.ssim_records.specs.SetText.{IsCut, IsSix, IsTyped, IsCarrier, IsLeg, IsTrailer, IsBody, IsNumbered, IsDataSet}
+use Rattle.ssim_records.specs.SetText.{OneCut, OneDataSet, IsCut, IsSix, IsTyped, IsCarrier, IsLeg, IsTrailer, IsBody, IsNumbered, IsDataSet}
 use Rattle.ssim_records.proofs.Chains.{with_step}
 use Rattle.ssim_records.proofs.RecordLaws.{done, ok_is, with_leg, with_segment, closed, header_step_takes, header_step_again, carrier_step_takes, carrier_step_again, leg_step_takes, leg_step_again, segment_step_takes, segment_step_again, trailer_step_takes, trailer_step_again, typed_takes, typed_again, body_takes_one, body_leg, body_segment, body_trailer}
+use Rattle.ssim_records.proofs.Cuts.{cut_again}
+use Rattle.ssim_records.proofs.SetReaches.{one_set}
+use Rattle.std.proofs.lemmas.List.{length-append}
 use Rattle.ssim_records.proofs.SetRuns.{run, plain, cuts_of, reaches_of, within_takes, within_again, numbered_of, sieve}
 
 abbrev in_body : Carrier → ℕ → List Leg → ℕ → Reader
@@ -305,3 +308,47 @@ is_reads most bytes set h =
 pub is_found : (most : ℕ) (bytes : List ℕ) (r : Result DataSet SetFault) → IfOk r (ReadsAs most bytes) → IfOk r (IsDataSet most bytes)
 is_found most bytes (Ok set) h = reads_is most bytes set h
 is_found most bytes (Err f) h = tt
+
+-- ---- one data set at most
+
+more_records : (m n : ℕ) (bytes : List ℕ) (set : DataSet) → m ≤ n → IsDataSet m bytes set → IsDataSet n bytes set
+more_records m n bytes set le h =
+    let few : length h.body + 3 ≤ m = h.few in
+    record {
+      header = h.header;
+      others = h.others;
+      carrier = h.carrier;
+      body = h.body;
+      trailer = h.trailer;
+      cut = h.cut;
+      is_header = h.is_header;
+      order = h.order;
+      numbered = h.numbered;
+      is_carrier = h.is_carrier;
+      is_body = h.is_body;
+      begins = h.begins;
+      is_trailer = h.is_trailer;
+      few = omega (arith, few, le);
+    }
+
+pub one_data_set : OneDataSet
+one_data_set m n bytes a b h k =
+    one_set (m + n) bytes a b (is_reads (m + n) bytes a (more_records m (m + n) bytes a (omega arith) h)) (is_reads (m + n) bytes b (more_records n (m + n) bytes b (omega arith) k))
+
+-- ---- one cut at most
+
+no_bytes : (bytes text : List ℕ) (texts : List (List ℕ)) → bytes ≡ [] → IsCut bytes (text ∷ texts) → ⊥
+no_bytes bytes text texts none h =
+    let len : length bytes ≡ length text + length (h.0 ++ h.1) = ap length h.5 ∙ length-append text (h.0 ++ h.1) in
+    let zero_is : length bytes ≡ 0 = ap length none in
+    omega (arith, len, zero_is, h.2)
+
+pub one_cut : OneCut
+unfolding done
+one_cut bytes [] [] h k = refl
+one_cut bytes [] (y ∷ ys) h k = absurd (no_bytes bytes y ys h k)
+one_cut bytes (x ∷ xs) [] h k = absurd (no_bytes bytes x xs k h)
+one_cut bytes (x ∷ xs) (y ∷ ys) h k =
+    let same : ◌≡◌ {A = List ℕ × List ℕ} (x, h.1) (y, k.1) = ok_is {A = List ℕ × List ℕ} (x, h.1) (y, k.1) (sym (cut_again bytes x xs h) ∙ cut_again bytes y ys k) in
+    let rest : h.1 ≡ k.1 = ap (λ (p : List ℕ × List ℕ). p.1) same in
+    ap (λ (p : List ℕ × List ℕ). p.0 ∷ xs) same ∙ ap (λ (l : List (List ℕ)). y ∷ l) (one_cut k.1 xs ys (subst (λ (b : List ℕ). IsCut b xs) rest h.6) k.6)

@@ -37,6 +37,24 @@ pub high_day : (y : ℤ) (m d : ℕ) → IsCivilDate y m d → y ≤ℤ pos 2199
 high_day y m d date high =
     omega (arith, signed_arith, days_from_civil-day_count y m d, count_2200, day_count-lt_year y m d (pos 2200) 1 1 date (omega arith) (omega (arith, signed_arith)))
 
+-- 1 January 2000 is day 10957, and 31 December 2099 is day 47481
+count_2100 : day_count (pos 2100) 1 1 ≡ 4_419_435
+count_2100 = day_count-early (pos 2100) 12099 1 1 refl (omega arith) (omega arith) (omega arith)
+
+last_1999 : day_count (pos 1999) 12 31 ≡ 4_382_909
+last_1999 = day_count-late (pos 1999) 11999 12 31 refl (omega arith) (omega arith) (omega arith)
+
+date_1999 : IsCivilDate (pos 1999) 12 31
+date_1999 = search rules
+
+pub low_century : (y : ℤ) (m d : ℕ) → IsCivilDate y m d → pos 2000 ≤ℤ y → pos 10957 ≤ℤ days_from_civil y m d
+low_century y m d date low =
+    omega (arith, signed_arith, days_from_civil-day_count y m d, last_1999, day_count-lt_year (pos 1999) 12 31 y m d date_1999 date.2.0 (omega (arith, signed_arith)))
+
+pub high_century : (y : ℤ) (m d : ℕ) → IsCivilDate y m d → y ≤ℤ pos 2099 → days_from_civil y m d ≤ℤ pos 47481
+high_century y m d date high =
+    omega (arith, signed_arith, days_from_civil-day_count y m d, count_2100, day_count-lt_year y m d (pos 2100) 1 1 date (omega arith) (omega (arith, signed_arith)))
+
 pub low_year : (y : ℤ) (m d : ℕ) → IsCivilDate y m d → pos 10592 ≤ℤ days_from_civil y m d → pos 1999 ≤ℤ y
 low_year y m d date low = by_lt_z y (pos 1999)
     (λ lt. absurd (omega (arith, signed_arith, days_from_civil-day_count y m d, count_1999, day_count-lt_year y m d (pos 1999) 1 1 date (omega arith) lt)))
@@ -45,6 +63,25 @@ low_year y m d date low = by_lt_z y (pos 1999)
 pub high_year : (y : ℤ) (m d : ℕ) → IsCivilDate y m d → days_from_civil y m d ≤ℤ pos 84005 → y ≤ℤ pos 2199
 high_year y m d date high = by_lt_z (pos 2199) y
     (λ lt. absurd (omega (arith, signed_arith, days_from_civil-day_count y m d, last_2199, day_count-lt_year (pos 2199) 12 31 y m d date_2199 date.2.0 lt)))
+    (λ le. le)
+
+count_2000 : day_count (pos 2000) 1 1 ≡ 4_382_910
+count_2000 = day_count-early (pos 2000) 11999 1 1 refl (omega arith) (omega arith) (omega arith)
+
+last_2099 : day_count (pos 2099) 12 31 ≡ 4_419_434
+last_2099 = day_count-late (pos 2099) 12099 12 31 refl (omega arith) (omega arith) (omega arith)
+
+date_2099 : IsCivilDate (pos 2099) 12 31
+date_2099 = search rules
+
+pub from_2000 : (y : ℤ) (m d : ℕ) → IsCivilDate y m d → pos 10957 ≤ℤ days_from_civil y m d → pos 2000 ≤ℤ y
+from_2000 y m d date low = by_lt_z y (pos 2000)
+    (λ lt. absurd (omega (arith, signed_arith, days_from_civil-day_count y m d, count_2000, day_count-lt_year y m d (pos 2000) 1 1 date (omega arith) lt)))
+    (λ le. le)
+
+pub until_2099 : (y : ℤ) (m d : ℕ) → IsCivilDate y m d → days_from_civil y m d ≤ℤ pos 47481 → y ≤ℤ pos 2099
+until_2099 y m d date high = by_lt_z (pos 2099) y
+    (λ lt. absurd (omega (arith, signed_arith, days_from_civil-day_count y m d, last_2099, day_count-lt_year (pos 2099) 12 31 y m d date_2099 date.2.0 lt)))
     (λ le. le)
 
 pos_inj : (m n : ℕ) → pos m ≡ pos n → m ≡ n

@@ -7,6 +7,10 @@ use Rattle.ssim_records.specs.Fields.{two_are, two_value, month_of}
 abbrev pub IsDay : ℕ → Type 0
 IsDay n = (10592 ≤ n) × (n ≤ 84005)
 
+-- from 1 January 2000 to 31 December 2099
+abbrev pub IsCenturyDay : ℕ → Type 0
+IsCenturyDay n = (10957 ≤ n) × (n ≤ 47481)
+
 -- the calendar has this day, and n is its number
 abbrev pub IsDate : ℕ → ℕ → ℕ → ℕ → Type 0
 IsDate year month day n = IsCivilDate (pos year) month day × (days_from_civil (pos year) month day ≡ pos n)
@@ -64,3 +68,17 @@ unfoldable pub date_in : List ℕ → Option ℕ
 date_in (t ∷ u ∷ a ∷ b ∷ c ∷ y ∷ z ∷ []) =
     if two_are t u && two_are y z then dated (two_value y z) (two_value t u) (month_of a b c) else None
 date_in _ = None
+
+-- ---- laws
+
+-- what is written of a day of the years 2000 to 2099 is read as that day
+abbrev pub WrittenIsRead : Type 0
+WrittenIsRead = (n : ℕ) (text : List ℕ) → IsCenturyDay n → IsDateText n text → date_in text ≡ Some n
+
+-- what is read as a day is what is written of it
+abbrev pub ReadIsWritten : Type 0
+ReadIsWritten = (n : ℕ) (text : List ℕ) → date_in text ≡ Some n → IsCenturyDay n × IsDateText n text
+
+-- a day is written in one way
+abbrev pub OneDateText : Type 0
+OneDateText = (n : ℕ) (a b : List ℕ) → IsDateText n a → IsDateText n b → a ≡ b

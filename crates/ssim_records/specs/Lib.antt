@@ -2,10 +2,12 @@ pub mod Bytes
 pub mod Counting
 pub mod Cut
 pub mod Days
+pub mod FaultText
 pub mod Fields
 pub mod Names
 pub mod Noting
 pub mod Reach
 pub mod RecordFields
+pub mod RightSet
 pub mod SetSteps
 pub mod SetText

@@ -140,3 +140,13 @@ pub record IsDataSet (most : ℕ) (bytes : List ℕ) (set : DataSet) : Type 0 wh
   pub begins : (text : List ℕ) (texts : List (List ℕ)) → body ≡ text ∷ texts → IsTyped 51 text
   pub is_trailer : IsTrailer set.carrier.airline (length body + 3) trailer
   pub few : length body + 3 ≤ most
+
+-- ---- laws
+
+-- no bytes can be cut in two ways
+abbrev pub OneCut : Type 0
+OneCut = (bytes : List ℕ) (a b : List (List ℕ)) → IsCut bytes a → IsCut bytes b → a ≡ b
+
+-- no bytes are two data sets
+abbrev pub OneDataSet : Type 0
+OneDataSet = (m n : ℕ) (bytes : List ℕ) (a b : DataSet) → IsDataSet m bytes a → IsDataSet n bytes b → a ≡ b

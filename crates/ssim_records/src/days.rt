@@ -12,7 +12,7 @@ use std::marker::Model;
 const DAYS_BEFORE_1970: u32 = 4_371_587;
 
 /// A day of the years 1999 to 2199, by its number from 1 January 1970.
-#[derive(Clone, Copy, Debug, PartialEq, Eq, PartialOrd, Ord)]
+#[derive(Clone, Copy, Debug, PartialEq, Eq, PartialOrd, Ord, Hash)]
 pub struct Day {
     number: u32,
 }
@@ -56,6 +56,14 @@ impl Day {
             }
             _ => None,
         }
+    }
+
+    /// The day with this number, counted from 1 January 1970.
+    pub fn numbered(number: u32) -> Self
+        requires { IsDay number }
+        ensures { result ≡ number }
+    {
+        Day { number }
     }
 
     /// Its number, counted from 1 January 1970.
@@ -118,5 +126,63 @@ fn month_letters(month: u8) -> [u8; 3]
         10 => *b"OCT",
         11 => *b"NOV",
         _ => *b"DEC",
+    }
+}
+
+#[cfg(test)]
+mod tests {
+    use super::*;
+
+    #[test]
+    fn days_of_the_calendar(rt: HostRuntime) {
+        // The numbers are whole days from 1970, as by 365 a year and the leap days between.
+        let rows: [(u16, u8, u8, Option<u32>); 12] = [
+            (1998, 12, 31, None),
+            (1999, 1, 1, Some(10_592)),
+            (2000, 1, 1, Some(10_957)),
+            (2000, 2, 29, Some(11_016)),
+            (2023, 2, 29, None),
+            (2024, 6, 15, Some(19_889)),
+            (2024, 6, 31, None),
+            (2024, 13, 1, None),
+            (2024, 0, 1, None),
+            (2100, 2, 29, None),
+            (2199, 12, 31, Some(84_005)),
+            (2200, 1, 1, None),
+        ];
+        for (year, month, day, want) in rows {
+            let found = Day::of(year, month, day);
+            assert_eq!(rt; found.map(|day| day.number()), want, "{year} {month} {day}");
+            if let Some(found) = &found {
+                assert_eq!(rt; found.parts(), (year, month, day));
+            }
+        }
+    }
+
+    #[test]
+    fn days_as_texts(rt: HostRuntime) {
+        let rows: [(&[u8], Option<u32>); 12] = [
+            (b"01JAN00", Some(10_957)),
+            (b"29FEB24", Some(19_782)),
+            (b"31DEC99", Some(47_481)),
+            (b"29FEB23", None),
+            (b"00JAN24", None),
+            (b"31APR24", None),
+            (b"01Jan24", None),
+            (b"1 JAN24", None),
+            (b"01JAN2", None),
+            (b"01JAN024", None),
+            (b"00XXX00", None),
+            (b"", None),
+        ];
+        for (text, want) in rows {
+            let found = Day::read(text);
+            assert_eq!(rt; found.map(|day| day.number()), want, "{text:?}");
+            if let Some(found) = &found {
+                assert_eq!(rt; found.bytes().as_slice(), text);
+            }
+        }
+        let beyond = Day::of(2199, 12, 31).map(|day| day.bytes());
+        assert_eq!(rt; beyond, Some(*b"31DEC99"));
     }
 }

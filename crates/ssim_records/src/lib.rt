@@ -6,7 +6,10 @@ mod carrier;
 mod counted;
 mod cut;
 mod days;
+#[cfg(test)]
+mod device_tests;
 pub mod fields;
+pub mod laws;
 mod memory;
 mod names;
 mod place;
@@ -16,6 +19,8 @@ mod records;
 mod set;
 mod set_fault;
 mod set_reading;
+#[cfg(test)]
+mod set_tests;
 mod state;
 mod steps;
 mod writing;

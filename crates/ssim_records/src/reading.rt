@@ -1,16 +1,37 @@
 // All bytes of a reader, up to a bound.
-ghost use Rattle.std.specs.Prelude.{◌≡◌, ℕ, ◌+◌, ◌<◌, ◌≤◌, List, length, ◌++◌, IfOk, IfErr, OnOk, OnErr, IfSome, true, false};
+ghost use Rattle.std.specs.Prelude.{◌≡◌, ◌≢◌, ℕ, ◌+◌, ◌<◌, ◌≤◌, List, length, ◌++◌, IfOk, IfErr, OnOk, OnErr, IfSome, true, false};
 ghost use Rattle.std.specs.Io.KnownBytes.{Consumes, IsAtEnd};
 ghost use Rattle.ssim_records.specs.Noting.{noted, GaveMore, Turned};
 
 use super::counted::NotedRead;
 use std::alloc::Global;
+use std::fmt;
 
-#[derive(Clone, Copy, PartialEq, Eq, Drop)]
+/// Why the bytes of a reader are not all there.
+#[derive(Clone, Copy, Debug, PartialEq, Eq)]
 pub enum ReadFault {
+    /// The reader failed. An interrupted read is a failure too.
     Device,
+    /// It gave more bytes than it may.
     TooLarge,
+    /// A growth was refused.
     Memory,
+}
+
+impl fmt::Display for ReadFault {
+    ghost use Rattle.std.specs.Prelude.{Some};
+    ghost use Rattle.ssim_records.specs.FaultText.{read_code_of};
+
+    ghost output = { λ fault. Some (read_code_of fault) };
+
+    /// The code, R1 to R3.
+    fn fmt<W: fmt::Write>(&self, f: &mut fmt::Formatter<W>) -> fmt::Result {
+        match self {
+            ReadFault::Device => f.write_str("R1"),
+            ReadFault::TooLarge => f.write_str("R2"),
+            ReadFault::Memory => f.write_str("R3"),
+        }
+    }
 }
 
 /// All the bytes that `reader` gives until its end, at most `max`.
@@ -22,6 +43,7 @@ pub fn read_all<R: NotedRead>(alloc: Global, reader: &mut R, max: u64) -> Result
     ensures device { IfErr result (λ f. f ≡ ReadFault.Device → R.failure_count reader.new ≡ noted (R.failure_count reader.old)) }
     ensures large { IfErr result (λ f. f ≡ ReadFault.TooLarge → IfSome (R.remaining reader.old) (λ xs. max < length xs)) }
     ensures counted { OnOk result (R.failure_count reader.new ≡ R.failure_count reader.old) }
+    ensures uncounted { IfErr result (λ f. f ≢ ReadFault.Device → R.failure_count reader.new ≡ R.failure_count reader.old) }
 {
     let mut bytes = Vec::new(alloc);
     while take_turn(reader, &mut bytes, max)? {}
@@ -34,6 +56,7 @@ fn take_turn<R: NotedRead>(reader: &mut R, bytes: &mut Vec<u8>, max: u64) -> Res
     ensures turned { IfOk result (Turned max (R.remaining reader.old) (R.remaining reader.new) bytes.old.items bytes.new.items) }
     ensures counted { OnOk result (R.failure_count reader.new ≡ R.failure_count reader.old) }
     ensures device { IfErr result (λ f. f ≡ ReadFault.Device → R.failure_count reader.new ≡ noted (R.failure_count reader.old)) }
+    ensures uncounted { IfErr result (λ f. f ≢ ReadFault.Device → R.failure_count reader.new ≡ R.failure_count reader.old) }
     ensures large { IfErr result (λ f. f ≡ ReadFault.TooLarge → GaveMore max (length bytes.old.items) (R.remaining reader.old)) }
 {
     let mut piece = [0u8; 4096];

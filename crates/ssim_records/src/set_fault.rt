@@ -1,27 +1,71 @@
+//! Why bytes are no data set.
 ghost use Rattle.std.specs.Prelude.{◌≡◌};
 ghost use Rattle.ssim_records.specs.declared.set_fault.SetKind.TheVariants.{Memory};
 
 use std::alloc::AllocError;
+use std::fmt;
 
-/// What is wrong with a record.
+/// What is wrong with a record. Of several faults it is the first in this order.
 #[derive(Clone, Copy, Debug, PartialEq, Eq)]
 pub enum SetKind {
+    /// Fewer than 200 bytes are left.
     Short,
+    /// One of the 200 bytes is outside 0x20 to 0x7E.
     BadByte,
+    /// CR stands after the record, and no LF after it.
     BadEnd,
+    /// The first record is no header, or there is none.
     NoHeader,
+    /// The header's title differs.
     BadTitle,
+    /// A record of this type may not follow.
     BadOrder,
+    /// Bytes 195 to 200 are not the six digits of the next serial number.
     BadSerial,
-    /// The first byte of the first wrong field.
+    /// A field is wrong: the first such one begins at this byte, counted from 1.
     BadField(u8),
+    /// The airline of a leg or of the trailer is not the carrier's.
     OtherAirline,
+    /// The trailer's check reference is not the serial number of the record before.
     BadCheck,
+    /// The trailer says that the data set goes on elsewhere.
     Continued,
+    /// A record that is no filler stands behind the trailer.
     AfterTrailer,
+    /// The bytes end before a trailer.
     NoTrailer,
+    /// A right record is one too many.
     TooLarge,
+    /// A leg could not be stored.
     Memory,
+}
+
+impl fmt::Display for SetKind {
+    ghost use Rattle.std.specs.Prelude.{Some};
+    ghost use Rattle.ssim_records.specs.FaultText.{code_of};
+
+    ghost output = { λ kind. Some (code_of kind) };
+
+    /// The code, S1 to S15.
+    fn fmt<W: fmt::Write>(&self, f: &mut fmt::Formatter<W>) -> fmt::Result {
+        match self {
+            SetKind::Short => f.write_str("S1"),
+            SetKind::BadByte => f.write_str("S2"),
+            SetKind::BadEnd => f.write_str("S3"),
+            SetKind::NoHeader => f.write_str("S4"),
+            SetKind::BadTitle => f.write_str("S5"),
+            SetKind::BadOrder => f.write_str("S6"),
+            SetKind::BadSerial => f.write_str("S7"),
+            SetKind::BadField(_) => f.write_str("S8"),
+            SetKind::OtherAirline => f.write_str("S9"),
+            SetKind::BadCheck => f.write_str("S10"),
+            SetKind::Continued => f.write_str("S11"),
+            SetKind::AfterTrailer => f.write_str("S12"),
+            SetKind::NoTrailer => f.write_str("S13"),
+            SetKind::TooLarge => f.write_str("S14"),
+            SetKind::Memory => f.write_str("S15"),
+        }
+    }
 }
 
 impl From<AllocError> for SetKind {
@@ -32,9 +76,26 @@ impl From<AllocError> for SetKind {
     }
 }
 
-/// The first record with a fault, and its first fault.
+/// The first record with a fault, counted from 1 with the fillers, and its first fault.
 #[derive(Clone, Copy, Debug, PartialEq, Eq)]
 pub struct SetFault {
     pub nth: u32,
     pub kind: SetKind,
+}
+
+impl fmt::Display for SetFault {
+    ghost use Rattle.std.specs.Prelude.{Some};
+    ghost use Rattle.ssim_records.specs.FaultText.{fault_text};
+
+    ghost output = { λ fault. Some (fault_text fault) };
+
+    /// The code and the record, and behind S8 the byte.
+    fn fmt<W: fmt::Write>(&self, f: &mut fmt::Formatter<W>) -> fmt::Result {
+        let kind = self.kind;
+        let nth = self.nth;
+        match kind {
+            SetKind::BadField(byte) => write!(f, "{kind} {nth} {byte}"),
+            _ => write!(f, "{kind} {nth}"),
+        }
+    }
 }

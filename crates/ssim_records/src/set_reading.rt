@@ -2,6 +2,7 @@
 ghost use Rattle.std.specs.Prelude.{◌≡◌, ◌≢◌, ◌≤◌, ◌^◌, List, length, IfOk, IfErr};
 ghost use Rattle.std.specs.Result.{MatchResult};
 ghost use Rattle.ssim_records.specs.declared.set.DataSet.{DataSet as Said};
+ghost use Rattle.ssim_records.specs.RightSet.{IsRightSet};
 ghost use Rattle.ssim_records.specs.SetSteps.{IsFirstFault, WantsRoom, IsRefusal, ReadsAs};
 ghost use Rattle.ssim_records.specs.SetText.{IsDataSet};
 
@@ -20,6 +21,8 @@ pub fn read_set(alloc: Global, bytes: &[u8], most: u32) -> Result<DataSet, SetFa
     ensures found { IfOk result (IsDataSet most bytes.now) }
     // What is so spelled is read, or refused for want of memory alone.
     ensures only { (set : Said) → IsDataSet most bytes.now set → MatchResult result (λ r. r ≡ set) (λ f. f.kind ≡ SetKind.Memory) }
+    // Each field of it has a value that the standard takes as right.
+    ensures right { IfOk result IsRightSet }
     // Which fault it is: the first of the first record that has one.
     ensures fault { IfErr result (λ f. f.kind ≢ SetKind.Memory → IsFirstFault most bytes.now f.nth f.kind) }
     // Want of memory is met at a leg, where no record up to it has a fault.

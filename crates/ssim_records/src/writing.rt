@@ -4,10 +4,24 @@ ghost use Rattle.std.specs.Io.KnownBytes.{Appends, Keeps};
 ghost use Rattle.ssim_records.specs.Noting.{noted, TookFront};
 
 use super::counted::NotedWrite;
+use std::fmt;
 
-#[derive(Clone, Copy, PartialEq, Eq, Drop)]
+/// Why a writer did not take all bytes.
+#[derive(Clone, Copy, Debug, PartialEq, Eq)]
 pub enum WriteFault {
+    /// The writer failed, or took none of the bytes that were left.
     Device,
+}
+
+impl fmt::Display for WriteFault {
+    ghost use Rattle.std.specs.Prelude.{Some, codes};
+
+    ghost output = { λ _. Some (codes "V1") };
+
+    /// The code, V1.
+    fn fmt<W: fmt::Write>(&self, f: &mut fmt::Formatter<W>) -> fmt::Result {
+        f.write_str("V1")
+    }
 }
 
 /// Writes all of `bytes` behind what the writer holds.

@@ -1,0 +1,6 @@
+pub mod CheckDesk
+pub mod Desk
+pub mod LadderDesk
+pub mod Lines
+pub mod Orders
+pub mod Status

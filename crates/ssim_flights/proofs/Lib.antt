@@ -1,0 +1,5 @@
+mod Chains
+mod Grouping
+mod Indexing
+mod OperatingDays
+mod Walks

@@ -1,0 +1,8 @@
+use Rattle.ssim_records.proofs.SetLaws.{one_cut, one_data_set}
+use Rattle.ssim_records.proofs.laws.data_sets_are_unique.Goals as goal
+
+pub returns-clause-cut : goal.returns-clause-cut
+returns-clause-cut c = one_cut
+
+pub returns-clause-set : goal.returns-clause-set
+returns-clause-set c = one_data_set
