@@ -1,13 +1,14 @@
 -- The walk along the itineraries.
 use Rattle.std.proofs.Common.{◌≡◌, ℕ, zero, suc, ◌+◌, ◌<◌, ◌≤◌, Bool, true, false, cond, nat_lt, nat_eq, ◌||◌, ◌&&◌, IsTrue, List, [], ◌∷◌, ◌++◌, length, get_or, map, filter, take, drop, All, Option, Some, None, refl, sym, ap, subst, ◌∙◌, inl, inr, ⊎_elim, unwrap_or, append-nil, arith, length-append}
 use Rattle.std.specs.Option.{option_or}
-use Rattle.std.specs.List.{list_any, flat_map}
+use Rattle.std.specs.List.{list_any, flat_map, IsDistinct}
 use Rattle.std.specs.Cmp.Lexicographic.{pointwise}
 use Rattle.std.proofs.lemmas.Bool.{ltb-false}
 use Rattle.std.proofs.lemmas.List.{take_more, take_all, length-map}
 use Rattle.std.proofs.lemmas.List.Concat.{flat_map-append}
 use Rattle.std.proofs.lemmas.List.Elements.{All-nil, All-append, All-filter, All-map, All-from_get_or}
 use Rattle.std.proofs.lemmas.List.Folds.{list_any-append}
+use Rattle.std.proofs.lemmas.Map.Keys.{IsDistinct-from_apart}
 use Rattle.ssim_records.specs.declared.carrier.Leg.{Leg}
 use Rattle.ssim_flights.specs.declared.adding.Flown.{Flown}
 use Rattle.ssim_flights.specs.declared.fault.FlightFault.{FlightFault}
@@ -21,10 +22,11 @@ use Rattle.ssim_flights.specs.declared.schedule.Scheduled.{Scheduled}
 use Rattle.ssim_flights.specs.Adding.{IsAdded, IsFlown}
 use Rattle.ssim_flights.specs.Chains.{chain, sequences, first_record_if, missing_leg, repeated_leg, broken_chain, broken_after}
 use Rattle.ssim_flights.specs.Few.{AreFew, AreJoined, joins_after, joins_up}
-use Rattle.ssim_flights.specs.Flown.{dated_flights, days_fault, departures_of, departures_on, fault_after, fault_of, first_fault, flights_of, found, is_taken, leg_one_if, same_departure, IsRefusal}
+use Rattle.ssim_flights.specs.Flown.{all_departures, dated_flights, days_fault, departures_of, departures_on, fault_after, fault_of, first_fault, flights_of, found, is_taken, leg_one_if, same_departure, IsRefusal}
 use Rattle.ssim_flights.specs.Itineraries.{itineraries, legs_of, name_of, names_after, same_name}
 use Rattle.ssim_flights.specs.Schedules.{differing, falling_back, rows, schedule, scheduled, flights_on, flight_on, dated_leg}
 use Rattle.ssim_flights.specs.Taken.{Departures, has_departure, Takes}
+use Rattle.ssim_flights.proofs.Departing.{distinct_more, own_distinct, same_tests, untaken}
 use Rattle.ssim_flights.proofs.Walks.{drop_step}
 
 -- ---- what the absence of a fault says
@@ -89,6 +91,35 @@ unbroken plan taken count legs e =
     let b = found_parts kinds.RepeatedLeg (repeated_leg legs) _ a.1 in
     (found_parts kinds.BrokenChain (broken_chain (chain legs)) _ b.1).0
 
+flat_map_more : {A B : Type 0} (f : A → List B) (xs : List A) (i : ℕ) (x : A) → i < length xs → x ≡ get_or xs i x → flat_map f (take (i + 1) xs) ≡ flat_map f (take i xs) ++ f x
+flat_map_more f xs i x inside is =
+    ap (flat_map f) (take_more xs i x inside ∙ ap (λ y. take i xs ++ y ∷ []) (sym is))
+    ∙ flat_map-append f (take i xs) (x ∷ []) ∙ ap (λ ys. flat_map f (take i xs) ++ ys) (append-nil (f x))
+
+fresh_days : (plan : Plan) (taken : Departure → Bool) (count : ℕ) (legs : List Leg) (chained : List Scheduled) → days_fault plan taken count legs chained ≡ None → leg_one_if (list_any taken (departures_on plan chained)) chained ≡ None
+unfolding days_fault
+fresh_days plan taken count legs chained e =
+    let a = found_parts kinds.LegDatesDiffer (differing chained) _ e in
+    let b = found_parts kinds.DatesFallBack (falling_back plan chained) _ a.1 in
+    (found_parts kinds.TwiceOnDate (leg_one_if (list_any taken (departures_on plan chained)) chained) _ b.1).0
+
+fresh : (plan : Plan) (taken : Departure → Bool) (count : ℕ) (legs : List Leg) → fault_of plan taken count legs ≡ None → leg_one_if (list_any taken (departures_on plan (schedule plan (chain legs)))) (schedule plan (chain legs)) ≡ None
+unfolding fault_of
+fresh plan taken count legs e =
+    let a = found_parts kinds.MissingLeg (missing_leg legs) _ e in
+    let b = found_parts kinds.RepeatedLeg (repeated_leg legs) _ a.1 in
+    let c = found_parts kinds.BrokenChain (broken_chain (chain legs)) _ b.1 in
+    fresh_days plan taken count legs (schedule plan (chain legs)) c.1
+
+-- the departures of one itinerary more differ from the earlier ones
+distinct_after : (plan : Plan) (all : List (List Leg)) (i : ℕ) (legs : List Leg) (taken : Departure → Bool) (count : ℕ) → i < length all → legs ≡ get_or all i legs → ((d : Departure) → taken d ≡ is_taken plan (take i all) d) → fault_of plan taken count legs ≡ None → IsDistinct same_departure (flat_map (departures_of plan) (take i all)) → IsDistinct same_departure (flat_map (departures_of plan) (take (i + 1) all))
+unfolding departures_of
+distinct_after plan all i legs taken count inside is same none distinct =
+    subst (λ (ds : List Departure). IsDistinct same_departure ds) (sym (flat_map_more (departures_of plan) all i legs inside is))
+      (distinct_more (flat_map (departures_of plan) (take i all)) (departures_of plan legs) distinct (own_distinct plan (chain legs))
+        (same_tests taken (is_taken plan (take i all)) (departures_of plan legs) same
+          (untaken taken plan (schedule plan (chain legs)) (fresh plan taken count legs none))))
+
 joins_on : (plan : Plan) (i : ℕ) (before : List ℕ) (legs : List Leg) → broken_after before legs ≡ None → joins_after before (map (dated_leg i) (schedule plan legs)) ≡ true
 unfolding scheduled
 joins_on plan i before [] none = refl
@@ -114,11 +145,6 @@ joined_on plan (leg ∷ legs) none = record {
 }
 
 -- ---- the steps
-
-flat_map_more : {A B : Type 0} (f : A → List B) (xs : List A) (i : ℕ) (x : A) → i < length xs → x ≡ get_or xs i x → flat_map f (take (i + 1) xs) ≡ flat_map f (take i xs) ++ f x
-flat_map_more f xs i x inside is =
-    ap (flat_map f) (take_more xs i x inside ∙ ap (λ y. take i xs ++ y ∷ []) (sym is))
-    ∙ flat_map-append f (take i xs) (x ∷ []) ∙ ap (λ ys. flat_map f (take i xs) ++ ys) (append-nil (f x))
 
 or_flip : (a b : Bool) → (a || b) ≡ (b || a)
 or_flip true true = refl
@@ -146,6 +172,7 @@ flown_more plan all i legs old new inside is flown added =
             All-append (λ f. IsTrue (joins_up f.legs)) old.flights.items (flights_of plan legs) flown.joined.joined
             (joined_on plan (chain legs) (unbroken plan (has_departure old.taken) (length old.flights.items) legs added.faultless)).joined;
       });
+      distinct = distinct_after plan all i legs (has_departure old.taken) (length old.flights.items) inside is flown.taken added.faultless flown.distinct;
     }
 
 -- an itinerary's fault, or those of the later ones
@@ -169,6 +196,7 @@ flown_none plan flown flights taken = record {
   few = subst (λ (fs : List Flight). length fs ≤ plan.most) (sym flights) (omega arith);
   short = subst (λ (fs : List Flight). All (λ f. length f.legs ≤ 8) fs) (sym flights) (All-nil (λ f. length f.legs ≤ 8));
   joined = subst (λ (fs : List Flight). AreJoined fs) (sym flights) (record { joined = All-nil (λ f. IsTrue (joins_up f.legs)) });
+  distinct = IsDistinct-from_apart same_departure [] (λ i j d below inside. absurd (omega arith));
 }
 
 drop_past : {A : Type 0} (xs : List A) (i : ℕ) → length xs ≤ i → drop i xs ≡ []
@@ -186,6 +214,9 @@ flights_all plan all i flown past is = is.flights ∙ ap (flat_map (flights_of p
 
 pub few_all : (plan : Plan) (earlier : List (List Leg)) (flown : Flown) → plan.most ≤ 100000 → IsFlown plan earlier flown → AreFew flown.flights.items
 few_all plan earlier flown most is = let few = is.few in record { flights = omega arith; legs = is.short }
+
+pub distinct_all : (plan : Plan) (all : List (List Leg)) (i : ℕ) (flown : Flown) → length all ≤ i → IsFlown plan (take i all) flown → IsDistinct same_departure (all_departures plan all)
+distinct_all plan all i flown past is = subst (λ (l : List (List Leg)). IsDistinct same_departure (all_departures plan l)) (take_all i all past) is.distinct
 
 -- the legs of each itinerary are among all legs
 pub itineraries_right : (P : Leg → Type 0) (legs : List Leg) → All P legs → All (All P) (itineraries legs)

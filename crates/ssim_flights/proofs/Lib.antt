@@ -2,6 +2,7 @@ mod Addings
 mod Chaining
 mod Chains
 mod Clocks
+mod Departing
 mod Expanding
 mod Grouping
 mod Indexing

@@ -1,13 +1,13 @@
 -- What adding an itinerary to the flights so far does.
 use Rattle.std.specs.Prelude.{◌≡◌, ℕ, ◌≤◌, List, [], ◌++◌, All, None, length}
-use Rattle.std.specs.List.{flat_map}
+use Rattle.std.specs.List.{flat_map, IsDistinct}
 use Rattle.ssim_records.specs.declared.carrier.Leg.{Leg}
 use Rattle.ssim_flights.specs.declared.adding.Flown.{Flown}
 use Rattle.ssim_flights.specs.declared.flown.Departure.{Departure}
 use Rattle.ssim_flights.specs.declared.plan.Plan.{Plan}
 use Rattle.ssim_flights.specs.declared.schedule.Scheduled.{Scheduled}
 use Rattle.ssim_flights.specs.Few.{AreJoined}
-use Rattle.ssim_flights.specs.Flown.{days_fault, departures_of, departures_on, fault_of, flights_of, is_taken}
+use Rattle.ssim_flights.specs.Flown.{all_departures, days_fault, departures_of, departures_on, fault_of, flights_of, is_taken, same_departure}
 use Rattle.ssim_flights.specs.Schedules.{flights_on}
 use Rattle.ssim_flights.specs.Taken.{has_departure, Takes}
 
@@ -30,3 +30,4 @@ pub record IsFlown (plan : Plan) (earlier : List (List Leg)) (flown : Flown) : T
   pub few : length flown.flights.items ≤ plan.most
   pub short : All (λ f. length f.legs ≤ 8) flown.flights.items
   pub joined : AreJoined flown.flights.items
+  pub distinct : IsDistinct same_departure (all_departures plan earlier)

@@ -84,6 +84,10 @@ first_fault plan all = fault_after plan [] all
 unfoldable pub dated_flights : Plan → List (List Leg) → List Flight
 dated_flights plan all = flat_map (flights_of plan) all
 
+-- their flight numbers, suffixes and first operating days
+abbrev pub all_departures : Plan → List (List Leg) → List Departure
+all_departures plan all = flat_map (departures_of plan) all
+
 -- ---- refusals
 
 abbrev pub memory_fault : FlightFault

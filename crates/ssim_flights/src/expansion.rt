@@ -1,6 +1,7 @@
 //! From the legs of a data set to its dated flights.
 ghost use Rattle.std.specs.Prelude.{◌≡◌, ◌≤◌, All, IfErr, IfOk, None, OnOk};
-ghost use Rattle.ssim_flights.specs.Flown.{dated_flights, first_fault, IsRefusal};
+ghost use Rattle.std.specs.List.{IsDistinct};
+ghost use Rattle.ssim_flights.specs.Flown.{all_departures, dated_flights, first_fault, same_departure, IsRefusal};
 ghost use Rattle.ssim_flights.specs.Itineraries.{itineraries};
 ghost use Rattle.ssim_flights.specs.Right.{IsOfCentury, IsRightCarrier, IsRightLeg};
 ghost use Rattle.ssim_flights.specs.Schedules.{plan_of};
@@ -33,6 +34,9 @@ pub fn expand(
         (first_fault (plan_of set.now.carrier first days most) (itineraries set.now.legs) ≡ None) }
     ensures flights { IfOk result
         (λ flights. flights ≡ dated_flights (plan_of set.now.carrier first days most) (itineraries set.now.legs)) }
+    // No two flights have the same number, suffix and first operating day.
+    ensures apart { OnOk result (IsDistinct same_departure
+        (all_departures (plan_of set.now.carrier first days most) (itineraries set.now.legs))) }
     ensures fault { IfErr result
         (λ fault. IsRefusal fault (first_fault (plan_of set.now.carrier first days most) (itineraries set.now.legs))) }
 {

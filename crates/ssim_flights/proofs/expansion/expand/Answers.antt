@@ -1,12 +1,13 @@
 use Rattle.std.proofs.Common.{◌≡◌, ◌+◌, ◌-◌, ◌≤◌, ◌<◌, List, All, None, length, get_or, refl, sym, ap, subst, ◌∙◌, arith}
+use Rattle.std.specs.List.{IsDistinct}
 use Rattle.std.proofs.lemmas.Result.{err_from_is_err_and}
 use Rattle.ssim_records.specs.declared.carrier.Leg.{Leg}
 use Rattle.ssim_flights.specs.declared.plan.Plan.{Plan}
-use Rattle.ssim_flights.specs.Flown.{dated_flights, first_fault}
+use Rattle.ssim_flights.specs.Flown.{all_departures, dated_flights, first_fault, same_departure}
 use Rattle.ssim_flights.specs.Itineraries.{itineraries}
 use Rattle.ssim_flights.specs.Right.{IsRightLeg}
 use Rattle.ssim_flights.specs.Schedules.{plan_of}
-use Rattle.ssim_flights.proofs.Expanding.{end_small, fault_more, few_all, flights_all, flown_more, flown_none, itineraries_right, named, refusal_first, same_refusal}
+use Rattle.ssim_flights.proofs.Expanding.{distinct_all, end_small, fault_more, few_all, flights_all, flown_more, flown_none, itineraries_right, named, refusal_first, same_refusal}
 use Rattle.ssim_flights.proofs.expansion.expand.Goals as goal
 
 pub loop-legs-init : goal.loop-legs-init
@@ -63,3 +64,11 @@ returns-clause-flights c =
     let items : c.as_slice-legs-items.result.now ≡ itineraries c.args.set.now.legs = c.as_slice-legs-items.ensures ∙ c.in_ok-all.ensures ∙ ap itineraries c.as_slice.ensures in
     c.in_ok-flights.ensures ∙ flights_all c.plan_of-plan.result c.as_slice-legs-items.result.now c.loop-legs.legs-index c.loop-legs.flown (omega arith) c.loop-legs.invariant.0
     ∙ ap (λ (p : Plan). dated_flights p c.as_slice-legs-items.result.now) c.plan_of-plan.ensures ∙ ap (dated_flights _) items
+
+pub returns-clause-apart : goal.returns-clause-apart
+returns-clause-apart c =
+    let items : c.as_slice-legs-items.result.now ≡ itineraries c.args.set.now.legs =
+        c.as_slice-legs-items.ensures ∙ c.in_ok-all.ensures ∙ ap itineraries c.as_slice.ensures in
+    subst (λ (all : List (List Leg)). IsDistinct same_departure (all_departures (plan_of c.args.set.now.carrier c.args.first c.args.days c.args.most) all)) items
+      (subst (λ (p : Plan). IsDistinct same_departure (all_departures p c.as_slice-legs-items.result.now)) c.plan_of-plan.ensures
+        (distinct_all c.plan_of-plan.result c.as_slice-legs-items.result.now c.loop-legs.legs-index c.loop-legs.flown (omega arith) c.loop-legs.invariant.0))
