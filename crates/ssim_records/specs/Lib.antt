@@ -10,5 +10,6 @@ pub mod Noting
 pub mod Reach
 pub mod RecordFields
 pub mod RightSet
+pub mod SetFaults
 pub mod SetSteps
 pub mod SetText
