@@ -1,0 +1,161 @@
+-- One flight alone: its bookings, the pass over its waiting list, and its part of a journal.
+use Rattle.std.specs.Prelude.{◌≡◌, ◌==◌, ◌&&◌, ℕ, ◌+◌, Bool, false, nat_le, List, [], ◌∷◌, ◌++◌, length, map, take, Option, Some, None, count_by, if◌then◌else◌}
+use Rattle.std.specs.List.{AllByRecursion}
+use Rattle.ssim_records.specs.declared.place.Place.{Place}
+use Rattle.seat_nesting.specs.Nesting.{Legs, Table, room}
+use Rattle.seat_core.specs.declared.booking.Booking.{Booking}
+use Rattle.seat_journal.specs.declared.entry.Advice.{Advice}
+use Rattle.seat_journal.specs.declared.entry.Entry.{Entry}
+use Rattle.seat_core.specs.Bookings.{is_for, is_waiting, held}
+use Rattle.seat_core.specs.Sequential.{reduced, Passed, pass, may_confirm, confirmed, advice_of, room_left, NoneFits}
+use Rattle.seat_core.specs.Tables.{with_advice}
+use Rattle.seat_core.specs.Journal.{replay, calls_of, next_line, IsLegal}
+
+-- no waiting booking of `among` on another flight fits in the book
+abbrev pub NoneElseFits : ℕ → Legs → List Booking → List Booking → Type 0
+NoneElseFits flight grid book among = AllByRecursion (λ b. (b.place.flight == flight) ≡ false → may_confirm grid book b ≡ false) among
+
+-- the bookings on the flight, in order
+abbrev pub bookings_on : ℕ → List Booking → List Booking
+bookings_on flight [] = []
+bookings_on flight (b ∷ bs) = (if b.place.flight == flight then b ∷ bookings_on flight bs else bookings_on flight bs)
+
+-- the pass that looks at the waiting bookings of the flight alone
+abbrev pub pass_on : ℕ → Legs → List Booking → List Advice → List Booking → Passed
+pass_on flight grid done told [] = record { bookings = done; advices = told }
+pass_on flight grid done told (b ∷ bs) =
+    (if (b.place.flight == flight) && may_confirm grid (done ++ b ∷ bs) b
+    then pass_on flight grid (done ++ confirmed b ∷ []) (told ++ advice_of b ∷ []) bs
+    else pass_on flight grid (done ++ b ∷ []) told bs)
+
+-- where none of another flight fits, a pass needs to look at the flight alone
+abbrev pub PassOfFlight : Type 0
+PassOfFlight = (flight : ℕ) (grid : Legs) (bookings : List Booking) → NoneElseFits flight grid bookings bookings
+    → pass grid [] [] bookings ≡ pass_on flight grid [] [] bookings
+
+-- the room of a place rests on the bookings of its flight alone
+abbrev pub RoomOfFlight : Type 0
+RoomOfFlight = (grid : Legs) (bookings : List Booking) (place : Place) (class : ℕ)
+    → room grid (held bookings) place class ≡ room grid (held (bookings_on place.flight bookings)) place class
+
+-- the place is there, and on the flight
+abbrev pub is_on : ℕ → Option Place → Bool
+is_on flight None = false
+is_on flight (Some place) = place.flight == flight
+
+-- the lines whose place is on the flight
+abbrev pub lines_on : ℕ → List Entry → ℕ
+lines_on flight lines = count_by (λ e. is_on flight e.command.place) lines
+
+-- the number of line n of the journal among those of the flight
+abbrev pub number_on : ℕ → List Entry → ℕ → ℕ
+number_on flight journal n = lines_on flight (take n journal)
+
+-- the advices, their bookings numbered anew
+abbrev pub advices_anew : (ℕ → ℕ) → List Advice → List Advice
+advices_anew anew [] = []
+advices_anew anew (a ∷ advices) = record a { number = anew a.number } ∷ advices_anew anew advices
+
+-- the line as the next one after these, its bookings numbered anew
+abbrev pub line_anew : (ℕ → ℕ) → List Entry → Entry → Entry
+line_anew anew past e = record e {
+  number = length past + 1;
+  call = calls_of past e.session + 1;
+  advices = advices_anew anew e.advices;
+}
+
+-- these lines of the part, and after them those of the journal that are on the flight, each counted anew
+abbrev pub part_after : (ℕ → ℕ) → ℕ → List Entry → List Entry → List Entry
+part_after anew flight part [] = part
+part_after anew flight part (e ∷ es) =
+    (if is_on flight e.command.place
+    then part_after anew flight (part ++ line_anew anew part e ∷ []) es
+    else part_after anew flight part es)
+
+-- the lines whose place is on the flight, in order, with line numbers, calls and booking numbers counted anew from 1
+abbrev pub part_of : ℕ → List Entry → List Entry
+part_of flight journal = part_after (number_on flight journal) flight [] journal
+
+-- a flight's part of a legal history is a legal history
+abbrev pub PartIsLegal : Type 0
+PartIsLegal = (grid : Legs) (journal : List Entry) (flight : ℕ) → IsLegal grid journal → IsLegal grid (part_of flight journal)
+
+-- these lines of the part, and after them those that the flight's commands make when they are carried out alone
+abbrev pub alone : Legs → ℕ → List Entry → List Entry → List Entry
+alone grid flight part [] = part
+alone grid flight part (e ∷ es) =
+    (if is_on flight e.command.place
+    then alone grid flight (part ++ next_line grid part e.session (calls_of part e.session + 1) e.command ∷ []) es
+    else alone grid flight part es)
+
+-- the part is had by carrying out the flight's commands alone
+abbrev pub PartIsAlone : Type 0
+PartIsAlone = (grid : Legs) (journal : List Entry) (flight : ℕ) → IsLegal grid journal → part_of flight journal ≡ alone grid flight [] journal
+
+-- and grows with the journal, by the lines that its own commands make
+abbrev pub PartGrows : Type 0
+PartGrows = (grid : Legs) (past more : List Entry) (flight : ℕ) → IsLegal grid (past ++ more)
+    → part_of flight (past ++ more) ≡ alone grid flight (part_of flight past) more
+
+-- and it leaves each place on the flight the room that the whole leaves
+abbrev pub PartLeavesRoom : Type 0
+PartLeavesRoom = (grid : Legs) (journal : List Entry) (place : Place) (class : ℕ) → IsLegal grid journal
+    → room_left (replay grid (part_of place.flight journal)) place class ≡ room_left (replay grid journal) place class
+
+-- the flight's waiting list
+abbrev pub queue_on : ℕ → List Booking → List Booking
+queue_on flight [] = []
+queue_on flight (b ∷ bs) = (if (b.place.flight == flight) && is_waiting b.status then b ∷ queue_on flight bs else queue_on flight bs)
+
+-- what a walk over a waiting list leaves: the seats held, those that wait on, and its advices in order
+pub record Walked : Type 0 where
+  pub seats : Table
+  pub left : List Booking
+  pub advices : List Advice
+
+-- the walk over a waiting list, by the seats held alone: each booking that fits is told and its seats taken, each other one goes on waiting
+abbrev pub walk : Legs → Table → List Booking → List Advice → List Booking → Walked
+walk grid seats left told [] = record { seats = seats; left = left; advices = told }
+walk grid seats left told (b ∷ queue) =
+    (if nat_le b.seats (room grid seats b.place b.class)
+    then walk grid (with_advice seats (advice_of b)) left (told ++ advice_of b ∷ []) queue
+    else walk grid seats (left ++ b ∷ []) told queue)
+
+-- the walk leaves the seats held, the waiting lists and the advices of the pass
+pub record IsWalk (flight : ℕ) (old : List Booking) (passed : Passed) (walked : Walked) : Type 0 where
+  pub seats : (flight leg class : ℕ) → held passed.bookings flight leg class ≡ walked.seats flight leg class
+  pub advices : passed.advices ≡ walked.advices
+  pub left : queue_on flight passed.bookings ≡ walked.left
+  pub others : (other : ℕ) → (other == flight) ≡ false → queue_on other passed.bookings ≡ queue_on other old
+
+-- where none of another flight fits, the walk over one flight's waiting list is the pass
+abbrev pub WalkOfFlight : Type 0
+WalkOfFlight = (flight : ℕ) (grid : Legs) (bookings : List Booking) → NoneElseFits flight grid bookings bookings
+    → IsWalk flight bookings (pass grid [] [] bookings) (walk grid (held bookings) [] [] (queue_on flight bookings))
+
+-- so it is in a book in which none fits once a booking on the flight is added
+abbrev pub WalkAfterAdding : Type 0
+WalkAfterAdding = (grid : Legs) (bookings : List Booking) (b : Booking) → NoneFits grid bookings
+    → let flight = b.place.flight in
+    let book = bookings ++ b ∷ [] in
+    IsWalk flight book (pass grid [] [] book) (walk grid (held book) [] [] (queue_on flight book))
+
+-- and once one on the flight is reduced
+abbrev pub WalkAfterReducing : Type 0
+WalkAfterReducing = (grid : Legs) (bookings : List Booking) (locator : List ℕ) (place : Place) (class n : ℕ) → NoneFits grid bookings
+    → let flight = place.flight in
+    let book = reduced (is_for locator place class) n bookings in
+    IsWalk flight book (pass grid [] [] book) (walk grid (held book) [] [] (queue_on flight book))
+
+-- after each line no waiting booking fits
+abbrev pub ReplayIsQuiet : Type 0
+ReplayIsQuiet = (grid : Legs) (journal : List Entry) → NoneFits grid (replay grid journal).bookings
+
+-- the booking under a new number
+abbrev pub renumbered : (ℕ → ℕ) → Booking → Booking
+renumbered anew b = record b { number = anew b.number }
+
+-- the part leaves the bookings of the flight, each under the number of its line in the part
+abbrev pub PartLeavesBookings : Type 0
+PartLeavesBookings = (grid : Legs) (journal : List Entry) (flight : ℕ) → IsLegal grid journal
+    → (replay grid (part_of flight journal)).bookings ≡ map (renumbered (number_on flight journal)) (bookings_on flight (replay grid journal).bookings)

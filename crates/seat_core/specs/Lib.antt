@@ -1,0 +1,16 @@
+pub use Rattle.seat_nesting.specs.Nesting
+pub mod Prefixes
+pub mod Codes
+pub mod Bookings
+pub mod Sequential
+pub mod Journal
+pub mod Answers
+pub mod Inventory
+pub mod Stepping
+pub mod Totals
+pub mod Replaying
+pub mod Tables
+pub mod Applying
+pub mod Flights
+pub mod Books
+pub mod Laws

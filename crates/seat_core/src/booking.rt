@@ -1,0 +1,80 @@
+ghost use Rattle.std.specs.Prelude.{◌≡◌, if◌then◌else◌};
+ghost use Rattle.seat_core.specs.Bookings.{is_for, is_held, is_waiting, seats_of, seats_on, waits_on};
+
+use seat_journal::Command;
+use ssim_records::{Class, Locator, Place};
+
+/// Whether a booking's seats are held or waited for.
+#[derive(Clone, Copy, Debug, PartialEq, Eq)]
+pub enum Status {
+    Held,
+    Waiting,
+}
+
+/// A live booking, under the number of the line that made it.
+#[derive(Clone, Copy, Debug, PartialEq, Eq)]
+pub struct Booking {
+    pub number: u32,
+    pub locator: Locator,
+    pub place: Place,
+    pub class: Class,
+    pub seats: u16,
+    pub status: Status,
+}
+
+impl Booking {
+    /// Whether it has this locator, place and class.
+    pub fn is_for(&self, locator: Locator, place: Place, class: Class) -> bool
+        ensures { result ≡ is_for locator place class self.now }
+    {
+        self.locator == locator && self.place == place && self.class == class
+    }
+
+    /// The seats that a cancellation of so many releases.
+    pub fn released(&self, seats: u16) -> u16
+        ensures { result ≡ (if is_held self.now.status then seats else 0) }
+    {
+        match self.status {
+            Status::Held => seats,
+            Status::Waiting => 0,
+        }
+    }
+
+    pub fn is_waiting(&self) -> bool
+        ensures { result ≡ is_waiting self.now.status }
+    {
+        matches!(self.status, Status::Waiting)
+    }
+
+    /// Its seats in this class on this leg.
+    fn seats_of(&self, flight: u32, leg: u8, class: Class) -> u16
+        ensures { result ≡ seats_of flight leg class self.now }
+    {
+        let here = self.place.flight == flight && self.place.from <= leg && leg <= self.place.to;
+        if here && self.class == class {
+            self.seats
+        } else {
+            0
+        }
+    }
+
+    /// The seats that it holds in this class on this leg.
+    pub fn seats_on(&self, flight: u32, leg: u8, class: Class) -> u16
+        ensures { result ≡ seats_on flight leg class self.now }
+    {
+        match self.status {
+            Status::Held => self.seats_of(flight, leg, class),
+            Status::Waiting => 0,
+        }
+    }
+
+    /// The seats that it waits for in this class on this leg.
+    pub fn waits_on(&self, flight: u32, leg: u8, class: Class) -> u16
+        ensures { result ≡ waits_on flight leg class self.now }
+    {
+        match self.status {
+            Status::Held => 0,
+            Status::Waiting => self.seats_of(flight, leg, class),
+        }
+    }
+}

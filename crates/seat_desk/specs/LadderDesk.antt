@@ -1,0 +1,93 @@
+-- What `ladder` reads and writes: a ladder and commands, and the replies and the room that is left.
+use Rattle.std.specs.Prelude.{ℕ, ◌+◌, ◌==◌, List, [], ◌∷◌, ◌++◌, length, decimal, codes, Option, Some, None, Result, Ok, Err, if◌then◌else◌}
+use Rattle.std.specs.List.{flat_map}
+use Rattle.ssim_records.specs.declared.place.Place.{Place}
+use Rattle.seat_journal.specs.declared.entry.Advice.{Advice}
+use Rattle.seat_journal.specs.declared.entry.Command.{Command}
+use Rattle.seat_journal.specs.declared.entry.Entry.{Entry}
+use Rattle.seat_nesting.specs.declared.ladder.Step.{Step}
+use Rattle.seat_nesting.specs.declared.limit_fault.LimitKind.{LimitKind}
+use Rattle.seat_nesting.specs.LadderText.{ladder_in}
+use Rattle.seat_nesting.specs.Nesting.{Steps, Legs}
+use Rattle.seat_core.specs.Sequential.{State, room_left}
+use Rattle.seat_core.specs.Journal.{next_line, replay}
+use Rattle.seat_desk.specs.declared.fault.DeskFault.{DeskFault}
+use Rattle.seat_desk.specs.declared.fault.DeskFault.TheVariants as faults
+use Rattle.seat_desk.specs.Lines.{lines_of}
+use Rattle.seat_desk.specs.Orders.{order_in, only_leg}
+
+-- the most lines of a ladder's input: its ladder, and as many commands as a journal has lines
+abbrev pub most_lines : ℕ
+most_lines = 1_000_000
+
+-- the command on this line, and what follows it; the line is wrong, or one too many
+abbrev pub with_order : {A : Type 0} → ℕ → Option Command → (Command → Result A DeskFault) → Result A DeskFault
+with_order line None next = Err (faults.Command line)
+with_order line (Some c) next = (if line == most_lines + 1 then Err (faults.Full line) else next c)
+
+-- these commands and those of the lines, of which the first has this number
+abbrev pub orders_after : ℕ → List Command → List (List ℕ) → Result (List Command) DeskFault
+orders_after line before [] = Ok before
+orders_after line before (text ∷ texts) =
+    with_order line (order_in text) (λ c. orders_after (line + 1) (before ++ c ∷ []) texts)
+
+-- one flight of one leg
+abbrev pub one_leg : Steps → Legs
+one_leg steps = (steps ∷ []) ∷ []
+
+-- these lines, and those that the commands make after them, all of session 1
+abbrev pub lines_after : Legs → List Entry → List Command → List Entry
+lines_after grid past [] = past
+lines_after grid past (c ∷ cs) = lines_after grid (past ++ next_line grid past 1 (length past + 1) c ∷ []) cs
+
+-- a blank, KL, the seats, `/` and the booking's number
+abbrev pub advice_text : Advice → List ℕ
+advice_text a = codes " KL" ++ decimal a.seats ++ codes "/" ++ decimal a.number
+
+-- the number, the reply with its seats, and the advices
+abbrev pub entry_text : Entry → List ℕ
+entry_text e = decimal e.number ++ codes " " ++ e.reply ++ decimal e.command.seats ++ flat_map advice_text e.advices ++ 10 ∷ []
+
+-- a blank, the class and its room
+abbrev pub class_text : State → ℕ → List ℕ
+class_text state class = codes " " ++ (class ∷ []) ++ decimal (room_left state only_leg class)
+
+abbrev pub room_text : State → Step → List ℕ
+room_text state step = class_text state step.class
+
+-- the replies to the commands, and the room that they leave in each class
+abbrev pub ladder_text : Steps → List Command → List ℕ
+ladder_text steps commands =
+    let journal = lines_after (one_leg steps) [] commands in
+    flat_map entry_text journal ++ codes "ROOM" ++ flat_map (room_text (replay (one_leg steps) journal)) steps ++ 10 ∷ []
+
+-- the first line, empty where there is none, and those behind it
+abbrev pub first_line : List (List ℕ) → List ℕ
+first_line [] = []
+first_line (line ∷ lines) = line
+
+abbrev pub later_lines : List (List ℕ) → List (List ℕ)
+later_lines [] = []
+later_lines (line ∷ lines) = lines
+
+-- the ladder on line 1, and what follows it
+abbrev pub with_ladder : {A : Type 0} → Result Steps LimitKind → (Steps → Result A DeskFault) → Result A DeskFault
+with_ladder (Err kind) next = Err (faults.Limit (record { line = 1; kind = kind }))
+with_ladder (Ok steps) next = next steps
+
+abbrev pub with_orders : Steps → Result (List Command) DeskFault → Result (List ℕ) DeskFault
+with_orders steps (Err fault) = Err fault
+with_orders steps (Ok commands) = Ok (ladder_text steps commands)
+
+-- a ladder, and then one command a line
+abbrev pub answer_in : List (List ℕ) → Result (List ℕ) DeskFault
+answer_in lines =
+    with_ladder (ladder_in (first_line lines)) (λ steps. with_orders steps (orders_after 2 [] (later_lines lines)))
+
+-- the text that `ladder` answers an input with, or the input's first fault
+abbrev pub ladder_answer : List ℕ → Result (List ℕ) DeskFault
+ladder_answer bytes = answer_in (lines_of bytes)
+
+-- 16 MiB
+abbrev pub most_bytes : ℕ
+most_bytes = 16_777_216

@@ -1,0 +1,100 @@
+//! `check`: a data set, and one line that sums it up.
+ghost use Rattle.std.specs.Prelude.{◌≡◌, ◌≢◌, ◌<◌, ◌≤◌, IfErr, IfOk, IfSome, OnOk, length};
+ghost use Rattle.ssim_records.specs.SetText.{IsDataSet};
+ghost use Rattle.seat_desk.specs.CheckDesk.{IsCheckLine, IsEndText, IsRefusedSet, Sums, mode_text, most_bytes, most_records};
+ghost use Rattle.seat_desk.specs.Desk.{HasFailed, IsBegun, IsOfInput, IsWritten};
+
+use crate::fault::DeskFault;
+use crate::streams::read_input;
+use crate::text::{put, put_number};
+use ssim_records::{DataSet, Day, NotedRead, NotedWrite, SetKind, put_all, read_set};
+use std::alloc::{AllocError, Global};
+
+/// 256 MiB.
+const MOST_BYTES: u64 = 268_435_456;
+
+/// The most numbered records, as many as six digits count.
+const MOST_RECORDS: u32 = 999_999;
+
+/// Reads a data set and writes one line that sums it up. An input has at most 256 MiB.
+pub fn desk_check<R: NotedRead, W: NotedWrite>(
+    alloc: Global,
+    input: &mut R,
+    out: &mut W,
+) -> Result<(), DeskFault>
+    ensures ok { OnOk result (IfSome (R.remaining input.old) (λ xs. (length xs ≤ most_bytes) × IsWritten (Sums xs) (W.contents out.old) (W.contents out.new))) }
+    ensures fault { IfErr result (λ f. IsOfInput f → IfSome (R.remaining input.old) (IsRefusedSet f)) }
+    ensures large { IfErr result (λ f. f ≡ DeskFault.TooLarge → IfSome (R.remaining input.old) (λ xs. most_bytes < length xs)) }
+    ensures device { IfErr result (λ f. f ≡ DeskFault.Device → HasFailed (R.failure_count input.old) (R.failure_count input.new) (W.failure_count out.old) (W.failure_count out.new)
+        (out.new ≡ out.old) (IfSome (R.remaining input.old) (λ xs. IsBegun (Sums xs) (W.contents out.old) (W.contents out.new)))) }
+    ensures untouched { IfErr result (λ f. f ≢ DeskFault.Device → out.new ≡ out.old) }
+{
+    let bytes = read_input(alloc, input, MOST_BYTES)?;
+    let text = summary(alloc, &bytes)?;
+    match put_all(out, &text) {
+        Ok(()) => Ok(()),
+        Err(_) => Err(DeskFault::Device),
+    }
+}
+
+/// The line that sums up the data set that these bytes are.
+fn summary(alloc: Global, bytes: &[u8]) -> Result<Vec<u8>, DeskFault>
+    requires { length bytes.now ≤ most_bytes }
+    ensures ok { IfOk result (λ text. Sums bytes.now text.items) }
+    ensures fault { IfErr result (λ f. f ≢ DeskFault.Memory → IsRefusedSet f bytes.now) }
+    ensures kind { IfErr result (λ f. (f ≢ DeskFault.Device) × (f ≢ DeskFault.TooLarge)) }
+{
+    let set = data_set(alloc, bytes)?;
+    match line_of(alloc, &set) {
+        Ok(line) => Ok(line),
+        Err(_) => Err(DeskFault::Memory),
+    }
+}
+
+/// The data set that these bytes are.
+pub fn data_set(alloc: Global, bytes: &[u8]) -> Result<DataSet, DeskFault>
+    requires { length bytes.now ≤ most_bytes }
+    ensures ok { IfOk result (IsDataSet most_records bytes.now) }
+    ensures fault { IfErr result (λ f. f ≢ DeskFault.Memory → IsRefusedSet f bytes.now) }
+    ensures kind { IfErr result (λ f. (f ≢ DeskFault.Device) × (f ≢ DeskFault.TooLarge)) }
+{
+    match read_set(alloc, bytes, MOST_RECORDS) {
+        Ok(set) => Ok(set),
+        Err(fault) => match fault.kind {
+            SetKind::Memory => Err(DeskFault::Memory),
+            _ => Err(DeskFault::Set(fault)),
+        },
+    }
+}
+
+fn line_of(alloc: Global, set: &DataSet) -> Result<Vec<u8>, AllocError>
+    ensures { IfOk result (λ line. IsCheckLine set.now line.items) }
+{
+    let mut line = Vec::new(alloc);
+    put(&mut line, &set.carrier.airline.characters())?;
+    put(&mut line, mode(set.carrier.local))?;
+    put(&mut line, &set.carrier.from.bytes())?;
+    put(&mut line, b" ")?;
+    put(&mut line, &end_of(set.carrier.to))?;
+    put(&mut line, b" legs ")?;
+    put_number(&mut line, set.legs.len() as u64)?;
+    put(&mut line, b" segments ")?;
+    put_number(&mut line, u64::from(set.segments))?;
+    put(&mut line, b"\n")?;
+    Ok(line)
+}
+
+fn mode(local: bool) -> &'static [u8]
+    ensures { result.now ≡ mode_text local }
+{
+    if local { b" L " } else { b" U " }
+}
+
+fn end_of(to: Option<Day>) -> [u8; 7]
+    ensures { IsEndText to result }
+{
+    match to {
+        Some(day) => day.bytes(),
+        None => *b"00XXX00",
+    }
+}

@@ -1,0 +1,170 @@
+//! `ladder`: one leg from the input, and each command on it answered.
+ghost use Rattle.std.specs.Prelude.{◌≡◌, ◌≢◌, ◌+◌, ◌++◌, ◌∷◌, ◌<◌, ◌≤◌, [], IfErr, IfOk, IfSome, OnOk, Ok, Err, codes, length};
+ghost use Rattle.std.specs.Io.KnownBytes.{Appends};
+ghost use Rattle.std.specs.List.{All, flat_map};
+ghost use Rattle.seat_nesting.specs.Nesting.{Fits, ladder_at};
+ghost use Rattle.seat_core.specs.Inventory.{state_now};
+ghost use Rattle.seat_core.specs.Journal.{calls_of, next_line};
+ghost use Rattle.seat_desk.specs.Desk.{HasFailed, IsBegun, IsOfInput, IsWritten};
+ghost use Rattle.seat_desk.specs.LadderDesk.{class_text, entry_text, first_line, ladder_answer, ladder_text, later_lines, lines_after, most_bytes, room_text};
+ghost use Rattle.seat_desk.specs.Lines.{lines_of};
+ghost use Rattle.seat_desk.specs.Orders.{IsOrder, only_leg};
+
+use crate::fault::DeskFault;
+use crate::lines::cut_line;
+use crate::orders::{ONLY_LEG, read_orders};
+use crate::streams::read_input;
+use crate::text::{put, put_entries, put_number};
+use seat_core::{Command, Core};
+use seat_nesting::{Grid, Ladder, LimitFault, Step, read_ladder};
+use ssim_records::{Class, NotedRead, NotedWrite, put_all};
+use std::alloc::{AllocError, Global};
+
+/// The most commands, as many as a journal has lines.
+const MOST_COMMANDS: u32 = 999_999;
+
+/// 16 MiB.
+const MOST_BYTES: u64 = 16_777_216;
+
+/// Reads a ladder and the commands on its leg, and writes the reply to each and the room that is left.
+/// Nothing is written before all is read and right. An input has at most 16 MiB.
+pub fn desk_ladder<R: NotedRead, W: NotedWrite>(
+    alloc: Global,
+    input: &mut R,
+    out: &mut W,
+) -> Result<(), DeskFault>
+    ensures ok { OnOk result (IfSome (R.remaining input.old) (λ xs. (length xs ≤ most_bytes) × IsWritten (λ text. ladder_answer xs ≡ Ok text) (W.contents out.old) (W.contents out.new))) }
+    ensures fault { IfErr result (λ f. IsOfInput f → IfSome (R.remaining input.old) (λ xs. ladder_answer xs ≡ Err f)) }
+    ensures large { IfErr result (λ f. f ≡ DeskFault.TooLarge → IfSome (R.remaining input.old) (λ xs. most_bytes < length xs)) }
+    ensures device { IfErr result (λ f. f ≡ DeskFault.Device → HasFailed (R.failure_count input.old) (R.failure_count input.new) (W.failure_count out.old) (W.failure_count out.new)
+        (out.new ≡ out.old) (IfSome (R.remaining input.old) (λ xs. IsBegun (λ text. ladder_answer xs ≡ Ok text) (W.contents out.old) (W.contents out.new)))) }
+    ensures untouched { IfErr result (λ f. f ≢ DeskFault.Device → out.new ≡ out.old) }
+{
+    let bytes = read_input(alloc, input, MOST_BYTES)?;
+    let text = answer(alloc, &bytes)?;
+    match put_all(out, &text) {
+        Ok(()) => Ok(()),
+        Err(_) => Err(DeskFault::Device),
+    }
+}
+
+/// The text that an input is answered with.
+fn answer(alloc: Global, bytes: &[u8]) -> Result<Vec<u8>, DeskFault>
+    ensures ok { IfOk result (λ text. ladder_answer bytes.now ≡ Ok text.items) }
+    ensures fault { IfErr result (λ f. f ≢ DeskFault.Memory → ladder_answer bytes.now ≡ Err f) }
+    ensures kind { IfErr result (λ f. (f ≢ DeskFault.Device) × (f ≢ DeskFault.TooLarge)) }
+{
+    let (first, rest) = cut_first(bytes);
+    let ladder = match read_ladder(first) {
+        Ok(ladder) => ladder,
+        Err(kind) => return Err(DeskFault::Limit(LimitFault { line: 1, kind })),
+    };
+    let orders = read_orders(alloc, rest)?;
+    answer_orders(alloc, ladder, orders.as_slice())
+}
+
+/// The first line, empty where there is none, and the bytes behind it.
+fn cut_first(bytes: &[u8]) -> (&[u8], &[u8])
+    ensures first { result.0.now ≡ first_line (lines_of bytes.now) }
+    ensures later { lines_of result.1.now ≡ later_lines (lines_of bytes.now) }
+{
+    if bytes.is_empty() {
+        return (bytes, bytes);
+    }
+    cut_line(bytes)
+}
+
+/// The replies to the commands, and the room that they leave.
+fn answer_orders(
+    alloc: Global,
+    ladder: Ladder,
+    orders: &[Command],
+) -> Result<Vec<u8>, DeskFault>
+    requires orders { All IsOrder orders.now }
+    requires few { length orders.now ≤ 999999 }
+    ensures ok { IfOk result (λ text. text.items ≡ ladder_text ladder orders.now) }
+    ensures memory { IfErr result (λ f. f ≡ DeskFault.Memory) }
+{
+    let grid = match Grid::single(alloc, ladder) {
+        Ok(grid) => grid,
+        Err(_) => return Err(DeskFault::Memory),
+    };
+    let mut core = match Core::new(alloc, grid, MOST_COMMANDS) {
+        Ok(core) => core,
+        Err(_) => return Err(DeskFault::Memory),
+    };
+    answer_all(alloc, &mut core, orders)?;
+    match text_of(alloc, &core) {
+        Ok(text) => Ok(text),
+        Err(_) => Err(DeskFault::Memory),
+    }
+}
+
+/// The text of the lines so far, and of the room that is left.
+fn text_of(alloc: Global, core: &Core) -> Result<Vec<u8>, AllocError>
+    requires { Fits core.now.grid only_leg }
+    ensures { IfOk result (λ text. text.items ≡ flat_map entry_text core.now.journal ++ codes "ROOM" ++ flat_map (room_text (state_now core.now)) (ladder_at core.now.grid 0 0) ++ 10 ∷ []) }
+{
+    let mut text = Vec::new(alloc);
+    put_entries(&mut text, core.journal())?;
+    put(&mut text, b"ROOM")?;
+    put_rooms(&mut text, core, core.grid().steps(0, 0))?;
+    put(&mut text, b"\n")?;
+    Ok(text)
+}
+
+/// Adds the room of each class of the leg.
+fn put_rooms(text: &mut Vec<u8>, core: &Core, steps: &[Step]) -> Result<(), AllocError>
+    requires { Fits core.now.grid only_leg }
+    ensures { OnOk result (text.new.items ≡ text.old.items ++ flat_map (room_text (state_now core.now)) steps.now) }
+{
+    for step in steps {
+        put_room(text, core, step.class)?;
+    }
+    Ok(())
+}
+
+fn put_room(text: &mut Vec<u8>, core: &Core, class: Class) -> Result<(), AllocError>
+    requires { Fits core.now.grid only_leg }
+    ensures { OnOk result (text.new.items ≡ text.old.items ++ class_text (state_now core.now) class) }
+{
+    put(text, b" ")?;
+    put(text, &[class.letter()])?;
+    put_number(text, u64::from(core.room(ONLY_LEG, class)))
+}
+
+/// Answers each command as session 1's next call.
+fn answer_all(alloc: Global, core: &mut Core, orders: &[Command]) -> Result<(), DeskFault>
+    requires fits { Fits core.old.grid only_leg }
+    requires orders { All IsOrder orders.now }
+    requires new { core.old.journal ≡ [] }
+    requires few { length orders.now ≤ core.old.cap }
+    requires small { core.old.cap ≤ 999999 }
+    ensures ok { OnOk result (core.new.journal ≡ lines_after core.old.grid [] orders.now) }
+    ensures grid { core.new.grid ≡ core.old.grid }
+    ensures memory { IfErr result (λ f. f ≡ DeskFault.Memory) }
+{
+    for order in orders {
+        answer_next(alloc, core, *order)?;
+    }
+    Ok(())
+}
+
+fn answer_next(alloc: Global, core: &mut Core, order: Command) -> Result<(), DeskFault>
+    requires fits { Fits core.old.grid only_leg }
+    requires order { IsOrder order }
+    requires alone { calls_of core.old.journal 1 ≡ length core.old.journal }
+    requires below { length core.old.journal < core.old.cap }
+    requires small { core.old.cap ≤ 999999 }
+    ensures line { OnOk result (core.new.journal ≡ core.old.journal ++ next_line core.old.grid core.old.journal 1 (length core.old.journal + 1) order ∷ []) }
+    ensures alone { OnOk result (calls_of core.new.journal 1 ≡ length core.new.journal) }
+    ensures grid { core.new.grid ≡ core.old.grid }
+    ensures cap { core.new.cap ≡ core.old.cap }
+    ensures memory { IfErr result (λ f. f ≡ DeskFault.Memory) }
+{
+    let call = core.journal().len() as u32 + 1;
+    match core.step(alloc, 1, call, order) {
+        Ok(_) => Ok(()),
+        Err(_) => Err(DeskFault::Memory),
+    }
+}

@@ -1,0 +1,17 @@
+//! The commands of `seatdesk`, as functions over readers and writers.
+//! It knows the texts that come and go and the order in which they are checked, and leaves every answer to the crates below.
+#![tactic(auto)]
+
+mod audit;
+mod check;
+mod fault;
+mod flights;
+mod ladder;
+mod lines;
+mod orders;
+mod streams;
+mod text;
+
+pub use check::desk_check;
+pub use fault::DeskFault;
+pub use ladder::desk_ladder;

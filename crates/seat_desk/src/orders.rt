@@ -1,0 +1,111 @@
+//! The command lines of a ladder's input.
+ghost use Rattle.std.specs.Prelude.{◌≡◌, ◌≢◌, ◌+◌, ◌<◌, ◌≤◌, [], IfSome, IfOk, IfErr, OnOk, Ok, Err, length};
+ghost use Rattle.std.specs.List.{All};
+ghost use Rattle.seat_desk.specs.LadderDesk.{orders_after};
+ghost use Rattle.seat_desk.specs.Lines.{lines_of};
+ghost use Rattle.seat_desk.specs.Orders.{IsOrder, order_in, parts_in, seats_in};
+
+use crate::fault::DeskFault;
+use crate::lines::cut_line;
+use seat_journal::Command;
+use ssim_records::fields::{are_digits, value_of};
+use ssim_records::{Class, Code, Locator, Place};
+use std::alloc::Global;
+
+/// The only leg of the only flight.
+pub const ONLY_LEG: Place = Place {
+    flight: 0,
+    from: 0,
+    to: 0,
+};
+
+/// A ladder, and as many commands as a journal has lines.
+const MOST_LINES: u32 = 1_000_000;
+
+/// The commands of the lines that follow the ladder.
+pub fn read_orders(alloc: Global, bytes: &[u8]) -> Result<Vec<Command>, DeskFault>
+    ensures ok { IfOk result (λ orders. orders_after 2 [] (lines_of bytes.now) ≡ Ok orders.items) }
+    ensures fault { IfErr result (λ f. f ≢ DeskFault.Memory → orders_after 2 [] (lines_of bytes.now) ≡ Err f) }
+    ensures kind { IfErr result (λ f. (f ≢ DeskFault.Device) × (f ≢ DeskFault.TooLarge)) }
+    ensures orders { IfOk result (λ orders. All IsOrder orders.items) }
+    ensures few { IfOk result (λ orders. length orders.items ≤ 999999) }
+{
+    let mut orders = Vec::new(alloc);
+    let mut rest = bytes;
+    while !rest.is_empty() {
+        rest = take_order(&mut orders, rest)?;
+    }
+    Ok(orders)
+}
+
+/// Reads the next line, and answers the bytes behind it.
+fn take_order<'a>(orders: &mut Vec<Command>, bytes: &'a [u8]) -> Result<&'a [u8], DeskFault>
+    requires some { 0 < length bytes.now }
+    requires few { length orders.old.items ≤ 999999 }
+    requires orders { All IsOrder orders.old.items }
+    ensures ok { IfOk result (λ rest. orders_after (length orders.old.items + 2) orders.old.items (lines_of bytes.now) ≡ orders_after (length orders.new.items + 2) orders.new.items (lines_of rest.now)) }
+    ensures fault { IfErr result (λ f. f ≢ DeskFault.Memory → orders_after (length orders.old.items + 2) orders.old.items (lines_of bytes.now) ≡ Err f) }
+    ensures kind { IfErr result (λ f. (f ≢ DeskFault.Device) × (f ≢ DeskFault.TooLarge)) }
+    ensures shorter { IfOk result (λ rest. length rest.now < length bytes.now) }
+    ensures orders { OnOk result (All IsOrder orders.new.items) }
+    ensures few { OnOk result (length orders.new.items ≤ 999999) }
+{
+    let (text, rest) = cut_line(bytes);
+    let line = orders.len() as u32 + 2;
+    let Some(order) = order_of(text) else {
+        return Err(DeskFault::Command { line });
+    };
+    if line > MOST_LINES {
+        return Err(DeskFault::Full { line });
+    }
+    if orders.push(order).is_err() {
+        return Err(DeskFault::Memory);
+    }
+    Ok(rest)
+}
+
+/// The command that a line `LOCATOR CLASS CODE SEATS` spells, on the only leg there is.
+#[tactic(auto, unfolding(crate::specs::Orders::order_in))]
+pub fn order_of(line: &[u8]) -> Option<Command>
+    ensures value { result ≡ order_in line.now }
+    ensures order { IfSome result IsOrder }
+{
+    if line.len() < 13 || line[6] != b' ' || line[8] != b' ' || line[11] != b' ' {
+        return None;
+    }
+    parts_of(line)
+}
+
+#[tactic(auto, unfolding(crate::specs::Orders::parts_in))]
+fn parts_of(line: &[u8]) -> Option<Command>
+    requires { 13 ≤ length line.now }
+    ensures value { result ≡ parts_in line.now }
+    ensures order { IfSome result IsOrder }
+{
+    let locator = Locator::new(&line[..6])?;
+    let class = Class::new(line[7])?;
+    let code = Code::new(&line[9..11])?;
+    let seats = seats_of(&line[12..])?;
+    Some(Command {
+        locator,
+        place: Some(ONLY_LEG),
+        class,
+        code,
+        seats,
+    })
+}
+
+#[tactic(auto, unfolding(crate::specs::Orders::seats_in))]
+fn seats_of(digits: &[u8]) -> Option<u16>
+    ensures value { result ≡ seats_in digits.now }
+    ensures small { IfSome result (λ n. (1 ≤ n) × (n ≤ 999)) }
+{
+    if digits.is_empty() || digits.len() > 3 || !are_digits(digits) {
+        return None;
+    }
+    let value = value_of(digits);
+    if value == 0 {
+        return None;
+    }
+    Some(value as u16)
+}

@@ -1,0 +1,64 @@
+//! Pieces of the texts that commands write.
+ghost use Rattle.std.specs.Prelude.{◌≡◌, ◌++◌, ◌∷◌, [], decimal, OnOk, codes};
+ghost use Rattle.std.specs.List.{flat_map};
+ghost use Rattle.seat_desk.specs.LadderDesk.{advice_text, entry_text};
+
+use itoa::Buffer;
+use seat_journal::{Advice, Entry};
+use std::alloc::AllocError;
+
+/// Adds bytes as they are.
+pub fn put(text: &mut Vec<u8>, bytes: &[u8]) -> Result<(), AllocError>
+    ensures { OnOk result (text.new.items ≡ text.old.items ++ bytes.now) }
+{
+    text.extend_from_slice(bytes)
+}
+
+/// Adds a number, without leading zeros.
+pub fn put_number(text: &mut Vec<u8>, number: u64) -> Result<(), AllocError>
+    ensures { OnOk result (text.new.items ≡ text.old.items ++ decimal number) }
+{
+    let mut buffer = Buffer::new();
+    put(text, buffer.format(number).as_bytes())
+}
+
+fn put_advice(text: &mut Vec<u8>, advice: &Advice) -> Result<(), AllocError>
+    ensures { OnOk result (text.new.items ≡ text.old.items ++ advice_text advice.now) }
+{
+    put(text, b" KL")?;
+    put_number(text, u64::from(advice.seats))?;
+    put(text, b"/")?;
+    put_number(text, u64::from(advice.number))
+}
+
+#[tactic(auto, using(std::proofs::lemmas::List::flat_map_more))]
+fn put_advices(text: &mut Vec<u8>, advices: &[Advice]) -> Result<(), AllocError>
+    ensures { OnOk result (text.new.items ≡ text.old.items ++ flat_map advice_text advices.now) }
+{
+    for advice in advices {
+        put_advice(text, advice)?;
+    }
+    Ok(())
+}
+
+/// Adds the line of an entry: its number, the reply with its seats, and its advices.
+pub fn put_entry(text: &mut Vec<u8>, entry: &Entry) -> Result<(), AllocError>
+    ensures { OnOk result (text.new.items ≡ text.old.items ++ entry_text entry.now) }
+{
+    put_number(text, u64::from(entry.number))?;
+    put(text, b" ")?;
+    put(text, &entry.reply.letters())?;
+    put_number(text, u64::from(entry.command.seats))?;
+    put_advices(text, entry.advices.as_slice())?;
+    put(text, b"\n")
+}
+
+/// Adds the lines of entries, in order.
+pub fn put_entries(text: &mut Vec<u8>, entries: &[Entry]) -> Result<(), AllocError>
+    ensures { OnOk result (text.new.items ≡ text.old.items ++ flat_map entry_text entries.now) }
+{
+    for entry in entries {
+        put_entry(text, entry)?;
+    }
+    Ok(())
+}

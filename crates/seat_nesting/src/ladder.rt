@@ -1,0 +1,182 @@
+ghost use Rattle.std.specs.Prelude.{◌≡◌, ◌≤◌, ◌↔◌, IfNone, IfOk, IsOk, length};
+ghost use Rattle.std.specs.Bool.{OnFalse};
+ghost use Rattle.std.specs.Result.{result_err};
+ghost use Rattle.seat_nesting.specs.Nesting.{IsLadder, HasLetters, has_class};
+ghost use Rattle.seat_nesting.specs.Ladders.{ladder_fault, repeats_class, is_rising, is_too_large};
+
+use arrayvec::ArrayVec;
+use ssim_records::Class;
+use std::fmt;
+use std::marker::Model;
+
+/// A class, how many seats may be held in it and below, and how many may wait in it.
+#[derive(Clone, Copy, Debug, PartialEq, Eq)]
+pub struct Step {
+    pub class: Class,
+    pub limit: u16,
+    pub wait: u16,
+}
+
+impl Default for Step {
+    fn default() -> Self {
+        Step {
+            class: Class::new(b'A').unwrap(),
+            limit: 0,
+            wait: 0,
+        }
+    }
+}
+
+/// Why steps are no ladder: the first fault in this order.
+#[derive(Clone, Copy, Debug, PartialEq, Eq)]
+pub enum LadderFault {
+    /// There is no step.
+    Empty,
+    /// A class stands twice.
+    RepeatedClass,
+    /// A limit is above that of the rank before it.
+    Rising,
+    /// A limit or a wait is above 999.
+    TooLarge,
+}
+
+impl fmt::Display for LadderFault {
+    fn fmt<W: fmt::Write>(&self, f: &mut fmt::Formatter<W>) -> fmt::Result {
+        match self {
+            LadderFault::Empty => write!(f, "L1"),
+            LadderFault::RepeatedClass => write!(f, "L2"),
+            LadderFault::Rising => write!(f, "L3"),
+            LadderFault::TooLarge => write!(f, "L4"),
+        }
+    }
+}
+
+/// 1 to 26 steps, highest rank first.
+#[derive(Drop)]
+pub struct Ladder {
+    steps: ArrayVec<Step, 26>,
+}
+
+impl Model for Ladder {
+    ghost use Rattle.std.specs.Prelude.{List};
+    ghost use Rattle.seat_nesting.specs.declared.ladder.Step.{Step};
+
+    ghost Value = { List Step };
+
+    ghost use Rattle.seat_nesting.specs.Nesting.{IsLadder};
+
+    ghost view = { λ l. l.steps.items };
+
+    ghost invariant = { λ l. IsLadder l.steps.items };
+}
+
+impl Ladder {
+    /// The ladder of these steps, which are given from the highest rank to the lowest.
+    #[tactic(auto, using(crate::proofs::LadderFaults::no_fault))]
+    pub fn new(steps: &[Step]) -> Result<Ladder, LadderFault>
+        // The steps are those given.
+        ensures value { IfOk result (λ ladder. ladder ≡ steps.now) }
+        ensures ladder { IsOk result ↔ IsLadder steps.now }
+        ensures fault { result_err result ≡ ladder_fault steps.now }
+    {
+        match fault_of(steps) {
+            Some(fault) => Err(fault),
+            None => Ok(Ladder {
+                steps: copy_of(steps),
+            }),
+        }
+    }
+
+    /// The steps from the highest rank to the lowest.
+    pub fn steps(&self) -> &[Step]
+        ensures value { result.now ≡ self.now }
+        ensures ladder { IsLadder self.now }
+    {
+        self.steps.as_slice()
+    }
+
+    /// The same ladder once more.
+    pub fn copy(&self) -> Ladder
+        ensures { result ≡ self.now }
+    {
+        Ladder {
+            steps: copy_of(self.steps.as_slice()),
+        }
+    }
+}
+
+/// The first fault of the steps.
+#[tactic(auto, unfolding(crate::specs::Ladders::ladder_fault), using(crate::proofs::LadderFaults::is_ladder))]
+fn fault_of(steps: &[Step]) -> Option<LadderFault>
+    ensures value { result ≡ ladder_fault steps.now }
+    ensures ladder { IfNone result (IsLadder steps.now) }
+{
+    if steps.is_empty() {
+        return Some(LadderFault::Empty);
+    }
+    if repeats_class(steps) {
+        return Some(LadderFault::RepeatedClass);
+    }
+    if is_rising(steps) {
+        return Some(LadderFault::Rising);
+    }
+    if is_too_large(steps) {
+        return Some(LadderFault::TooLarge);
+    }
+    None
+}
+
+fn copy_of(steps: &[Step]) -> ArrayVec<Step, 26>
+    requires { length steps.now ≤ 26 }
+    ensures { result.items ≡ steps.now }
+{
+    let mut copy = ArrayVec::new();
+    let extended = copy.try_extend_from_slice(steps);
+    prove!(extended.is_ok());
+    let _ = extended;
+    copy
+}
+
+/// Whether a class stands twice.
+fn repeats_class(steps: &[Step]) -> bool
+    ensures value { result ≡ repeats_class steps.now }
+    ensures letters { OnFalse result (HasLetters steps.now) }
+{
+    let mut rest = steps;
+    while let [step, lower @ ..] = rest {
+        let _ = step.class.letter();
+        if has_class(lower, step.class) {
+            return true;
+        }
+        rest = lower;
+    }
+    false
+}
+
+fn has_class(steps: &[Step], class: Class) -> bool
+    ensures { result ≡ has_class steps.now class }
+{
+    steps.iter().any(|step| class == step.class)
+}
+
+/// Whether a limit rises from a rank to the next lower one.
+fn is_rising(steps: &[Step]) -> bool
+    ensures { result ≡ is_rising steps.now }
+{
+    let mut rest = steps;
+    while let [step, lower @ ..] = rest {
+        if let [next, ..] = lower
+            && step.limit < next.limit
+        {
+            return true;
+        }
+        rest = lower;
+    }
+    false
+}
+
+fn is_too_large(steps: &[Step]) -> bool
+    ensures { result ≡ is_too_large steps.now }
+{
+    steps.iter().any(|step| step.limit > 999 || step.wait > 999)
+}

@@ -1,0 +1,130 @@
+//! Ladders as text: entries as `F010/000`, with single blanks between them.
+ghost use Rattle.std.specs.Prelude.{◌≡◌, ◌≤◌, ◌+◌, ◌*◌, ◌<◌, IfErr, IfOk, IfSome, IsTrue, is_some, length, option_map, Ok, Err};
+ghost use Rattle.seat_nesting.specs.Nesting.{Steps, IsLadder};
+ghost use Rattle.seat_nesting.specs.LadderText.{SpellsSteps, IsLadderRefusal, three_in, entry_at, blank_at, steps_in, ladder_in};
+
+use crate::ladder::{Ladder, LadderFault, Step};
+use crate::limit_fault::LimitKind;
+use arrayvec::ArrayVec;
+use ssim_records::Class;
+
+/// 26 entries of eight bytes, and the 25 blanks between them.
+const LONGEST: usize = 233;
+
+/// The ladder that a text spells, as `F112/004 Y100/010`: [`LimitKind::Entry`] where it is no
+/// list of entries, and else [`LimitKind::Ladder`] with the first fault of its steps.
+pub fn read_ladder(text: &[u8]) -> Result<Ladder, LimitKind>
+    // What is read is spelled so.
+    ensures found { IfOk result (SpellsSteps text.now) }
+    // The ladder that is spelled so is read.
+    ensures only { (l : Steps) → SpellsSteps text.now l → IsLadder l → result ≡ Ok l }
+    ensures fault { IfErr result (IsLadderRefusal text.now) }
+    ensures value { result ≡ ladder_in text.now }
+{
+    ladder_of(text)
+}
+
+/// The ladder of a text, or the first fault from left to right.
+#[tactic(auto, unfolding(crate::specs::LadderText::ladder_in))]
+pub fn ladder_of(text: &[u8]) -> Result<Ladder, LimitKind>
+    ensures { result ≡ ladder_in text.now }
+{
+    if text.len() > LONGEST {
+        return Err(fault_of_long(text));
+    }
+    let Some(steps) = steps_of(text) else {
+        return Err(LimitKind::Entry);
+    };
+    match Ladder::new(steps.as_slice()) {
+        Ok(ladder) => Ok(ladder),
+        Err(fault) => Err(LimitKind::Ladder(fault)),
+    }
+}
+
+/// Why a text that is longer than a ladder's is none: more than 26 entries repeat a class.
+#[tactic(auto, using(crate::proofs::LadderLaws::long_text))]
+fn fault_of_long(text: &[u8]) -> LimitKind
+    requires { 233 < length text.now }
+    ensures { ladder_in text.now ≡ Err result }
+{
+    if are_entries(text) {
+        LimitKind::Ladder(LadderFault::RepeatedClass)
+    } else {
+        LimitKind::Entry
+    }
+}
+
+/// Whether the text is one entry or more.
+#[tactic(auto, using(crate::proofs::LadderTexts::one_entry, crate::proofs::LadderTexts::last_entry, crate::proofs::LadderTexts::bad_entry, crate::proofs::LadderTexts::no_entry, crate::proofs::LadderTexts::entry_length, crate::proofs::LadderTexts::blank_length))]
+fn are_entries(text: &[u8]) -> bool
+    ensures { result ≡ is_some (steps_in text.now) }
+{
+    let mut rest = text;
+    while let Some((_, after)) = entry_of(rest) {
+        if after.is_empty() {
+            return true;
+        }
+        let Some(next) = blank_of(after) else {
+            return false;
+        };
+        rest = next;
+    }
+    false
+}
+
+/// The steps of a text of at most 26 entries.
+#[tactic(auto, using(crate::proofs::LadderTexts::one_entry, crate::proofs::LadderTexts::last_entry, crate::proofs::LadderTexts::bad_entry, crate::proofs::LadderTexts::no_entry, crate::proofs::LadderTexts::entry_length, crate::proofs::LadderTexts::blank_length))]
+fn steps_of(text: &[u8]) -> Option<ArrayVec<Step, 26>>
+    requires { length text.now ≤ 233 }
+    ensures { option_map (λ v. v.items) result ≡ steps_in text.now }
+{
+    let mut steps = ArrayVec::new();
+    let mut rest = text;
+    while let Some((step, after)) = entry_of(rest) {
+        steps.push(step);
+        if after.is_empty() {
+            return Some(steps);
+        }
+        let Some(next) = blank_of(after) else {
+            return None;
+        };
+        rest = next;
+    }
+    None
+}
+
+/// The step that the first eight bytes write, and what follows them.
+fn entry_of(bytes: &[u8]) -> Option<(Step, &[u8])>
+    ensures { option_map (λ x. (x.0, x.1.now)) result ≡ entry_at bytes.now }
+{
+    match bytes {
+        [class, a, b, c, b'/', d, e, f, rest @ ..] => {
+            let limit = three_of(*a, *b, *c)?;
+            let wait = three_of(*d, *e, *f)?;
+            let class = Class::new(*class)?;
+            Some((Step { class, limit, wait }, rest))
+        }
+        _ => None,
+    }
+}
+
+/// What follows a blank.
+fn blank_of(bytes: &[u8]) -> Option<&[u8]>
+    ensures { option_map (λ x. x.now) result ≡ blank_at bytes.now }
+{
+    match bytes {
+        [b' ', rest @ ..] => Some(rest),
+        _ => None,
+    }
+}
+
+/// The number that three digits write.
+fn three_of(a: u8, b: u8, c: u8) -> Option<u16>
+    ensures { result ≡ three_in a b c }
+{
+    if a.is_ascii_digit() && b.is_ascii_digit() && c.is_ascii_digit() {
+        Some(u16::from(a - b'0') * 100 + u16::from(b - b'0') * 10 + u16::from(c - b'0'))
+    } else {
+        None
+    }
+}

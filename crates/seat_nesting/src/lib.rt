@@ -1,0 +1,16 @@
+//! Ladders of nested booking limits, and the grid that gives each leg of each dated flight its ladder.
+//! It knows how many seats a table of held seats leaves, and nothing of bookings or of who holds them.
+#![tactic(auto)]
+
+mod counts;
+mod grid;
+mod ladder;
+mod ladder_text;
+mod leg_counts;
+mod limit_fault;
+
+pub use counts::Counts;
+pub use grid::Grid;
+pub use ladder::{Ladder, LadderFault, Step};
+pub use ladder_text::read_ladder;
+pub use limit_fault::{LimitFault, LimitKind};

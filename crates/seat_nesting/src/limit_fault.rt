@@ -1,0 +1,49 @@
+use crate::ladder::LadderFault;
+use std::fmt;
+
+/// Why a line is no limit row, or a text no ladder: the first fault from left to right.
+#[derive(Clone, Copy, Debug, PartialEq, Eq)]
+pub enum LimitKind {
+    /// The line does not begin with `AU` and a blank.
+    Head,
+    /// An airline, a flight number, at most one letter and a blank do not follow.
+    Flight,
+    /// Two dates, the second not before the first, each with a blank behind it, do not follow.
+    Period,
+    /// Six letters do not follow.
+    Pair,
+    /// The entries of a ladder do not follow, or one of them is malformed.
+    Entry,
+    /// The entries are no ladder.
+    Ladder(LadderFault),
+    Memory,
+}
+
+impl fmt::Display for LimitKind {
+    /// The code, with the ladder's own code behind M6.
+    fn fmt<W: fmt::Write>(&self, f: &mut fmt::Formatter<W>) -> fmt::Result {
+        match self {
+            LimitKind::Head => write!(f, "M1"),
+            LimitKind::Flight => write!(f, "M2"),
+            LimitKind::Period => write!(f, "M3"),
+            LimitKind::Pair => write!(f, "M4"),
+            LimitKind::Entry => write!(f, "M5"),
+            LimitKind::Ladder(fault) => write!(f, "M6 {fault}"),
+            LimitKind::Memory => write!(f, "M7"),
+        }
+    }
+}
+
+/// The first line with a fault, counted from 1, and its first fault.
+#[derive(Clone, Copy, Debug, PartialEq, Eq)]
+pub struct LimitFault {
+    pub line: u32,
+    pub kind: LimitKind,
+}
+
+impl fmt::Display for LimitFault {
+    /// The code and the line.
+    fn fmt<W: fmt::Write>(&self, f: &mut fmt::Formatter<W>) -> fmt::Result {
+        write!(f, "{} {}", self.kind, self.line)
+    }
+}

@@ -1,0 +1,6 @@
+pub mod Building
+pub mod Lines
+pub mod Taken
+mod DayLaws
+mod Found
+mod Values

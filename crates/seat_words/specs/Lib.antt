@@ -1,0 +1,4 @@
+pub mod CommandLine
+pub mod DayWords
+pub mod Examples
+pub mod Jobs

@@ -1,0 +1,76 @@
+//! The program `seatdesk`: it takes the words, opens the streams, calls the command and answers its status.
+//! It knows which stream is which, and nothing of what the commands do with them.
+#![tactic(auto)]
+
+use clap::error::ErrorKind;
+use seat_desk::{DeskFault, desk_check, desk_ladder};
+use seat_words::{Job, read_words};
+use ssim_records::Counted;
+use std::fs::File;
+use std::{fs, io};
+use std::process::ExitCode;
+
+fn main(rt: HostRuntime) -> ExitCode {
+    match start(&rt) {
+        Ok(status) => status,
+        Err(_) => ended(&rt, Err(DeskFault::Memory)),
+    }
+}
+
+/// Runs the command that the words name. An error is want of memory for the words.
+fn start(rt: &HostRuntime) -> io::Result<ExitCode> {
+    let given: Vec<String> = std::env::args(rt)?.collect(rt.alloc())?;
+    let mut words = Vec::new(rt.alloc());
+    for word in &given {
+        words.push(word.as_str())?;
+    }
+    match read_words(rt.alloc(), words.as_slice()) {
+        Ok(job) => Ok(ended(rt, carry_out(rt, &job))),
+        Err(error) => Ok(misread(rt, &error)),
+    }
+}
+
+fn carry_out(rt: &HostRuntime, job: &Job<'_>) -> Result<(), DeskFault> {
+    match job {
+        Job::Ladder => {
+            let mut input = Counted::new(rt.stdin());
+            let mut out = Counted::new(rt.stdout());
+            desk_ladder(rt.alloc(), &mut input, &mut out)
+        }
+        Job::Check { set } => {
+            let mut set = opened(rt, set)?;
+            let mut out = Counted::new(rt.stdout());
+            desk_check(rt.alloc(), &mut set, &mut out)
+        }
+        _ => Err(DeskFault::Memory),
+    }
+}
+
+/// An input file.
+fn opened(rt: &HostRuntime, path: &str) -> Result<Counted<File>, DeskFault> {
+    match fs::open(rt, path) {
+        Ok(file) => Ok(Counted::new(file)),
+        Err(error) if error.kind() == io::ErrorKind::OutOfMemory => Err(DeskFault::Memory),
+        Err(_) => Err(DeskFault::Device),
+    }
+}
+
+/// The status of a command, whose fault is one line on standard error.
+fn ended(rt: &HostRuntime, outcome: Result<(), DeskFault>) -> ExitCode {
+    match outcome {
+        Ok(()) => ExitCode::SUCCESS,
+        Err(fault) => {
+            let _ = eprintln!(rt; "seatdesk: {fault}");
+            ExitCode::from(fault.status())
+        }
+    }
+}
+
+/// The status of words that name no command: help and version are clap's, and no fault.
+fn misread(rt: &HostRuntime, error: &clap::Error) -> ExitCode {
+    if error.kind() == ErrorKind::OutOfMemory {
+        return ended(rt, Err(DeskFault::Memory));
+    }
+    let _ = error.print(rt);
+    ExitCode::from(error.exit_code() as u8)
+}
