@@ -1,7 +1,7 @@
 -- What `check` writes: one line that sums up a data set.
 use Rattle.std.specs.Prelude.{◌≡◌, ℕ, Bool, List, ◌∷◌, [], ◌++◌, length, decimal, codes, Option, Some, None, if◌then◌else◌}
 use Rattle.ssim_records.specs.Days.{IsDateText}
-use Rattle.ssim_records.specs.SetSteps.{IsFirstFault}
+use Rattle.ssim_records.specs.SetFaults.{IsFirstFault}
 use Rattle.ssim_records.specs.SetText.{IsDataSet}
 use Rattle.ssim_records.specs.declared.set.DataSet.{DataSet}
 use Rattle.seat_desk.specs.declared.fault.DeskFault.{DeskFault}

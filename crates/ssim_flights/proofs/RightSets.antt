@@ -31,7 +31,7 @@ high_day : (y : ℤ) (m d : ℕ) → IsCivilDate y m d → y ≤ℤ pos 2099 →
 high_day y m d date high =
     omega (arith, signed_arith, days_from_civil-day_count y m d, count_2100, day_count-lt_year y m d (pos 2100) 1 1 date (omega arith) (omega (arith, signed_arith)))
 
-of_century : (year m d n : ℕ) → year < 100 → IsDate (2000 + year) m d n → IsOfCentury n
+pub of_century : (year m d n : ℕ) → year < 100 → IsDate (2000 + year) m d n → IsOfCentury n
 of_century year m d n small date =
     let low = low_day (pos (2000 + year)) m d date.0 (omega (arith, signed_arith)) in
     let high = high_day (pos (2000 + year)) m d date.0 (omega (arith, signed_arith)) in
