@@ -2,3 +2,4 @@ mod Cuts
 mod Auditing
 mod Texts
 mod Schedules
+mod Grounds

@@ -7,11 +7,13 @@ mod check;
 mod fault;
 mod flights;
 mod ladder;
+mod loading;
 mod lines;
 mod orders;
 mod streams;
 mod text;
 
+pub use audit::desk_audit;
 pub use check::desk_check;
 pub use fault::DeskFault;
 pub use flights::desk_flights;

@@ -6,7 +6,7 @@ ghost use Rattle.std.specs.Prelude.{◌≤◌, IfOk};
 ghost use Rattle.ssim_flights.specs.Right.{IsOfCentury};
 
 use clap::error::ErrorKind;
-use seat_desk::{DeskFault, desk_check, desk_flights, desk_ladder};
+use seat_desk::{DeskFault, desk_audit, desk_check, desk_flights, desk_ladder};
 use seat_words::{Job, date_word, days_word, read_words};
 use ssim_records::{Counted, Day};
 use std::fs::File;
@@ -50,6 +50,28 @@ fn carry_out(rt: &HostRuntime, job: &Job<'_>) -> Result<(), DeskFault> {
             let mut set = opened(rt, set)?;
             let mut out = Counted::new(rt.stdout());
             desk_flights(rt.alloc(), &mut set, first, days, &mut out)
+        }
+        Job::Audit {
+            set,
+            limits,
+            first,
+            days,
+            journal,
+        } => {
+            let (first, days) = horizon(first, days)?;
+            let mut set = opened(rt, set)?;
+            let mut limits = opened(rt, limits)?;
+            let mut journal = opened(rt, journal)?;
+            let mut out = Counted::new(rt.stdout());
+            desk_audit(
+                rt.alloc(),
+                &mut set,
+                &mut limits,
+                first,
+                days,
+                &mut journal,
+                &mut out,
+            )
         }
         _ => Err(DeskFault::Memory),
     }
