@@ -1,8 +1,8 @@
 //! Devices for tests: they pass some calls on, a few bytes at a time, and then fail.
-ghost use Rattle.std.specs.Prelude.{◌≡◌, ◌-◌, ℕ, IsErr, Ok};
+ghost use Rattle.std.specs.Prelude.{◌≡◌, ◌-◌, ◌≤◌, ℕ, max, IsErr, IfOk, Ok};
 ghost use Rattle.std.specs.Io.{ReadsAtMost, WritesAtMost};
 ghost use Rattle.std.specs.Io.KnownBytes.{Keeps, ReadConsumes, WriteAppends};
-ghost use Rattle.ssim_records.specs.Failing.{read_inner, reads_left, write_inner, writes_left, writes_stop};
+ghost use Rattle.ssim_records.specs.Failing.{read_inner, reads_piece, reads_left, write_inner, writes_piece, writes_left, writes_stop};
 
 use std::io;
 use std::io::{Read, Write};
@@ -18,6 +18,7 @@ pub struct FailingReader<R> {
 impl<R> FailingReader<R> {
     pub fn new(inner: R, piece: usize, left: u64) -> FailingReader<R>
         ensures inner { read_inner result ≡ inner }
+        ensures piece { reads_piece result ≡ piece }
         ensures left { reads_left result ≡ left }
     {
         FailingReader { inner, piece, left }
@@ -30,7 +31,9 @@ impl<R: Read> Read for FailingReader<R> {
     fn read(&mut self, buf: &mut [u8]) -> io::Result<usize>
         ensures bound { ReadsAtMost result buf.new }
         ensures bytes { ReadConsumes (R.remaining (read_inner self.old)) (R.remaining (read_inner self.new)) result buf.new }
+        ensures few { IfOk result (λ n. n ≤ max (reads_piece self.old) 1) }
         ensures fails { reads_left self.old ≡ 0 → IsErr result }
+        ensures piece { reads_piece self.new ≡ reads_piece self.old }
         ensures left { reads_left self.new ≡ reads_left self.old - 1 }
     {
         if self.left == 0 {
@@ -67,6 +70,7 @@ pub struct FailingWriter<W> {
 impl<W> FailingWriter<W> {
     pub fn new(inner: W, piece: usize, left: u64, stop: Stop) -> FailingWriter<W>
         ensures inner { write_inner result ≡ inner }
+        ensures piece { writes_piece result ≡ piece }
         ensures left { writes_left result ≡ left }
         ensures stop { writes_stop result ≡ stop }
     {
@@ -91,8 +95,10 @@ impl<W: Write> Write for FailingWriter<W> {
     fn write(&mut self, buf: &[u8]) -> io::Result<usize>
         ensures bound { WritesAtMost result buf.now }
         ensures bytes { WriteAppends (W.contents (write_inner self.old)) (W.contents (write_inner self.new)) result buf.now }
+        ensures few { IfOk result (λ n. n ≤ max (writes_piece self.old) 1) }
         ensures fails { writes_left self.old ≡ 0 → writes_stop self.old ≡ Stop.Fails → IsErr result }
         ensures takes_none { writes_left self.old ≡ 0 → writes_stop self.old ≡ Stop.TakesNone → result ≡ Ok 0 }
+        ensures kept { (writes_piece self.new ≡ writes_piece self.old) × (writes_stop self.new ≡ writes_stop self.old) }
         ensures left { writes_left self.new ≡ writes_left self.old - 1 }
     {
         if self.left == 0 {
@@ -113,6 +119,7 @@ impl<W: Write> Write for FailingWriter<W> {
     fn flush(&mut self) -> io::Result<()>
         ensures bytes { Keeps (W.contents (write_inner self.old)) (W.contents (write_inner self.new)) }
         ensures fails { writes_left self.old ≡ 0 → writes_stop self.old ≡ Stop.Fails → IsErr result }
+        ensures kept { (writes_piece self.new ≡ writes_piece self.old) × (writes_stop self.new ≡ writes_stop self.old) }
         ensures left { writes_left self.new ≡ writes_left self.old }
     {
         if self.left == 0 && self.stop == Stop::Fails {
