@@ -1,3 +1,4 @@
+pub mod Counting
 pub mod LadderText
 pub mod Ladders
 pub mod Nesting

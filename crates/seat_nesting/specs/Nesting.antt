@@ -1,5 +1,5 @@
 -- Nested booking limits (Talluri and van Ryzin): ladders, grids, and the room that a table of held seats leaves.
-use Rattle.std.specs.Prelude.{◌≢◌, ℕ, zero, suc, ◌+◌, ◌-◌, ◌<◌, ◌≤◌, ◌==◌, ◌&&◌, Bool, false, nat_le, min, List, [], ◌∷◌, length, unwrap_or, slice_get, if◌then◌else◌, IsTrue}
+use Rattle.std.specs.Prelude.{◌≢◌, ℕ, zero, suc, ◌+◌, ◌-◌, ◌<◌, ◌≤◌, ◌==◌, ◌&&◌, Bool, false, nat_le, min, List, [], ◌∷◌, length, Option, unwrap_or, slice_get, if◌then◌else◌, IsTrue}
 use Rattle.std.specs.Char.{is_ascii_uppercase}
 use Rattle.std.specs.List.{sum_by, list_any, AllByRecursion}
 use Rattle.seat_nesting.specs.declared.ladder.Step.{Step}
@@ -43,12 +43,27 @@ pub record IsLadder (steps : Steps) : Type 0 where
   pub not_rising : IsNotRising steps
   pub bounded : AllByRecursion (λ s. (s.limit ≤ 999) × (s.wait ≤ 999)) steps
 
+-- the steps of a leg that has a ladder or none
+abbrev pub steps_of : Option Steps → Steps
+steps_of ladder = unwrap_or ladder []
+
+-- the steps of a flight's leg; none where the leg is not there
+abbrev pub steps_at : List Steps → ℕ → Steps
+steps_at legs leg = unwrap_or (slice_get legs leg) []
+
+-- the steps of a leg: a ladder, or none
+pub record IsLegLadder (steps : Steps) : Type 0 where
+  pub most : length steps ≤ 26
+  pub distinct : IsDistinct steps
+  pub not_rising : IsNotRising steps
+  pub bounded : AllByRecursion (λ s. (s.limit ≤ 999) × (s.wait ≤ 999)) steps
+
 abbrev pub legs_of : Legs → ℕ → List Steps
 legs_of grid flight = unwrap_or (slice_get grid flight) []
 
 -- the steps of one leg; none where the flight or the leg is not there
 abbrev pub ladder_at : Legs → ℕ → ℕ → Steps
-ladder_at grid flight leg = unwrap_or (slice_get (legs_of grid flight) leg) []
+ladder_at grid flight leg = steps_at (legs_of grid flight) leg
 
 -- the flight and both legs are there
 abbrev pub Fits : Legs → Place → Type 0
@@ -82,6 +97,14 @@ least f from (suc n) = min (least f from n) (f (from + suc n))
 -- the seats held by flight, leg and class
 abbrev pub Table : Type 0
 Table = ℕ → ℕ → ByClass
+
+-- the place covers the leg
+abbrev pub covers : ℕ → ℕ → Place → Bool
+covers flight leg place = (place.flight == flight) && nat_le place.from leg && nat_le leg place.to
+
+-- n seats on each leg of a place in a class
+abbrev pub seats_at : Place → ℕ → ℕ → Table
+seats_at place class n flight leg k = (if covers flight leg place && (class == k) then n else 0)
 
 -- Room(place, class): the least over the legs of the place
 abbrev pub room : Legs → Table → Place → ℕ → ℕ

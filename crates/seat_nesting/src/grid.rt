@@ -1,15 +1,27 @@
-ghost use Rattle.std.specs.Prelude.{◌≡◌, ◌≤◌, ℕ, length, [], ◌∷◌, IfOk, IfSome, IfNone, IsTrue, ◌↔◌};
-ghost use Rattle.seat_nesting.specs.Nesting.{Fits, ladder_at, IsDistinct, HasLadders};
+//! The ladder of each leg of each dated flight.
+ghost use Rattle.std.specs.Prelude.{◌≡◌, ◌≤◌, ℕ, length, [], ◌∷◌, IfOk, IfSome, IfNone, IsTrue, map, ◌↔◌};
+ghost use Rattle.seat_nesting.specs.Nesting.{Fits, ladder_at, IsDistinct, HasLadders, steps_at, steps_of};
 
 use crate::ladder::{Ladder, Step};
 use ssim_records::{Memory, Place};
-use std::alloc::{AllocError, Global};
+use std::alloc::Global;
 use std::marker::Model;
 
-/// The ladders of the legs of one flight.
+/// The ladders of the legs of one flight; a leg without limits has none.
 #[derive(Drop)]
-struct FlightLegs {
+pub struct FlightLegs {
     ladders: Vec<Option<Ladder>>,
+}
+
+impl Model for FlightLegs {
+    ghost use Rattle.std.specs.Prelude.{List, map};
+    ghost use Rattle.seat_nesting.specs.declared.ladder.Step.{Step};
+
+    ghost Value = { List (List Step) };
+
+    ghost use Rattle.seat_nesting.specs.Nesting.{steps_of};
+
+    ghost view = { λ f. map steps_of f.ladders.items };
 }
 
 /// The ladder of each leg of each flight.
@@ -19,16 +31,16 @@ pub struct Grid {
 }
 
 impl Model for Grid {
-    ghost use Rattle.std.specs.Prelude.{List, [], map, unwrap_or};
+    ghost use Rattle.std.specs.Prelude.{List};
     ghost use Rattle.seat_nesting.specs.declared.ladder.Step.{Step};
 
     ghost Value = { List (List (List Step)) };
 
     ghost use Rattle.seat_nesting.specs.Nesting.{HasLadders};
 
-    ghost view = { λ g. map (λ f. map (λ l. unwrap_or l []) f.ladders.items) g.flights.items };
+    ghost view = { λ g. g.flights.items };
 
-    ghost invariant = { λ g. HasLadders (map (λ f. map (λ l. unwrap_or l []) f.ladders.items) g.flights.items) };
+    ghost invariant = { λ g. HasLadders g.flights.items };
 }
 
 impl Grid {
@@ -49,27 +61,33 @@ impl Grid {
         Ok(Grid { flights })
     }
 
-    /// Whether the flight and both legs are there.
+    /// The same grid once more.
+    pub fn copy(&self, alloc: Global) -> Result<Grid, Memory>
+        ensures { IfOk result (λ grid. grid ≡ self.now) }
+    {
+        let mut flights = Vec::with_capacity(alloc, self.flights.len())?;
+        for flight in &self.flights {
+            flights.push(flight.copy(alloc)?)?;
+        }
+        Ok(Grid { flights })
+    }
+
+    /// Whether the flight and both legs are there, the second not before the first.
     pub fn fits(&self, place: Place) -> bool
         ensures { IsTrue result ↔ Fits self.now place }
     {
         match self.flights.get(place.flight as usize) {
-            Some(legs) => { place.from <= place.to && usize::from(place.to) < legs.ladders.len() }
+            Some(legs) => { place.from <= place.to && usize::from(place.to) < legs.len() }
             None => false,
         }
     }
 
+    /// The ladder of a leg, where it has one.
     pub fn ladder(&self, flight: u32, leg: u8) -> Option<&Ladder>
         ensures found { IfSome result (λ l. l.now ≡ ladder_at self.now flight leg) }
         ensures none { IfNone result (ladder_at self.now flight leg ≡ []) }
     {
-        match self.flights.get(flight as usize) {
-            Some(legs) => match legs.ladders.get(usize::from(leg)) {
-                Some(Some(ladder)) => Some(ladder),
-                _ => None,
-            },
-            None => None,
-        }
+        self.flights.get(flight as usize)?.ladder(usize::from(leg))
     }
 
     /// The steps of a leg, which are none where it has no limits.
@@ -84,10 +102,62 @@ impl Grid {
         }
     }
 
+    /// The legs of each flight.
+    pub fn flights(&self) -> &[FlightLegs]
+        ensures { result.now ≡ self.now }
+    {
+        &self.flights
+    }
+
     /// No class stands twice in a leg's steps.
     pub fn ladders_are_distinct(&self)
         ensures { HasLadders self.now }
     {
         let _ = &self.flights;
+    }
+}
+
+impl FlightLegs {
+    /// The ladder of each leg, where it has one.
+    pub fn ladders(&self) -> &[Option<Ladder>]
+        ensures { self.now ≡ map steps_of result.now }
+    {
+        &self.ladders
+    }
+
+    fn len(&self) -> usize
+        ensures { result ≡ length self.now }
+    {
+        self.ladders.len()
+    }
+
+    fn ladder(&self, leg: usize) -> Option<&Ladder>
+        ensures found { IfSome result (λ l. l.now ≡ steps_at self.now leg) }
+        ensures none { IfNone result (steps_at self.now leg ≡ []) }
+    {
+        match self.ladders.get(leg) {
+            Some(Some(ladder)) => Some(ladder),
+            _ => None,
+        }
+    }
+
+    fn copy(&self, alloc: Global) -> Result<FlightLegs, Memory>
+        ensures { IfOk result (λ legs. legs ≡ self.now) }
+    {
+        let mut ladders = Vec::with_capacity(alloc, self.ladders.len())?;
+        for ladder in &self.ladders {
+            ladders.push(copy_of(ladder))?;
+        }
+        Ok(FlightLegs { ladders })
+    }
+}
+
+/// The same ladder once more, if there is one.
+pub fn copy_of(ladder: &Option<Ladder>) -> Option<Ladder>
+    ensures { result ≡ ladder.now }
+{
+    match ladder {
+        Some(ladder) => Some(ladder.copy()),
+        None => None,
     }
 }

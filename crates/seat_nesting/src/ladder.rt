@@ -94,6 +94,15 @@ impl Ladder {
     {
         self.steps.as_slice()
     }
+
+    /// The same ladder once more.
+    pub fn copy(&self) -> Ladder
+        ensures { result ≡ self.now }
+    {
+        Ladder {
+            steps: copy_of(self.steps.as_slice()),
+        }
+    }
 }
 
 /// The first fault of the steps.

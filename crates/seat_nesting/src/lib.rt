@@ -2,11 +2,14 @@
 //! It knows how many seats a table of held seats leaves, and nothing of bookings or of who holds them.
 #![tactic(auto)]
 
+mod counts;
 mod grid;
 mod ladder;
 mod ladder_text;
+mod leg_counts;
 mod limit_fault;
 
+pub use counts::Counts;
 pub use grid::Grid;
 pub use ladder::{Ladder, LadderFault, Step};
 pub use ladder_text::read_ladder;

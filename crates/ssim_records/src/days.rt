@@ -12,7 +12,7 @@ use std::marker::Model;
 const DAYS_BEFORE_1970: u32 = 4_371_587;
 
 /// A day of the years 1999 to 2199, by its number from 1 January 1970.
-#[derive(Clone, Copy, Debug, PartialEq, Eq, PartialOrd, Ord)]
+#[derive(Clone, Copy, Debug, PartialEq, Eq, PartialOrd, Ord, Hash)]
 pub struct Day {
     number: u32,
 }
@@ -58,6 +58,14 @@ impl Day {
         }
     }
 
+    /// The day with this number, counted from 1 January 1970.
+    pub fn numbered(number: u32) -> Self
+        requires { IsDay number }
+        ensures { result ≡ number }
+    {
+        Day { number }
+    }
+
     /// Its number, counted from 1 January 1970.
     pub fn number(self) -> u32
         ensures value { result ≡ self }
@@ -71,7 +79,8 @@ impl Day {
         ensures date { IsDate result.0 result.1 result.2 self }
         ensures years { (1999 ≤ result.0) × (result.0 ≤ 2199) }
     {
-        let date = civil::Date::from_days_since_min(self.number + DAYS_BEFORE_1970);
+        let Day { number } = self;
+        let date = civil::Date::from_days_since_min(number + DAYS_BEFORE_1970);
         (date.year as u16, date.month, date.day)
     }
 

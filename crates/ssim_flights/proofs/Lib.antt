@@ -1,0 +1,6 @@
+mod Chains
+mod Clocks
+mod Grouping
+mod Indexing
+mod OperatingDays
+mod Walks

@@ -1,0 +1,31 @@
+-- SSIM chapter 7: the days on which a leg operates, by its period, days of operation and frequency rate.
+use Rattle.std.specs.Prelude.{◌≡◌, ℕ, ◌+◌, ◌-◌, ◌/◌, ◌%◌, ◌≤◌, ◌==◌, ◌&&◌, ◌||◌, Bool, true, false, not, IsTrue, List, pos, unwrap_or, slice_index_or, filter}
+use Rattle.std.specs.List.{range_with_len}
+use Rattle.jiff_core.specs.Calendar.{weekday_number}
+use Rattle.ssim_records.specs.declared.carrier.Leg.{Leg}
+
+-- the last day of the period, where `end` stands for an open one
+abbrev pub last_day : Leg → ℕ → ℕ
+last_day leg end = unwrap_or leg.to end
+
+-- the day of the week is one of the days of operation, which begin with Monday
+abbrev pub is_listed : Leg → ℕ → Bool
+is_listed leg d = slice_index_or leg.days (weekday_number (pos d)) false
+
+-- at frequency rate 2 every second week, counted from the first day of the period (an own rule)
+abbrev pub is_in_week : Leg → ℕ → Bool
+is_in_week leg d = not leg.second_week || (((d - leg.from) / 7) % 2 == 0)
+
+abbrev pub operates : Leg → ℕ → Bool
+operates leg d = is_listed leg d && is_in_week leg d
+
+-- the leg operates on day d
+pub record Operates (leg : Leg) (end d : ℕ) : Type 0 where
+  pub begun : leg.from ≤ d
+  pub lasts : d ≤ last_day leg end
+  pub listed : IsTrue (is_listed leg d)
+  pub in_week : IsTrue (is_in_week leg d)
+
+-- those days, in order
+abbrev pub operating_days : Leg → ℕ → List ℕ
+operating_days leg end = filter (operates leg) (range_with_len leg.from (last_day leg end + 1 - leg.from))

@@ -1,0 +1,45 @@
+//! Which legs belong to one itinerary (SSIM chapter 7, flight leg record).
+ghost use Rattle.std.specs.Prelude.{◌≡◌, IfOk};
+ghost use Rattle.ssim_flights.specs.Itineraries.{itineraries, name_of};
+
+use crate::leg_list::LegLists;
+use indexmap::IndexSet;
+use ssim_records::{Leg, Memory};
+use std::alloc::Global;
+
+/// What the legs of an itinerary share, the airline aside.
+#[derive(Clone, Copy, Debug, PartialEq, Eq, Hash)]
+pub(crate) struct Name {
+    pub number: u16,
+    pub suffix: Option<u8>,
+    pub variation: u8,
+    pub overflow: u8,
+}
+
+fn name_of(leg: &Leg) -> Name
+    ensures { result ≡ name_of leg.now }
+{
+    Name {
+        number: leg.number,
+        suffix: leg.suffix,
+        variation: leg.variation,
+        overflow: leg.overflow,
+    }
+}
+
+/// The itineraries of these legs, in the order of their first records.
+pub(crate) fn itineraries(alloc: Global, legs: &[Leg]) -> Result<LegLists, Memory>
+    ensures { IfOk result (λ all. all ≡ itineraries legs.now) }
+{
+    let mut names = IndexSet::new(alloc);
+    let mut all = LegLists::new(alloc);
+    for leg in legs {
+        let (index, is_new) = names.insert_full(name_of(leg))?;
+        if is_new {
+            all.begin(alloc, *leg)?;
+        } else {
+            all.extend(index, *leg)?;
+        }
+    }
+    Ok(all)
+}

@@ -1,0 +1,93 @@
+//! Lists of legs.
+ghost use Rattle.std.specs.Prelude.{◌≡◌, ◌<◌, ◌++◌, ◌∷◌, List, [], OnOk, length, slice_set, slice_index_or};
+ghost use Rattle.ssim_records.specs.declared.carrier.Leg.{Leg as Flown};
+
+use ssim_records::{Day, Leg, Memory, Station};
+use std::alloc::Global;
+use std::marker::Model;
+
+/// Legs in some order.
+#[derive(Drop)]
+pub(crate) struct LegList {
+    items: Vec<Leg>,
+}
+
+impl Model for LegList {
+    ghost Value = { List Flown };
+
+    ghost view = { λ l. l.items.items };
+}
+
+impl LegList {
+    pub(crate) fn new(alloc: Global) -> Self
+        ensures { result ≡ [] }
+    {
+        LegList {
+            items: Vec::new(alloc),
+        }
+    }
+
+    pub(crate) fn as_slice(&self) -> &[Leg]
+        ensures { result.now ≡ self.now }
+    {
+        self.items.as_slice()
+    }
+
+    /// Adds a leg at the end.
+    pub(crate) fn push(&mut self, leg: Leg) -> Result<(), Memory>
+        ensures { OnOk result (self.new ≡ self.old ++ leg ∷ []) }
+    {
+        let _suffix: Option<u8> = leg.suffix;
+        let _from: Day = leg.from;
+        let _board: Station = leg.board;
+        self.items.push(leg)?;
+        Ok(())
+    }
+}
+
+/// The legs of several itineraries.
+#[derive(Drop)]
+pub(crate) struct LegLists {
+    items: Vec<LegList>,
+}
+
+impl Model for LegLists {
+    ghost Value = { List (List Flown) };
+
+    ghost view = { λ l. l.items.items };
+}
+
+impl LegLists {
+    pub(crate) fn new(alloc: Global) -> Self
+        ensures { result ≡ [] }
+    {
+        LegLists {
+            items: Vec::new(alloc),
+        }
+    }
+
+    pub(crate) fn as_slice(&self) -> &[LegList]
+        ensures { result.now ≡ self.now }
+    {
+        self.items.as_slice()
+    }
+
+    /// Adds an itinerary of one leg at the end.
+    pub(crate) fn begin(&mut self, alloc: Global, leg: Leg) -> Result<(), Memory>
+        ensures { OnOk result (self.new ≡ self.old ++ (leg ∷ []) ∷ []) }
+    {
+        let mut legs = LegList::new(alloc);
+        legs.push(leg)?;
+        self.items.push(legs)?;
+        Ok(())
+    }
+
+    /// Adds a leg to the end of itinerary `i`.
+    pub(crate) fn extend(&mut self, i: usize, leg: Leg) -> Result<(), Memory>
+        requires { i < length self.old }
+        ensures { OnOk result (self.new ≡ slice_set self.old i (slice_index_or self.old i [] ++ leg ∷ [])) }
+    {
+        let legs = &mut self.items[i];
+        legs.push(leg)
+    }
+}

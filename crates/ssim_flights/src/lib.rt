@@ -1,0 +1,21 @@
+//! The dated flights of a carrier's legs (SSIM chapter 7), and the places that a passenger asks for.
+//! It knows legs and days, and nothing of seats, bookings or sessions.
+#![tactic(auto)]
+
+mod chain;
+mod days;
+mod fault;
+mod flight;
+mod flights;
+mod flown;
+mod index;
+mod itinerary;
+mod leg_list;
+mod plan;
+mod rows;
+mod schedule;
+
+pub use days::{Days, operating_days};
+pub use fault::{FlightFault, FlightKind};
+pub use flight::{DatedLeg, DatedLegs, Flight, Wanted};
+pub use flights::Flights;

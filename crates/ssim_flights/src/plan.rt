@@ -1,0 +1,15 @@
+//! What the legs of a carrier are expanded by.
+use ssim_records::{Airline, Day};
+
+/// The carrier's airline and time mode, and the horizon.
+#[derive(Clone, Copy, Debug)]
+pub(crate) struct Plan {
+    pub airline: Airline,
+    pub local: bool,
+    pub first: Day,
+    pub last: Day,
+    /// What stands for an open end of a leg's period.
+    pub end: Day,
+    /// How many flights there may be.
+    pub most: u32,
+}
