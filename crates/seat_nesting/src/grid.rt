@@ -122,7 +122,7 @@ impl Grid {
     }
 
     /// The legs of each flight.
-    pub fn flights(&self) -> &[FlightLegs]
+    pub(crate) fn flights(&self) -> &[FlightLegs]
         ensures { result.now ≡ self.now }
     {
         &self.flights
@@ -156,7 +156,7 @@ impl Grid {
 
 impl FlightLegs {
     /// The ladder of each leg, where it has one.
-    pub fn ladders(&self) -> &[Option<Ladder>]
+    pub(crate) fn ladders(&self) -> &[Option<Ladder>]
         ensures { self.now ≡ map steps_of result.now }
     {
         &self.ladders
@@ -208,7 +208,7 @@ impl FlightLegs {
 }
 
 /// The same ladder once more, if there is one.
-pub fn copy_of(ladder: &Option<Ladder>) -> Option<Ladder>
+pub(crate) fn copy_of(ladder: &Option<Ladder>) -> Option<Ladder>
     ensures { result ≡ ladder.now }
 {
     match ladder {
