@@ -1,1 +1,3 @@
 mod Cuts
+mod Auditing
+mod Texts

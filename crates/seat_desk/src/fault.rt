@@ -1,6 +1,8 @@
 ghost use Rattle.std.specs.Prelude.{◌≡◌};
 ghost use Rattle.seat_desk.specs.Status.{status_of};
 
+use seat_core::ReplayFault;
+use seat_journal::JournalFault;
 use seat_nesting::LimitFault;
 use ssim_records::SetFault;
 use thiserror::Error;
@@ -20,6 +22,12 @@ pub enum DeskFault {
     /// A command beyond those that a journal has room for.
     #[error("C1 {line}")]
     Full { line: u32 },
+    /// The bytes are no journal.
+    #[error("{0}")]
+    Journal(JournalFault),
+    /// The entries are no legal history.
+    #[error("{0}")]
+    Replay(ReplayFault),
     /// The first day is no day of 2000 to 2099.
     #[error("E2 first")]
     BadFirst,

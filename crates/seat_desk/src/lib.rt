@@ -2,8 +2,10 @@
 //! It knows the texts that come and go and the order in which they are checked, and leaves every answer to the crates below.
 #![tactic(auto)]
 
+mod audit;
 mod check;
 mod fault;
+mod flights;
 mod ladder;
 mod lines;
 mod orders;

@@ -1,3 +1,4 @@
 pub mod CommandLine
 pub mod DayWords
+pub mod Examples
 pub mod Jobs

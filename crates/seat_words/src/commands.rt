@@ -1,9 +1,27 @@
 //! The commands, as clap reads them and as their help shows them.
 ghost use Rattle.std.specs.Prelude.{IfOk, codes};
+ghost use Rattle.clap.specs.Words.{new_app};
 ghost use Rattle.seat_words.specs.CommandLine.{IsBuiltAs, IsReadAs, audit_app, bare_app, check_app, flights_app, horizon_app, ladder_app, required_option, required_value, required_values, run_app, seatdesk_app};
 
 use clap::{Arg, ArgAction, Command};
 use std::alloc::{AllocError, Global};
+
+const SET_HELP: &str = "The data set of the schedule (SSIM chapter 7, a file)";
+
+const LIMITS_HELP: &str = "The booking limits of the legs, in seats from 0 to 999 (a file)";
+
+const FIRST_HELP: &str = "The first day of departure, as 2024-06-01, from 2000 to 2099";
+
+const DAYS_HELP: &str = "How many days from the first on, 1 to 366";
+
+const TODAY_HELP: &str =
+    "The day of the run, as 2024-06-01, from 2000 to 2099; it gives the requests their year";
+
+const OUT_HELP: &str = "The file that the journal is written to";
+
+const JOURNAL_HELP: &str = "The journal to replay: a file that run wrote";
+
+const SCRIPTS_HELP: &str = "The scripts of the sessions, 1 to 8 files of AIRIMP messages";
 
 /// The whole command line.
 pub(crate) fn seatdesk_command<'a>(alloc: Global) -> Result<Command<'a>, AllocError>
@@ -40,158 +58,114 @@ fn bare_command<'a>(alloc: Global) -> Result<Command<'a>, AllocError>
 fn ladder_command<'a>(alloc: Global) -> Command<'a>
     ensures { IsBuiltAs ladder_app result }
 {
-    Command::new(alloc, "ladder")
-        .about("Sells the seats of one leg: its limits and requests from standard input")
-        .after_help("Example: seatdesk ladder < leg.txt")
+    named_command(
+        alloc,
+        "ladder",
+        "Sells the seats of one leg: its limits and requests from standard input",
+        "Example: seatdesk ladder < leg.txt",
+    )
 }
 
 fn check_command<'a>(alloc: Global) -> Result<Command<'a>, AllocError>
     ensures { IfOk result (IsBuiltAs check_app) }
 {
-    let check = Command::new(alloc, "check")
-        .about("Reads a data set and writes one summary line")
-        .after_help("Example: seatdesk check summer.ssim")
-        .arg(set_argument(alloc))?;
+    let check = named_command(
+        alloc,
+        "check",
+        "Reads a data set and writes one summary line",
+        "Example: seatdesk check summer.ssim",
+    )
+    .arg(wanted_value(alloc, "set", "SET", SET_HELP))?;
     Ok(check)
 }
 
 fn flights_command<'a>(alloc: Global) -> Result<Command<'a>, AllocError>
     ensures { IfOk result (IsBuiltAs flights_app) }
 {
-    let flights = Command::new(alloc, "flights")
-        .about("Writes one line for each dated flight")
-        .after_help("Example: seatdesk flights --first 2024-06-01 --days 30 summer.ssim")
-        .arg(first_option(alloc))?
-        .arg(days_option(alloc))?
-        .arg(set_argument(alloc))?;
+    let flights = named_command(
+        alloc,
+        "flights",
+        "Writes one line for each dated flight",
+        "Example: seatdesk flights --first 2024-06-01 --days 30 summer.ssim",
+    )
+    .arg(wanted_option(alloc, "first", "DATE", FIRST_HELP))?
+    .arg(wanted_option(alloc, "days", "N", DAYS_HELP))?
+    .arg(wanted_value(alloc, "set", "SET", SET_HELP))?;
     Ok(flights)
 }
 
 fn audit_command<'a>(alloc: Global) -> Result<Command<'a>, AllocError>
     ensures { IfOk result (IsBuiltAs audit_app) }
 {
-    let audit = horizon_command(alloc, "audit")?
-        .arg(journal_argument(alloc))?
-        .about("Replays a journal against its schedule and limits, and writes one summary line")
-        .after_help(
-            "Example: seatdesk audit --set summer.ssim --limits limits.txt --first 2024-06-01 --days 30 journal.txt",
-        );
+    let audit = horizon_command(
+        alloc,
+        "audit",
+        "Replays a journal against its schedule and limits, and writes one summary line",
+        "Example: seatdesk audit --set summer.ssim --limits limits.txt --first 2024-06-01 --days 30 journal.txt",
+    )?
+    .arg(wanted_value(alloc, "journal", "JOURNAL", JOURNAL_HELP))?;
     Ok(audit)
 }
 
 fn run_command<'a>(alloc: Global) -> Result<Command<'a>, AllocError>
     ensures { IfOk result (IsBuiltAs run_app) }
 {
-    let run = horizon_command(alloc, "run")?
-        .arg(today_option(alloc))?
-        .arg(out_option(alloc))?
-        .arg(scripts_argument(alloc))?
-        .about(
-            "Books the requests of scripts, one session on a thread for each script, and writes the replies",
-        )
-        .after_help(
-            "OUT is created, empty, after the inputs open and before they are read; a refused run leaves it empty.\n\nExample: seatdesk run --set summer.ssim --limits limits.txt --first 2024-06-01 --days 30 --today 2024-06-01 --journal journal.txt desk1.txt desk2.txt",
-        );
+    let run = horizon_command(
+        alloc,
+        "run",
+        "Books the requests of scripts, one session on a thread for each script, and writes the replies",
+        "OUT is created, empty, after the inputs open and before they are read; a refused run leaves it empty.\n\nExample: seatdesk run --set summer.ssim --limits limits.txt --first 2024-06-01 --days 30 --today 2024-06-01 --journal journal.txt desk1.txt desk2.txt",
+    )?
+    .arg(wanted_option(alloc, "today", "DATE", TODAY_HELP))?
+    .arg(wanted_option(alloc, "journal", "OUT", OUT_HELP))?
+    .arg(wanted_values(alloc, "scripts", "SCRIPT", SCRIPTS_HELP))?;
     Ok(run)
 }
 
 // A command over the limits of the dated flights.
-
-fn horizon_command<'a>(alloc: Global, name: &'a str) -> Result<Command<'a>, AllocError>
+fn horizon_command<'a>(
+    alloc: Global,
+    name: &'a str,
+    about: &'a str,
+    more: &'a str,
+) -> Result<Command<'a>, AllocError>
     ensures { IfOk result (IsBuiltAs (horizon_app name.entry.now)) }
 {
-    let command = Command::new(alloc, name)
-        .arg(set_option(alloc))?
-        .arg(limits_option(alloc))?
-        .arg(first_option(alloc))?
-        .arg(days_option(alloc))?;
+    let command = named_command(alloc, name, about, more)
+        .arg(wanted_option(alloc, "set", "SET", SET_HELP))?
+        .arg(wanted_option(alloc, "limits", "LIMITS", LIMITS_HELP))?
+        .arg(wanted_option(alloc, "first", "DATE", FIRST_HELP))?
+        .arg(wanted_option(alloc, "days", "N", DAYS_HELP))?;
     Ok(command)
 }
 
-fn set_argument<'a>(alloc: Global) -> Arg<'a>
-    ensures { IsReadAs (required_value (codes "set")) result }
+// A command with what its help says before and behind its arguments.
+fn named_command<'a>(alloc: Global, name: &'a str, about: &'a str, more: &'a str) -> Command<'a>
+    ensures { IsBuiltAs (new_app name.entry.now) result }
 {
-    Arg::new(alloc, "set")
-        .value_name("SET")
-        .help("The data set to read (SSIM chapter 7, a file)")
-        .required(true)
+    Command::new(alloc, name).about(about).after_help(more)
 }
 
-fn set_option<'a>(alloc: Global) -> Arg<'a>
-    ensures { IsReadAs (required_option (codes "set")) result }
+// A value by its place, which must be there.
+fn wanted_value<'a>(alloc: Global, id: &'a str, value: &'a str, help: &'a str) -> Arg<'a>
+    ensures { IsReadAs (required_value id.entry.now) result }
 {
-    Arg::new(alloc, "set")
-        .long("set")
-        .value_name("SET")
-        .help("The data set of the schedule (SSIM chapter 7, a file)")
+    Arg::new(alloc, id)
+        .value_name(value)
         .required(true)
+        .help(help)
 }
 
-fn limits_option<'a>(alloc: Global) -> Arg<'a>
-    ensures { IsReadAs (required_option (codes "limits")) result }
+// An option whose value must be there.
+fn wanted_option<'a>(alloc: Global, id: &'a str, value: &'a str, help: &'a str) -> Arg<'a>
+    ensures { IsReadAs (required_option id.entry.now) result }
 {
-    Arg::new(alloc, "limits")
-        .long("limits")
-        .value_name("LIMITS")
-        .help("The booking limits of the legs, in seats from 0 to 999 (a file)")
-        .required(true)
+    wanted_value(alloc, id, value, help).long(id)
 }
 
-fn first_option<'a>(alloc: Global) -> Arg<'a>
-    ensures { IsReadAs (required_option (codes "first")) result }
+// A value by its place, of which there may be more.
+fn wanted_values<'a>(alloc: Global, id: &'a str, value: &'a str, help: &'a str) -> Arg<'a>
+    ensures { IsReadAs (required_values id.entry.now) result }
 {
-    Arg::new(alloc, "first")
-        .long("first")
-        .value_name("DATE")
-        .help("The first day of departure, as 2024-06-01, from 2000 to 2099")
-        .required(true)
-}
-
-fn days_option<'a>(alloc: Global) -> Arg<'a>
-    ensures { IsReadAs (required_option (codes "days")) result }
-{
-    Arg::new(alloc, "days")
-        .long("days")
-        .value_name("N")
-        .help("How many days from the first on, 1 to 366")
-        .required(true)
-}
-
-fn today_option<'a>(alloc: Global) -> Arg<'a>
-    ensures { IsReadAs (required_option (codes "today")) result }
-{
-    Arg::new(alloc, "today")
-        .long("today")
-        .value_name("DATE")
-        .help("The day of the run, as 2024-06-01, from 2000 to 2099: requests name no year")
-        .required(true)
-}
-
-fn out_option<'a>(alloc: Global) -> Arg<'a>
-    ensures { IsReadAs (required_option (codes "journal")) result }
-{
-    Arg::new(alloc, "journal")
-        .long("journal")
-        .value_name("OUT")
-        .help("The file that the journal is written to")
-        .required(true)
-}
-
-fn journal_argument<'a>(alloc: Global) -> Arg<'a>
-    ensures { IsReadAs (required_value (codes "journal")) result }
-{
-    Arg::new(alloc, "journal")
-        .value_name("JOURNAL")
-        .help("The journal to replay: a file that run wrote")
-        .required(true)
-}
-
-fn scripts_argument<'a>(alloc: Global) -> Arg<'a>
-    ensures { IsReadAs (required_values (codes "scripts")) result }
-{
-    Arg::new(alloc, "scripts")
-        .value_name("SCRIPT")
-        .help("The scripts of the sessions, 1 to 8 files of AIRIMP messages")
-        .action(ArgAction::Append)
-        .required(true)
+    wanted_value(alloc, id, value, help).action(ArgAction::Append)
 }

@@ -1,4 +1,5 @@
 mod Chains
+mod Clocks
 mod Grouping
 mod Indexing
 mod OperatingDays

@@ -41,9 +41,9 @@ abbrev pub found : FlightKind → Option ℕ → Option FlightFault → Option F
 found kind (Some serial) later = Some (record { serial = serial; kind = kind })
 found kind None later = later
 
--- an earlier flight has the number, the suffix and the first operating day of one of these: leg 1
-abbrev pub twice_on_date : List Departure → List Leg → List Departure → Option ℕ
-twice_on_date taken legs own = first_record_if (list_any (λ d. list_any (same_departure d) taken) own) legs
+-- one of these departures is taken: leg 1
+abbrev pub twice_on_date : (Departure → Bool) → List Leg → List Departure → Option ℕ
+twice_on_date taken legs own = first_record_if (list_any taken own) legs
 
 -- more than 8 legs: the first record
 abbrev pub too_many_legs : List Leg → List Leg → Option ℕ
@@ -53,25 +53,31 @@ too_many_legs legs chained = first_record_if (nat_lt 8 (length chained)) legs
 abbrev pub too_many_flights : ℕ → ℕ → List Leg → Option ℕ
 too_many_flights most flights chained = first_record_if (nat_lt most flights) chained
 
--- the first fault of an itinerary behind earlier ones, F1 to F8
-unfoldable pub fault_of : Plan → List (List Leg) → List Leg → Option FlightFault
-fault_of plan earlier legs =
+-- the first fault of an itinerary, F1 to F8, where some departures are taken and there are so many flights already
+unfoldable pub fault_of : Plan → (Departure → Bool) → ℕ → List Leg → Option FlightFault
+fault_of plan taken count legs =
     found kinds.MissingLeg (missing_leg legs)
     (found kinds.RepeatedLeg (repeated_leg legs)
     (found kinds.BrokenChain (broken_chain (chain legs))
     (found kinds.LegDatesDiffer (differing (schedule plan (chain legs)))
     (found kinds.DatesFallBack (falling_back plan (schedule plan (chain legs)))
-    (found kinds.TwiceOnDate (twice_on_date (flat_map (departures_of plan) earlier) (chain legs) (departures_of plan legs))
+    (found kinds.TwiceOnDate (twice_on_date taken (chain legs) (departures_of plan legs))
     (found kinds.TooManyLegs (too_many_legs legs (chain legs))
-    (found kinds.TooManyFlights (too_many_flights plan.most (length (flat_map (flights_of plan) earlier) + length (flights_of plan legs)) (chain legs))
+    (found kinds.TooManyFlights (too_many_flights plan.most (count + length (flights_of plan legs)) (chain legs))
     None)))))))
 
 -- ---- all itineraries
 
--- the fault of the first itinerary that has one
+-- a flight of these itineraries has the number, the suffix and the first operating day
+abbrev pub is_taken : Plan → List (List Leg) → Departure → Bool
+is_taken plan earlier d = list_any (same_departure d) (flat_map (departures_of plan) earlier)
+
+-- the fault of the first itinerary that has one, each checked behind the earlier ones
 abbrev pub fault_after : Plan → List (List Leg) → List (List Leg) → Option FlightFault
 fault_after plan earlier [] = None
-fault_after plan earlier (legs ∷ more) = option_or (fault_of plan earlier legs) (fault_after plan (earlier ++ legs ∷ []) more)
+fault_after plan earlier (legs ∷ more) =
+    option_or (fault_of plan (is_taken plan earlier) (length (flat_map (flights_of plan) earlier)) legs)
+      (fault_after plan (earlier ++ legs ∷ []) more)
 
 unfoldable pub first_fault : Plan → List (List Leg) → Option FlightFault
 first_fault plan all = fault_after plan [] all

@@ -5,4 +5,6 @@ pub mod Index
 pub mod Itineraries
 pub mod Operating
 pub mod Places
+pub mod Right
 pub mod Schedules
+pub mod Taken

@@ -1,5 +1,5 @@
 -- The dated flights of a chain of legs.
-use Rattle.std.specs.Prelude.{◌≡◌, ℕ, ◌+◌, ◌-◌, ◌≤◌, ◌==◌, nat_lt, nat_le, Bool, true, false, ◌&&◌, is_none, if◌then◌else◌, List, [], ◌∷◌, ◌++◌, Option, Some, None, map, filter, length, min, slice_index, unwrap_or, ℤ, pos, negsuc, ◌+ℤ◌, ◌≤ℤ◌, unsigned_abs}
+use Rattle.std.specs.Prelude.{◌≡◌, ℕ, ◌+◌, ◌-◌, ◌≤◌, ◌<◌, ◌==◌, nat_lt, nat_le, Bool, true, false, ◌&&◌, is_none, if◌then◌else◌, List, [], ◌∷◌, ◌++◌, Option, Some, None, map, filter, length, All, min, slice_index, unwrap_or, ℤ, pos, negsuc, ◌+ℤ◌, ◌≤ℤ◌, unsigned_abs}
 use Rattle.std.specs.Int.{int_div_euclid}
 use Rattle.std.specs.Option.{option_or}
 use Rattle.std.specs.List.{list_any, range_with_len}
@@ -66,6 +66,10 @@ unfoldable pub rows : Plan → List Scheduled → List ℕ
 rows plan [] = []
 rows plan (leg ∷ legs) =
     filter (λ i. is_in_horizon plan (day_at leg i)) (range_with_len 0 (shortest (length leg.operations) legs))
+
+-- each leg has an i-th operation
+abbrev pub Reaches : List Scheduled → ℕ → Type 0
+Reaches legs i = All (λ leg. i < length leg.operations) legs
 
 -- ---- flights
 

@@ -12,6 +12,7 @@ mod index;
 mod itinerary;
 mod leg_list;
 mod plan;
+mod rows;
 mod schedule;
 
 pub use days::{Days, operating_days};

@@ -82,7 +82,7 @@ month_again (suc (suc (suc (suc (suc (suc (suc (suc (suc (suc (suc (suc (suc n))
 
 -- ---- the calendar
 
-from_zero : (z : ℤ) → pos 10592 ≤ℤ z → z ≡ pos (unsigned_abs z)
+pub from_zero : (z : ℤ) → pos 10592 ≤ℤ z → z ≡ pos (unsigned_abs z)
 from_zero (pos n) low = refl
 from_zero (negsuc n) low = absurd (omega (arith, signed_arith))
 

@@ -14,7 +14,7 @@ use Rattle.ssim_records.specs.Bytes.{open_end, same_text}
 use Rattle.ssim_records.specs.Fields.{two_are, two_value}
 use Rattle.ssim_records.specs.Days.{date_in}
 use Rattle.ssim_records.specs.RecordFields.{digits_in, padded_in, at_least_one, positive_in, six_in, not_before, until_in, mode_in, designator_in, station_in, suffix_in, byte_in, day_in, with_day, days_from, days_in, rate_in, time_is, time_in, signed_in, offset_is, offset_in, shift_in, continued_in}
-use Rattle.ssim_records.specs.SetText.{IsUntil, IsPadded, IsSix, IsDesignator, IsSuffix, days_text, IsDays, IsRate, IsTime, IsOffset, IsShift}
+use Rattle.ssim_records.specs.SetText.{IsMode, IsUntil, IsPadded, IsSix, IsDesignator, IsSuffix, days_text, IsDays, IsRate, IsTime, IsOffset, IsShift}
 use Rattle.ssim_records.proofs.Tests.{passed, guarded, kept, second_of, both_true, both_are, some_is, none_some}
 use Rattle.ssim_records.proofs.LeadingRuns.{run_all, prefix_run}
 use Rattle.ssim_records.proofs.DateLaws.{two_takes, two_again, date_takes, date_again}
@@ -86,18 +86,18 @@ six_again text n h =
 
 -- ---- names
 
-mode_of : (a b : Bool) (c : ℕ) (local : Bool) → eqb c 85 ≡ a → eqb c 76 ≡ b → cond a (Some false) (cond b (Some true) None) ≡ Some local → c ∷ [] ≡ cond local 76 85 ∷ []
-mode_of true b c local x y e = rw (← some_is false local e, eqb-true c 85 x) refl
-mode_of false true c local x y e = rw (← some_is true local e, eqb-true c 76 y) refl
+mode_of : (a b : Bool) (c : ℕ) (local : Bool) → eqb c 85 ≡ a → eqb c 76 ≡ b → cond a (Some false) (cond b (Some true) None) ≡ Some local → IsMode (c ∷ []) local
+mode_of true b c local x y e = subst (IsMode (c ∷ [])) (some_is false local e) (ap (λ (k : ℕ). k ∷ []) (eqb-true c 85 x))
+mode_of false true c local x y e = subst (IsMode (c ∷ [])) (some_is true local e) (ap (λ (k : ℕ). k ∷ []) (eqb-true c 76 y))
 mode_of false false c local x y e = absurd (none_some local e)
 
-pub mode_takes : (text : List ℕ) (local : Bool) → mode_in text ≡ Some local → text ≡ cond local 76 85 ∷ []
+pub mode_takes : (text : List ℕ) (local : Bool) → mode_in text ≡ Some local → IsMode text local
 unfolding mode_in
 mode_takes [] local e = absurd cc
 mode_takes (c ∷ []) local e = mode_of (eqb c 85) (eqb c 76) c local refl refl e
 mode_takes (c ∷ d ∷ text) local e = absurd cc
 
-pub mode_again : (text : List ℕ) (local : Bool) → text ≡ cond local 76 85 ∷ [] → mode_in text ≡ Some local
+pub mode_again : (text : List ℕ) (local : Bool) → IsMode text local → mode_in text ≡ Some local
 unfolding mode_in
 mode_again text true h = rw h refl
 mode_again text false h = rw h refl

@@ -23,7 +23,7 @@ use Rattle.ssim_records.proofs.Tests.{both_true}
 
 -- ---- numbers
 
-all_digits : (digits : List ℕ) → list_all is_ascii_digit digits ≡ true → AllDigits 10 digits
+pub all_digits : (digits : List ℕ) → list_all is_ascii_digit digits ≡ true → AllDigits 10 digits
 all_digits [] h = tt
 all_digits (d ∷ digits) h =
     let b = both_true (is_ascii_digit d) (list_all is_ascii_digit digits) h in

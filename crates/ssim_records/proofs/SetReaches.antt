@@ -13,7 +13,7 @@ use Rattle.ssim_records.specs.declared.state.Phase.TheVariants.{Done}
 use Rattle.ssim_records.specs.declared.state.Reader.{Reader}
 use Rattle.ssim_records.specs.Cut.{cut_at}
 use Rattle.ssim_records.specs.Reach.{reach, fault_of, fault_at}
-use Rattle.ssim_records.specs.SetSteps.{next, step, fresh, at_end, missing, IsFirstFault, WantsRoom, IsRefusal, ReadsAs, set_of}
+use Rattle.ssim_records.specs.SetSteps.{OneFirstFault, next, step, fresh, at_end, missing, IsFirstFault, WantsRoom, IsRefusal, ReadsAs, set_of}
 use Rattle.ssim_records.proofs.Reaches.{reach_one, no_later, ok_is}
 use Rattle.ssim_records.proofs.MemoryLaws.{next_none, missing_none}
 
@@ -56,6 +56,24 @@ refused most bytes nth kind set f r =
       | inl same ↦ ended f.0 r.1 r.2 f.1 most kind (ok_is (f.0, f.1) (r.1, []) (sym f.3 ∙ ap (reach (next most) fresh bytes) same ∙ r.3)) r.4 f.4
       | inr (inl lt) ↦ no_later (next most) fresh bytes (nth - 1) r.0 (f.0, f.1) (r.1, []) bad.0 f.3 bad.1 lt r.3
       | inr (inr gt) ↦ no_later (next most) fresh bytes r.0 (nth - 1) (r.1, []) (f.0, f.1) kinds.Short r.3 (no_record most r.1) gt f.3
+    ]
+
+same_fault : (most : ℕ) (s t : Reader) (rest more : List ℕ) (a b : SetKind) → ◌≡◌ {A = Reader × List ℕ} (s, rest) (t, more) → fault_at (next most) at_end s rest ≡ Some a → fault_at (next most) at_end t more ≡ Some b → a ≡ b
+same_fault most s t rest more a b same h k =
+    kind_of (sym h ∙ ap (λ (p : Reader × List ℕ). fault_at (next most) at_end p.0 p.1) same ∙ k)
+  where
+    kind_of : Some a ≡ Some b → a ≡ b
+    kind_of e = cc
+
+-- one first fault at most
+pub one_first_fault : OneFirstFault
+one_first_fault most bytes n m a b f g =
+    let bad = fails most f.0 f.1 a f.4 in
+    let other = fails most g.0 g.1 b g.4 in
+    elim (cases_order (n - 1) (m - 1)) [
+      | inl same ↦ (omega (arith, f.2, g.2, same), same_fault most f.0 g.0 f.1 g.1 a b (ok_is (f.0, f.1) (g.0, g.1) (sym f.3 ∙ ap (reach (next most) fresh bytes) same ∙ g.3)) f.4 g.4)
+      | inr (inl lt) ↦ absurd (no_later (next most) fresh bytes (n - 1) (m - 1) (f.0, f.1) (g.0, g.1) bad.0 f.3 bad.1 lt g.3)
+      | inr (inr gt) ↦ absurd (no_later (next most) fresh bytes (m - 1) (n - 1) (g.0, g.1) (f.0, f.1) other.0 g.3 other.1 gt f.3)
     ]
 
 carrier_is : (c d : Carrier) → Done c ≡ Done d → c ≡ d

@@ -84,7 +84,7 @@ until_2099 y m d date high = by_lt_z (pos 2099) y
     (λ lt. absurd (omega (arith, signed_arith, days_from_civil-day_count y m d, last_2099, day_count-lt_year (pos 2099) 12 31 y m d date_2099 date.2.0 lt)))
     (λ le. le)
 
-pos_inj : (m n : ℕ) → pos m ≡ pos n → m ≡ n
+pub pos_inj : (m n : ℕ) → pos m ≡ pos n → m ≡ n
 pos_inj m n e = cc
 
 -- what the parts of a date of these years and its distance from the first date say

@@ -24,3 +24,19 @@ set_title = codes "AIRLINE STANDARD SCHEDULE DATA SET"
 -- a "to" date that is none
 abbrev pub open_end : List ℕ
 open_end = codes "00XXX00"
+
+-- the types of records, `1` to `5`
+abbrev pub header_type : ℕ
+header_type = 49
+
+abbrev pub carrier_type : ℕ
+carrier_type = 50
+
+abbrev pub leg_type : ℕ
+leg_type = 51
+
+abbrev pub segment_type : ℕ
+segment_type = 52
+
+abbrev pub trailer_type : ℕ
+trailer_type = 53

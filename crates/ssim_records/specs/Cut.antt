@@ -5,19 +5,22 @@ use Rattle.ssim_records.specs.Bytes.{is_printable}
 use Rattle.ssim_records.specs.declared.set_fault.SetKind.{SetKind}
 use Rattle.ssim_records.specs.declared.set_fault.SetKind.TheVariants as kinds
 
+-- LF (10)
 abbrev pub newline_at : List ℕ → Option (List ℕ)
 newline_at [] = None
 newline_at (c ∷ rest) = if c == 10 then Some rest else None
 
--- LF, CR LF or nothing
+-- LF, CR LF (13, 10) or nothing
 abbrev pub end_at : List ℕ → Option (List ℕ)
 end_at [] = Some []
 end_at (c ∷ rest) = if c == 10 then Some rest else if c == 13 then newline_at rest else Some (c ∷ rest)
 
+-- a record whose end stands at the front of what follows
 abbrev pub ended : List ℕ → Option (List ℕ) → Result (List ℕ × List ℕ) SetKind
 ended text None = Err kinds.BadEnd
 ended text (Some rest) = Ok (text, rest)
 
+-- its faults are, in this order, too few bytes, a byte that is not printable, and CR without LF
 unfoldable pub cut_at : List ℕ → Result (List ℕ × List ℕ) SetKind
 cut_at bytes =
     if nat_lt (length bytes) 200 then Err kinds.Short

@@ -4,6 +4,7 @@ pub mod Cut
 pub mod Days
 pub mod FaultText
 pub mod Fields
+pub mod Lines
 pub mod Names
 pub mod Noting
 pub mod Reach

@@ -8,7 +8,7 @@ use Rattle.ssim_records.specs.declared.set.DataSet.{DataSet}
 use Rattle.ssim_records.specs.declared.state.Phase.{Phase}
 use Rattle.ssim_records.specs.declared.state.Phase.TheVariants.{Start, Open, Body, Done}
 use Rattle.ssim_records.specs.declared.state.Reader.{Reader}
-use Rattle.ssim_records.specs.Bytes.{field, same_text, is_filler, set_title}
+use Rattle.ssim_records.specs.Bytes.{header_type, carrier_type, leg_type, segment_type, trailer_type, field, same_text, is_filler, set_title}
 use Rattle.ssim_records.specs.Cut.{cut_at}
 use Rattle.ssim_records.specs.Days.{date_in}
 use Rattle.ssim_records.specs.RecordFields.{padded_in, positive_in, six_in, mode_in, designator_in, station_in, suffix_in, byte_in, until_in, days_in, rate_in, time_in, offset_in, shift_in, continued_in}
@@ -106,7 +106,7 @@ has_serial serial text = is_number serial (six_in (field 195 200 text))
 -- the header
 unfoldable pub header_at : ℕ → List ℕ → Result (Unit {0}) SetKind
 header_at serial text = do
-  _ ← check kinds.NoHeader (type_of text == 49)
+  _ ← check kinds.NoHeader (type_of text == header_type)
   _ ← check kinds.BadTitle (same_text (field 2 35 text) set_title)
   _ ← check kinds.BadSerial (has_serial serial text)
   Ok tt
@@ -114,7 +114,7 @@ header_at serial text = do
 -- the record behind the header
 unfoldable pub second_at : ℕ → List ℕ → Result Carrier SetKind
 second_at serial text = do
-  _ ← check kinds.BadOrder (type_of text == 50)
+  _ ← check kinds.BadOrder (type_of text == carrier_type)
   _ ← check kinds.BadSerial (has_serial serial text)
   carrier_at text
 
@@ -147,8 +147,8 @@ trailer_step c s text = numbered_at (s.count + 1) (trailer_at c.airline s.count 
 -- the record after the carrier's
 unfoldable pub body_step : ℕ → Carrier → Reader → List ℕ → Result Reader SetKind
 body_step t c s text =
-    if t == 51 then leg_step c s text else if t == 52 then segment_step s text
-    else if t == 53 then trailer_step c s text else Err kinds.BadOrder
+    if t == leg_type then leg_step c s text else if t == segment_type then segment_step s text
+    else if t == trailer_type then trailer_step c s text else Err kinds.BadOrder
 
 abbrev pub taken : Phase → Reader → List ℕ → Result Reader SetKind
 taken Start s text = header_step s text
@@ -243,3 +243,9 @@ WantsRoom most bytes nth = (s : Reader) × (rest : List ℕ) × (1 ≤ nth) × (
 -- a refusal by this record, of this kind
 abbrev pub IsRefusal : ℕ → List ℕ → ℕ → SetKind → Type 0
 IsRefusal most bytes nth kind = IsFirstFault most bytes nth kind ⊎ ((kind ≡ kinds.Memory) × WantsRoom most bytes nth)
+
+-- ---- a law
+
+-- no bytes have two first faults
+abbrev pub OneFirstFault : Type 0
+OneFirstFault = (most : ℕ) (bytes : List ℕ) (n m : ℕ) (a b : SetKind) → IsFirstFault most bytes n a → IsFirstFault most bytes m b → (n ≡ m) × (a ≡ b)

@@ -8,11 +8,11 @@ use Rattle.ssim_records.specs.Days.{IsDayField, two_digits}
 use Rattle.ssim_records.specs.declared.carrier.Carrier.{Carrier}
 use Rattle.ssim_records.specs.declared.carrier.Leg.{Leg}
 use Rattle.ssim_records.specs.declared.set.DataSet.{DataSet}
-use Rattle.ssim_records.specs.Bytes.{field, is_filler, is_printable, set_title, open_end}
+use Rattle.ssim_records.specs.Bytes.{header_type, carrier_type, leg_type, segment_type, trailer_type, field, is_filler, is_printable, set_title, open_end}
 
 -- ---- fields
 
--- blanks, and then digits up to the last byte
+-- blanks (32), and then digits up to the last byte
 pub record IsPadded (text : List ℕ) (n : ℕ) : Type 0 where
   pub blanks : List ℕ
   pub digits : List ℕ
@@ -22,9 +22,13 @@ pub record IsPadded (text : List ℕ) (n : ℕ) : Type 0 where
   pub some : 0 < length digits
   pub value : n ≡ digits_value 10 digits
 
+-- local times or UTC
+abbrev pub IsMode : List ℕ → Bool → Type 0
+IsMode text local = elim local [ true ↦ text ≡ codes "L" | false ↦ text ≡ codes "U" ]
+
 -- two characters and a blank
 abbrev pub IsDesignator : List ℕ → List ℕ → Type 0
-IsDesignator text airline = IsTrue (is_airline airline) × (text ≡ airline ++ 32 ∷ [])
+IsDesignator text airline = IsTrue (is_airline airline) × (text ≡ airline ++ codes " ")
 
 -- a day not before the first, or no end
 abbrev pub IsUntil : ℕ → List ℕ → Option ℕ → Type 0
@@ -32,10 +36,10 @@ IsUntil from text None = text ≡ open_end
 IsUntil from text (Some to) = IsDayField text to × (from ≤ to)
 
 abbrev pub IsSuffix : List ℕ → Option ℕ → Type 0
-IsSuffix text None = text ≡ 32 ∷ []
+IsSuffix text None = text ≡ codes " "
 IsSuffix text (Some letter) = IsTrue (is_ascii_uppercase letter) × (text ≡ letter ∷ [])
 
--- the kth byte is the digit k where the leg operates on that weekday, and else a blank; 1 is Monday
+-- the kth byte is the digit k (48 is `0`) where the leg operates on that weekday, and else a blank; 1 is Monday
 abbrev pub days_text : ℕ → List Bool → List ℕ
 days_text k [] = []
 days_text k (day ∷ days) = (if day then 48 + k else 32) ∷ days_text (k + 1) days
@@ -52,8 +56,8 @@ IsTime text minutes = (text ≡ two_digits (minutes / 60) ++ two_digits (minutes
 
 abbrev pub IsOffset : List ℕ → ℤ → Type 0
 IsOffset text offset = (hours minutes : ℕ) × (hours < 24) × (minutes < 60)
-    × (((text ≡ 43 ∷ two_digits hours ++ two_digits minutes) × (offset ≡ pos (60 * hours + minutes)))
-    ⊎ ((text ≡ 45 ∷ two_digits hours ++ two_digits minutes) × (offset ≡ pos 0 -ℤ pos (60 * hours + minutes))))
+    × (((text ≡ codes "+" ++ two_digits hours ++ two_digits minutes) × (offset ≡ pos (60 * hours + minutes)))
+    ⊎ ((text ≡ codes "-" ++ two_digits hours ++ two_digits minutes) × (offset ≡ pos 0 -ℤ pos (60 * hours + minutes))))
 
 -- a blank or 0, 1 to 7 days later, A or J one day earlier
 abbrev pub IsShift : List ℕ → ℤ → Type 0
@@ -67,17 +71,17 @@ abbrev pub IsTyped : ℕ → List ℕ → Type 0
 IsTyped t text = field 1 1 text ≡ t ∷ []
 
 abbrev pub IsHeader : List ℕ → Type 0
-IsHeader text = IsTyped 49 text × (field 2 35 text ≡ set_title)
+IsHeader text = IsTyped header_type text × (field 2 35 text ≡ set_title)
 
 pub record IsCarrier (text : List ℕ) (c : Carrier) : Type 0 where
-  pub typed : IsTyped 50 text
-  pub mode : field 2 2 text ≡ (if c.local then 76 else 85) ∷ []
+  pub typed : IsTyped carrier_type text
+  pub mode : IsMode (field 2 2 text) c.local
   pub airline : IsDesignator (field 3 5 text) c.airline
   pub from : IsDayField (field 15 21 text) c.from
   pub to : IsUntil c.from (field 22 28 text) c.to
 
 pub record IsLeg (airline : List ℕ) (text : List ℕ) (leg : Leg) : Type 0 where
-  pub typed : IsTyped 51 text
+  pub typed : IsTyped leg_type text
   pub suffix : IsSuffix (field 2 2 text) leg.suffix
   pub own : IsDesignator (field 3 5 text) airline
   pub number : IsPadded (field 6 9 text) leg.number × (1 ≤ leg.number)
@@ -98,7 +102,7 @@ abbrev pub IsSix : List ℕ → ℕ → Type 0
 IsSix text n = (length text ≡ 6) × IsTrue (list_all is_ascii_digit text) × (n ≡ digits_value 10 text)
 
 pub record IsTrailer (airline : List ℕ) (serial : ℕ) (text : List ℕ) : Type 0 where
-  pub typed : IsTyped 53 text
+  pub typed : IsTyped trailer_type text
   pub own : IsDesignator (field 3 5 text) airline
   pub check : IsSix (field 188 193 text) (serial - 1)
   pub end : field 194 194 text ≡ codes "E"
@@ -108,7 +112,7 @@ abbrev pub IsBody : List ℕ → ℕ → List (List ℕ) → List Leg → ℕ �
 IsBody airline before [] legs segments = (legs ≡ []) × (segments ≡ 0)
 IsBody airline before (text ∷ texts) legs segments =
     ((leg : Leg) × (others : List Leg) × IsLeg airline text leg × (leg.serial ≡ before + 1) × (legs ≡ leg ∷ others) × IsBody airline (before + 1) texts others segments)
-    ⊎ ((k : ℕ) × IsTyped 52 text × (segments ≡ k + 1) × IsBody airline (before + 1) texts legs k)
+    ⊎ ((k : ℕ) × IsTyped segment_type text × (segments ≡ k + 1) × IsBody airline (before + 1) texts legs k)
 
 -- the k-th has the serial k
 abbrev pub IsNumbered : ℕ → List (List ℕ) → Type 0
@@ -137,7 +141,7 @@ pub record IsDataSet (most : ℕ) (bytes : List ℕ) (set : DataSet) : Type 0 wh
   pub numbered : IsNumbered 0 (header ∷ carrier ∷ body ++ trailer ∷ [])
   pub is_carrier : IsCarrier carrier set.carrier
   pub is_body : IsBody set.carrier.airline 2 body set.legs set.segments
-  pub begins : (text : List ℕ) (texts : List (List ℕ)) → body ≡ text ∷ texts → IsTyped 51 text
+  pub begins : (text : List ℕ) (texts : List (List ℕ)) → body ≡ text ∷ texts → IsTyped leg_type text
   pub is_trailer : IsTrailer set.carrier.airline (length body + 3) trailer
   pub few : length body + 3 ≤ most
 

@@ -79,7 +79,8 @@ impl Day {
         ensures date { IsDate result.0 result.1 result.2 self }
         ensures years { (1999 ≤ result.0) × (result.0 ≤ 2199) }
     {
-        let date = civil::Date::from_days_since_min(self.number + DAYS_BEFORE_1970);
+        let Day { number } = self;
+        let date = civil::Date::from_days_since_min(number + DAYS_BEFORE_1970);
         (date.year as u16, date.month, date.day)
     }
 

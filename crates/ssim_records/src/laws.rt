@@ -1,5 +1,6 @@
 //! Laws of the definitions, each on a function that does nothing.
 ghost use Rattle.ssim_records.specs.Days.{WrittenIsRead, ReadIsWritten, OneDateText};
+ghost use Rattle.ssim_records.specs.SetSteps.{OneFirstFault};
 ghost use Rattle.ssim_records.specs.SetText.{OneCut, OneDataSet};
 
 /// `Day::bytes` and `Day::read` undo each other in the years 2000 to 2099.
@@ -9,8 +10,9 @@ pub fn day_texts_are_inverse()
     ensures one { OneDateText }
 {}
 
-/// No bytes can be cut into records in two ways, and none are two data sets.
+/// No bytes can be cut into records in two ways, none are two data sets, and none have two first faults.
 pub fn data_sets_are_unique()
     ensures cut { OneCut }
     ensures set { OneDataSet }
+    ensures fault { OneFirstFault }
 {}

@@ -10,6 +10,7 @@ mod days;
 mod device_tests;
 pub mod fields;
 pub mod laws;
+pub mod lines;
 mod memory;
 mod names;
 mod place;

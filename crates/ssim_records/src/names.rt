@@ -90,17 +90,17 @@ impl Airline {
 /// A request or reply code: two letters A to Z (AIRIMP).
 #[derive(Clone, Copy, Debug, PartialEq, Eq)]
 pub struct Code {
-    letters: [u8; 2],
+    pair: [u8; 2],
 }
 
 impl Model for Code {
     ghost Value = { List ℕ };
 
-    ghost view = { λ s. s.letters };
+    ghost view = { λ c. c.pair };
 
-    ghost invariant = { λ s. IsTrue (is_code s.letters) };
+    ghost invariant = { λ c. IsTrue (is_code c.pair) };
 
-    ghost inverse = { λ v. record { letters = v } };
+    ghost inverse = { λ v. record { pair = v } };
 }
 
 impl Code {
@@ -110,7 +110,7 @@ impl Code {
     {
         match text {
             [a, b] if a.is_ascii_uppercase() && b.is_ascii_uppercase() => Some(Code {
-                letters: [*a, *b],
+                pair: [*a, *b],
             }),
             _ => None,
         }
@@ -121,31 +121,31 @@ impl Code {
         requires { IsTrue (is_code letters) }
         ensures { result ≡ letters }
     {
-        Code { letters }
+        Code { pair: letters }
     }
 
     pub fn letters(&self) -> [u8; 2]
         ensures value { result ≡ self.now }
         ensures code { IsTrue (is_code self.now) }
     {
-        self.letters
+        self.pair
     }
 }
 
 /// A booking class: one letter A to Z.
 #[derive(Clone, Copy, Debug, PartialEq, Eq, PartialOrd, Ord)]
 pub struct Class {
-    letter: u8,
+    byte: u8,
 }
 
 impl Model for Class {
     ghost Value = { ℕ };
 
-    ghost view = { λ c. c.letter };
+    ghost view = { λ c. c.byte };
 
-    ghost invariant = { λ c. IsTrue (is_ascii_uppercase c.letter) };
+    ghost invariant = { λ c. IsTrue (is_ascii_uppercase c.byte) };
 
-    ghost inverse = { λ n. record { letter = n } };
+    ghost inverse = { λ n. record { byte = n } };
 }
 
 impl Class {
@@ -154,7 +154,7 @@ impl Class {
         ensures { result ≡ (if is_ascii_uppercase letter then Some letter else None) }
     {
         if letter.is_ascii_uppercase() {
-            Some(Class { letter })
+            Some(Class { byte: letter })
         } else {
             None
         }
@@ -164,24 +164,24 @@ impl Class {
         ensures value { result ≡ self }
         ensures class { IsTrue (is_ascii_uppercase self) }
     {
-        self.letter
+        self.byte
     }
 }
 
 /// The name of a booking record: six of A to Z and 0 to 9.
 #[derive(Clone, Copy, Debug, PartialEq, Eq)]
 pub struct Locator {
-    characters: [u8; 6],
+    name: [u8; 6],
 }
 
 impl Model for Locator {
     ghost Value = { List ℕ };
 
-    ghost view = { λ l. l.characters };
+    ghost view = { λ l. l.name };
 
-    ghost invariant = { λ l. IsTrue (is_locator l.characters) };
+    ghost invariant = { λ l. IsTrue (is_locator l.name) };
 
-    ghost inverse = { λ v. record { characters = v } };
+    ghost inverse = { λ v. record { name = v } };
 }
 
 impl Locator {
@@ -198,7 +198,7 @@ impl Locator {
                     && is_name_byte(*e)
                     && is_name_byte(*f) => {
                 Some(Locator {
-                    characters: [*a, *b, *c, *d, *e, *f],
+                    name: [*a, *b, *c, *d, *e, *f],
                 })
             }
             _ => None,
@@ -209,7 +209,7 @@ impl Locator {
         ensures value { result ≡ self.now }
         ensures locator { IsTrue (is_locator self.now) }
     {
-        self.characters
+        self.name
     }
 }
 

@@ -1,3 +1,4 @@
+//! The fields of a record (SSIM chapter 7): a value, where the bytes are right.
 ghost use Rattle.std.specs.Prelude.{◌≡◌, ◌≤◌, ◌<◌, ◌^◌, IfSome, ◌==◌, ℕ, length, drop, IsTrue};
 ghost use Rattle.std.specs.Char.{is_ascii_digit};
 ghost use Rattle.std.specs.List.{prefix_len, list_all};
@@ -8,6 +9,7 @@ use crate::days::Day;
 use crate::fields::{are_digits, two_are, two_value, value_of};
 use crate::names::{Airline, Station};
 
+/// Whether the times are local: `L`, and not `U`.
 #[tactic(auto, unfolding(crate::specs::RecordFields::mode_in))]
 pub fn mode_of(text: &[u8]) -> Option<bool>
     ensures { result ≡ mode_in text.now }
@@ -19,6 +21,7 @@ pub fn mode_of(text: &[u8]) -> Option<bool>
     }
 }
 
+/// An airline and a blank.
 #[tactic(auto, unfolding(crate::specs::RecordFields::designator_in))]
 pub fn designator_of(text: &[u8]) -> Option<Airline>
     ensures { result ≡ designator_in text.now }
@@ -29,6 +32,7 @@ pub fn designator_of(text: &[u8]) -> Option<Airline>
     }
 }
 
+/// Three letters.
 #[tactic(auto, unfolding(crate::specs::RecordFields::station_in))]
 pub fn station_of(text: &[u8]) -> Option<Station>
     ensures { result ≡ station_in text.now }
@@ -36,6 +40,7 @@ pub fn station_of(text: &[u8]) -> Option<Station>
     Station::new(text)
 }
 
+/// A letter, or a blank for none.
 #[tactic(auto, unfolding(crate::specs::RecordFields::suffix_in))]
 pub fn suffix_of(text: &[u8]) -> Option<Option<u8>>
     ensures { result ≡ suffix_in text.now }
@@ -47,6 +52,7 @@ pub fn suffix_of(text: &[u8]) -> Option<Option<u8>>
     }
 }
 
+/// Any byte.
 #[tactic(auto, unfolding(crate::specs::RecordFields::byte_in))]
 pub fn byte_of(text: &[u8]) -> Option<u8>
     ensures { result ≡ byte_in text.now }
@@ -55,29 +61,6 @@ pub fn byte_of(text: &[u8]) -> Option<u8>
         [byte] => Some(*byte),
         _ => None,
     }
-}
-
-fn unpadded(text: &[u8]) -> &[u8]
-    ensures value { result.now ≡ drop (prefix_len (λ c. c == 32) text.now) text.now }
-{
-    let mut rest = text;
-    while let [b' ', after @ ..] = rest {
-        rest = after;
-    }
-    rest
-}
-
-#[tactic(auto, unfolding(crate::specs::RecordFields::padded_in))]
-fn padded_of(text: &[u8]) -> Option<u32>
-    requires { length text.now ≤ 6 }
-    ensures value { result ≡ padded_in text.now }
-    ensures small { IfSome result (λ n. n < 10 ^ length text.now) }
-{
-    let digits = unpadded(text);
-    if digits.is_empty() || !are_digits(digits) {
-        return None;
-    }
-    Some(value_of(digits))
 }
 
 /// A number of two places.
@@ -115,6 +98,7 @@ pub fn number_of(text: &[u8]) -> Option<u16>
     }
 }
 
+/// Six digits.
 #[tactic(auto, unfolding(crate::specs::RecordFields::six_in))]
 pub fn six_of(text: &[u8]) -> Option<u32>
     ensures { result ≡ six_in text.now }
@@ -141,20 +125,6 @@ pub fn until_of(from: Day, text: &[u8]) -> Option<Option<Day>>
     }
 }
 
-#[tactic(auto, unfolding(crate::specs::RecordFields::day_in))]
-fn day_of(weekday: u8, byte: u8) -> Option<bool>
-    requires { weekday ≤ 7 }
-    ensures { result ≡ day_in weekday byte }
-{
-    if byte == b'0' + weekday {
-        Some(true)
-    } else if byte == b' ' {
-        Some(false)
-    } else {
-        None
-    }
-}
-
 /// Monday to Sunday.
 #[tactic(auto, unfolding(crate::specs::RecordFields::days_in))]
 pub fn days_of(text: &[u8]) -> Option<[bool; 7]>
@@ -174,6 +144,7 @@ pub fn days_of(text: &[u8]) -> Option<[bool; 7]>
     }
 }
 
+/// Whether it is every second week: `2`, and not a blank or `1`.
 #[tactic(auto, unfolding(crate::specs::RecordFields::rate_in))]
 pub fn rate_of(text: &[u8]) -> Option<bool>
     ensures { result ≡ rate_in text.now }
@@ -185,6 +156,7 @@ pub fn rate_of(text: &[u8]) -> Option<bool>
     }
 }
 
+/// A time of the day in minutes, 0 to 1440.
 #[tactic(auto, unfolding(crate::specs::RecordFields::time_in))]
 pub fn time_of(text: &[u8]) -> Option<u16>
     ensures { result ≡ time_in text.now }
@@ -203,18 +175,7 @@ pub fn time_of(text: &[u8]) -> Option<u16>
     }
 }
 
-#[tactic(auto, unfolding(crate::specs::RecordFields::signed_in))]
-fn signed(sign: u8, total: u16) -> Option<i16>
-    requires { total ≤ 1439 }
-    ensures { result ≡ signed_in sign total }
-{
-    match sign {
-        b'+' => Some(total as i16),
-        b'-' => Some(0 - total as i16),
-        _ => None,
-    }
-}
-
+/// A sign, hours and minutes, in minutes from -1439 to 1439.
 #[tactic(auto, unfolding(crate::specs::RecordFields::offset_in))]
 pub fn offset_of(text: &[u8]) -> Option<i16>
     ensures { result ≡ offset_in text.now }
@@ -233,6 +194,7 @@ pub fn offset_of(text: &[u8]) -> Option<i16>
     }
 }
 
+/// Days later, -1 to 7.
 #[tactic(auto, unfolding(crate::specs::RecordFields::shift_in))]
 pub fn shift_of(text: &[u8]) -> Option<i8>
     ensures { result ≡ shift_in text.now }
@@ -245,6 +207,7 @@ pub fn shift_of(text: &[u8]) -> Option<i8>
     }
 }
 
+/// Whether the data set goes on elsewhere: `C`, and not `E`.
 #[tactic(auto, unfolding(crate::specs::RecordFields::continued_in))]
 pub fn continued_of(text: &[u8]) -> Option<bool>
     ensures { result ≡ continued_in text.now }
@@ -252,6 +215,55 @@ pub fn continued_of(text: &[u8]) -> Option<bool>
     match text {
         [b'E'] => Some(false),
         [b'C'] => Some(true),
+        _ => None,
+    }
+}
+
+fn unpadded(text: &[u8]) -> &[u8]
+    ensures value { result.now ≡ drop (prefix_len (λ c. c == 32) text.now) text.now }
+{
+    let mut rest = text;
+    while let [b' ', after @ ..] = rest {
+        rest = after;
+    }
+    rest
+}
+
+#[tactic(auto, unfolding(crate::specs::RecordFields::padded_in))]
+fn padded_of(text: &[u8]) -> Option<u32>
+    requires { length text.now ≤ 6 }
+    ensures value { result ≡ padded_in text.now }
+    ensures small { IfSome result (λ n. n < 10 ^ length text.now) }
+{
+    let digits = unpadded(text);
+    if digits.is_empty() || !are_digits(digits) {
+        return None;
+    }
+    Some(value_of(digits))
+}
+
+#[tactic(auto, unfolding(crate::specs::RecordFields::day_in))]
+fn day_of(weekday: u8, byte: u8) -> Option<bool>
+    requires { weekday ≤ 7 }
+    ensures { result ≡ day_in weekday byte }
+{
+    if byte == b'0' + weekday {
+        Some(true)
+    } else if byte == b' ' {
+        Some(false)
+    } else {
+        None
+    }
+}
+
+#[tactic(auto, unfolding(crate::specs::RecordFields::signed_in))]
+fn signed(sign: u8, total: u16) -> Option<i16>
+    requires { total ≤ 1439 }
+    ensures { result ≡ signed_in sign total }
+{
+    match sign {
+        b'+' => Some(total as i16),
+        b'-' => Some(0 - total as i16),
         _ => None,
     }
 }

@@ -1,3 +1,4 @@
+//! The records of a data set (SSIM chapter 7), each with its first fault.
 ghost use Rattle.std.specs.Prelude.{◌≡◌, ◌≤◌, ◌==◌, ◌+◌, ℕ, length};
 ghost use Rattle.ssim_records.specs.Bytes.{same_text, set_title};
 ghost use Rattle.ssim_records.specs.SetSteps.{type_of, has_serial, header_at, carrier_at, second_at, leg_at, numbered_at, segment_at, trailer_at};
@@ -11,35 +12,13 @@ use crate::record_fields::{
 };
 use crate::set_fault::SetKind;
 
-fn is_same(a: Airline, b: Airline) -> bool
-    ensures { result ≡ same_text a b }
-{
-    a.characters().as_slice() == b.characters().as_slice()
-}
-
-fn is_title(text: &[u8]) -> bool
-    ensures { result ≡ same_text text.now set_title }
-{
-    text == b"AIRLINE STANDARD SCHEDULE DATA SET".as_slice()
-}
-
+/// The first byte of a record.
 pub fn type_of(text: &[u8]) -> u8
     ensures { result ≡ type_of text.now }
 {
     match text {
         [first, ..] => *first,
         _ => 0,
-    }
-}
-
-#[tactic(auto, unfolding(crate::specs::SetSteps::has_serial))]
-fn has_serial(text: &[u8], serial: u32) -> bool
-    requires { length text.now ≡ 200 }
-    ensures { result ≡ has_serial serial text.now }
-{
-    match six_of(&text[194..200]) {
-        Some(number) => number == serial,
-        None => false,
     }
 }
 
@@ -61,6 +40,84 @@ pub fn header(text: &[u8], serial: u32) -> Result<(), SetKind>
     Ok(())
 }
 
+/// The record behind the header.
+#[tactic(auto, unfolding(crate::specs::SetSteps::second_at))]
+pub fn carrier(text: &[u8], serial: u32) -> Result<Carrier, SetKind>
+    requires { length text.now ≡ 200 }
+    ensures { result ≡ second_at serial text.now }
+{
+    if type_of(text) != b'2' {
+        return Err(SetKind::BadOrder);
+    }
+    if !has_serial(text, serial) {
+        return Err(SetKind::BadSerial);
+    }
+    carrier_fields(text)
+}
+
+/// A leg's record.
+#[tactic(auto, unfolding(crate::specs::SetSteps::numbered_at))]
+pub fn leg(text: &[u8], airline: Airline, serial: u32) -> Result<Leg, SetKind>
+    requires { length text.now ≡ 200 }
+    ensures { result ≡ numbered_at serial (leg_at airline serial text.now) text.now }
+{
+    if !has_serial(text, serial) {
+        return Err(SetKind::BadSerial);
+    }
+    leg_fields(text, airline, serial)
+}
+
+/// Segment data, which follows a leg.
+#[tactic(auto, unfolding(crate::specs::SetSteps::segment_at))]
+pub fn segment(text: &[u8], none: bool, serial: u32) -> Result<(), SetKind>
+    requires { length text.now ≡ 200 }
+    ensures { result ≡ segment_at none serial text.now }
+{
+    if none {
+        return Err(SetKind::BadOrder);
+    }
+    if !has_serial(text, serial) {
+        return Err(SetKind::BadSerial);
+    }
+    Ok(())
+}
+
+/// The trailer.
+#[tactic(auto, unfolding(crate::specs::SetSteps::numbered_at))]
+pub fn trailer(text: &[u8], airline: Airline, before: u32) -> Result<(), SetKind>
+    requires length { length text.now ≡ 200 }
+    requires before { before ≤ 999999 }
+    ensures { result ≡ numbered_at (before + 1) (trailer_at airline before text.now) text.now }
+{
+    if !has_serial(text, before + 1) {
+        return Err(SetKind::BadSerial);
+    }
+    trailer_fields(text, airline, before)
+}
+
+fn is_same(a: Airline, b: Airline) -> bool
+    ensures { result ≡ same_text a b }
+{
+    a.characters().as_slice() == b.characters().as_slice()
+}
+
+fn is_title(text: &[u8]) -> bool
+    ensures { result ≡ same_text text.now set_title }
+{
+    text == b"AIRLINE STANDARD SCHEDULE DATA SET".as_slice()
+}
+
+#[tactic(auto, unfolding(crate::specs::SetSteps::has_serial))]
+fn has_serial(text: &[u8], serial: u32) -> bool
+    requires { length text.now ≡ 200 }
+    ensures { result ≡ has_serial serial text.now }
+{
+    match six_of(&text[194..200]) {
+        Some(number) => number == serial,
+        None => false,
+    }
+}
+
 /// The fields of the carrier's record.
 #[tactic(auto, unfolding(crate::specs::SetSteps::carrier_at))]
 fn carrier_fields(text: &[u8]) -> Result<Carrier, SetKind>
@@ -77,21 +134,6 @@ fn carrier_fields(text: &[u8]) -> Result<Carrier, SetKind>
         from,
         to,
     })
-}
-
-/// The record behind the header.
-#[tactic(auto, unfolding(crate::specs::SetSteps::second_at))]
-pub fn carrier(text: &[u8], serial: u32) -> Result<Carrier, SetKind>
-    requires { length text.now ≡ 200 }
-    ensures { result ≡ second_at serial text.now }
-{
-    if type_of(text) != b'2' {
-        return Err(SetKind::BadOrder);
-    }
-    if !has_serial(text, serial) {
-        return Err(SetKind::BadSerial);
-    }
-    carrier_fields(text)
 }
 
 /// The fields of a leg's record.
@@ -137,33 +179,6 @@ fn leg_fields(text: &[u8], airline: Airline, serial: u32) -> Result<Leg, SetKind
     })
 }
 
-/// A leg's record.
-#[tactic(auto, unfolding(crate::specs::SetSteps::numbered_at))]
-pub fn leg(text: &[u8], airline: Airline, serial: u32) -> Result<Leg, SetKind>
-    requires { length text.now ≡ 200 }
-    ensures { result ≡ numbered_at serial (leg_at airline serial text.now) text.now }
-{
-    if !has_serial(text, serial) {
-        return Err(SetKind::BadSerial);
-    }
-    leg_fields(text, airline, serial)
-}
-
-/// Segment data, which follows a leg.
-#[tactic(auto, unfolding(crate::specs::SetSteps::segment_at))]
-pub fn segment(text: &[u8], none: bool, serial: u32) -> Result<(), SetKind>
-    requires { length text.now ≡ 200 }
-    ensures { result ≡ segment_at none serial text.now }
-{
-    if none {
-        return Err(SetKind::BadOrder);
-    }
-    if !has_serial(text, serial) {
-        return Err(SetKind::BadSerial);
-    }
-    Ok(())
-}
-
 /// The fields of the trailer, which follows the record with this serial.
 #[tactic(auto, unfolding(crate::specs::SetSteps::trailer_at))]
 fn trailer_fields(text: &[u8], airline: Airline, before: u32) -> Result<(), SetKind>
@@ -183,17 +198,4 @@ fn trailer_fields(text: &[u8], airline: Airline, before: u32) -> Result<(), SetK
         return Err(SetKind::Continued);
     }
     Ok(())
-}
-
-/// The trailer.
-#[tactic(auto, unfolding(crate::specs::SetSteps::numbered_at))]
-pub fn trailer(text: &[u8], airline: Airline, before: u32) -> Result<(), SetKind>
-    requires length { length text.now ≡ 200 }
-    requires before { before ≤ 999999 }
-    ensures { result ≡ numbered_at (before + 1) (trailer_at airline before text.now) text.now }
-{
-    if !has_serial(text, before + 1) {
-        return Err(SetKind::BadSerial);
-    }
-    trailer_fields(text, airline, before)
 }

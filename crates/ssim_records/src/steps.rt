@@ -10,6 +10,23 @@ use crate::records::{carrier, header, leg, segment, trailer, type_of};
 use crate::set_fault::SetKind;
 use crate::state::{Phase, Reader};
 
+/// The next record.
+#[tactic(auto, unfolding(crate::specs::SetSteps::step))]
+pub fn take(reader: &mut Reader, text: &[u8], most: u32) -> Result<(), SetKind>
+    requires { IsReady most reader.old text.now }
+    ensures taken { Takes reader.old reader.new result (step most reader.old text.now) }
+    ensures counted { OnOk result (IsCounted most reader.new) }
+{
+    let filler = is_filler(text);
+    match reader.phase {
+        Phase::Start => take_header(reader, text, most),
+        _ if filler => Ok(()),
+        Phase::Open => take_carrier(reader, text, most),
+        Phase::Body(carrier) => take_body(reader, carrier, text, most),
+        Phase::Done(_) => Err(SetKind::AfterTrailer),
+    }
+}
+
 fn is_filler(text: &[u8]) -> bool
     ensures { result ≡ is_filler text.now }
 {
@@ -110,22 +127,5 @@ fn take_body(reader: &mut Reader, carrier: Carrier, text: &[u8], most: u32) -> R
         b'4' => take_segment(reader, text, most),
         b'5' => take_trailer(reader, carrier, text, most),
         _ => Err(SetKind::BadOrder),
-    }
-}
-
-/// The next record.
-#[tactic(auto, unfolding(crate::specs::SetSteps::step))]
-pub fn take(reader: &mut Reader, text: &[u8], most: u32) -> Result<(), SetKind>
-    requires { IsReady most reader.old text.now }
-    ensures taken { Takes reader.old reader.new result (step most reader.old text.now) }
-    ensures counted { OnOk result (IsCounted most reader.new) }
-{
-    let filler = is_filler(text);
-    match reader.phase {
-        Phase::Start => take_header(reader, text, most),
-        _ if filler => Ok(()),
-        Phase::Open => take_carrier(reader, text, most),
-        Phase::Body(carrier) => take_body(reader, carrier, text, most),
-        Phase::Done(_) => Err(SetKind::AfterTrailer),
     }
 }

@@ -26,30 +26,24 @@ returns-in_err-matches-clause-kinds c =
     c.from_residual-in_err-matches.ensures.1
     (subst (λ (a : App). HasKind (fault_of a (texts c.args.words.now)) c.in_err-matches.field-0.0) c.in_ok-command.ensures.app (c.in_err-matches.ensures.kinds free))
 
-faultless : (a : App) (m : ArgMatches) (words : List Text) → a ≡ seatdesk_app → HasMatchesOf a words m → fault_of a words ≡ []
+-- a parse that succeeds: the line that clap found is that of our command line, and no fault comes
+matched : (a : App) (m : ArgMatches) (words : List Text) → a ≡ seatdesk_app → HasMatchesOf a words m → (is_simple_and_free a ≡ true → fault_of a words ≡ [])
     → (subcommand_rows_of m ≡ subcommand_of seatdesk_app words) × (fault_of seatdesk_app words ≡ [])
-faultless a m words e has none = (
+matched a m words e has none = (
   (has (ap is_simple e ∙ seatdesk_is_simple)).1 ∙ ap (λ (x : App). subcommand_of x words) e,
-  ap (λ (x : App). fault_of x words) (sym e) ∙ none,
+  ap (λ (x : App). fault_of x words) (sym e) ∙ none (ap is_simple_and_free e ∙ seatdesk_is_free),
 )
 
 pub job_of-requires : goal.job_of-requires
 job_of-requires c =
-    let free = ap is_simple_and_free c.in_ok-command.ensures.app ∙ seatdesk_is_free in
-    let same = faultless (app_of c.in_ok-command.command) c.in_ok-matches.matches (texts c.args.words.now) c.in_ok-command.ensures.app
-    c.in_ok-matches.ensures.matches (c.in_ok-matches.ensures.kinds free) in
-    ap is_answerable same.0 ∙ seatdesk_line (texts c.args.words.now) same.1
+    let found = matched _ _ (texts c.args.words.now) c.in_ok-command.ensures.app c.in_ok-matches.ensures.matches c.in_ok-matches.ensures.kinds in
+    ap is_answerable found.0 ∙ seatdesk_line (texts c.args.words.now) found.1
 
 pub returns-clause-asks : goal.returns-clause-asks
 returns-clause-asks c =
-    let free = ap is_simple_and_free c.in_ok-command.ensures.app ∙ seatdesk_is_free in
-    let same = faultless (app_of c.in_ok-command.command) c.in_ok-matches.matches (texts c.args.words.now) c.in_ok-command.ensures.app
-    c.in_ok-matches.ensures.matches (c.in_ok-matches.ensures.kinds free) in
-    subst (λ (found : Option Line). IsSomeAnd found (Asks c.in_ok-job.job)) same.0 c.in_ok-job.ensures
+    let found = matched _ _ (texts c.args.words.now) c.in_ok-command.ensures.app c.in_ok-matches.ensures.matches c.in_ok-matches.ensures.kinds in
+    subst (λ (line : Option Line). IsSomeAnd line (Asks c.in_ok-job.job)) found.0 c.in_ok-job.ensures
 
 pub returns-clause-kinds : goal.returns-clause-kinds
 returns-clause-kinds c =
-    let free = ap is_simple_and_free c.in_ok-command.ensures.app ∙ seatdesk_is_free in
-    let same = faultless (app_of c.in_ok-command.command) c.in_ok-matches.matches (texts c.args.words.now) c.in_ok-command.ensures.app
-    c.in_ok-matches.ensures.matches (c.in_ok-matches.ensures.kinds free) in
-    same.1
+    (matched _ _ (texts c.args.words.now) c.in_ok-command.ensures.app c.in_ok-matches.ensures.matches c.in_ok-matches.ensures.kinds).1

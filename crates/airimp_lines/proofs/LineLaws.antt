@@ -1,0 +1,131 @@
+-- A segment line that is read is spelled so, and what is spelled so is read.
+use Rattle.std.proofs.Common.{◌≡◌, ℕ, ◌≤◌, Bool, true, false, leb, ◌&&◌, List, ◌∷◌, ◌++◌, length, Option, Some, None, Result, Ok, refl, ap, subst, ◌∙◌, arith, append_assoc}
+use Rattle.std.proofs.lemmas.Bool.Decides.{nat_tests}
+use Rattle.ssim_records.specs.Names.{is_airline, is_station, is_code}
+use Rattle.ssim_records.specs.Days.{two_digits, month_name, day_month}
+use Rattle.airimp_lines.specs.declared.fault.LineFault.{LineFault}
+use Rattle.airimp_lines.specs.declared.fault.LineFault.TheVariants as faults
+use Rattle.airimp_lines.specs.declared.segment.Undated.{Undated}
+use Rattle.airimp_lines.specs.Fields.{fixed_at, byte_at, numeral_at, letters_at, in_month, day_at, is_tail}
+use Rattle.airimp_lines.specs.Reading.{◌>>=◌, want, check, undated_at}
+use Rattle.airimp_lines.specs.Grammar.{letters_text, Spells}
+use Rattle.airimp_lines.proofs.FieldLaws.{fixed_takes, fixed_again, byte_takes, numeral_takes, numeral_again, letters_takes, letters_again, day_takes, day_again, length_airline, length_station, length_code, letters_stop, day_stops, tail_stops}
+
+-- ---- steps
+
+-- a step that was taken, and what follows it
+pub with_want : {A B C : Type 0} (fault : LineFault) (o : Option A) (f : A → Result B LineFault) (y : B) → (want fault o >>= f) ≡ Ok y → ((x : A) → o ≡ Some x → f x ≡ Ok y → C) → C
+with_want fault None f y e k = absurd cc
+with_want fault (Some x) f y e k = k x refl e
+
+pub with_check : {B C : Type 0} (fault : LineFault) (b : Bool) (f : Unit {0} → Result B LineFault) (y : B) → (check fault b >>= f) ≡ Ok y → (b ≡ true → f tt ≡ Ok y → C) → C
+with_check fault true f y e k = k refl e
+with_check fault false f y e k = absurd cc
+
+-- ---- the whole line
+
+pub record Told (line : List ℕ) (u : Undated) : Type 0 where
+  pub spelled : Spells line u
+  pub low : 1 ≤ u.month
+  pub high : u.month ≤ 12
+  pub in_month : in_month u.day u.month ≡ true
+
+-- the pieces, one after the other
+joined : (l a n le d b o c s t r1 r2 r3 r4 r5 r6 r7 r8 r9 : List ℕ) → l ≡ a ++ r1 → r1 ≡ n ++ r2 → r2 ≡ le ++ r3 → r3 ≡ d ++ r4 → r4 ≡ 32 ∷ r5 → r5 ≡ b ++ r6 → r6 ≡ o ++ r7 → r7 ≡ 32 ∷ r8 → r8 ≡ c ++ r9 → r9 ≡ s ++ t
+    → l ≡ a ++ (n ++ (le ++ (d ++ (32 ∷ (b ++ (o ++ (32 ∷ (c ++ (s ++ t)))))))))
+joined l a n le d b o c s t r1 r2 r3 r4 r5 r6 r7 r8 r9 e1 e2 e3 e4 e5 e6 e7 e8 e9 e10 = rw (e1, e2, e3, e4, e5, e6, e7, e8, e9, e10) refl
+
+length_is : (n : ℕ) → (leb 20 n && leb n 69) ≡ true → (20 ≤ n) × (n ≤ 69)
+length_is n h = grind (arith, nat_tests, h)
+
+unfoldable pub done : Undated → Result Undated LineFault
+done u = Ok u
+
+pub ok_is : (x y : Undated) → done x ≡ done y → x ≡ y
+unfolding done
+ok_is x y e = cc
+
+-- each step was taken, so the line is spelled so
+assemble : (line : List ℕ) (airline : List ℕ × List ℕ) (number : ℕ × List ℕ) (letters : (Option ℕ × ℕ) × List ℕ) (day : (ℕ × ℕ) × List ℕ) (pair : List ℕ) (board off : List ℕ × List ℕ) (action : List ℕ) (code : List ℕ × List ℕ) (seats : ℕ × List ℕ)
+    → (leb 20 (length line) && leb (length line) 69) ≡ true
+    → fixed_at 2 is_airline line ≡ Some airline → numeral_at 4 airline.1 ≡ Some number → letters_at number.1 ≡ Some letters → day_at letters.1 ≡ Some day → byte_at 32 day.1 ≡ Some pair
+    → fixed_at 3 is_station pair ≡ Some board → fixed_at 3 is_station board.1 ≡ Some off → byte_at 32 off.1 ≡ Some action → fixed_at 2 is_code action ≡ Some code → numeral_at 3 code.1 ≡ Some seats → is_tail seats.1 ≡ true
+    → Told line (record { airline = airline.0; number = number.0; suffix = letters.0.0; class = letters.0.1; day = day.0.0; month = day.0.1; board = board.0; off = off.0; code = code.0; seats = seats.0 })
+assemble line airline number letters day pair board off action code seats e0 e1 e2 e3 e4 e5 e6 e7 e8 e9 e10 e11 =
+    let t1 = fixed_takes 2 is_airline line airline.0 airline.1 e1 in
+    let t2 = numeral_takes 4 airline.1 number.0 number.1 e2 in
+    let t3 = letters_takes number.1 letters.0.0 letters.0.1 letters.1 e3 in
+    let t4 = day_takes letters.1 day.0.0 day.0.1 day.1 e4 in
+    let t5 = byte_takes 32 day.1 pair e5 in
+    let t6 = fixed_takes 3 is_station pair board.0 board.1 e6 in
+    let t7 = fixed_takes 3 is_station board.1 off.0 off.1 e7 in
+    let t8 = byte_takes 32 off.1 action e8 in
+    let t9 = fixed_takes 2 is_code action code.0 code.1 e9 in
+    let t10 = numeral_takes 3 code.1 seats.0 seats.1 e10 in
+    let lengths = length_is (length line) e0 in
+    let day_text : letters.1 ≡ day_month day.0.0 day.0.1 ++ day.1 = t4.1 ∙ ap (λ (x : List ℕ). x ++ day.1) t4.2.written in
+    let text = joined line airline.0 t2.0 (letters_text letters.0.0 letters.0.1) (day_month day.0.0 day.0.1) board.0 off.0 code.0 t10.0 seats.1 airline.1 number.1 letters.1 day.1 pair board.1 off.1 action code.1 t1.0 t2.1 t3.0 day_text t5 t6.0 t7.0 t8 t9.0 t10.1 in
+    record {
+      spelled = record {
+        number = t2.0;
+        seats = t10.0;
+        tail = seats.1;
+        text = text;
+        long = lengths.0;
+        short = lengths.1;
+        is_airline = t1.1;
+        is_number = t2.2;
+        is_suffix = t3.1;
+        is_class = t3.2;
+        is_board = t6.1;
+        is_off = t7.1;
+        is_code = t9.1;
+        is_seats = t10.2;
+        is_tail = e11;
+      };
+      low = t4.2.low;
+      high = t4.2.high;
+      in_month = t4.2.in_month;
+    }
+
+pub undated_takes : (line : List ℕ) (u : Undated) → undated_at line ≡ Ok u → Told line u
+unfolding undated_at done
+undated_takes line u e =
+    with_check faults.Length _ _ u e (λ e0 k0.
+    with_want faults.Airline _ _ u k0 (λ airline e1 k1.
+    with_want faults.Number _ _ u k1 (λ number e2 k2.
+    with_want faults.Class _ _ u k2 (λ letters e3 k3.
+    with_want faults.Day _ _ u k3 (λ day e4 k4.
+    with_want faults.Pair _ _ u k4 (λ pair e5 k5.
+    with_want faults.Pair _ _ u k5 (λ board e6 k6.
+    with_want faults.Pair _ _ u k6 (λ off e7 k7.
+    with_want faults.Code _ _ u k7 (λ action e8 k8.
+    with_want faults.Code _ _ u k8 (λ code e9 k9.
+    with_want faults.Seats _ _ u k9 (λ seats e10 k10.
+    with_check faults.Tail _ _ u k10 (λ e11 k11.
+    subst (Told line) (ok_is _ u k11) (assemble line airline number letters day pair board off action code seats e0 e1 e2 e3 e4 e5 e6 e7 e8 e9 e10 e11)))))))))))))
+
+pub undated_again : (line : List ℕ) (u : Undated) → Told line u → undated_at line ≡ Ok u
+unfolding undated_at
+undated_again line u told =
+    let s = told.spelled in
+    let r10 = s.tail in
+    let r9 = s.seats ++ r10 in
+    let r8 = u.code ++ r9 in
+    let r7 = 32 ∷ r8 in
+    let r6 = u.off ++ r7 in
+    let r5 = u.board ++ r6 in
+    let r4 = 32 ∷ r5 in
+    let r3 = day_month u.day u.month ++ r4 in
+    let r2 = letters_text u.suffix u.class ++ r3 in
+    let r1 = s.number ++ r2 in
+    let lengths : (leb 20 (length line) && leb (length line) 69) ≡ true = grind (arith, nat_tests, s.long, s.short) in
+    let airline : fixed_at 2 is_airline line ≡ Some (u.airline, r1) = ap (fixed_at 2 is_airline) s.text ∙ fixed_again 2 is_airline u.airline r1 (length_airline u.airline s.is_airline) s.is_airline in
+    let number : numeral_at 4 r1 ≡ Some (u.number, r2) = numeral_again 4 s.number u.number r2 s.is_number (letters_stop u.suffix u.class r3 s.is_suffix s.is_class) in
+    let letters : letters_at r2 ≡ Some ((u.suffix, u.class), r3) = letters_again u.suffix u.class r3 s.is_suffix s.is_class (day_stops u.day u.month r4 told.in_month) in
+    let day : day_at r3 ≡ Some ((u.day, u.month), r4) = ap day_at (append_assoc (two_digits u.day) (month_name u.month) r4) ∙ day_again u.day u.month r4 told.low told.high told.in_month in
+    let board : fixed_at 3 is_station r5 ≡ Some (u.board, r6) = fixed_again 3 is_station u.board r6 (length_station u.board s.is_board) s.is_board in
+    let off : fixed_at 3 is_station r6 ≡ Some (u.off, r7) = fixed_again 3 is_station u.off r7 (length_station u.off s.is_off) s.is_off in
+    let code : fixed_at 2 is_code r8 ≡ Some (u.code, r9) = fixed_again 2 is_code u.code r9 (length_code u.code s.is_code) s.is_code in
+    let seats : numeral_at 3 r9 ≡ Some (u.seats, r10) = numeral_again 3 s.seats u.seats r10 s.is_seats (tail_stops r10 s.is_tail) in
+    rw (lengths, airline, number, letters, day, board, off, code, seats, s.is_tail) refl

@@ -1,0 +1,48 @@
+-- Reading a segment line from left to right, with the first fault that is met.
+use Rattle.std.specs.Prelude.{ℕ, ◌&&◌, nat_le, Bool, true, false, List, length, Option, Some, None, Result, Ok, Err}
+use Rattle.ssim_records.specs.Names.{is_airline, is_station, is_code}
+use Rattle.airimp_lines.specs.declared.fault.LineFault.{LineFault}
+use Rattle.airimp_lines.specs.declared.fault.LineFault.TheVariants as faults
+use Rattle.airimp_lines.specs.declared.segment.Undated.{Undated}
+use Rattle.airimp_lines.specs.Fields.{fixed_at, byte_at, numeral_at, letters_at, day_at, is_tail}
+
+infixl 10 ◌>>=◌
+abbrev pub ◌>>=◌ : {A B : Type 0} → Result A LineFault → (A → Result B LineFault) → Result B LineFault
+(Ok x) >>= f = f x
+(Err e) >>= f = Err e
+
+-- the field, or this fault
+abbrev pub want : {A : Type 0} → LineFault → Option A → Result A LineFault
+want fault None = Err fault
+want fault (Some x) = Ok x
+
+abbrev pub check : LineFault → Bool → Result (Unit {0}) LineFault
+check fault true = Ok tt
+check fault false = Err fault
+
+unfoldable pub undated_at : List ℕ → Result Undated LineFault
+undated_at line = do
+  _ ← check faults.Length (nat_le 20 (length line) && nat_le (length line) 69)
+  airline ← want faults.Airline (fixed_at 2 is_airline line)
+  number ← want faults.Number (numeral_at 4 airline.1)
+  letters ← want faults.Class (letters_at number.1)
+  day ← want faults.Day (day_at letters.1)
+  pair ← want faults.Pair (byte_at 32 day.1)
+  board ← want faults.Pair (fixed_at 3 is_station pair)
+  off ← want faults.Pair (fixed_at 3 is_station board.1)
+  action ← want faults.Code (byte_at 32 off.1)
+  code ← want faults.Code (fixed_at 2 is_code action)
+  seats ← want faults.Seats (numeral_at 3 code.1)
+  _ ← check faults.Tail (is_tail seats.1)
+  Ok (record {
+    airline = airline.0;
+    number = number.0;
+    suffix = letters.0.0;
+    class = letters.0.1;
+    day = day.0.0;
+    month = day.0.1;
+    board = board.0;
+    off = off.0;
+    code = code.0;
+    seats = seats.0;
+  })

@@ -1,0 +1,25 @@
+//! Booking messages (AIRIMP): segment lines, scripts of messages, and the line that answers one.
+//! It knows the text of requests for seats, and nothing of schedules, limits or bookings.
+#![tactic(auto)]
+
+mod date;
+mod fault;
+mod fields;
+pub mod laws;
+#[cfg(test)]
+mod line_tests;
+mod messages;
+mod reading;
+mod reply;
+mod requests;
+mod script;
+#[cfg(test)]
+mod script_tests;
+mod segment;
+
+pub use fault::{LineFault, ScriptFault, ScriptKind};
+pub use reading::read_segment;
+pub use reply::reply_text;
+pub use requests::{Request, Requests};
+pub use script::read_script;
+pub use segment::Segment;

@@ -1,0 +1,6 @@
+use Rattle.std.proofs.Common.{◌≡◌, drop}
+use Rattle.ssim_flights.specs.Schedules.{falling_at}
+use Rattle.ssim_flights.proofs.rows.falling_back.Given as goal
+
+abbrev pub invariant-loop-i : goal.invariant-loop-i
+invariant-loop-i l = falling_at l.legs l.rows ≡ falling_at l.legs (drop l.i-index l.rows)

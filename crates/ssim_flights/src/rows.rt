@@ -1,0 +1,114 @@
+//! The dated flights of one chain of legs, and what can be wrong with its days.
+ghost use Rattle.std.specs.Prelude.{◌≡◌, All, IfOk, is_none};
+ghost use Rattle.std.specs.List.{list_any};
+ghost use Rattle.ssim_flights.specs.Schedules.{differing, falling_after, falling_at, flight_on, is_in_horizon, rows, Reaches};
+
+use crate::flight::{DatedLeg, DatedLegs, Flight};
+use crate::plan::Plan;
+use crate::schedule::{Scheduled, shortest};
+use ssim_records::{Day, Leg, Memory};
+use std::alloc::Global;
+
+/// The indices at which all legs operate, and leg 1 does in the horizon.
+#[tactic(auto, unfolding(crate::specs::Schedules::rows))]
+pub(crate) fn rows(alloc: Global, plan: &Plan, legs: &[Scheduled]) -> Result<Vec<usize>, Memory>
+    ensures { IfOk result (λ list. list.items ≡ rows plan.now legs.now) }
+{
+    let mut list = Vec::new(alloc);
+    let Some((first, rest)) = legs.split_first() else {
+        return Ok(list);
+    };
+    for i in 0..shortest(first.operations.as_slice().len(), rest) {
+        if is_in_horizon(plan, first.day(i)) {
+            list.push(i)?;
+        }
+    }
+    Ok(list)
+}
+
+fn is_in_horizon(plan: &Plan, day: Day) -> bool
+    ensures { result ≡ is_in_horizon plan.now day }
+{
+    plan.first.number() <= day.number() && day.number() <= plan.last.number()
+}
+
+/// The serial of the first leg that has another count of operating days than leg 1, where no leg has an open end.
+#[tactic(auto, unfolding(crate::specs::Schedules::differing))]
+pub(crate) fn differing(legs: &[Scheduled]) -> Option<u32>
+    ensures { result ≡ differing legs.now }
+{
+    let Some((first, rest)) = legs.split_first() else {
+        return None;
+    };
+    if has_open_end(legs) {
+        return None;
+    }
+    let count = first.operations.as_slice().len();
+    for leg in rest {
+        if leg.operations.as_slice().len() != count {
+            return Some(leg.leg.serial);
+        }
+    }
+    None
+}
+
+fn has_open_end(legs: &[Scheduled]) -> bool
+    ensures { result ≡ list_any (λ each. is_none each.leg.to) legs.now }
+{
+    legs.iter().any(|each| each.leg.to.is_none())
+}
+
+/// The serial of the first leg, by row and then by leg, that departs more than one local day before the leg ahead of it.
+pub(crate) fn falling_back(legs: &[Scheduled], rows: &[usize]) -> Option<u32>
+    requires { All (Reaches legs.now) rows.now }
+    ensures { result ≡ falling_at legs.now rows.now }
+{
+    for i in rows {
+        if let Some(serial) = falling_on(legs, *i) {
+            return Some(serial);
+        }
+    }
+    None
+}
+
+fn falling_on(legs: &[Scheduled], i: usize) -> Option<u32>
+    requires { Reaches legs.now i }
+    ensures { result ≡ falling_after i 0 legs.now }
+{
+    let mut before = 0u32;
+    for leg in legs {
+        let local = leg.local(i).number();
+        if local + 1 < before {
+            return Some(leg.leg.serial);
+        }
+        before = local;
+    }
+    None
+}
+
+/// The flight of one row.
+pub(crate) fn flight_on(
+    alloc: Global,
+    plan: &Plan,
+    first: &Leg,
+    legs: &[Scheduled],
+    i: usize,
+) -> Result<Flight, Memory>
+    requires { Reaches legs.now i }
+    ensures { IfOk result (λ flight. flight ≡ flight_on plan.now first.now legs.now i) }
+{
+    let mut dated = DatedLegs::new(alloc);
+    for leg in legs {
+        dated.push(DatedLeg {
+            board: leg.leg.board,
+            off: leg.leg.off,
+            day: leg.local(i),
+        })?;
+    }
+    Ok(Flight {
+        airline: plan.airline,
+        number: first.number,
+        suffix: first.suffix,
+        legs: dated,
+    })
+}
