@@ -75,3 +75,65 @@ fn rooms_follow_the_seats(rt: HostRuntime) -> Result<(), Fail> {
     );
     Ok(())
 }
+
+#[test]
+fn places_of_two_legs(rt: HostRuntime) -> Result<(), Fail> {
+    let text = b"F010/000 Y008/000 M005/004";
+    let first = read_ladder(text).map_err(|_| "a ladder")?;
+    let second = read_ladder(b"F010/000 Y007/000").map_err(|_| "a ladder")?;
+    let grid = Grid::double(rt.alloc(), first, second).map_err(|_| "memory")?;
+    let mut counts = Counts::new(rt.alloc(), &grid).map_err(|_| "memory")?;
+    let (f, y, m) = (class(b'F')?, class(b'Y')?, class(b'M')?);
+    let (both, last) = (
+        Place { to: 1, ..LEG },
+        Place {
+            flight: 0,
+            from: 1,
+            to: 1,
+        },
+    );
+    assert!(rt;
+        grid.fits(both) && !grid.fits(Place { to: 2, ..LEG }),
+        "two legs"
+    );
+    assert!(rt;
+        !grid.fits(Place {
+            flight: 0,
+            from: 1,
+            to: 0
+        }),
+        "no leg backwards"
+    );
+    // The least of eight and seven; the second leg lacks M.
+    assert!(rt;
+        counts.room(both, y) == 7 && counts.room(both, m) == 0,
+        "the least of both"
+    );
+    if counts.room(both, y) >= 6 {
+        counts.take(both, y, 6);
+    }
+    assert!(rt;
+        counts.room(LEG, m) == 2 && counts.room(last, y) == 1,
+        "six on each leg"
+    );
+    assert!(rt;
+        counts.holds(both, y, 6) && counts.holds(last, y, 6),
+        "on both"
+    );
+    assert!(rt;
+        !counts.holds(both, f, 1) && !counts.holds(both, m, 0),
+        "in Y alone"
+    );
+    if counts.holds(last, y, 2) {
+        counts.give(last, y, 2);
+    }
+    assert!(rt;
+        counts.room(LEG, m) == 2 && counts.room(last, y) == 3,
+        "back on one leg"
+    );
+    assert!(rt;
+        counts.holds(both, y, 4) && !counts.holds(both, y, 5),
+        "four on the second"
+    );
+    Ok(())
+}

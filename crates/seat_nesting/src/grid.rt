@@ -122,7 +122,7 @@ impl Grid {
     }
 
     /// The legs of each flight.
-    pub fn flights(&self) -> &[FlightLegs]
+    pub(crate) fn flights(&self) -> &[FlightLegs]
         ensures { result.now ≡ self.now }
     {
         &self.flights
@@ -136,9 +136,27 @@ impl Grid {
     }
 }
 
+#[cfg(test)]
+impl Grid {
+    /// One flight of two legs.
+    #[tactic(auto, using(crate::proofs::Grids::double_ladders))]
+    pub(crate) fn double(alloc: Global, first: Ladder, second: Ladder) -> Result<Grid, Memory>
+        ensures { IfOk result (λ grid. grid ≡ (first ∷ second ∷ []) ∷ []) }
+    {
+        let _ = first.steps();
+        let _ = second.steps();
+        let mut ladders = Vec::new(alloc);
+        ladders.push(Some(first))?;
+        ladders.push(Some(second))?;
+        let mut flights = Vec::new(alloc);
+        flights.push(FlightLegs { ladders })?;
+        Ok(Grid { flights })
+    }
+}
+
 impl FlightLegs {
     /// The ladder of each leg, where it has one.
-    pub fn ladders(&self) -> &[Option<Ladder>]
+    pub(crate) fn ladders(&self) -> &[Option<Ladder>]
         ensures { self.now ≡ map steps_of result.now }
     {
         &self.ladders
@@ -190,7 +208,7 @@ impl FlightLegs {
 }
 
 /// The same ladder once more, if there is one.
-pub fn copy_of(ladder: &Option<Ladder>) -> Option<Ladder>
+pub(crate) fn copy_of(ladder: &Option<Ladder>) -> Option<Ladder>
     ensures { result ≡ ladder.now }
 {
     match ladder {

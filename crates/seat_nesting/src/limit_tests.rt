@@ -1,8 +1,9 @@
 //! Limit rows read from their text, and the ladders that they give to a flight's city pair.
 use crate::limit_reading::read_limits;
+use crate::limit_row::LimitRow;
 use crate::row_index::{Pair, RowIndex};
-use ssim_records::{Airline, Day, Station};
-use std::alloc::AllocError;
+use ssim_records::{Airline, Day, Memory, Station};
+use std::alloc::{AllocError, Global};
 use std::test::Fail;
 
 #[test]
@@ -82,6 +83,7 @@ fn first_faults(rt: HostRuntime) -> Result<(), AllocError> {
         ),
     ];
     for (name, text, wanted) in rows {
+        assert!(rt; text.len() < 1000, "{name}");
         match read_limits(rt.alloc(), text) {
             Ok(_) => assert!(rt; false, "{name} is read"),
             Err(fault) => {
@@ -100,12 +102,24 @@ AU XX123A 15JUN24 17JUN24 LHRJFK A001/000\r
 AU XX123 16JUN24 16JUN24 LHRJFK C005/000\r
 AU XX123 15JUN24 16JUN24 JFKLAX D001/000";
 
+/// The highest class of the ladder that the rows give, 0 where they give none.
+fn first_class(alloc: Global, rows: &[LimitRow], pair: Pair, day: Day) -> Result<u8, Memory> {
+    let index = RowIndex::new(alloc, rows)?;
+    let Some(ladder) = index.ladder(rows, pair, day) else {
+        return Ok(0);
+    };
+    match ladder.steps() {
+        [first, ..] => Ok(first.class.letter()),
+        [] => Ok(0),
+    }
+}
+
 #[test]
 fn last_row_counts(rt: HostRuntime) -> Result<(), Fail> {
+    assert!(rt; LIMITS.len() < 1000);
     let rows = read_limits(rt.alloc(), LIMITS).map_err(|_| "limits")?;
     let rows = rows.as_slice();
     assert_eq!(rt; rows.len(), 4);
-    let index = RowIndex::new(rt.alloc(), rows).map_err(|_| "memory")?;
     let day = |text: &[u8]| Day::read(text);
     let cases: [(&str, u16, Option<u8>, &[u8], &[u8], &[u8], u8); 8] = [
         ("its first day", 123, None, b"15JUN24", b"LHR", b"JFK", b'F'),
@@ -158,13 +172,7 @@ fn last_row_counts(rt: HostRuntime) -> Result<(), Fail> {
             off: Station::new(off).expect(&rt, "a station"),
         };
         let day = day(text).expect(&rt, "a day");
-        let found = match index.ladder(rows, pair, day) {
-            Some(ladder) => match ladder.steps() {
-                [first, ..] => first.class.letter(),
-                [] => 0,
-            },
-            None => 0,
-        };
+        let found = first_class(rt.alloc(), rows, pair, day).map_err(|_| "memory")?;
         assert!(rt; found == class, "{name}: {found}");
     }
     Ok(())
