@@ -1,7 +1,7 @@
 ghost use Rattle.std.specs.Prelude.{◌≤◌};
 
 use crate::*;
-use seat_nesting::{Grid, read_ladder};
+use seat_nesting::{Counts, Grid, read_ladder};
 use ssim_records::{Class, Code, Locator, Place};
 use std::alloc::Global;
 use std::process::Abort;
@@ -300,5 +300,50 @@ fn replays(rt: HostRuntime) -> Result<(), Fail> {
         };
         assert_eq!(rt; found, want, "{change:?}");
     }
+    Ok(())
+}
+
+#[test]
+fn prepares_shows_and_parts(rt: HostRuntime) -> Result<(), Fail> {
+    let alloc = rt.alloc();
+    let mut core = open(alloc, b"F010/000 Y008/000 M005/004")?;
+    let mut counts = Counts::new(alloc, core.grid())?;
+    let lines: [Asked; 3] = [
+        (b"A00001", b'Y', b"NN", 6),
+        (b"A00002", b'M', b"SS", 3),
+        (b"A00001", b'Y', b"XX", 2),
+    ];
+    for asked in lines {
+        let asked = command(asked, Some(LEG))?;
+        assert!(rt; core.fits(&asked), "the command fits");
+        let call = core.calls_of(1) + 1;
+        let line = core.prepare(alloc, 1, call, asked)?;
+        let number = line.entry().number;
+        assert_eq!(rt;
+            core.journal().len() + 1,
+            number as usize,
+            "nothing is added yet"
+        );
+        let entry = core.commit(line);
+        assert_eq!(rt; entry.number, number, "what was prepared is added");
+        show(entry, &mut counts);
+    }
+    assert!(rt; core.grid().fits(LEG), "the leg is there");
+    for letter in *b"FYM" {
+        let class = Class::new(letter).ok_or("class")?;
+        assert_eq!(rt;
+            counts.room(LEG, class),
+            core.room(LEG, class),
+            "room of {letter} by counters"
+        );
+    }
+    let part = core.of_flight(alloc, 0)?;
+    assert_eq!(rt;
+        part.totals(),
+        core.totals(),
+        "every line is on the one flight"
+    );
+    let none = core.of_flight(alloc, 1)?;
+    assert_eq!(rt; none.totals().lines, 0, "and none on another");
     Ok(())
 }
