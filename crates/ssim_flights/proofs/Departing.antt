@@ -24,7 +24,7 @@ use Rattle.ssim_flights.proofs.OperatingDays.{days_increase, range_increases}
 departures_equiv : IsEquivalence same_departure
 departures_equiv =
     and_equiv (on_equiv (λ (d : Departure). d.number) nat_eq_equiv)
-      (and_equiv (on_equiv (λ (d : Departure). d.suffix) (options_equiv nat_eq_equiv)) (on_equiv (λ (d : Departure). d.day) nat_eq_equiv))
+    (and_equiv (on_equiv (λ (d : Departure). d.suffix) (options_equiv nat_eq_equiv)) (on_equiv (λ (d : Departure). d.day) nat_eq_equiv))
 
 -- ---- one chain
 
@@ -57,7 +57,7 @@ days_rise plan leg i j below inside =
 apart : (a b : Departure) → a.day < b.day → same_departure a b ≡ false
 apart a b h =
     and_right (a.number == b.number) (option_eq nat_eq a.suffix b.suffix && (a.day == b.day))
-      (and_right (option_eq nat_eq a.suffix b.suffix) (a.day == b.day) (ne_eqb a.day b.day (λ e. omega arith)))
+    (and_right (option_eq nat_eq a.suffix b.suffix) (a.day == b.day) (ne_eqb a.day b.day (λ e. omega arith)))
 
 pub own_distinct : (plan : Plan) (legs : List Leg) → IsDistinct same_departure (departures_on plan (schedule plan legs))
 unfolding departures_on
@@ -66,13 +66,13 @@ own_distinct plan (leg ∷ legs) = IsDistinct-from_apart same_departure (map (de
   where
     differ : (i j : ℕ) (d : Departure) → i < j → j < length (map (departure (scheduled plan leg)) (rows plan (schedule plan (leg ∷ legs)))) → same_departure (get_or (map (departure (scheduled plan leg)) (rows plan (schedule plan (leg ∷ legs)))) i d) (get_or (map (departure (scheduled plan leg)) (rows plan (schedule plan (leg ∷ legs)))) j d) ≡ false
     differ i j d below inside =
-      let n = length-map (rows plan (schedule plan (leg ∷ legs))) (departure (scheduled plan leg)) in
-      let high : j < length (rows plan (schedule plan (leg ∷ legs))) = omega arith in
-      let low : i < length (rows plan (schedule plan (leg ∷ legs))) = omega arith in
-      let up = below_from_sorted (rows plan (schedule plan (leg ∷ legs))) i j 0 (sorted_from_strictly_increasing (rows plan (schedule plan (leg ∷ legs))) (rows_increase plan (schedule plan (leg ∷ legs)))) below high in
-      let reach = rows_reach plan (schedule plan (leg ∷ legs)) j 0 high 0 (scheduled plan leg) (omega arith) in
-      let rise = days_rise plan leg (get_or (rows plan (schedule plan (leg ∷ legs))) i 0) (get_or (rows plan (schedule plan (leg ∷ legs))) j 0) up reach in
-      rw (get_or-map (departure (scheduled plan leg)) (rows plan (schedule plan (leg ∷ legs))) i 0 d low, get_or-map (departure (scheduled plan leg)) (rows plan (schedule plan (leg ∷ legs))) j 0 d high)
+        let n = length-map (rows plan (schedule plan (leg ∷ legs))) (departure (scheduled plan leg)) in
+        let high : j < length (rows plan (schedule plan (leg ∷ legs))) = omega arith in
+        let low : i < length (rows plan (schedule plan (leg ∷ legs))) = omega arith in
+        let up = below_from_sorted (rows plan (schedule plan (leg ∷ legs))) i j 0 (sorted_from_strictly_increasing (rows plan (schedule plan (leg ∷ legs))) (rows_increase plan (schedule plan (leg ∷ legs)))) below high in
+        let reach = rows_reach plan (schedule plan (leg ∷ legs)) j 0 high 0 (scheduled plan leg) (omega arith) in
+        let rise = days_rise plan leg (get_or (rows plan (schedule plan (leg ∷ legs))) i 0) (get_or (rows plan (schedule plan (leg ∷ legs))) j 0) up reach in
+        rw (get_or-map (departure (scheduled plan leg)) (rows plan (schedule plan (leg ∷ legs))) i 0 d low, get_or-map (departure (scheduled plan leg)) (rows plan (schedule plan (leg ∷ legs))) j 0 d high)
         (apart (departure (scheduled plan leg) (get_or (rows plan (schedule plan (leg ∷ legs))) i 0)) (departure (scheduled plan leg) (get_or (rows plan (schedule plan (leg ∷ legs))) j 0)) rise)
 
 -- ---- one chain more
@@ -97,16 +97,17 @@ untaken taken plan (leg ∷ legs) none = by (list_any taken (departures_on plan 
 
 still_none : (x : Departure) (xs ys : List Departure) → AllByRecursion (λ y. same_departure x y ≡ false) ys → AllByRecursion (λ y. list_any (same_departure y) xs ≡ false) ys → AllByRecursion (λ y. list_any (same_departure y) (xs ++ x ∷ []) ≡ false) ys
 still_none x xs [] differ none = tt
-still_none x xs (y ∷ ys) differ none =
-    (list_any-append (same_departure y) xs (x ∷ []) ∙ ap (λ b. b || list_any (same_departure y) (x ∷ [])) none.0 ∙ ap (λ b. b || false) (departures_equiv.symm y x ∙ differ.0),
-     still_none x xs ys differ.1 none.1)
+still_none x xs (y ∷ ys) differ none = (
+  list_any-append (same_departure y) xs (x ∷ []) ∙ ap (λ b. b || list_any (same_departure y) (x ∷ [])) none.0 ∙ ap (λ b. b || false) (departures_equiv.symm y x ∙ differ.0),
+  still_none x xs ys differ.1 none.1,
+)
 
 pub distinct_more : (xs ys : List Departure) → IsDistinct same_departure xs → IsDistinct same_departure ys → AllByRecursion (λ y. list_any (same_departure y) xs ≡ false) ys → IsDistinct same_departure (xs ++ ys)
 distinct_more xs [] first second none = subst (λ (l : List Departure). IsDistinct same_departure l) (sym (append-nil xs)) first
 distinct_more xs (y ∷ ys) first second none =
     subst (λ (l : List Departure). IsDistinct same_departure l) (append_assoc xs (y ∷ []) ys)
-      (distinct_more (xs ++ y ∷ []) ys (IsDistinct-push departures_equiv xs y first none.0) (IsDistinct-tail same_departure y ys second)
-        (still_none y xs ys (IsDistinct-head same_departure y ys second) none.1))
+    (distinct_more (xs ++ y ∷ []) ys (IsDistinct-push departures_equiv xs y first none.0) (IsDistinct-tail same_departure y ys second)
+    (still_none y xs ys (IsDistinct-head same_departure y ys second) none.1))
 
 pub same_tests : {A : Type 0} (s t : A → Bool) (xs : List A) → ((x : A) → s x ≡ t x) → AllByRecursion (λ x. s x ≡ false) xs → AllByRecursion (λ x. t x ≡ false) xs
 same_tests s t [] same all = tt

@@ -116,9 +116,9 @@ distinct_after : (plan : Plan) (all : List (List Leg)) (i : ℕ) (legs : List Le
 unfolding departures_of
 distinct_after plan all i legs taken count inside is same none distinct =
     subst (λ (ds : List Departure). IsDistinct same_departure ds) (sym (flat_map_more (departures_of plan) all i legs inside is))
-      (distinct_more (flat_map (departures_of plan) (take i all)) (departures_of plan legs) distinct (own_distinct plan (chain legs))
-        (same_tests taken (is_taken plan (take i all)) (departures_of plan legs) same
-          (untaken taken plan (schedule plan (chain legs)) (fresh plan taken count legs none))))
+    (distinct_more (flat_map (departures_of plan) (take i all)) (departures_of plan legs) distinct (own_distinct plan (chain legs))
+    (same_tests taken (is_taken plan (take i all)) (departures_of plan legs) same
+    (untaken taken plan (schedule plan (chain legs)) (fresh plan taken count legs none))))
 
 joins_on : (plan : Plan) (i : ℕ) (before : List ℕ) (legs : List Leg) → broken_after before legs ≡ None → joins_after before (map (dated_leg i) (schedule plan legs)) ≡ true
 unfolding scheduled

@@ -48,7 +48,26 @@ impl From<Memory> for FlightFault {
     }
 }
 
+impl fmt::Display for FlightFault {
+    ghost use Rattle.std.specs.Prelude.{Some};
+    ghost use Rattle.ssim_flights.specs.FaultText.{fault_text};
+
+    ghost output = { λ fault. Some (fault_text fault) };
+
+    /// The code and the serial number.
+    fn fmt<W: fmt::Write>(&self, f: &mut fmt::Formatter<W>) -> fmt::Result {
+        let kind = self.kind;
+        let serial = self.serial;
+        write!(f, "{kind} {serial}")
+    }
+}
+
 impl fmt::Display for FlightKind {
+    ghost use Rattle.std.specs.Prelude.{Some};
+    ghost use Rattle.ssim_flights.specs.FaultText.{code_of};
+
+    ghost output = { λ kind. Some (code_of kind) };
+
     fn fmt<W: fmt::Write>(&self, f: &mut fmt::Formatter<W>) -> fmt::Result {
         f.write_str(match self {
             FlightKind::MissingLeg => "F1",

@@ -49,10 +49,23 @@ fn record(serial: u32, fields: &[Field]) -> Record {
     made
 }
 
-/// London to New York on the weekend of 15 June 2024, with these fields in place of its own.
-fn leg(serial: u32, fields: &[Field]) -> Record {
-    let mut made = record(
-        serial,
+/// The record with these fields in place of its own.
+fn changed(record: Record, fields: &[Field]) -> Record {
+    let mut made = record;
+    for (byte, text) in fields {
+        put(&mut made, *byte, text);
+    }
+    made
+}
+
+fn carrier() -> Record {
+    record(2, &[(1, b"2L"), (3, b"XX "), (15, b"01JUN2430JUN24")])
+}
+
+/// Leg 1, London to New York on the weekend of 15 June 2024.
+fn leg() -> Record {
+    record(
+        3,
         &[
             (1, b"3"),
             (3, b"XX "),
@@ -65,26 +78,37 @@ fn leg(serial: u32, fields: &[Field]) -> Record {
             (55, b"JFK"),
             (193, b"00"),
         ],
-    );
-    for (byte, text) in fields {
-        put(&mut made, *byte, text);
-    }
-    made
+    )
 }
 
-/// A set of a carrier with this validity and time mode, whose legs differ from the first in these fields.
-fn set_of(alloc: Global, carrier: &[Field], legs: &[&[Field]]) -> Result<Vec<u8>, AllocError> {
+/// Leg 2, New York to Los Angeles on the same days.
+fn second() -> Record {
+    changed(
+        leg(),
+        &[(12, b"02"), (37, b"JFK"), (44, b"1900-0400"), (55, b"LAX")],
+    )
+}
+
+/// Leg n of a shuttle between two stations.
+fn shuttle(sequence: &[u8]) -> Record {
+    changed(leg(), &[(12, sequence), (37, b"AAA"), (55, b"BBB")])
+}
+
+fn shuttle_back(sequence: &[u8]) -> Record {
+    changed(leg(), &[(12, sequence), (37, b"BBB"), (55, b"AAA")])
+}
+
+/// A set of this carrier and these legs, with the serial numbers that their order asks for.
+fn set_of(alloc: Global, carrier: &Record, legs: &[Record]) -> Result<Vec<u8>, AllocError> {
     let mut bytes = Vec::new(alloc);
     bytes.extend_from_slice(&record(1, &[(1, b"1"), (2, TITLE), (41, b"1"), (192, b"001")]))?;
-    let mut second = record(2, &[(1, b"2L"), (3, b"XX "), (15, b"01JUN2430JUN24")]);
-    for (byte, text) in carrier {
-        put(&mut second, *byte, text);
-    }
-    bytes.extend_from_slice(&second)?;
+    bytes.extend_from_slice(carrier)?;
     let mut serial = 2u32;
-    for fields in legs {
+    for leg in legs {
         serial = serial.wrapping_add(1);
-        bytes.extend_from_slice(&leg(serial, fields))?;
+        let mut made = *leg;
+        number(&mut made, 200, serial);
+        bytes.extend_from_slice(&made)?;
     }
     let mut last = record(
         serial.wrapping_add(1),
@@ -132,35 +156,20 @@ fn shown(alloc: Global, flights: &Result<Flights, FlightFault>) -> Result<Vec<u8
                 text.extend_from_slice(b"/ ")?;
             }
         }
-        Err(fault) => {
-            let kind = fault.kind;
-            let serial = fault.serial;
-            let fault = format!(in alloc; "{kind} {serial}")?;
-            text.extend_from_slice(fault.as_bytes())?;
-        }
+        Err(fault) => text.extend_from_slice(fault.to_string(alloc)?.as_bytes())?,
     }
     Ok(text)
 }
 
-/// The second leg of the worked set, New York to Los Angeles.
-const SECOND: &[Field] = &[
-    (10, b"0102"),
-    (37, b"JFK"),
-    (44, b"1900-0400"),
-    (55, b"LAX"),
-];
-
 /// Whether the set, expanded over so many days from the first one on, gives this text.
 fn gives(
     alloc: Global,
-    carrier: &[Field],
-    legs: &[&[Field]],
+    bytes: &[u8],
     first: &[u8],
     days: u16,
     want: &[u8],
 ) -> Result<bool, AllocError> {
-    let bytes = set_of(alloc, carrier, legs)?;
-    match &expanded(alloc, &bytes, first, days, 100) {
+    match &expanded(alloc, bytes, first, days, 100) {
         Some(flights) => Ok(shown(alloc, flights)?.as_slice() == want),
         None => Ok(false),
     }
@@ -168,248 +177,194 @@ fn gives(
 
 #[test]
 fn chains_of_legs(rt: HostRuntime) -> Result<(), Fail> {
-    let rows: [(&str, &[&[Field]], &[u8]); 12] = [
+    let nine = [
+        shuttle(b"01"),
+        shuttle_back(b"02"),
+        shuttle(b"03"),
+        shuttle_back(b"04"),
+        shuttle(b"05"),
+        shuttle_back(b"06"),
+        shuttle(b"07"),
+        shuttle_back(b"08"),
+        shuttle(b"09"),
+    ];
+    let rows: [(&[Record], &[u8]); 12] = [
         (
-            "two legs a day",
-            &[&[], SECOND],
+            &[leg(), second()],
             b"LHR15JUN24JFK JFK15JUN24LAX / LHR16JUN24JFK JFK16JUN24LAX / ",
         ),
-        ("no leg 2", &[&[], &[(12, b"03")]], b"F1 3"),
-        ("leg 1 twice", &[&[], &[(37, b"JFK")]], b"F2 4"),
-        ("a break", &[&[], &[(12, b"02"), (37, b"BOS")]], b"F3 4"),
+        (&[leg(), changed(second(), &[(12, b"03")])], b"F1 3"),
+        (&[leg(), changed(second(), &[(12, b"01")])], b"F2 4"),
+        (&[leg(), changed(second(), &[(37, b"BOS")])], b"F3 4"),
         (
-            "one day fewer",
-            &[&[], &[(12, b"02"), (15, b"15JUN2415JUN24"), (37, b"JFK")]],
+            &[leg(), changed(second(), &[(15, b"15JUN2415JUN24")])],
             b"F4 4",
         ),
         (
-            "a week earlier",
-            &[&[], &[(12, b"02"), (15, b"08JUN2409JUN24"), (37, b"JFK")]],
+            &[leg(), changed(second(), &[(15, b"08JUN2409JUN24")])],
             b"F5 4",
         ),
-        ("a second variation", &[&[], SECOND, &[(11, b"2")]], b"F6 5"),
+        (&[leg(), second(), changed(leg(), &[(11, b"2")])], b"F6 5"),
+        (&nine, b"F7 3"),
+        // Leg 2 has the next day's period, departs the next day, departs the day before.
         (
-            "nine legs",
-            &[
-                &[(37, b"AAA"), (55, b"BBB")],
-                &[(12, b"02"), (37, b"BBB"), (55, b"AAA")],
-                &[(12, b"03"), (37, b"AAA"), (55, b"BBB")],
-                &[(12, b"04"), (37, b"BBB"), (55, b"AAA")],
-                &[(12, b"05"), (37, b"AAA"), (55, b"BBB")],
-                &[(12, b"06"), (37, b"BBB"), (55, b"AAA")],
-                &[(12, b"07"), (37, b"AAA"), (55, b"BBB")],
-                &[(12, b"08"), (37, b"BBB"), (55, b"AAA")],
-                &[(12, b"09"), (37, b"AAA"), (55, b"BBB")],
-            ],
-            b"F7 3",
-        ),
-        (
-            "leg 2 has the next day's period",
-            &[
-                &[],
-                &[
-                    (12, b"02"),
-                    (15, b"16JUN2417JUN241     7"),
-                    (37, b"JFK"),
-                    (55, b"LAX"),
-                ],
-            ],
+            &[leg(), changed(second(), &[(15, b"16JUN2417JUN241     7")])],
             b"LHR15JUN24JFK JFK16JUN24LAX / LHR16JUN24JFK JFK17JUN24LAX / ",
         ),
         (
-            "leg 2 departs the next day",
-            &[&[], &[(12, b"02"), (37, b"JFK"), (55, b"LAX"), (193, b"1")]],
+            &[leg(), changed(second(), &[(193, b"1")])],
             b"LHR15JUN24JFK JFK16JUN24LAX / LHR16JUN24JFK JFK17JUN24LAX / ",
         ),
         (
-            "leg 2 departs the day before",
-            &[&[], &[(12, b"02"), (37, b"JFK"), (55, b"LAX"), (193, b"J")]],
+            &[leg(), changed(second(), &[(193, b"J")])],
             b"LHR15JUN24JFK JFK14JUN24LAX / LHR16JUN24JFK JFK15JUN24LAX / ",
         ),
+        // Leg 2 stands ahead of leg 1, and departs a week later.
         (
-            "leg 2 ahead of leg 1 in the file, and a week later",
-            &[&[(12, b"02"), (37, b"JFK"), (55, b"LAX"), (193, b"7")], &[]],
+            &[changed(second(), &[(193, b"7")]), leg()],
             b"LHR15JUN24JFK JFK22JUN24LAX / LHR16JUN24JFK JFK23JUN24LAX / ",
         ),
     ];
-    for (name, legs, want) in rows {
+    for (legs, want) in rows {
+        let bytes = set_of(rt.alloc(), &carrier(), legs)?;
         assert!(rt;
-            gives(rt.alloc(), &[], legs, b"01JUN24", 30, want)?,
-            "{name}"
+            gives(rt.alloc(), &bytes, b"01JUN24", 30, want)?,
+            "{want:?}"
         );
     }
     Ok(())
 }
 
+/// A leg on one Saturday, 15 June 2024, at this time.
+fn saturday(time: &[u8]) -> Record {
+    changed(leg(), &[(15, b"15JUN2415JUN24     6 "), (44, time)])
+}
+
 #[test]
-fn days_and_ends(rt: HostRuntime) -> Result<(), Fail> {
-    let rows: [(&str, &[Field], &[&[Field]], &[u8], u16, &[u8]); 9] = [
+fn local_days(rt: HostRuntime) -> Result<(), Fail> {
+    let rows: [(u8, Record, &[u8], &[u8]); 6] = [
         (
-            "UTC, over midnight",
-            &[(2, b"U")],
-            &[&[(15, b"15JUN2415JUN24     6 "), (44, b"2330+0100")]],
+            b'U',
+            saturday(b"2330+0100"),
             b"01JUN24",
-            30,
             b"LHR16JUN24JFK / ",
         ),
         (
-            "UTC, at 2400",
-            &[(2, b"U")],
-            &[&[(15, b"15JUN2415JUN24     6 "), (44, b"2400+0000")]],
+            b'L',
+            saturday(b"2330+0100"),
             b"01JUN24",
-            30,
-            b"LHR16JUN24JFK / ",
-        ),
-        (
-            "UTC, back over midnight",
-            &[(2, b"U")],
-            &[&[(15, b"15JUN2415JUN24     6 "), (44, b"0030-0100")]],
-            b"01JUN24",
-            30,
-            b"LHR14JUN24JFK / ",
-        ),
-        (
-            "UTC, over the year's end",
-            &[(2, b"U")],
-            &[&[(15, b"31DEC2431DEC24 2     "), (44, b"2330+0100")]],
-            b"31DEC24",
-            1,
-            b"LHR01JAN25JFK / ",
-        ),
-        (
-            "local times leave the day",
-            &[],
-            &[&[(15, b"15JUN2415JUN24     6 "), (44, b"2330+0100")]],
-            b"01JUN24",
-            30,
             b"LHR15JUN24JFK / ",
         ),
         (
-            "an open end is the carrier's",
-            &[(22, b"22JUN24")],
-            &[&[(15, b"15JUN2400XXX00     6 ")]],
+            b'U',
+            saturday(b"2400+0000"),
+            b"01JUN24",
+            b"LHR16JUN24JFK / ",
+        ),
+        (
+            b'U',
+            saturday(b"0030-0100"),
+            b"01JUN24",
+            b"LHR14JUN24JFK / ",
+        ),
+        (
+            b'U',
+            changed(saturday(b"0030-0100"), &[(193, b"A")]),
+            b"01JUN24",
+            b"LHR13JUN24JFK / ",
+        ),
+        (
+            b'U',
+            changed(saturday(b"2330+0100"), &[(15, b"31DEC2431DEC24 2     ")]),
+            b"31DEC24",
+            b"LHR01JAN25JFK / ",
+        ),
+    ];
+    for (mode, leg, first, want) in rows {
+        let carrier = changed(carrier(), &[(2, &[mode])]);
+        let bytes = set_of(rt.alloc(), &carrier, &[leg])?;
+        assert!(rt; gives(rt.alloc(), &bytes, first, 30, want)?, "{want:?}");
+    }
+    Ok(())
+}
+
+#[test]
+fn ends_of_periods(rt: HostRuntime) -> Result<(), Fail> {
+    let open = changed(leg(), &[(15, b"15JUN2400XXX00     6 ")]);
+    let weekends = changed(leg(), &[(15, b"15JUN2400XXX00")]);
+    let once = changed(second(), &[(15, b"15JUN2415JUN24")]);
+    let fortnights = changed(leg(), &[(15, b"01JUN2430JUN24     6 2")]);
+    let rows: [(&[u8; 7], &[Record], &[u8], u16, &[u8]); 5] = [
+        // An open end is the carrier's, or else the horizon's.
+        (
+            b"22JUN24",
+            &[open],
             b"01JUN24",
             30,
             b"LHR15JUN24JFK / LHR22JUN24JFK / ",
         ),
         (
-            "or the horizon's",
-            &[(22, b"00XXX00")],
-            &[&[(15, b"15JUN2400XXX00     6 ")]],
+            b"00XXX00",
+            &[open],
             b"01JUN24",
             29,
             b"LHR15JUN24JFK / LHR22JUN24JFK / LHR29JUN24JFK / ",
         ),
+        // With an open end the shortest count is used.
         (
-            "with an open end the shortest count is used",
-            &[],
-            &[
-                &[(15, b"15JUN2400XXX00")],
-                &[
-                    (12, b"02"),
-                    (15, b"15JUN2415JUN24"),
-                    (37, b"JFK"),
-                    (55, b"LAX"),
-                ],
-            ],
+            b"30JUN24",
+            &[weekends, once],
             b"01JUN24",
             30,
             b"LHR15JUN24JFK JFK15JUN24LAX / ",
         ),
+        // Every second week, and the horizon begins after the first day.
         (
-            "every second week",
-            &[],
-            &[&[(15, b"01JUN2430JUN24     6 2")]],
+            b"30JUN24",
+            &[fortnights],
             b"02JUN24",
             28,
             b"LHR15JUN24JFK / LHR29JUN24JFK / ",
         ),
+        (b"30JUN24", &[], b"01JUN24", 30, b""),
     ];
-    for (name, carrier, legs, first, days, want) in rows {
-        assert!(rt;
-            gives(rt.alloc(), carrier, legs, first, days, want)?,
-            "{name}"
-        );
+    for (to, legs, first, days, want) in rows {
+        let carrier = changed(carrier(), &[(22, to)]);
+        let bytes = set_of(rt.alloc(), &carrier, legs)?;
+        assert!(rt; gives(rt.alloc(), &bytes, first, days, want)?, "{want:?}");
     }
-    let bytes = set_of(rt.alloc(), &[], &[&[], SECOND])?;
+    let bytes = set_of(rt.alloc(), &carrier(), &[leg(), second()])?;
     let one = expanded(rt.alloc(), &bytes, b"01JUN24", 30, 1).ok_or("no set")?;
-    assert_eq!(rt;
-        shown(rt.alloc(), &one)?.as_slice(),
-        b"F8 3".as_slice(),
-        "at most one flight"
-    );
+    assert_eq!(rt; shown(rt.alloc(), &one)?.as_slice(), b"F8 3".as_slice());
     Ok(())
 }
 
 #[test]
 fn first_places(rt: HostRuntime) -> Result<(), Fail> {
-    let back: &[Field] = &[(12, b"02"), (37, b"JFK"), (55, b"LHR")];
-    let on: &[Field] = &[(12, b"03"), (55, b"LAX")];
-    let rows: [(&[&[Field]], &[u8; 3], &[u8], &[u8; 3], Option<Place>); 6] = [
-        (
-            &[&[], SECOND],
-            b"LHR",
-            b"15JUN24",
-            b"LAX",
-            Some(Place {
-                flight: 0,
-                from: 0,
-                to: 1,
-            }),
-        ),
-        (
-            &[&[], SECOND],
-            b"JFK",
-            b"16JUN24",
-            b"LAX",
-            Some(Place {
-                flight: 1,
-                from: 1,
-                to: 1,
-            }),
-        ),
-        (&[&[], SECOND], b"LAX", b"15JUN24", b"LHR", None),
-        (&[&[], SECOND], b"LHR", b"17JUN24", b"LAX", None),
-        (
-            &[&[], back, on],
-            b"LHR",
-            b"15JUN24",
-            b"LAX",
-            Some(Place {
-                flight: 0,
-                from: 0,
-                to: 2,
-            }),
-        ),
-        (
-            &[&[], back, on],
-            b"LHR",
-            b"16JUN24",
-            b"JFK",
-            Some(Place {
-                flight: 1,
-                from: 0,
-                to: 0,
-            }),
-        ),
+    let back = changed(second(), &[(55, b"LHR")]);
+    let on = changed(leg(), &[(12, b"03"), (55, b"LAX")]);
+    let place = |flight, from, to| Some(Place { flight, from, to });
+    let rows: [(&[Record], &[u8; 13], Option<Place>); 6] = [
+        (&[leg(), second()], b"LHR15JUN24LAX", place(0, 0, 1)),
+        (&[leg(), second()], b"JFK16JUN24LAX", place(1, 1, 1)),
+        (&[leg(), second()], b"LAX15JUN24LHR", None),
+        (&[leg(), second()], b"LHR17JUN24LAX", None),
+        (&[leg(), back, on], b"LHR15JUN24LAX", place(0, 0, 2)),
+        (&[leg(), back, on], b"LHR16JUN24JFK", place(1, 0, 0)),
     ];
-    for (legs, board, on_day, off, want) in rows {
-        let bytes = set_of(rt.alloc(), &[], legs)?;
+    for (legs, wish, want) in rows {
+        let bytes = set_of(rt.alloc(), &carrier(), legs)?;
         let flights = expanded(rt.alloc(), &bytes, b"01JUN24", 30, 100).ok_or("no set")?;
         let flights = flights.map_err(|_| "a fault")?;
         let wanted = Wanted {
             airline: Airline::new(b"XX").ok_or("no airline")?,
             number: 123,
             suffix: None,
-            day: Day::read(on_day).ok_or("no day")?,
-            board: Station::new(board).ok_or("no station")?,
-            off: Station::new(off).ok_or("no station")?,
+            day: Day::read(&wish[3..10]).ok_or("no day")?,
+            board: Station::new(&wish[..3]).ok_or("no station")?,
+            off: Station::new(&wish[10..]).ok_or("no station")?,
         };
-        assert_eq!(rt;
-            flights.find(&wanted),
-            want,
-            "{board:?} to {off:?} on {on_day:?}"
-        );
+        assert_eq!(rt; flights.find(&wanted), want, "{wish:?}");
     }
     Ok(())
 }

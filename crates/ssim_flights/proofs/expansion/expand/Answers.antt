@@ -68,7 +68,7 @@ returns-clause-flights c =
 pub returns-clause-apart : goal.returns-clause-apart
 returns-clause-apart c =
     let items : c.as_slice-legs-items.result.now ≡ itineraries c.args.set.now.legs =
-        c.as_slice-legs-items.ensures ∙ c.in_ok-all.ensures ∙ ap itineraries c.as_slice.ensures in
+    c.as_slice-legs-items.ensures ∙ c.in_ok-all.ensures ∙ ap itineraries c.as_slice.ensures in
     subst (λ (all : List (List Leg)). IsDistinct same_departure (all_departures (plan_of c.args.set.now.carrier c.args.first c.args.days c.args.most) all)) items
-      (subst (λ (p : Plan). IsDistinct same_departure (all_departures p c.as_slice-legs-items.result.now)) c.plan_of-plan.ensures
-        (distinct_all c.plan_of-plan.result c.as_slice-legs-items.result.now c.loop-legs.legs-index c.loop-legs.flown (omega arith) c.loop-legs.invariant.0))
+    (subst (λ (p : Plan). IsDistinct same_departure (all_departures p c.as_slice-legs-items.result.now)) c.plan_of-plan.ensures
+    (distinct_all c.plan_of-plan.result c.as_slice-legs-items.result.now c.loop-legs.legs-index c.loop-legs.flown (omega arith) c.loop-legs.invariant.0))
