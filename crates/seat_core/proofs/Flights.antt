@@ -121,7 +121,7 @@ may_wait_view grid anew f bs p class n e =
     let P : ℕ → Type 0 = λ x. (l : ℕ) → waiting (view anew f bs) x l class ≡ waiting bs x l class in
     may_wait_same grid (waiting (view anew f bs)) (waiting bs) p class n (subst P (sym e) (λ l. waiting_view anew f bs l class))
 
-bookings_view : (f : ℕ) (bs : List Booking) → view (λ n. n) f bs ≡ bookings_on f bs
+pub bookings_view : (f : ℕ) (bs : List Booking) → view (λ n. n) f bs ≡ bookings_on f bs
 bookings_view f [] = refl
 bookings_view f (b ∷ bs) = cases (b.place.flight == f) refl (bookings_view f bs) where
   cases : (t : Bool) → (b.place.flight == f) ≡ t → view (λ n. n) f bs ≡ bookings_on f bs → view (λ n. n) f (b ∷ bs) ≡ bookings_on f (b ∷ bs)

@@ -120,7 +120,7 @@ held_at : (done : List Booking) (b : Booking) (bs : List Booking) (flight leg k 
 held_at done b bs flight leg k =
     sum_by-append (seats_on flight leg k) done (b ∷ bs) ∙ ap (λ x. held done flight leg k + x) (sum_by-cons (seats_on flight leg k) b bs)
 
-both : (t u : Bool) → (t && u) ≡ true → (t ≡ true) × (u ≡ true)
+pub both : (t u : Bool) → (t && u) ≡ true → (t ≡ true) × (u ≡ true)
 both true true e = (refl, refl)
 both true false e = absurd cc
 both false u e = absurd cc

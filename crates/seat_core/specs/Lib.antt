@@ -8,7 +8,9 @@ pub mod Answers
 pub mod Inventory
 pub mod Stepping
 pub mod Totals
+pub mod Replaying
 pub mod Tables
 pub mod Applying
 pub mod Flights
+pub mod Books
 pub mod Laws

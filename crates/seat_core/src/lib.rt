@@ -4,11 +4,13 @@
 
 mod booking;
 mod bookings;
+mod books;
 mod effect;
 mod fault;
 mod inventory;
 mod laws;
 mod one_flight;
+mod replaying;
 mod reply;
 mod request;
 mod rooms;
@@ -17,18 +19,19 @@ mod waitlist;
 
 pub use booking::{Booking, Status};
 pub use effect::Effect;
-pub use fault::CoreFault;
+pub use fault::{CoreFault, ReplayFault, ReplayKind};
 pub use inventory::{Core, Prepared};
 pub use laws::{
     applying_is_the_step, entry_gives_what_is_held, held_by_rank, held_seats_are_the_totals,
-    legal_by_recursion, live_bookings_differ, none_fits_after_a_step, pass_is_by_table,
-    replay_is_numbered, replay_keeps_limits, table_is_held,
+    legal_by_recursion, legal_has_no_fault, live_bookings_differ, none_fits_after_a_step,
+    pass_is_by_table, replay_is_numbered, replay_keeps_limits, table_is_held,
 };
 pub use one_flight::{
     part_grows, part_is_alone, part_is_legal, part_leaves_bookings, part_leaves_room,
     pass_of_flight, replay_is_quiet, room_of_flight, walk_after_adding, walk_after_reducing,
     walk_of_flight,
 };
+pub use replaying::replay;
 pub use request::{Request, Wish};
 pub use seat_journal::{Advice, Advices, Command, Entry};
 pub use totals::Totals;

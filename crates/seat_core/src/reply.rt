@@ -1,18 +1,20 @@
 // What a command is answered: the table of replies (AIRIMP codes).
-ghost use Rattle.std.specs.Prelude.{◌≡◌, ◌+◌, ◌^◌, ◌<◌, ◌≤◌, [], vec_len, vec_capacity, position, slice_get, None, IsTrue};
+ghost use Rattle.std.specs.Prelude.{◌≡◌, ◌+◌, ◌^◌, ◌<◌, ◌≤◌, [], vec_len, vec_capacity, position, slice_get, None, IfOk, IsTrue, length};
 ghost use Rattle.ssim_records.specs.Names.{is_code};
 ghost use Rattle.seat_core.specs.Bookings.{waiting_count, is_for};
 ghost use Rattle.seat_core.specs.Sequential.{state_of, want, cancel, answer};
+ghost use Rattle.seat_core.specs.Journal.{line_of};
 ghost use Rattle.seat_core.specs.Answers.{Gives};
 
 use crate::booking::{Booking, Status};
 use crate::bookings::{add, find_booking, take_off};
 use crate::request::{Request, Wish, request_of};
 use crate::rooms::{may_wait_at, room_of};
-use crate::waitlist::confirm_waiting;
-use seat_journal::{Advice, Command};
+use crate::waitlist::{confirm_waiting, count_waiting};
+use seat_journal::{Advice, Advices, Command, Entry};
 use seat_nesting::Grid;
-use ssim_records::{Code, Place};
+use ssim_records::{Code, Memory, Place};
+use std::alloc::Global;
 
 /// What a command was answered, beside the bookings and advices that it left.
 #[derive(Drop)]
@@ -22,8 +24,37 @@ pub struct Answer {
 }
 
 #[tactic(auto, using(crate::proofs::Answering::answers_want, crate::proofs::Answering::answers_taken, crate::proofs::Answering::answers_cancel, crate::proofs::Answering::answers_missing))]
-/// Answers a command as line `number`.
-pub fn carry_out(
+/// The line that a command makes, answered from the bookings of its flight.
+pub fn make_line(
+    alloc: Global,
+    grid: &Grid,
+    book: &[Booking],
+    number: u32,
+    session: u8,
+    call: u32,
+    command: Command,
+) -> Result<Entry, Memory>
+    requires few { length book.now ≤ 999999 }
+    ensures { IfOk result (λ line. line ≡ line_of (answer (state_of grid.now book.now) number command) number session call command) }
+{
+    let mut bookings = Vec::from_slice(alloc, book)?;
+    bookings.reserve(1)?;
+    let mut advices = Vec::new(alloc);
+    advices.reserve(count_waiting(book) + 1)?;
+    let answer = carry_out(grid, &mut bookings, &mut advices, number, &command);
+    Ok(Entry {
+        number,
+        session,
+        call,
+        command,
+        reply: answer.reply,
+        released: answer.released,
+        advices: Advices::from_vec(advices),
+    })
+}
+
+// Answers a command as line `number`.
+fn carry_out(
     grid: &Grid,
     bookings: &mut Vec<Booking>,
     advices: &mut Vec<Advice>,

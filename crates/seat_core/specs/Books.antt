@@ -1,0 +1,51 @@
+-- The live bookings, flight by flight.
+use Rattle.std.specs.Prelude.{◌≡◌, ℕ, ◌≤◌, Bool, true, false, nat_lt, List, [], Option, Some, None, slice_get, slice_index, vec_len, vec_capacity, if◌then◌else◌}
+use Rattle.ssim_records.specs.declared.place.Place.{Place}
+use Rattle.seat_nesting.specs.Nesting.{Legs}
+use Rattle.seat_journal.specs.declared.entry.Entry.{Entry}
+use Rattle.seat_core.specs.declared.booking.Booking.{Booking}
+use Rattle.seat_core.specs.declared.books.Book.{Book}
+use Rattle.seat_core.specs.Journal.{replay, calls_of}
+use Rattle.seat_core.specs.Flights.{bookings_on, is_on}
+use Rattle.seat_core.specs.Applying.{applied}
+use Rattle.seat_core.specs.Inventory.{IsLawful}
+
+abbrev pub bookings_in : Option Book → List Booking
+bookings_in None = []
+bookings_in (Some book) = book.bookings.items
+
+-- the bookings of a flight; none where it has no book yet
+abbrev pub book_at : List Book → ℕ → List Booking
+book_at books flight = bookings_in (slice_get books flight)
+
+-- those of a place's flight; no place has none
+abbrev pub book_for : List Book → Option Place → List Booking
+book_for books None = []
+book_for books (Some place) = book_at books place.flight
+
+-- there is memory for one more booking in it
+abbrev pub spare_of : Book → Bool
+spare_of book = nat_lt (vec_len book.bookings) (vec_capacity book.bookings)
+
+abbrev pub has_spare_in : Option Book → Bool
+has_spare_in None = false
+has_spare_in (Some book) = spare_of book
+
+-- there is memory for one more booking on the place's flight; no place needs none
+abbrev pub has_spare : List Book → Option Place → Bool
+has_spare books None = true
+has_spare books (Some place) = has_spare_in (slice_get books place.flight)
+
+-- each flight has the same bookings
+pub record SameBooks (old new : List Book) : Type 0 where
+  pub each : (flight : ℕ) → book_at new flight ≡ book_at old flight
+
+-- the entry was applied to the book of its flight, and to no other
+pub record IsEntered (old new : List Book) (e : Entry) : Type 0 where
+  pub each : (flight : ℕ) → book_at new flight ≡ (if is_on flight e.command.place then applied (book_at old flight) e else book_at old flight)
+
+-- the books are those of the replay, flight by flight, and each session's calls are counted; sessions are 1 to 8
+pub record IsKept (opening now : Legs) (cap : ℕ) (journal : List Entry) (books : List Book) (calls : List ℕ) : Type 0 where
+  pub lawful : IsLawful opening now cap journal (replay opening journal).bookings
+  pub by_flight : (flight : ℕ) → book_at books flight ≡ bookings_on flight (replay opening journal).bookings
+  pub by_session : (session : ℕ) → session ≤ 8 → slice_index calls session ≡ calls_of journal session

@@ -1,0 +1,95 @@
+// The live bookings, flight by flight.
+ghost use Rattle.std.specs.Prelude.{◌≡◌, ◌<◌, ◌+◌, true, OnOk, slice_get, vec_len};
+ghost use Rattle.seat_core.specs.Books.{book_at, book_for, has_spare, has_spare_in, IsEntered, SameBooks};
+
+use crate::booking::Booking;
+use crate::effect::apply;
+use seat_journal::Entry;
+use ssim_records::{Memory, Place};
+use std::alloc::Global;
+
+/// The bookings of one flight, in order of number.
+#[derive(Drop)]
+pub struct Book {
+    bookings: Vec<Booking>,
+}
+
+/// The bookings of a flight.
+pub fn book_of(books: &[Book], flight: u32) -> &[Booking]
+    ensures { result.now ≡ book_at books.now flight }
+{
+    match books.get(flight as usize) {
+        Some(book) => book.bookings.as_slice(),
+        None => &[],
+    }
+}
+
+/// The bookings of a place's flight.
+pub fn book_for(books: &[Book], place: Option<Place>) -> &[Booking]
+    ensures { result.now ≡ book_for books.now place }
+{
+    match place {
+        Some(place) => book_of(books, place.flight),
+        None => &[],
+    }
+}
+
+/// Makes the memory for one more booking on the flight of a place.
+pub fn reserve_place(
+    alloc: Global,
+    books: &mut Vec<Book>,
+    place: Option<Place>,
+) -> Result<(), Memory>
+    ensures same { SameBooks books.old.items books.new.items }
+    ensures ok { OnOk result (has_spare books.new.items place ≡ true) }
+{
+    match place {
+        Some(place) => reserve_booking(alloc, books, place.flight),
+        None => Ok(()),
+    }
+}
+
+// Makes the memory for one more booking on a flight.
+fn reserve_booking(alloc: Global, books: &mut Vec<Book>, flight: u32) -> Result<(), Memory>
+    ensures same { SameBooks books.old.items books.new.items }
+    ensures ok { OnOk result (has_spare_in (slice_get books.new.items flight) ≡ true) }
+{
+    open_books(alloc, books, flight)?;
+    let book = &mut books[flight as usize];
+    book.bookings.reserve(1)?;
+    Ok(())
+}
+
+/// Does what an entry tells to the book of its flight, which has room for one more.
+pub fn enter(books: &mut Vec<Book>, entry: &Entry)
+    requires { has_spare books.old.items entry.now.command.place ≡ true }
+    ensures { IsEntered books.old.items books.new.items entry.now }
+{
+    let Some(place) = entry.command.place else {
+        return;
+    };
+    let book = &mut books[place.flight as usize];
+    apply(&mut book.bookings, entry);
+}
+
+// Sees to it that a flight has a book.
+fn open_books(alloc: Global, books: &mut Vec<Book>, flight: u32) -> Result<(), Memory>
+    ensures same { SameBooks books.old.items books.new.items }
+    ensures ok { OnOk result (flight < vec_len books.new) }
+{
+    'opening: while books.len() <= flight as usize {
+        open_book(alloc, books)?;
+    }
+    Ok(())
+}
+
+// One book more, without bookings.
+fn open_book(alloc: Global, books: &mut Vec<Book>) -> Result<(), Memory>
+    ensures same { SameBooks books.old.items books.new.items }
+    ensures ok { OnOk result (vec_len books.new ≡ vec_len books.old + 1) }
+{
+    books.push(Book {
+        bookings: Vec::new(alloc),
+    })?;
+    Ok(())
+}
