@@ -23,7 +23,7 @@ pub record IsCheckLine (set : DataSet) (line : List ℕ) : Type 0 where
   pub is_from : IsDateText set.carrier.from from
   pub is_to : IsEndText set.carrier.to to
   pub written : line ≡ set.carrier.airline ++ mode_text set.carrier.local ++ from ++ codes " " ++ to
-    ++ codes " legs " ++ decimal (length set.legs) ++ codes " segments " ++ decimal set.segments ++ 10 ∷ []
+      ++ codes " legs " ++ decimal (length set.legs) ++ codes " segments " ++ decimal set.segments ++ 10 ∷ []
 
 -- 256 MiB
 abbrev pub most_bytes : ℕ

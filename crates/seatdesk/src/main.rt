@@ -73,7 +73,6 @@ fn carry_out(rt: &HostRuntime, job: &Job<'_>) -> Result<(), DeskFault> {
                 &mut out,
             )
         }
-        _ => Err(DeskFault::Memory),
     }
 }
 

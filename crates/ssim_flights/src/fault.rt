@@ -82,10 +82,3 @@ impl fmt::Display for FlightKind {
         })
     }
 }
-
-impl fmt::Display for FlightFault {
-    /// The code and the serial number.
-    fn fmt<W: fmt::Write>(&self, f: &mut fmt::Formatter<W>) -> fmt::Result {
-        write!(f, "{} {}", self.kind, self.serial)
-    }
-}
