@@ -14,7 +14,7 @@ use Rattle.ssim_records.proofs.Tests.{passed, guarded, both_true, some_is}
 use Rattle.ssim_records.proofs.DateLaws.{month_takes, reads_month, month_again, two_takes, two_again}
 use Rattle.airimp_lines.specs.Fields.{fixed_at, byte_at, numeral_at, letters_in, letters_at, in_month, day_in, day_at, is_tail}
 use Rattle.ssim_records.proofs.LeadingRuns.{Stops, run_all, prefix_run}
-use Rattle.airimp_lines.specs.Grammar.{IsNumeral, suffix_text, letters_text}
+use Rattle.airimp_lines.specs.Grammar.{IsNumberText, suffix_text, letters_text}
 
 -- ---- fixed fields and single bytes
 
@@ -37,7 +37,7 @@ byte_takes b (c ∷ bytes) rest e =
 
 -- ---- numbers
 
-pub numeral_takes : (most : ℕ) (bytes : List ℕ) (n : ℕ) (rest : List ℕ) → numeral_at most bytes ≡ Some (n, rest) → (digits : List ℕ) × (bytes ≡ digits ++ rest) × IsNumeral most digits n
+pub numeral_takes : (most : ℕ) (bytes : List ℕ) (n : ℕ) (rest : List ℕ) → numeral_at most bytes ≡ Some (n, rest) → (digits : List ℕ) × (bytes ≡ digits ++ rest) × IsNumberText most digits n
 unfolding numeral_at
 numeral_takes most bytes n rest e =
     let run = take (prefix_len is_ascii_digit bytes) bytes in
@@ -50,7 +50,7 @@ numeral_takes most bytes n rest e =
     let positive : 0 < digits_value 10 run = grind (arith, nat_tests, t.1) in
     (run, rw (← r) (sym (take-append-drop (prefix_len is_ascii_digit bytes) bytes)), record { few = few; each = run_all is_ascii_digit bytes; value = sym v; positive = rw (← v) positive })
 
-pub numeral_again : (most : ℕ) (digits : List ℕ) (n : ℕ) (rest : List ℕ) → IsNumeral most digits n → Stops is_ascii_digit rest → numeral_at most (digits ++ rest) ≡ Some (n, rest)
+pub numeral_again : (most : ℕ) (digits : List ℕ) (n : ℕ) (rest : List ℕ) → IsNumberText most digits n → Stops is_ascii_digit rest → numeral_at most (digits ++ rest) ≡ Some (n, rest)
 unfolding numeral_at
 numeral_again most digits n rest is h =
     let len = prefix_run is_ascii_digit digits rest is.each h in

@@ -11,7 +11,7 @@ use Rattle.ssim_records.specs.Days.{day_month, two_digits, month_name}
 use Rattle.ssim_records.proofs.Years.{same_parts}
 use Rattle.airimp_lines.specs.Fields.{is_tail}
 use Rattle.airimp_lines.specs.declared.segment.Segment.{Segment}
-use Rattle.airimp_lines.specs.Grammar.{IsNumeral, letters_text, SpellsSegment, plain_line, IsWritable, IsPlainLine, reply_of}
+use Rattle.airimp_lines.specs.Grammar.{IsNumberText, letters_text, SpellsSegment, plain_line, IsWritable, IsPlainLine, reply_of}
 use Rattle.airimp_lines.proofs.FieldLaws.{length_airline, length_station, length_code, length_name}
 
 one : (n : ℕ) → n < 10 → list_all is_ascii_digit ((48 + n) ∷ []) ≡ true
@@ -24,7 +24,7 @@ decimal_digits n = decimal_by_steps (λ n ds. list_all is_ascii_digit ds ≡ tru
     (λ n lt. one n lt)
     (λ n ds ge h. list_all-append is_ascii_digit ds ((48 + n % 10) ∷ []) ∙ rw (h, one (n % 10) (omega arith)) refl) n
 
-pub decimal_numeral : (most n : ℕ) → 0 < most → 0 < n → n < 10 ^ most → n < 2 ^ 64 → IsNumeral most (decimal n) n
+pub decimal_numeral : (most n : ℕ) → 0 < most → 0 < n → n < 10 ^ most → n < 2 ^ 64 → IsNumberText most (decimal n) n
 decimal_numeral most n some positive small fits = record { few = length-decimal-le most n some small fits; each = decimal_digits n fits; value = sym (decimal_is_IsNumeral n fits).1; positive = positive }
 
 -- the pieces, as they are put

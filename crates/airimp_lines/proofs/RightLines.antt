@@ -6,10 +6,10 @@ use Rattle.std.proofs.lemmas.List.Elements.{All-nil, All-cons, All-append}
 use Rattle.ssim_records.proofs.RightLaws.{all_digits}
 use Rattle.airimp_lines.specs.declared.requests.Request.{Request}
 use Rattle.airimp_lines.specs.declared.segment.Segment.{Segment}
-use Rattle.airimp_lines.specs.Grammar.{IsNumeral, IsRightSegment, SpellsSegment}
+use Rattle.airimp_lines.specs.Grammar.{IsNumberText, IsRightSegment, SpellsSegment}
 use Rattle.airimp_lines.specs.Script.{Line, segment_lines, AreRequests, IsMessage, AreMessages, IsScript}
 
-numeral_below : (most : ℕ) (digits : List ℕ) (n : ℕ) → IsNumeral most digits n → n < 10 ^ most
+numeral_below : (most : ℕ) (digits : List ℕ) (n : ℕ) → IsNumberText most digits n → n < 10 ^ most
 numeral_below most digits n is =
     let one : 1 ≤ 10 = omega arith in
     let few = is.few in

@@ -11,7 +11,7 @@ use Rattle.airimp_lines.specs.declared.segment.Segment.{Segment}
 use Rattle.airimp_lines.specs.declared.segment.Undated.{Undated}
 
 -- a number above 0 in at most so many digits, with or without leading zeros
-pub record IsNumeral (most : ℕ) (digits : List ℕ) (n : ℕ) : Type 0 where
+pub record IsNumberText (most : ℕ) (digits : List ℕ) (n : ℕ) : Type 0 where
   pub few : length digits ≤ most
   pub each : IsTrue (list_all is_ascii_digit digits)
   pub value : n ≡ digits_value 10 digits
@@ -35,13 +35,13 @@ pub record Spells (line : List ℕ) (u : Undated) : Type 0 where
   pub long : 20 ≤ length line
   pub short : length line ≤ 69
   pub is_airline : IsTrue (is_airline u.airline)
-  pub is_number : IsNumeral 4 number u.number
+  pub is_number : IsNumberText 4 number u.number
   pub is_suffix : IfSome u.suffix (λ c. IsTrue (is_ascii_uppercase c))
   pub is_class : IsTrue (is_ascii_uppercase u.class)
   pub is_board : IsTrue (is_station u.board)
   pub is_off : IsTrue (is_station u.off)
   pub is_code : IsTrue (is_code u.code)
-  pub is_seats : IsNumeral 3 seats u.seats
+  pub is_seats : IsNumberText 3 seats u.seats
   pub is_tail : IsTrue (is_tail tail)
 
 -- the earliest date with this day and month on or after today

@@ -3,6 +3,7 @@ use Rattle.std.specs.Prelude.{ℕ, ◌&&◌, nat_le, Bool, true, false, List, le
 use Rattle.ssim_records.specs.Names.{is_airline, is_station, is_code}
 use Rattle.airimp_lines.specs.declared.fault.LineFault.{LineFault}
 use Rattle.airimp_lines.specs.declared.fault.LineFault.TheVariants as faults
+use Rattle.airimp_lines.specs.declared.segment.Asked.{Asked}
 use Rattle.airimp_lines.specs.declared.segment.Undated.{Undated}
 use Rattle.airimp_lines.specs.Fields.{fixed_at, byte_at, numeral_at, letters_at, day_at, is_tail}
 
@@ -20,6 +21,19 @@ abbrev pub check : LineFault → Bool → Result (Unit {0}) LineFault
 check fault true = Ok tt
 check fault false = Err fault
 
+-- the pair, the code, the seats and the tail
+unfoldable pub asked_at : List ℕ → Result Asked LineFault
+asked_at bytes = do
+  pair ← want faults.Pair (byte_at 32 bytes)
+  board ← want faults.Pair (fixed_at 3 is_station pair)
+  off ← want faults.Pair (fixed_at 3 is_station board.1)
+  action ← want faults.Code (byte_at 32 off.1)
+  code ← want faults.Code (fixed_at 2 is_code action)
+  seats ← want faults.Seats (numeral_at 3 code.1)
+  _ ← check faults.Tail (is_tail seats.1)
+  Ok (record { board = board.0; off = off.0; code = code.0; seats = seats.0 })
+
+-- the whole line
 unfoldable pub undated_at : List ℕ → Result Undated LineFault
 undated_at line = do
   _ ← check faults.Length (nat_le 20 (length line) && nat_le (length line) 69)
@@ -27,13 +41,7 @@ undated_at line = do
   number ← want faults.Number (numeral_at 4 airline.1)
   letters ← want faults.Class (letters_at number.1)
   day ← want faults.Day (day_at letters.1)
-  pair ← want faults.Pair (byte_at 32 day.1)
-  board ← want faults.Pair (fixed_at 3 is_station pair)
-  off ← want faults.Pair (fixed_at 3 is_station board.1)
-  action ← want faults.Code (byte_at 32 off.1)
-  code ← want faults.Code (fixed_at 2 is_code action)
-  seats ← want faults.Seats (numeral_at 3 code.1)
-  _ ← check faults.Tail (is_tail seats.1)
+  asked ← asked_at day.1
   Ok (record {
     airline = airline.0;
     number = number.0;
@@ -41,8 +49,8 @@ undated_at line = do
     class = letters.0.1;
     day = day.0.0;
     month = day.0.1;
-    board = board.0;
-    off = off.0;
-    code = code.0;
-    seats = seats.0;
+    board = asked.board;
+    off = asked.off;
+    code = asked.code;
+    seats = asked.seats;
   })

@@ -1,6 +1,6 @@
 //! The requests of a script.
 ghost use Rattle.std.specs.Prelude.{◌≡◌, ◌++◌, ◌∷◌, ◌==◌, List, [], OnOk, OnErr, length};
-ghost use Rattle.airimp_lines.specs.declared.requests.Request.{Request as Asked};
+ghost use Rattle.airimp_lines.specs.declared.requests.Request.{Request as Said};
 
 use crate::segment::Segment;
 use ssim_records::{Airline, Class, Code, Day, Locator, Station};
@@ -24,7 +24,7 @@ pub struct Requests {
 }
 
 impl Model for Requests {
-    ghost Value = { List Asked };
+    ghost Value = { List Said };
 
     ghost view = { λ r. r.items.items };
 }

@@ -1,3 +1,5 @@
 mod Cuts
 mod Auditing
 mod Texts
+mod Schedules
+mod Grounds

@@ -14,7 +14,9 @@ module _ {A : Type 0} where
       (part, [], subst (λ (k : ℕ). IsPart k x part) e last, ap (λ l. l ++ part) is ∙ sym (append-nil part), refl)
   text_push IsPart n (y ∷ ys) x text part is last =
       let e : n + suc (length ys) ≡ n + 1 + length ys = omega arith in (
-        is.0, is.1 ++ part, is.2,
+        is.0,
+        is.1 ++ part,
+        is.2,
         ap (λ l. l ++ part) is.3 ∙ append_assoc is.0 is.1 part,
         text_push IsPart (n + 1) ys x is.1 part is.4 (subst (λ (k : ℕ). IsPart k x part) e last),
       )
@@ -52,8 +54,8 @@ pub flights_more : (flights : List Flight) (i : ℕ) (flight : Flight) (mid new 
     → slice_get flights i ≡ Some flight → IsLinePut i flight mid new → IsPut IsFlightLine 0 (take (i + 1) flights) [] new
 flights_more flights i flight mid new put here line =
     let there : i < length flights = ⊎_elim
-        (λ (s : (x : Flight) × (i < length flights) × (slice_get flights i ≡ Some x) × (get_or flights i x ≡ x)). s.1)
-        (λ (n : (length flights ≤ i) × (slice_get flights i ≡ None)). absurd (missing flight (sym here ∙ n.1)))
-        (slice_get_cases flights i).1 in
+    (λ (s : (x : Flight) × (i < length flights) × (slice_get flights i ≡ Some x) × (get_or flights i x ≡ x)). s.1)
+    (λ (n : (length flights ≤ i) × (slice_get flights i ≡ None)). absurd (missing flight (sym here ∙ n.1)))
+    (slice_get_cases flights i).1 in
     put_more IsFlightLine 0 i flights flight [] mid new line.line put there (sym (get_or_from_slice_get flights i flight flight here))
-      (subst (λ (k : ℕ). IsFlightLine k flight line.line) (sym (zero-add i)) line.is_line) line.written
+    (subst (λ (k : ℕ). IsFlightLine k flight line.line) (sym (zero-add i)) line.is_line) line.written

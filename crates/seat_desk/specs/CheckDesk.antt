@@ -1,7 +1,7 @@
 -- What `check` writes: one line that sums up a data set.
 use Rattle.std.specs.Prelude.{◌≡◌, ℕ, Bool, List, ◌∷◌, [], ◌++◌, length, decimal, codes, Option, Some, None, if◌then◌else◌}
 use Rattle.ssim_records.specs.Days.{IsDateText}
-use Rattle.ssim_records.specs.SetSteps.{IsFirstFault}
+use Rattle.ssim_records.specs.SetFaults.{IsFirstFault}
 use Rattle.ssim_records.specs.SetText.{IsDataSet}
 use Rattle.ssim_records.specs.declared.set.DataSet.{DataSet}
 use Rattle.seat_desk.specs.declared.fault.DeskFault.{DeskFault}
@@ -23,7 +23,7 @@ pub record IsCheckLine (set : DataSet) (line : List ℕ) : Type 0 where
   pub is_from : IsDateText set.carrier.from from
   pub is_to : IsEndText set.carrier.to to
   pub written : line ≡ set.carrier.airline ++ mode_text set.carrier.local ++ from ++ codes " " ++ to
-    ++ codes " legs " ++ decimal (length set.legs) ++ codes " segments " ++ decimal set.segments ++ 10 ∷ []
+      ++ codes " legs " ++ decimal (length set.legs) ++ codes " segments " ++ decimal set.segments ++ 10 ∷ []
 
 -- 256 MiB
 abbrev pub most_bytes : ℕ

@@ -28,3 +28,11 @@ IsOfInput _ = Unit {0}
 abbrev pub HasFailed : ℕ → ℕ → ℕ → ℕ → Type 0 → Type 0 → Type 0
 HasFailed input_old input_new output_old output_new nothing begun =
     ((input_new ≡ noted input_old) × nothing) ⊎ ((output_new ≡ noted output_old) × begun)
+
+-- one of three inputs failed
+abbrev pub HasRisen : ℕ → ℕ → ℕ → ℕ → ℕ → ℕ → Type 0
+HasRisen a_old a_new b_old b_new c_old c_new = ((a_new ≡ noted a_old) ⊎ (b_new ≡ noted b_old)) ⊎ (c_new ≡ noted c_old)
+
+-- the same, where an input is one of several
+abbrev pub HasFailedOf : Type 0 → ℕ → ℕ → Type 0 → Type 0 → Type 0
+HasFailedOf failed output_old output_new nothing begun = (failed × nothing) ⊎ ((output_new ≡ noted output_old) × begun)

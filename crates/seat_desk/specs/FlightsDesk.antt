@@ -1,8 +1,19 @@
 -- What `flights` writes: one line for each dated flight.
 use Rattle.std.specs.Prelude.{◌≡◌, ℕ, ◌+◌, List, [], ◌∷◌, ◌++◌, decimal, codes, Option, Some, None}
 use Rattle.ssim_records.specs.Days.{IsDateText}
+use Rattle.ssim_records.specs.SetText.{IsDataSet}
+use Rattle.ssim_records.specs.declared.set.DataSet.{DataSet}
+use Rattle.ssim_flights.specs.Flown.{dated_flights, first_fault}
+use Rattle.ssim_flights.specs.Itineraries.{itineraries}
+use Rattle.ssim_flights.specs.Schedules.{plan_of}
+use Rattle.ssim_flights.specs.declared.fault.FlightFault.{FlightFault}
+use Rattle.ssim_flights.specs.declared.fault.FlightKind.{FlightKind}
+use Rattle.ssim_flights.specs.declared.fault.FlightKind.TheVariants as flight_kinds
 use Rattle.ssim_flights.specs.declared.flight.DatedLeg.{DatedLeg}
-use Rattle.ssim_flights.specs.declared.flight.Flight.{Flight}
+use Rattle.ssim_flights.specs.declared.flight.Flight.{Flight as Flown}
+use Rattle.seat_desk.specs.CheckDesk.{IsRefusedSet, most_records}
+use Rattle.seat_desk.specs.declared.fault.DeskFault.{DeskFault}
+use Rattle.seat_desk.specs.declared.fault.DeskFault.TheVariants.{Set, Flight, Memory}
 
 -- the text is a part for each of these, in order, of which the first has the number n
 abbrev pub IsText : {A : Type 0} → (ℕ → A → List ℕ → Type 0) → ℕ → List A → List ℕ → Type 0
@@ -20,7 +31,7 @@ suffix_text None = []
 suffix_text (Some letter) = letter ∷ []
 
 -- INDEX and DESIGNATOR
-abbrev pub head_text : ℕ → Flight → List ℕ
+abbrev pub head_text : ℕ → Flown → List ℕ
 head_text index flight = decimal index ++ codes " " ++ flight.airline ++ decimal flight.number ++ suffix_text flight.suffix
 
 -- a blank and BOARD/DAY/OFF
@@ -29,15 +40,69 @@ IsLegText n leg text = (day : List ℕ) × IsDateText leg.day day
     × (text ≡ codes " " ++ leg.board ++ codes "/" ++ day ++ codes "/" ++ leg.off)
 
 -- INDEX DESIGNATOR and each leg
-abbrev pub IsFlightLine : ℕ → Flight → List ℕ → Type 0
+abbrev pub IsFlightLine : ℕ → Flown → List ℕ → Type 0
 IsFlightLine index flight line = (legs : List ℕ) × IsText IsLegText 0 flight.legs legs
     × (line ≡ head_text index flight ++ legs ++ 10 ∷ [])
 
-abbrev pub IsFlightsText : List Flight → List ℕ → Type 0
+abbrev pub IsFlightsText : List Flown → List ℕ → Type 0
 IsFlightsText flights text = IsText IsFlightLine 0 flights text
 
 -- such a line is written behind what was there
-pub record IsLinePut (index : ℕ) (flight : Flight) (old new : List ℕ) : Type 0 where
+pub record IsLinePut (index : ℕ) (flight : Flown) (old new : List ℕ) : Type 0 where
   pub line : List ℕ
   pub is_line : IsFlightLine index flight line
   pub written : new ≡ old ++ line
+
+-- ---- the flights of a data set
+
+-- the most dated flights
+abbrev pub most_flights : ℕ
+most_flights = 100_000
+
+-- the dated flights of a data set on these days, and the first fault of its itineraries
+abbrev pub set_flights : DataSet → ℕ → ℕ → List Flown
+set_flights set first days = dated_flights (plan_of set.carrier first days most_flights) (itineraries set.legs)
+
+abbrev pub flights_fault : DataSet → ℕ → ℕ → Option FlightFault
+flights_fault set first days = first_fault (plan_of set.carrier first days most_flights) (itineraries set.legs)
+
+-- the bytes are a data set whose itineraries have no fault on these days, and these are its dated flights
+pub record IsSchedule (bytes : List ℕ) (first days : ℕ) (flights : List Flown) : Type 0 where
+  pub set : DataSet
+  pub is_set : IsDataSet most_records bytes set
+  pub right : flights_fault set first days ≡ None
+  pub are_flights : flights ≡ set_flights set first days
+
+-- the bytes are a data set with this fault
+pub record HasFlightFault (bytes : List ℕ) (first days : ℕ) (fault : FlightFault) : Type 0 where
+  pub set : DataSet
+  pub is_set : IsDataSet most_records bytes set
+  pub wrong : flights_fault set first days ≡ Some fault
+
+-- the fault is the first: of the bytes, which are no data set, or of the itineraries
+abbrev pub IsRefusedSchedule : ℕ → ℕ → DeskFault → List ℕ → Type 0
+IsRefusedSchedule first days (Set fault) bytes = IsRefusedSet (Set fault) bytes
+IsRefusedSchedule first days (Flight fault) bytes = HasFlightFault bytes first days fault
+IsRefusedSchedule first days _ bytes = ⊥
+
+-- the desk's fault for one of the expansion
+abbrev pub expansion_fault_of : FlightKind → FlightFault → DeskFault
+expansion_fault_of flight_kinds.Memory fault = Memory
+expansion_fault_of _ fault = Flight fault
+
+abbrev pub expansion_fault : FlightFault → DeskFault
+expansion_fault fault = expansion_fault_of fault.kind fault
+
+-- and there are no flights
+abbrev pub HasNoSchedule : ℕ → ℕ → List ℕ → Type 0
+HasNoSchedule first days bytes = (flights : List Flown) → IsSchedule bytes first days flights → ⊥
+
+pub record IsUnscheduled (first days : ℕ) (fault : DeskFault) (bytes : List ℕ) : Type 0 where
+  pub refused : IsRefusedSchedule first days fault bytes
+  pub none : HasNoSchedule first days bytes
+
+-- the text is a line for each of the flights
+pub record IsListing (bytes : List ℕ) (first days : ℕ) (text : List ℕ) : Type 0 where
+  pub flights : List Flown
+  pub is_schedule : IsSchedule bytes first days flights
+  pub is_text : IsFlightsText flights text

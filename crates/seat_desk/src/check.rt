@@ -10,8 +10,8 @@ use crate::text::{put, put_number};
 use ssim_records::{DataSet, Day, NotedRead, NotedWrite, SetKind, put_all, read_set};
 use std::alloc::{AllocError, Global};
 
-/// 256 MiB.
-const MOST_BYTES: u64 = 268_435_456;
+/// 256 MiB, the most bytes of a data set.
+pub const MOST_BYTES: u64 = 268_435_456;
 
 /// The most numbered records, as many as six digits count.
 const MOST_RECORDS: u32 = 999_999;

@@ -4,6 +4,7 @@ ghost use Rattle.seat_desk.specs.Status.{status_of};
 use seat_core::ReplayFault;
 use seat_journal::JournalFault;
 use seat_nesting::LimitFault;
+use ssim_flights::FlightFault;
 use ssim_records::SetFault;
 use thiserror::Error;
 
@@ -13,6 +14,9 @@ pub enum DeskFault {
     /// The bytes are no data set.
     #[error("{0}")]
     Set(SetFault),
+    /// The legs are no flights.
+    #[error("{0}")]
+    Flight(FlightFault),
     /// A ladder or a limit row is malformed.
     #[error("{0}")]
     Limit(LimitFault),
@@ -34,12 +38,6 @@ pub enum DeskFault {
     /// The number of days is not one of 1 to 366.
     #[error("E2 days")]
     BadDays,
-    /// The reference day is no day of 2000 to 2099.
-    #[error("E2 today")]
-    BadToday,
-    /// More scripts than sessions.
-    #[error("E2 script")]
-    TooManyScripts,
     /// An input has more bytes than it may have.
     #[error("R2")]
     TooLarge,
@@ -57,10 +55,7 @@ impl DeskFault {
         ensures { result ≡ status_of self.now }
     {
         match self {
-            DeskFault::BadFirst
-            | DeskFault::BadDays
-            | DeskFault::BadToday
-            | DeskFault::TooManyScripts => 2,
+            DeskFault::BadFirst | DeskFault::BadDays => 2,
             DeskFault::Device | DeskFault::Memory => 3,
             _ => 1,
         }

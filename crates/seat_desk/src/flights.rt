@@ -1,10 +1,91 @@
 //! `flights`: a data set on the dates of a horizon, and one line for each flight.
-ghost use Rattle.std.specs.Prelude.{◌≡◌, ◌++◌, ◌≤◌, List, ℕ, IfOk, OnOk, Some, slice_get};
-ghost use Rattle.seat_desk.specs.FlightsDesk.{IsFlightsText, IsLegText, IsLinePut, IsPut, head_text, suffix_text};
+ghost use Rattle.std.specs.Prelude.{◌≡◌, ◌≢◌, ◌++◌, ◌<◌, ◌≤◌, ℕ, List, IfErr, IfOk, IfSome, OnOk, length};
+ghost use Rattle.ssim_flights.specs.Right.{IsOfCentury};
+ghost use Rattle.seat_desk.specs.CheckDesk.{most_bytes};
+ghost use Rattle.seat_desk.specs.Desk.{HasFailed, IsBegun, IsOfInput, IsWritten};
+ghost use Rattle.seat_desk.specs.FlightsDesk.{IsFlightsText, IsLegText, IsLinePut, IsListing, IsPut, IsSchedule, IsUnscheduled, expansion_fault, head_text, suffix_text};
 
+use crate::check::{MOST_BYTES, data_set};
+use crate::fault::DeskFault;
+use crate::streams::read_input;
 use crate::text::{put, put_number};
-use ssim_flights::{DatedLeg, Flight, Flights};
+use ssim_flights::{DatedLeg, Flight, FlightFault, FlightKind, Flights, expand};
+use ssim_records::{Day, NotedRead, NotedWrite, put_all};
 use std::alloc::{AllocError, Global};
+
+/// The most dated flights.
+const MOST_FLIGHTS: u32 = 100_000;
+
+/// Reads a data set and writes one line for each dated flight of the `days` days from the first one on.
+/// The first day is in 2000 to 2099, `days` is 1 to 366, an input has at most 256 MiB.
+pub fn desk_flights<R: NotedRead, W: NotedWrite>(
+    alloc: Global,
+    input: &mut R,
+    first: Day,
+    days: u16,
+    out: &mut W,
+) -> Result<(), DeskFault>
+    requires first { IsOfCentury first }
+    requires days { (1 ≤ days) × (days ≤ 366) }
+    ensures ok { OnOk result (IfSome (R.remaining input.old) (λ xs. (length xs ≤ most_bytes) × IsWritten (IsListing xs first days) (W.contents out.old) (W.contents out.new))) }
+    ensures fault { IfErr result (λ f. IsOfInput f → IfSome (R.remaining input.old) (λ xs. IsUnscheduled first days f xs)) }
+    ensures large { IfErr result (λ f. f ≡ DeskFault.TooLarge → IfSome (R.remaining input.old) (λ xs. most_bytes < length xs)) }
+    ensures device { IfErr result (λ f. f ≡ DeskFault.Device → HasFailed (R.failure_count input.old) (R.failure_count input.new) (W.failure_count out.old) (W.failure_count out.new)
+        (out.new ≡ out.old) (IfSome (R.remaining input.old) (λ xs. IsBegun (IsListing xs first days) (W.contents out.old) (W.contents out.new)))) }
+    ensures untouched { IfErr result (λ f. f ≢ DeskFault.Device → out.new ≡ out.old) }
+{
+    let bytes = read_input(alloc, input, MOST_BYTES)?;
+    let text = listing(alloc, &bytes, first, days)?;
+    match put_all(out, &text) {
+        Ok(()) => Ok(()),
+        Err(_) => Err(DeskFault::Device),
+    }
+}
+
+/// The lines of the flights of the data set that these bytes are.
+fn listing(alloc: Global, bytes: &[u8], first: Day, days: u16) -> Result<Vec<u8>, DeskFault>
+    requires size { length bytes.now ≤ most_bytes }
+    requires first { IsOfCentury first }
+    requires days { (1 ≤ days) × (days ≤ 366) }
+    ensures ok { IfOk result (λ text. IsListing bytes.now first days text.items) }
+    ensures fault { IfErr result (λ f. f ≢ DeskFault.Memory → IsUnscheduled first days f bytes.now) }
+    ensures kind { IfErr result (λ f. (f ≢ DeskFault.Device) × (f ≢ DeskFault.TooLarge)) }
+{
+    let flights = scheduled(alloc, bytes, first, days)?;
+    match text_of(alloc, &flights) {
+        Ok(text) => Ok(text),
+        Err(_) => Err(DeskFault::Memory),
+    }
+}
+
+/// The dated flights of the data set that these bytes are.
+#[tactic(auto, using(ssim_flights::proofs::RightSets::right_carrier, ssim_flights::proofs::RightSets::right_legs))]
+pub fn scheduled(alloc: Global, bytes: &[u8], first: Day, days: u16) -> Result<Flights, DeskFault>
+    requires size { length bytes.now ≤ most_bytes }
+    requires first { IsOfCentury first }
+    requires days { (1 ≤ days) × (days ≤ 366) }
+    ensures ok { IfOk result (IsSchedule bytes.now first days) }
+    ensures fault { IfErr result (λ f. f ≢ DeskFault.Memory → IsUnscheduled first days f bytes.now) }
+    ensures kind { IfErr result (λ f. (f ≢ DeskFault.Device) × (f ≢ DeskFault.TooLarge)) }
+{
+    let set = match data_set(alloc, bytes) {
+        Ok(set) => set,
+        Err(fault) => return Err(fault),
+    };
+    match expand(alloc, &set, first, days, MOST_FLIGHTS) {
+        Ok(flights) => Ok(flights),
+        Err(fault) => Err(of_expansion(fault)),
+    }
+}
+
+fn of_expansion(fault: FlightFault) -> DeskFault
+    ensures { result ≡ expansion_fault fault }
+{
+    match fault.kind {
+        FlightKind::Memory => DeskFault::Memory,
+        _ => DeskFault::Flight(fault),
+    }
+}
 
 /// A line for each flight.
 #[tactic(auto, using(crate::proofs::Texts::put_none, crate::proofs::Texts::flights_more))]

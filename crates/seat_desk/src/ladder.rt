@@ -75,11 +75,7 @@ fn cut_first(bytes: &[u8]) -> (&[u8], &[u8])
 }
 
 /// The replies to the commands, and the room that they leave.
-fn answer_orders(
-    alloc: Global,
-    ladder: Ladder,
-    orders: &[Command],
-) -> Result<Vec<u8>, DeskFault>
+fn answer_orders(alloc: Global, ladder: Ladder, orders: &[Command]) -> Result<Vec<u8>, DeskFault>
     requires orders { All IsOrder orders.now }
     requires few { length orders.now ≤ 999999 }
     ensures ok { IfOk result (λ text. text.items ≡ ladder_text ladder orders.now) }

@@ -8,10 +8,13 @@ mod fault;
 mod flights;
 mod ladder;
 mod lines;
+mod loading;
 mod orders;
 mod streams;
 mod text;
 
+pub use audit::desk_audit;
 pub use check::desk_check;
 pub use fault::DeskFault;
+pub use flights::desk_flights;
 pub use ladder::desk_ladder;

@@ -1,8 +1,12 @@
 //! The ladder of each leg of each dated flight.
-ghost use Rattle.std.specs.Prelude.{◌≡◌, ◌≤◌, ℕ, length, [], ◌∷◌, IfOk, IfSome, IfNone, IsTrue, map, ◌↔◌};
+ghost use Rattle.std.specs.Prelude.{◌≡◌, ◌≤◌, ℕ, length, [], ◌∷◌, IfOk, IfSome, IfNone, IsTrue, map, option_map, ◌↔◌};
 ghost use Rattle.seat_nesting.specs.Nesting.{Fits, ladder_at, IsDistinct, HasLadders, steps_at, steps_of};
+ghost use Rattle.seat_nesting.specs.Authorised.{authorised_grid, authorised_legs, IsRowIndex};
 
 use crate::ladder::{Ladder, Step};
+use crate::limit_row::LimitRow;
+use crate::row_index::{RowIndex, leg_pair_of};
+use ssim_flights::{Flight, Flights};
 use ssim_records::{Memory, Place};
 use std::alloc::Global;
 use std::marker::Model;
@@ -61,6 +65,21 @@ impl Grid {
         Ok(Grid { flights })
     }
 
+    /// The ladders that limit rows give to the legs of flights: each leg has that of the last row
+    /// with its airline, number, suffix and city pair whose period holds its local day.
+    #[tactic(auto, using(crate::proofs::Grids::built_ladders))]
+    pub fn build(alloc: Global, flights: &Flights, rows: &[LimitRow]) -> Result<Grid, Memory>
+        ensures { IfOk result (λ grid. grid ≡ authorised_grid rows.now flights.now) }
+    {
+        let index = RowIndex::new(alloc, rows)?;
+        let mut grid = Vec::with_capacity(alloc, flights.len() as usize)?;
+        for i in 0..flights.len() {
+            let flight = flights.flight(i);
+            grid.push(FlightLegs::build(alloc, flight, rows, &index)?)?;
+        }
+        Ok(Grid { flights: grid })
+    }
+
     /// The same grid once more.
     pub fn copy(&self, alloc: Global) -> Result<Grid, Memory>
         ensures { IfOk result (λ grid. grid ≡ self.now) }
@@ -103,7 +122,7 @@ impl Grid {
     }
 
     /// The legs of each flight.
-    pub fn flights(&self) -> &[FlightLegs]
+    pub(crate) fn flights(&self) -> &[FlightLegs]
         ensures { result.now ≡ self.now }
     {
         &self.flights
@@ -117,9 +136,27 @@ impl Grid {
     }
 }
 
+#[cfg(test)]
+impl Grid {
+    /// One flight of two legs.
+    #[tactic(auto, using(crate::proofs::Grids::double_ladders))]
+    pub(crate) fn double(alloc: Global, first: Ladder, second: Ladder) -> Result<Grid, Memory>
+        ensures { IfOk result (λ grid. grid ≡ (first ∷ second ∷ []) ∷ []) }
+    {
+        let _ = first.steps();
+        let _ = second.steps();
+        let mut ladders = Vec::new(alloc);
+        ladders.push(Some(first))?;
+        ladders.push(Some(second))?;
+        let mut flights = Vec::new(alloc);
+        flights.push(FlightLegs { ladders })?;
+        Ok(Grid { flights })
+    }
+}
+
 impl FlightLegs {
     /// The ladder of each leg, where it has one.
-    pub fn ladders(&self) -> &[Option<Ladder>]
+    pub(crate) fn ladders(&self) -> &[Option<Ladder>]
         ensures { self.now ≡ map steps_of result.now }
     {
         &self.ladders
@@ -141,6 +178,24 @@ impl FlightLegs {
         }
     }
 
+    fn build(
+        alloc: Global,
+        flight: &Flight,
+        rows: &[LimitRow],
+        index: &RowIndex,
+    ) -> Result<FlightLegs, Memory>
+        requires { IsRowIndex index.now.last index.now.before.items rows.now (length rows.now) }
+        ensures legs { IfOk result (λ legs. legs ≡ authorised_legs rows.now flight.now) }
+        ensures distinct { IfOk result (λ legs. (leg : ℕ) → IsDistinct (steps_at legs leg)) }
+    {
+        let mut ladders = Vec::with_capacity(alloc, flight.legs.len())?;
+        for leg in flight.legs.as_slice() {
+            let ladder = index.ladder(rows, leg_pair_of(flight, leg), leg.day);
+            ladders.push(copy_of_found(ladder))?;
+        }
+        Ok(FlightLegs { ladders })
+    }
+
     fn copy(&self, alloc: Global) -> Result<FlightLegs, Memory>
         ensures { IfOk result (λ legs. legs ≡ self.now) }
     {
@@ -153,11 +208,24 @@ impl FlightLegs {
 }
 
 /// The same ladder once more, if there is one.
-pub fn copy_of(ladder: &Option<Ladder>) -> Option<Ladder>
+pub(crate) fn copy_of(ladder: &Option<Ladder>) -> Option<Ladder>
     ensures { result ≡ ladder.now }
 {
     match ladder {
         Some(ladder) => Some(ladder.copy()),
+        None => None,
+    }
+}
+
+fn copy_of_found(ladder: Option<&Ladder>) -> Option<Ladder>
+    ensures value { result ≡ option_map (λ l. l.now) ladder.entry }
+    ensures distinct { IsDistinct (steps_of result) }
+{
+    match ladder {
+        Some(ladder) => {
+            let _ = ladder.steps();
+            Some(ladder.copy())
+        }
         None => None,
     }
 }

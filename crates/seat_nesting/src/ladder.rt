@@ -41,12 +41,18 @@ pub enum LadderFault {
 }
 
 impl fmt::Display for LadderFault {
+    ghost use Rattle.std.specs.Prelude.{Some};
+    ghost use Rattle.seat_nesting.specs.FaultText.{ladder_code};
+
+    ghost output = { λ fault. Some (ladder_code fault) };
+
+    /// The code, L1 to L4.
     fn fmt<W: fmt::Write>(&self, f: &mut fmt::Formatter<W>) -> fmt::Result {
         match self {
-            LadderFault::Empty => write!(f, "L1"),
-            LadderFault::RepeatedClass => write!(f, "L2"),
-            LadderFault::Rising => write!(f, "L3"),
-            LadderFault::TooLarge => write!(f, "L4"),
+            LadderFault::Empty => f.write_str("L1"),
+            LadderFault::RepeatedClass => f.write_str("L2"),
+            LadderFault::Rising => f.write_str("L3"),
+            LadderFault::TooLarge => f.write_str("L4"),
         }
     }
 }

@@ -2,15 +2,29 @@
 //! It knows how many seats a table of held seats leaves, and nothing of bookings or of who holds them.
 #![tactic(auto)]
 
+#[cfg(test)]
+mod count_tests;
 mod counts;
 mod grid;
 mod ladder;
+#[cfg(test)]
+mod ladder_tests;
 mod ladder_text;
 mod leg_counts;
 mod limit_fault;
+mod limit_reading;
+mod limit_row;
+#[cfg(test)]
+mod limit_tests;
+mod lines;
+mod row_fields;
+mod row_index;
+mod row_reading;
 
 pub use counts::Counts;
 pub use grid::Grid;
 pub use ladder::{Ladder, LadderFault, Step};
 pub use ladder_text::read_ladder;
 pub use limit_fault::{LimitFault, LimitKind};
+pub use limit_reading::read_limits;
+pub use limit_row::{LimitRow, LimitRows};

@@ -1,4 +1,8 @@
+ghost use Rattle.std.specs.Prelude.{◌≡◌};
+ghost use Rattle.seat_nesting.specs.declared.limit_fault.LimitKind.TheVariants.{Memory as Wanting};
+
 use crate::ladder::LadderFault;
+use ssim_records::Memory;
 use std::fmt;
 
 /// Why a line is no limit row, or a text no ladder: the first fault from left to right.
@@ -19,17 +23,30 @@ pub enum LimitKind {
     Memory,
 }
 
+impl From<Memory> for LimitKind {
+    ghost from_gives = { λ _ e. e ≡ Wanting };
+
+    fn from(_e: Memory) -> LimitKind {
+        LimitKind::Memory
+    }
+}
+
 impl fmt::Display for LimitKind {
+    ghost use Rattle.std.specs.Prelude.{Some};
+    ghost use Rattle.seat_nesting.specs.FaultText.{kind_text};
+
+    ghost output = { λ kind. Some (kind_text kind) };
+
     /// The code, with the ladder's own code behind M6.
     fn fmt<W: fmt::Write>(&self, f: &mut fmt::Formatter<W>) -> fmt::Result {
         match self {
-            LimitKind::Head => write!(f, "M1"),
-            LimitKind::Flight => write!(f, "M2"),
-            LimitKind::Period => write!(f, "M3"),
-            LimitKind::Pair => write!(f, "M4"),
-            LimitKind::Entry => write!(f, "M5"),
+            LimitKind::Head => f.write_str("M1"),
+            LimitKind::Flight => f.write_str("M2"),
+            LimitKind::Period => f.write_str("M3"),
+            LimitKind::Pair => f.write_str("M4"),
+            LimitKind::Entry => f.write_str("M5"),
             LimitKind::Ladder(fault) => write!(f, "M6 {fault}"),
-            LimitKind::Memory => write!(f, "M7"),
+            LimitKind::Memory => f.write_str("M7"),
         }
     }
 }
@@ -42,8 +59,15 @@ pub struct LimitFault {
 }
 
 impl fmt::Display for LimitFault {
+    ghost use Rattle.std.specs.Prelude.{Some};
+    ghost use Rattle.seat_nesting.specs.FaultText.{fault_text};
+
+    ghost output = { λ fault. Some (fault_text fault) };
+
     /// The code and the line.
     fn fmt<W: fmt::Write>(&self, f: &mut fmt::Formatter<W>) -> fmt::Result {
-        write!(f, "{} {}", self.kind, self.line)
+        let kind = self.kind;
+        let line = self.line;
+        write!(f, "{kind} {line}")
     }
 }

@@ -17,11 +17,4 @@ pub fn examples_are_read()
         ((codes "set", codes "summer.ssim" ∷ []) ∷ (codes "limits", codes "limits.txt" ∷ [])
         ∷ (codes "first", codes "2024-06-01" ∷ []) ∷ (codes "days", codes "30" ∷ [])
         ∷ (codes "journal", codes "journal.txt" ∷ []) ∷ []) }
-    ensures run { IsReadTo
-        (codes "seatdesk run --set summer.ssim --limits limits.txt --first 2024-06-01 --days 30 --today 2024-06-01 --journal journal.txt desk1.txt desk2.txt")
-        (codes "run")
-        ((codes "set", codes "summer.ssim" ∷ []) ∷ (codes "limits", codes "limits.txt" ∷ [])
-        ∷ (codes "first", codes "2024-06-01" ∷ []) ∷ (codes "days", codes "30" ∷ [])
-        ∷ (codes "today", codes "2024-06-01" ∷ []) ∷ (codes "journal", codes "journal.txt" ∷ [])
-        ∷ (codes "scripts", codes "desk1.txt" ∷ codes "desk2.txt" ∷ []) ∷ []) }
 {}

@@ -2,13 +2,16 @@
 //! It knows which stream is which, and nothing of what the commands do with them.
 #![tactic(auto)]
 
+ghost use Rattle.std.specs.Prelude.{◌≤◌, IfOk};
+ghost use Rattle.ssim_flights.specs.Right.{IsOfCentury};
+
 use clap::error::ErrorKind;
-use seat_desk::{DeskFault, desk_check, desk_ladder};
-use seat_words::{Job, read_words};
-use ssim_records::Counted;
+use seat_desk::{DeskFault, desk_audit, desk_check, desk_flights, desk_ladder};
+use seat_words::{Job, date_word, days_word, read_words};
+use ssim_records::{Counted, Day};
 use std::fs::File;
-use std::{fs, io};
 use std::process::ExitCode;
+use std::{fs, io};
 
 fn main(rt: HostRuntime) -> ExitCode {
     match start(&rt) {
@@ -42,8 +45,50 @@ fn carry_out(rt: &HostRuntime, job: &Job<'_>) -> Result<(), DeskFault> {
             let mut out = Counted::new(rt.stdout());
             desk_check(rt.alloc(), &mut set, &mut out)
         }
-        _ => Err(DeskFault::Memory),
+        Job::Flights { set, first, days } => {
+            let (first, days) = horizon(first, days)?;
+            let mut set = opened(rt, set)?;
+            let mut out = Counted::new(rt.stdout());
+            desk_flights(rt.alloc(), &mut set, first, days, &mut out)
+        }
+        Job::Audit {
+            set,
+            limits,
+            first,
+            days,
+            journal,
+        } => {
+            let (first, days) = horizon(first, days)?;
+            let mut set = opened(rt, set)?;
+            let mut limits = opened(rt, limits)?;
+            let mut journal = opened(rt, journal)?;
+            let mut out = Counted::new(rt.stdout());
+            desk_audit(
+                rt.alloc(),
+                &mut set,
+                &mut limits,
+                first,
+                days,
+                &mut journal,
+                &mut out,
+            )
+        }
     }
+}
+
+/// The first day and the number of days.
+#[tactic(auto, using(crate::proofs::Horizons::of_word))]
+fn horizon(first: &str, days: &str) -> Result<(Day, u16), DeskFault>
+    ensures first { IfOk result (λ r. IsOfCentury r.0) }
+    ensures days { IfOk result (λ r. (1 ≤ r.1) × (r.1 ≤ 366)) }
+{
+    let Some(first) = date_word(first) else {
+        return Err(DeskFault::BadFirst);
+    };
+    let Some(days) = days_word(days) else {
+        return Err(DeskFault::BadDays);
+    };
+    Ok((first, days))
 }
 
 /// An input file.

@@ -36,6 +36,6 @@ day_shift std offset shift a b d e hstd lo ho ls hs ea eb ed ee =
   where
     with_quotient : (q : ℤ) → negsuc 0 ≤ℤ q → q ≤ℤ pos 1 → e ≡ q → (to_z w32 (of_z w32 (to_z w32 (of_z w32 a) +ℤ to_z w32 (of_z w32 e))) ≡ shift +ℤ q) × (negsuc 1 ≤ℤ to_z w32 (of_z w32 (to_z w32 (of_z w32 a) +ℤ to_z w32 (of_z w32 e)))) × (to_z w32 (of_z w32 (to_z w32 (of_z w32 a) +ℤ to_z w32 (of_z w32 e))) ≤ℤ pos 8)
     with_quotient q lq hq eq =
-      let total = small_sum a e shift q (ea ∙ back_small w8 shift (omega (arith, abs_below 7 shift (omega (arith, signed_arith)) hs))) eq (omega (arith, signed_arith)) (omega (arith, signed_arith)) (omega (arith, signed_arith)) (omega (arith, signed_arith)) in
-      let bounds = summed shift q _ ls hs lq hq total in
-      (total, bounds.0, bounds.1)
+        let total = small_sum a e shift q (ea ∙ back_small w8 shift (omega (arith, abs_below 7 shift (omega (arith, signed_arith)) hs))) eq (omega (arith, signed_arith)) (omega (arith, signed_arith)) (omega (arith, signed_arith)) (omega (arith, signed_arith)) in
+        let bounds = summed shift q _ ls hs lq hq total in
+        (total, bounds.0, bounds.1)

@@ -29,7 +29,7 @@ days_more_yes p a n m d more at passes = days_more p a n m d more at ∙ rw pass
 pub days_more_no : (p : ℕ → Bool) (a n m d : ℕ) → m ≡ n + 1 → d ≡ a + n → p d ≡ false → filter p (range_with_len a m) ≡ filter p (range_with_len a n)
 days_more_no p a n m d more at fails = days_more p a n m d more at ∙ rw fails (append-nil _)
 
-range_increases : (a n : ℕ) → IsStrictlyIncreasing (range_with_len a n)
+pub range_increases : (a n : ℕ) → IsStrictlyIncreasing (range_with_len a n)
 range_increases a n = λ k h.
     let l = length-range_with_len a n in
     let x = get_or-range_with_len a n k 0 (omega arith) in

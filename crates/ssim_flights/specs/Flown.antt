@@ -1,5 +1,5 @@
 -- The dated flights of all itineraries, and the first fault.
-use Rattle.std.specs.Prelude.{ℕ, ◌+◌, ◌==◌, nat_eq, nat_lt, Bool, ◌&&◌, if◌then◌else◌, List, [], ◌∷◌, ◌++◌, Option, Some, None, map, length}
+use Rattle.std.specs.Prelude.{◌≡◌, ◌⊎◌, ℕ, ◌+◌, ◌==◌, nat_eq, nat_lt, Bool, ◌&&◌, if◌then◌else◌, List, [], ◌∷◌, ◌++◌, Option, Some, None, map, length}
 use Rattle.std.specs.Option.{option_eq, option_or}
 use Rattle.std.specs.List.{list_any, flat_map}
 use Rattle.ssim_records.specs.declared.carrier.Leg.{Leg}
@@ -41,30 +41,28 @@ abbrev pub found : FlightKind → Option ℕ → Option FlightFault → Option F
 found kind (Some serial) later = Some (record { serial = serial; kind = kind })
 found kind None later = later
 
--- one of these departures is taken: leg 1
-abbrev pub twice_on_date : (Departure → Bool) → List Leg → List Departure → Option ℕ
-twice_on_date taken legs own = first_record_if (list_any taken own) legs
+-- the serial of leg 1, where the test holds
+abbrev pub leg_one_if : Bool → List Scheduled → Option ℕ
+leg_one_if test [] = None
+leg_one_if test (leg ∷ legs) = if test then Some leg.leg.serial else None
 
--- more than 8 legs: the first record
-abbrev pub too_many_legs : List Leg → List Leg → Option ℕ
-too_many_legs legs chained = first_record_if (nat_lt 8 (length chained)) legs
+-- what is wrong with the days and the number of a chain's flights, F4 to F8
+unfoldable pub days_fault : Plan → (Departure → Bool) → ℕ → List Leg → List Scheduled → Option FlightFault
+days_fault plan taken count legs chained =
+    found kinds.LegDatesDiffer (differing chained)
+    (found kinds.DatesFallBack (falling_back plan chained)
+    (found kinds.TwiceOnDate (leg_one_if (list_any taken (departures_on plan chained)) chained)
+    (found kinds.TooManyLegs (first_record_if (nat_lt 8 (length chained)) legs)
+    (found kinds.TooManyFlights (leg_one_if (nat_lt plan.most (count + length (flights_on plan chained))) chained)
+    None))))
 
--- more flights than there may be: leg 1
-abbrev pub too_many_flights : ℕ → ℕ → List Leg → Option ℕ
-too_many_flights most flights chained = first_record_if (nat_lt most flights) chained
-
--- the first fault of an itinerary, F1 to F8, where some departures are taken and there are so many flights already
+-- the first fault of an itinerary, F1 to F8, where some departures are taken and there are `count` flights already
 unfoldable pub fault_of : Plan → (Departure → Bool) → ℕ → List Leg → Option FlightFault
 fault_of plan taken count legs =
     found kinds.MissingLeg (missing_leg legs)
     (found kinds.RepeatedLeg (repeated_leg legs)
     (found kinds.BrokenChain (broken_chain (chain legs))
-    (found kinds.LegDatesDiffer (differing (schedule plan (chain legs)))
-    (found kinds.DatesFallBack (falling_back plan (schedule plan (chain legs)))
-    (found kinds.TwiceOnDate (twice_on_date taken (chain legs) (departures_of plan legs))
-    (found kinds.TooManyLegs (too_many_legs legs (chain legs))
-    (found kinds.TooManyFlights (too_many_flights plan.most (count + length (flights_of plan legs)) (chain legs))
-    None)))))))
+    (days_fault plan taken count legs (schedule plan (chain legs)))))
 
 -- ---- all itineraries
 
@@ -77,7 +75,7 @@ abbrev pub fault_after : Plan → List (List Leg) → List (List Leg) → Option
 fault_after plan earlier [] = None
 fault_after plan earlier (legs ∷ more) =
     option_or (fault_of plan (is_taken plan earlier) (length (flat_map (flights_of plan) earlier)) legs)
-      (fault_after plan (earlier ++ legs ∷ []) more)
+    (fault_after plan (earlier ++ legs ∷ []) more)
 
 unfoldable pub first_fault : Plan → List (List Leg) → Option FlightFault
 first_fault plan all = fault_after plan [] all
@@ -85,3 +83,16 @@ first_fault plan all = fault_after plan [] all
 -- the dated flights, by itinerary and then by date
 unfoldable pub dated_flights : Plan → List (List Leg) → List Flight
 dated_flights plan all = flat_map (flights_of plan) all
+
+-- their flight numbers, suffixes and first operating days
+abbrev pub all_departures : Plan → List (List Leg) → List Departure
+all_departures plan all = flat_map (departures_of plan) all
+
+-- ---- refusals
+
+abbrev pub memory_fault : FlightFault
+memory_fault = record { serial = 0; kind = kinds.Memory }
+
+-- the fault that was found, or want of memory
+abbrev pub IsRefusal : FlightFault → Option FlightFault → Type 0
+IsRefusal fault first = (fault ≡ memory_fault) ⊎ (first ≡ Some fault)

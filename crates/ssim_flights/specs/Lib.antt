@@ -1,4 +1,6 @@
+pub mod Adding
 pub mod Chains
+pub mod FaultText
 pub mod Few
 pub mod Flown
 pub mod Index

@@ -1,4 +1,7 @@
 //! Why legs are no flights.
+ghost use Rattle.std.specs.Prelude.{◌≡◌};
+
+use ssim_records::Memory;
 use std::fmt;
 
 /// The first fault of the first itinerary that has one.
@@ -32,7 +35,39 @@ pub enum FlightKind {
     Memory,
 }
 
+impl From<Memory> for FlightFault {
+    ghost use Rattle.ssim_flights.specs.Flown.{memory_fault};
+
+    ghost from_gives = { λ _ fault. fault ≡ memory_fault };
+
+    fn from(_memory: Memory) -> FlightFault {
+        FlightFault {
+            serial: 0,
+            kind: FlightKind::Memory,
+        }
+    }
+}
+
+impl fmt::Display for FlightFault {
+    ghost use Rattle.std.specs.Prelude.{Some};
+    ghost use Rattle.ssim_flights.specs.FaultText.{fault_text};
+
+    ghost output = { λ fault. Some (fault_text fault) };
+
+    /// The code and the serial number.
+    fn fmt<W: fmt::Write>(&self, f: &mut fmt::Formatter<W>) -> fmt::Result {
+        let kind = self.kind;
+        let serial = self.serial;
+        write!(f, "{kind} {serial}")
+    }
+}
+
 impl fmt::Display for FlightKind {
+    ghost use Rattle.std.specs.Prelude.{Some};
+    ghost use Rattle.ssim_flights.specs.FaultText.{code_of};
+
+    ghost output = { λ kind. Some (code_of kind) };
+
     fn fmt<W: fmt::Write>(&self, f: &mut fmt::Formatter<W>) -> fmt::Result {
         f.write_str(match self {
             FlightKind::MissingLeg => "F1",

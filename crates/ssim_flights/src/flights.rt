@@ -1,6 +1,6 @@
 //! The flights of a horizon, and the places on them.
-ghost use Rattle.std.specs.Prelude.{◌≡◌, ◌<◌, ◌≤◌, IfOk, Some, length, slice_get};
-ghost use Rattle.ssim_flights.specs.Few.{AreFew};
+ghost use Rattle.std.specs.Prelude.{◌≡◌, ◌<◌, ◌≤◌, IfOk, IsTrue, Some, length, slice_get};
+ghost use Rattle.ssim_flights.specs.Few.{AreFew, AreJoined, joins_up};
 ghost use Rattle.ssim_flights.specs.Places.{place_wanted};
 
 use crate::flight::{Flight, Wanted};
@@ -21,7 +21,7 @@ pub struct Flights {
 impl Model for Flights {
     ghost use Rattle.std.specs.Prelude.{List};
     ghost use Rattle.ssim_flights.specs.declared.flight.Flight.{Flight as Flown};
-    ghost use Rattle.ssim_flights.specs.Few.{AreFew};
+    ghost use Rattle.ssim_flights.specs.Few.{AreFew, AreJoined};
     ghost use Rattle.ssim_flights.specs.Places.{places};
     ghost use Rattle.ssim_flights.specs.Index.{IsIndex};
 
@@ -29,7 +29,7 @@ impl Model for Flights {
 
     ghost view = { λ f. f.items.items };
 
-    ghost invariant = { λ f. AreFew f.items.items × IsIndex f.index (places 0 f.items.items) };
+    ghost invariant = { λ f. AreFew f.items.items × IsIndex f.index (places 0 f.items.items) × AreJoined f.items.items };
 }
 
 impl Flights {
@@ -47,6 +47,7 @@ impl Flights {
         requires { i < length self.now }
         ensures value { slice_get self.now i ≡ Some result.now }
         ensures legs { length result.now.legs ≤ 8 }
+        ensures joined { IsTrue (joins_up result.now.legs) }
     {
         &self.items[i as usize]
     }
@@ -61,7 +62,8 @@ impl Flights {
 
     /// These flights, in their order.
     pub(crate) fn of(alloc: Global, items: Vec<Flight>) -> Result<Self, Memory>
-        requires { AreFew items.items }
+        requires few { AreFew items.items }
+        requires joined { AreJoined items.items }
         ensures { IfOk result (λ flights. flights ≡ items.items) }
     {
         let index = index_of(alloc, items.as_slice())?;

@@ -2,8 +2,10 @@
 //! It knows legs and days, and nothing of seats, bookings or sessions.
 #![tactic(auto)]
 
+mod adding;
 mod chain;
 mod days;
+mod expansion;
 mod fault;
 mod flight;
 mod flights;
@@ -14,8 +16,11 @@ mod leg_list;
 mod plan;
 mod rows;
 mod schedule;
+#[cfg(test)]
+mod tests;
 
 pub use days::{Days, operating_days};
+pub use expansion::expand;
 pub use fault::{FlightFault, FlightKind};
 pub use flight::{DatedLeg, DatedLegs, Flight, Wanted};
 pub use flights::Flights;

@@ -11,7 +11,8 @@ use Rattle.ssim_records.specs.Bytes.{field, same_text, is_printable, is_filler, 
 use Rattle.ssim_records.specs.Days.{date_in}
 use Rattle.ssim_records.specs.RecordFields.{padded_in, positive_in, six_in, mode_in, designator_in, station_in, suffix_in, byte_in, until_in, days_in, rate_in, time_in, offset_in, shift_in, continued_in}
 use Rattle.ssim_records.specs.Cut.{cut_at, ended, end_at}
-use Rattle.ssim_records.specs.SetSteps.{◌>>=◌, want, check, carrier_at, leg_at, trailer_at, header_at, second_at, segment_at, numbered_at, header_step, carrier_step, leg_step, segment_step, trailer_step, body_step, type_of, has_serial, taken, within, is_start, step, moved, cut_then, next, missing}
+use Rattle.ssim_records.specs.SetFaults.{missing}
+use Rattle.ssim_records.specs.SetSteps.{◌>>=◌, want, check, carrier_at, leg_at, trailer_at, header_at, second_at, segment_at, numbered_at, header_step, carrier_step, leg_step, segment_step, trailer_step, body_step, type_of, has_serial, taken, within, is_start, step, moved, cut_then, next}
 
 abbrev refusal : {A : Type 0} → SetKind → Result A SetKind
 refusal kind = Err kind

@@ -42,6 +42,9 @@ cut_then_takes most s (Ok p) q h = let k = of (step most s p.0) h in (p, refl, k
         let same : ◌≡◌ {A = Reader × Bytes} (t, p.1) q = pair_is (t, p.1) q h in
         (ap (λ (x : Reader × Bytes). done x.0) same, ap (λ (x : Reader × Bytes). x.1) same)
 
+rest_is : (bytes text end more rest : List ℕ) → bytes ≡ text ++ (end ++ more) → more ≡ rest → bytes ≡ text ++ (end ++ rest)
+rest_is bytes text end more rest h e = h ∙ ap (λ (x : List ℕ). text ++ (end ++ x)) e
+
 run_more : (most : ℕ) (s u t : Reader) (text : List ℕ) (texts : List (List ℕ)) → step most s text ≡ Ok u → run most u texts ≡ Ok t → run most s (text ∷ texts) ≡ Ok t
 run_more most s u t text texts h k = ap (λ (r : Result Reader SetKind). r >>= (λ x. run most x texts)) h ∙ k
 
@@ -55,7 +58,7 @@ cuts_of most (suc n) s t bytes h =
     let p = cut_then_takes most s (cut_at bytes) first.0 first.1 in
     let more = cuts_of most n first.0.0 t first.0.1 first.2 in
     let cut = cut_takes bytes p.0.0 p.0.1 p.1 in
-    let rest : bytes ≡ p.0.0 ++ (cut.0 ++ first.0.1) = cut.4 ∙ ap (λ (x : List ℕ). p.0.0 ++ (cut.0 ++ x)) p.3 in
+    let rest : bytes ≡ p.0.0 ++ (cut.0 ++ first.0.1) = rest_is bytes p.0.0 cut.0 p.0.1 first.0.1 cut.4 p.3 in
     (p.0.0 ∷ more.0, (cut.0, first.0.1, cut.1, cut.2, cut.3, rest, more.1), run_more most s first.0.0 t p.0.0 more.0 p.2 more.2)
 
 pub reaches_of : (most : ℕ) (texts : List (List ℕ)) (s t : Reader) (bytes : List ℕ) → IsCut bytes texts → run most s texts ≡ Ok t → reach (next most) s bytes (length texts) ≡ Ok (t, [])

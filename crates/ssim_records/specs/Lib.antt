@@ -2,6 +2,7 @@ pub mod Bytes
 pub mod Counting
 pub mod Cut
 pub mod Days
+pub mod Failing
 pub mod FaultText
 pub mod Fields
 pub mod Lines
@@ -10,5 +11,6 @@ pub mod Noting
 pub mod Reach
 pub mod RecordFields
 pub mod RightSet
+pub mod SetFaults
 pub mod SetSteps
 pub mod SetText

@@ -1,6 +1,6 @@
 //! Laws of the definitions, each on a function that does nothing.
 ghost use Rattle.ssim_records.specs.Days.{WrittenIsRead, ReadIsWritten, OneDateText};
-ghost use Rattle.ssim_records.specs.SetSteps.{OneFirstFault};
+ghost use Rattle.ssim_records.specs.SetFaults.{OneFirstFault};
 ghost use Rattle.ssim_records.specs.SetText.{OneCut, OneDataSet};
 
 /// `Day::bytes` and `Day::read` undo each other in the years 2000 to 2099.

@@ -8,6 +8,7 @@ mod cut;
 mod days;
 #[cfg(test)]
 mod device_tests;
+mod failing;
 pub mod fields;
 pub mod laws;
 pub mod lines;
@@ -29,6 +30,7 @@ mod writing;
 pub use carrier::{Carrier, Leg};
 pub use counted::{Counted, Failures, NotedRead, NotedWrite};
 pub use days::Day;
+pub use failing::{FailingReader, FailingWriter, Stop};
 pub use memory::Memory;
 pub use names::{Airline, Class, Code, Locator, Station};
 pub use place::Place;

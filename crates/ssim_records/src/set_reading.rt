@@ -3,7 +3,7 @@ ghost use Rattle.std.specs.Prelude.{◌≡◌, ◌≢◌, ◌≤◌, ◌^◌, Li
 ghost use Rattle.std.specs.Result.{MatchResult};
 ghost use Rattle.ssim_records.specs.declared.set.DataSet.{DataSet as Said};
 ghost use Rattle.ssim_records.specs.RightSet.{IsRightSet};
-ghost use Rattle.ssim_records.specs.SetSteps.{IsFirstFault, WantsRoom, IsRefusal, ReadsAs};
+ghost use Rattle.ssim_records.specs.SetFaults.{IsFirstFault, WantsRoom, IsRefusal, ReadsAs};
 ghost use Rattle.ssim_records.specs.SetText.{IsDataSet};
 
 use crate::cut::cut;

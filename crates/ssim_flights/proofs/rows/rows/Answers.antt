@@ -14,7 +14,8 @@ loop-i-preserved c =
     let kept = days_more_yes (λ (i : ℕ). is_in_horizon plan (day_at first i)) 0 n (n + 1) n refl (omega arith) in
     let left = days_more_no (λ (i : ℕ). is_in_horizon plan (day_at first i)) 0 n (n + 1) n refl (omega arith) in
     elim c.if-is_in_horizon.branch [
-      then-is_in_horizon+in_ok-push w ↦
-        ap (λ list. list.items) w.list-is ∙ w.in_ok-push.ensures.items ∙ ap (λ x. x ++ n ∷ []) c.loop-i.invariant ∙ sym (kept (sym here ∙ w.if-is_in_horizon.true))
-    | else-is_in_horizon w ↦
-        ap (λ list. list.items) w.list-is ∙ c.loop-i.invariant ∙ sym (left (sym here ∙ w.if-is_in_horizon.false)) ]
+      | then-is_in_horizon+in_ok-push w ↦
+          ap (λ list. list.items) w.list-is ∙ w.in_ok-push.ensures.items ∙ ap (λ x. x ++ n ∷ []) c.loop-i.invariant ∙ sym (kept (sym here ∙ w.if-is_in_horizon.true))
+      | else-is_in_horizon w ↦
+          ap (λ list. list.items) w.list-is ∙ c.loop-i.invariant ∙ sym (left (sym here ∙ w.if-is_in_horizon.false))
+    ]

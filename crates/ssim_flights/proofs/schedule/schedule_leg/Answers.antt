@@ -14,5 +14,5 @@ returns c =
     let plan = c.args.plan.now in
     let leg = c.args.leg.now in
     ap (λ (ops : List Operation). record { leg = leg; operations = ops })
-      (mapped_all (operation plan leg) c.loop-day.day-index c.as_slice-day-items.result.now (operating_days leg plan.end) c.loop-day.operations (omega arith)
-        (c.as_slice-day-items.ensures ∙ c.in_ok-days.ensures.value) c.loop-day.invariant)
+    (mapped_all (operation plan leg) c.loop-day.day-index c.as_slice-day-items.result.now (operating_days leg plan.end) c.loop-day.operations (omega arith)
+    (c.as_slice-day-items.ensures ∙ c.in_ok-days.ensures.value) c.loop-day.invariant)

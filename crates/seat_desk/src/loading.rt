@@ -1,0 +1,77 @@
+//! The grid that a data set and limit rows give on the dates of a horizon.
+ghost use Rattle.std.specs.Prelude.{◌≡◌, ◌≢◌, ◌<◌, ◌≤◌, ◌⊎◌, IfErr, IfOk, IfSome, length};
+ghost use Rattle.ssim_records.specs.Noting.{noted};
+ghost use Rattle.seat_desk.specs.CheckDesk.{most_bytes};
+ghost use Rattle.ssim_flights.specs.Right.{IsOfCentury};
+ghost use Rattle.seat_nesting.specs.Authorised.{authorised_grid};
+ghost use Rattle.seat_nesting.specs.LimitRows.{IsLimitText};
+ghost use Rattle.seat_desk.specs.Desk.{IsOfInput};
+ghost use Rattle.seat_desk.specs.AuditDesk.{IsLoaded, IsRefusedLoad, IsUnlimited, limit_refusal, most_limit_bytes};
+
+use crate::check::MOST_BYTES;
+use crate::fault::DeskFault;
+use crate::flights::scheduled;
+use crate::streams::read_input;
+use seat_nesting::{Grid, LimitFault, LimitKind, LimitRows, read_limits};
+use ssim_flights::Flights;
+use ssim_records::{Day, NotedRead};
+use std::alloc::Global;
+
+/// 16 MiB, the most bytes of limit rows.
+pub const MOST_LIMIT_BYTES: u64 = 16_777_216;
+
+/// The grid of a data set and limit rows, each read and checked before the next is read.
+pub fn load<S: NotedRead, L: NotedRead>(
+    alloc: Global,
+    set: &mut S,
+    limits: &mut L,
+    first: Day,
+    days: u16,
+) -> Result<Grid, DeskFault>
+    requires first { IsOfCentury first }
+    requires days { (1 ≤ days) × (days ≤ 366) }
+    ensures ok { IfOk result (λ grid. IfSome (S.remaining set.old) (λ xs. IfSome (L.remaining limits.old) (λ ys. IsLoaded xs ys first days grid))) }
+    ensures fault { IfErr result (λ f. IsOfInput f → IfSome (S.remaining set.old) (λ xs. IfSome (L.remaining limits.old) (λ ys. IsRefusedLoad xs ys first days f))) }
+    ensures large { IfErr result (λ f. f ≡ DeskFault.TooLarge → IfSome (S.remaining set.old) (λ xs. IfSome (L.remaining limits.old) (λ ys. (most_bytes < length xs) ⊎ (most_limit_bytes < length ys)))) }
+    ensures device { IfErr result (λ f. f ≡ DeskFault.Device → (S.failure_count set.new ≡ noted (S.failure_count set.old)) ⊎ (L.failure_count limits.new ≡ noted (L.failure_count limits.old))) }
+{
+    let bytes = read_input(alloc, set, MOST_BYTES)?;
+    let flights = scheduled(alloc, &bytes, first, days)?;
+    let bytes = read_input(alloc, limits, MOST_LIMIT_BYTES)?;
+    let rows = limit_rows(alloc, &bytes)?;
+    grid_of(alloc, &flights, &rows)
+}
+
+/// The limit rows that these bytes are.
+#[tactic(auto, using(crate::proofs::Grounds::refused_limits))]
+pub fn limit_rows(alloc: Global, bytes: &[u8]) -> Result<LimitRows, DeskFault>
+    requires { length bytes.now ≤ most_limit_bytes }
+    ensures ok { IfOk result (IsLimitText bytes.now) }
+    ensures fault { IfErr result (λ f. f ≢ DeskFault.Memory → IsUnlimited bytes.now f) }
+    ensures kind { IfErr result (λ f. (f ≢ DeskFault.Device) × (f ≢ DeskFault.TooLarge)) }
+{
+    match read_limits(alloc, bytes) {
+        Ok(rows) => Ok(rows),
+        Err(fault) => Err(of_limits(fault)),
+    }
+}
+
+fn of_limits(fault: LimitFault) -> DeskFault
+    ensures { result ≡ limit_refusal fault }
+{
+    match fault.kind {
+        LimitKind::Memory => DeskFault::Memory,
+        _ => DeskFault::Limit(fault),
+    }
+}
+
+/// The grid of these flights under these rows.
+pub fn grid_of(alloc: Global, flights: &Flights, rows: &LimitRows) -> Result<Grid, DeskFault>
+    ensures ok { IfOk result (λ grid. grid ≡ authorised_grid rows.now flights.now) }
+    ensures memory { IfErr result (λ f. f ≡ DeskFault.Memory) }
+{
+    match Grid::build(alloc, flights, rows.as_slice()) {
+        Ok(grid) => Ok(grid),
+        Err(_) => Err(DeskFault::Memory),
+    }
+}

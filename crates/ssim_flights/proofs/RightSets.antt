@@ -1,0 +1,105 @@
+-- The carrier and the legs of a data set are right in what dates are reckoned from.
+use Rattle.std.proofs.Common.{rules, ◌≡◌, ℕ, ◌+◌, ◌*◌, ◌<◌, ◌≤◌, List, [], ◌∷◌, Option, Some, None, All, ◌⊎◌, ⊎_elim, refl, sym, subst, ◌∙◌, ℤ, pos, negsuc, ◌+ℤ◌, ◌-ℤ◌, ◌<ℤ◌, ◌≤ℤ◌, unwrap_or, arith}
+use Rattle.std.proofs.lemmas.List.Elements.{All-nil, All-cons}
+use Rattle.jiff_core.specs.Calendar.{day_count, days_from_civil, IsCivilDate}
+use Rattle.jiff_core.proofs.SignedLemmas.{signed_arith}
+use Rattle.jiff_core.proofs.CalendarLemmas.{days_from_civil-day_count, day_count-lt_year}
+use Rattle.jiff_core.proofs.MarchLemmas.{day_count-early, day_count-late}
+use Rattle.ssim_records.specs.Days.{IsDate, IsDayField}
+use Rattle.ssim_records.specs.SetText.{IsBody, IsCarrier, IsDataSet, IsLeg, IsOffset, IsShift, IsUntil}
+use Rattle.ssim_records.specs.declared.carrier.Carrier.{Carrier}
+use Rattle.ssim_records.specs.declared.carrier.Leg.{Leg}
+use Rattle.ssim_records.specs.declared.set.DataSet.{DataSet}
+use Rattle.ssim_flights.specs.Right.{IsOfCentury, IsRightCarrier, IsRightLeg}
+
+-- ---- the years 2000 to 2099
+
+count_2100 : day_count (pos 2100) 1 1 ≡ 4_419_435
+count_2100 = day_count-early (pos 2100) 12099 1 1 refl (omega arith) (omega arith) (omega arith)
+
+last_1999 : day_count (pos 1999) 12 31 ≡ 4_382_909
+last_1999 = day_count-late (pos 1999) 11999 12 31 refl (omega arith) (omega arith) (omega arith)
+
+date_1999 : IsCivilDate (pos 1999) 12 31
+date_1999 = search rules
+
+low_day : (y : ℤ) (m d : ℕ) → IsCivilDate y m d → pos 2000 ≤ℤ y → pos 10957 ≤ℤ days_from_civil y m d
+low_day y m d date low =
+    omega (arith, signed_arith, days_from_civil-day_count y m d, last_1999, day_count-lt_year (pos 1999) 12 31 y m d date_1999 date.2.0 (omega (arith, signed_arith)))
+
+high_day : (y : ℤ) (m d : ℕ) → IsCivilDate y m d → y ≤ℤ pos 2099 → days_from_civil y m d ≤ℤ pos 47481
+high_day y m d date high =
+    omega (arith, signed_arith, days_from_civil-day_count y m d, count_2100, day_count-lt_year y m d (pos 2100) 1 1 date (omega arith) (omega (arith, signed_arith)))
+
+pub of_century : (year m d n : ℕ) → year < 100 → IsDate (2000 + year) m d n → IsOfCentury n
+of_century year m d n small date =
+    let low = low_day (pos (2000 + year)) m d date.0 (omega (arith, signed_arith)) in
+    let high = high_day (pos (2000 + year)) m d date.0 (omega (arith, signed_arith)) in
+    let number = date.1 in
+    record { begun = omega (arith, signed_arith); lasts = omega (arith, signed_arith) }
+
+day_right : (text : List ℕ) (n : ℕ) → IsDayField text n → IsOfCentury n
+day_right text n d = of_century d.year d.month d.day n d.century d.date
+
+until_right : (from : ℕ) (text : List ℕ) (to : Option ℕ) → from ≤ 47481 → IsUntil from text to → unwrap_or to from ≤ 47481
+until_right from text None high u = high
+until_right from text (Some to) high u = (day_right text to u.0).lasts
+
+end_right : (from : ℕ) (text : List ℕ) (to : Option ℕ) → IsUntil from text to → unwrap_or to 0 ≤ 47481
+end_right from text None u = omega arith
+end_right from text (Some to) u = (day_right text to u.0).lasts
+
+-- ---- times
+
+plus_right : (n : ℕ) (z : ℤ) → n ≤ 1439 → z ≡ pos n → (negsuc 1438 ≤ℤ z) × (z ≤ℤ pos 1439)
+plus_right n z few e = subst (λ (x : ℤ). (negsuc 1438 ≤ℤ x) × (x ≤ℤ pos 1439)) (sym e) (omega (arith, signed_arith), omega (arith, signed_arith))
+
+minus_right : (n : ℕ) (z : ℤ) → n ≤ 1439 → z ≡ pos 0 -ℤ pos n → (negsuc 1438 ≤ℤ z) × (z ≤ℤ pos 1439)
+minus_right n z few e = subst (λ (x : ℤ). (negsuc 1438 ≤ℤ x) × (x ≤ℤ pos 1439)) (sym e) (omega (arith, signed_arith), omega (arith, signed_arith))
+
+offset_right : (text : List ℕ) (z : ℤ) → IsOffset text z → (negsuc 1438 ≤ℤ z) × (z ≤ℤ pos 1439)
+offset_right text z h =
+    let hours = h.2 in
+    let minutes = h.3 in
+    let few : 60 * h.0 + h.1 ≤ 1439 = omega arith in
+    ⊎_elim (λ p. plus_right (60 * h.0 + h.1) z few p.1) (λ p. minus_right (60 * h.0 + h.1) z few p.1) h.4
+
+small_right : (n : ℕ) (z : ℤ) → n ≤ 7 → z ≡ pos n → (negsuc 0 ≤ℤ z) × (z ≤ℤ pos 7)
+small_right n z few e = subst (λ (x : ℤ). (negsuc 0 ≤ℤ x) × (x ≤ℤ pos 7)) (sym e) (omega (arith, signed_arith), omega (arith, signed_arith))
+
+early_right : (z : ℤ) → z ≡ negsuc 0 → (negsuc 0 ≤ℤ z) × (z ≤ℤ pos 7)
+early_right z e = subst (λ (x : ℤ). (negsuc 0 ≤ℤ x) × (x ≤ℤ pos 7)) (sym e) (omega (arith, signed_arith), omega (arith, signed_arith))
+
+shift_right : (text : List ℕ) (z : ℤ) → IsShift text z → (negsuc 0 ≤ℤ z) × (z ≤ℤ pos 7)
+shift_right text z h =
+    ⊎_elim (λ p. small_right 0 z (omega arith) p.1) (λ rest. ⊎_elim (λ p. small_right p.0 z p.1 p.3) (λ p. early_right z p.1) rest) h
+
+-- ---- records
+
+leg_right : (airline text : List ℕ) (leg : Leg) → IsLeg airline text leg → IsRightLeg leg
+leg_right airline text leg is =
+    let from = day_right _ leg.from is.from in
+    let offset = offset_right _ leg.offset is.offset in
+    let shift = shift_right _ leg.shift is.shift in
+    record {
+      from = from;
+      to = until_right leg.from _ leg.to from.lasts is.to;
+      std = is.std.1;
+      early = offset.0;
+      late = offset.1;
+      earlier = shift.0;
+      later = shift.1;
+    }
+
+body_right : (airline : List ℕ) (before : ℕ) (texts : List (List ℕ)) (legs : List Leg) (segments : ℕ) → IsBody airline before texts legs segments → All IsRightLeg legs
+body_right airline before [] legs segments h = subst (λ (l : List Leg). All IsRightLeg l) (sym h.0) (All-nil IsRightLeg)
+body_right airline before (text ∷ texts) legs segments h =
+    ⊎_elim
+    (λ p. subst (λ (l : List Leg). All IsRightLeg l) (sym p.4) (All-cons IsRightLeg p.0 p.1 (leg_right airline text p.0 p.2) (body_right airline (before + 1) texts p.1 segments p.5)))
+    (λ p. body_right airline (before + 1) texts legs p.0 p.3) h
+
+pub right_carrier : (most : ℕ) (bytes : List ℕ) (set : DataSet) → IsDataSet most bytes set → IsRightCarrier set.carrier
+right_carrier most bytes set is = record { to = end_right _ _ set.carrier.to is.is_carrier.to }
+
+pub right_legs : (most : ℕ) (bytes : List ℕ) (set : DataSet) → IsDataSet most bytes set → All IsRightLeg set.legs
+right_legs most bytes set is = body_right _ _ _ set.legs _ is.is_body
