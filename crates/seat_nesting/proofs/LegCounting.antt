@@ -13,9 +13,6 @@ use Rattle.seat_nesting.proofs.Rooms.{held_from_rank, within_rank, within_none, 
 
 -- ---- ladders
 
-pub leg_ladder : (steps : Steps) → IsLadder steps → IsLegLadder steps
-leg_ladder steps h = record { most = h.most; distinct = h.distinct; not_rising = h.not_rising; bounded = h.bounded }
-
 pub no_ladder : IsLegLadder []
 no_ladder = record { most = omega arith; distinct = tt; not_rising = tt; bounded = tt }
 

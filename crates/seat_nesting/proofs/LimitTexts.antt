@@ -106,9 +106,6 @@ at_next bytes line rest text after old new at some cut takes =
 pub cut_shorter : (rest text after : List ℕ) → ◌≡◌ {A = List ℕ × List ℕ} (text, after) (line_at rest) → 0 < length rest → length after < length rest
 cut_shorter rest text after cut some = let shorter = rest_shorter rest some in omega (arith, shorter, ap (λ (p : List ℕ × List ℕ). length p.1) cut)
 
-no_lines : lines [] ≡ []
-no_lines = refl
-
 whole : (bytes : List ℕ) (line : ℕ) (rest : List ℕ) (rows : List LimitRow) → IsAt bytes line rest rows → length rest ≡ 0 → rows_in 1 (lines bytes) ≡ ok_rows rows
 whole bytes line [] rows at none = ap (rows_in 1) (at.cut ∙ append-nil at.front) ∙ at.read
 whole bytes line (c ∷ rest) rows at none = absurd (omega arith)

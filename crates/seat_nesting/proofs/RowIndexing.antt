@@ -52,9 +52,6 @@ pair_is a b h =
 row_here : (rows : List LimitRow) (i : ℕ) (row : LimitRow) → i < length rows → row ≡ get_or rows i row → slice_get rows i ≡ Some row
 row_here rows i row lt is = slice_get-get_or rows i row lt ∙ ap (λ (x : LimitRow). Some x) (sym is)
 
-pub index_none : (last : LastRows) (rows : List LimitRow) → ((p : Pair) → get same_pair last p ≡ None) → IsRowIndex last [] rows 0
-index_none last rows h = record { last_is = h; counted = refl; before_is = λ i row lt is. absurd (omega arith) }
-
 at_end : {X : Type 0} (xs : List X) (x : X) → slice_get (xs ++ x ∷ []) (length xs) ≡ Some x
 at_end [] x = refl
 at_end (y ∷ xs) x = at_end xs x
