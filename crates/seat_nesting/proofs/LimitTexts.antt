@@ -1,11 +1,11 @@
 -- The rows of a text's lines, one after the other.
-use Rattle.std.proofs.Common.{◌≡◌, ◌≢◌, ◌==◌, ℕ, suc, ◌+◌, ◌<◌, ◌≤◌, Bool, true, false, List, [], ◌∷◌, ◌++◌, length, Some, Result, Ok, Err, refl, sym, ap, subst, ◌∙◌, arith, append_assoc, append-nil}
-use Rattle.std.specs.Result.{IsOk, MatchResult}
+use Rattle.std.proofs.Common.{◌≡◌, ◌≢◌, ◌==◌, ℕ, suc, ◌+◌, ◌<◌, Bool, true, false, List, [], ◌∷◌, ◌++◌, length, Result, Ok, Err, refl, sym, ap, subst, ◌∙◌, arith, append_assoc, append-nil}
+use Rattle.std.specs.Result.{IsOk}
 use Rattle.std.specs.Str.Lines.{lines}
 use Rattle.std.proofs.lemmas.Bool.Decides.{nat_tests}
-use Rattle.std.proofs.lemmas.List.{length-append, nil_from_length}
+use Rattle.std.proofs.lemmas.List.{length-append}
 use Rattle.seat_nesting.specs.Lines.{line_at}
-use Rattle.seat_nesting.specs.LimitRows.{row_at, row_then, rows_in, SpellsRow, SpellsRows, IsLimitText, WantsRoom, AddsRow, TakesLine, IsStop}
+use Rattle.seat_nesting.specs.LimitRows.{row_at, row_then, rows_in, SpellsRows, IsLimitText, WantsRoom, TakesLine, IsStop}
 use Rattle.seat_nesting.specs.declared.limit_row.LimitRow.{LimitRow}
 use Rattle.seat_nesting.specs.declared.limit_fault.LimitFault.{LimitFault}
 use Rattle.seat_nesting.specs.declared.limit_fault.LimitKind.{LimitKind}
