@@ -4,13 +4,13 @@ use Rattle.std.specs.Result.{IsOk}
 use Rattle.std.specs.Str.Lines.{lines}
 use Rattle.std.proofs.lemmas.Bool.Decides.{nat_tests}
 use Rattle.std.proofs.lemmas.List.{length-append}
-use Rattle.seat_nesting.specs.Lines.{line_at}
+use Rattle.ssim_records.specs.Lines.{line_at}
 use Rattle.seat_nesting.specs.LimitRows.{row_at, row_then, rows_in, SpellsRows, IsLimitText, WantsRoom, TakesLine, IsStop}
 use Rattle.seat_nesting.specs.declared.limit_row.LimitRow.{LimitRow}
 use Rattle.seat_nesting.specs.declared.limit_fault.LimitFault.{LimitFault}
 use Rattle.seat_nesting.specs.declared.limit_fault.LimitKind.{LimitKind}
 use Rattle.seat_nesting.specs.declared.limit_fault.LimitKind.TheVariants as kinds
-use Rattle.seat_nesting.proofs.Cutting.{lines_are, rest_shorter}
+use Rattle.ssim_records.proofs.LineCuts.{lines_are, rest_shorter}
 use Rattle.seat_nesting.proofs.RowLaws.{done, row_takes, row_again, row_none}
 
 abbrev Rows : Type 0
