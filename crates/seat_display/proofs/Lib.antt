@@ -1,0 +1,5 @@
+pub mod EffectLaw
+pub mod Fronts
+pub mod Growing
+pub mod Steps
+pub mod Tidy
