@@ -1,0 +1,3 @@
+pub mod Booking
+pub mod Own
+pub mod Staking

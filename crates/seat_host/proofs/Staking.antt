@@ -1,0 +1,21 @@
+-- The shares that are left, and the sessions that have one.
+use Rattle.std.proofs.Common.{◌≡◌, ℕ, zero, suc, ◌+◌, ◌-◌, ◌≤◌, List, [], ◌∷◌, ◌++◌, refl, ap, sym, subst, ◌∙◌, arith, add-one}
+use Rattle.seat_host.specs.Ledgers.{Staked, counted, stakes_left}
+use Rattle.seat_host.specs.Sessions.{Seat, fresh, fresh_sessions}
+use Rattle.seat_core.proofs.Prefixes.{push_same}
+
+-- the last of the shares that are left is that of the next number
+pub left_next : (n : ℕ) → 1 ≤ n → n ≤ 8 → stakes_left (9 - n) ≡ stakes_left (9 - (n + 1)) ++ counted n 0 ∷ []
+left_next n low high =
+    let one : 9 - n ≡ suc (9 - (n + 1)) = omega arith in
+    let here : 8 - (9 - (n + 1)) ≡ n = omega arith in
+    ap stakes_left one ∙ ap (λ (k : ℕ). stakes_left (9 - (n + 1)) ++ counted k 0 ∷ []) here
+
+pub take_last : (n : ℕ) (was rest : List Staked) (s : Staked) → 1 ≤ n → n ≤ 8 → was ≡ stakes_left (9 - n) → was ≡ rest ++ s ∷ [] → (rest ≡ stakes_left (9 - (n + 1))) × (s ≡ counted n 0)
+take_last n was rest s low high is split = push_same rest (stakes_left (9 - (n + 1))) s (counted n 0) (sym split ∙ is ∙ left_next n low high)
+
+-- one session more
+pub fresh_more : (xs : List Seat) (n m : ℕ) → xs ≡ fresh_sessions n → m ≡ n + 1 → xs ++ fresh m ∷ [] ≡ fresh_sessions m
+fresh_more xs n m is e =
+    let up : m ≡ suc n = omega (arith, e) in
+    ap (λ (l : List Seat). l ++ fresh m ∷ []) is ∙ ap (λ (k : ℕ). fresh_sessions n ++ fresh k ∷ []) up ∙ sym (ap fresh_sessions up)
