@@ -80,6 +80,10 @@ part_of flight journal = part_after (number_on flight journal) flight [] journal
 abbrev pub PartIsLegal : Type 0
 PartIsLegal = (grid : Legs) (journal : List Entry) (flight : ℕ) → IsLegal grid journal → IsLegal grid (part_of flight journal)
 
+-- these lines of the part, and after them the one that this line's command makes, if it is on the flight
+abbrev pub followed : Legs → ℕ → List Entry → Entry → List Entry
+followed grid flight part e = (if is_on flight e.command.place then part ++ next_line grid part e.session (calls_of part e.session + 1) e.command ∷ [] else part)
+
 -- these lines of the part, and after them those that the flight's commands make when they are carried out alone
 abbrev pub alone : Legs → ℕ → List Entry → List Entry → List Entry
 alone grid flight part [] = part

@@ -14,3 +14,4 @@ pub mod Applying
 pub mod Flights
 pub mod Books
 pub mod Laws
+pub mod Showing

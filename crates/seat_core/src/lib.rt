@@ -14,6 +14,7 @@ mod replaying;
 mod reply;
 mod request;
 mod rooms;
+mod showing;
 mod totals;
 mod waitlist;
 
@@ -34,4 +35,8 @@ pub use one_flight::{
 pub use replaying::replay;
 pub use request::{Request, Wish};
 pub use seat_journal::{Advice, Advices, Command, Entry};
+pub use showing::show;
 pub use totals::Totals;
+
+#[cfg(test)]
+mod tests;

@@ -42,6 +42,7 @@ pub fn make_line(
     let mut advices = Vec::new(alloc);
     advices.reserve(count_waiting(book) + 1)?;
     let answer = carry_out(grid, &mut bookings, &mut advices, number, &command);
+    let told = Vec::from_slice(alloc, advices.as_slice())?;
     Ok(Entry {
         number,
         session,
@@ -49,7 +50,7 @@ pub fn make_line(
         command,
         reply: answer.reply,
         released: answer.released,
-        advices: Advices::from_vec(advices),
+        advices: Advices::from_vec(told),
     })
 }
 

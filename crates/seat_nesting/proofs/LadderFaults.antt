@@ -1,5 +1,5 @@
 -- Steps have no fault exactly where they are a ladder.
-use Rattle.std.proofs.Common.{◌≡◌, ℕ, suc, ◌-◌, ◌<◌, ◌≤◌, true, false, eqb, ltb, ◌||◌, [], ◌∷◌, length, map, None, IsTrue, refl, ap, inl, inr, arith}
+use Rattle.std.proofs.Common.{◌≡◌, ℕ, suc, Bool, cond, Option, Some, ◌-◌, ◌<◌, ◌≤◌, true, false, eqb, ltb, ◌||◌, [], ◌∷◌, length, map, None, IsTrue, refl, ap, inl, inr, arith}
 use Rattle.std.specs.Char.{is_ascii_uppercase}
 use Rattle.std.specs.List.{AllByRecursion, list_any, IsDistinct as Differ}
 use Rattle.std.proofs.lemmas.Bool.{or_parts, or_from, or_cases, eqb-false, ne_eqb, eqb-true, ltb-false, le-ltb}
@@ -8,6 +8,8 @@ use Rattle.std.proofs.lemmas.Map.Steps.{length-le_from_distinct_below}
 use Rattle.seat_nesting.specs.Nesting.{Steps, LacksClass, HasLetters, IsDistinct, IsNotRising, IsLadder, has_class}
 use Rattle.seat_nesting.specs.Ladders.{repeats_class, is_below_next, is_rising, is_too_large, ladder_fault}
 use Rattle.seat_nesting.specs.declared.ladder.Step.{Step}
+use Rattle.seat_nesting.specs.declared.ladder.LadderFault.{LadderFault}
+use Rattle.seat_nesting.specs.declared.ladder.LadderFault.TheVariants.{Empty, RepeatedClass, Rising, TooLarge}
 
 -- ---- classes
 
@@ -136,3 +138,17 @@ no_fault (s ∷ lower) h =
     let p = has_no_fault (s ∷ lower) h in
     let some : eqb (suc (length lower)) 0 ≡ false = ne_eqb (suc (length lower)) 0 (λ e. absurd (omega arith)) in
     rw (some, p.0, p.1, p.2) refl
+
+-- steps of letters without a fault are a ladder
+pub is_ladder_of : (steps : Steps) → HasLetters steps → ladder_fault steps ≡ None → IsLadder steps
+unfolding ladder_fault
+is_ladder_of [] letters h = absurd cc
+is_ladder_of (s ∷ lower) letters h = of (eqb (suc (length lower)) 0) (repeats_class (s ∷ lower)) (is_rising (s ∷ lower)) (is_too_large (s ∷ lower)) refl refl refl h
+  where
+    of : (none repeats rises large : Bool) → repeats_class (s ∷ lower) ≡ repeats → is_rising (s ∷ lower) ≡ rises → is_too_large (s ∷ lower) ≡ large
+        → cond none (Some Empty) (cond repeats (Some RepeatedClass) (cond rises (Some Rising) (cond large (Some TooLarge) None))) ≡ None → IsLadder (s ∷ lower)
+    of true repeats rises large e f g h = absurd cc
+    of false true rises large e f g h = absurd cc
+    of false false true large e f g h = absurd cc
+    of false false false true e f g h = absurd cc
+    of false false false false e f g h = is_ladder (s ∷ lower) letters (omega arith) e f g

@@ -151,7 +151,7 @@ text_length [] some = absurd (omega arith)
 text_length (s ∷ []) some = omega arith
 text_length (s ∷ t ∷ lower) some = omega (arith, text_length (t ∷ lower) (omega arith))
 
-letters_of : (steps : Steps) → AllByRecursion IsEntry steps → HasLetters steps
+pub letters_of : (steps : Steps) → AllByRecursion IsEntry steps → HasLetters steps
 letters_of [] each = tt
 letters_of (s ∷ lower) each = (each.0.letter, letters_of lower each.1)
 

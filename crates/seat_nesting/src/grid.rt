@@ -1,8 +1,12 @@
 //! The ladder of each leg of each dated flight.
-ghost use Rattle.std.specs.Prelude.{◌≡◌, ◌≤◌, ℕ, length, [], ◌∷◌, IfOk, IfSome, IfNone, IsTrue, map, ◌↔◌};
+ghost use Rattle.std.specs.Prelude.{◌≡◌, ◌≤◌, ℕ, length, [], ◌∷◌, IfOk, IfSome, IfNone, IsTrue, map, option_map, ◌↔◌};
 ghost use Rattle.seat_nesting.specs.Nesting.{Fits, ladder_at, IsDistinct, HasLadders, steps_at, steps_of};
+ghost use Rattle.seat_nesting.specs.Authorised.{authorised_grid, authorised_legs, IsRowIndex};
 
 use crate::ladder::{Ladder, Step};
+use crate::limit_row::LimitRow;
+use crate::row_index::{RowIndex, leg_pair_of};
+use ssim_flights::{Flight, Flights};
 use ssim_records::{Memory, Place};
 use std::alloc::Global;
 use std::marker::Model;
@@ -59,6 +63,21 @@ impl Grid {
             return Err(Memory);
         }
         Ok(Grid { flights })
+    }
+
+    /// The ladders that limit rows give to the legs of flights: each leg has that of the last row
+    /// with its airline, number, suffix and city pair whose period holds its local day.
+    #[tactic(auto, using(crate::proofs::Grids::built_ladders))]
+    pub fn build(alloc: Global, flights: &Flights, rows: &[LimitRow]) -> Result<Grid, Memory>
+        ensures { IfOk result (λ grid. grid ≡ authorised_grid rows.now flights.now) }
+    {
+        let index = RowIndex::new(alloc, rows)?;
+        let mut grid = Vec::with_capacity(alloc, flights.len() as usize)?;
+        for i in 0..flights.len() {
+            let flight = flights.flight(i);
+            grid.push(FlightLegs::build(alloc, flight, rows, &index)?)?;
+        }
+        Ok(Grid { flights: grid })
     }
 
     /// The same grid once more.
@@ -141,6 +160,24 @@ impl FlightLegs {
         }
     }
 
+    fn build(
+        alloc: Global,
+        flight: &Flight,
+        rows: &[LimitRow],
+        index: &RowIndex,
+    ) -> Result<FlightLegs, Memory>
+        requires { IsRowIndex index.now.last index.now.before.items rows.now (length rows.now) }
+        ensures legs { IfOk result (λ legs. legs ≡ authorised_legs rows.now flight.now) }
+        ensures distinct { IfOk result (λ legs. (leg : ℕ) → IsDistinct (steps_at legs leg)) }
+    {
+        let mut ladders = Vec::with_capacity(alloc, flight.legs.len())?;
+        for leg in flight.legs.as_slice() {
+            let ladder = index.ladder(rows, leg_pair_of(flight, leg), leg.day);
+            ladders.push(copy_of_found(ladder))?;
+        }
+        Ok(FlightLegs { ladders })
+    }
+
     fn copy(&self, alloc: Global) -> Result<FlightLegs, Memory>
         ensures { IfOk result (λ legs. legs ≡ self.now) }
     {
@@ -158,6 +195,19 @@ pub fn copy_of(ladder: &Option<Ladder>) -> Option<Ladder>
 {
     match ladder {
         Some(ladder) => Some(ladder.copy()),
+        None => None,
+    }
+}
+
+fn copy_of_found(ladder: Option<&Ladder>) -> Option<Ladder>
+    ensures value { result ≡ option_map (λ l. l.now) ladder.entry }
+    ensures distinct { IsDistinct (steps_of result) }
+{
+    match ladder {
+        Some(ladder) => {
+            let _ = ladder.steps();
+            Some(ladder.copy())
+        }
         None => None,
     }
 }

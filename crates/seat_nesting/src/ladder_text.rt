@@ -26,7 +26,7 @@ pub fn read_ladder(text: &[u8]) -> Result<Ladder, LimitKind>
 
 /// The ladder of a text, or the first fault from left to right.
 #[tactic(auto, unfolding(crate::specs::LadderText::ladder_in))]
-pub fn ladder_of(text: &[u8]) -> Result<Ladder, LimitKind>
+pub(crate) fn ladder_of(text: &[u8]) -> Result<Ladder, LimitKind>
     ensures { result ≡ ladder_in text.now }
 {
     if text.len() > LONGEST {
@@ -109,7 +109,7 @@ fn entry_of(bytes: &[u8]) -> Option<(Step, &[u8])>
 }
 
 /// What follows a blank.
-fn blank_of(bytes: &[u8]) -> Option<&[u8]>
+pub(crate) fn blank_of(bytes: &[u8]) -> Option<&[u8]>
     ensures { option_map (λ x. x.now) result ≡ blank_at bytes.now }
 {
     match bytes {

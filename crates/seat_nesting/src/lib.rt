@@ -8,9 +8,17 @@ mod ladder;
 mod ladder_text;
 mod leg_counts;
 mod limit_fault;
+mod limit_reading;
+mod limit_row;
+mod lines;
+mod row_fields;
+mod row_index;
+mod row_reading;
 
 pub use counts::Counts;
 pub use grid::Grid;
 pub use ladder::{Ladder, LadderFault, Step};
 pub use ladder_text::read_ladder;
 pub use limit_fault::{LimitFault, LimitKind};
+pub use limit_reading::read_limits;
+pub use limit_row::{LimitRow, LimitRows};

@@ -1,4 +1,8 @@
+ghost use Rattle.std.specs.Prelude.{◌≡◌};
+ghost use Rattle.seat_nesting.specs.declared.limit_fault.LimitKind.TheVariants.{Memory as Wanting};
+
 use crate::ladder::LadderFault;
+use ssim_records::Memory;
 use std::fmt;
 
 /// Why a line is no limit row, or a text no ladder: the first fault from left to right.
@@ -17,6 +21,14 @@ pub enum LimitKind {
     /// The entries are no ladder.
     Ladder(LadderFault),
     Memory,
+}
+
+impl From<Memory> for LimitKind {
+    ghost from_gives = { λ _ e. e ≡ Wanting };
+
+    fn from(_e: Memory) -> LimitKind {
+        LimitKind::Memory
+    }
 }
 
 impl fmt::Display for LimitKind {

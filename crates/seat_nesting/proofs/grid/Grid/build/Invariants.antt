@@ -1,0 +1,10 @@
+use Rattle.std.proofs.Common.{◌≡◌, ℕ, map, take}
+use Rattle.seat_nesting.specs.Nesting.{HasLadders}
+use Rattle.seat_nesting.specs.Authorised.{authorised_legs}
+use Rattle.seat_nesting.proofs.grid.Grid.build.Given as goal
+
+abbrev pub invariant-loop-i : goal.invariant-loop-i
+invariant-loop-i l = record {
+  legs : l.grid.items ≡ map (authorised_legs l.rows) (take l.i l.flights);
+  distinct : HasLadders l.grid.items;
+}

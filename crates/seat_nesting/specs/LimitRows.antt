@@ -1,0 +1,133 @@
+-- Limit rows: their grammar, and their reading with the first fault.
+use Rattle.std.specs.Prelude.{◌≡◌, ℕ, ◌+◌, ◌<◌, ◌≤◌, nat_le, Bool, true, false, IsTrue, List, [], ◌∷◌, ◌++◌, length, Option, Some, None, IfSome, Result, Ok, Err, IsOk}
+use Rattle.std.specs.Char.{is_ascii_uppercase, is_ascii_digit}
+use Rattle.std.specs.List.{list_all}
+use Rattle.std.specs.Str.Parse.{digits_value}
+use Rattle.std.specs.Str.Lines.{lines}
+use Rattle.ssim_records.specs.Names.{is_airline, is_station}
+use Rattle.ssim_records.specs.Days.{IsDayField}
+use Rattle.seat_nesting.specs.Nesting.{Steps, IsLadder}
+use Rattle.seat_nesting.specs.LadderText.{SpellsSteps, blank_at, ladder_in}
+use Rattle.seat_nesting.specs.RowFields.{head_at, fixed_at, number_at, suffix_at, date_at}
+use Rattle.seat_nesting.specs.declared.limit_row.LimitRow.{LimitRow}
+use Rattle.seat_nesting.specs.declared.limit_fault.LimitFault.{LimitFault}
+use Rattle.seat_nesting.specs.declared.limit_fault.LimitKind.{LimitKind}
+use Rattle.seat_nesting.specs.declared.limit_fault.LimitKind.TheVariants as kinds
+
+-- ---- grammar
+
+-- a number above 0 in at most four digits, with or without leading zeros
+pub record IsFlightNumber (digits : List ℕ) (n : ℕ) : Type 0 where
+  pub few : length digits ≤ 4
+  pub each : IsTrue (list_all is_ascii_digit digits)
+  pub value : n ≡ digits_value 10 digits
+  pub positive : 0 < n
+
+-- the one letter of a suffix, where there is one
+abbrev pub suffix_text : Option ℕ → List ℕ
+suffix_text None = []
+suffix_text (Some letter) = letter ∷ []
+
+-- AU, flight, first and last day, city pair and ladder, with a blank before each but the pair's second city
+pub record SpellsRow (line : List ℕ) (row : LimitRow) : Type 0 where
+  pub number : List ℕ
+  pub from : List ℕ
+  pub to : List ℕ
+  pub entries : List ℕ
+  pub written : line ≡ 65 ∷ 85 ∷ 32 ∷ (row.airline ++ (number ++ (suffix_text row.suffix ++ 32 ∷ (from ++ 32 ∷ (to ++ 32 ∷ (row.board ++ (row.off ++ 32 ∷ entries)))))))
+  pub is_airline : IsTrue (is_airline row.airline)
+  pub is_number : IsFlightNumber number row.number
+  pub is_suffix : IfSome row.suffix (λ c. IsTrue (is_ascii_uppercase c))
+  pub is_from : IsDayField from row.from
+  pub is_to : IsDayField to row.to
+  pub in_order : row.from ≤ row.to
+  pub is_board : IsTrue (is_station row.board)
+  pub is_off : IsTrue (is_station row.off)
+  pub spells_ladder : SpellsSteps entries row.ladder
+  pub is_ladder : IsLadder row.ladder
+
+-- each line that is not empty spells a row
+abbrev pub SpellsRows : List (List ℕ) → List LimitRow → Type 0
+SpellsRows [] [] = Unit {0}
+SpellsRows [] (row ∷ rows) = ⊥
+SpellsRows ([] ∷ texts) rows = SpellsRows texts rows
+SpellsRows ((c ∷ text) ∷ texts) [] = ⊥
+SpellsRows ((c ∷ text) ∷ texts) (row ∷ rows) = SpellsRow (c ∷ text) row × SpellsRows texts rows
+
+-- the text of limit rows, in lines that end with LF, with CR LF or where the bytes end
+pub record IsLimitText (bytes : List ℕ) (rows : List LimitRow) : Type 0 where
+  pub spelled : SpellsRows (lines bytes) rows
+
+-- ---- reading from left to right
+
+infixl 10 ◌>>=◌
+abbrev pub ◌>>=◌ : {A B : Type 0} → Result A LimitKind → (A → Result B LimitKind) → Result B LimitKind
+(Ok x) >>= f = f x
+(Err e) >>= f = Err e
+
+-- the field, or this fault
+abbrev pub want : {A : Type 0} → LimitKind → Option A → Result A LimitKind
+want fault None = Err fault
+want fault (Some x) = Ok x
+
+abbrev pub check : LimitKind → Bool → Result (Unit {0}) LimitKind
+check fault true = Ok tt
+check fault false = Err fault
+
+unfoldable pub row_at : List ℕ → Result LimitRow LimitKind
+row_at line = do
+  head ← want kinds.Head (head_at line)
+  airline ← want kinds.Flight (fixed_at 2 is_airline head)
+  number ← want kinds.Flight (number_at airline.1)
+  period ← want kinds.Flight (blank_at (suffix_at number.1).1)
+  from ← want kinds.Period (date_at period)
+  second ← want kinds.Period (blank_at from.1)
+  to ← want kinds.Period (date_at second)
+  pair ← want kinds.Period (blank_at to.1)
+  _ ← check kinds.Period (nat_le from.0 to.0)
+  board ← want kinds.Pair (fixed_at 3 is_station pair)
+  off ← want kinds.Pair (fixed_at 3 is_station board.1)
+  entries ← want kinds.Entry (blank_at off.1)
+  ladder ← ladder_in entries
+  Ok (record {
+    airline = airline.0; number = number.0; suffix = (suffix_at number.1).0; from = from.0; to = to.0;
+    board = board.0; off = off.0; ladder = ladder
+  })
+
+abbrev pub row_then : ℕ → Result LimitRow LimitKind → Result (List LimitRow) LimitFault → Result (List LimitRow) LimitFault
+row_then n (Err kind) rest = Err (record { line = n; kind = kind })
+row_then n (Ok row) (Err fault) = Err fault
+row_then n (Ok row) (Ok rows) = Ok (row ∷ rows)
+
+-- the rows of the lines, which are counted from n, or the first line with a fault and its first fault
+unfoldable pub rows_in : ℕ → List (List ℕ) → Result (List LimitRow) LimitFault
+rows_in n [] = Ok []
+rows_in n ([] ∷ texts) = rows_in (n + 1) texts
+rows_in n ((c ∷ text) ∷ texts) = row_then n (row_at (c ∷ text)) (rows_in (n + 1) texts)
+
+-- the lines up to this one have no fault
+pub record WantsRoom (bytes : List ℕ) (line : ℕ) : Type 0 where
+  pub front : List (List ℕ)
+  pub behind : List (List ℕ)
+  pub cut : lines bytes ≡ front ++ behind
+  pub counted : length front ≡ line
+  pub right : IsOk (rows_in 1 front)
+
+-- ---- line by line
+
+-- a row more
+pub record AddsRow (text : List ℕ) (old new : List LimitRow) : Type 0 where
+  pub row : LimitRow
+  pub read : row_at text ≡ Ok row
+  pub added : new ≡ old ++ row ∷ []
+
+-- an empty line adds nothing, every other one its row
+abbrev pub TakesLine : List ℕ → List LimitRow → List LimitRow → Type 0
+TakesLine [] old new = new ≡ old
+TakesLine (c ∷ text) old new = AddsRow (c ∷ text) old new
+
+-- why a line is not taken: its first fault, or want of memory for its row
+abbrev pub IsStop : List ℕ → LimitKind → Type 0
+IsStop [] kind = ⊥
+IsStop (c ∷ text) kinds.Memory = IsOk (row_at (c ∷ text))
+IsStop (c ∷ text) kind = row_at (c ∷ text) ≡ Err kind

@@ -1,0 +1,30 @@
+//! The lines of a text, one at a time.
+ghost use Rattle.std.specs.Prelude.{◌≡◌, ℕ, List, position};
+ghost use Rattle.std.specs.Str.Lines.{strip_carriage_return};
+ghost use Rattle.seat_nesting.specs.Lines.{is_line_feed, line_at};
+
+/// The first line without its end (LF, CR LF, or the end of the bytes), and what stands behind that end.
+#[tactic(auto, unfolding(crate::specs::Lines::line_at))]
+pub(crate) fn cut_line(bytes: &[u8]) -> (&[u8], &[u8])
+    ensures { ◌≡◌ {A = List ℕ × List ℕ} (result.0.now, result.1.now) (line_at bytes.now) }
+{
+    let Some(end) = end_of(bytes) else {
+        return (bytes, &[]);
+    };
+    (without_return(&bytes[..end]), &bytes[end + 1..])
+}
+
+fn end_of(bytes: &[u8]) -> Option<usize>
+    ensures { result ≡ position is_line_feed bytes.now }
+{
+    bytes.iter().position(|c| *c == b'\n')
+}
+
+fn without_return(line: &[u8]) -> &[u8]
+    ensures { result.now ≡ strip_carriage_return line.now }
+{
+    match line {
+        [front @ .., b'\r'] => front,
+        _ => line,
+    }
+}
