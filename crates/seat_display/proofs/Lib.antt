@@ -1,4 +1,3 @@
-pub mod EffectLaw
 pub mod Fronts
 pub mod Growing
 pub mod Steps

@@ -17,16 +17,18 @@ use Rattle.seat_core.specs.Prefixes.{Begins}
 use Rattle.seat_core.specs.Sequential.{State, answer, room_left}
 use Rattle.seat_core.specs.Journal.{IsLegal, IsNext, replay}
 use Rattle.seat_core.proofs.Prefixes.{begins_longer}
-use Rattle.seat_core.proofs.Legal.{legal_nil, legal_prefix, legal_last, each_legal}
+use Rattle.seat_core.proofs.Legal.{legal_nil, legal_prefix, legal_push, each_legal}
 use Rattle.seat_core.proofs.Histories.{each_replay}
 use Rattle.seat_core.proofs.Outcomes.{grid_answer}
-use Rattle.seat_display.specs.Effect.{shown}
+use Rattle.seat_core.specs.Showing.{shown}
+use Rattle.seat_core.specs.Tables.{nothing_held}
+use Rattle.std.proofs.lemmas.List.Sums.{fold_push}
 use Rattle.seat_display.specs.declared.table.Table.{Table}
 use Rattle.seat_display.specs.declared.table.Op.{Op}
 use Rattle.seat_display.specs.declared.table.Op.TheVariants.{Line, Mark}
 use Rattle.seat_display.specs.declared.table.View.{View}
 use Rattle.seat_display.specs.Shown.{all_seats, tidied, left_by, counts_after, one_more, apply, entries_of, nobody, Leaves, IsEmptyTable, Fits, Kept, Sees, Ready, informed}
-use Rattle.seat_display.proofs.EffectLaw.{shown_next}
+use Rattle.seat_core.proofs.Shown.{shown_is_held}
 use Rattle.seat_display.proofs.Tidy.{IsOnLadders, limits_written, seats_written, own_seats, shown_on}
 
 off : false ≡ true → ⊥
@@ -80,14 +82,19 @@ merges seat v other w x views h at apart there =
 -- ---- tables and histories
 
 -- the seats that a history leaves, entry after entry
-left_next : (grid : Legs) (past : List Entry) (e : Entry) → IsNext grid past e → shown grid (left_by grid past) e ≡ left_by grid (past ++ e ∷ [])
-left_next grid past e next = λ i f l k. shown_next grid past e next f l k i
+left_is : (grid : Legs) (journal : List Entry) → IsLegal grid journal → fold (shown grid) nothing_held journal ≡ left_by grid journal
+left_is grid journal legal = λ i f l k. shown_is_held grid journal legal f l k i
+
+left_next : (grid : Legs) (past : List Entry) (e : Entry) → IsLegal grid (past ++ e ∷ []) → shown grid (left_by grid past) e ≡ left_by grid (past ++ e ∷ [])
+left_next grid past e legal =
+    let before = legal_prefix grid past (past ++ e ∷ []) (begins_longer past (e ∷ [])) legal in
+    ap (λ (t : HeldSeats). shown grid t e) (sym (left_is grid past before)) ∙ sym (fold_push (shown grid) nothing_held past e) ∙ left_is grid (past ++ e ∷ []) legal
 
 -- they stand at the classes of their legs
 left_on : (grid : Legs) (journal : List Entry) → IsLegal grid journal → IsOnLadders grid (left_by grid journal)
 left_on grid journal legal =
     each_legal grid (λ (past : List Entry). IsOnLadders grid (left_by grid past))
-    (λ past e l next on. subst (IsOnLadders grid) (left_next grid past e next) (shown_on grid (left_by grid past) e on))
+    (λ past e l next on. subst (IsOnLadders grid) (left_next grid past e (legal_push grid past e l next)) (shown_on grid (left_by grid past) e on))
     [] journal (record { none = λ f l k h. refl }) legal
 
 replay_grid : (grid : Legs) (journal : List Entry) → (replay grid journal).grid ≡ grid
@@ -125,7 +132,7 @@ counts_next grid log e legal =
     let before = legal_prefix grid log (log ++ e ∷ []) (begins_longer log (e ∷ [])) legal in
     let limits : limits_of (all_seats grid seats) ≡ grid = limits_written grid seats in
     let same : seats_of (all_seats grid seats) ≡ seats = λ i f l k. seats_written grid seats (left_on grid log before) f l k i in
-    (λ i. all_seats (limits i) (shown (limits i) (same i) e)) ∙ ap (all_seats grid) (left_next grid log e (legal_last grid log e legal))
+    (λ i. all_seats (limits i) (shown (limits i) (same i) e)) ∙ ap (all_seats grid) (left_next grid log e legal)
 
 show_next : (t : Table) (log : List Entry) (e : Entry) → IsLegal (limits_of t.counts) (log ++ e ∷ []) → length log + 1 < 2 ^ 32 → apply (counted t log) (Line e) ≡ counted t (log ++ e ∷ [])
 show_next t log e legal short =

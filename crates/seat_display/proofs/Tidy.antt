@@ -11,7 +11,7 @@ use Rattle.seat_journal.specs.declared.entry.Advice.{Advice}
 use Rattle.seat_journal.specs.declared.entry.Entry.{Entry}
 use Rattle.ssim_records.specs.declared.place.Place.{Place}
 use Rattle.seat_core.specs.Totals.{is_confirmation}
-use Rattle.seat_display.specs.Effect.{taking, giving, replied, released, advised, shown}
+use Rattle.seat_core.specs.Showing.{given_back, taken_up, confirmed_at_once, shown_reply, shown_advices, shown}
 use Rattle.seat_display.specs.declared.table.Table.{Table}
 use Rattle.seat_display.specs.declared.table.Op.TheVariants.{Line}
 use Rattle.seat_display.specs.Shown.{leg_seats, flight_seats, all_seats, tidied, apply, one_more}
@@ -95,16 +95,15 @@ own_seats counts = seats_written (limits_of counts) (seats_of counts) (own_on_la
 -- ---- one entry more
 
 pub absorbed : (old new : Table) (e : Entry) → limits_of new.counts ≡ limits_of old.counts
-    → ((flight leg class : ℕ) → seats_of new.counts flight leg class ≡ shown (limits_of old.counts) (seats_of old.counts) e flight leg class)
+    → seats_of new.counts ≡ shown (limits_of old.counts) (seats_of old.counts) e
     → new.lines ≡ one_more old.lines → new.seen ≡ old.seen → tidied new ≡ apply (tidied old) (Line e)
 absorbed old new e limits seats lines seen =
     let grid = limits_of old.counts in
     let was = seats_of old.counts in
-    let here : seats_of new.counts ≡ shown grid was e = λ i f l k. seats f l k i in
     let own : seats_of (all_seats grid was) ≡ was = λ i f l k. own_seats old.counts f l k i in
     let limits' : limits_of (all_seats grid was) ≡ grid = limits_written grid was in
     let counts : all_seats (limits_of new.counts) (seats_of new.counts) ≡ all_seats (limits_of (all_seats grid was)) (shown (limits_of (all_seats grid was)) (seats_of (all_seats grid was)) e) =
-    (λ i. all_seats (limits i) (here i)) ∙ (λ i. all_seats (sym limits' i) (shown (sym limits' i) (sym own i) e)) in
+    (λ i. all_seats (limits i) (seats i)) ∙ (λ i. all_seats (sym limits' i) (shown (sym limits' i) (sym own i) e)) in
     λ i. record { counts = counts i; lines = lines i; seen = seen i }
 
 -- ---- what entries take stands at the classes of its legs
@@ -121,12 +120,11 @@ seats_covered place class n f l k h = of (covers f l place) (class == k) refl re
     of true false e g = refl
     of false c e g = refl
 
-taking_on : (grid : Legs) (seats : HeldSeats) (place : Place) (class n : ℕ) → IsOnLadders grid seats → IsOnLadders grid (taking grid seats place class n)
-taking_on grid seats place class n on = record { none = λ f l k h. of f l k h (nat_le n (room grid seats place class)) refl }
+taken_on : (grid : Legs) (seats : HeldSeats) (place : Place) (class n : ℕ) → IsOnLadders grid seats → IsOnLadders grid (taken_up grid seats place class n)
+taken_on grid seats place class n on = of (nat_le n (room grid seats place class)) refl
   where
-    of : (f l k : ℕ) → has_class (ladder_at grid f l) k ≡ false → (b : Bool) → nat_le n (room grid seats place class) ≡ b → cond b (seats f l k + seats_at place class n f l k) (seats f l k) ≡ 0
-    of f l k h false e = on.none f l k h
-    of f l k h true e =
+    more : nat_le n (room grid seats place class) ≡ true → (f l k : ℕ) → has_class (ladder_at grid f l) k ≡ false → seats f l k + seats_at place class n f l k ≡ 0
+    more e f l k h =
         let fits : n ≤ room grid seats place class = grind (arith, nat_tests, e) in
         let none : seats_at place class n f l k ≡ 0 = seats_covered place class n f l k (λ there same.
             let flight : place.flight ≡ f = grind (arith, nat_tests, there) in
@@ -138,32 +136,31 @@ taking_on grid seats place class n on = record { none = λ f l k h. of f l k h (
             omega (arith, each, zero)) in
         omega (arith, on.none f l k h, none)
 
-giving_on : (grid : Legs) (seats : HeldSeats) (place : Place) (class n : ℕ) → IsOnLadders grid seats → IsOnLadders grid (giving grid seats place class n)
-giving_on grid seats place class n on = record { none = λ f l k h. of f l k h (holds grid seats place class n) }
-  where
-    of : (f l k : ℕ) → has_class (ladder_at grid f l) k ≡ false → (b : Bool) → cond b (seats f l k - seats_at place class n f l k) (seats f l k) ≡ 0
-    of f l k h false = on.none f l k h
-    of f l k h true = omega (arith, on.none f l k h)
+    of : (b : Bool) → nat_le n (room grid seats place class) ≡ b → IsOnLadders grid (if b then (λ f l k. seats f l k + seats_at place class n f l k) else seats)
+    of false e = on
+    of true e = record { none = more e }
 
-replied_on : (grid : Legs) (seats : HeldSeats) (place : Option Place) (reply : List ℕ) (class n : ℕ) → IsOnLadders grid seats → IsOnLadders grid (replied grid seats place reply class n)
-replied_on grid seats None reply class n on = on
-replied_on grid seats (Some place) reply class n on = of (is_confirmation reply)
+given_on : (grid : Legs) (seats : HeldSeats) (place : Place) (class n : ℕ) → IsOnLadders grid seats → IsOnLadders grid (given_back grid seats place class n)
+given_on grid seats place class n on = of (holds grid seats place class n)
   where
-    of : (b : Bool) → IsOnLadders grid (if b then taking grid seats place class n else seats)
-    of true = taking_on grid seats place class n on
+    of : (b : Bool) → IsOnLadders grid (if b then (λ f l k. seats f l k - seats_at place class n f l k) else seats)
+    of false = on
+    of true = record { none = λ f l k h. omega (arith, on.none f l k h) }
+
+at_once_on : (grid : Legs) (seats : HeldSeats) (place : Place) (e : Entry) → IsOnLadders grid seats → IsOnLadders grid (confirmed_at_once grid seats place e)
+at_once_on grid seats place e on = of (is_confirmation e.reply)
+  where
+    of : (b : Bool) → IsOnLadders grid (if b then taken_up grid seats place e.command.class e.command.seats else seats)
+    of true = taken_on grid seats place e.command.class e.command.seats on
     of false = on
 
-released_on : (grid : Legs) (seats : HeldSeats) (place : Option Place) (class n : ℕ) → IsOnLadders grid seats → IsOnLadders grid (released grid seats place class n)
-released_on grid seats None class n on = on
-released_on grid seats (Some place) class n on = giving_on grid seats place class n on
+reply_on : (grid : Legs) (seats : HeldSeats) (e : Entry) (place : Option Place) → IsOnLadders grid seats → IsOnLadders grid (shown_reply grid seats e place)
+reply_on grid seats e None on = on
+reply_on grid seats e (Some place) on = at_once_on grid (given_back grid seats place e.command.class e.released) place e (given_on grid seats place e.command.class e.released on)
 
-advised_on : (grid : Legs) (seats : HeldSeats) (advices : List Advice) → IsOnLadders grid seats → IsOnLadders grid (advised grid seats advices)
-advised_on grid seats [] on = on
-advised_on grid seats (a ∷ advices) on = advised_on grid (taking grid seats a.place a.class a.seats) advices (taking_on grid seats a.place a.class a.seats on)
+advices_on : (grid : Legs) (seats : HeldSeats) (advices : List Advice) → IsOnLadders grid seats → IsOnLadders grid (shown_advices grid seats advices)
+advices_on grid seats [] on = on
+advices_on grid seats (a ∷ advices) on = advices_on grid (taken_up grid seats a.place a.class a.seats) advices (taken_on grid seats a.place a.class a.seats on)
 
 pub shown_on : (grid : Legs) (seats : HeldSeats) (e : Entry) → IsOnLadders grid seats → IsOnLadders grid (shown grid seats e)
-shown_on grid seats e on =
-    let c = e.command in
-    let one = replied_on grid seats c.place e.reply c.class c.seats on in
-    let two = released_on grid (replied grid seats c.place e.reply c.class c.seats) c.place c.class e.released one in
-    advised_on grid (released grid (replied grid seats c.place e.reply c.class c.seats) c.place c.class e.released) e.advices two
+shown_on grid seats e on = advices_on grid (shown_reply grid seats e e.command.place) e.advices (reply_on grid seats e e.command.place on)

@@ -8,7 +8,7 @@ use Rattle.seat_nesting.specs.Counting.{LegSeats, Counted, limits_of, seats_of}
 use Rattle.seat_journal.specs.declared.entry.Entry.{Entry}
 use Rattle.seat_core.specs.Bookings.{held}
 use Rattle.seat_core.specs.Journal.{IsLegal, replay}
-use Rattle.seat_display.specs.Effect.{shown}
+use Rattle.seat_core.specs.Showing.{shown}
 use Rattle.seat_display.specs.declared.table.Table.{Table}
 use Rattle.seat_display.specs.declared.table.Op.{Op}
 use Rattle.seat_display.specs.declared.table.Op.TheVariants.{Line, Mark}

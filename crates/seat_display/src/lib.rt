@@ -3,7 +3,6 @@
 #![tactic(auto)]
 
 mod book;
-mod effect;
 mod opening;
 mod publisher;
 mod rule;

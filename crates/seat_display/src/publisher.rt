@@ -203,7 +203,7 @@ pub(crate) fn turn<R: Wait>(rt: &R, writer: &mut TableWriter)
     requires grid { limits_of (fold apply (tidied writer.old.desk.shown.value) (drop writer.old.behind writer.old.log.items)).counts ≡ limits_of writer.old.desk.shown.value.counts }
     requires book { (fold apply (tidied writer.old.desk.shown.value) (drop writer.old.behind writer.old.log.items)).seen.book ≡ writer.old.desk.shown.value.seen.book }
     ensures values { (tidied writer.new.desk.shown.value ≡ fold apply (tidied writer.old.desk.shown.value) (drop writer.old.behind writer.old.log.items)) × (drop writer.new.behind writer.new.log.items ≡ []) }
-    ensures view { ((view writer.new.desk.place).knows ≡ true) × ((view writer.new.desk.place).grid ≡ limits_of writer.old.desk.shown.value.counts) × ((view writer.new.desk.place).seen.book ≡ writer.old.desk.shown.value.seen.book) }
+    ensures view { ((view writer.new.desk.place).knows ≡ true) × ((view writer.new.desk.place).grid ≡ limits_of writer.new.desk.shown.value.counts) × ((view writer.new.desk.place).seen.book ≡ writer.new.desk.shown.value.seen.book) }
     ensures leaves { Leaves writer.new.desk.shown.value }
 {
     replace_with(
@@ -214,7 +214,7 @@ pub(crate) fn turn<R: Wait>(rt: &R, writer: &mut TableWriter)
             requires grid { limits_of (fold apply (tidied writer.desk.shown.value) (drop writer.behind writer.log.items)).counts ≡ limits_of writer.desk.shown.value.counts }
             requires book { (fold apply (tidied writer.desk.shown.value) (drop writer.behind writer.log.items)).seen.book ≡ writer.desk.shown.value.seen.book }
             ensures values { (tidied result.0.desk.shown.value ≡ fold apply (tidied writer.desk.shown.value) (drop writer.behind writer.log.items)) × (drop result.0.behind result.0.log.items ≡ []) }
-            ensures view { ((view result.0.desk.place).knows ≡ true) × ((view result.0.desk.place).grid ≡ limits_of writer.desk.shown.value.counts) × ((view result.0.desk.place).seen.book ≡ writer.desk.shown.value.seen.book) }
+            ensures view { ((view result.0.desk.place).knows ≡ true) × ((view result.0.desk.place).grid ≡ limits_of result.0.desk.shown.value.counts) × ((view result.0.desk.place).seen.book ≡ result.0.desk.shown.value.seen.book) }
             ensures leaves { Leaves result.0.desk.shown.value }
         { (turned(rt, writer), ()) },
     )
@@ -225,7 +225,7 @@ fn turned<R: Wait>(rt: &R, writer: TableWriter) -> TableWriter
     requires grid { limits_of (fold apply (tidied writer.desk.shown.value) (drop writer.behind writer.log.items)).counts ≡ limits_of writer.desk.shown.value.counts }
     requires book { (fold apply (tidied writer.desk.shown.value) (drop writer.behind writer.log.items)).seen.book ≡ writer.desk.shown.value.seen.book }
     ensures values { (tidied result.desk.shown.value ≡ fold apply (tidied writer.desk.shown.value) (drop writer.behind writer.log.items)) × (drop result.behind result.log.items ≡ []) }
-    ensures view { ((view result.desk.place).knows ≡ true) × ((view result.desk.place).grid ≡ limits_of writer.desk.shown.value.counts) × ((view result.desk.place).seen.book ≡ writer.desk.shown.value.seen.book) }
+    ensures view { ((view result.desk.place).knows ≡ true) × ((view result.desk.place).grid ≡ limits_of result.desk.shown.value.counts) × ((view result.desk.place).seen.book ≡ result.desk.shown.value.seen.book) }
     ensures leaves { Leaves result.desk.shown.value }
 {
     match writer.publish_as::<Looks, R>(rt) {

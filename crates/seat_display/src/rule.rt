@@ -3,13 +3,13 @@ ghost use Rattle.std.specs.Prelude.{◌≡◌};
 ghost use Rattle.seat_display.specs.Shown.{apply, one_more, tidied};
 ghost use Rattle.seat_display.specs.declared.table.Op.TheVariants.{Line};
 
-use crate::effect::show;
 use crate::table::{Op, Table, View};
 use atomic_table::{Join, Split};
 use crossbeam_utils::rule::{Outcome, Protocol};
 use left_right::Absorb;
 use left_right::reader::Reader;
 use left_right::writer::Writer;
+use seat_core::show;
 use seat_journal::Entry;
 use std::alloc::AllocError;
 

@@ -4,9 +4,3 @@ use Rattle.seat_display.proofs.publisher.turned.Goals as goal
 
 pub publish_as-requires : goal.publish_as-requires
 publish_as-requires g c next is = turns _ _ c.args.writer.desk.shown.value next (λ l. leaves_as next _ is (c.requires.leaves l)) (limits_as next _ is ∙ c.requires.grid) (ap (λ t. t.seen.book) is ∙ c.requires.book)
-
-pub returns-clause-view : goal.returns-clause-view
-returns-clause-view g c =
-    let known = c.publish_as.ensures.rule.known in
-    let is = c.publish_as.ensures.values.0 in
-    (known.0, known.1 ∙ (limits_as _ _ is ∙ c.requires.grid), known.2 ∙ (ap (λ t. t.seen.book) is ∙ c.requires.book))
