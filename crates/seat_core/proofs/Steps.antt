@@ -55,7 +55,7 @@ covers_facts flight leg p e = cases (p.flight == flight) (nat_le p.from leg) (na
   cases false b d x y z h = absurd cc
 
 -- the room of a place is at most that of a leg that it covers
-room_le : (grid : Legs) (bookings : List Booking) (p : Place) (class flight leg : ℕ) → covers flight leg p ≡ true
+pub room_le : (grid : Legs) (bookings : List Booking) (p : Place) (class flight leg : ℕ) → covers flight leg p ≡ true
     → room_left (state_of grid bookings) p class ≤ room_on (ladder_at grid flight leg) (held bookings flight leg) class
 room_le grid bookings p class flight leg e =
     let h = covers_facts flight leg p e in
@@ -104,7 +104,7 @@ less_if false u m n = omega arith
 seats_less : (flight leg k n : ℕ) (b : Booking) → seats_on flight leg k (record b { seats = b.seats - n }) ≤ seats_on flight leg k b
 seats_less flight leg k n b = less_if (is_held b.status) (covers flight leg b.place && (b.class == k)) b.seats n
 
-held_reduced : (test : Booking → Bool) (n : ℕ) (xs : List Booking) (flight leg k : ℕ) → held (reduced test n xs) flight leg k ≤ held xs flight leg k
+pub held_reduced : (test : Booking → Bool) (n : ℕ) (xs : List Booking) (flight leg k : ℕ) → held (reduced test n xs) flight leg k ≤ held xs flight leg k
 held_reduced test n [] flight leg k = omega arith
 held_reduced test n (b ∷ bs) flight leg k = cases (test b) (nat_le b.seats n) refl refl (held_reduced test n bs flight leg k) where
   f : Booking → ℕ

@@ -24,7 +24,7 @@ use Rattle.seat_core.proofs.Histories.{replay_next}
 use Rattle.seat_core.proofs.Legal.{each_legal}
 use Rattle.seat_core.proofs.Weighing.{sum_in, pass_weighs, reduced_weighs, found_passes}
 
-waiting_light : (f l k : ℕ) (b : Booking) (s : Status) → b.status ≡ s → is_waiting s ≡ true → seats_on f l k b ≡ 0
+pub waiting_light : (f l k : ℕ) (b : Booking) (s : Status) → b.status ≡ s → is_waiting s ≡ true → seats_on f l k b ≡ 0
 waiting_light f l k b Held e h = absurd cc
 waiting_light f l k b Waiting e h = rw e refl
 
@@ -42,7 +42,7 @@ part_if true true m n le = omega arith
 part_if true false m n le = refl
 part_if false u m n le = refl
 
-cancels : (f l k n : ℕ) (test : Booking → Bool) (xs : List Booking) (b : Booking) → find test xs ≡ Some b → n ≤ b.seats → held (reduced test n xs) f l k + loses f l k n b ≡ held xs f l k
+pub cancels : (f l k n : ℕ) (test : Booking → Bool) (xs : List Booking) (b : Booking) → find test xs ≡ Some b → n ≤ b.seats → held (reduced test n xs) f l k + loses f l k n b ≡ held xs f l k
 cancels f l k n test xs b found le =
     reduced_weighs (seats_on f l k) (loses f l k n) test n
     (λ x le'. part_if (is_held x.status) (covers f l x.place && (x.class == k)) x.seats n le')
@@ -55,7 +55,7 @@ both true false e = absurd cc
 both false u e = absurd cc
 
 -- a booking that is for a command has its place and class
-is_for_facts : (locator : List ℕ) (p : Place) (class : ℕ) (b : Booking) → is_for locator p class b ≡ true → (b.place ≡ p) × (b.class ≡ class)
+pub is_for_facts : (locator : List ℕ) (p : Place) (class : ℕ) (b : Booking) → is_for locator p class b ≡ true → (b.place ≡ p) × (b.class ≡ class)
 is_for_facts locator p class b e =
     let one = both (pointwise nat_eq b.locator locator && same_place b.place p) (b.class == class) e in
     let two = both (pointwise nat_eq b.locator locator) (same_place b.place p) one.0 in
@@ -70,12 +70,12 @@ is_for_facts locator p class b e =
     places : (a b c d e f : ℕ) → a ≡ b → c ≡ d → e ≡ f → let x : Place = record { flight = a; from = c; to = e } in let y : Place = record { flight = b; from = d; to = f } in x ≡ y
     places a b c d e f p q r = rw (p, q, r) refl
 
-if_zero : (t : Bool) → ◌≡◌ {A = ℕ} (if t then 0 else 0) 0
+pub if_zero : (t : Bool) → ◌≡◌ {A = ℕ} (if t then 0 else 0) 0
 if_zero true = refl
 if_zero false = refl
 
 -- the seats released, at the command's place, are those that the booking loses
-loses_is : (f l k n : ℕ) (p : Place) (class : ℕ) (b : Booking) → b.place ≡ p → b.class ≡ class → loses f l k n b ≡ seats_at p class (if is_held b.status then n else 0) f l k
+pub loses_is : (f l k n : ℕ) (p : Place) (class : ℕ) (b : Booking) → b.place ≡ p → b.class ≡ class → loses f l k n b ≡ seats_at p class (if is_held b.status then n else 0) f l k
 loses_is f l k n p class b at is =
     let P : Place → Type 0 = λ q. loses f l k n b ≡ seats_at q class (if is_held b.status then n else 0) f l k in
     let Q : ℕ → Type 0 = λ c. loses f l k n b ≡ seats_at b.place c (if is_held b.status then n else 0) f l k in

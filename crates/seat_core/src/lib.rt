@@ -25,7 +25,7 @@ pub use inventory::{Core, Prepared};
 pub use laws::{
     applying_is_the_step, entry_gives_what_is_held, held_by_rank, held_seats_are_the_totals,
     legal_by_recursion, legal_has_no_fault, live_bookings_differ, none_fits_after_a_step,
-    pass_is_by_table, replay_is_numbered, replay_keeps_limits, table_is_held,
+    pass_is_by_table, replay_is_numbered, replay_keeps_limits, shown_is_held, table_is_held,
 };
 pub use one_flight::{
     part_grows, part_is_alone, part_is_legal, part_leaves_bookings, part_leaves_room,
