@@ -127,13 +127,13 @@ taken_on grid seats place class n on = of (nat_le n (room grid seats place class
     more e f l k h =
         let fits : n ≤ room grid seats place class = grind (arith, nat_tests, e) in
         let none : seats_at place class n f l k ≡ 0 = seats_covered place class n f l k (λ there same.
-            let flight : place.flight ≡ f = grind (arith, nat_tests, there) in
-            let low : place.from ≤ l = grind (arith, nat_tests, there) in
-            let high : l ≤ place.to = grind (arith, nat_tests, there) in
-            let each = fits_each grid seats place class n l fits low high in
-            let zero : room_on (ladder_at grid place.flight l) (seats place.flight l) class ≡ 0 =
-            room_lacking (ladder_at grid place.flight l) (seats place.flight l) class ((λ i. has_class (ladder_at grid (flight i) l) (same i)) ∙ h) in
-            omega (arith, each, zero)) in
+        let flight : place.flight ≡ f = grind (arith, nat_tests, there) in
+        let low : place.from ≤ l = grind (arith, nat_tests, there) in
+        let high : l ≤ place.to = grind (arith, nat_tests, there) in
+        let each = fits_each grid seats place class n l fits low high in
+        let zero : room_on (ladder_at grid place.flight l) (seats place.flight l) class ≡ 0 =
+        room_lacking (ladder_at grid place.flight l) (seats place.flight l) class ((λ i. has_class (ladder_at grid (flight i) l) (same i)) ∙ h) in
+        omega (arith, each, zero)) in
         omega (arith, on.none f l k h, none)
 
     of : (b : Bool) → nat_le n (room grid seats place class) ≡ b → IsOnLadders grid (if b then (λ f l k. seats f l k + seats_at place class n f l k) else seats)

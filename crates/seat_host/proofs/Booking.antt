@@ -12,7 +12,7 @@ use Rattle.seat_core.specs.Journal.{IsNext, IsLegal, calls_of, next_line}
 use Rattle.seat_core.proofs.Prefixes.{begins_trans, begins_whole, begins_length, begins_longer, begins_itself}
 use Rattle.seat_core.proofs.Legal.{legal_push, legal_nil}
 use Rattle.seat_host.specs.Histories.{of_session}
-use Rattle.seat_host.specs.Sessions.{IsTied, Stands, Booked, Seat}
+use Rattle.seat_host.specs.Sessions.{IsTied, Stands, Booked, Waits, Seat}
 use Rattle.seat_host.proofs.Own.{own_append, own_prefix, own_length, own_one, own_other, calls_own}
 
 -- as many receipts as lines, in a front that the journal begins with: they are the lines
@@ -166,3 +166,11 @@ stands_longer grid n s front st pre legal = record {
 -- a session that has done nothing stands
 pub stands_fresh : (grid : Legs) (n id : ℕ) → 0 < id → id ≤ n → n < 9 → Stands grid n (record { id = id; receipts = []; front = [] })
 stands_fresh grid n id some le few = record { number = (some, le, few); legal = legal_nil grid; own = begins_itself [] }
+
+-- a session whose receipts are as they were
+pub waits_same : (old : Seat) (id : ℕ) (receipts items front : List Entry) → (let s : Seat = record { id = id; receipts = receipts; front = front } in s ≡ old) → items ≡ receipts → Waits old (record { id = id; receipts = items; front = front })
+waits_same old id receipts items front is same = record {
+  id = ap (λ (s : Seat). s.id) is;
+  receipts = same ∙ ap (λ (s : Seat). s.receipts) is;
+  before = subst (λ (l : List Entry). Begins l front) (ap (λ (s : Seat). s.front) is) (begins_itself front);
+}

@@ -1,5 +1,5 @@
 -- The sessions that are handed in, and what a settled host gives.
-use Rattle.std.specs.Prelude.{◌≡◌, ℕ, zero, suc, ◌==◌, ◌&&◌, Bool, true, List, [], ◌∷◌, length, map}
+use Rattle.std.specs.Prelude.{ℕ, zero, suc, ◌==◌, ◌&&◌, Bool, true, List, length, map}
 use Rattle.std.specs.List.{list_any, sum_by}
 use Rattle.seat_journal.specs.declared.entry.Entry.{Entry}
 use Rattle.seat_host.specs.Sessions.{Seat}

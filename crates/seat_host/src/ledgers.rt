@@ -212,7 +212,6 @@ impl<K: Hosting> Model for Stakes<K> {
 }
 
 impl<K: Hosting> Stakes<K> {
-    #[tactic(auto, using(crate::proofs::Staking::next_stake))]
     /// The share of the next session number.
     pub fn take(&mut self) -> Option<Stake<K>>
         requires { (1 ≤ self.old) × (self.old ≤ 8) }

@@ -6,7 +6,6 @@ use crate::ledgers::Blanks;
 use seat_core::Core;
 use seat_display::{Publisher, Viewer, open as open_display};
 use seat_nesting::Grid;
-use ssim_records::Memory;
 use std::alloc::Global;
 use std::marker::Model;
 use std::sync::Wait;
@@ -18,14 +17,6 @@ pub enum HostFault {
     Sessions,
     /// A growth was refused.
     Memory,
-}
-
-impl From<Memory> for HostFault {
-    fn from(_e: Memory) -> HostFault
-        ensures { result ≡ NoMemory }
-    {
-        HostFault::Memory
-    }
 }
 
 /// The parts of a host. They are never dropped: `Host::open` uses them up.
@@ -68,9 +59,15 @@ impl Parts {
         if sessions < 1 || sessions > 8 {
             return Err(HostFault::Sessions);
         }
-        let kept = grid.copy(alloc)?;
-        let core = Core::new(alloc, grid, cap)?;
-        let (publisher, viewers) = open_display(rt, alloc, &kept, sessions)?;
+        let Ok(kept) = grid.copy(alloc) else {
+            return Err(HostFault::Memory);
+        };
+        let Ok(core) = Core::new(alloc, grid, cap) else {
+            return Err(HostFault::Memory);
+        };
+        let Ok((publisher, viewers)) = open_display(rt, alloc, &kept, sessions) else {
+            return Err(HostFault::Memory);
+        };
         Ok(Parts {
             grid: kept,
             core,
