@@ -1,21 +1,26 @@
 -- The sessions that are handed in, and what a settled host gives.
-use Rattle.std.specs.Prelude.{ℕ, zero, suc, ◌==◌, ◌&&◌, Bool, true, List, length, map}
-use Rattle.std.specs.List.{list_any, sum_by}
+use Rattle.std.specs.Prelude.{◌≡◌, ℕ, zero, suc, ◌==◌, ◌&&◌, ◌<◌, ◌≤◌, Bool, true, List, length}
+use Rattle.std.specs.List.{list_any}
 use Rattle.seat_journal.specs.declared.entry.Entry.{Entry}
+use Rattle.seat_core.specs.Prefixes.{Begins}
+use Rattle.seat_host.specs.Histories.{of_session}
 use Rattle.seat_host.specs.Sessions.{Seat}
 
--- each number from 1 to n is among these
-abbrev pub has_up_to : ℕ → List ℕ → Bool
-has_up_to zero ids = true
-has_up_to (suc n) ids = list_any (λ id. id == suc n) ids && has_up_to n ids
+-- one of them has this number
+abbrev pub has_id : ℕ → List Seat → Bool
+has_id number sessions = list_any (λ (s : Seat). s.id == number) sessions
 
--- they are the numbers 1 to n, each once: as many as there are, and each among them
-abbrev pub has_all : ℕ → List ℕ → Bool
-has_all n ids = (length ids == n) && has_up_to n ids
+-- each number from 1 to n is among theirs
+abbrev pub has_up_to : ℕ → List Seat → Bool
+has_up_to zero sessions = true
+has_up_to (suc n) sessions = has_id (suc n) sessions && has_up_to n sessions
 
-abbrev pub ids_of : List Seat → List ℕ
-ids_of sessions = map (λ (s : Seat). s.id) sessions
+-- their numbers are 1 to n, each once: they are n, and each number is among theirs
+abbrev pub has_all : ℕ → List Seat → Bool
+has_all n sessions = (length sessions == n) && has_up_to n sessions
 
--- how many lines these are in all
-abbrev pub lines_in : List (List Entry) → ℕ
-lines_in receipts = sum_by length receipts
+-- the receipts of a session are its lines in the journal, in order, and its front is a beginning of the journal
+pub record IsConfirmed (n : ℕ) (journal : List Entry) (s : Seat) : Type 0 where
+  pub number : (0 < s.id) × (s.id ≤ n)
+  pub lines : s.receipts ≡ of_session s.id journal
+  pub front : Begins s.front journal

@@ -7,9 +7,11 @@ mod host;
 mod ledgers;
 mod parts;
 mod session;
+mod settling;
 
 pub use desk::BookFault;
 pub use host::Host;
 pub use ledgers::Hosting;
 pub use parts::{HostFault, Parts};
 pub use session::{Receipt, Session};
+pub use settling::{AllReceipts, GatherFault, Receipts, Settled, gather};
