@@ -5,10 +5,9 @@ use Rattle.std.proofs.lemmas.Bool.{eqb-true, eqb-false, le-leb, leb-true, and_pa
 use Rattle.std.proofs.lemmas.Bool.Decides.{nat_tests}
 use Rattle.std.proofs.lemmas.List.{map-set, set-get_or, get_or-set_same, get_or-set_other, map-append, length-map, get_or-map, take_more}
 use Rattle.std.proofs.lemmas.Option.{unwrap_or-slice_get}
-use Rattle.seat_nesting.specs.Nesting.{Steps, Legs, steps_of, steps_at, legs_of, ladder_at, room, room_on, least, each_leg, covers, has_class}
+use Rattle.seat_nesting.specs.Nesting.{Steps, Legs, steps_of, ladder_at, room, room_on, least, each_leg, covers, has_class}
 use Rattle.ssim_records.specs.declared.place.Place.{Place}
 use Rattle.seat_nesting.proofs.Rooms.{least_le, room_same}
-use Rattle.seat_nesting.proofs.LegCounting.{no_ladder}
 use Rattle.seat_nesting.specs.Counting.{LegSeats, Counted, seats_on, leg_in, legs_in, leg_at, limits_of, seats_of, no_leg, IsKept, IsFresh, IsWithinLimits, LegChanges, FlightChanges, OneLegChanges, Changes, plus, less, leg_holds, holds}
 
 -- the place that was written, and the others
@@ -53,18 +52,6 @@ flight_changes op none old leg x class n inside h = record {
     kept_case all at true = h.kept
     kept_case all at false = all at
 
-no_number : (op : ℕ → ℕ → ℕ) → ((a : ℕ) → op a 0 ≡ a) → (a n : ℕ) (b : Bool) → n ≡ 0 → a ≡ op a (cond b n 0)
-no_number op none a n true e = sym (none a) ∙ ap (op a) (sym e)
-no_number op none a n false e = sym (none a)
-
--- no number changes nothing
-pub flight_same : (op : ℕ → ℕ → ℕ) → ((a : ℕ) → op a 0 ≡ a) → (old : List LegSeats) (leg class n : ℕ) → n ≡ 0 → FlightChanges op old old leg class n
-flight_same op none old leg class n e = record {
-  limits = refl;
-  seats = λ at k. no_number op none (seats_on (leg_in old at) k) n ((at == leg) && (class == k)) e;
-  kept = λ all. all;
-}
-
 -- one leg of one flight
 pub one_leg_changes : (op : ℕ → ℕ → ℕ) → ((a : ℕ) → op a 0 ≡ a) → (old : Counted) (flight : ℕ) (xs : List LegSeats) (leg class n : ℕ) → flight < length old → FlightChanges op (legs_in old flight) xs leg class n
     → OneLegChanges op old (set old flight xs) flight leg class n
@@ -82,12 +69,6 @@ one_leg_changes op none old flight xs leg class n inside h = record {
         let other : legs_in (set old flight xs) f ≡ legs_in old f = at_set old flight f xs [] inside ∙ ap (λ (b : Bool). cond b xs (legs_in old f)) e in
         ap (λ (l : List LegSeats). seats_on (leg_in l at) k) other ∙ sym (none (seats_of old f at k))
 
-pub one_leg_same : (op : ℕ → ℕ → ℕ) → ((a : ℕ) → op a 0 ≡ a) → (old : Counted) (flight leg class n : ℕ) → n ≡ 0 → OneLegChanges op old old flight leg class n
-one_leg_same op none old flight leg class n e = record {
-  limits = refl;
-  seats = λ f at k. no_number op none (seats_of old f at k) n ((f == flight) && (at == leg) && (class == k)) e;
-}
-
 pub still_within : (op : ℕ → ℕ → ℕ) (old : Counted) (flight : ℕ) (xs : List LegSeats) (leg class n : ℕ) → flight < length old → FlightChanges op (legs_in old flight) xs leg class n
     → IsWithinLimits old → IsWithinLimits (set old flight xs)
 still_within op old flight xs leg class n inside h w = record {
@@ -98,21 +79,7 @@ still_within op old flight xs leg class n inside h w = record {
     kept_case f at true = h.kept (λ i. w.leg_kept flight i) at
     kept_case f at false = w.leg_kept f at
 
--- ---- the limits of one leg
-
-pub limits_at : (counts : Counted) (flight leg : ℕ) → ladder_at (limits_of counts) flight leg ≡ (leg_at counts flight leg).steps
-limits_at counts flight leg =
-    ap (λ (legs : List Steps). steps_at legs leg) (legs_at counts flight) ∙ steps_of_leg (legs_in counts flight) leg
-  where
-    steps_of_leg : (legs : List LegSeats) (i : ℕ) → steps_at (map steps_in legs) i ≡ (leg_in legs i).steps
-    steps_of_leg [] i = refl
-    steps_of_leg (l ∷ legs) zero = refl
-    steps_of_leg (l ∷ legs) (suc i) = steps_of_leg legs i
-
-    legs_at : (flights : Counted) (i : ℕ) → legs_of (limits_of flights) i ≡ map steps_in (legs_in flights i)
-    legs_at [] i = refl
-    legs_at (legs ∷ flights) zero = refl
-    legs_at (legs ∷ flights) (suc i) = legs_at flights i
+-- ---- no number
 
 pub plus_none : (a : ℕ) → plus a 0 ≡ a
 plus_none a = omega arith
@@ -254,6 +221,3 @@ flights_push xs x grid i legs h lt e is =
 
 pub fresh_push : (xs : Counted) (x : List LegSeats) → ((f at : ℕ) → IsFresh (leg_at xs f at)) → ((at : ℕ) → IsFresh (leg_in x at)) → (f at : ℕ) → IsFresh (leg_at (xs ++ x ∷ []) f at)
 fresh_push xs x all here = each_push xs x [] (λ (legs : List LegSeats). (at : ℕ) → IsFresh (leg_in legs at)) all here
-
-pub none_fresh : (leg : ℕ) → IsFresh (leg_in [] leg)
-none_fresh leg = record { kept = record { ladder = no_ladder; counted = omega arith; within = tt }; none = λ k. refl }

@@ -1,5 +1,5 @@
 -- Steps have no fault exactly where they are a ladder.
-use Rattle.std.proofs.Common.{◌≡◌, ℕ, suc, Bool, cond, Option, Some, ◌-◌, ◌<◌, ◌≤◌, true, false, eqb, ltb, ◌||◌, [], ◌∷◌, length, map, None, IsTrue, refl, ap, inl, inr, arith}
+use Rattle.std.proofs.Common.{◌≡◌, ℕ, suc, Bool, cond, Some, ◌-◌, ◌<◌, ◌≤◌, true, false, eqb, ltb, ◌||◌, [], ◌∷◌, length, map, None, IsTrue, refl, ap, inl, inr, arith}
 use Rattle.std.specs.Char.{is_ascii_uppercase}
 use Rattle.std.specs.List.{AllByRecursion, list_any, IsDistinct as Differ}
 use Rattle.std.proofs.lemmas.Bool.{or_parts, or_from, or_cases, eqb-false, ne_eqb, eqb-true, ltb-false, le-ltb}
@@ -8,7 +8,6 @@ use Rattle.std.proofs.lemmas.Map.Steps.{length-le_from_distinct_below}
 use Rattle.seat_nesting.specs.Nesting.{Steps, LacksClass, HasLetters, IsDistinct, IsNotRising, IsLadder, has_class}
 use Rattle.seat_nesting.specs.Ladders.{repeats_class, is_below_next, is_rising, is_too_large, ladder_fault}
 use Rattle.seat_nesting.specs.declared.ladder.Step.{Step}
-use Rattle.seat_nesting.specs.declared.ladder.LadderFault.{LadderFault}
 use Rattle.seat_nesting.specs.declared.ladder.LadderFault.TheVariants.{Empty, RepeatedClass, Rising, TooLarge}
 
 -- ---- classes

@@ -7,14 +7,11 @@ use Rattle.std.proofs.lemmas.List.{length-set}
 use Rattle.std.proofs.lemmas.List.Quantifiers.{position-Some}
 use Rattle.std.proofs.lemmas.Bool.Decides.{nat_tests}
 use Rattle.seat_nesting.specs.declared.ladder.Step.{Step}
-use Rattle.seat_nesting.specs.Nesting.{Steps, held_from, room_on, has_class, IsDistinct, IsLadder, IsLegLadder, LacksClass}
+use Rattle.seat_nesting.specs.Nesting.{Steps, held_from, room_on, has_class, IsDistinct, IsLegLadder, LacksClass}
 use Rattle.seat_nesting.specs.Counting.{LegSeats, count_at, seats_on, IsKept, IsFresh, IsRank, LegChanges, plus, less}
 use Rattle.seat_nesting.proofs.Rooms.{held_from_rank, within_rank, within_none, within_less, within_more, IsMore}
 
 -- ---- ladders
-
-pub leg_ladder : (steps : Steps) → IsLadder steps → IsLegLadder steps
-leg_ladder steps h = record { most = h.most; distinct = h.distinct; not_rising = h.not_rising; bounded = h.bounded }
 
 pub no_ladder : IsLegLadder []
 no_ladder = record { most = omega arith; distinct = tt; not_rising = tt; bounded = tt }

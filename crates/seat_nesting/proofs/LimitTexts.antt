@@ -1,16 +1,16 @@
 -- The rows of a text's lines, one after the other.
-use Rattle.std.proofs.Common.{◌≡◌, ◌≢◌, ◌==◌, ℕ, suc, ◌+◌, ◌<◌, ◌≤◌, Bool, true, false, List, [], ◌∷◌, ◌++◌, length, Some, Result, Ok, Err, refl, sym, ap, subst, ◌∙◌, arith, append_assoc, append-nil}
-use Rattle.std.specs.Result.{IsOk, MatchResult}
+use Rattle.std.proofs.Common.{◌≡◌, ◌≢◌, ◌==◌, ℕ, suc, ◌+◌, ◌<◌, Bool, true, false, List, [], ◌∷◌, ◌++◌, length, Result, Ok, Err, refl, sym, ap, subst, ◌∙◌, arith, append_assoc, append-nil}
+use Rattle.std.specs.Result.{IsOk}
 use Rattle.std.specs.Str.Lines.{lines}
 use Rattle.std.proofs.lemmas.Bool.Decides.{nat_tests}
-use Rattle.std.proofs.lemmas.List.{length-append, nil_from_length}
-use Rattle.seat_nesting.specs.Lines.{line_at}
-use Rattle.seat_nesting.specs.LimitRows.{row_at, row_then, rows_in, SpellsRow, SpellsRows, IsLimitText, WantsRoom, AddsRow, TakesLine, IsStop}
+use Rattle.std.proofs.lemmas.List.{length-append}
+use Rattle.ssim_records.specs.Lines.{line_at}
+use Rattle.seat_nesting.specs.LimitRows.{row_at, row_then, rows_in, SpellsRows, IsLimitText, WantsRoom, TakesLine, IsStop}
 use Rattle.seat_nesting.specs.declared.limit_row.LimitRow.{LimitRow}
 use Rattle.seat_nesting.specs.declared.limit_fault.LimitFault.{LimitFault}
 use Rattle.seat_nesting.specs.declared.limit_fault.LimitKind.{LimitKind}
 use Rattle.seat_nesting.specs.declared.limit_fault.LimitKind.TheVariants as kinds
-use Rattle.seat_nesting.proofs.Cutting.{lines_are, rest_shorter}
+use Rattle.ssim_records.proofs.LineCuts.{lines_are, rest_shorter}
 use Rattle.seat_nesting.proofs.RowLaws.{done, row_takes, row_again, row_none}
 
 abbrev Rows : Type 0
@@ -105,9 +105,6 @@ at_next bytes line rest text after old new at some cut takes =
 
 pub cut_shorter : (rest text after : List ℕ) → ◌≡◌ {A = List ℕ × List ℕ} (text, after) (line_at rest) → 0 < length rest → length after < length rest
 cut_shorter rest text after cut some = let shorter = rest_shorter rest some in omega (arith, shorter, ap (λ (p : List ℕ × List ℕ). length p.1) cut)
-
-no_lines : lines [] ≡ []
-no_lines = refl
 
 whole : (bytes : List ℕ) (line : ℕ) (rest : List ℕ) (rows : List LimitRow) → IsAt bytes line rest rows → length rest ≡ 0 → rows_in 1 (lines bytes) ≡ ok_rows rows
 whole bytes line [] rows at none = ap (rows_in 1) (at.cut ∙ append-nil at.front) ∙ at.read

@@ -1,5 +1,5 @@
 -- A field of a limit row that is read is spelled so, and what is spelled so is read.
-use Rattle.std.proofs.Common.{◌≡◌, ℕ, ◌<◌, ◌≤◌, Bool, true, false, cond, ltb, leb, eqb, ◌&&◌, List, [], ◌∷◌, ◌++◌, length, take, drop, Option, Some, None, option_map, refl, sym, ap, subst, ◌∙◌, IsTrue, arith}
+use Rattle.std.proofs.Common.{◌≡◌, ℕ, ◌<◌, ◌≤◌, Bool, true, false, cond, ltb, leb, eqb, ◌&&◌, List, [], ◌∷◌, ◌++◌, length, take, drop, Option, Some, None, option_map, refl, sym, ap, ◌∙◌, IsTrue, arith}
 use Rattle.std.specs.Prelude.{IfSome}
 use Rattle.std.specs.Char.{is_ascii_digit, is_ascii_uppercase}
 use Rattle.std.specs.List.{prefix_len}
@@ -8,7 +8,7 @@ use Rattle.std.proofs.lemmas.Bool.{eqb-true}
 use Rattle.std.proofs.lemmas.Bool.Decides.{nat_tests}
 use Rattle.std.proofs.lemmas.List.{take_at, drop_at, take-append-drop, length-append}
 use Rattle.ssim_records.specs.Names.{is_airline, is_station}
-use Rattle.ssim_records.specs.Days.{IsDayField, date_in, day_month, two_digits, month_name}
+use Rattle.ssim_records.specs.Days.{IsDayField, date_in, two_digits, month_name}
 use Rattle.ssim_records.proofs.Tests.{passed, both_true, some_is}
 use Rattle.ssim_records.proofs.DateLaws.{date_takes, date_again}
 use Rattle.ssim_records.proofs.LeadingRuns.{Stops, run_all, prefix_run}

@@ -1,7 +1,7 @@
 -- Limit rows by flight and city pair.
-use Rattle.std.proofs.Common.{◌≡◌, ◌==◌, nat_eq, ℕ, zero, suc, ◌+◌, ◌-◌, ◌<◌, ◌≤◌, Bool, true, false, ◌&&◌, cond, List, [], ◌∷◌, ◌++◌, length, take, drop, get_or, fold, Option, Some, None, refl, sym, ap, subst, ◌∙◌, ◌⊎◌, inl, inr, arith}
+use Rattle.std.proofs.Common.{◌≡◌, ◌==◌, nat_eq, ℕ, zero, suc, ◌+◌, ◌<◌, ◌≤◌, Bool, true, false, ◌&&◌, cond, List, [], ◌∷◌, ◌++◌, length, take, get_or, fold, Option, Some, None, refl, sym, ap, subst, ◌∙◌, arith}
 use Rattle.std.specs.List.{slice_get}
-use Rattle.std.specs.Option.{option_eq, unwrap_or}
+use Rattle.std.specs.Option.{option_eq}
 use Rattle.std.specs.HashMap.{get}
 use Rattle.std.specs.Cmp.Lexicographic.{pointwise}
 use Rattle.std.proofs.lemmas.Bool.{eqb-true, and_parts}
@@ -10,7 +10,7 @@ use Rattle.std.proofs.lemmas.List.{take_more, take_all, length-append}
 use Rattle.std.proofs.lemmas.List.Sums.{fold_push}
 use Rattle.std.proofs.lemmas.Option.{slice_get-get_or, slice_get_within, get_or_from_slice_get, same_Some}
 use Rattle.seat_nesting.specs.Nesting.{Steps}
-use Rattle.seat_nesting.specs.Authorised.{row_pair, same_pair, holds_day, is_for, after_row, authorised, LastRows, is_of, last_below, PutsRow, IsRowIndex}
+use Rattle.seat_nesting.specs.Authorised.{row_pair, same_pair, holds_day, after_row, authorised, LastRows, is_of, last_below, PutsRow, IsRowIndex}
 use Rattle.seat_nesting.specs.declared.limit_row.LimitRow.{LimitRow}
 use Rattle.seat_nesting.specs.declared.row_index.Pair.{Pair}
 
@@ -51,9 +51,6 @@ pair_is a b h =
 
 row_here : (rows : List LimitRow) (i : ℕ) (row : LimitRow) → i < length rows → row ≡ get_or rows i row → slice_get rows i ≡ Some row
 row_here rows i row lt is = slice_get-get_or rows i row lt ∙ ap (λ (x : LimitRow). Some x) (sym is)
-
-pub index_none : (last : LastRows) (rows : List LimitRow) → ((p : Pair) → get same_pair last p ≡ None) → IsRowIndex last [] rows 0
-index_none last rows h = record { last_is = h; counted = refl; before_is = λ i row lt is. absurd (omega arith) }
 
 at_end : {X : Type 0} (xs : List X) (x : X) → slice_get (xs ++ x ∷ []) (length xs) ≡ Some x
 at_end [] x = refl

@@ -4,6 +4,5 @@ pub mod FaultText
 pub mod LadderText
 pub mod Ladders
 pub mod LimitRows
-pub mod Lines
 pub mod Nesting
 pub mod RowFields

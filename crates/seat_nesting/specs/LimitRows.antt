@@ -6,7 +6,7 @@ use Rattle.std.specs.Str.Parse.{digits_value}
 use Rattle.std.specs.Str.Lines.{lines}
 use Rattle.ssim_records.specs.Names.{is_airline, is_station}
 use Rattle.ssim_records.specs.Days.{IsDayField}
-use Rattle.seat_nesting.specs.Nesting.{Steps, IsLadder}
+use Rattle.seat_nesting.specs.Nesting.{IsLadder}
 use Rattle.seat_nesting.specs.LadderText.{SpellsSteps, blank_at, ladder_in}
 use Rattle.seat_nesting.specs.RowFields.{head_at, fixed_at, number_at, suffix_at, date_at}
 use Rattle.seat_nesting.specs.declared.limit_row.LimitRow.{LimitRow}

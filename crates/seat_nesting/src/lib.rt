@@ -16,7 +16,6 @@ mod limit_reading;
 mod limit_row;
 #[cfg(test)]
 mod limit_tests;
-mod lines;
 mod row_fields;
 mod row_index;
 mod row_reading;

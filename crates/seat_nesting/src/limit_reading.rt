@@ -8,8 +8,8 @@ ghost use Rattle.seat_nesting.specs.declared.limit_fault.LimitKind.TheVariants.{
 
 use crate::limit_fault::{LimitFault, LimitKind};
 use crate::limit_row::LimitRows;
-use crate::lines::cut_line;
 use crate::row_reading::row_of;
+use ssim_records::lines::cut_line;
 use std::alloc::Global;
 
 /// The limit rows of a text. Lines end with LF, with CR LF or where the bytes end; empty ones are passed over.

@@ -1,6 +1,5 @@
 -- Adding a chain's flights, and an itinerary's.
-use Rattle.std.proofs.Common.{◌≡◌, ℕ, ◌+◌, ◌<◌, ◌≤◌, Bool, true, false, cond, nat_lt, ◌||◌, List, [], ◌∷◌, ◌++◌, length, map, take, drop, All, Option, Some, None, Result, Ok, Err, IfErr, OnOk, refl, sym, ap, subst, ◌∙◌, inl, inr, ◌⊎◌, append-nil, arith}
-use Rattle.std.specs.List.{list_any, flat_map}
+use Rattle.std.proofs.Common.{◌≡◌, ℕ, Bool, List, [], ◌∷◌, ◌++◌, length, map, Option, Some, None, Result, Err, IfErr, refl, sym, ap, subst, ◌∙◌, inr, append-nil, arith}
 use Rattle.ssim_records.specs.declared.carrier.Leg.{Leg}
 use Rattle.ssim_flights.specs.declared.adding.Flown.{Flown}
 use Rattle.ssim_flights.specs.declared.fault.FlightFault.{FlightFault}
@@ -12,7 +11,7 @@ use Rattle.ssim_flights.specs.Adding.{IsChainAdded, IsAdded}
 use Rattle.ssim_flights.specs.Chains.{chain, missing_leg, repeated_leg, broken_chain}
 use Rattle.ssim_flights.specs.Flown.{days_fault, departure, departures_of, departures_on, fault_of, flights_of, IsRefusal}
 use Rattle.ssim_flights.specs.Schedules.{rows, schedule, flights_on, flight_on}
-use Rattle.ssim_flights.specs.Taken.{Departures, has_departure, Takes}
+use Rattle.ssim_flights.specs.Taken.{has_departure, Takes}
 use Rattle.ssim_flights.proofs.Chaining.{departures_are, flights_are, fault_days}
 
 -- the flights of the rows were added

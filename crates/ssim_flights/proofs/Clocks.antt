@@ -1,5 +1,5 @@
 -- The day that a time of departure falls on.
-use Rattle.std.proofs.Common.{◌≡◌, ℕ, ◌+◌, ◌≤◌, ◌/◌, ℤ, pos, negsuc, ◌+ℤ◌, ◌≤ℤ◌, refl, ap, sym, subst, ◌∙◌, unsigned_abs, ◌<◌, to_z, of_z, w8, w16, w32, arith}
+use Rattle.std.proofs.Common.{◌≡◌, ℕ, ◌+◌, ◌≤◌, ℤ, pos, negsuc, ◌+ℤ◌, ◌≤ℤ◌, ap, ◌∙◌, unsigned_abs, to_z, of_z, w8, w16, w32, arith}
 use Rattle.std.specs.Int.{int_div_euclid}
 use Rattle.std.proofs.lemmas.Int.{ints}
 use Rattle.jiff_core.proofs.SignedLemmas.{signed_arith, back_small}

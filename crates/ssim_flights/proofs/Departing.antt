@@ -1,5 +1,5 @@
 -- No two flights of a carrier have the same number, suffix and first operating day.
-use Rattle.std.proofs.Common.{◌≡◌, ℕ, ◌+◌, ◌<◌, Bool, true, false, cond, ◌||◌, ◌&&◌, ◌==◌, nat_eq, List, [], ◌∷◌, ◌++◌, length, get_or, map, All, Option, Some, None, refl, sym, ap, subst, ◌∙◌, append_assoc, append-nil, arith}
+use Rattle.std.proofs.Common.{◌≡◌, ℕ, ◌<◌, Bool, true, false, cond, ◌||◌, ◌&&◌, ◌==◌, nat_eq, List, [], ◌∷◌, ◌++◌, length, get_or, map, Some, None, refl, sym, ap, subst, ◌∙◌, append_assoc, append-nil, arith}
 use Rattle.std.specs.Option.{option_eq}
 use Rattle.std.specs.List.{list_any, AllByRecursion, IsDistinct, range_with_len}
 use Rattle.std.specs.List.Sorted.{IsStrictlyIncreasing}
@@ -17,7 +17,7 @@ use Rattle.ssim_flights.specs.declared.plan.Plan.{Plan}
 use Rattle.ssim_flights.specs.declared.schedule.Scheduled.{Scheduled}
 use Rattle.ssim_flights.specs.Flown.{departure, departures_on, leg_one_if, same_departure}
 use Rattle.ssim_flights.specs.Operating.{operating_days}
-use Rattle.ssim_flights.specs.Schedules.{day_at, is_in_horizon, operation, rows, schedule, scheduled, shortest, Reaches}
+use Rattle.ssim_flights.specs.Schedules.{day_at, is_in_horizon, operation, rows, schedule, scheduled, shortest}
 use Rattle.ssim_flights.proofs.Chaining.{rows_reach}
 use Rattle.ssim_flights.proofs.OperatingDays.{days_increase, range_increases}
 

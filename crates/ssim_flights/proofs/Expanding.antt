@@ -1,5 +1,5 @@
 -- The walk along the itineraries.
-use Rattle.std.proofs.Common.{◌≡◌, ℕ, zero, suc, ◌+◌, ◌<◌, ◌≤◌, Bool, true, false, cond, nat_lt, nat_eq, ◌||◌, ◌&&◌, IsTrue, List, [], ◌∷◌, ◌++◌, length, get_or, map, filter, take, drop, All, Option, Some, None, refl, sym, ap, subst, ◌∙◌, inl, inr, ⊎_elim, unwrap_or, append-nil, arith, length-append}
+use Rattle.std.proofs.Common.{◌≡◌, ℕ, zero, suc, ◌+◌, ◌<◌, ◌≤◌, Bool, true, false, cond, nat_lt, nat_eq, ◌||◌, ◌&&◌, IsTrue, List, [], ◌∷◌, ◌++◌, length, get_or, map, take, drop, All, Option, Some, None, refl, sym, ap, subst, ◌∙◌, inl, inr, ⊎_elim, unwrap_or, append-nil, arith, length-append}
 use Rattle.std.specs.Option.{option_or}
 use Rattle.std.specs.List.{list_any, flat_map, IsDistinct}
 use Rattle.std.specs.Cmp.Lexicographic.{pointwise}
@@ -16,7 +16,6 @@ use Rattle.ssim_flights.specs.declared.fault.FlightKind.{FlightKind}
 use Rattle.ssim_flights.specs.declared.fault.FlightKind.TheVariants as kinds
 use Rattle.ssim_flights.specs.declared.flight.Flight.{Flight}
 use Rattle.ssim_flights.specs.declared.flown.Departure.{Departure}
-use Rattle.ssim_flights.specs.declared.itinerary.Name.{Name}
 use Rattle.ssim_flights.specs.declared.plan.Plan.{Plan}
 use Rattle.ssim_flights.specs.declared.schedule.Scheduled.{Scheduled}
 use Rattle.ssim_flights.specs.Adding.{IsAdded, IsFlown}
@@ -25,7 +24,7 @@ use Rattle.ssim_flights.specs.Few.{AreFew, AreJoined, joins_after, joins_up}
 use Rattle.ssim_flights.specs.Flown.{all_departures, dated_flights, days_fault, departures_of, departures_on, fault_after, fault_of, first_fault, flights_of, found, is_taken, leg_one_if, same_departure, IsRefusal}
 use Rattle.ssim_flights.specs.Itineraries.{itineraries, legs_of, name_of, names_after, same_name}
 use Rattle.ssim_flights.specs.Schedules.{differing, falling_back, rows, schedule, scheduled, flights_on, flight_on, dated_leg}
-use Rattle.ssim_flights.specs.Taken.{Departures, has_departure, Takes}
+use Rattle.ssim_flights.specs.Taken.{has_departure}
 use Rattle.ssim_flights.proofs.Departing.{distinct_more, own_distinct, same_tests, untaken}
 use Rattle.ssim_flights.proofs.Walks.{drop_step}
 

@@ -1,7 +1,6 @@
 -- How legs are gathered into itineraries, one leg more.
-use Rattle.std.proofs.Common.{◌≡◌, ℕ, suc, ◌+◌, ◌≤◌, Bool, true, false, cond, not, ◌&&◌, ◌||◌, List, [], ◌∷◌, ◌++◌, length, get_or, set, map, filter, take, refl, sym, ap, subst, ◌∙◌, nat_eq, arith, append-nil}
-use Rattle.std.specs.Option.{option_eq}
-use Rattle.std.specs.List.{list_any, IsDistinct, AllByRecursion, position_or_len, prefix_len}
+use Rattle.std.proofs.Common.{◌≡◌, ℕ, suc, ◌+◌, ◌≤◌, Bool, true, false, cond, not, ◌||◌, List, [], ◌∷◌, ◌++◌, length, get_or, set, map, take, refl, sym, ap, subst, ◌∙◌, arith, append-nil}
+use Rattle.std.specs.List.{list_any, IsDistinct, AllByRecursion, position_or_len}
 use Rattle.std.specs.Cmp.{IsEquivalence}
 use Rattle.std.specs.Cmp.Lexicographic.{options_equiv}
 use Rattle.std.proofs.lemmas.Bool.{true≢false, false≢true}

@@ -1,5 +1,5 @@
 -- The days of a period that pass a test: one day more, their order, and which they are.
-use Rattle.std.proofs.Common.{◌≡◌, ℕ, zero, suc, ◌+◌, ◌-◌, ◌<◌, ◌≤◌, ◌↔◌, Bool, true, false, cond, ◌&&◌, IsTrue, List, [], ◌∷◌, ◌++◌, length, get_or, filter, All, Contains, refl, sym, ap, subst, ◌∙◌, pos, ◌⊎◌, inl, inr, ⊎_elim, arith, add-zero, add-one, append-nil}
+use Rattle.std.proofs.Common.{◌≡◌, ℕ, zero, suc, ◌+◌, ◌-◌, ◌<◌, ◌≤◌, ◌↔◌, Bool, true, false, cond, List, [], ◌∷◌, ◌++◌, filter, All, Contains, sym, ap, subst, ◌∙◌, ⊎_elim, arith, add-zero, add-one, append-nil}
 use Rattle.std.specs.List.{range_with_len}
 use Rattle.std.specs.List.Sorted.{IsStrictlyIncreasing}
 use Rattle.std.proofs.lemmas.Bool.{cases_eq, and_parts, and_from, false≢true}

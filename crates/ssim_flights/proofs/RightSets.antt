@@ -1,13 +1,12 @@
 -- The carrier and the legs of a data set are right in what dates are reckoned from.
-use Rattle.std.proofs.Common.{rules, ◌≡◌, ℕ, ◌+◌, ◌*◌, ◌<◌, ◌≤◌, List, [], ◌∷◌, Option, Some, None, All, ◌⊎◌, ⊎_elim, refl, sym, subst, ◌∙◌, ℤ, pos, negsuc, ◌+ℤ◌, ◌-ℤ◌, ◌<ℤ◌, ◌≤ℤ◌, unwrap_or, arith}
+use Rattle.std.proofs.Common.{rules, ◌≡◌, ℕ, ◌+◌, ◌*◌, ◌<◌, ◌≤◌, List, [], ◌∷◌, Option, Some, None, All, ⊎_elim, refl, sym, subst, ℤ, pos, negsuc, ◌-ℤ◌, ◌≤ℤ◌, unwrap_or, arith}
 use Rattle.std.proofs.lemmas.List.Elements.{All-nil, All-cons}
 use Rattle.jiff_core.specs.Calendar.{day_count, days_from_civil, IsCivilDate}
 use Rattle.jiff_core.proofs.SignedLemmas.{signed_arith}
 use Rattle.jiff_core.proofs.CalendarLemmas.{days_from_civil-day_count, day_count-lt_year}
 use Rattle.jiff_core.proofs.MarchLemmas.{day_count-early, day_count-late}
 use Rattle.ssim_records.specs.Days.{IsDate, IsDayField}
-use Rattle.ssim_records.specs.SetText.{IsBody, IsCarrier, IsDataSet, IsLeg, IsOffset, IsShift, IsUntil}
-use Rattle.ssim_records.specs.declared.carrier.Carrier.{Carrier}
+use Rattle.ssim_records.specs.SetText.{IsBody, IsDataSet, IsLeg, IsOffset, IsShift, IsUntil}
 use Rattle.ssim_records.specs.declared.carrier.Leg.{Leg}
 use Rattle.ssim_records.specs.declared.set.DataSet.{DataSet}
 use Rattle.ssim_flights.specs.Right.{IsOfCentury, IsRightCarrier, IsRightLeg}

@@ -1,5 +1,5 @@
 -- Steps of a walk along a list or a range.
-use Rattle.std.proofs.Common.{◌≡◌, ℕ, Bool, ◌||◌, Option, zero, suc, ◌+◌, ◌<◌, ◌≤◌, List, [], ◌∷◌, ◌++◌, length, get_or, take, drop, refl, sym, ap, ◌∙◌, arith, add-one, add-zero, drop-cons}
+use Rattle.std.proofs.Common.{◌≡◌, ℕ, Bool, ◌||◌, Option, zero, suc, ◌+◌, ◌<◌, List, [], ◌∷◌, ◌++◌, length, get_or, drop, sym, ap, ◌∙◌, arith, add-one, add-zero, drop-cons}
 use Rattle.std.specs.List.{range_with_len, list_any, filter_map, cons_option}
 use Rattle.std.proofs.lemmas.List.Elements.{filter_map-append}
 

@@ -1,5 +1,5 @@
 -- What adding an itinerary to the flights so far does.
-use Rattle.std.specs.Prelude.{◌≡◌, ℕ, ◌≤◌, List, [], ◌++◌, All, None, length}
+use Rattle.std.specs.Prelude.{◌≡◌, ◌≤◌, List, ◌++◌, All, None, length}
 use Rattle.std.specs.List.{flat_map, IsDistinct}
 use Rattle.ssim_records.specs.declared.carrier.Leg.{Leg}
 use Rattle.ssim_flights.specs.declared.adding.Flown.{Flown}

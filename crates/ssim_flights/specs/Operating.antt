@@ -1,5 +1,5 @@
 -- SSIM chapter 7: the days on which a leg operates, by its period, days of operation and frequency rate.
-use Rattle.std.specs.Prelude.{◌≡◌, ℕ, ◌+◌, ◌-◌, ◌/◌, ◌%◌, ◌≤◌, ◌==◌, ◌&&◌, ◌||◌, Bool, true, false, not, IsTrue, List, pos, unwrap_or, slice_index_or, filter}
+use Rattle.std.specs.Prelude.{ℕ, ◌+◌, ◌-◌, ◌/◌, ◌%◌, ◌≤◌, ◌==◌, ◌&&◌, ◌||◌, Bool, false, not, IsTrue, List, pos, unwrap_or, slice_index_or, filter}
 use Rattle.std.specs.List.{range_with_len}
 use Rattle.jiff_core.specs.Calendar.{weekday_number}
 use Rattle.ssim_records.specs.declared.carrier.Leg.{Leg}

@@ -1,5 +1,5 @@
 -- What SSIM chapter 7 takes as right in the fields that dates are reckoned from.
-use Rattle.std.specs.Prelude.{ℕ, ◌≤◌, List, All, unwrap_or, pos, negsuc, ◌≤ℤ◌}
+use Rattle.std.specs.Prelude.{ℕ, ◌≤◌, unwrap_or, pos, negsuc, ◌≤ℤ◌}
 use Rattle.ssim_records.specs.declared.carrier.Carrier.{Carrier}
 use Rattle.ssim_records.specs.declared.carrier.Leg.{Leg}
 

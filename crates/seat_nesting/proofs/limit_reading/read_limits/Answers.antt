@@ -7,25 +7,25 @@ loop-rest-init c = record { at = rw c.new-rows.ensures (at_start c.args.bytes.no
 
 pub returns-in-Err-clause-only : goal.returns-in-Err-clause-only
 returns-in-Err-clause-only c = λ rows h.
-    stop_only c.args.bytes.now c.loop-rest.line c.loop-rest.rest.now c.cut_line.result.0.now c.cut_line.result.1.now c.loop-rest.rows rows c.in-Err.kind c.loop-rest.invariant.at (not_done c.is_empty.result c.loop-rest.rest.now c.is_empty.ensures c.loop-rest-test.true) c.cut_line.ensures c.in-Err.ensures.fault h
+    stop_only c.args.bytes.now c.loop-rest.line c.loop-rest.rest.now c.cut_line.result.0.now c.cut_line.result.1.now c.loop-rest.rows rows c.in-Err.kind c.loop-rest.invariant.at (not_done c.is_empty.result c.loop-rest.rest.now c.is_empty.ensures c.loop-rest-test.true) c.cut_line.ensures.value c.in-Err.ensures.fault h
 
 pub returns-in-Err-clause-fault : goal.returns-in-Err-clause-fault
 returns-in-Err-clause-fault c = λ other.
-    at_fault c.args.bytes.now c.loop-rest.line c.loop-rest.rest.now c.cut_line.result.0.now c.cut_line.result.1.now c.loop-rest.rows c.in-Err.kind c.loop-rest.invariant.at (not_done c.is_empty.result c.loop-rest.rest.now c.is_empty.ensures c.loop-rest-test.true) c.cut_line.ensures c.in-Err.ensures.fault other
+    at_fault c.args.bytes.now c.loop-rest.line c.loop-rest.rest.now c.cut_line.result.0.now c.cut_line.result.1.now c.loop-rest.rows c.in-Err.kind c.loop-rest.invariant.at (not_done c.is_empty.result c.loop-rest.rest.now c.is_empty.ensures c.loop-rest-test.true) c.cut_line.ensures.value c.in-Err.ensures.fault other
 
 pub returns-in-Err-clause-memory : goal.returns-in-Err-clause-memory
 returns-in-Err-clause-memory c = λ is.
-    at_memory c.args.bytes.now c.loop-rest.line c.loop-rest.rest.now c.cut_line.result.0.now c.cut_line.result.1.now c.loop-rest.rows c.in-Err.kind c.loop-rest.invariant.at (not_done c.is_empty.result c.loop-rest.rest.now c.is_empty.ensures c.loop-rest-test.true) c.cut_line.ensures c.in-Err.ensures.fault is
+    at_memory c.args.bytes.now c.loop-rest.line c.loop-rest.rest.now c.cut_line.result.0.now c.cut_line.result.1.now c.loop-rest.rows c.in-Err.kind c.loop-rest.invariant.at (not_done c.is_empty.result c.loop-rest.rest.now c.is_empty.ensures c.loop-rest-test.true) c.cut_line.ensures.value c.in-Err.ensures.fault is
 
 pub loop-rest-smaller : goal.loop-rest-smaller
-loop-rest-smaller c = cut_shorter c.loop-rest.rest.now c.cut_line.result.0.now c.cut_line.result.1.now c.cut_line.ensures (not_done c.is_empty.result c.loop-rest.rest.now c.is_empty.ensures c.loop-rest-test.true)
+loop-rest-smaller c = cut_shorter c.loop-rest.rest.now c.cut_line.result.0.now c.cut_line.result.1.now c.cut_line.ensures.value (not_done c.is_empty.result c.loop-rest.rest.now c.is_empty.ensures c.loop-rest-test.true)
 
 pub loop-rest-preserved : goal.loop-rest-preserved
 loop-rest-preserved c =
     let some = not_done c.is_empty.result c.loop-rest.rest.now c.is_empty.ensures c.loop-rest-test.true in
     record {
-      at = at_next c.args.bytes.now c.loop-rest.line c.loop-rest.rest.now c.cut_line.result.0.now c.cut_line.result.1.now c.loop-rest.rows c.take_line.new.rows c.loop-rest.invariant.at some c.cut_line.ensures c.in_default.ensures.taken;
-      counted = omega (arith, c.loop-rest.invariant.counted, cut_shorter c.loop-rest.rest.now c.cut_line.result.0.now c.cut_line.result.1.now c.cut_line.ensures some);
+      at = at_next c.args.bytes.now c.loop-rest.line c.loop-rest.rest.now c.cut_line.result.0.now c.cut_line.result.1.now c.loop-rest.rows c.take_line.new.rows c.loop-rest.invariant.at some c.cut_line.ensures.value c.in_default.ensures.taken;
+      counted = omega (arith, c.loop-rest.invariant.counted, cut_shorter c.loop-rest.rest.now c.cut_line.result.0.now c.cut_line.result.1.now c.cut_line.ensures.value some);
     }
 
 pub returns-clause-found : goal.returns-clause-found

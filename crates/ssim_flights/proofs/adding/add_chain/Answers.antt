@@ -1,5 +1,4 @@
 use Rattle.std.proofs.Common.{◌≡◌, length, [], ◌∷◌, sym, ◌∙◌, rules}
-use Rattle.ssim_flights.specs.Schedules.{rows}
 use Rattle.ssim_flights.proofs.Chaining.{reach_first, reach_from}
 use Rattle.ssim_flights.proofs.Addings.{added_none, empty, added_rows}
 use Rattle.ssim_flights.proofs.adding.add_chain.Goals as goal

@@ -1,4 +1,4 @@
-use Rattle.std.proofs.Common.{◌≡◌, Bool, ◌∷◌, Option, ℕ, Some, None, cond, ap, sym, ◌∙◌, rules}
+use Rattle.std.proofs.Common.{◌≡◌, Bool, ◌∷◌, Some, None, cond, ap, sym, ◌∙◌, rules}
 use Rattle.ssim_flights.proofs.Chaining.{reach_first, reach_from, twice_is}
 use Rattle.ssim_flights.specs.Taken.{has_departure}
 use Rattle.ssim_flights.proofs.adding.twice_on_date.Goals as goal

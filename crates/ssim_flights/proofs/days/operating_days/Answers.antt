@@ -1,7 +1,7 @@
-use Rattle.std.proofs.Common.{◌≡◌, ℕ, ◌+◌, ◌-◌, ◌↔◌, Bool, true, false, List, [], ◌∷◌, ◌++◌, Contains, All, filter, refl, sym, ap, subst, ◌∙◌, ◌≤◌, arith}
+use Rattle.std.proofs.Common.{◌≡◌, ℕ, ◌+◌, ◌-◌, ◌↔◌, List, Contains, All, filter, refl, sym, ap, subst, ◌∙◌, ◌≤◌, arith}
 use Rattle.std.specs.List.{range_with_len}
 use Rattle.std.specs.List.Sorted.{IsStrictlyIncreasing}
-use Rattle.ssim_flights.specs.Operating.{Operates, operates, operating_days, last_day}
+use Rattle.ssim_flights.specs.Operating.{Operates, operates, last_day}
 use Rattle.ssim_flights.proofs.OperatingDays.{days_more_yes, days_more_no, days_within, days_exact, days_increase}
 use Rattle.ssim_flights.proofs.days.operating_days.Goals as goal
 use Rattle.ssim_flights.proofs.days.operating_days.Goals.{then-operates+in_ok-push, else-operates}

@@ -1,4 +1,4 @@
-use Rattle.std.proofs.Common.{sym, pos, arith}
+use Rattle.std.proofs.Common.{pos, arith}
 use Rattle.jiff_core.proofs.CalendarLemmas.{weekday_number-parts}
 use Rattle.jiff_core.proofs.SignedLemmas.{signed_arith}
 use Rattle.ssim_flights.proofs.days.weekday.Goals as goal

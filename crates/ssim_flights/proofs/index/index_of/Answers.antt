@@ -1,4 +1,4 @@
-use Rattle.std.proofs.Common.{◌≡◌, ◌-◌, arith, ap, ◌∙◌}
+use Rattle.std.proofs.Common.{◌-◌, arith}
 use Rattle.ssim_flights.specs.Index.{Puts}
 use Rattle.ssim_flights.specs.Places.{places_from}
 use Rattle.ssim_flights.proofs.Indexing.{flights_more}

@@ -1,4 +1,4 @@
-use Rattle.std.proofs.Common.{◌≡◌, length, drop}
+use Rattle.std.proofs.Common.{◌≡◌, drop}
 use Rattle.ssim_flights.specs.Schedules.{differing_from}
 use Rattle.ssim_flights.proofs.rows.differing.Given as goal
 

@@ -1,5 +1,4 @@
-use Rattle.std.proofs.Common.{◌≡◌, ℕ, ◌+◌, true, false, List, [], ◌∷◌, ◌++◌, filter, refl, sym, ap, ◌∙◌, arith}
-use Rattle.std.specs.List.{range_with_len}
+use Rattle.std.proofs.Common.{◌≡◌, ℕ, ◌+◌, [], ◌∷◌, ◌++◌, refl, sym, ap, ◌∙◌, arith}
 use Rattle.ssim_flights.specs.Schedules.{is_in_horizon, day_at}
 use Rattle.ssim_flights.proofs.OperatingDays.{days_more_yes, days_more_no}
 use Rattle.ssim_flights.proofs.rows.rows.Goals as goal

@@ -1,4 +1,4 @@
-use Rattle.std.proofs.Common.{◌≡◌, List, ℕ, ◌≤◌, length, map, take, ap, sym, ◌∙◌, arith}
+use Rattle.std.proofs.Common.{◌≡◌, List, ℕ, ◌≤◌, length, map, take, ap, ◌∙◌, arith}
 use Rattle.std.proofs.lemmas.List.{take_all}
 use Rattle.ssim_flights.specs.declared.schedule.Operation.{Operation}
 use Rattle.ssim_flights.specs.Operating.{operating_days}

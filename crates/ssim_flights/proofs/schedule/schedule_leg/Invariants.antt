@@ -1,5 +1,4 @@
 use Rattle.std.proofs.Common.{◌≡◌, take, map}
-use Rattle.ssim_flights.specs.Operating.{operating_days}
 use Rattle.ssim_flights.specs.Schedules.{operation}
 use Rattle.ssim_flights.proofs.schedule.schedule_leg.Given as goal
 

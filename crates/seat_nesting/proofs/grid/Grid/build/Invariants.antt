@@ -1,4 +1,4 @@
-use Rattle.std.proofs.Common.{◌≡◌, ℕ, map, take}
+use Rattle.std.proofs.Common.{◌≡◌, map, take}
 use Rattle.seat_nesting.specs.Nesting.{HasLadders}
 use Rattle.seat_nesting.specs.Authorised.{authorised_legs}
 use Rattle.seat_nesting.proofs.grid.Grid.build.Given as goal
