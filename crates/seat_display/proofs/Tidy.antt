@@ -4,9 +4,9 @@ use Rattle.std.specs.Prelude.{if◌then◌else◌, nat_lt}
 use Rattle.std.specs.List.{list_any}
 use Rattle.std.proofs.lemmas.Bool.Decides.{nat_tests}
 use Rattle.seat_nesting.specs.declared.ladder.Step.{Step}
-use Rattle.seat_nesting.specs.Nesting.{Legs, Steps, ByClass, Table as HeldSeats, ladder_at, has_class, room, room_on, covers, seats_at}
-use Rattle.seat_nesting.specs.Counting.{LegSeats, Counted, count_at, seats_on, leg_in, leg_at, limits_of, seats_of, holds}
-use Rattle.seat_nesting.proofs.CountChanges.{limits_at, fits_each}
+use Rattle.seat_nesting.specs.Nesting.{Legs, Steps, ByClass, Table as HeldSeats, ladder_at, legs_of, steps_at, has_class, room, room_on, covers, seats_at}
+use Rattle.seat_nesting.specs.Counting.{LegSeats, Counted, count_at, seats_on, leg_in, legs_in, leg_at, limits_of, seats_of, holds}
+use Rattle.seat_nesting.proofs.CountChanges.{fits_each}
 use Rattle.seat_journal.specs.declared.entry.Advice.{Advice}
 use Rattle.seat_journal.specs.declared.entry.Entry.{Entry}
 use Rattle.ssim_records.specs.declared.place.Place.{Place}
@@ -15,6 +15,24 @@ use Rattle.seat_core.specs.Showing.{given_back, taken_up, confirmed_at_once, sho
 use Rattle.seat_display.specs.declared.table.Table.{Table}
 use Rattle.seat_display.specs.declared.table.Op.TheVariants.{Line}
 use Rattle.seat_display.specs.Shown.{leg_seats, flight_seats, all_seats, tidied, apply, one_more}
+
+-- the limits of one leg
+abbrev steps_in : LegSeats → Steps
+steps_in l = l.steps
+
+limits_at : (counts : Counted) (flight leg : ℕ) → ladder_at (limits_of counts) flight leg ≡ (leg_at counts flight leg).steps
+limits_at counts flight leg =
+    ap (λ (legs : List Steps). steps_at legs leg) (legs_at counts flight) ∙ steps_of_leg (legs_in counts flight) leg
+  where
+    steps_of_leg : (legs : List LegSeats) (i : ℕ) → steps_at (map steps_in legs) i ≡ (leg_in legs i).steps
+    steps_of_leg [] i = refl
+    steps_of_leg (l ∷ legs) zero = refl
+    steps_of_leg (l ∷ legs) (suc i) = steps_of_leg legs i
+
+    legs_at : (flights : Counted) (i : ℕ) → legs_of (limits_of flights) i ≡ map steps_in (legs_in flights i)
+    legs_at [] i = refl
+    legs_at (legs ∷ flights) zero = refl
+    legs_at (legs ∷ flights) (suc i) = legs_at flights i
 
 -- no seats stand at a class that its leg lacks
 pub record IsOnLadders (grid : Legs) (seats : HeldSeats) : Type 0 where
