@@ -1,4 +1,0 @@
-pub mod Booking
-pub mod Own
-pub mod Staking
-pub mod Gathered
