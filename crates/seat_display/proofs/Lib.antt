@@ -1,0 +1,4 @@
+pub mod Fronts
+pub mod Growing
+pub mod Steps
+pub mod Tidy

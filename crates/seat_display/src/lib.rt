@@ -1,0 +1,14 @@
+//! The published table: viewers look at it with no lock, and one publisher changes it.
+//! It knows what entries leave, and nothing of sessions, of locks or of how entries come about.
+#![tactic(auto)]
+
+mod book;
+mod opening;
+mod publisher;
+mod rule;
+mod table;
+mod viewer;
+
+pub use opening::open;
+pub use publisher::{Publisher, Told};
+pub use viewer::Viewer;

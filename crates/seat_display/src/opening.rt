@@ -1,0 +1,132 @@
+//! Opening a display.
+ghost use Rattle.std.specs.Prelude.{◌≡◌, ◌<◌, ◌≤◌, ◌++◌, ◌∷◌, [], true, drop, All, IfOk, OnOk, vec_len};
+ghost use Rattle.left_right.specs.Sides.{view};
+ghost use Rattle.seat_nesting.specs.Counting.{limits_of};
+ghost use Rattle.seat_display.specs.Faces.{opened};
+ghost use Rattle.seat_display.specs.Shown.{IsEmptyTable};
+ghost use Rattle.seat_display.specs.declared.table.Op.TheVariants.{Mark};
+
+use crate::book::{Trace, open_book};
+use crate::publisher::{Publisher, turn};
+use crate::rule::{Notes, TableWriter};
+use crate::table::{Op, Table};
+use crate::viewer::Viewer;
+use left_right::writer::Writer;
+use seat_nesting::{Counts, Grid};
+use ssim_records::Memory;
+use std::alloc::Global;
+use std::sync::Wait;
+
+/// A display with nothing visible, and so many viewers, 1 to 9.
+pub fn open<R: Wait>(
+    rt: &R,
+    alloc: Global,
+    grid: &Grid,
+    places: u8,
+) -> Result<(Publisher, Vec<Viewer>), Memory>
+    requires { (0 < places) × (places < 10) }
+    ensures publisher { IfOk result (λ r. (r.0.grid ≡ grid.now) × (r.0.visible ≡ []) × (r.0.pending ≡ [])) }
+    ensures viewers { IfOk result (λ r. (vec_len r.1 ≡ places) × All (λ v. v ≡ opened r.0.book grid.now) r.1.items) }
+{
+    let (head, seen) = open_book();
+    let first = empty(alloc, grid, &seen)?;
+    let second = empty(alloc, grid, &seen)?;
+    let mut writer: TableWriter = Writer::new(alloc, first, second, usize::from(places))?;
+    match fill(rt, alloc, &mut writer, &seen, places) {
+        Ok(viewers) => Ok((Publisher::over(writer, head, seen), viewers)),
+        Err(Memory) => {
+            writer.take(rt);
+            Err(Memory)
+        }
+    }
+}
+
+// A table with no line.
+#[tactic(auto, using(crate::proofs::Steps::empty_leaves))]
+fn empty(alloc: Global, grid: &Grid, seen: &Trace) -> Result<Table, Memory>
+    requires { seen.now.log ≡ [] }
+    ensures empty { IfOk result (λ t. IsEmptyTable t grid.now seen.now.book) }
+    ensures seen { IfOk result (λ t. t.seen ≡ seen.now) }
+{
+    let counts = Counts::new(alloc, grid)?;
+    Ok(Table {
+        counts,
+        lines: 0,
+        seen: seen.again(),
+    })
+}
+
+// Makes room in the log for what one entry needs, so that its mark wants no memory later, and seats the viewers.
+fn fill<R: Wait>(
+    rt: &R,
+    alloc: Global,
+    writer: &mut TableWriter,
+    seen: &Trace,
+    places: u8,
+) -> Result<Vec<Viewer>, Memory>
+    requires empty { seen.now.log ≡ [] }
+    requires shown { IsEmptyTable writer.old.desk.shown.value (limits_of writer.old.desk.shown.value.counts) seen.now.book }
+    requires plain { drop writer.old.behind writer.old.log.items ≡ [] }
+    ensures shown { OnOk result (IsEmptyTable writer.new.desk.shown.value (limits_of writer.old.desk.shown.value.counts) seen.now.book) }
+    ensures plain { OnOk result (drop writer.new.behind writer.new.log.items ≡ []) }
+    ensures viewers { IfOk result (λ v. (vec_len v ≡ places) × All (λ w. w ≡ opened seen.now.book (limits_of writer.old.desk.shown.value.counts)) v.items) }
+{
+    warm(rt, writer, seen)?;
+    warm(rt, writer, seen)?;
+    hand_out(alloc, writer, seen, places)
+}
+
+// Marks twice what is shown already.
+fn warm<R: Wait>(rt: &R, writer: &mut TableWriter, seen: &Trace) -> Result<(), Memory>
+    requires empty { seen.now.log ≡ [] }
+    requires shown { IsEmptyTable writer.old.desk.shown.value (limits_of writer.old.desk.shown.value.counts) seen.now.book }
+    requires plain { drop writer.old.behind writer.old.log.items ≡ [] }
+    ensures shown { OnOk result (IsEmptyTable writer.new.desk.shown.value (limits_of writer.old.desk.shown.value.counts) seen.now.book) }
+    ensures plain { OnOk result (drop writer.new.behind writer.new.log.items ≡ []) }
+    ensures knows { OnOk result (((view writer.new.desk.place).knows ≡ true) × ((view writer.new.desk.place).grid ≡ limits_of writer.old.desk.shown.value.counts) × ((view writer.new.desk.place).seen.book ≡ seen.now.book)) }
+{
+    mark(writer, seen)?;
+    mark(writer, seen)?;
+    turn(rt, writer);
+    Ok(())
+}
+
+fn mark(writer: &mut TableWriter, seen: &Trace) -> Result<(), Memory>
+    ensures desk { writer.new.desk ≡ writer.old.desk }
+    ensures pending { OnOk result (drop writer.new.behind writer.new.log.items ≡ drop writer.old.behind writer.old.log.items ++ Mark seen.now ∷ []) }
+{
+    match writer.append(Op::Mark(seen.again())) {
+        Ok(()) => Ok(()),
+        Err(_) => Err(Memory),
+    }
+}
+
+fn hand_out(
+    alloc: Global,
+    writer: &mut TableWriter,
+    seen: &Trace,
+    places: u8,
+) -> Result<Vec<Viewer>, Memory>
+    requires knows { ((view writer.old.desk.place).knows ≡ true) × ((view writer.old.desk.place).seen.book ≡ seen.now.book) }
+    requires empty { seen.now.log ≡ [] }
+    ensures kept { (writer.new.desk.shown ≡ writer.old.desk.shown) × (drop writer.new.behind writer.new.log.items ≡ drop writer.old.behind writer.old.log.items) }
+    ensures viewers { IfOk result (λ v. (vec_len v ≡ places) × All (λ w. w ≡ opened seen.now.book (view writer.old.desk.place).grid) v.items) }
+{
+    let mut viewers = Vec::new(alloc);
+    for _place in 0..places {
+        viewers.push(seat(writer, seen)?)?;
+    }
+    Ok(viewers)
+}
+
+// A viewer at a place of its own.
+fn seat(writer: &mut TableWriter, seen: &Trace) -> Result<Viewer, Memory>
+    requires knows { ((view writer.old.desk.place).knows ≡ true) × ((view writer.old.desk.place).seen.book ≡ seen.now.book) }
+    requires empty { seen.now.log ≡ [] }
+    ensures kept { (writer.new.desk.shown ≡ writer.old.desk.shown) × (writer.new.log ≡ writer.old.log) × (writer.new.behind ≡ writer.old.behind) × (view writer.new.desk.place ≡ view writer.old.desk.place) }
+    ensures viewer { IfOk result (λ v. v ≡ opened seen.now.book (view writer.old.desk.place).grid) }
+{
+    let mut reader = writer.factory().reader()?;
+    reader.learn::<Notes>(writer.tell::<Notes>());
+    Ok(Viewer::over(reader, seen))
+}

@@ -1,0 +1,235 @@
+//! The one publisher.
+ghost use Rattle.std.specs.Prelude.{◌≡◌, ◌+◌, ◌<◌, ◌≤◌, ◌^◌, ◌++◌, [], ◌∷◌, length, drop, fold, IfOk, MatchResult, true};
+ghost use Rattle.left_right.specs.Sides.{view};
+ghost use Rattle.seat_nesting.specs.Counting.{limits_of};
+ghost use Rattle.seat_core.specs.Prefixes.{Begins};
+ghost use Rattle.seat_core.specs.Journal.{IsLegal};
+ghost use Rattle.seat_display.specs.Shown.{IsEmptyTable, Leaves, apply, entries_of, tidied};
+ghost use Rattle.seat_display.specs.History.{head_of};
+ghost use Rattle.seat_display.specs.declared.table.Op.TheVariants.{Mark};
+
+use crate::book::{Head, Pending, Trace, grow, is_whole};
+use crate::rule::{Looks, TableWriter};
+use crate::table::{Op, Table};
+use crate::viewer::Viewer;
+use core::mem::replace_with;
+use seat_journal::Entry;
+use ssim_records::Memory;
+use std::marker::{Brand, Model};
+use std::sync::Wait;
+
+/// The one that changes the table. It is never dropped: `end` uses it up.
+pub struct Publisher {
+    writer: TableWriter,
+    head: Head,
+    seen: Trace,
+    lines: u32,
+    more: u32,
+}
+
+impl Model for Publisher {
+    ghost use Rattle.std.specs.Prelude.{◌≡◌, drop};
+    ghost use Rattle.seat_nesting.specs.Counting.{limits_of};
+    ghost use Rattle.seat_display.specs.Faces.{Published};
+    ghost use Rattle.seat_display.specs.History.{head_of};
+    ghost use Rattle.seat_display.specs.Shown.{Ready, entries_of};
+
+    ghost Value = { Published };
+
+    ghost view = { λ s. record { book = s.seen.book; grid = limits_of s.writer.desk.shown.value.counts; visible = s.seen.log; pending = entries_of (drop s.writer.behind s.writer.log.items) } };
+
+    ghost invariant = { λ s. (s.head ≡ head_of s.seen.book) × (s.writer.desk.shown.value.seen.book ≡ s.seen.book) × Ready s.writer.desk.shown.value s.seen.log (drop s.writer.behind s.writer.log.items) s.lines s.more };
+}
+
+/// What was visible at some moment. It holds no table.
+#[derive(Drop)]
+pub struct Told {
+    seen: Trace,
+    lines: u32,
+}
+
+impl Model for Told {
+    ghost use Rattle.std.specs.Prelude.{◌≡◌, length};
+    ghost use Rattle.seat_display.specs.Faces.{Note};
+
+    ghost Value = { Note };
+
+    ghost view = { λ s. record { book = s.seen.book; lines = s.seen.log } };
+
+    ghost invariant = { λ s. s.lines ≡ length s.seen.log };
+}
+
+impl Told {
+    pub(crate) fn parts(self) -> (Trace, u32)
+        ensures { (result.0.book ≡ self.book) × (result.0.log ≡ self.lines) × (result.1 ≡ length self.lines) }
+    {
+        let Told { seen, lines } = self;
+        (seen, lines)
+    }
+}
+
+impl Publisher {
+    /// Adds an entry to what is pending. It is not visible yet.
+    pub fn append(&mut self, entry: Entry) -> Result<(), (Entry, Memory)>
+        requires legal { IsLegal self.old.grid ((self.old.visible ++ self.old.pending) ++ entry ∷ []) }
+        requires short { length self.old.visible + length self.old.pending < 1000000 }
+        ensures pending { MatchResult result (λ _. self.new.pending ≡ self.old.pending ++ entry ∷ []) (λ x. (x.0 ≡ entry) × (self.new.pending ≡ self.old.pending)) }
+        ensures same { (self.new.book ≡ self.old.book) × (self.new.grid ≡ self.old.grid) × (self.new.visible ≡ self.old.visible) }
+    {
+        match self.writer.append(Op::Line(entry)) {
+            Ok(()) => {
+                self.more += 1;
+                Ok(())
+            }
+            Err(Op::Line(entry)) => Err((entry, Memory)),
+            Err(Op::Mark(_)) => unreachable!(),
+        }
+    }
+
+    /// Makes all that was appended visible, in one step.
+    pub fn publish<R: Wait>(&mut self, rt: &R)
+        ensures visible { (self.new.visible ≡ self.old.visible ++ self.old.pending) × (self.new.pending ≡ []) }
+        ensures same { (self.new.book ≡ self.old.book) × (self.new.grid ≡ self.old.grid) }
+    {
+        let Publisher {
+            writer,
+            head,
+            seen,
+            lines,
+            more,
+        } = self;
+        let next = grown::<Brand, R>(rt, writer, head, seen, *lines, *more);
+        marked(rt, writer, &next);
+        turn(rt, writer);
+        *seen = next;
+        *lines += *more;
+        *more = 0;
+    }
+
+    /// Tells what is visible.
+    pub fn tell(&self) -> Told
+        ensures told { (result.book ≡ self.now.book) × (result.lines ≡ self.now.visible) }
+        ensures legal { IsLegal self.now.grid self.now.visible }
+    {
+        Told {
+            seen: self.seen.again(),
+            lines: self.lines,
+        }
+    }
+
+    /// No viewer has seen more than what is visible. It changes nothing.
+    #[tactic(auto, using(crate::proofs::Fronts::begins_of))]
+    pub fn covers<R: Wait>(&self, rt: &R, viewer: &Viewer)
+        requires { viewer.now.book ≡ self.now.book }
+        ensures { Begins viewer.now.front self.now.visible }
+    {
+        let seen = viewer.trace();
+        for _ in rt.forever() {
+            if is_whole(&self.head, &self.seen, self.lines, &seen) {
+                return;
+            }
+        }
+        unreachable!()
+    }
+
+    /// Uses the publisher up. What was visible stays with those who saw it.
+    pub fn end<R: Wait>(self, rt: &R) {
+        let Publisher {
+            writer,
+            head: _,
+            seen: _,
+            lines: _,
+            more: _,
+        } = self;
+        writer.take(rt);
+    }
+
+    /// A publisher with nothing visible.
+    pub(crate) fn over(writer: TableWriter, head: Head, seen: Trace) -> Publisher
+        requires head { head ≡ head_of seen.book }
+        requires shown { IsEmptyTable writer.desk.shown.value (limits_of writer.desk.shown.value.counts) seen.book }
+        requires empty { (drop writer.behind writer.log.items ≡ []) × (seen.log ≡ []) }
+        ensures { (result.book ≡ seen.book) × (result.grid ≡ limits_of writer.desk.shown.value.counts) × (result.visible ≡ []) × (result.pending ≡ []) }
+    {
+        Publisher {
+            writer,
+            head,
+            seen,
+            lines: 0,
+            more: 0,
+        }
+    }
+}
+
+// Tries until the history has the pending entries.
+fn grown<J: Pending, R: Wait>(
+    rt: &R,
+    writer: &TableWriter,
+    head: &Head,
+    seen: &Trace,
+    lines: u32,
+    more: u32,
+) -> Trace
+    requires head { head.now ≡ head_of seen.now.book }
+    requires lines { lines ≡ length seen.now.log }
+    requires more { more ≡ length J.pending }
+    requires pending { J.pending ≡ entries_of (drop writer.now.behind writer.now.log.items) }
+    ensures { (result.book ≡ seen.now.book) × (result.log ≡ seen.now.log ++ entries_of (drop writer.now.behind writer.now.log.items)) }
+{
+    for _ in rt.forever() {
+        if let Some(next) = grow::<J>(head, seen, lines, more) {
+            return next;
+        }
+    }
+    unreachable!()
+}
+
+// Tries until the mark of the history is pending too.
+fn marked<R: Wait>(rt: &R, writer: &mut TableWriter, next: &Trace)
+    ensures desk { writer.new.desk ≡ writer.old.desk }
+    ensures pending { drop writer.new.behind writer.new.log.items ≡ drop writer.old.behind writer.old.log.items ++ Mark next.now ∷ [] }
+{
+    for _ in rt.forever() {
+        if writer.append(Op::Mark(next.again())).is_ok() {
+            return;
+        }
+    }
+    unreachable!()
+}
+
+// Shows all that is pending.
+pub(crate) fn turn<R: Wait>(rt: &R, writer: &mut TableWriter)
+    requires leaves { Leaves writer.old.desk.shown.value → Leaves (fold apply (tidied writer.old.desk.shown.value) (drop writer.old.behind writer.old.log.items)) }
+    requires grid { limits_of (fold apply (tidied writer.old.desk.shown.value) (drop writer.old.behind writer.old.log.items)).counts ≡ limits_of writer.old.desk.shown.value.counts }
+    requires book { (fold apply (tidied writer.old.desk.shown.value) (drop writer.old.behind writer.old.log.items)).seen.book ≡ writer.old.desk.shown.value.seen.book }
+    ensures values { (tidied writer.new.desk.shown.value ≡ fold apply (tidied writer.old.desk.shown.value) (drop writer.old.behind writer.old.log.items)) × (drop writer.new.behind writer.new.log.items ≡ []) }
+    ensures view { ((view writer.new.desk.place).knows ≡ true) × ((view writer.new.desk.place).grid ≡ limits_of writer.new.desk.shown.value.counts) × ((view writer.new.desk.place).seen.book ≡ writer.new.desk.shown.value.seen.book) }
+    ensures leaves { Leaves writer.new.desk.shown.value }
+{
+    replace_with(
+        writer,
+        rt,
+        |writer: TableWriter, rt: &R| -> (TableWriter, ())
+            requires leaves { Leaves writer.desk.shown.value → Leaves (fold apply (tidied writer.desk.shown.value) (drop writer.behind writer.log.items)) }
+            requires grid { limits_of (fold apply (tidied writer.desk.shown.value) (drop writer.behind writer.log.items)).counts ≡ limits_of writer.desk.shown.value.counts }
+            requires book { (fold apply (tidied writer.desk.shown.value) (drop writer.behind writer.log.items)).seen.book ≡ writer.desk.shown.value.seen.book }
+            ensures values { (tidied result.0.desk.shown.value ≡ fold apply (tidied writer.desk.shown.value) (drop writer.behind writer.log.items)) × (drop result.0.behind result.0.log.items ≡ []) }
+            ensures view { ((view result.0.desk.place).knows ≡ true) × ((view result.0.desk.place).grid ≡ limits_of result.0.desk.shown.value.counts) × ((view result.0.desk.place).seen.book ≡ result.0.desk.shown.value.seen.book) }
+            ensures leaves { Leaves result.0.desk.shown.value }
+        { (turned(rt, writer), ()) },
+    )
+}
+
+fn turned<R: Wait>(rt: &R, writer: TableWriter) -> TableWriter
+    requires leaves { Leaves writer.desk.shown.value → Leaves (fold apply (tidied writer.desk.shown.value) (drop writer.behind writer.log.items)) }
+    requires grid { limits_of (fold apply (tidied writer.desk.shown.value) (drop writer.behind writer.log.items)).counts ≡ limits_of writer.desk.shown.value.counts }
+    requires book { (fold apply (tidied writer.desk.shown.value) (drop writer.behind writer.log.items)).seen.book ≡ writer.desk.shown.value.seen.book }
+    ensures values { (tidied result.desk.shown.value ≡ fold apply (tidied writer.desk.shown.value) (drop writer.behind writer.log.items)) × (drop result.behind result.log.items ≡ []) }
+    ensures view { ((view result.desk.place).knows ≡ true) × ((view result.desk.place).grid ≡ limits_of result.desk.shown.value.counts) × ((view result.desk.place).seen.book ≡ result.desk.shown.value.seen.book) }
+    ensures leaves { Leaves result.desk.shown.value }
+{
+    match writer.publish_as::<Looks, R>(rt) {
+        (writer, Ok(())) => writer,
+        (_writer, Err(_)) => unreachable!(),
+    }
+}

@@ -1,0 +1,26 @@
+// What is shown, and what each side knows of it.
+use crate::book::Trace;
+use seat_journal::Entry;
+use seat_nesting::{Counts, Grid};
+
+/// The counters that are shown, their number of lines, and the history that they stand for, which has no bytes.
+#[derive(Drop)]
+pub struct Table {
+    pub counts: Counts,
+    pub lines: u32,
+    pub seen: Trace,
+}
+
+/// An entry, or the history so far.
+#[derive(Drop)]
+pub enum Op {
+    Line(Entry),
+    Mark(Trace),
+}
+
+/// What a seat at the table knows. No value of it is made.
+pub struct View {
+    pub knows: bool,
+    pub grid: Grid,
+    pub seen: Trace,
+}

@@ -1,0 +1,4 @@
+pub mod Booking
+pub mod Own
+pub mod Staking
+pub mod Gathered

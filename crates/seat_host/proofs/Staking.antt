@@ -1,0 +1,31 @@
+-- The shares that are left, and the sessions that have one.
+use Rattle.std.proofs.Common.{◌≡◌, ℕ, suc, ◌+◌, ◌-◌, ◌≤◌, List, [], ◌∷◌, ◌++◌, Option, Some, None, length, length-append, ap, sym, ◌∙◌, arith}
+use Rattle.std.specs.Prelude.{option_to_list, IsSome, ◌<◌}
+use Rattle.seat_host.specs.Ledgers.{Staked, counted, stakes_left}
+use Rattle.seat_host.specs.Sessions.{Seat, fresh, fresh_sessions}
+use Rattle.seat_core.proofs.Prefixes.{push_same}
+
+-- the last of the shares that are left is that of the next number
+pub left_next : (n : ℕ) → 1 ≤ n → n ≤ 8 → stakes_left (9 - n) ≡ stakes_left (9 - (n + 1)) ++ counted n 0 ∷ []
+left_next n low high =
+    let one : 9 - n ≡ suc (9 - (n + 1)) = omega arith in
+    let here : 8 - (9 - (n + 1)) ≡ n = omega arith in
+    ap stakes_left one ∙ ap (λ (k : ℕ). stakes_left (9 - (n + 1)) ++ counted k 0 ∷ []) here
+
+pub take_last : (n : ℕ) (was rest : List Staked) (s : Staked) → 1 ≤ n → n ≤ 8 → was ≡ stakes_left (9 - n) → was ≡ rest ++ s ∷ [] → (rest ≡ stakes_left (9 - (n + 1))) × (s ≡ counted n 0)
+take_last n was rest s low high is split = push_same rest (stakes_left (9 - (n + 1))) s (counted n 0) (sym split ∙ is ∙ left_next n low high)
+
+some_left : (n : ℕ) → 1 ≤ n → n ≤ 8 → 0 < length (stakes_left (9 - n))
+some_left n low high = omega (arith, ap length (left_next n low high), length-append (stakes_left (9 - (n + 1))) (counted n 0 ∷ []))
+
+pub popped : (n : ℕ) (was rest : List Staked) (r : Option Staked) → 1 ≤ n → n ≤ 8 → was ≡ stakes_left (9 - n) → was ≡ rest ++ option_to_list r → (0 < length was → IsSome r) → (rest ≡ stakes_left (9 - (n + 1))) × (r ≡ Some (counted n 0))
+popped n was rest None low high is split some = absurd (cc (some (omega (arith, ap length is, some_left n low high))))
+popped n was rest (Some s) low high is split some =
+    let p = take_last n was rest s low high is split in
+    (p.0, ap Some p.1)
+
+-- one session more
+pub fresh_more : (xs : List Seat) (n m : ℕ) → xs ≡ fresh_sessions n → m ≡ n + 1 → xs ++ fresh m ∷ [] ≡ fresh_sessions m
+fresh_more xs n m is e =
+    let up : m ≡ suc n = omega (arith, e) in
+    ap (λ (l : List Seat). l ++ fresh m ∷ []) is ∙ ap (λ (k : ℕ). fresh_sessions n ++ fresh k ∷ []) up ∙ sym (ap fresh_sessions up)

@@ -1,0 +1,6 @@
+pub mod Histories
+pub mod Ledgers
+pub mod Named
+pub mod Sessions
+pub mod Settling
+pub mod Shares

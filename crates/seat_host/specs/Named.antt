@@ -1,0 +1,11 @@
+-- What contracts see of the parts of a host.
+use Rattle.std.specs.Prelude.{ℕ, List}
+use Rattle.logbook.specs.Pages.{Book}
+use Rattle.seat_nesting.specs.Nesting.{Legs}
+
+pub record Named : Type 0 where
+  pub grid : Legs
+  pub cap : ℕ
+  pub book : Book
+  pub sessions : ℕ
+  pub names : List ℕ

@@ -1,0 +1,59 @@
+-- What a session and the desk know.
+use Rattle.std.specs.Prelude.{◌≡◌, ℕ, zero, suc, ◌+◌, ◌<◌, ◌≤◌, List, [], ◌∷◌, ◌++◌, length, slice_index}
+use Rattle.seat_nesting.specs.Nesting.{Legs}
+use Rattle.seat_journal.specs.declared.entry.Command.{Command}
+use Rattle.seat_journal.specs.declared.entry.Entry.{Entry}
+use Rattle.seat_core.specs.Prefixes.{Begins}
+use Rattle.seat_core.specs.Journal.{IsLegal}
+use Rattle.seat_host.specs.Histories.{of_session}
+
+-- what contracts see of a session: its number, the lines that it was given, and what it has seen
+pub record Seat : Type 0 where
+  pub id : ℕ
+  pub receipts : List Entry
+  pub front : List Entry
+
+-- a session that has done nothing
+abbrev pub fresh : ℕ → Seat
+fresh number = record { id = number; receipts = []; front = [] }
+
+-- sessions 1 to n that have done nothing
+abbrev pub fresh_sessions : ℕ → List Seat
+fresh_sessions zero = []
+fresh_sessions (suc n) = fresh_sessions n ++ fresh (suc n) ∷ []
+
+-- what holds of a session at any time, among n. Its receipts begin its own entries in its front
+pub record Stands (grid : Legs) (n : ℕ) (s : Seat) : Type 0 where
+  pub number : (0 < s.id) × (s.id ≤ n) × (n < 9)
+  pub legal : IsLegal grid s.front
+  pub own : Begins s.receipts (of_session s.id s.front)
+
+-- the journal beside the books of n sessions: each book counts its session's lines, and no others have any
+pub record IsTied (grid : Legs) (cap n : ℕ) (books : List ℕ) (journal : List Entry) : Type 0 where
+  pub wide : length books ≡ 9
+  pub few : n < 9
+  pub legal : IsLegal grid journal
+  pub capped : length journal ≤ cap
+  pub small : cap ≤ 999999
+  pub counts : (s : ℕ) → 0 < s → s < 9 → slice_index books s ≡ length (of_session s journal)
+  pub none : (s : ℕ) → n < s → of_session s journal ≡ []
+
+-- the call gave one line more, of this session, its next call and this command. The session has then seen all lines so far, of which its receipts are its own, in order
+pub record Booked (grid : Legs) (command : Command) (s t : Seat) : Type 0 where
+  pub line : Entry
+  pub session : line.session ≡ s.id
+  pub call : line.call ≡ length s.receipts + 1
+  pub command_is : line.command ≡ command
+  pub id : t.id ≡ s.id
+  pub receipts : t.receipts ≡ s.receipts ++ line ∷ []
+  pub before : Begins s.front t.front
+  pub past : List Entry
+  pub last : t.front ≡ past ++ line ∷ []
+  pub own : of_session t.id t.front ≡ t.receipts
+  pub legal : IsLegal grid t.front
+
+-- nothing but the front may have grown
+pub record Waits (s t : Seat) : Type 0 where
+  pub id : t.id ≡ s.id
+  pub receipts : t.receipts ≡ s.receipts
+  pub before : Begins s.front t.front

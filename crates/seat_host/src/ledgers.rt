@@ -1,0 +1,284 @@
+//! One ledger for each session number, all named by one parameter.
+ghost use Rattle.std.specs.Prelude.{◌≡◌, ◌+◌, ◌-◌, ◌<◌, ◌≤◌, [], ◌∷◌, slice_index, slice_set, IfOk, IfSome, IsSome};
+ghost use Rattle.seat_host.specs.Ledgers.{counted};
+ghost use Rattle.seat_host.specs.Shares.{parts_of, staked};
+
+use ssim_records::Memory;
+use std::alloc::Global;
+use std::marker::{Brand, Model, PhantomData};
+use std::sync::ledger::{Blank, Book, Ledger, Share};
+
+/// Which host it is. Each call picks it.
+pub trait Hosting {
+    ghost use Rattle.std.specs.Prelude.{ℕ, List};
+    ghost use Rattle.logbook.specs.Pages.{Book as HistoryBook};
+    ghost use Rattle.seat_nesting.specs.Nesting.{Legs};
+
+    ghost grid: { Legs };
+
+    ghost cap: { ℕ };
+
+    ghost book: { HistoryBook };
+
+    ghost sessions: { ℕ };
+
+    // The names of the ledgers, at their session numbers.
+    ghost names: { List ℕ };
+}
+
+impl Hosting for Brand {
+    ghost use Rattle.std.specs.Prelude.{[]};
+
+    ghost grid = { [] };
+
+    ghost cap = { 0 };
+
+    ghost book = { record { number = 0; log_name = 0; cells_name = 0 } };
+
+    ghost sessions = { 0 };
+
+    ghost names = { [] };
+}
+
+/// Names the ledger of one session number.
+pub struct Numbered<K, const N: u8> {
+    of: PhantomData<K>,
+}
+
+impl<K: Hosting, const N: u8> Ledger for Numbered<K, N> {
+    ghost use Rattle.std.specs.Prelude.{slice_index};
+
+    ghost name = { slice_index K.names N };
+
+    ghost parts = { 1 };
+}
+
+/// The books of all session numbers. Contracts see the totals, at their numbers.
+#[derive(Drop)]
+pub struct Books<K: Hosting> {
+    one: Book<Numbered<K, 1>>,
+    two: Book<Numbered<K, 2>>,
+    three: Book<Numbered<K, 3>>,
+    four: Book<Numbered<K, 4>>,
+    five: Book<Numbered<K, 5>>,
+    six: Book<Numbered<K, 6>>,
+    seven: Book<Numbered<K, 7>>,
+    eight: Book<Numbered<K, 8>>,
+}
+
+impl<K: Hosting> Model for Books<K> {
+    ghost use Rattle.std.specs.Prelude.{List, ℕ, ◌∷◌, []};
+
+    ghost Value = { List ℕ };
+
+    ghost view = { λ b. 0 ∷ b.one.total ∷ b.two.total ∷ b.three.total ∷ b.four.total ∷ b.five.total ∷ b.six.total ∷ b.seven.total ∷ b.eight.total ∷ [] };
+}
+
+#[derive(Drop)]
+pub enum AnyShare<K: Hosting> {
+    One(Share<Numbered<K, 1>>),
+    Two(Share<Numbered<K, 2>>),
+    Three(Share<Numbered<K, 3>>),
+    Four(Share<Numbered<K, 4>>),
+    Five(Share<Numbered<K, 5>>),
+    Six(Share<Numbered<K, 6>>),
+    Seven(Share<Numbered<K, 7>>),
+    Eight(Share<Numbered<K, 8>>),
+}
+
+/// The one share of a session's ledger. Contracts see its number and its amount.
+#[derive(Drop)]
+pub struct Stake<K: Hosting> {
+    share: AnyShare<K>,
+}
+
+impl<K: Hosting> Model for Stake<K> {
+    ghost use Rattle.std.specs.Prelude.{◌≡◌};
+    ghost use Rattle.seat_host.specs.Ledgers.{Staked};
+
+    ghost Value = { Staked };
+
+    ghost use Rattle.seat_host.specs.Shares.{staked, parts_of};
+
+    ghost view = { λ s. staked s.share };
+
+    ghost invariant = { λ s. parts_of s.share ≡ 1 };
+}
+
+fn audit<L: Ledger>(book: &mut Book<L>, share: &mut Share<L>)
+    requires { share.old.parts ≡ L.parts }
+    ensures { (book.new.total ≡ book.old.total) × (share.new.amount ≡ share.old.amount) × (share.new.parts ≡ share.old.parts) × (share.old.amount ≡ book.old.total) }
+{
+    book.audit(share);
+}
+
+fn add<L: Ledger>(book: &mut Book<L>, share: &mut Share<L>)
+    requires { (share.old.parts ≡ L.parts) × (0 < L.parts) }
+    ensures { (book.new.total ≡ book.old.total + 1) × (share.new.amount ≡ share.old.amount + 1) × (share.new.parts ≡ share.old.parts) }
+{
+    book.add(share, 1);
+}
+
+impl<K: Hosting> Books<K> {
+    /// Changes nothing: the share has every part, so its amount is the book's total.
+    pub fn audit(&mut self, mine: &mut Stake<K>)
+        ensures same { (self.new ≡ self.old) × (mine.new ≡ mine.old) }
+        ensures whole { mine.old.amount ≡ slice_index self.old mine.old.number }
+    {
+        match &mut mine.share {
+            AnyShare::One(share) => audit(&mut self.one, share),
+            AnyShare::Two(share) => audit(&mut self.two, share),
+            AnyShare::Three(share) => audit(&mut self.three, share),
+            AnyShare::Four(share) => audit(&mut self.four, share),
+            AnyShare::Five(share) => audit(&mut self.five, share),
+            AnyShare::Six(share) => audit(&mut self.six, share),
+            AnyShare::Seven(share) => audit(&mut self.seven, share),
+            AnyShare::Eight(share) => audit(&mut self.eight, share),
+        }
+    }
+
+    /// Counts one line more of the share's session.
+    pub fn add(&mut self, mine: &mut Stake<K>)
+        ensures mine { mine.new ≡ counted mine.old.number (mine.old.amount + 1) }
+        ensures total { self.new ≡ slice_set self.old mine.old.number (slice_index self.old mine.old.number + 1) }
+    {
+        match &mut mine.share {
+            AnyShare::One(share) => add(&mut self.one, share),
+            AnyShare::Two(share) => add(&mut self.two, share),
+            AnyShare::Three(share) => add(&mut self.three, share),
+            AnyShare::Four(share) => add(&mut self.four, share),
+            AnyShare::Five(share) => add(&mut self.five, share),
+            AnyShare::Six(share) => add(&mut self.six, share),
+            AnyShare::Seven(share) => add(&mut self.seven, share),
+            AnyShare::Eight(share) => add(&mut self.eight, share),
+        }
+    }
+}
+
+/// Eight ledgers that no type stands for yet. Contracts see their names, at the session numbers.
+#[derive(Drop)]
+pub struct Blanks {
+    one: Blank,
+    two: Blank,
+    three: Blank,
+    four: Blank,
+    five: Blank,
+    six: Blank,
+    seven: Blank,
+    eight: Blank,
+}
+
+impl Model for Blanks {
+    ghost use Rattle.std.specs.Prelude.{List, ℕ, ◌≡◌, ◌∷◌, []};
+
+    ghost Value = { List ℕ };
+
+    ghost view = { λ b. 0 ∷ b.one.name ∷ b.two.name ∷ b.three.name ∷ b.four.name ∷ b.five.name ∷ b.six.name ∷ b.seven.name ∷ b.eight.name ∷ [] };
+
+    ghost invariant = { λ b. (b.one.parts ≡ 1) × (b.two.parts ≡ 1) × (b.three.parts ≡ 1) × (b.four.parts ≡ 1) × (b.five.parts ≡ 1) × (b.six.parts ≡ 1) × (b.seven.parts ≡ 1) × (b.eight.parts ≡ 1) };
+}
+
+impl Blanks {
+    pub fn new() -> Blanks {
+        Blanks {
+            one: Blank::new(1),
+            two: Blank::new(1),
+            three: Blank::new(1),
+            four: Blank::new(1),
+            five: Blank::new(1),
+            six: Blank::new(1),
+            seven: Blank::new(1),
+            eight: Blank::new(1),
+        }
+    }
+}
+
+/// The shares that no session has yet, of the session numbers from the next one on. Contracts see that number.
+#[derive(Drop)]
+pub struct Stakes<K: Hosting> {
+    rest: Vec<Stake<K>>,
+    next: u8,
+}
+
+impl<K: Hosting> Model for Stakes<K> {
+    ghost use Rattle.std.specs.Prelude.{ℕ, ◌≡◌, ◌≤◌, ◌-◌};
+    ghost use Rattle.seat_host.specs.Ledgers.{stakes_left};
+
+    ghost Value = { ℕ };
+
+    ghost view = { λ s. s.next };
+
+    ghost invariant = { λ s. (s.next ≤ 9) × (s.rest.items ≡ stakes_left (9 - s.next)) };
+}
+
+impl<K: Hosting> Stakes<K> {
+    /// The share of the next session number.
+    pub fn take(&mut self) -> Option<Stake<K>>
+        requires { (1 ≤ self.old) × (self.old ≤ 8) }
+        ensures stake { IfSome result (λ s. s ≡ counted self.old 0) }
+        ensures some { IsSome result }
+        ensures next { self.new ≡ self.old + 1 }
+    {
+        let stake = self.rest.pop();
+        self.next += 1;
+        stake
+    }
+}
+
+/// The books and the shares of the host that K names.
+pub fn open_ledgers<K: Hosting>(
+    alloc: Global,
+    blanks: Blanks,
+) -> Result<(Books<K>, Stakes<K>), Memory>
+    requires { blanks ≡ K.names }
+    ensures books { IfOk result (λ r. r.0 ≡ 0 ∷ 0 ∷ 0 ∷ 0 ∷ 0 ∷ 0 ∷ 0 ∷ 0 ∷ 0 ∷ []) }
+    ensures stakes { IfOk result (λ r. r.1 ≡ 1) }
+{
+    let Blanks {
+        one,
+        two,
+        three,
+        four,
+        five,
+        six,
+        seven,
+        eight,
+    } = blanks;
+    let (one, share_one) = one.open::<Numbered<K, 1>>();
+    let (two, share_two) = two.open::<Numbered<K, 2>>();
+    let (three, share_three) = three.open::<Numbered<K, 3>>();
+    let (four, share_four) = four.open::<Numbered<K, 4>>();
+    let (five, share_five) = five.open::<Numbered<K, 5>>();
+    let (six, share_six) = six.open::<Numbered<K, 6>>();
+    let (seven, share_seven) = seven.open::<Numbered<K, 7>>();
+    let (eight, share_eight) = eight.open::<Numbered<K, 8>>();
+    let books = Books {
+        one,
+        two,
+        three,
+        four,
+        five,
+        six,
+        seven,
+        eight,
+    };
+    let stakes = [
+        staked(AnyShare::Eight(share_eight)),
+        staked(AnyShare::Seven(share_seven)),
+        staked(AnyShare::Six(share_six)),
+        staked(AnyShare::Five(share_five)),
+        staked(AnyShare::Four(share_four)),
+        staked(AnyShare::Three(share_three)),
+        staked(AnyShare::Two(share_two)),
+        staked(AnyShare::One(share_one)),
+    ];
+    let rest = Vec::from_array(alloc, stakes)?;
+    Ok((books, Stakes { rest, next: 1 }))
+}
+
+fn staked<K: Hosting>(share: AnyShare<K>) -> Stake<K>
+    requires { parts_of share ≡ 1 }
+    ensures { result ≡ staked share }
+{
+    Stake { share }
+}

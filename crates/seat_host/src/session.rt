@@ -1,0 +1,115 @@
+//! A session of the host.
+ghost use Rattle.std.specs.Prelude.{◌≡◌, ◌<◌, ◌≤◌, length, IfSome, IfNone, []};
+ghost use Rattle.seat_core.specs.Prefixes.{Begins};
+ghost use Rattle.seat_core.specs.Sequential.{room_left};
+ghost use Rattle.seat_core.specs.Journal.{IsLegal, replay};
+ghost use Rattle.seat_display.specs.Faces.{opened};
+ghost use Rattle.seat_host.specs.Ledgers.{counted};
+ghost use Rattle.seat_host.specs.Sessions.{fresh};
+
+use crate::ledgers::{Hosting, Stake};
+use seat_core::Entry;
+use seat_display::Viewer;
+use ssim_records::{Class, Place};
+use std::alloc::Global;
+use std::marker::Model;
+
+/// The line that a call was given.
+#[derive(Debug, Drop)]
+pub struct Receipt {
+    entry: Entry,
+}
+
+impl Model for Receipt {
+    ghost use Rattle.seat_journal.specs.declared.entry.Entry.{Entry};
+
+    ghost Value = { Entry };
+
+    ghost view = { λ r. r.entry };
+}
+
+impl Receipt {
+    /// The line.
+    pub fn entry(&self) -> &Entry
+        ensures { result.now ≡ self.now }
+    {
+        &self.entry
+    }
+
+    pub(crate) fn of(entry: Entry) -> Receipt
+        ensures { result ≡ entry }
+    {
+        Receipt { entry }
+    }
+}
+
+/// It keeps its own lines as receipts, the one share of its ledger, and a viewer.
+#[derive(Drop)]
+pub struct Session<K: Hosting> {
+    pub(crate) id: u8,
+    pub(crate) stake: Stake<K>,
+    pub(crate) viewer: Viewer,
+    pub(crate) receipts: Vec<Receipt>,
+}
+
+impl<K: Hosting> Model for Session<K> {
+    ghost use Rattle.std.specs.Prelude.{◌≡◌, length};
+    ghost use Rattle.seat_host.specs.Ledgers.{counted};
+    ghost use Rattle.seat_host.specs.Sessions.{Seat, Stands};
+
+    ghost Value = { Seat };
+
+    ghost view = { λ s. record { id = s.id; receipts = s.receipts.items; front = s.viewer.front } };
+
+    ghost invariant = { λ s. (s.viewer.book ≡ K.book) × (s.viewer.grid ≡ K.grid) × (s.stake ≡ counted s.id (length s.receipts.items)) × Stands K.grid K.sessions (record { id = s.id; receipts = s.receipts.items; front = s.viewer.front }) };
+}
+
+impl<K: Hosting> Session<K> {
+    /// Its number, from 1.
+    pub fn id(&self) -> u8
+        ensures { result ≡ self.now.id }
+    {
+        self.id
+    }
+
+    /// The lines of its calls, in order.
+    pub fn receipts(&self) -> &[Receipt]
+        ensures { result.now ≡ self.now.receipts }
+    {
+        self.receipts.as_slice()
+    }
+
+    /// How many lines it has seen.
+    pub fn front_len(&self) -> u32
+        ensures { result ≡ length self.now.front }
+    {
+        self.viewer.seen()
+    }
+
+    /// The seats that are left on a place in a class, after all that is then seen. It takes no lock and waits for
+    /// nobody. None where no reader is let in.
+    pub fn look(&mut self, place: Place, class: Class) -> Option<u16>
+        ensures room { IfSome result (λ n. n ≡ room_left (replay K.grid self.new.front) place class) }
+        ensures front { Begins self.old.front self.new.front }
+        ensures legal { IsLegal K.grid self.new.front }
+        ensures none { IfNone result (self.new ≡ self.old) }
+        ensures same { (self.new.id ≡ self.old.id) × (self.new.receipts ≡ self.old.receipts) }
+    {
+        self.viewer.look(place, class)
+    }
+
+    /// A session that has done nothing.
+    pub(crate) fn seated(alloc: Global, id: u8, stake: Stake<K>, viewer: Viewer) -> Session<K>
+        requires number { (0 < id) × (id ≤ K.sessions) × (K.sessions < 9) }
+        requires stake { stake ≡ counted id 0 }
+        requires viewer { viewer ≡ opened K.book K.grid }
+        ensures { result ≡ fresh id }
+    {
+        Session {
+            id,
+            stake,
+            viewer,
+            receipts: Vec::new(alloc),
+        }
+    }
+}

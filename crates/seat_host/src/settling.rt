@@ -1,0 +1,215 @@
+//! Gathering: what a host and all its sessions come to.
+ghost use Rattle.std.specs.Prelude.{◌≡◌, ◌↔◌, ◌≤◌, ◌<◌, ◌-◌, ℕ, [], length, false, true, slice_set, IfOk, IfErr, OnOk};
+ghost use Rattle.std.specs.List.{AllByRecursion};
+ghost use Rattle.seat_core.specs.Journal.{IsLegal};
+ghost use Rattle.seat_core.specs.Totals.{totals_of};
+ghost use Rattle.seat_host.specs.Histories.{by_session};
+ghost use Rattle.seat_host.specs.Settling.{has_all, has_id, IsConfirmed};
+ghost use Rattle.seat_host.specs.declared.settling.GatherFault.TheVariants.{Missing};
+
+use crate::desk::Desk;
+use crate::host::Host;
+use crate::ledgers::Hosting;
+use crate::session::{Receipt, Session};
+use seat_core::{Entry, Totals};
+use seat_journal::Entries;
+use ssim_records::Memory;
+use std::alloc::Global;
+use std::marker::Model;
+use std::sync::Wait;
+
+/// Why nothing was gathered.
+#[derive(Clone, Copy, Debug, PartialEq, Eq)]
+pub enum GatherFault {
+    /// The sessions' numbers are not 1 to the number opened, each once.
+    Missing,
+    /// A growth was refused.
+    Memory,
+}
+
+/// The receipts of one session, in order.
+#[derive(Drop)]
+pub struct Receipts {
+    items: Vec<Receipt>,
+}
+
+impl Model for Receipts {
+    ghost use Rattle.std.specs.Prelude.{List};
+    ghost use Rattle.seat_journal.specs.declared.entry.Entry.{Entry};
+
+    ghost Value = { List Entry };
+
+    ghost view = { λ r. r.items.items };
+}
+
+/// The journal of a host that is over, its totals, and the receipts by session number.
+#[derive(Drop)]
+pub struct Settled {
+    pub journal: Entries,
+    pub totals: Totals,
+    pub receipts: AllReceipts,
+}
+
+/// The receipts of session 1, of session 2, and so on.
+#[derive(Drop)]
+pub struct AllReceipts {
+    items: Vec<Receipts>,
+}
+
+impl Model for AllReceipts {
+    ghost use Rattle.std.specs.Prelude.{List};
+    ghost use Rattle.seat_journal.specs.declared.entry.Entry.{Entry};
+
+    ghost Value = { List (List Entry) };
+
+    ghost view = { λ r. r.items.items };
+}
+
+impl AllReceipts {
+    /// The receipts by session number.
+    pub fn as_slice(&self) -> &[Receipts]
+        ensures { result.now ≡ self.now }
+    {
+        self.items.as_slice()
+    }
+}
+
+impl Receipts {
+    /// The receipts, in order.
+    pub fn as_slice(&self) -> &[Receipt]
+        ensures { result.now ≡ self.now }
+    {
+        self.items.as_slice()
+    }
+}
+
+/// Settles a host with all its sessions: each receipt is the journal's line of its call, and no line is left out.
+pub fn gather<K: Hosting, R: Wait>(
+    rt: &R,
+    alloc: Global,
+    host: Host<K>,
+    sessions: Vec<Session<K>>,
+) -> Result<Settled, (GatherFault, Host<K>, Vec<Session<K>>)>
+    ensures legal { IfOk result (λ r. IsLegal K.grid r.journal) }
+    ensures totals { IfOk result (λ r. r.totals ≡ totals_of r.journal) }
+    ensures receipts { IfOk result (λ r. r.receipts ≡ by_session K.sessions r.journal) }
+    ensures handed { IfOk result (λ r. AllByRecursion (IsConfirmed K.sessions r.journal) sessions.items) }
+    ensures all { OnOk result (has_all K.sessions sessions.items ≡ true) }
+    ensures missing { IfErr result (λ f. (f.0 ≡ Missing) ↔ (has_all K.sessions sessions.items ≡ false)) }
+    ensures same { IfErr result (λ f. f.2.items ≡ sessions.items) }
+{
+    let (grid, mut desk) = host.into_parts();
+    if !are_all(sessions.as_slice(), desk.sessions()) {
+        return Err((GatherFault::Missing, Host::over(grid, desk), sessions));
+    }
+    let Ok((journal, slots)) = room_for(alloc, desk.journal(), desk.sessions()) else {
+        return Err((GatherFault::Memory, Host::over(grid, desk), sessions));
+    };
+    let totals = desk.totals();
+    let items = settle_all(rt, &mut desk, sessions, slots);
+    desk.end(rt);
+    Ok(Settled {
+        journal,
+        totals,
+        receipts: AllReceipts { items },
+    })
+}
+
+#[tactic(auto, using(crate::proofs::Gathered::up_more))]
+fn are_all<K: Hosting>(sessions: &[Session<K>], opened: u8) -> bool
+    ensures { result ≡ has_all opened sessions.now }
+{
+    let mut all = true;
+    for below in 0..opened {
+        let here = has_number(sessions, below + 1);
+        all = here && all;
+    }
+    sessions.len() == usize::from(opened) && all
+}
+
+fn has_number<K: Hosting>(sessions: &[Session<K>], number: u8) -> bool
+    ensures { result ≡ has_id number sessions.now }
+{
+    sessions.iter().any(|s| s.id() == number)
+}
+
+// A copy of the journal, and an empty list for each session.
+fn room_for(
+    alloc: Global,
+    journal: &[Entry],
+    sessions: u8,
+) -> Result<(Entries, Vec<Receipts>), Memory>
+    ensures { IfOk result (λ r. (r.0 ≡ journal.now) × (length r.1.items ≡ sessions)) }
+{
+    let copy = copy_all(alloc, journal)?;
+    let slots = empty_lists(alloc, sessions)?;
+    Ok((copy, slots))
+}
+
+fn copy_all(alloc: Global, journal: &[Entry]) -> Result<Entries, Memory>
+    ensures { IfOk result (λ e. e ≡ journal.now) }
+{
+    let mut copies = Vec::with_capacity(alloc, journal.len())?;
+    for entry in journal {
+        copies.push(entry.copy(alloc)?)?;
+    }
+    Ok(Entries::from_vec(copies))
+}
+
+fn empty_lists(alloc: Global, sessions: u8) -> Result<Vec<Receipts>, Memory>
+    ensures { IfOk result (λ r. length r.items ≡ sessions) }
+{
+    let mut lists = Vec::new(alloc);
+    for _number in 0..sessions {
+        lists.push(Receipts {
+            items: Vec::new(alloc),
+        })?;
+    }
+    Ok(lists)
+}
+
+#[tactic(auto, using(crate::proofs::Gathered::starts, crate::proofs::Gathered::goes_on, crate::proofs::Gathered::ends))]
+fn settle_all<K: Hosting, R: Wait>(
+    rt: &R,
+    desk: &mut Desk<K>,
+    sessions: Vec<Session<K>>,
+    slots: Vec<Receipts>,
+) -> Vec<Receipts>
+    requires all { has_all K.sessions sessions.items ≡ true }
+    requires slots { length slots.items ≡ K.sessions }
+    ensures same { desk.new ≡ desk.old }
+    ensures receipts { result.items ≡ by_session K.sessions desk.old }
+    ensures each { AllByRecursion (IsConfirmed K.sessions desk.old) sessions.items }
+{
+    let mut sessions = sessions;
+    let mut slots = slots;
+    for _done in 0..sessions.len() {
+        let Some(session) = sessions.pop() else {
+            unreachable!()
+        };
+        settle_one(rt, desk, &mut slots, session);
+    }
+    slots
+}
+
+fn settle_one<K: Hosting, R: Wait>(
+    rt: &R,
+    desk: &mut Desk<K>,
+    slots: &mut Vec<Receipts>,
+    session: Session<K>,
+)
+    requires { length slots.old.items ≡ K.sessions }
+    ensures same { desk.new ≡ desk.old }
+    ensures confirmed { IsConfirmed K.sessions desk.old session }
+    ensures slots { slots.new.items ≡ slice_set slots.old.items (session.id - 1) session.receipts }
+{
+    let mut session = session;
+    desk.confirm(rt, &mut session);
+    let Session {
+        id,
+        stake: _,
+        viewer: _,
+        receipts,
+    } = session;
+    slots[usize::from(id) - 1] = Receipts { items: receipts };
+}
