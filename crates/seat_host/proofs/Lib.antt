@@ -2,3 +2,4 @@ pub mod Booking
 pub mod Own
 pub mod Staking
 pub mod Gathered
+pub mod Working
