@@ -152,7 +152,7 @@ booking grid cap n books journal s e front command call m next called line more 
         own = all;
         legal = legal;
       };
-      stands = record { number = m.stands.number; legal = legal; own = subst (λ (l : List Entry). Begins (s.receipts ++ e ∷ []) l) (sym all) (begins_itself (s.receipts ++ e ∷ [])) };
+      stands = record { number = m.stands.number; legal = legal; own = subst (λ (l : List Entry). Begins (s.receipts ++ e ∷ []) l) (sym all) (begins_itself (s.receipts ++ e ∷ [])); few = omega (arith, few_receipts grid cap n books journal s m, length-append s.receipts (e ∷ [])) };
     }
 
 -- a look keeps what a session stands for
@@ -161,11 +161,12 @@ stands_longer grid n s front st pre legal = record {
   number = st.number;
   legal = legal;
   own = begins_trans s.receipts (of_session s.id s.front) (of_session s.id front) st.own (own_prefix s.id s.front front pre);
+  few = st.few;
 }
 
 -- a session that has done nothing stands
 pub stands_fresh : (grid : Legs) (n id : ℕ) → 0 < id → id ≤ n → n < 9 → Stands grid n (record { id = id; receipts = []; front = [] })
-stands_fresh grid n id some le few = record { number = (some, le, few); legal = legal_nil grid; own = begins_itself [] }
+stands_fresh grid n id some le few = record { number = (some, le, few); legal = legal_nil grid; own = begins_itself []; few = omega arith }
 
 -- a session whose receipts are as they were
 pub waits_same : (old : Seat) (id : ℕ) (receipts items front : List Entry) → (let s : Seat = record { id = id; receipts = receipts; front = front } in s ≡ old) → items ≡ receipts → Waits old (record { id = id; receipts = items; front = front })

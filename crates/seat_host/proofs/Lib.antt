@@ -3,3 +3,4 @@ pub mod Booking
 pub mod Own
 pub mod Staking
 pub mod Gathered
+pub mod Working

@@ -5,3 +5,4 @@ pub mod Named
 pub mod Sessions
 pub mod Settling
 pub mod Shares
+pub mod Working

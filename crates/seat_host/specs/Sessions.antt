@@ -27,6 +27,7 @@ pub record Stands (grid : Legs) (n : ℕ) (s : Seat) : Type 0 where
   pub number : (0 < s.id) × (s.id ≤ n) × (n < 9)
   pub legal : IsLegal grid s.front
   pub own : Begins s.receipts (of_session s.id s.front)
+  pub few : length s.receipts ≤ 1000000
 
 -- the journal beside the books of n sessions: each book counts its session's lines, and no others have any
 pub record IsTied (grid : Legs) (cap n : ℕ) (books : List ℕ) (journal : List Entry) : Type 0 where

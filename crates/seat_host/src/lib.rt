@@ -2,16 +2,22 @@
 //! It knows receipts, fronts and ledgers, and nothing of scripts, of texts or of where commands come from.
 #![tactic(auto)]
 
+mod commands;
 mod desk;
+mod gate;
 mod host;
 mod ledgers;
 mod parts;
 mod session;
 mod settling;
+mod workers;
 
+pub use commands::Commands;
 pub use desk::BookFault;
+pub use gate::{Gate, NoGate};
 pub use host::Host;
 pub use ledgers::Hosting;
 pub use parts::{HostFault, Parts};
 pub use session::{Receipt, Session};
 pub use settling::{AllReceipts, GatherFault, Receipts, Settled, gather};
+pub use workers::{RunFault, run_sessions};

@@ -1,5 +1,5 @@
 //! A session of the host.
-ghost use Rattle.std.specs.Prelude.{◌≡◌, ◌<◌, ◌≤◌, length, IfSome, IfNone, []};
+ghost use Rattle.std.specs.Prelude.{◌≡◌, ◌+◌, ◌<◌, ◌≤◌, length, IfSome, IfNone, []};
 ghost use Rattle.seat_core.specs.Prefixes.{Begins};
 ghost use Rattle.seat_core.specs.Sequential.{room_left};
 ghost use Rattle.seat_core.specs.Journal.{IsLegal, replay};
@@ -77,6 +77,13 @@ impl<K: Hosting> Session<K> {
         ensures { result.now ≡ self.now.receipts }
     {
         self.receipts.as_slice()
+    }
+
+    /// The number of its next call.
+    pub fn next_call(&self) -> u32
+        ensures { result ≡ length self.now.receipts + 1 }
+    {
+        self.receipts.len() as u32 + 1
     }
 
     /// How many lines it has seen.

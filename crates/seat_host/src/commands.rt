@@ -1,0 +1,34 @@
+//! A session's list.
+ghost use Rattle.std.specs.Prelude.{◌≡◌};
+
+use seat_core::Command;
+use std::marker::Model;
+
+/// The commands that a session is to book, in order.
+#[derive(Debug, Drop)]
+pub struct Commands {
+    items: Vec<Command>,
+}
+
+impl Model for Commands {
+    ghost use Rattle.std.specs.Prelude.{List};
+    ghost use Rattle.seat_journal.specs.declared.entry.Command.{Command};
+
+    ghost Value = { List Command };
+
+    ghost view = { λ c. c.items.items };
+}
+
+impl Commands {
+    pub fn from_vec(items: Vec<Command>) -> Self
+        ensures { result ≡ items.items }
+    {
+        Commands { items }
+    }
+
+    pub fn as_slice(&self) -> &[Command]
+        ensures { result.now ≡ self.now }
+    {
+        self.items.as_slice()
+    }
+}
