@@ -1,11 +1,12 @@
 -- The books of an inventory, flight by flight, line by line.
-use Rattle.std.proofs.Common.{◌≡◌, ◌≢◌, ◌==◌, ℕ, zero, suc, ◌+◌, ◌<◌, ◌≤◌, Bool, true, false, List, [], ◌∷◌, ◌++◌, length, set, get_or, slice_get, unwrap_or, map, cond, Option, Some, None, if◌then◌else◌, arith, refl, ap, sym, subst, ◌∙◌}
+use Rattle.std.proofs.Common.{◌≡◌, ◌≢◌, ◌==◌, ℕ, zero, suc, ◌+◌, ◌<◌, ◌≤◌, Bool, true, false, List, [], ◌∷◌, ◌++◌, length, set, get_or, slice_get, unwrap_or, map, fold, cond, Option, Some, None, if◌then◌else◌, arith, refl, ap, sym, subst, ◌∙◌}
 use Rattle.std.specs.List.{AllByRecursion}
 use Rattle.std.proofs.lemmas.List.{get_or-set_same, get_or-set_other}
-use Rattle.std.proofs.lemmas.List.Sums.{sum_by_push, count_by-le-length}
+use Rattle.std.proofs.lemmas.List.Sums.{sum_by_push, fold_push, count_by-le-length}
 use Rattle.std.proofs.lemmas.Bool.Decides.{nat_tests}
 use Rattle.ssim_records.specs.declared.place.Place.{Place}
-use Rattle.seat_nesting.specs.Nesting.{Legs, legs_of, room, HasLadders}
+use Rattle.seat_nesting.specs.Nesting.{Legs, Table, legs_of, room, HasLadders}
+use Rattle.seat_nesting.specs.Counting.{Counted, limits_of, seats_of}
 use Rattle.seat_core.specs.declared.booking.Booking.{Booking}
 use Rattle.seat_core.specs.declared.books.Book.{Book}
 use Rattle.seat_journal.specs.declared.entry.Advice.{Advice}
@@ -20,14 +21,18 @@ use Rattle.seat_core.specs.Journal.{replay, calls_of, line_of, next_line, IsNext
 use Rattle.seat_core.specs.Applying.{applied, confirmed_each, replied, IsOrdered, IsNumbered}
 use Rattle.seat_core.specs.Flights.{bookings_on, is_on, advices_anew}
 use Rattle.seat_core.specs.Inventory.{has_memory, IsLawful}
+use Rattle.seat_core.specs.Showing.{shown}
+use Rattle.seat_core.specs.Tables.{nothing_held}
 use Rattle.seat_core.specs.Books.{book_at, book_for, has_spare, has_spare_in, spare_of, IsEntered, IsKept, SameBooks}
-use Rattle.seat_core.proofs.Flights.{bookings_view, room_of_flight}
+use Rattle.seat_core.proofs.Flights.{bookings_view}
 use Rattle.seat_core.proofs.Seeing.{seen, answer_on, answer_off, advices_on}
 use Rattle.seat_core.proofs.Applying.{answer_applies, replay_is_numbered}
 use Rattle.seat_core.proofs.Committing.{lawful_committed}
 use Rattle.seat_core.proofs.Histories.{replay_next}
 use Rattle.seat_core.proofs.Legal.{each_legal, legal_nil}
 use Rattle.seat_core.proofs.Limits.{within_none}
+use Rattle.seat_core.proofs.Shows.{same_table}
+use Rattle.seat_core.proofs.Shown.{shown_is_held, grid_replay}
 
 -- the same reply, released seats and advices
 pub record SameAnswer (a b : Outcome) : Type 0 where
@@ -90,24 +95,24 @@ nowhere (Seats w) s t n c = record { reply = refl; released = refl; advices = re
 nowhere Cancel s t n c = record { reply = refl; released = refl; advices = refl }
 
 -- a command, answered from the book of its flight
-pub same_answer : (opening now : Legs) (cap : ℕ) (journal : List Entry) (books : List Book) (calls : List ℕ) (n : ℕ) (c : Command) (o : Option Place) → c.place ≡ o → IsKept opening now cap journal books calls
+pub same_answer : (opening now : Legs) (cap : ℕ) (journal : List Entry) (books : List Book) (calls : List ℕ) (counts : Counted) (n : ℕ) (c : Command) (o : Option Place) → c.place ≡ o → IsKept opening now cap journal books calls counts
     → SameAnswer (answer (state_of now (book_for books o)) n c) (answer (state_of now (replay opening journal).bookings) n c)
-same_answer opening now cap journal books calls n c None at k =
+same_answer opening now cap journal books calls counts n c None at k =
     let P : Option Place → Type 0 = λ o. SameAnswer (answer_to (request_of c.code) o (state_of now []) n c) (answer_to (request_of c.code) o (state_of now (replay opening journal).bookings) n c) in
     subst P (sym at) (nowhere (request_of c.code) (state_of now []) (state_of now (replay opening journal).bookings) n c)
-same_answer opening now cap journal books calls n c (Some place) at k =
+same_answer opening now cap journal books calls counts n c (Some place) at k =
     let on : is_on place.flight c.place ≡ true = ap (is_on place.flight) at ∙ (let e : (place.flight == place.flight) ≡ true = grind (arith, nat_tests) in e) in
     let P : List Booking → Type 0 = λ l. SameAnswer (answer (state_of now l) n c) (answer (state_of now (replay opening journal).bookings) n c) in
     subst P (sym (k.by_flight place.flight)) (same_on now place.flight (replay opening journal).bookings n c on k.lawful.quiet)
 
-pub few_in_book : (opening now : Legs) (cap : ℕ) (journal : List Entry) (books : List Book) (calls : List ℕ) (o : Option Place) → IsKept opening now cap journal books calls → length (book_for books o) ≤ 999999
-few_in_book opening now cap journal books calls None k = omega arith
-few_in_book opening now cap journal books calls (Some place) k =
+pub few_in_book : (opening now : Legs) (cap : ℕ) (journal : List Entry) (books : List Book) (calls : List ℕ) (counts : Counted) (o : Option Place) → IsKept opening now cap journal books calls counts → length (book_for books o) ≤ 999999
+few_in_book opening now cap journal books calls counts None k = omega arith
+few_in_book opening now cap journal books calls counts (Some place) k =
     omega (arith, ap length (k.by_flight place.flight), few_on place.flight (replay opening journal).bookings, k.lawful.few, k.lawful.capped, k.lawful.small)
 
 -- books that are the same are kept
-pub kept_same : (opening now : Legs) (cap : ℕ) (journal : List Entry) (books books' : List Book) (calls : List ℕ) → IsKept opening now cap journal books calls → SameBooks books books' → IsKept opening now cap journal books' calls
-kept_same opening now cap journal books books' calls k same = record { lawful = k.lawful; by_flight = λ f. same.each f ∙ k.by_flight f; by_session = k.by_session }
+pub kept_same : (opening now : Legs) (cap : ℕ) (journal : List Entry) (books books' : List Book) (calls : List ℕ) (counts : Counted) → IsKept opening now cap journal books calls counts → SameBooks books books' → IsKept opening now cap journal books' calls counts
+kept_same opening now cap journal books books' calls counts k same = record { lawful = k.lawful; by_flight = λ f. same.each f ∙ k.by_flight f; by_session = k.by_session; limits = k.limits; seats = k.seats }
 
 -- the line applied to the book of its flight
 entered_on : (opening now : Legs) (cap : ℕ) (journal : List Entry) (f : ℕ) (e : Entry) → IsLawful opening now cap journal (replay opening journal).bookings → IsNext opening journal e → is_on f e.command.place ≡ true
@@ -148,13 +153,28 @@ counted journal e calls k nine most s le = cases (e.session == s) refl where
       let same : calls_of (journal ++ e ∷ []) s ≡ calls_of journal s = called journal e s ∙ (ap (λ t. calls_of journal s + cond t 1 0) is ∙ omega arith) in
       get_or-set_other calls e.session s (calls_of journal e.session + 1) 0 other ∙ (k s le ∙ sym same)
 
+-- the counters, shown one line more
+table_next : (opening now : Legs) (cap : ℕ) (journal : List Entry) (books : List Book) (calls : List ℕ) (counts : Counted) (e : Entry) → IsKept opening now cap journal books calls counts → IsLegal opening (journal ++ e ∷ [])
+    → shown (limits_of counts) (seats_of counts) e ≡ held (replay opening (journal ++ e ∷ [])).bookings
+table_next opening now cap journal books calls counts e k legal =
+    let before : fold (shown opening) nothing_held journal ≡ held (replay opening journal).bookings = same_table (fold (shown opening) nothing_held journal) (held (replay opening journal).bookings) (shown_is_held opening journal k.lawful.legal) in
+    let after : fold (shown opening) nothing_held (journal ++ e ∷ []) ≡ held (replay opening (journal ++ e ∷ [])).bookings =
+    same_table (fold (shown opening) nothing_held (journal ++ e ∷ [])) (held (replay opening (journal ++ e ∷ [])).bookings) (shown_is_held opening (journal ++ e ∷ []) legal) in
+    let grid : now ≡ opening = sym (ap (λ (s : State). s.grid) k.lawful.left) ∙ grid_replay opening journal in
+    ap (λ (g : Legs). shown g (seats_of counts) e) (k.limits ∙ grid)
+    ∙ (ap (λ (t : Table). shown opening t e) (same_table (seats_of counts) (held (replay opening journal).bookings) k.seats ∙ sym before)
+    ∙ (sym (fold_push (shown opening) nothing_held journal e) ∙ after))
+
 -- a line that is added keeps the books
-pub kept_next : (opening now : Legs) (cap : ℕ) (journal : List Entry) (books books' : List Book) (calls : List ℕ) (e : Entry) → IsKept opening now cap journal books calls → length calls ≡ 9 → length journal < cap → IsNext opening journal e
-    → IsEntered books books' e → IsKept opening now cap (journal ++ e ∷ []) books' (set calls e.session (calls_of journal e.session + 1))
-kept_next opening now cap journal books books' calls e k nine lt next entered = record {
+pub kept_next : (opening now : Legs) (cap : ℕ) (journal : List Entry) (books books' : List Book) (calls : List ℕ) (counts counts' : Counted) (e : Entry) → IsKept opening now cap journal books calls counts → length calls ≡ 9 → length journal < cap → IsNext opening journal e
+    → IsEntered books books' e → limits_of counts' ≡ limits_of counts → seats_of counts' ≡ shown (limits_of counts) (seats_of counts) e
+    → IsKept opening now cap (journal ++ e ∷ []) books' (set calls e.session (calls_of journal e.session + 1)) counts'
+kept_next opening now cap journal books books' calls counts counts' e k nine lt next entered same_limits shows = record {
   lawful = let P : List Booking → Type 0 = IsLawful opening now cap (journal ++ e ∷ []) in subst P (sym left) law;
   by_flight = λ f. cases f (is_on f e.command.place) refl;
   by_session = counted journal e calls k.by_session nine next.session.1;
+  limits = same_limits ∙ k.limits;
+  seats = λ f l c. ap (λ (t : Table). t f l c) (shows ∙ table_next opening now cap journal books calls counts e k law.legal);
 } where
   bs : List Booking
   bs = (replay opening journal).bookings
@@ -192,11 +212,11 @@ none_beyond s beyond grid journal legal =
     called past e s ∙ (ap (λ t. calls_of past s + cond t 1 0) other ∙ omega (arith, h)))
     [] journal refl legal
 
-pub no_calls : (opening now : Legs) (cap : ℕ) (journal : List Entry) (books : List Book) (calls : List ℕ) (s : ℕ) → IsKept opening now cap journal books calls → 8 < s → calls_of journal s ≡ 0
-no_calls opening now cap journal books calls s k beyond = none_beyond s beyond opening journal k.lawful.legal
+pub no_calls : (opening now : Legs) (cap : ℕ) (journal : List Entry) (books : List Book) (calls : List ℕ) (counts : Counted) (s : ℕ) → IsKept opening now cap journal books calls counts → 8 < s → calls_of journal s ≡ 0
+no_calls opening now cap journal books calls counts s k beyond = none_beyond s beyond opening journal k.lawful.legal
 
-pub few_calls : (opening now : Legs) (cap : ℕ) (journal : List Entry) (books : List Book) (calls : List ℕ) (s : ℕ) → IsKept opening now cap journal books calls → calls_of journal s ≤ 999999
-few_calls opening now cap journal books calls s k = omega (arith, count_by-le-length (λ (x : Entry). x.session == s) journal, k.lawful.capped, k.lawful.small)
+pub few_calls : (opening now : Legs) (cap : ℕ) (journal : List Entry) (books : List Book) (calls : List ℕ) (counts : Counted) (s : ℕ) → IsKept opening now cap journal books calls counts → calls_of journal s ≤ 999999
+few_calls opening now cap journal books calls counts s k = omega (arith, count_by-le-length (λ (x : Entry). x.session == s) journal, k.lawful.capped, k.lawful.small)
 
 -- the memory of the books, as it is shown
 spares_at : (books : List Book) (i : ℕ) → unwrap_or (slice_get (map spare_of books) i) false ≡ has_spare_in (slice_get books i)
@@ -209,12 +229,12 @@ memory_is books None = refl
 memory_is books (Some place) = spares_at books place.flight
 
 -- the line that is answered from the flight's book is the next
-pub next_kept : (opening now : Legs) (cap : ℕ) (journal : List Entry) (books : List Book) (calls : List ℕ) (book : List Booking) (n session call : ℕ) (c : Command) (line : Entry) → IsKept opening now cap journal books calls
+pub next_kept : (opening now : Legs) (cap : ℕ) (journal : List Entry) (books : List Book) (calls : List ℕ) (counts : Counted) (book : List Booking) (n session call : ℕ) (c : Command) (line : Entry) → IsKept opening now cap journal books calls counts
     → book ≡ book_for books c.place → n ≡ length journal + 1 → line ≡ line_of (answer (state_of now book) n c) n session call c → line ≡ next_line opening journal session call c
-next_kept opening now cap journal books calls book n session call c line k is number made =
+next_kept opening now cap journal books calls counts book n session call c line k is number made =
     let here : Outcome = answer (state_of now (book_for books c.place)) n c in
     let whole : Outcome = answer (state_of now (replay opening journal).bookings) n c in
-    let same : SameAnswer here whole = same_answer opening now cap journal books calls n c c.place refl k in
+    let same : SameAnswer here whole = same_answer opening now cap journal books calls counts n c c.place refl k in
     made
     ∙ (ap (λ (l : List Booking). line_of (answer (state_of now l) n c) n session call c) is
     ∙ (same_line here whole same
@@ -224,16 +244,13 @@ next_kept opening now cap journal books calls book n session call c line k is nu
     same_line : (a b : Outcome) → SameAnswer a b → line_of a n session call c ≡ line_of b n session call c
     same_line a b s = λ i. record { number = n; session = session; call = call; command = c; reply = s.reply i; released = s.released i; advices = s.advices i }
 
--- the room that the flight's book leaves
-pub room_kept : (opening now : Legs) (cap : ℕ) (journal : List Entry) (books : List Book) (calls : List ℕ) (place : Place) (class : ℕ) → IsKept opening now cap journal books calls
-    → room now (held (book_at books place.flight)) place class ≡ room_left (replay opening journal) place class
-room_kept opening now cap journal books calls place class k =
-    ap (λ (l : List Booking). room now (held l) place class) (k.by_flight place.flight)
-    ∙ (sym (room_of_flight now (replay opening journal).bookings place class) ∙ ap (λ (s : State). room_left s place class) (sym k.lawful.left))
-
-pub few_at : (opening now : Legs) (cap : ℕ) (journal : List Entry) (books : List Book) (calls : List ℕ) (f : ℕ) → IsKept opening now cap journal books calls → length (book_at books f) ≤ 999999
-few_at opening now cap journal books calls f k =
-    omega (arith, ap length (k.by_flight f), few_on f (replay opening journal).bookings, k.lawful.few, k.lawful.capped, k.lawful.small)
+-- the room that the counters leave
+pub room_kept : (opening now : Legs) (cap : ℕ) (journal : List Entry) (books : List Book) (calls : List ℕ) (counts : Counted) (place : Place) (class : ℕ) → IsKept opening now cap journal books calls counts
+    → room (limits_of counts) (seats_of counts) place class ≡ room_left (replay opening journal) place class
+room_kept opening now cap journal books calls counts place class k =
+    ap (λ (g : Legs). room g (seats_of counts) place class) k.limits
+    ∙ (ap (λ (t : Table). room now t place class) (same_table (seats_of counts) (held (replay opening journal).bookings) k.seats)
+    ∙ ap (λ (s : State). room_left s place class) (sym k.lawful.left))
 
 -- no call yet
 abbrev pub nine_zeros : List ℕ
@@ -252,8 +269,8 @@ zeros (suc (suc (suc (suc (suc (suc (suc (suc zero)))))))) = refl
 zeros (suc (suc (suc (suc (suc (suc (suc (suc (suc s))))))))) = refl
 
 -- an inventory that was opened
-pub kept_opened : (grid limits : Legs) (cap : ℕ) → limits ≡ grid → HasLadders limits → cap ≤ 999999 → IsKept grid limits cap [] [] nine_zeros
-kept_opened grid limits cap same ladders small = record {
+pub kept_opened : (grid limits : Legs) (cap : ℕ) (counts : Counted) → limits ≡ grid → HasLadders limits → cap ≤ 999999 → limits_of counts ≡ limits → ((f l k : ℕ) → seats_of counts f l k ≡ 0) → IsKept grid limits cap [] [] nine_zeros counts
+kept_opened grid limits cap counts same ladders small counted none = record {
   lawful = record {
     legal = legal_nil grid;
     capped = omega arith;
@@ -267,4 +284,6 @@ kept_opened grid limits cap same ladders small = record {
   };
   by_flight = λ f. refl;
   by_session = λ s le. zeros s;
+  limits = counted;
+  seats = none;
 }

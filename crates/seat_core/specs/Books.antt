@@ -2,9 +2,11 @@
 use Rattle.std.specs.Prelude.{◌≡◌, ℕ, ◌≤◌, Bool, true, false, nat_lt, List, [], Option, Some, None, slice_get, slice_index, vec_len, vec_capacity, if◌then◌else◌}
 use Rattle.ssim_records.specs.declared.place.Place.{Place}
 use Rattle.seat_nesting.specs.Nesting.{Legs}
+use Rattle.seat_nesting.specs.Counting.{Counted, limits_of, seats_of}
 use Rattle.seat_journal.specs.declared.entry.Entry.{Entry}
 use Rattle.seat_core.specs.declared.booking.Booking.{Booking}
 use Rattle.seat_core.specs.declared.books.Book.{Book}
+use Rattle.seat_core.specs.Bookings.{held}
 use Rattle.seat_core.specs.Journal.{replay, calls_of}
 use Rattle.seat_core.specs.Flights.{bookings_on, is_on}
 use Rattle.seat_core.specs.Applying.{applied}
@@ -44,8 +46,10 @@ pub record SameBooks (old new : List Book) : Type 0 where
 pub record IsEntered (old new : List Book) (e : Entry) : Type 0 where
   pub each : (flight : ℕ) → book_at new flight ≡ (if is_on flight e.command.place then applied (book_at old flight) e else book_at old flight)
 
--- the books are those of the replay, flight by flight, and each session's calls are counted; sessions are 1 to 8
-pub record IsKept (opening now : Legs) (cap : ℕ) (journal : List Entry) (books : List Book) (calls : List ℕ) : Type 0 where
+-- the books are those of the replay, flight by flight; each session's calls are counted, sessions 1 to 8; and each counter, over the limits now, is what the replay holds
+pub record IsKept (opening now : Legs) (cap : ℕ) (journal : List Entry) (books : List Book) (calls : List ℕ) (counts : Counted) : Type 0 where
   pub lawful : IsLawful opening now cap journal (replay opening journal).bookings
   pub by_flight : (flight : ℕ) → book_at books flight ≡ bookings_on flight (replay opening journal).bookings
   pub by_session : (session : ℕ) → session ≤ 8 → slice_index calls session ≡ calls_of journal session
+  pub limits : limits_of counts ≡ now
+  pub seats : (flight leg class : ℕ) → seats_of counts flight leg class ≡ held (replay opening journal).bookings flight leg class
