@@ -229,7 +229,7 @@ pub room_kept : (opening now : Legs) (cap : ℕ) (journal : List Entry) (books :
     → room now (held (book_at books place.flight)) place class ≡ room_left (replay opening journal) place class
 room_kept opening now cap journal books calls place class k =
     ap (λ (l : List Booking). room now (held l) place class) (k.by_flight place.flight)
-    ∙ (sym (room_of_flight now (replay opening journal).bookings place class) ∙ ap (λ (s : State). room_left s place class) (sym k.lawful.left))
+    ∙ (sym (room_of_flight now now (replay opening journal).bookings place class refl) ∙ ap (λ (s : State). room_left s place class) (sym k.lawful.left))
 
 pub few_at : (opening now : Legs) (cap : ℕ) (journal : List Entry) (books : List Book) (calls : List ℕ) (f : ℕ) → IsKept opening now cap journal books calls → length (book_at books f) ≤ 999999
 few_at opening now cap journal books calls f k =
