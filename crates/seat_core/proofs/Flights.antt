@@ -1,15 +1,16 @@
 -- One flight's bookings: the room that they leave, and the pass over them.
 use Rattle.std.proofs.Common.{◌≡◌, ◌==◌, ◌&&◌, ℕ, zero, suc, ◌+◌, ◌-◌, ◌≤◌, Bool, true, false, nat_le, List, [], ◌∷◌, ◌++◌, if◌then◌else◌, arith, refl, ap, sym, subst, ◌∙◌, append_assoc}
+use Rattle.std.proofs.lemmas.Bool.Decides.{nat_tests}
 use Rattle.std.proofs.lemmas.List.Sums.{sum_by-cons}
 use Rattle.ssim_records.specs.declared.place.Place.{Place}
-use Rattle.seat_nesting.specs.Nesting.{Legs, Steps, Table, room_on, room, least, ladder_at, may_wait, may_wait_on, each_leg}
+use Rattle.seat_nesting.specs.Nesting.{Legs, Steps, Table, legs_of, room_on, room, least, ladder_at, steps_at, may_wait, may_wait_on, each_leg}
 use Rattle.seat_core.specs.declared.booking.Booking.{Booking}
 use Rattle.seat_core.specs.declared.booking.Status.{Status}
 use Rattle.seat_core.specs.declared.booking.Status.TheVariants.{Held, Waiting}
 use Rattle.seat_journal.specs.declared.entry.Advice.{Advice}
-use Rattle.seat_core.specs.Bookings.{seats_of, seats_on, waits_on, held, waiting}
+use Rattle.seat_core.specs.Bookings.{is_waiting, seats_of, seats_on, waits_on, held, waiting}
 use Rattle.seat_core.specs.Sequential.{pass, may_confirm, confirmed, advice_of}
-use Rattle.seat_core.specs.Flights.{renumbered, NoneElseFits, bookings_on, pass_on, PassOfFlight, RoomOfFlight}
+use Rattle.seat_core.specs.Flights.{renumbered, AgreeOn, NoneElseFits, bookings_on, pass_on, PassOfFlight, RoomOfFlight}
 use Rattle.seat_core.proofs.Quiet.{room_on_less, still, all_map, confirmed_more, held_at}
 
 -- the bookings on the flight, in order, numbered anew
@@ -50,6 +51,18 @@ may_wait_same grid t u p class n h =
     ap (λ x. nat_le p.from p.to && x)
     (each_leg_same (λ l. may_wait_on (ladder_at grid p.flight l) (t p.flight l) class n) (λ l. may_wait_on (ladder_at grid p.flight l) (u p.flight l) class n) p.from (p.to - p.from)
     (λ l. may_wait_on_same (ladder_at grid p.flight l) (t p.flight l) (u p.flight l) class n (h l)))
+
+-- so do grids that agree on it
+pub legs_agree : (g h : Legs) (f x : ℕ) → AgreeOn f g h → x ≡ f → legs_of g x ≡ legs_of h x
+legs_agree g h f x a e = let P : ℕ → Type 0 = λ y. legs_of g y ≡ legs_of h y in subst P (sym e) a
+
+pub room_agree : (g h : Legs) (f : ℕ) (t : Table) (p : Place) (class : ℕ) → AgreeOn f g h → p.flight ≡ f → room g t p class ≡ room h t p class
+room_agree g h f t p class a e =
+    ap (λ (legs : List Steps). if nat_le p.from p.to then least (λ leg. room_on (steps_at legs leg) (t p.flight leg) class) p.from (p.to - p.from) else 0) (legs_agree g h f p.flight a e)
+
+may_wait_agree : (g h : Legs) (f : ℕ) (t : Table) (p : Place) (class n : ℕ) → AgreeOn f g h → p.flight ≡ f → may_wait g t p class n ≡ may_wait h t p class n
+may_wait_agree g h f t p class n a e =
+    ap (λ (legs : List Steps). nat_le p.from p.to && each_leg (λ leg. may_wait_on (steps_at legs leg) (t p.flight leg) class n) p.from (p.to - p.from)) (legs_agree g h f p.flight a e)
 
 -- one booking more, on the flight or not
 pub view_here : (anew : ℕ → ℕ) (f : ℕ) (b : Booking) (bs : List Booking) → (b.place.flight == f) ≡ true → view anew f (b ∷ bs) ≡ renumbered anew b ∷ view anew f bs
@@ -116,10 +129,18 @@ room_view grid anew f bs p class e =
     let P : ℕ → Type 0 = λ x. (l k : ℕ) → held (view anew f bs) x l k ≡ held bs x l k in
     room_same grid (held (view anew f bs)) (held bs) p class (subst P (sym e) (held_view anew f bs))
 
-pub may_wait_view : (grid : Legs) (anew : ℕ → ℕ) (f : ℕ) (bs : List Booking) (p : Place) (class n : ℕ) → p.flight ≡ f → may_wait grid (waiting (view anew f bs)) p class n ≡ may_wait grid (waiting bs) p class n
+may_wait_view : (grid : Legs) (anew : ℕ → ℕ) (f : ℕ) (bs : List Booking) (p : Place) (class n : ℕ) → p.flight ≡ f → may_wait grid (waiting (view anew f bs)) p class n ≡ may_wait grid (waiting bs) p class n
 may_wait_view grid anew f bs p class n e =
     let P : ℕ → Type 0 = λ x. (l : ℕ) → waiting (view anew f bs) x l class ≡ waiting bs x l class in
     may_wait_same grid (waiting (view anew f bs)) (waiting bs) p class n (subst P (sym e) (λ l. waiting_view anew f bs l class))
+
+-- over two grids that agree on the flight
+pub room_over : (g h : Legs) (anew : ℕ → ℕ) (f : ℕ) (bs : List Booking) (p : Place) (class : ℕ) → AgreeOn f g h → p.flight ≡ f → room h (held (view anew f bs)) p class ≡ room g (held bs) p class
+room_over g h anew f bs p class a e = room_view h anew f bs p class e ∙ sym (room_agree g h f (held bs) p class a e)
+
+pub may_wait_over : (g h : Legs) (anew : ℕ → ℕ) (f : ℕ) (bs : List Booking) (p : Place) (class n : ℕ) → AgreeOn f g h → p.flight ≡ f
+    → may_wait h (waiting (view anew f bs)) p class n ≡ may_wait g (waiting bs) p class n
+may_wait_over g h anew f bs p class n a e = may_wait_view h anew f bs p class n e ∙ sym (may_wait_agree g h f (waiting bs) p class n a e)
 
 pub bookings_view : (f : ℕ) (bs : List Booking) → view (λ n. n) f bs ≡ bookings_on f bs
 bookings_view f [] = refl
@@ -129,8 +150,8 @@ bookings_view f (b ∷ bs) = cases (b.place.flight == f) refl (bookings_view f b
   cases false e rest = rw (e, rest) refl
 
 pub room_of_flight : RoomOfFlight
-room_of_flight grid bs p class =
-    sym (room_view grid (λ n. n) p.flight bs p class refl) ∙ ap (λ (x : List Booking). room grid (held x) p class) (bookings_view p.flight bs)
+room_of_flight g h bs p class a =
+    sym (room_over g h (λ n. n) p.flight bs p class a refl) ∙ ap (λ (x : List Booking). room h (held x) p class) (bookings_view p.flight bs)
 
 -- one booking of a pass
 pub pass_takes : (grid : Legs) (done : List Booking) (told : List Advice) (b : Booking) (bs : List Booking) → may_confirm grid (done ++ b ∷ bs) b ≡ true
@@ -166,5 +187,23 @@ pass_of f grid done told (b ∷ bs) a =
     cases false true e may rest = let no : may_confirm grid (done ++ b ∷ bs) b ≡ false = a.0 e in absurd cc
     cases false false e may rest = rw (may, e) (rest b told (let P : List Booking → Type 0 = λ l. NoneElseFits f grid l bs in subst P (sym (append_assoc done (b ∷ []) bs)) a.1))
 
+-- whether a booking on the flight fits is the same over both grids
+may_confirm_agree : (g h : Legs) (f : ℕ) (book : List Booking) (b : Booking) → AgreeOn f g h → (b.place.flight == f) ≡ true → may_confirm g book b ≡ may_confirm h book b
+may_confirm_agree g h f book b a e =
+    let q : b.place.flight ≡ f = grind (arith, nat_tests) in
+    ap (λ r. is_waiting b.status && nat_le b.seats r) (room_agree g h f (held book) b.place b.class a q)
+
+pass_on_agree : (f : ℕ) (g h : Legs) (done : List Booking) (told : List Advice) (bs : List Booking) → AgreeOn f g h → pass_on f g done told bs ≡ pass_on f h done told bs
+pass_on_agree f g h done told [] a = refl
+pass_on_agree f g h done told (b ∷ bs) a =
+    cases (b.place.flight == f) (may_confirm g (done ++ b ∷ bs) b) refl refl (λ (x : Booking) (t : List Advice). pass_on_agree f g h (done ++ x ∷ []) t bs a)
+  where
+    cases : (t u : Bool) → (b.place.flight == f) ≡ t → may_confirm g (done ++ b ∷ bs) b ≡ u
+        → ((x : Booking) (t : List Advice) → pass_on f g (done ++ x ∷ []) t bs ≡ pass_on f h (done ++ x ∷ []) t bs)
+        → pass_on f g done told (b ∷ bs) ≡ pass_on f h done told (b ∷ bs)
+    cases true true e may rest = let too = sym (may_confirm_agree g h f (done ++ b ∷ bs) b a e) ∙ may in rw (e, may, too) (rest (confirmed b) (told ++ advice_of b ∷ []))
+    cases true false e may rest = let too = sym (may_confirm_agree g h f (done ++ b ∷ bs) b a e) ∙ may in rw (e, may, too) (rest b told)
+    cases false u e may rest = rw e (rest b told)
+
 pub pass_of_flight : PassOfFlight
-pass_of_flight f grid bookings a = pass_of f grid [] [] bookings a
+pass_of_flight f g h bookings agree a = pass_of f g [] [] bookings a ∙ pass_on_agree f g h [] [] bookings agree

@@ -8,14 +8,15 @@ use Rattle.seat_core.specs.declared.booking.Booking.{Booking}
 use Rattle.seat_journal.specs.declared.entry.Advice.{Advice}
 use Rattle.seat_core.specs.Bookings.{is_for, is_waiting}
 use Rattle.seat_core.specs.Sequential.{Passed, reduced, pass, may_confirm, confirmed, advice_of, NoneFitsAmong}
-use Rattle.seat_core.specs.Flights.{renumbered}
-use Rattle.seat_core.proofs.Flights.{view, told_on, view_here, view_away, view_append, told_append, room_view, pass_takes, pass_leaves}
+use Rattle.seat_core.specs.Flights.{renumbered, AgreeOn}
+use Rattle.seat_core.proofs.Flights.{view, told_on, view_here, view_away, view_append, told_append, room_over, pass_takes, pass_leaves}
 
 -- the number of a booking does not matter to its test
-pub may_confirm_view : (grid : Legs) (anew : ℕ → ℕ) (f : ℕ) (bs : List Booking) (b : Booking) → (b.place.flight == f) ≡ true → may_confirm grid (view anew f bs) (renumbered anew b) ≡ may_confirm grid bs b
-may_confirm_view grid anew f bs b e =
+pub may_confirm_view : (g h : Legs) (anew : ℕ → ℕ) (f : ℕ) (bs : List Booking) (b : Booking) → AgreeOn f g h → (b.place.flight == f) ≡ true
+    → may_confirm h (view anew f bs) (renumbered anew b) ≡ may_confirm g bs b
+may_confirm_view g h anew f bs b a e =
     let q : b.place.flight ≡ f = grind (arith, nat_tests) in
-    ap (λ r. is_waiting b.status && nat_le b.seats r) (room_view grid anew f bs b.place b.class q)
+    ap (λ r. is_waiting b.status && nat_le b.seats r) (room_over g h anew f bs b.place b.class a q)
 
 -- what the flight sees of a pass
 abbrev pub seen_pass : (ℕ → ℕ) → ℕ → Passed → Passed
@@ -39,39 +40,39 @@ told_same anew f told b e = told_append anew f told (advice_of b ∷ []) ∙ (ap
 view_mid : (anew : ℕ → ℕ) (f : ℕ) (done : List Booking) (b : Booking) (bs : List Booking) → (b.place.flight == f) ≡ true → view anew f (done ++ b ∷ bs) ≡ view anew f done ++ renumbered anew b ∷ view anew f bs
 view_mid anew f done b bs e = view_append anew f done (b ∷ bs) ∙ ap (λ (x : List Booking). view anew f done ++ x) (view_here anew f b bs e)
 
--- the pass over a flight's bookings is what the flight sees of the pass over all
-pub pass_view : (grid : Legs) (anew : ℕ → ℕ) (f : ℕ) (done : List Booking) (told : List Advice) (bs : List Booking)
-    → pass grid (view anew f done) (told_on anew f told) (view anew f bs) ≡ seen_pass anew f (pass grid done told bs)
-pass_view grid anew f done told [] = refl
-pass_view grid anew f done told (b ∷ bs) =
-    cases (b.place.flight == f) (may_confirm grid (done ++ b ∷ bs) b) refl refl
-    (λ (x : Booking) (t : List Advice). pass_view grid anew f (done ++ x ∷ []) t bs)
+-- the pass over a flight's bookings is what the flight sees of the pass over all, over each grid that agrees on the flight
+pub pass_view : (g h : Legs) (anew : ℕ → ℕ) (f : ℕ) (done : List Booking) (told : List Advice) (bs : List Booking) → AgreeOn f g h
+    → pass h (view anew f done) (told_on anew f told) (view anew f bs) ≡ seen_pass anew f (pass g done told bs)
+pass_view g h anew f done told [] a = refl
+pass_view g h anew f done told (b ∷ bs) a =
+    cases (b.place.flight == f) (may_confirm g (done ++ b ∷ bs) b) refl refl
+    (λ (x : Booking) (t : List Advice). pass_view g h anew f (done ++ x ∷ []) t bs a)
   where
-    cases : (t u : Bool) → (b.place.flight == f) ≡ t → may_confirm grid (done ++ b ∷ bs) b ≡ u
-        → ((x : Booking) (t : List Advice) → pass grid (view anew f (done ++ x ∷ [])) (told_on anew f t) (view anew f bs) ≡ seen_pass anew f (pass grid (done ++ x ∷ []) t bs))
-        → pass grid (view anew f done) (told_on anew f told) (view anew f (b ∷ bs)) ≡ seen_pass anew f (pass grid done told (b ∷ bs))
+    cases : (t u : Bool) → (b.place.flight == f) ≡ t → may_confirm g (done ++ b ∷ bs) b ≡ u
+        → ((x : Booking) (t : List Advice) → pass h (view anew f (done ++ x ∷ [])) (told_on anew f t) (view anew f bs) ≡ seen_pass anew f (pass g (done ++ x ∷ []) t bs))
+        → pass h (view anew f done) (told_on anew f told) (view anew f (b ∷ bs)) ≡ seen_pass anew f (pass g done told (b ∷ bs))
     cases true true e may rest =
-        let test : may_confirm grid (view anew f done ++ renumbered anew b ∷ view anew f bs) (renumbered anew b) ≡ true =
-        ap (λ (x : List Booking). may_confirm grid x (renumbered anew b)) (sym (view_mid anew f done b bs e)) ∙ (may_confirm_view grid anew f (done ++ b ∷ bs) b e ∙ may) in
-        ap (λ (l : List Booking). pass grid (view anew f done) (told_on anew f told) l) (view_here anew f b bs e)
-        ∙ (pass_takes grid (view anew f done) (told_on anew f told) (renumbered anew b) (view anew f bs) test
-        ∙ (same_pass grid _ _ _ _ (view anew f bs) (sym (view_push anew f done (confirmed b) e)) (sym (told_push anew f told b e))
-        ∙ (rest (confirmed b) (told ++ advice_of b ∷ []) ∙ sym (ap (seen_pass anew f) (pass_takes grid done told b bs may)))))
+        let test : may_confirm h (view anew f done ++ renumbered anew b ∷ view anew f bs) (renumbered anew b) ≡ true =
+        ap (λ (x : List Booking). may_confirm h x (renumbered anew b)) (sym (view_mid anew f done b bs e)) ∙ (may_confirm_view g h anew f (done ++ b ∷ bs) b a e ∙ may) in
+        ap (λ (l : List Booking). pass h (view anew f done) (told_on anew f told) l) (view_here anew f b bs e)
+        ∙ (pass_takes h (view anew f done) (told_on anew f told) (renumbered anew b) (view anew f bs) test
+        ∙ (same_pass h _ _ _ _ (view anew f bs) (sym (view_push anew f done (confirmed b) e)) (sym (told_push anew f told b e))
+        ∙ (rest (confirmed b) (told ++ advice_of b ∷ []) ∙ sym (ap (seen_pass anew f) (pass_takes g done told b bs may)))))
     cases true false e may rest =
-        let test : may_confirm grid (view anew f done ++ renumbered anew b ∷ view anew f bs) (renumbered anew b) ≡ false =
-        ap (λ (x : List Booking). may_confirm grid x (renumbered anew b)) (sym (view_mid anew f done b bs e)) ∙ (may_confirm_view grid anew f (done ++ b ∷ bs) b e ∙ may) in
-        ap (λ (l : List Booking). pass grid (view anew f done) (told_on anew f told) l) (view_here anew f b bs e)
-        ∙ (pass_leaves grid (view anew f done) (told_on anew f told) (renumbered anew b) (view anew f bs) test
-        ∙ (same_pass grid _ _ _ _ (view anew f bs) (sym (view_push anew f done b e)) refl
-        ∙ (rest b told ∙ sym (ap (seen_pass anew f) (pass_leaves grid done told b bs may)))))
+        let test : may_confirm h (view anew f done ++ renumbered anew b ∷ view anew f bs) (renumbered anew b) ≡ false =
+        ap (λ (x : List Booking). may_confirm h x (renumbered anew b)) (sym (view_mid anew f done b bs e)) ∙ (may_confirm_view g h anew f (done ++ b ∷ bs) b a e ∙ may) in
+        ap (λ (l : List Booking). pass h (view anew f done) (told_on anew f told) l) (view_here anew f b bs e)
+        ∙ (pass_leaves h (view anew f done) (told_on anew f told) (renumbered anew b) (view anew f bs) test
+        ∙ (same_pass h _ _ _ _ (view anew f bs) (sym (view_push anew f done b e)) refl
+        ∙ (rest b told ∙ sym (ap (seen_pass anew f) (pass_leaves g done told b bs may)))))
     cases false true e may rest =
-        ap (λ (l : List Booking). pass grid (view anew f done) (told_on anew f told) l) (view_away anew f b bs e)
-        ∙ (same_pass grid _ _ _ _ (view anew f bs) (sym (view_same anew f done (confirmed b) e)) (sym (told_same anew f told b e))
-        ∙ (rest (confirmed b) (told ++ advice_of b ∷ []) ∙ sym (ap (seen_pass anew f) (pass_takes grid done told b bs may))))
+        ap (λ (l : List Booking). pass h (view anew f done) (told_on anew f told) l) (view_away anew f b bs e)
+        ∙ (same_pass h _ _ _ _ (view anew f bs) (sym (view_same anew f done (confirmed b) e)) (sym (told_same anew f told b e))
+        ∙ (rest (confirmed b) (told ++ advice_of b ∷ []) ∙ sym (ap (seen_pass anew f) (pass_takes g done told b bs may))))
     cases false false e may rest =
-        ap (λ (l : List Booking). pass grid (view anew f done) (told_on anew f told) l) (view_away anew f b bs e)
-        ∙ (same_pass grid _ _ _ _ (view anew f bs) (sym (view_same anew f done b e)) refl
-        ∙ (rest b told ∙ sym (ap (seen_pass anew f) (pass_leaves grid done told b bs may))))
+        ap (λ (l : List Booking). pass h (view anew f done) (told_on anew f told) l) (view_away anew f b bs e)
+        ∙ (same_pass h _ _ _ _ (view anew f bs) (sym (view_same anew f done b e)) refl
+        ∙ (rest b told ∙ sym (ap (seen_pass anew f) (pass_leaves g done told b bs may))))
 
 -- a pass in which nothing fits changes nothing
 pub pass_none : (grid : Legs) (done : List Booking) (told : List Advice) (bs : List Booking) → NoneFitsAmong grid (done ++ bs) bs → pass grid done told bs ≡ record { bookings = done ++ bs; advices = told }
@@ -88,7 +89,7 @@ none_among grid anew f book (b ∷ bs) a = cases (b.place.flight == f) refl (non
   cases : (t : Bool) → (b.place.flight == f) ≡ t → NoneFitsAmong grid (view anew f book) (view anew f bs) → NoneFitsAmong grid (view anew f book) (view anew f (b ∷ bs))
   cases true e rest =
       let P : List Booking → Type 0 = λ l. NoneFitsAmong grid (view anew f book) l in
-      subst P (sym (view_here anew f b bs e)) (may_confirm_view grid anew f book b e ∙ a.0, rest)
+      subst P (sym (view_here anew f b bs e)) (may_confirm_view grid grid anew f book b refl e ∙ a.0, rest)
   cases false e rest = let P : List Booking → Type 0 = λ l. NoneFitsAmong grid (view anew f book) l in subst P (sym (view_away anew f b bs e)) rest
 
 -- a test that only bookings on the flight pass, whatever their number

@@ -15,11 +15,11 @@ use Rattle.seat_core.specs.declared.request.Wish.TheVariants.{Need, Sell, Waitli
 use Rattle.seat_core.specs.Codes.{request_of}
 use Rattle.seat_core.specs.Bookings.{is_for, is_held, is_waiting, held, waiting}
 use Rattle.seat_core.specs.Sequential.{State, Outcome, Passed, state_of, room_left, reduced, booking_of, booking_for, pass, passed, want, want_new, cancel, answer, answer_to, may_confirm, confirmed, advice_of, NoneFits}
-use Rattle.seat_core.specs.Flights.{renumbered, NoneElseFits, pass_on, is_on, advices_anew}
+use Rattle.seat_core.specs.Flights.{renumbered, AgreeOn, NoneElseFits, pass_on, is_on, advices_anew}
 use Rattle.seat_core.proofs.Outcomes.{each_outcome, grid_answer}
 use Rattle.seat_core.proofs.Apart.{all_reduced}
 use Rattle.seat_core.proofs.Quiet.{all_push, all_map, quiet_answer}
-use Rattle.seat_core.proofs.Flights.{view, told_on, told_append, room_view, may_wait_view, pass_of}
+use Rattle.seat_core.proofs.Flights.{view, told_on, told_append, room_view, room_over, may_wait_over, pass_of}
 use Rattle.seat_core.proofs.Parts.{IsTestOn, IsTestOff, pass_view, pass_none, none_among, reduced_view, reduced_same, found_anew, find_view, other_flight, view_push, view_same}
 
 -- an answer leaves the limits, and these bookings
@@ -49,30 +49,34 @@ apart_too x y f e h = grind (arith, nat_tests)
 test_off : (f : ℕ) (locator : List ℕ) (p : Place) (class : ℕ) → (p.flight == f) ≡ false → IsTestOff f (is_for locator p class)
 test_off f locator p class e = record { never = λ b h. other_flight locator p class f b (apart b.place.flight p.flight f h e) }
 
--- what the flight sees of an outcome
-abbrev pub seen : (ℕ → ℕ) → ℕ → Outcome → Outcome
-seen anew f o = record { state = state_of o.state.grid (view anew f o.state.bookings); reply = o.reply; released = o.released; advices = told_on anew f o.advices }
+-- what the flight sees of an outcome, over these limits
+abbrev pub seen_over : Legs → (ℕ → ℕ) → ℕ → Outcome → Outcome
+seen_over h anew f o = record { state = state_of h (view anew f o.state.bookings); reply = o.reply; released = o.released; advices = told_on anew f o.advices }
 
-passed_view : (grid : Legs) (anew : ℕ → ℕ) (f : ℕ) (bs : List Booking) (reply : List ℕ) (released : ℕ) → passed grid (view anew f bs) reply released ≡ seen anew f (passed grid bs reply released)
-passed_view grid anew f bs reply released =
-    ap (λ (p : Passed). outcome_of p) (pass_view grid anew f [] [] bs)
+-- and over its own
+abbrev pub seen : (ℕ → ℕ) → ℕ → Outcome → Outcome
+seen anew f o = seen_over o.state.grid anew f o
+
+passed_view : (g h : Legs) (anew : ℕ → ℕ) (f : ℕ) (bs : List Booking) (reply : List ℕ) (released : ℕ) → AgreeOn f g h → passed h (view anew f bs) reply released ≡ seen_over h anew f (passed g bs reply released)
+passed_view g h anew f bs reply released a =
+    ap (λ (p : Passed). outcome_of p) (pass_view g h anew f [] [] bs a)
   where
     outcome_of : Passed → Outcome
-    outcome_of p = record { state = state_of grid p.bookings; reply = reply; released = released; advices = p.advices }
+    outcome_of p = record { state = state_of h p.bookings; reply = reply; released = released; advices = p.advices }
 
--- a command on the flight is answered from what the flight sees as from the whole
-pub answer_on : (grid : Legs) (anew : ℕ → ℕ) (f : ℕ) (bookings : List Booking) (n : ℕ) (c : Command) (o : Option Place) → c.place ≡ o → is_on f o ≡ true
-    → answer (state_of grid (view anew f bookings)) (anew n) c ≡ seen anew f (answer (state_of grid bookings) n c)
-answer_on grid anew f bookings n c None at e = absurd cc
-answer_on grid anew f bookings n c (Some place) at e =
-    ap (λ (o : Option Place). answer_to (request_of c.code) o (state_of grid (view anew f bookings)) (anew n) c) at
-    ∙ (by_request (request_of c.code) ∙ sym (ap (λ (o : Option Place). seen anew f (answer_to (request_of c.code) o (state_of grid bookings) n c)) at))
+-- a command on the flight is answered from what the flight sees, over each grid that agrees on it, as from the whole
+pub answer_over : (g h : Legs) (anew : ℕ → ℕ) (f : ℕ) (bookings : List Booking) (n : ℕ) (c : Command) (o : Option Place) → AgreeOn f g h → c.place ≡ o → is_on f o ≡ true
+    → answer (state_of h (view anew f bookings)) (anew n) c ≡ seen_over h anew f (answer (state_of g bookings) n c)
+answer_over g h anew f bookings n c None a at e = absurd cc
+answer_over g h anew f bookings n c (Some place) a at e =
+    ap (λ (o : Option Place). answer_to (request_of c.code) o (state_of h (view anew f bookings)) (anew n) c) at
+    ∙ (by_request (request_of c.code) ∙ sym (ap (λ (o : Option Place). seen_over h anew f (answer_to (request_of c.code) o (state_of g bookings) n c)) at))
   where
     s : State
-    s = state_of grid bookings
+    s = state_of g bookings
 
     v : State
-    v = state_of grid (view anew f bookings)
+    v = state_of h (view anew f bookings)
 
     here : place.flight ≡ f
     here = grind (arith, nat_tests)
@@ -84,38 +88,45 @@ answer_on grid anew f bookings n c (Some place) at e =
     pushed st = sym (view_push anew f bookings (booking_of n c place st) e)
 
     made : List ℕ → List Booking → Outcome
-    made reply l = record { state = state_of grid l; reply = reply; released = 0; advices = [] }
+    made reply l = record { state = state_of h l; reply = reply; released = 0; advices = [] }
 
-    want_if : (w : Wish) (fits may : Bool) → want_new w v (anew n) c place fits may ≡ seen anew f (want_new w s n c place fits may)
+    want_if : (w : Wish) (fits may : Bool) → want_new w v (anew n) c place fits may ≡ seen_over h anew f (want_new w s n c place fits may)
     want_if Need true may = ap (made (codes "KK")) (pushed Held)
     want_if Need false may = refl
     want_if Sell true may = ap (made (codes "KK")) (pushed Held)
     want_if Sell false true = ap (made (codes "US")) (pushed Waiting)
     want_if Sell false false = refl
-    want_if Waitlist fits true = ap (λ (l : List Booking). passed grid l (codes "HL") 0) (pushed Waiting) ∙ passed_view grid anew f (bookings ++ booking_of n c place Waiting ∷ []) (codes "HL") 0
+    want_if Waitlist fits true = ap (λ (l : List Booking). passed h l (codes "HL") 0) (pushed Waiting) ∙ passed_view g h anew f (bookings ++ booking_of n c place Waiting ∷ []) (codes "HL") 0 a
     want_if Waitlist fits false = refl
 
-    by_found : (w : Wish) (o : Option Booking) → want w v (anew n) c place (found_anew anew o) ≡ seen anew f (want w s n c place o)
+    by_found : (w : Wish) (o : Option Booking) → want w v (anew n) c place (found_anew anew o) ≡ seen_over h anew f (want w s n c place o)
     by_found w (Some b) = refl
     by_found w None =
-        ap (λ x. want_new w v (anew n) c place (nat_le c.seats x) (may_wait grid (waiting (view anew f bookings)) place c.class c.seats)) (room_view grid anew f bookings place c.class here)
-        ∙ (ap (λ x. want_new w v (anew n) c place (nat_le c.seats (room_left s place c.class)) x) (may_wait_view grid anew f bookings place c.class c.seats here)
-        ∙ want_if w (nat_le c.seats (room_left s place c.class)) (may_wait grid (waiting bookings) place c.class c.seats))
+        ap (λ x. want_new w v (anew n) c place (nat_le c.seats x) (may_wait h (waiting (view anew f bookings)) place c.class c.seats)) (room_over g h anew f bookings place c.class a here)
+        ∙ (ap (λ x. want_new w v (anew n) c place (nat_le c.seats (room_left s place c.class)) x) (may_wait_over g h anew f bookings place c.class c.seats a here)
+        ∙ want_if w (nat_le c.seats (room_left s place c.class)) (may_wait g (waiting bookings) place c.class c.seats))
 
-    cancel_if : (b : Booking) (t : Bool) → nat_le c.seats b.seats ≡ t → cancel v c place (Some (renumbered anew b)) ≡ seen anew f (cancel s c place (Some b))
+    cancel_if : (b : Booking) (t : Bool) → nat_le c.seats b.seats ≡ t → cancel v c place (Some (renumbered anew b)) ≡ seen_over h anew f (cancel s c place (Some b))
     cancel_if b true le = rw le
-        (ap (λ (l : List Booking). passed grid l (codes "HX") (if is_held b.status then c.seats else 0)) (sym (reduced_view anew f test c.seats bookings (test_on anew f c.locator place c.class here)))
-        ∙ passed_view grid anew f (reduced test c.seats bookings) (codes "HX") (if is_held b.status then c.seats else 0))
+        (ap (λ (l : List Booking). passed h l (codes "HX") (if is_held b.status then c.seats else 0)) (sym (reduced_view anew f test c.seats bookings (test_on anew f c.locator place c.class here)))
+        ∙ passed_view g h anew f (reduced test c.seats bookings) (codes "HX") (if is_held b.status then c.seats else 0) a)
     cancel_if b false le = rw le refl
 
-    by_held : (o : Option Booking) → cancel v c place (found_anew anew o) ≡ seen anew f (cancel s c place o)
+    by_held : (o : Option Booking) → cancel v c place (found_anew anew o) ≡ seen_over h anew f (cancel s c place o)
     by_held None = refl
     by_held (Some b) = cancel_if b (nat_le c.seats b.seats) refl
 
-    by_request : (r : Request) → answer_to r (Some place) v (anew n) c ≡ seen anew f (answer_to r (Some place) s n c)
+    by_request : (r : Request) → answer_to r (Some place) v (anew n) c ≡ seen_over h anew f (answer_to r (Some place) s n c)
     by_request Other = refl
     by_request (Seats w) = ap (λ (o : Option Booking). want w v (anew n) c place o) (find_view anew f test bookings (test_on anew f c.locator place c.class here)) ∙ by_found w (booking_for s c place)
     by_request Cancel = ap (λ (o : Option Booking). cancel v c place o) (find_view anew f test bookings (test_on anew f c.locator place c.class here)) ∙ by_held (booking_for s c place)
+
+-- and over its own limits
+pub answer_on : (grid : Legs) (anew : ℕ → ℕ) (f : ℕ) (bookings : List Booking) (n : ℕ) (c : Command) (o : Option Place) → c.place ≡ o → is_on f o ≡ true
+    → answer (state_of grid (view anew f bookings)) (anew n) c ≡ seen anew f (answer (state_of grid bookings) n c)
+answer_on grid anew f bookings n c o at e =
+    answer_over grid grid anew f bookings n c o refl at e
+    ∙ ap (λ (g : Legs). seen_over g anew f (answer (state_of grid bookings) n c)) (sym (grid_answer (state_of grid bookings) n c))
 
 -- a command off the flight changes nothing that the flight sees
 pub answer_off : (grid : Legs) (anew : ℕ → ℕ) (f : ℕ) (bookings : List Booking) (n : ℕ) (c : Command) → is_on f c.place ≡ false → NoneFits grid bookings
@@ -134,7 +145,7 @@ answer_off grid anew f bookings n c off a =
 
     quiet : (l : List Booking) → view anew f l ≡ view anew f bookings → view anew f (pass grid [] [] l).bookings ≡ view anew f bookings
     quiet l e =
-        ap (λ (p : Passed). p.bookings) (sym (pass_view grid anew f [] [] l))
+        ap (λ (p : Passed). p.bookings) (sym (pass_view grid grid anew f [] [] l refl))
         ∙ (ap (λ (x : List Booking). (pass grid [] [] x).bookings) e
         ∙ ap (λ (p : Passed). p.bookings) (pass_none grid [] [] (view anew f bookings) (none_among grid anew f bookings bookings a)))
 

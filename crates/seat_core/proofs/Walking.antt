@@ -137,8 +137,8 @@ view_map anew f (b ∷ bs) = cases (b.place.flight == f) refl (view_map anew f b
   cases false e rest = rw (e, rest) refl
 
 pub part_leaves_bookings : PartLeavesBookings
-part_leaves_bookings grid journal f l =
-    let k = the_part grid f journal l in
+part_leaves_bookings g h journal f a l =
+    let k = the_part g h f journal a l in
     ap (λ (s : State). s.bookings) k.1.seen_by
     ∙ (view_map (number_on f journal) f k.0
     ∙ ap (λ (x : List Booking). map (renumbered (number_on f journal)) (bookings_on f x)) (sym (ap (λ (s : State). s.bookings) k.1.whole)))

@@ -1,8 +1,8 @@
 -- One flight alone: its bookings, the pass over its waiting list, and its part of a journal.
-use Rattle.std.specs.Prelude.{◌≡◌, ◌==◌, ◌&&◌, ℕ, ◌+◌, Bool, false, nat_le, List, [], ◌∷◌, ◌++◌, length, map, take, Option, Some, None, count_by, if◌then◌else◌}
+use Rattle.std.specs.Prelude.{◌≡◌, ◌==◌, ◌&&◌, ℕ, ◌+◌, Bool, true, false, nat_le, List, [], ◌∷◌, ◌++◌, length, map, take, Option, Some, None, count_by, if◌then◌else◌}
 use Rattle.std.specs.List.{AllByRecursion}
 use Rattle.ssim_records.specs.declared.place.Place.{Place}
-use Rattle.seat_nesting.specs.Nesting.{Legs, Table, room}
+use Rattle.seat_nesting.specs.Nesting.{Legs, Table, legs_of, room}
 use Rattle.seat_core.specs.declared.booking.Booking.{Booking}
 use Rattle.seat_journal.specs.declared.entry.Advice.{Advice}
 use Rattle.seat_journal.specs.declared.entry.Entry.{Entry}
@@ -10,6 +10,10 @@ use Rattle.seat_core.specs.Bookings.{is_for, is_waiting, held}
 use Rattle.seat_core.specs.Sequential.{reduced, Passed, pass, may_confirm, confirmed, advice_of, room_left, NoneFits}
 use Rattle.seat_core.specs.Tables.{with_advice}
 use Rattle.seat_core.specs.Journal.{replay, calls_of, next_line, IsLegal}
+
+-- the two grids have the same ladders on the flight
+abbrev pub AgreeOn : ℕ → Legs → Legs → Type 0
+AgreeOn flight g h = legs_of g flight ≡ legs_of h flight
 
 -- no waiting booking of `among` on another flight fits in the book
 abbrev pub NoneElseFits : ℕ → Legs → List Booking → List Booking → Type 0
@@ -28,15 +32,15 @@ pass_on flight grid done told (b ∷ bs) =
     then pass_on flight grid (done ++ confirmed b ∷ []) (told ++ advice_of b ∷ []) bs
     else pass_on flight grid (done ++ b ∷ []) told bs)
 
--- where none of another flight fits, a pass needs to look at the flight alone
+-- where none of another flight fits, a pass needs to look at the flight alone, and at its own ladders
 abbrev pub PassOfFlight : Type 0
-PassOfFlight = (flight : ℕ) (grid : Legs) (bookings : List Booking) → NoneElseFits flight grid bookings bookings
-    → pass grid [] [] bookings ≡ pass_on flight grid [] [] bookings
+PassOfFlight = (flight : ℕ) (g h : Legs) (bookings : List Booking) → AgreeOn flight g h → NoneElseFits flight g bookings bookings
+    → pass g [] [] bookings ≡ pass_on flight h [] [] bookings
 
--- the room of a place rests on the bookings of its flight alone
+-- the room of a place rests on the ladders and the bookings of its flight alone
 abbrev pub RoomOfFlight : Type 0
-RoomOfFlight = (grid : Legs) (bookings : List Booking) (place : Place) (class : ℕ)
-    → room grid (held bookings) place class ≡ room grid (held (bookings_on place.flight bookings)) place class
+RoomOfFlight = (g h : Legs) (bookings : List Booking) (place : Place) (class : ℕ) → AgreeOn place.flight g h
+    → room g (held bookings) place class ≡ room h (held (bookings_on place.flight bookings)) place class
 
 -- the place is there, and on the flight
 abbrev pub is_on : ℕ → Option Place → Bool
@@ -76,9 +80,16 @@ part_after anew flight part (e ∷ es) =
 abbrev pub part_of : ℕ → List Entry → List Entry
 part_of flight journal = part_after (number_on flight journal) flight [] journal
 
--- a flight's part of a legal history is a legal history
+-- a flight's part of a legal history is a legal history, over each grid with the same ladders on the flight
 abbrev pub PartIsLegal : Type 0
-PartIsLegal = (grid : Legs) (journal : List Entry) (flight : ℕ) → IsLegal grid journal → IsLegal grid (part_of flight journal)
+PartIsLegal = (g h : Legs) (journal : List Entry) (flight : ℕ) → AgreeOn flight g h → IsLegal g journal → IsLegal h (part_of flight journal)
+
+-- a line on the flight is answered by the part as by the whole
+abbrev pub LineOfPart : Type 0
+LineOfPart = (g h : Legs) (past : List Entry) (e : Entry) (flight : ℕ) → AgreeOn flight g h → IsLegal g (past ++ e ∷ []) → is_on flight e.command.place ≡ true →
+    let part = part_of flight past in
+    let line = next_line h part e.session (calls_of part e.session + 1) e.command in
+    (line.reply ≡ e.reply) × (line.released ≡ e.released) × (line.advices ≡ advices_anew (number_on flight (past ++ e ∷ [])) e.advices)
 
 -- these lines of the part, and after them the one that this line's command makes, if it is on the flight
 abbrev pub followed : Legs → ℕ → List Entry → Entry → List Entry
@@ -94,17 +105,17 @@ alone grid flight part (e ∷ es) =
 
 -- the part is had by carrying out the flight's commands alone
 abbrev pub PartIsAlone : Type 0
-PartIsAlone = (grid : Legs) (journal : List Entry) (flight : ℕ) → IsLegal grid journal → part_of flight journal ≡ alone grid flight [] journal
+PartIsAlone = (g h : Legs) (journal : List Entry) (flight : ℕ) → AgreeOn flight g h → IsLegal g journal → part_of flight journal ≡ alone h flight [] journal
 
 -- and grows with the journal, by the lines that its own commands make
 abbrev pub PartGrows : Type 0
-PartGrows = (grid : Legs) (past more : List Entry) (flight : ℕ) → IsLegal grid (past ++ more)
-    → part_of flight (past ++ more) ≡ alone grid flight (part_of flight past) more
+PartGrows = (g h : Legs) (past more : List Entry) (flight : ℕ) → AgreeOn flight g h → IsLegal g (past ++ more)
+    → part_of flight (past ++ more) ≡ alone h flight (part_of flight past) more
 
 -- and it leaves each place on the flight the room that the whole leaves
 abbrev pub PartLeavesRoom : Type 0
-PartLeavesRoom = (grid : Legs) (journal : List Entry) (place : Place) (class : ℕ) → IsLegal grid journal
-    → room_left (replay grid (part_of place.flight journal)) place class ≡ room_left (replay grid journal) place class
+PartLeavesRoom = (g h : Legs) (journal : List Entry) (place : Place) (class : ℕ) → AgreeOn place.flight g h → IsLegal g journal
+    → room_left (replay h (part_of place.flight journal)) place class ≡ room_left (replay g journal) place class
 
 -- the flight's waiting list
 abbrev pub queue_on : ℕ → List Booking → List Booking
@@ -161,5 +172,5 @@ renumbered anew b = record b { number = anew b.number }
 
 -- the part leaves the bookings of the flight, each under the number of its line in the part
 abbrev pub PartLeavesBookings : Type 0
-PartLeavesBookings = (grid : Legs) (journal : List Entry) (flight : ℕ) → IsLegal grid journal
-    → (replay grid (part_of flight journal)).bookings ≡ map (renumbered (number_on flight journal)) (bookings_on flight (replay grid journal).bookings)
+PartLeavesBookings = (g h : Legs) (journal : List Entry) (flight : ℕ) → AgreeOn flight g h → IsLegal g journal
+    → (replay h (part_of flight journal)).bookings ≡ map (renumbered (number_on flight journal)) (bookings_on flight (replay g journal).bookings)

@@ -28,7 +28,7 @@ pub use laws::{
     pass_is_by_table, replay_is_numbered, replay_keeps_limits, shown_is_held, table_is_held,
 };
 pub use one_flight::{
-    part_grows, part_is_alone, part_is_legal, part_leaves_bookings, part_leaves_room,
+    line_of_part, part_grows, part_is_alone, part_is_legal, part_leaves_bookings, part_leaves_room,
     pass_of_flight, replay_is_quiet, room_of_flight, walk_after_adding, walk_after_reducing,
     walk_of_flight,
 };
