@@ -73,3 +73,10 @@ run_at list i c s t u below is p q =
 pub refused_at : (cap : ℕ) (fault : RunFault) (list : List Command) (i : ℕ) (c : Command) (s t u : Seat) → i < length list → c ≡ get_or list i c → HasRun (take i list) s t → IsRefused cap fault (c ∷ []) t u → IsRefused cap fault list s u
 refused_at cap fault list i c s t u below is p q =
     subst (λ l. IsRefused cap fault l s u) (sym (split_at list i c below ∙ ap (λ x. take i list ++ x ∷ drop (suc i) list) (sym is))) (refused_more cap fault (take i list) (c ∷ []) (drop (suc i) list) s t u p q)
+
+-- the run of the first session beside the run of the others
+pub run_both : (l : List Command) (s t : Seat) (ls : List (List Command)) (ss ts : List Seat) (first rest : Result (Unit {0}) RunFault)
+    → OnOk first (HasRun l s t) → OnOk rest (AllHaveRun ls ss ts) → OnOk (first_of first rest) (AllHaveRun (l ∷ ls) (s ∷ ss) (t ∷ ts))
+run_both l s t ls ss ts (Ok a) (Ok b) p q = (p, q)
+run_both l s t ls ss ts (Ok a) (Err f) p q = tt
+run_both l s t ls ss ts (Err f) rest p q = tt

@@ -1,5 +1,6 @@
 //! Workers: one for each session, each with a list of its own.
 ghost use Rattle.std.specs.Prelude.{◌≡◌, ◌+◌, ◌≤◌, [], ◌∷◌, All, length, IfErr, OnOk};
+ghost use Rattle.std.specs.Thread.{IsSync, IsSend};
 ghost use Rattle.seat_core.specs.Journal.{FitsCommand};
 ghost use Rattle.seat_host.specs.declared.desk.BookFault.TheVariants.{JournalFull};
 ghost use Rattle.seat_host.specs.Working.{HasRun, IsRefused, AllHaveRun, AllHaveBegun, NamesFirst, first_of};
@@ -13,7 +14,7 @@ use crate::session::Session;
 use seat_core::Command;
 use std::alloc::Global;
 use std::sync::Wait;
-use std::thread::Threads;
+use std::thread::{Threads, join_mut};
 
 /// Why a run stopped short. Its text is `N1`, the session and its call.
 #[derive(Clone, Copy, Debug, PartialEq, Eq)]
@@ -45,8 +46,8 @@ pub fn run_sessions<K: Hosting + Send + Sync, R: Threads + Wait + Sync, G: Gate>
     work_all(rt, alloc, host, gate, lists, sessions)
 }
 
-// The first worker here, and the others after it.
-#[tactic(auto, using(crate::proofs::Working::begun_run, crate::proofs::Working::begun_refused, crate::proofs::Working::all_begun))]
+// A worker for each list.
+#[cycle(workers)]
 fn work_all<K: Hosting + Send + Sync, R: Threads + Wait + Sync, G: Gate>(
     rt: &R,
     alloc: Global,
@@ -67,8 +68,50 @@ fn work_all<K: Hosting + Send + Sync, R: Threads + Wait + Sync, G: Gate>(
     let Some((session, others)) = sessions.split_first_mut() else {
         return Ok(());
     };
-    let first = work_off(rt, alloc, host, gate, list.as_slice(), session);
-    let rest = work_all(rt, alloc, host, gate, later, others);
+    side_by_side(
+        rt,
+        alloc,
+        host,
+        gate,
+        list.as_slice(),
+        session,
+        later,
+        others,
+    )
+}
+
+// The first worker in this thread, and the others beside it.
+#[cycle(workers)]
+#[tactic(auto, using(crate::proofs::Working::begun_run, crate::proofs::Working::begun_refused, crate::proofs::Working::all_begun))]
+fn side_by_side<K: Hosting + Send + Sync, R: Threads + Wait + Sync, G: Gate>(
+    rt: &R,
+    alloc: Global,
+    host: &Host<K>,
+    gate: &G,
+    list: &[Command],
+    session: &mut Session<K>,
+    later: &[Commands],
+    others: &mut [Session<K>],
+) -> Result<(), RunFault>
+    requires list { All (λ command. FitsCommand K.grid command) list.now }
+    requires lists { length later.now ≡ length others.old }
+    requires commands { All (λ list. All (λ command. FitsCommand K.grid command) list) later.now }
+    ensures ok { OnOk result (AllHaveRun (list.now ∷ later.now) (session.old ∷ others.old) (session.new ∷ others.new)) }
+    ensures refused { IfErr result (λ _. AllHaveBegun (list.now ∷ later.now) (session.old ∷ others.old) (session.new ∷ others.new)) }
+    ensures named { IfErr result (λ f. NamesFirst K.cap f (list.now ∷ later.now) (session.old ∷ others.old) (session.new ∷ others.new)) }
+{
+    let mut here = || -> Result<(), RunFault>
+        requires { IsSync R.row × IsSync K.row × IsSend K.row × IsSync G.row × All (λ command. FitsCommand K.grid command) list.now }
+        ensures ok { OnOk result (HasRun list.entry.now session.entry.now session.exit.now) }
+        ensures refused { IfErr result (λ f. IsRefused K.cap f list.entry.now session.entry.now session.exit.now) }
+    { work_off(rt, alloc, host, gate, list, session) };
+    let mut there = || -> Result<(), RunFault>
+        requires { IsSync R.row × IsSync K.row × IsSend K.row × IsSync G.row × (length later.now ≡ length others.now) × All (λ list. All (λ command. FitsCommand K.grid command) list) later.now }
+        ensures ok { OnOk result (AllHaveRun later.entry.now others.entry.now others.exit.now) }
+        ensures refused { IfErr result (λ _. AllHaveBegun later.entry.now others.entry.now others.exit.now) }
+        ensures named { IfErr result (λ f. NamesFirst K.cap f later.entry.now others.entry.now others.exit.now) }
+    { work_all(rt, alloc, host, gate, later, others) };
+    let (rest, first) = join_mut(rt, &mut there, &mut here);
     first_refused(first, rest)
 }
 

@@ -1,5 +1,0 @@
-use Rattle.std.proofs.Common.{length}
-use Rattle.seat_host.proofs.workers.+work_all.Given as goal
-
-abbrev pub decreases-work_all : goal.decreases-work_all
-decreases-work_all g l = length l.lists.now
