@@ -1,11 +1,12 @@
 -- What the reading of the matches cites.
-use Rattle.std.proofs.Common.{◌≡◌, ◌∙◌, ap, sym, true, false, Some, None, Option, List, Box, is_some, option_map}
+use Rattle.std.proofs.Common.{◌≡◌, ◌∙◌, ap, sym, true, false, Some, None, Option, List, find, slice_get, option_and_then, Box, is_some, option_map}
 use Rattle.std.specs.Box.{box_value}
-use Rattle.clap.specs.Words.{Row, Text, first_value, first_of, rows_of, subcommand_rows}
+use Rattle.std.specs.Str.{bytes_eq}
+use Rattle.clap.specs.Words.{Row, Text, all_of, matched_of, raw_values, first_value, first_of, rows_of, subcommand_rows}
 use Rattle.clap.specs.declared.parser.matches.Found.{Found}
 use Rattle.clap.specs.declared.parser.matches.SubCommand.{SubCommand}
 use Rattle.clap.specs.declared.parser.matches.ArgMatches.TheViews.{out-SubCommand}
-use Rattle.clap.proofs.WalkLemmas.{first_value-rows}
+use Rattle.clap.proofs.WalkLemmas.{first_value-rows, raw_values-rows}
 use Rattle.seat_words.specs.Jobs.{is_answerable}
 
 -- a value that was got is the one in the rows
@@ -15,6 +16,17 @@ some_text f id t e = sym (e ∙ first_value-rows f id)
 -- a value that is in the rows is got
 pub no_text : (f : Found) (id : Text) → None ≡ first_value f id → is_some (first_of id (rows_of f)) ≡ true → ⊥
 no_text f id e h = let bad : false ≡ true = ap is_some (e ∙ first_value-rows f id) ∙ h in cc
+
+-- and so of several values
+pub some_texts : (f : Found) (id : Text) (ts : List Text) → Some ts ≡ option_map raw_values (matched_of f id) → all_of id (rows_of f) ≡ Some ts
+some_texts f id ts e = sym (e ∙ raw_values-rows f id)
+
+pub no_texts : (f : Found) (id : Text) → None ≡ option_map raw_values (matched_of f id) → is_some (first_of id (rows_of f)) ≡ true → ⊥
+no_texts f id e h = none_first (find (λ r. bytes_eq r.id id) (rows_of f)) (e ∙ raw_values-rows f id) h
+  where
+    none_first : (found : Option Row) → None ≡ option_map (λ r. r.values) found → is_some (option_and_then (λ r. slice_get r.values 0) found) ≡ true → ⊥
+    none_first None e h = cc
+    none_first (Some r) e h = cc
 
 module _ {Z : Type 0} where
   pub nothing_found : (sub : Option (Box SubCommand Z)) → false ≡ is_some sub → is_answerable (subcommand_rows sub) ≡ true → ⊥

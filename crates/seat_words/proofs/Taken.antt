@@ -4,10 +4,10 @@ use Rattle.clap.specs.Words.{Row, Shape, Text, fault_of, is_simple, is_simple_an
 use Rattle.clap.specs.Walk.{rows_after}
 use Rattle.clap.specs.Simple.{argument_words, built, built_leaf}
 use Rattle.clap.proofs.OnLiterals.{clap_on_literals}
-use Rattle.seat_words.specs.CommandLine.{audit_app, check_app, flights_app, ladder_app, seatdesk_app}
+use Rattle.seat_words.specs.CommandLine.{audit_app, check_app, flights_app, ladder_app, run_app, seatdesk_app}
 use Rattle.seat_words.specs.Jobs.{Line, is_answerable, is_complete}
 use Rattle.seat_words.proofs.Found.{Each, Yields, line_in}
-use Rattle.seat_words.proofs.Values.{Keeps, has_required, help_keeps, leaf_values, set_keeps}
+use Rattle.seat_words.proofs.Values.{Keeps, append_keeps, has_required, help_keeps, leaf_values, set_keeps}
 
 pub seatdesk_is_simple : is_simple seatdesk_app ≡ true
 unfolding seatdesk_app clap_on_literals
@@ -52,7 +52,25 @@ audit_line = leaf_line is_complete (built_leaf audit_app.top) (
   ),
 ) (λ rows h. h)
 
+run_line : Yields is_complete (built_leaf run_app.top)
+run_line = leaf_line is_complete (built_leaf run_app.top) (
+  set_keeps _ refl refl,
+  (
+    set_keeps _ refl refl,
+    (
+      set_keeps _ refl refl,
+      (
+        set_keeps _ refl refl,
+        (
+          set_keeps _ refl refl,
+          (set_keeps _ refl refl, (append_keeps _ refl refl, (help_keeps _ refl, tt))),
+        ),
+      ),
+    ),
+  ),
+) (λ rows h. h)
+
 pub seatdesk_line : (words : List Text) → fault_of seatdesk_app words ≡ [] → is_answerable (subcommand_of seatdesk_app words) ≡ true
 unfolding seatdesk_app
 seatdesk_line words e = line_in is_complete (built seatdesk_app) (argument_words seatdesk_app words) refl
-    (ladder_line, (check_line, (flights_line, (audit_line, tt)))) e
+    (ladder_line, (check_line, (flights_line, (audit_line, (run_line, tt))))) e

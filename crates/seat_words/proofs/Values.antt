@@ -11,7 +11,7 @@ use Rattle.clap.specs.Faults.{bundle_fault, bundle_step_fault, check_fault, defa
 use Rattle.clap.specs.Takes.{is_given}
 use Rattle.clap.specs.Facts.{unwrap_or_range}
 use Rattle.clap.specs.declared.builder.action.ArgAction.{ArgAction}
-use Rattle.clap.specs.declared.builder.action.ArgAction.TheVariants.{Set, Help}
+use Rattle.clap.specs.declared.builder.action.ArgAction.TheVariants.{Set, Append, Help}
 use Rattle.clap.specs.declared.builder.range.ValueRange.{ValueRange}
 use Rattle.clap.specs.declared.builder.value_parser.Reading.{Reading}
 use Rattle.clap.specs.declared.error.kind.ErrorKind.TheVariants.{TooManyValues}
@@ -84,6 +84,14 @@ set_keeps a e range = record { use_of = go }
     go again [] rows f h = let bad = is_used a one [] range refl (neither _ _ f).0 in cc
     go again (v ∷ vs) rows f h = subst (λ (x : ArgAction). Filled (used_as x a.id (reading_by a) (v ∷ vs) rows)) (sym e)
         (filled_with a.id (reading_by a) _ v vs (without a.id rows) (filled_without a.id rows h))
+
+pub append_keeps : (a : Rule) → action_of a ≡ Append → a.range ≡ one → Keeps a
+append_keeps a e range = record { use_of = go }
+  where
+    go : (again : Bool) (values : List Text) (rows : List Row) → use_fault again a values rows ≡ [] → Filled rows → Filled (used a values rows)
+    go again [] rows f h = let bad = is_used a one [] range refl (neither _ _ f).0 in cc
+    go again (v ∷ vs) rows f h = subst (λ (x : ArgAction). Filled (used_as x a.id (reading_by a) (v ∷ vs) rows)) (sym e)
+        (filled_with a.id (reading_by a) _ v vs rows h)
 
 pub help_keeps : (a : Rule) → action_of a ≡ Help → Keeps a
 help_keeps a e = record { use_of = go }

@@ -1,6 +1,7 @@
--- The command line of seatdesk, as clap reads it: four commands, each with the values that it asks for.
+-- The command line of seatdesk, as clap reads it: five commands, each with the values that it asks for.
 use Rattle.std.specs.Prelude.{◌≡◌, Some, [], codes, true, false}
 use Rattle.clap.specs.Words.{App, Rule, Text, app_of, new_app, new_rule, rule_of, with_rule, with_subcommand}
+use Rattle.clap.specs.declared.builder.action.ArgAction.TheVariants.{Append}
 use Rattle.clap.specs.declared.builder.arg.Arg.{Arg}
 use Rattle.clap.specs.declared.builder.command.Command.{Command}
 use Rattle.clap.specs.declared.builder.command.Command.TheViews.{out-Command as fields_of}
@@ -12,6 +13,10 @@ required_option id = record (new_rule id) { long = Some id; required = true; val
 -- a value by its place, which must be there
 abbrev pub required_value : Text → Rule
 required_value id = record (new_rule id) { required = true; value_names = 1 }
+
+-- the same, of which there may be more
+abbrev pub required_values : Text → Rule
+required_values id = record (required_value id) { action = Some Append }
 
 abbrev pub ladder_app : App
 ladder_app = new_app (codes "ladder")
@@ -25,13 +30,22 @@ flights_app = with_rule (with_rule (with_rule (new_app (codes "flights"))
     (required_option (codes "days")))
     (required_value (codes "set"))
 
-abbrev pub audit_app : App
-audit_app = with_rule (with_rule (with_rule (with_rule (with_rule (new_app (codes "audit"))
+-- what a command asks for that works on the limits of a horizon
+abbrev pub horizon_app : Text → App
+horizon_app name = with_rule (with_rule (with_rule (with_rule (new_app name)
     (required_option (codes "set")))
     (required_option (codes "limits")))
     (required_option (codes "first")))
-    (required_option (codes "days")))
-    (required_value (codes "journal"))
+    (required_option (codes "days"))
+
+abbrev pub audit_app : App
+audit_app = with_rule (horizon_app (codes "audit")) (required_value (codes "journal"))
+
+abbrev pub run_app : App
+run_app = with_rule (with_rule (with_rule (horizon_app (codes "run"))
+    (required_option (codes "today")))
+    (required_option (codes "journal")))
+    (required_values (codes "scripts"))
 
 -- the program before its commands
 abbrev pub bare_app : App
@@ -46,8 +60,8 @@ bare_app = record {
 
 -- the program: one of its commands must be named
 unfoldable pub seatdesk_app : App
-seatdesk_app = with_subcommand (with_subcommand (with_subcommand (with_subcommand
-    bare_app ladder_app.top) check_app.top) flights_app.top) audit_app.top
+seatdesk_app = with_subcommand (with_subcommand (with_subcommand (with_subcommand (with_subcommand
+    bare_app ladder_app.top) check_app.top) flights_app.top) audit_app.top) run_app.top
 
 -- the command is read as a, and its options are its own
 pub record IsBuiltAs (a : App) (c : Command) : Type 0 where

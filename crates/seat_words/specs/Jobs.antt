@@ -3,9 +3,9 @@ use Rattle.std.specs.Prelude.{◌≡◌, Bool, List, [], ◌∷◌, Option, Some
 use Rattle.std.specs.Str.{bytes_eq}
 use Rattle.std.specs.List.{list_all}
 use Rattle.std.specs.Option.{option_map_or}
-use Rattle.clap.specs.Words.{Row, Text, first_of}
+use Rattle.clap.specs.Words.{Row, Text, all_of, first_of}
 use Rattle.seat_words.specs.declared.job.Job.{Job}
-use Rattle.seat_words.specs.declared.job.Job.TheVariants.{Ladder, Check, Flights, Audit}
+use Rattle.seat_words.specs.declared.job.Job.TheVariants.{Ladder, Check, Flights, Audit, Run}
 
 -- a command that clap found in the words, and what it found of the command's values
 abbrev pub Line : Type 0
@@ -29,6 +29,14 @@ Asks (Audit set limits first days journal) line = (line.0 ≡ codes "audit")
     × Has line (codes "first") first.now
     × Has line (codes "days") days.now
     × Has line (codes "journal") journal.now
+Asks (Run set limits first days today journal scripts) line = (line.0 ≡ codes "run")
+    × Has line (codes "set") set.now
+    × Has line (codes "limits") limits.now
+    × Has line (codes "first") first.now
+    × Has line (codes "days") days.now
+    × Has line (codes "today") today.now
+    × Has line (codes "journal") journal.now
+    × (all_of (codes "scripts") line.1 ≡ Some scripts)
 
 -- ---- what the reading itself needs
 
@@ -40,6 +48,11 @@ asked_values = (codes "ladder", [])
     ∷ (
       codes "audit",
       codes "set" ∷ codes "limits" ∷ codes "first" ∷ codes "days" ∷ codes "journal" ∷ [],
+    )
+    ∷ (
+      codes "run",
+      codes "set" ∷ codes "limits" ∷ codes "first" ∷ codes "days"
+          ∷ codes "today" ∷ codes "journal" ∷ codes "scripts" ∷ [],
     )
     ∷ []
 

@@ -1,9 +1,9 @@
 //! The commands, as clap reads them and as their help shows them.
 ghost use Rattle.std.specs.Prelude.{IfOk, codes};
 ghost use Rattle.clap.specs.Words.{new_app};
-ghost use Rattle.seat_words.specs.CommandLine.{IsBuiltAs, IsReadAs, audit_app, bare_app, check_app, flights_app, ladder_app, required_option, required_value, seatdesk_app};
+ghost use Rattle.seat_words.specs.CommandLine.{IsBuiltAs, IsReadAs, audit_app, bare_app, check_app, flights_app, horizon_app, ladder_app, required_option, required_value, required_values, run_app, seatdesk_app};
 
-use clap::{Arg, Command};
+use clap::{Arg, ArgAction, Command};
 use std::alloc::{AllocError, Global};
 
 const SET_HELP: &str = "The data set of the schedule (SSIM chapter 7, a file)";
@@ -14,7 +14,14 @@ const FIRST_HELP: &str = "The first day of departure, as 2024-06-01, from 2000 t
 
 const DAYS_HELP: &str = "How many days from the first on, 1 to 366";
 
-const JOURNAL_HELP: &str = "The journal to replay (a file)";
+const TODAY_HELP: &str =
+    "The day of the run, as 2024-06-01, from 2000 to 2099; it gives the requests their year";
+
+const OUT_HELP: &str = "The file that the journal is written to";
+
+const JOURNAL_HELP: &str = "The journal to replay: a file that run wrote";
+
+const SCRIPTS_HELP: &str = "The scripts of the sessions, 1 to 8 files of AIRIMP messages";
 
 /// The whole command line.
 pub(crate) fn seatdesk_command<'a>(alloc: Global) -> Result<Command<'a>, AllocError>
@@ -23,11 +30,13 @@ pub(crate) fn seatdesk_command<'a>(alloc: Global) -> Result<Command<'a>, AllocEr
     let check = check_command(alloc)?;
     let flights = flights_command(alloc)?;
     let audit = audit_command(alloc)?;
+    let run = run_command(alloc)?;
     let seatdesk = bare_command(alloc)?
         .subcommand(ladder_command(alloc))?
         .subcommand(check)?
         .subcommand(flights)?
-        .subcommand(audit)?;
+        .subcommand(audit)?
+        .subcommand(run)?;
     Ok(seatdesk)
 }
 
@@ -39,7 +48,7 @@ fn bare_command<'a>(alloc: Global) -> Result<Command<'a>, AllocError>
         .version("1.0.0")
         .about("The seat inventory of an airline's reservations host")
         .after_help(
-            "Example: seatdesk check summer.ssim\nEach command tells more: seatdesk flights --help",
+            "Example: seatdesk check examples/summer.ssim\nEach command tells more: seatdesk run --help",
         )
         .subcommand_required(true)
         .disable_help_subcommand(true);
@@ -64,7 +73,7 @@ fn check_command<'a>(alloc: Global) -> Result<Command<'a>, AllocError>
         alloc,
         "check",
         "Reads a data set and writes one summary line",
-        "Example: seatdesk check summer.ssim",
+        "Example: seatdesk check examples/summer.ssim",
     )
     .arg(wanted_value(alloc, "set", "SET", SET_HELP))?;
     Ok(check)
@@ -77,7 +86,7 @@ fn flights_command<'a>(alloc: Global) -> Result<Command<'a>, AllocError>
         alloc,
         "flights",
         "Writes one line for each dated flight",
-        "Example: seatdesk flights --first 2024-06-01 --days 30 summer.ssim",
+        "Example: seatdesk flights --first 2024-07-01 --days 31 examples/summer.ssim",
     )
     .arg(wanted_option(alloc, "first", "DATE", FIRST_HELP))?
     .arg(wanted_option(alloc, "days", "N", DAYS_HELP))?
@@ -88,18 +97,46 @@ fn flights_command<'a>(alloc: Global) -> Result<Command<'a>, AllocError>
 fn audit_command<'a>(alloc: Global) -> Result<Command<'a>, AllocError>
     ensures { IfOk result (IsBuiltAs audit_app) }
 {
-    let audit = named_command(
+    let audit = horizon_command(
         alloc,
         "audit",
         "Replays a journal against its schedule and limits, and writes one summary line",
-        "Example: seatdesk audit --set summer.ssim --limits limits.txt --first 2024-06-01 --days 30 journal.txt",
-    )
-    .arg(wanted_option(alloc, "set", "SET", SET_HELP))?
-    .arg(wanted_option(alloc, "limits", "LIMITS", LIMITS_HELP))?
-    .arg(wanted_option(alloc, "first", "DATE", FIRST_HELP))?
-    .arg(wanted_option(alloc, "days", "N", DAYS_HELP))?
+        "Example: seatdesk audit --set examples/summer.ssim --limits examples/limits.txt --first 2024-07-01 --days 31 examples/journal.txt",
+    )?
     .arg(wanted_value(alloc, "journal", "JOURNAL", JOURNAL_HELP))?;
     Ok(audit)
+}
+
+fn run_command<'a>(alloc: Global) -> Result<Command<'a>, AllocError>
+    ensures { IfOk result (IsBuiltAs run_app) }
+{
+    let run = horizon_command(
+        alloc,
+        "run",
+        "Books the requests of scripts, one session on a thread for each script, and writes the replies",
+        "OUT is created, empty, after the inputs open and before they are read; a refused run leaves it empty.\n\nExample: seatdesk run --set examples/summer.ssim --limits examples/limits.txt --first 2024-07-01 --days 31 --today 2024-06-20 --journal journal.txt examples/london.txt examples/lisbon.txt",
+    )?
+    .arg(wanted_option(alloc, "today", "DATE", TODAY_HELP))?
+    .arg(wanted_option(alloc, "journal", "OUT", OUT_HELP))?
+    .arg(wanted_values(alloc, "scripts", "SCRIPT", SCRIPTS_HELP))?;
+    Ok(run)
+}
+
+// A command over the limits of the dated flights.
+fn horizon_command<'a>(
+    alloc: Global,
+    name: &'a str,
+    about: &'a str,
+    more: &'a str,
+) -> Result<Command<'a>, AllocError>
+    ensures { IfOk result (IsBuiltAs (horizon_app name.entry.now)) }
+{
+    let command = named_command(alloc, name, about, more)
+        .arg(wanted_option(alloc, "set", "SET", SET_HELP))?
+        .arg(wanted_option(alloc, "limits", "LIMITS", LIMITS_HELP))?
+        .arg(wanted_option(alloc, "first", "DATE", FIRST_HELP))?
+        .arg(wanted_option(alloc, "days", "N", DAYS_HELP))?;
+    Ok(command)
 }
 
 // A command with what its help says before and behind its arguments.
@@ -124,4 +161,11 @@ fn wanted_option<'a>(alloc: Global, id: &'a str, value: &'a str, help: &'a str) 
     ensures { IsReadAs (required_option id.entry.now) result }
 {
     wanted_value(alloc, id, value, help).long(id)
+}
+
+// A value by its place, of which there may be more.
+fn wanted_values<'a>(alloc: Global, id: &'a str, value: &'a str, help: &'a str) -> Arg<'a>
+    ensures { IsReadAs (required_values id.entry.now) result }
+{
+    wanted_value(alloc, id, value, help).action(ArgAction::Append)
 }

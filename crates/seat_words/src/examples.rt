@@ -5,16 +5,23 @@ ghost use Rattle.seat_words.specs.Examples.{IsReadTo};
 /// Each command's example is taken, with the values that stand in it.
 pub fn examples_are_read()
     ensures ladder { IsReadTo (codes "seatdesk ladder") (codes "ladder") [] }
-    ensures check { IsReadTo (codes "seatdesk check summer.ssim") (codes "check")
-        ((codes "set", codes "summer.ssim" ∷ []) ∷ []) }
-    ensures flights { IsReadTo (codes "seatdesk flights --first 2024-06-01 --days 30 summer.ssim")
+    ensures check { IsReadTo (codes "seatdesk check examples/summer.ssim") (codes "check")
+        ((codes "set", codes "examples/summer.ssim" ∷ []) ∷ []) }
+    ensures flights { IsReadTo (codes "seatdesk flights --first 2024-07-01 --days 31 examples/summer.ssim")
         (codes "flights")
-        ((codes "first", codes "2024-06-01" ∷ []) ∷ (codes "days", codes "30" ∷ [])
-        ∷ (codes "set", codes "summer.ssim" ∷ []) ∷ []) }
+        ((codes "first", codes "2024-07-01" ∷ []) ∷ (codes "days", codes "31" ∷ [])
+        ∷ (codes "set", codes "examples/summer.ssim" ∷ []) ∷ []) }
     ensures audit { IsReadTo
-        (codes "seatdesk audit --set summer.ssim --limits limits.txt --first 2024-06-01 --days 30 journal.txt")
+        (codes "seatdesk audit --set examples/summer.ssim --limits examples/limits.txt --first 2024-07-01 --days 31 examples/journal.txt")
         (codes "audit")
-        ((codes "set", codes "summer.ssim" ∷ []) ∷ (codes "limits", codes "limits.txt" ∷ [])
-        ∷ (codes "first", codes "2024-06-01" ∷ []) ∷ (codes "days", codes "30" ∷ [])
-        ∷ (codes "journal", codes "journal.txt" ∷ []) ∷ []) }
+        ((codes "set", codes "examples/summer.ssim" ∷ []) ∷ (codes "limits", codes "examples/limits.txt" ∷ [])
+        ∷ (codes "first", codes "2024-07-01" ∷ []) ∷ (codes "days", codes "31" ∷ [])
+        ∷ (codes "journal", codes "examples/journal.txt" ∷ []) ∷ []) }
+    ensures run { IsReadTo
+        (codes "seatdesk run --set examples/summer.ssim --limits examples/limits.txt --first 2024-07-01 --days 31 --today 2024-06-20 --journal journal.txt examples/london.txt examples/lisbon.txt")
+        (codes "run")
+        ((codes "set", codes "examples/summer.ssim" ∷ []) ∷ (codes "limits", codes "examples/limits.txt" ∷ [])
+        ∷ (codes "first", codes "2024-07-01" ∷ []) ∷ (codes "days", codes "31" ∷ [])
+        ∷ (codes "today", codes "2024-06-20" ∷ []) ∷ (codes "journal", codes "journal.txt" ∷ [])
+        ∷ (codes "scripts", codes "examples/london.txt" ∷ codes "examples/lisbon.txt" ∷ []) ∷ []) }
 {}

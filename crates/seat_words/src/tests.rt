@@ -17,14 +17,18 @@ fn reads_each_command(rt: HostRuntime) -> Result<(), Fail> {
             "audit --set summer.ssim --limits limits.txt --first 2024-06-01 --days 30 journal.txt",
             "audit summer.ssim limits.txt 2024-06-01 30 journal.txt",
         ),
+        (
+            "run --set s --limits l --first f --days n --today t --journal out one.txt two.txt",
+            "run s l f n t out [one.txt two.txt]",
+        ),
         // in any order, and with `=`
         (
             "flights summer.ssim --days=7 --first=2024-06-01",
             "flights summer.ssim 2024-06-01 7",
         ),
         (
-            "audit --days n --limits=l j --first f --set=s",
-            "audit s l f n j",
+            "run a --journal=out --today=t b --days n --first f --limits=l c --set=s",
+            "run s l f n t out [a b c]",
         ),
         // a value is taken as it is written
         (
@@ -66,14 +70,18 @@ fn refuses_other_words(rt: HostRuntime) -> Result<(), Fail> {
             ErrorKind::MissingRequiredArgument,
         ),
         (
-            "audit --set s --first f --days 3 j",
+            "run --set s --limits l --first f --days 3 --today t --journal out",
+            ErrorKind::MissingRequiredArgument,
+        ),
+        (
+            "run --set s --limits l --first f --days 3 --today t a",
             ErrorKind::MissingRequiredArgument,
         ),
         ("sell", ErrorKind::InvalidSubcommand),
         ("help", ErrorKind::InvalidSubcommand),
         ("--help", ErrorKind::DisplayHelp),
         ("-h", ErrorKind::DisplayHelp),
-        ("audit --help", ErrorKind::DisplayHelp),
+        ("run --help", ErrorKind::DisplayHelp),
         ("--version", ErrorKind::DisplayVersion),
     ];
     for (line, want) in rows {
@@ -157,5 +165,17 @@ fn text_of(alloc: Global, job: &Job) -> Result<String, AllocError> {
             days,
             journal,
         } => { format!(in alloc; "audit {set} {limits} {first} {days} {journal}") }
+        Job::Run {
+            set,
+            limits,
+            first,
+            days,
+            today,
+            journal,
+            scripts,
+        } => {
+            let scripts = scripts.as_slice().join(alloc, " ")?;
+            format!(in alloc; "run {set} {limits} {first} {days} {today} {journal} [{scripts}]")
+        }
     }
 }

@@ -6,9 +6,11 @@ pub returns : goal.returns
 unfolding seatdesk_app
 returns c =
     added _ _ _ _ _ c.in_ok-seatdesk.ensures
+    (added _ _ _ _ _ c.in_ok-subcommand-4.ensures
     (added _ _ _ _ _ c.in_ok-subcommand-3.ensures
     (added _ _ _ _ _ c.in_ok-subcommand-2.ensures
     (added _ _ _ _ _ c.in_ok-subcommand.ensures c.in_ok-bare_command.ensures c.ladder_command.ensures)
     c.in_ok-check.ensures)
     c.in_ok-flights.ensures)
-    c.in_ok-audit.ensures
+    c.in_ok-audit.ensures)
+    c.in_ok-run.ensures

@@ -18,3 +18,7 @@ returns-clause-flights c = record { taken = refl; found = refl }
 pub returns-clause-audit : goal.returns-clause-audit
 unfolding seatdesk_app clap_on_literals
 returns-clause-audit c = record { taken = refl; found = refl }
+
+pub returns-clause-run : goal.returns-clause-run
+unfolding seatdesk_app clap_on_literals
+returns-clause-run c = record { taken = refl; found = refl }

@@ -42,7 +42,7 @@ job_of-requires c =
 pub returns-clause-asks : goal.returns-clause-asks
 returns-clause-asks c =
     let found = matched _ _ (texts c.args.words.now) c.in_ok-command.ensures.app c.in_ok-matches.ensures.matches c.in_ok-matches.ensures.kinds in
-    subst (λ (line : Option Line). IsSomeAnd line (Asks c.job_of.result)) found.0 c.job_of.ensures
+    subst (λ (line : Option Line). IsSomeAnd line (Asks c.in_ok-job.job)) found.0 c.in_ok-job.ensures
 
 pub returns-clause-kinds : goal.returns-clause-kinds
 returns-clause-kinds c =
