@@ -3,11 +3,11 @@ use Rattle.std.proofs.Common.{◌≡◌, ℕ, zero, suc, ◌+◌, ◌<◌, ◌�
 use Rattle.std.specs.Prelude.{Result, Ok, Err, OnOk, IfErr, All, map, zip, slice_index_or}
 use Rattle.std.specs.List.{AllZip}
 use Rattle.std.proofs.Math.Seq.{split_at}
-use Rattle.std.proofs.lemmas.List.{append-nil, take_more}
+use Rattle.std.proofs.lemmas.List.{take_more}
 use Rattle.seat_journal.specs.declared.entry.Command.{Command}
 use Rattle.seat_journal.specs.declared.entry.Entry.{Entry}
 use Rattle.seat_core.specs.Prefixes.{Begins}
-use Rattle.seat_core.proofs.Prefixes.{begins_trans, begins_itself, begins_longer}
+use Rattle.seat_core.proofs.Prefixes.{begins_trans, begins_itself}
 use Rattle.seat_host.specs.Sessions.{Seat}
 use Rattle.seat_host.specs.Working.{HasRun, HasBegun, IsRefused, AllHaveRun, AllHaveBegun, NamesFirst, first_of}
 use Rattle.seat_host.specs.declared.workers.RunFault.{RunFault}
@@ -15,9 +15,6 @@ use Rattle.seat_host.specs.declared.workers.RunFault.{RunFault}
 commands_append : (xs ys : List Entry) → map (λ (e : Entry). e.command) (xs ++ ys) ≡ map (λ (e : Entry). e.command) xs ++ map (λ (e : Entry). e.command) ys
 commands_append [] ys = refl
 commands_append (x ∷ xs) ys = ap (λ l. x.command ∷ l) (commands_append xs ys)
-
-pub run_none : (s : Seat) → HasRun [] s s
-run_none s = record { lines = []; commands = refl; id = refl; receipts = sym (append-nil s.receipts); before = begins_itself s.front }
 
 -- one run after another
 pub run_more : (xs ys : List Command) (s t u : Seat) → HasRun xs s t → HasRun ys t u → HasRun (xs ++ ys) s u
@@ -80,3 +77,25 @@ pub run_both : (l : List Command) (s t : Seat) (ls : List (List Command)) (ss ts
 run_both l s t ls ss ts (Ok a) (Ok b) p q = (p, q)
 run_both l s t ls ss ts (Ok a) (Err f) p q = tt
 run_both l s t ls ss ts (Err f) rest p q = tt
+
+-- and of what stands behind
+pub all_back : {A : Type 0} (P : A → Type 0) (all xs ys : List A) → all ≡ xs ++ ys → All P all → All P ys
+all_back P all [] ys is h = subst (λ l. All P l) is h
+all_back P all (x ∷ xs) ys is h = all_back P (xs ++ ys) xs ys refl (all_later P all x (xs ++ ys) is h)
+
+-- what stands before the commands that are left was booked
+pub record IsAt (list left : List Command) (s t : Seat) : Type 0 where
+  pub booked : List Command
+  pub parts : list ≡ booked ++ left
+  pub run : HasRun booked s t
+
+pub at_more : (list left next later : List Command) (s t u : Seat) → left ≡ next ++ later → IsAt list left s t → HasRun next t u → IsAt list later s u
+at_more list left next later s t u is at q = record {
+  booked = at.booked ++ next;
+  parts = at.parts ∙ ap (λ l. at.booked ++ l) is ∙ sym (append_assoc at.booked next later);
+  run = run_more at.booked next s t u at.run q;
+}
+
+pub at_refused : (cap : ℕ) (fault : RunFault) (list left next later : List Command) (s t u : Seat) → left ≡ next ++ later → IsAt list left s t → IsRefused cap fault next t u → IsRefused cap fault list s u
+at_refused cap fault list left next later s t u is at q =
+    subst (λ l. IsRefused cap fault l s u) (sym (at.parts ∙ ap (λ l. at.booked ++ l) is)) (refused_more cap fault at.booked next later s t u at.run q)

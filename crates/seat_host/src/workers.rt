@@ -13,7 +13,7 @@ use crate::ledgers::Hosting;
 use crate::session::Session;
 use seat_core::Command;
 use std::alloc::Global;
-use std::sync::Wait;
+use std::sync::{Mutex, MutexGuard, Wait};
 use std::thread::{Threads, join_mut};
 
 /// Why a run stopped short. Its text is `N1`, the session and its call.
@@ -26,6 +26,9 @@ pub enum RunFault {
         fault: BookFault,
     },
 }
+
+// The calls of a turn.
+const TURN: usize = 1024;
 
 /// Books each list in order, by a worker of its own for the session at its place. A worker whose call is refused
 /// stops there, and the others finish.
@@ -43,7 +46,8 @@ pub fn run_sessions<K: Hosting + Send + Sync, R: Threads + Wait + Sync, G: Gate>
     ensures refused { IfErr result (λ _. AllHaveBegun lists.now sessions.old sessions.new) }
     ensures named { IfErr result (λ f. NamesFirst K.cap f lists.now sessions.old sessions.new) }
 {
-    work_all(rt, alloc, host, gate, lists, sessions)
+    let turns = Mutex::new(());
+    work_all(rt, alloc, host, gate, &turns, lists, sessions)
 }
 
 // A worker for each list.
@@ -53,6 +57,7 @@ fn work_all<K: Hosting + Send + Sync, R: Threads + Wait + Sync, G: Gate>(
     alloc: Global,
     host: &Host<K>,
     gate: &G,
+    turns: &Mutex<()>,
     lists: &[Commands],
     sessions: &mut [Session<K>],
 ) -> Result<(), RunFault>
@@ -73,6 +78,7 @@ fn work_all<K: Hosting + Send + Sync, R: Threads + Wait + Sync, G: Gate>(
         alloc,
         host,
         gate,
+        turns,
         list.as_slice(),
         session,
         later,
@@ -88,6 +94,7 @@ fn side_by_side<K: Hosting + Send + Sync, R: Threads + Wait + Sync, G: Gate>(
     alloc: Global,
     host: &Host<K>,
     gate: &G,
+    turns: &Mutex<()>,
     list: &[Command],
     session: &mut Session<K>,
     later: &[Commands],
@@ -104,13 +111,13 @@ fn side_by_side<K: Hosting + Send + Sync, R: Threads + Wait + Sync, G: Gate>(
         requires { IsSync R.row × IsSync K.row × IsSend K.row × IsSync G.row × All (λ command. FitsCommand K.grid command) list.now }
         ensures ok { OnOk result (HasRun list.entry.now session.entry.now session.exit.now) }
         ensures refused { IfErr result (λ f. IsRefused K.cap f list.entry.now session.entry.now session.exit.now) }
-    { work_off(rt, alloc, host, gate, list, session) };
+    { work_off(rt, alloc, host, gate, turns, list, session) };
     let mut there = || -> Result<(), RunFault>
         requires { IsSync R.row × IsSync K.row × IsSend K.row × IsSync G.row × (length later.now ≡ length others.now) × All (λ list. All (λ command. FitsCommand K.grid command) list) later.now }
         ensures ok { OnOk result (AllHaveRun later.entry.now others.entry.now others.exit.now) }
         ensures refused { IfErr result (λ _. AllHaveBegun later.entry.now others.entry.now others.exit.now) }
         ensures named { IfErr result (λ f. NamesFirst K.cap f later.entry.now others.entry.now others.exit.now) }
-    { work_all(rt, alloc, host, gate, later, others) };
+    { work_all(rt, alloc, host, gate, turns, later, others) };
     let (rest, first) = join_mut(rt, &mut there, &mut here);
     first_refused(first, rest)
 }
@@ -124,8 +131,70 @@ fn first_refused(first: Result<(), RunFault>, rest: Result<(), RunFault>) -> Res
     }
 }
 
-// One worker: books the list in order, as far as the first refusal.
+// One worker: books the list in order, as far as the first refusal. Threads that meet at the lock at each call are
+// slow, so where the gate lets them they take turns.
 fn work_off<K: Hosting, R: Wait, G: Gate>(
+    rt: &R,
+    alloc: Global,
+    host: &Host<K>,
+    gate: &G,
+    turns: &Mutex<()>,
+    list: &[Command],
+    session: &mut Session<K>,
+) -> Result<(), RunFault>
+    requires { All (λ command. FitsCommand K.grid command) list.now }
+    ensures ok { OnOk result (HasRun list.now session.old session.new) }
+    ensures refused { IfErr result (λ f. IsRefused K.cap f list.now session.old session.new) }
+{
+    if gate.takes_turns() {
+        book_by_turns(rt, alloc, host, gate, turns, list, session)
+    } else {
+        book_all(rt, alloc, host, gate, list, session)
+    }
+}
+
+fn book_by_turns<K: Hosting, R: Wait, G: Gate>(
+    rt: &R,
+    alloc: Global,
+    host: &Host<K>,
+    gate: &G,
+    turns: &Mutex<()>,
+    list: &[Command],
+    session: &mut Session<K>,
+) -> Result<(), RunFault>
+    requires { All (λ command. FitsCommand K.grid command) list.now }
+    ensures ok { OnOk result (HasRun list.now session.old session.new) }
+    ensures refused { IfErr result (λ f. IsRefused K.cap f list.now session.old session.new) }
+{
+    let mut left = list;
+    while !left.is_empty() {
+        let (next, later) = left.split_at(left.len().min(TURN));
+        take_turn(rt, alloc, host, gate, turns, next, session)?;
+        left = later;
+    }
+    Ok(())
+}
+
+fn take_turn<K: Hosting, R: Wait, G: Gate>(
+    rt: &R,
+    alloc: Global,
+    host: &Host<K>,
+    gate: &G,
+    turns: &Mutex<()>,
+    list: &[Command],
+    session: &mut Session<K>,
+) -> Result<(), RunFault>
+    requires { All (λ command. FitsCommand K.grid command) list.now }
+    ensures ok { OnOk result (HasRun list.now session.old session.new) }
+    ensures refused { IfErr result (λ f. IsRefused K.cap f list.now session.old session.new) }
+{
+    let turn = turns.lock(rt);
+    let answer = book_all(rt, alloc, host, gate, list, session);
+    let _ = MutexGuard::unlock(turn);
+    answer
+}
+
+fn book_all<K: Hosting, R: Wait, G: Gate>(
     rt: &R,
     alloc: Global,
     host: &Host<K>,
