@@ -23,7 +23,9 @@ use Rattle.seat_core.specs.Flights.{bookings_on, is_on, advices_anew}
 use Rattle.seat_core.specs.Inventory.{has_memory, IsLawful}
 use Rattle.seat_core.specs.Showing.{shown}
 use Rattle.seat_core.specs.Tables.{nothing_held}
-use Rattle.seat_core.specs.Books.{book_at, book_for, has_spare, has_spare_in, spare_of, IsEntered, IsKept, SameBooks}
+use Rattle.seat_core.specs.Books.{book_at, book_for, has_spare, has_spare_in, spare_of, IsEntered, IsKept, IsQueued, SameBooks}
+use Rattle.seat_core.specs.Queues.{queue_of}
+use Rattle.seat_core.proofs.Queues.{queue_is}
 use Rattle.seat_core.proofs.Flights.{bookings_view}
 use Rattle.seat_core.proofs.Seeing.{seen, answer_on, answer_off, advices_on}
 use Rattle.seat_core.proofs.Applying.{answer_applies, replay_is_numbered}
@@ -112,7 +114,7 @@ few_in_book opening now cap journal books calls counts (Some place) k =
 
 -- books that are the same are kept
 pub kept_same : (opening now : Legs) (cap : ℕ) (journal : List Entry) (books books' : List Book) (calls : List ℕ) (counts : Counted) → IsKept opening now cap journal books calls counts → SameBooks books books' → IsKept opening now cap journal books' calls counts
-kept_same opening now cap journal books books' calls counts k same = record { lawful = k.lawful; by_flight = λ f. same.each f ∙ k.by_flight f; by_session = k.by_session; limits = k.limits; seats = k.seats }
+kept_same opening now cap journal books books' calls counts k same = record { lawful = k.lawful; by_flight = λ f. same.each f ∙ k.by_flight f; by_queue = λ f. same.queues f ∙ k.by_queue f; by_session = k.by_session; limits = k.limits; seats = k.seats }
 
 -- the line applied to the book of its flight
 entered_on : (opening now : Legs) (cap : ℕ) (journal : List Entry) (f : ℕ) (e : Entry) → IsLawful opening now cap journal (replay opening journal).bookings → IsNext opening journal e → is_on f e.command.place ≡ true
@@ -153,6 +155,11 @@ counted journal e calls k nine most s le = cases (e.session == s) refl where
       let same : calls_of (journal ++ e ∷ []) s ≡ calls_of journal s = called journal e s ∙ (ap (λ t. calls_of journal s + cond t 1 0) is ∙ omega arith) in
       get_or-set_other calls e.session s (calls_of journal e.session + 1) 0 other ∙ (k s le ∙ sym same)
 
+-- each waiting list is that of its flight's bookings
+pub kept_queued : (opening now : Legs) (cap : ℕ) (journal : List Entry) (books : List Book) (calls : List ℕ) (counts : Counted) → IsKept opening now cap journal books calls counts → IsQueued books
+kept_queued opening now cap journal books calls counts k =
+    record { each = λ f. k.by_queue f ∙ (sym (queue_is f (replay opening journal).bookings) ∙ ap queue_of (sym (k.by_flight f))) }
+
 -- the counters, shown one line more
 table_next : (opening now : Legs) (cap : ℕ) (journal : List Entry) (books : List Book) (calls : List ℕ) (counts : Counted) (e : Entry) → IsKept opening now cap journal books calls counts → IsLegal opening (journal ++ e ∷ [])
     → shown (limits_of counts) (seats_of counts) e ≡ held (replay opening (journal ++ e ∷ [])).bookings
@@ -167,11 +174,12 @@ table_next opening now cap journal books calls counts e k legal =
 
 -- a line that is added keeps the books
 pub kept_next : (opening now : Legs) (cap : ℕ) (journal : List Entry) (books books' : List Book) (calls : List ℕ) (counts counts' : Counted) (e : Entry) → IsKept opening now cap journal books calls counts → length calls ≡ 9 → length journal < cap → IsNext opening journal e
-    → IsEntered books books' e → limits_of counts' ≡ limits_of counts → seats_of counts' ≡ shown (limits_of counts) (seats_of counts) e
+    → IsEntered books books' e → IsQueued books' → limits_of counts' ≡ limits_of counts → seats_of counts' ≡ shown (limits_of counts) (seats_of counts) e
     → IsKept opening now cap (journal ++ e ∷ []) books' (set calls e.session (calls_of journal e.session + 1)) counts'
-kept_next opening now cap journal books books' calls counts counts' e k nine lt next entered same_limits shows = record {
+kept_next opening now cap journal books books' calls counts counts' e k nine lt next entered queued same_limits shows = record {
   lawful = let P : List Booking → Type 0 = IsLawful opening now cap (journal ++ e ∷ []) in subst P (sym left) law;
   by_flight = λ f. cases f (is_on f e.command.place) refl;
+  by_queue = λ f. queued.each f ∙ (ap queue_of (cases f (is_on f e.command.place) refl) ∙ queue_is f (replay opening (journal ++ e ∷ [])).bookings);
   by_session = counted journal e calls k.by_session nine next.session.1;
   limits = same_limits ∙ k.limits;
   seats = λ f l c. ap (λ (t : Table). t f l c) (shows ∙ table_next opening now cap journal books calls counts e k law.legal);
@@ -283,6 +291,7 @@ kept_opened grid limits cap counts same ladders small counted none = record {
     quiet = tt;
   };
   by_flight = λ f. refl;
+  by_queue = λ f. refl;
   by_session = λ s le. zeros s;
   limits = counted;
   seats = none;

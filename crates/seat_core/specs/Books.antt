@@ -1,5 +1,5 @@
 -- The live bookings, flight by flight.
-use Rattle.std.specs.Prelude.{◌≡◌, ℕ, ◌≤◌, Bool, true, false, nat_lt, List, [], Option, Some, None, slice_get, slice_index, vec_len, vec_capacity, if◌then◌else◌}
+use Rattle.std.specs.Prelude.{◌≡◌, ℕ, ◌≤◌, Bool, true, false, ◌&&◌, nat_lt, List, [], Option, Some, None, slice_get, slice_index, vec_len, vec_capacity, if◌then◌else◌}
 use Rattle.ssim_records.specs.declared.place.Place.{Place}
 use Rattle.seat_nesting.specs.Nesting.{Legs}
 use Rattle.seat_nesting.specs.Counting.{Counted, limits_of, seats_of}
@@ -8,7 +8,8 @@ use Rattle.seat_core.specs.declared.booking.Booking.{Booking}
 use Rattle.seat_core.specs.declared.books.Book.{Book}
 use Rattle.seat_core.specs.Bookings.{held}
 use Rattle.seat_core.specs.Journal.{replay, calls_of}
-use Rattle.seat_core.specs.Flights.{bookings_on, is_on}
+use Rattle.seat_core.specs.Flights.{bookings_on, queue_on, is_on}
+use Rattle.seat_core.specs.Queues.{queue_of}
 use Rattle.seat_core.specs.Applying.{applied}
 use Rattle.seat_core.specs.Inventory.{IsLawful}
 
@@ -20,14 +21,22 @@ bookings_in (Some book) = book.bookings.items
 abbrev pub book_at : List Book → ℕ → List Booking
 book_at books flight = bookings_in (slice_get books flight)
 
+abbrev pub queue_in : Option Book → List Booking
+queue_in None = []
+queue_in (Some book) = book.queue.items
+
+-- the waiting list of a flight
+abbrev pub queue_at : List Book → ℕ → List Booking
+queue_at books flight = queue_in (slice_get books flight)
+
 -- those of a place's flight; no place has none
 abbrev pub book_for : List Book → Option Place → List Booking
 book_for books None = []
 book_for books (Some place) = book_at books place.flight
 
--- there is memory for one more booking in it
+-- there is memory for one more booking in it, held or waiting
 abbrev pub spare_of : Book → Bool
-spare_of book = nat_lt (vec_len book.bookings) (vec_capacity book.bookings)
+spare_of book = nat_lt (vec_len book.bookings) (vec_capacity book.bookings) && nat_lt (vec_len book.queue) (vec_capacity book.queue)
 
 abbrev pub has_spare_in : Option Book → Bool
 has_spare_in None = false
@@ -38,18 +47,24 @@ abbrev pub has_spare : List Book → Option Place → Bool
 has_spare books None = true
 has_spare books (Some place) = has_spare_in (slice_get books place.flight)
 
--- each flight has the same bookings
+-- each flight has the same bookings and waiting list
 pub record SameBooks (old new : List Book) : Type 0 where
   pub each : (flight : ℕ) → book_at new flight ≡ book_at old flight
+  pub queues : (flight : ℕ) → queue_at new flight ≡ queue_at old flight
+
+-- each waiting list is that of its flight's bookings
+pub record IsQueued (books : List Book) : Type 0 where
+  pub each : (flight : ℕ) → queue_at books flight ≡ queue_of (book_at books flight)
 
 -- the entry was applied to the book of its flight, and to no other
 pub record IsEntered (old new : List Book) (e : Entry) : Type 0 where
   pub each : (flight : ℕ) → book_at new flight ≡ (if is_on flight e.command.place then applied (book_at old flight) e else book_at old flight)
 
--- the books are those of the replay, flight by flight; each session's calls are counted, sessions 1 to 8; and each counter, over the limits now, is what the replay holds
+-- the books and the waiting lists are those of the replay, flight by flight; each session's calls are counted, sessions 1 to 8; and each counter, over the limits now, is what the replay holds
 pub record IsKept (opening now : Legs) (cap : ℕ) (journal : List Entry) (books : List Book) (calls : List ℕ) (counts : Counted) : Type 0 where
   pub lawful : IsLawful opening now cap journal (replay opening journal).bookings
   pub by_flight : (flight : ℕ) → book_at books flight ≡ bookings_on flight (replay opening journal).bookings
+  pub by_queue : (flight : ℕ) → queue_at books flight ≡ queue_on flight (replay opening journal).bookings
   pub by_session : (session : ℕ) → session ≤ 8 → slice_index calls session ≡ calls_of journal session
   pub limits : limits_of counts ≡ now
   pub seats : (flight leg class : ℕ) → seats_of counts flight leg class ≡ held (replay opening journal).bookings flight leg class

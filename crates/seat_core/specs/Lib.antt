@@ -12,6 +12,7 @@ pub mod Replaying
 pub mod Tables
 pub mod Applying
 pub mod Flights
+pub mod Queues
 pub mod Books
 pub mod Laws
 pub mod Showing

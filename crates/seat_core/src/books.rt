@@ -1,6 +1,6 @@
 // The live bookings, flight by flight.
 ghost use Rattle.std.specs.Prelude.{◌≡◌, ◌<◌, ◌+◌, true, OnOk, slice_get, vec_len};
-ghost use Rattle.seat_core.specs.Books.{book_at, book_for, has_spare, has_spare_in, IsEntered, SameBooks};
+ghost use Rattle.seat_core.specs.Books.{book_at, book_for, has_spare, has_spare_in, queue_at, IsEntered, IsQueued, SameBooks};
 
 use crate::booking::Booking;
 use crate::effect::apply;
@@ -8,10 +8,11 @@ use seat_journal::Entry;
 use ssim_records::{Memory, Place};
 use std::alloc::Global;
 
-/// The bookings of one flight, in order of number.
+/// The bookings of one flight, and those of them that wait, each in order of number.
 #[derive(Drop)]
 pub struct Book {
     bookings: Vec<Booking>,
+    queue: Vec<Booking>,
 }
 
 /// The bookings of a flight.
@@ -20,6 +21,16 @@ pub fn book_of(books: &[Book], flight: u32) -> &[Booking]
 {
     match books.get(flight as usize) {
         Some(book) => book.bookings.as_slice(),
+        None => &[],
+    }
+}
+
+/// The bookings of a flight that wait.
+pub fn queue_on(books: &[Book], flight: u32) -> &[Booking]
+    ensures { result.now ≡ queue_at books.now flight }
+{
+    match books.get(flight as usize) {
+        Some(book) => book.queue.as_slice(),
         None => &[],
     }
 }
@@ -49,6 +60,7 @@ pub fn reserve_place(
     }
 }
 
+#[tactic(auto, using(crate::proofs::Queues::spare_both))]
 // Makes the memory for one more booking on a flight.
 fn reserve_booking(alloc: Global, books: &mut Vec<Book>, flight: u32) -> Result<(), Memory>
     ensures same { SameBooks books.old.items books.new.items }
@@ -57,19 +69,23 @@ fn reserve_booking(alloc: Global, books: &mut Vec<Book>, flight: u32) -> Result<
     open_books(alloc, books, flight)?;
     let book = &mut books[flight as usize];
     book.bookings.reserve(1)?;
+    book.queue.reserve(1)?;
     Ok(())
 }
 
+#[tactic(auto, using(crate::proofs::Queues::spare_booking, crate::proofs::Queues::spare_waiting))]
 /// Does what an entry tells to the book of its flight, which has room for one more.
 pub fn enter(books: &mut Vec<Book>, entry: &Entry)
-    requires { has_spare books.old.items entry.now.command.place ≡ true }
-    ensures { IsEntered books.old.items books.new.items entry.now }
+    requires spare { has_spare books.old.items entry.now.command.place ≡ true }
+    requires queued { IsQueued books.old.items }
+    ensures entered { IsEntered books.old.items books.new.items entry.now }
+    ensures queued { IsQueued books.new.items }
 {
     let Some(place) = entry.command.place else {
         return;
     };
     let book = &mut books[place.flight as usize];
-    apply(&mut book.bookings, entry);
+    apply(&mut book.bookings, &mut book.queue, entry);
 }
 
 // Sees to it that a flight has a book.
@@ -90,6 +106,7 @@ fn open_book(alloc: Global, books: &mut Vec<Book>) -> Result<(), Memory>
 {
     books.push(Book {
         bookings: Vec::new(alloc),
+        queue: Vec::new(alloc),
     })?;
     Ok(())
 }
