@@ -15,3 +15,6 @@ pub use ledgers::Hosting;
 pub use parts::{HostFault, Parts};
 pub use session::{Receipt, Session};
 pub use settling::{AllReceipts, GatherFault, Receipts, Settled, gather};
+
+#[cfg(test)]
+mod tests;
