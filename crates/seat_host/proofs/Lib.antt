@@ -1,5 +1,6 @@
 pub mod Agreeing
 pub mod Booking
+pub mod Lasting
 pub mod Own
 pub mod Staking
 pub mod Gathered

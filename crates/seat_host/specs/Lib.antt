@@ -1,4 +1,5 @@
 pub mod Agreement
+pub mod Answering
 pub mod Histories
 pub mod Ledgers
 pub mod Named

@@ -21,3 +21,6 @@ pub use parts::{HostFault, Parts};
 pub use session::{Receipt, Session};
 pub use settling::{AllReceipts, GatherFault, Receipts, Settled, gather};
 pub use workers::{RunFault, run_sessions};
+
+#[cfg(test)]
+mod tests;

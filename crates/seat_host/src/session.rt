@@ -1,18 +1,21 @@
 //! A session of the host.
-ghost use Rattle.std.specs.Prelude.{◌≡◌, ◌+◌, ◌<◌, ◌≤◌, length, IfSome, IfNone, []};
+ghost use Rattle.std.specs.Prelude.{◌≡◌, ◌+◌, ◌-◌, ◌<◌, ◌≤◌, length, Some, IfSome, IfNone, [], slice_get};
 ghost use Rattle.seat_core.specs.Prefixes.{Begins};
 ghost use Rattle.seat_core.specs.Sequential.{room_left};
-ghost use Rattle.seat_core.specs.Journal.{IsLegal, replay};
+ghost use Rattle.seat_core.specs.Journal.{FitsCommand, IsLegal, replay};
 ghost use Rattle.seat_display.specs.Faces.{opened};
 ghost use Rattle.seat_host.specs.Ledgers.{counted};
 ghost use Rattle.seat_host.specs.Sessions.{fresh};
 
+use crate::desk::BookFault;
+use crate::host::Host;
 use crate::ledgers::{Hosting, Stake};
-use seat_core::Entry;
+use seat_core::{Command, Entry};
 use seat_display::Viewer;
 use ssim_records::{Class, Place};
 use std::alloc::Global;
 use std::marker::Model;
+use std::sync::Wait;
 
 /// The line that a call was given.
 #[derive(Debug, Drop)]
@@ -65,6 +68,12 @@ impl<K: Hosting> Model for Session<K> {
 }
 
 impl<K: Hosting> Session<K> {
+    ghost use Rattle.std.specs.Prelude.{⊤};
+    ghost use Rattle.std.specs.Borrow.{sem, follows_so};
+    ghost use mathlib.Core.Option.{none};
+    ghost use Rattle.seat_host.specs.Answering.{Leaves};
+    ghost use Rattle.seat_host.specs.contracts.session.Session.{the_row};
+
     /// Its number, from 1.
     pub fn id(&self) -> u8
         ensures { result ≡ self.now.id }
@@ -84,6 +93,30 @@ impl<K: Hosting> Session<K> {
         ensures { result ≡ length self.now.receipts + 1 }
     {
         self.receipts.len() as u32 + 1
+    }
+
+    /// Answers a command by its host, as `Host::book` does, and shows the receipt.
+    #[tactic(auto, using(crate::proofs::Lasting::some_receipt, crate::proofs::Lasting::last_answers))]
+    pub fn book<R: Wait>(
+        &mut self,
+        host: &Host<K>,
+        rt: &R,
+        alloc: Global,
+        command: Command,
+    ) -> Result<&Receipt, BookFault>
+        requires { FitsCommand K.grid command }
+        ensures* leaves { sem 𝓛 (follows_so (the_row K.row K.Hosting) (the_row K.row K.Hosting) self.entry.ghost_name none (λ _ _. ⊤) (λ n. Leaves K.grid K.cap command self.old result n)) }
+    {
+        host.book(rt, alloc, self, command)?;
+        Ok(self.last())
+    }
+
+    // The line of its last call.
+    pub(crate) fn last(&self) -> &Receipt
+        requires { 0 < length self.now.receipts }
+        ensures { slice_get self.now.receipts (length self.now.receipts - 1) ≡ Some result.now }
+    {
+        &self.receipts[self.receipts.len() - 1]
     }
 
     /// How many lines it has seen.
