@@ -67,7 +67,7 @@ tied_open grid cap n books journal none zeros small few =
       capped = omega arith;
       small = small;
       counts = λ s low high. no_calls s high;
-      none = λ s more. refl;
+      only = record { none = λ s more. refl };
     })
 
 -- one line more in the journal and in its session's book
@@ -88,7 +88,7 @@ tied_push grid cap n books now journal e t next room le is =
           (ap (λ l. slice_index l k) is ∙ (at_set_here books k _ (omega (arith, t.wide, t.few, le)) ∙ omega (arith, t.counts k some (omega (arith, le, t.few)), ap length (here k refl), length-append (of_session k journal) (e ∷ [])))))
           (λ (not : e.session ≢ s). ap (λ l. slice_index l s) is ∙ (at_set_else books k s _ (λ q. not (sym q)) ∙ (t.counts s low high ∙ sym (ap length (there s not)))))
           (dec_nat e.session s);
-      none = λ s more. there s (λ q. absurd (omega (arith, q, le, more))) ∙ t.none s more;
+      only = record { none = λ s more. there s (λ q. absurd (omega (arith, q, le, more))) ∙ t.only.none s more };
     }
 
 -- what a call finds: the desk, the session, its receipts counted, and a front that the journal begins with

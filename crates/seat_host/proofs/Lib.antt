@@ -1,3 +1,4 @@
+pub mod Agreeing
 pub mod Booking
 pub mod Own
 pub mod Staking

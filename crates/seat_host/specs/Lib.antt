@@ -1,3 +1,4 @@
+pub mod Agreement
 pub mod Histories
 pub mod Ledgers
 pub mod Named

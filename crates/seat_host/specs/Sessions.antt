@@ -5,7 +5,7 @@ use Rattle.seat_journal.specs.declared.entry.Command.{Command}
 use Rattle.seat_journal.specs.declared.entry.Entry.{Entry}
 use Rattle.seat_core.specs.Prefixes.{Begins}
 use Rattle.seat_core.specs.Journal.{IsLegal}
-use Rattle.seat_host.specs.Histories.{of_session}
+use Rattle.seat_host.specs.Histories.{of_session, OnlyFirst}
 
 -- what contracts see of a session: its number, the lines that it was given, and what it has seen
 pub record Seat : Type 0 where
@@ -37,7 +37,7 @@ pub record IsTied (grid : Legs) (cap n : ℕ) (books : List ℕ) (journal : List
   pub capped : length journal ≤ cap
   pub small : cap ≤ 999999
   pub counts : (s : ℕ) → 0 < s → s < 9 → slice_index books s ≡ length (of_session s journal)
-  pub none : (s : ℕ) → n < s → of_session s journal ≡ []
+  pub only : OnlyFirst n journal
 
 -- the call gave one line more, of this session, its next call and this command. The session has then seen all lines so far, of which its receipts are its own, in order
 pub record Booked (grid : Legs) (command : Command) (s t : Seat) : Type 0 where

@@ -4,6 +4,7 @@ ghost use Rattle.std.specs.List.{AllByRecursion};
 ghost use Rattle.seat_core.specs.Journal.{IsLegal};
 ghost use Rattle.seat_core.specs.Totals.{totals_of};
 ghost use Rattle.seat_host.specs.Histories.{by_session};
+ghost use Rattle.seat_host.specs.Agreement.{receipts_in, totals_in, Agrees};
 ghost use Rattle.seat_host.specs.Settling.{has_all, has_id, IsConfirmed};
 ghost use Rattle.seat_host.specs.declared.settling.GatherFault.TheVariants.{Missing};
 
@@ -11,7 +12,7 @@ use crate::desk::Desk;
 use crate::host::Host;
 use crate::ledgers::Hosting;
 use crate::session::{Receipt, Session};
-use seat_core::{Entry, Totals};
+use seat_core::Totals;
 use seat_journal::Entries;
 use ssim_records::Memory;
 use std::alloc::Global;
@@ -83,6 +84,7 @@ impl Receipts {
     }
 }
 
+#[tactic(auto, using(crate::proofs::Agreeing::lists_agree, crate::proofs::Agreeing::lists_count))]
 /// Settles a host with all its sessions: each receipt is the journal's line of its call, and no line is left out.
 pub fn gather<K: Hosting, R: Wait>(
     rt: &R,
@@ -93,6 +95,9 @@ pub fn gather<K: Hosting, R: Wait>(
     ensures legal { IfOk result (λ r. IsLegal K.grid r.journal) }
     ensures totals { IfOk result (λ r. r.totals ≡ totals_of r.journal) }
     ensures receipts { IfOk result (λ r. r.receipts ≡ by_session K.sessions r.journal) }
+    ensures lines { IfOk result (λ r. receipts_in r.receipts ≡ length r.journal) }
+    ensures each { IfOk result (λ r. Agrees r.receipts r.journal) }
+    ensures sums { IfOk result (λ r. r.totals ≡ totals_in r.receipts) }
     ensures handed { IfOk result (λ r. AllByRecursion (IsConfirmed K.sessions r.journal) sessions.items) }
     ensures all { OnOk result (has_all K.sessions sessions.items ≡ true) }
     ensures missing { IfErr result (λ f. (f.0 ≡ Missing) ↔ (has_all K.sessions sessions.items ≡ false)) }
@@ -102,14 +107,13 @@ pub fn gather<K: Hosting, R: Wait>(
     if !are_all(sessions.as_slice(), desk.sessions()) {
         return Err((GatherFault::Missing, Host::over(grid, desk), sessions));
     }
-    let Ok((journal, slots)) = room_for(alloc, desk.journal(), desk.sessions()) else {
+    let Ok(slots) = empty_lists(alloc, desk.sessions()) else {
         return Err((GatherFault::Memory, Host::over(grid, desk), sessions));
     };
     let totals = desk.totals();
     let items = settle_all(rt, &mut desk, sessions, slots);
-    desk.end(rt);
     Ok(Settled {
-        journal,
+        journal: desk.end(rt),
         totals,
         receipts: AllReceipts { items },
     })
@@ -133,29 +137,7 @@ fn has_number<K: Hosting>(sessions: &[Session<K>], number: u8) -> bool
     sessions.iter().any(|s| s.id() == number)
 }
 
-// A copy of the journal, and an empty list for each session.
-fn room_for(
-    alloc: Global,
-    journal: &[Entry],
-    sessions: u8,
-) -> Result<(Entries, Vec<Receipts>), Memory>
-    ensures { IfOk result (λ r. (r.0 ≡ journal.now) × (length r.1.items ≡ sessions)) }
-{
-    let copy = copy_all(alloc, journal)?;
-    let slots = empty_lists(alloc, sessions)?;
-    Ok((copy, slots))
-}
-
-fn copy_all(alloc: Global, journal: &[Entry]) -> Result<Entries, Memory>
-    ensures { IfOk result (λ e. e ≡ journal.now) }
-{
-    let mut copies = Vec::with_capacity(alloc, journal.len())?;
-    for entry in journal {
-        copies.push(entry.copy(alloc)?)?;
-    }
-    Ok(Entries::from_vec(copies))
-}
-
+// An empty list for each session.
 fn empty_lists(alloc: Global, sessions: u8) -> Result<Vec<Receipts>, Memory>
     ensures { IfOk result (λ r. length r.items ≡ sessions) }
 {
