@@ -3,7 +3,7 @@ ghost use Rattle.std.specs.Prelude.{◌≡◌, ◌↔◌, ◌≤◌, ◌<◌, �
 ghost use Rattle.std.specs.List.{AllByRecursion};
 ghost use Rattle.seat_core.specs.Journal.{IsLegal};
 ghost use Rattle.seat_core.specs.Totals.{totals_of};
-ghost use Rattle.seat_host.specs.Histories.{by_session};
+ghost use Rattle.seat_host.specs.Histories.{OnlyFirst, by_session};
 ghost use Rattle.seat_host.specs.Agreement.{receipts_in, totals_in, Agrees};
 ghost use Rattle.seat_host.specs.Settling.{has_all, has_id, IsConfirmed};
 ghost use Rattle.seat_host.specs.declared.settling.GatherFault.TheVariants.{Missing};
@@ -95,6 +95,7 @@ pub fn gather<K: Hosting, R: Wait>(
     ensures legal { IfOk result (λ r. IsLegal K.grid r.journal) }
     ensures totals { IfOk result (λ r. r.totals ≡ totals_of r.journal) }
     ensures receipts { IfOk result (λ r. r.receipts ≡ by_session K.sessions r.journal) }
+    ensures only { IfOk result (λ r. OnlyFirst K.sessions r.journal) }
     ensures lines { IfOk result (λ r. receipts_in r.receipts ≡ length r.journal) }
     ensures each { IfOk result (λ r. Agrees r.receipts r.journal) }
     ensures sums { IfOk result (λ r. r.totals ≡ totals_in r.receipts) }
