@@ -1,9 +1,9 @@
 -- Waiting lists, booking by booking.
-use Rattle.std.proofs.Common.{◌≡◌, ◌==◌, ◌&&◌, ℕ, zero, suc, ◌+◌, ◌<◌, ◌≤◌, Bool, true, false, nat_le, nat_lt, vec_len, vec_capacity, List, [], ◌∷◌, ◌++◌, length, get_or, remove, position, Some, None, arith, refl, ap, sym, ◌∙◌}
+use Rattle.std.proofs.Common.{◌≡◌, ◌==◌, ◌&&◌, ℕ, zero, suc, ◌+◌, ◌<◌, Bool, true, false, nat_le, nat_lt, vec_len, vec_capacity, List, [], ◌∷◌, ◌++◌, length, get_or, remove, position, Some, None, arith, refl, ap, sym, ◌∙◌}
 use Rattle.std.proofs.lemmas.Bool.Decides.{nat_tests}
 use Rattle.std.proofs.lemmas.List.{append-nil}
 use Rattle.std.proofs.lemmas.List.Quantifiers.{position-Some}
-use Rattle.std.specs.List.{AllByRecursion, sum_by}
+use Rattle.std.specs.List.{AllByRecursion}
 use Rattle.std.proofs.lemmas.List.Sums.{sum_by-cons}
 use Rattle.ssim_records.specs.declared.place.Place.{Place}
 use Rattle.seat_journal.specs.declared.entry.Command.{Command}
@@ -13,7 +13,7 @@ use Rattle.seat_core.specs.declared.booking.Status.TheVariants.{Held, Waiting}
 use Rattle.seat_core.specs.declared.books.Book.{Book}
 use Rattle.seat_core.specs.Bookings.{is_waiting, waits_on, waiting}
 use Rattle.seat_core.specs.Books.{spare_of}
-use Rattle.seat_core.specs.Sequential.{reduced, confirmed, booking_of}
+use Rattle.seat_core.specs.Sequential.{reduced, booking_of}
 use Rattle.seat_core.specs.Applying.{confirmed_at}
 use Rattle.seat_core.specs.Flights.{bookings_on, queue_on}
 use Rattle.seat_core.specs.Queues.{queue_of, first_waits, without}
