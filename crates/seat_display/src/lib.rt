@@ -12,3 +12,6 @@ mod viewer;
 pub use opening::open;
 pub use publisher::{Publisher, Told};
 pub use viewer::Viewer;
+
+#[cfg(test)]
+mod tests;
