@@ -3,7 +3,7 @@ use Rattle.std.proofs.Common.{◌≡◌, ℕ, zero, suc, ◌+◌, ◌<◌, ◌�
 use Rattle.std.specs.Prelude.{Result, Ok, Err, OnOk, IfErr, All, map, zip, slice_index_or}
 use Rattle.std.specs.List.{AllZip}
 use Rattle.std.proofs.Math.Seq.{split_at}
-use Rattle.std.proofs.lemmas.List.{take_more}
+use Rattle.std.proofs.lemmas.List.{take_more, take-append-drop}
 use Rattle.seat_journal.specs.declared.entry.Command.{Command}
 use Rattle.seat_journal.specs.declared.entry.Entry.{Entry}
 use Rattle.seat_core.specs.Prefixes.{Begins}
@@ -82,6 +82,10 @@ run_both l s t ls ss ts (Err f) rest p q = tt
 pub all_back : {A : Type 0} (P : A → Type 0) (all xs ys : List A) → all ≡ xs ++ ys → All P all → All P ys
 all_back P all [] ys is h = subst (λ l. All P l) is h
 all_back P all (x ∷ xs) ys is h = all_back P (xs ++ ys) xs ys refl (all_later P all x (xs ++ ys) is h)
+
+-- a list cut in two
+pub cut_there : (left next later : List Command) (n : ℕ) → next ≡ take n left → later ≡ drop n left → left ≡ next ++ later
+cut_there left next later n front back = sym (take-append-drop n left) ∙ (λ i. sym front i ++ sym back i)
 
 -- what stands before the commands that are left was booked
 pub record IsAt (list left : List Command) (s t : Seat) : Type 0 where
