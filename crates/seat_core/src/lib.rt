@@ -39,4 +39,16 @@ pub use showing::show;
 pub use totals::Totals;
 
 #[cfg(test)]
+mod growth_tests;
+#[cfg(test)]
+mod leg_tests;
+#[cfg(test)]
+mod lots;
+#[cfg(test)]
+mod plain;
+#[cfg(test)]
+mod side_tests;
+#[cfg(test)]
 mod tests;
+#[cfg(test)]
+mod worked_set;
