@@ -1,0 +1,119 @@
+//! Commands on four flights, two of two legs and two of three, drawn by lot.
+ghost use Rattle.std.specs.Prelude.{◌<◌, ◌≤◌};
+
+use crate::plain::Live;
+use seat_journal::Command;
+use ssim_records::{Class, Code, Locator, Place};
+
+/// Numbers that are the same for the same seed (Knuth's linear congruential generator).
+#[derive(Drop)]
+pub struct Lots {
+    state: u64,
+}
+
+impl Lots {
+    pub fn new(seed: u64) -> Lots {
+        Lots { state: seed }
+    }
+
+    fn draw(&mut self) -> u32 {
+        self.state = self
+            .state
+            .wrapping_mul(6_364_136_223_846_793_005)
+            .wrapping_add(1_442_695_040_888_963_407);
+        (self.state >> 33) as u32
+    }
+
+    pub fn below(&mut self, n: u32) -> u32
+        requires { 1 ≤ n }
+        ensures { result < n }
+    {
+        self.draw() % n
+    }
+
+    /// One of these.
+    fn pick<T: Copy>(&mut self, all: &[T]) -> Option<T> {
+        let n = all.len();
+        if n == 0 {
+            return None;
+        }
+        all.get(self.draw() as usize % n).copied()
+    }
+
+    fn locator(&mut self) -> Option<Locator> {
+        let last = self.pick(b"ABCDEFGHIJKLMNOP")?;
+        Locator::new(&[b'A', b'0', b'0', b'0', b'0', last])
+    }
+
+    /// Legs of a flight, in one case of twenty none.
+    fn place(&mut self) -> Option<Place> {
+        if self.below(20) == 0 {
+            return None;
+        }
+        let flight = self.below(4);
+        let legs: u32 = if flight < 2 { 2 } else { 3 };
+        let from = self.below(legs);
+        let more = if from < legs {
+            self.below(legs - from)
+        } else {
+            0
+        };
+        Some(Place {
+            flight,
+            from: from as u8,
+            to: from.saturating_add(more) as u8,
+        })
+    }
+
+    /// Mostly few seats, and fewer where they may wait; now and then the most that a line can have.
+    fn seats(&mut self, code: &[u8]) -> u16 {
+        if self.below(60) == 0 {
+            return 999;
+        }
+        let most = match code {
+            [b'N', b'N'] => 8,
+            _ => 2,
+        };
+        self.below(most) as u16 + 1
+    }
+
+    /// A request for seats, and sometimes a cancellation or another code, of anything.
+    fn request(&mut self) -> Option<Command> {
+        let codes: [&[u8]; 8] = [b"NN", b"SS", b"SS", b"SS", b"LL", b"LL", b"XX", b"ZZ"];
+        let code = self.pick(&codes)?;
+        Some(Command {
+            locator: self.locator()?,
+            place: self.place(),
+            class: Class::new(self.pick(b"FFYYYYMMMQ")?)?,
+            code: Code::new(code)?,
+            seats: self.seats(code),
+        })
+    }
+
+    /// The cancellation of a live booking, of half of them whole and of one in ten of too many seats.
+    fn cancellation(&mut self, bookings: &[Live]) -> Option<Command> {
+        let b = self.pick(bookings)?;
+        let seats = match self.below(10) {
+            0 => b.seats.saturating_add(1),
+            1..=5 => b.seats,
+            _ => self.below(u32::from(b.seats).max(1)) as u16 + 1,
+        };
+        Some(Command {
+            locator: b.locator,
+            place: Some(b.place),
+            class: b.class,
+            code: Code::new(b"XX")?,
+            seats,
+        })
+    }
+
+    /// The next command: one of six cancels a booking, while there is one.
+    pub fn command(&mut self, bookings: &[Live]) -> Option<Command> {
+        if self.below(6) == 0 {
+            if let Some(command) = self.cancellation(bookings) {
+                return Some(command);
+            }
+        }
+        self.request()
+    }
+}
