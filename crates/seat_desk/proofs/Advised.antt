@@ -1,5 +1,5 @@
 -- The advices of a legal history are for bookings of its lines.
-use Rattle.std.proofs.Common.{◌≡◌, ℕ, zero, suc, ◌+◌, ◌-◌, ◌<◌, ◌≤◌, Bool, true, false, nat_le, List, [], ◌∷◌, ◌++◌, length, refl, sym, ap, ◌∙◌, subst, arith, Option, Some, None, if◌then◌else◌, codes, length-append}
+use Rattle.std.proofs.Common.{◌≡◌, ℕ, ◌+◌, ◌-◌, ◌<◌, ◌≤◌, Bool, true, false, nat_le, List, [], ◌∷◌, ◌++◌, length, refl, sym, ap, ◌∙◌, subst, arith, length-append}
 use Rattle.std.specs.List.{AllByRecursion}
 use Rattle.std.proofs.lemmas.Bool.Decides.{nat_tests}
 use Rattle.seat_nesting.specs.Nesting.{Legs}
@@ -8,8 +8,8 @@ use Rattle.seat_journal.specs.declared.entry.Command.{Command}
 use Rattle.seat_journal.specs.declared.entry.Entry.{Entry}
 use Rattle.seat_core.specs.declared.booking.Booking.{Booking}
 use Rattle.seat_core.specs.declared.booking.Status.TheVariants.{Held, Waiting}
-use Rattle.seat_core.specs.Bookings.{is_for, is_held}
-use Rattle.seat_core.specs.Sequential.{State, Outcome, answer, pass, passed, may_confirm, confirmed, advice_of, reduced, booking_of}
+use Rattle.seat_core.specs.Bookings.{is_for}
+use Rattle.seat_core.specs.Sequential.{State, Outcome, answer, pass, may_confirm, confirmed, advice_of, reduced, booking_of}
 use Rattle.seat_core.specs.Journal.{replay, IsLegal, IsNext}
 use Rattle.seat_core.proofs.Histories.{replay_next}
 use Rattle.seat_core.proofs.Legal.{each_legal}

@@ -1,6 +1,6 @@
 -- What the sessions booked is a history of their lists.
 use Rattle.std.proofs.Common.{◌≡◌, ◌≢◌, ⊎_elim, Option, Some, None, ◌-◌, ℕ, zero, suc, ◌+◌, ◌<◌, ◌≤◌, List, [], ◌∷◌, ◌++◌, length, take, map, refl, sym, ap, ◌∙◌, subst, arith, get_or, length-append}
-use Rattle.std.specs.List.{AllByRecursion, AllZip, zip}
+use Rattle.std.specs.List.{AllByRecursion}
 use Rattle.std.specs.Prelude.{slice_get}
 use Rattle.std.specs.Option.{option_map}
 use Rattle.std.proofs.lemmas.Option.{get_or_from_slice_get, slice_get-map, slice_get_within}
@@ -24,7 +24,7 @@ use Rattle.seat_desk.specs.declared.fault.DeskFault.{DeskFault}
 use Rattle.seat_desk.specs.declared.fault.DeskFault.TheVariants.{Book, Memory}
 use Rattle.seat_desk.specs.Requests.{command_of, commands_of}
 use Rattle.seat_desk.specs.RunDesk.{HasCall, HasCommand, IsHistoryOf, IsUnbooked, IsUnlisted, commands_in, run_refusal}
-use Rattle.seat_desk.proofs.Histories.{all_of, place_below, row_at, row_count}
+use Rattle.seat_desk.proofs.Histories.{all_of, row_at, row_count}
 
 fresh_count : (n : ℕ) → length (fresh_sessions n) ≡ n
 fresh_count n = row_count fresh fresh_sessions refl (λ k. refl) n

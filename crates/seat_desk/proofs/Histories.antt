@@ -1,5 +1,5 @@
 -- A history of what scripts ask: each line has its request.
-use Rattle.std.proofs.Common.{◌≡◌, ◌⊎◌, ⊎_elim, ℕ, zero, suc, ◌+◌, ◌-◌, ◌<◌, ◌≤◌, ◌==◌, Bool, true, false, List, [], ◌∷◌, ◌++◌, length, map, refl, sym, ap, ◌∙◌, subst, arith, get_or, Option, Some, None, length-append, append_assoc, inl, inr}
+use Rattle.std.proofs.Common.{◌≡◌, ◌⊎◌, ⊎_elim, ℕ, zero, suc, ◌+◌, ◌-◌, ◌<◌, ◌≤◌, ◌==◌, Bool, true, false, List, [], ◌∷◌, ◌++◌, length, map, refl, sym, ap, ◌∙◌, subst, arith, get_or, Some, length-append, append_assoc, inl, inr}
 use Rattle.std.proofs.lemmas.List.{length-map}
 use Rattle.std.specs.Prelude.{slice_get, All, filter}
 use Rattle.std.specs.Option.{option_map}
@@ -12,7 +12,7 @@ use Rattle.ssim_flights.specs.declared.flight.Flight.{Flight as Flown}
 use Rattle.seat_journal.specs.declared.entry.Command.{Command}
 use Rattle.seat_journal.specs.declared.entry.Entry.{Entry}
 use Rattle.seat_nesting.specs.Nesting.{Legs}
-use Rattle.seat_core.specs.Journal.{IsLegal, IsLegalAfter, IsNext, calls_of}
+use Rattle.seat_core.specs.Journal.{IsLegalAfter, IsNext, calls_of}
 use Rattle.seat_core.proofs.Legal.{legal_to_after}
 use Rattle.seat_host.specs.Histories.{of_session, by_session}
 use Rattle.seat_host.proofs.Own.{own_append, own_one, calls_own}

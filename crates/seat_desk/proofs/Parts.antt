@@ -1,15 +1,14 @@
 -- The replies, part by part.
-use Rattle.std.proofs.Common.{◌≡◌, ℕ, zero, suc, ◌+◌, ◌-◌, ◌<◌, ◌≤◌, List, [], ◌∷◌, ◌++◌, length, take, refl, sym, ap, ◌∙◌, subst, arith, append_assoc, get_or, Option, Some, None, decimal, codes}
+use Rattle.std.proofs.Common.{◌≡◌, ℕ, ◌+◌, ◌-◌, ◌<◌, ◌≤◌, List, [], ◌∷◌, ◌++◌, length, take, refl, sym, ap, ◌∙◌, subst, arith, append_assoc, get_or, Option, Some, codes}
 use Rattle.std.specs.Prelude.{slice_get}
-use Rattle.std.proofs.lemmas.Option.{slice_get-get_or, get_or_from_slice_get, slice_get_read}
-use Rattle.airimp_lines.specs.Grammar.{IsPlainLine, IsRightSegment, reply_of}
+use Rattle.std.proofs.lemmas.Option.{slice_get_read}
+use Rattle.airimp_lines.specs.Grammar.{IsPlainLine, reply_of}
 use Rattle.airimp_lines.specs.declared.requests.Request.{Request}
 use Rattle.airimp_lines.specs.declared.segment.Segment.{Segment}
 use Rattle.seat_journal.specs.declared.entry.Advice.{Advice}
 use Rattle.seat_journal.specs.declared.entry.Entry.{Entry}
 use Rattle.seat_desk.specs.FlightsDesk.{IsPut}
 use Rattle.seat_desk.specs.Answering.{AreAllAnswerable, AreAnswerable, HasRequest, IsAdvisable, IsAnswerable, IsBehind}
-use Rattle.seat_desk.specs.Requests.{AreRight}
 use Rattle.seat_desk.specs.RunDesk.{AreAnswers, IsAdviceLine, IsAnswer, IsReply, at_any, reply_head, booked_by, request_of, requested, requested_by}
 use Rattle.seat_desk.proofs.Texts.{put_more}
 

@@ -1,5 +1,4 @@
 use Rattle.std.proofs.Common.{map, subst, sym, length}
-use Rattle.airimp_lines.specs.declared.requests.Request.{Request}
 use Rattle.seat_desk.specs.Requests.{AreScripts}
 use Rattle.seat_desk.proofs.Reading.{between}
 use Rattle.seat_desk.proofs.Written.{run_stopped, run_written}
