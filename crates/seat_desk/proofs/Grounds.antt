@@ -1,12 +1,14 @@
 -- Why limit rows are refused.
-use Rattle.std.proofs.Common.{◌≡◌, ◌≢◌, ℕ, List, Err, refl}
+use Rattle.std.proofs.Common.{◌≡◌, ◌≢◌, ℕ, List, Option, Some, None, IfSome, Err, refl, subst, ◌∙◌}
 use Rattle.std.specs.Str.Lines.{lines}
 use Rattle.seat_nesting.specs.LimitRows.{rows_in}
 use Rattle.seat_nesting.specs.declared.limit_fault.LimitFault.{LimitFault}
 use Rattle.seat_nesting.specs.declared.limit_fault.LimitKind.{LimitKind}
 use Rattle.seat_nesting.specs.declared.limit_fault.LimitKind.TheVariants as limit_kinds
-use Rattle.seat_desk.specs.AuditDesk.{IsUnlimited, limit_refusal, limit_refusal_of}
-use Rattle.seat_desk.specs.declared.fault.DeskFault.TheVariants.{Memory}
+use Rattle.seat_desk.specs.Loading.{IsRefusedLoad, IsUnlimited, limit_refusal, limit_refusal_of}
+use Rattle.seat_desk.specs.declared.fault.DeskFault.TheVariants.{Limit, Memory}
+use Rattle.seat_desk.specs.declared.fault.DeskFault.{DeskFault}
+use Rattle.seat_desk.specs.Desk.{IsOfInput}
 
 cases : (limits : List ℕ) (kind : LimitKind) (fault : LimitFault) → (kind ≢ limit_kinds.Memory → rows_in 1 (lines limits) ≡ Err fault)
     → limit_refusal_of kind fault ≢ Memory → IsUnlimited limits (limit_refusal_of kind fault)
@@ -16,3 +18,14 @@ cases limits kind fault first not = first (λ e. cc)
 pub refused_limits : (limits : List ℕ) (fault : LimitFault) → (fault.kind ≢ limit_kinds.Memory → rows_in 1 (lines limits) ≡ Err fault)
     → limit_refusal fault ≢ Memory → IsUnlimited limits (limit_refusal fault)
 refused_limits limits fault = cases limits fault.kind fault
+
+of_limits : (set limits : List ℕ) (first days : ℕ) (fault : DeskFault) → IsUnlimited limits fault → IsRefusedLoad set limits first days fault
+of_limits set limits first days (Limit fault) wrong = record { refusal = wrong }
+of_limits set limits first days _ wrong = absurd wrong
+
+pub load_refused : (set limits : Option (List ℕ)) (first days : ℕ) (fault : DeskFault) (bytes slice : List ℕ) → slice ≡ bytes → IfSome limits (λ ys. bytes ≡ ys)
+    → (fault ≢ Memory → IsUnlimited slice fault) → IsOfInput fault → IfSome set (λ xs. IfSome limits (λ ys. IsRefusedLoad xs ys first days fault))
+load_refused (Some xs) (Some ys) first days fault bytes slice whole same wrong input =
+    of_limits xs ys first days fault (subst (λ (l : List ℕ). IsUnlimited l fault) (whole ∙ same) (wrong (λ (e : fault ≡ Memory). subst IsOfInput e input)))
+load_refused (Some xs) None first days fault bytes slice whole same wrong input = tt
+load_refused None limits first days fault bytes slice whole same wrong input = tt

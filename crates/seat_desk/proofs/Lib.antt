@@ -3,3 +3,10 @@ mod Auditing
 mod Texts
 mod Schedules
 mod Grounds
+mod Serving
+mod Advised
+mod Parts
+mod Histories
+mod Reading
+mod Gathering
+mod Written

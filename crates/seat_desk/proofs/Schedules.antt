@@ -1,5 +1,5 @@
 -- A refused expansion says why, and that there are no flights.
-use Rattle.std.proofs.Common.{◌≡◌, ◌≢◌, ℕ, List, Option, Some, None, ◌⊎◌, ⊎_elim, refl, sym, ap, ◌∙◌, subst}
+use Rattle.std.proofs.Common.{◌≡◌, ◌≢◌, ℕ, List, Option, Some, None, ⊎_elim, refl, sym, ap, ◌∙◌, subst}
 use Rattle.ssim_records.specs.SetText.{IsDataSet}
 use Rattle.ssim_records.specs.declared.set.DataSet.{DataSet}
 use Rattle.ssim_records.proofs.SetLaws.{one_data_set}
@@ -7,9 +7,8 @@ use Rattle.ssim_flights.specs.Flown.{IsRefusal, memory_fault}
 use Rattle.ssim_flights.specs.declared.fault.FlightFault.{FlightFault}
 use Rattle.ssim_flights.specs.declared.fault.FlightKind.{FlightKind}
 use Rattle.ssim_flights.specs.declared.fault.FlightKind.TheVariants as flight_kinds
-use Rattle.ssim_flights.specs.declared.flight.Flight.{Flight as Flown}
 use Rattle.seat_desk.specs.CheckDesk.{IsRefusedSet, most_records}
-use Rattle.seat_desk.specs.FlightsDesk.{HasNoSchedule, HasFlightFault, IsSchedule, IsUnscheduled, expansion_fault, expansion_fault_of, flights_fault}
+use Rattle.seat_desk.specs.FlightsDesk.{HasNoSchedule, IsUnscheduled, expansion_fault, expansion_fault_of, flights_fault}
 use Rattle.seat_desk.specs.declared.fault.DeskFault.{DeskFault}
 use Rattle.seat_desk.specs.declared.fault.DeskFault.TheVariants.{Memory, Set}
 

@@ -1,5 +1,5 @@
 -- Texts of parts, one for each of a list.
-use Rattle.std.proofs.Common.{◌≡◌, ℕ, zero, suc, ◌+◌, ◌<◌, ◌≤◌, List, [], ◌∷◌, ◌++◌, length, take, refl, sym, ap, ◌∙◌, subst, arith, append_assoc, get_or, zero-add, ⊎_elim}
+use Rattle.std.proofs.Common.{◌≡◌, ℕ, suc, ◌+◌, ◌<◌, ◌≤◌, List, [], ◌∷◌, ◌++◌, length, take, refl, sym, ap, ◌∙◌, subst, arith, append_assoc, get_or, zero-add, ⊎_elim}
 use Rattle.std.proofs.lemmas.List.{append-nil, length-take-le, take_more}
 use Rattle.seat_desk.specs.FlightsDesk.{IsText, IsPut, IsLegText, IsFlightLine, IsLinePut, head_text}
 use Rattle.ssim_flights.specs.declared.flight.Flight.{Flight}

@@ -1,15 +1,6 @@
 -- What `audit` writes: one line that says that a journal is legal, and what it comes to.
-use Rattle.std.specs.Prelude.{◌≡◌, ◌≤◌, ◌<◌, ◌⊎◌, ℕ, List, [], ◌∷◌, ◌++◌, length, decimal, codes, Some, Err}
-use Rattle.std.specs.Str.Lines.{lines}
+use Rattle.std.specs.Prelude.{◌≡◌, ◌≤◌, ◌<◌, ◌⊎◌, ℕ, List, [], ◌∷◌, ◌++◌, length, decimal, codes, Some}
 use Rattle.ssim_flights.specs.declared.flight.Flight.{Flight as Flown}
-use Rattle.seat_nesting.specs.Authorised.{authorised_grid}
-use Rattle.seat_nesting.specs.LimitRows.{IsLimitText, rows_in}
-use Rattle.seat_nesting.specs.declared.limit_fault.LimitFault.{LimitFault}
-use Rattle.seat_nesting.specs.declared.limit_fault.LimitKind.{LimitKind}
-use Rattle.seat_nesting.specs.declared.limit_fault.LimitKind.TheVariants as limit_kinds
-use Rattle.seat_nesting.specs.declared.limit_row.LimitRow.{LimitRow}
-use Rattle.seat_desk.specs.CheckDesk.{most_bytes}
-use Rattle.seat_desk.specs.FlightsDesk.{IsSchedule, IsUnscheduled}
 use Rattle.seat_nesting.specs.Nesting.{Legs}
 use Rattle.seat_journal.specs.Text.{IsJournalText}
 use Rattle.seat_journal.specs.Reading.{IsFirstFault}
@@ -25,7 +16,8 @@ use Rattle.seat_core.specs.Replaying.{replay_fault}
 use Rattle.seat_core.specs.Totals.{totals_of}
 use Rattle.seat_core.specs.declared.totals.Totals.{Totals}
 use Rattle.seat_desk.specs.declared.fault.DeskFault.{DeskFault}
-use Rattle.seat_desk.specs.declared.fault.DeskFault.TheVariants.{Set, Flight, Limit, Journal, Replay, Memory}
+use Rattle.seat_desk.specs.declared.fault.DeskFault.TheVariants.{Journal, Replay, Memory}
+use Rattle.seat_desk.specs.Loading.{IsLoaded, IsRefusedLoad, IsTooLargeLoad}
 
 -- LEGAL lines N confirmed N released N
 abbrev pub audit_line : Totals → List ℕ
@@ -75,65 +67,24 @@ replay_refusal_of _ fault = Replay fault
 abbrev pub replay_refusal : ReplayFault → DeskFault
 replay_refusal fault = replay_refusal_of fault.kind fault
 
--- ---- the grid that a schedule and limit rows give
-
--- 16 MiB
-abbrev pub most_limit_bytes : ℕ
-most_limit_bytes = 16_777_216
-
 -- 256 MiB
 abbrev pub most_journal_bytes : ℕ
 most_journal_bytes = 268_435_456
 
--- each dated leg of the data set's flights has the ladder that the limit rows authorise
-pub record IsLoadedGrid (set limits : List ℕ) (first days : ℕ) (grid : Legs) : Type 0 where
-  pub flights : List Flown
-  pub rows : List LimitRow
-  pub is_schedule : IsSchedule set first days flights
-  pub are_rows : IsLimitText limits rows
-  pub grid_is : grid ≡ authorised_grid rows flights
-
--- and neither is too large
-pub record IsLoaded (set limits : List ℕ) (first days : ℕ) (grid : Legs) : Type 0 where
-  pub set_within : length set ≤ most_bytes
-  pub limits_within : length limits ≤ most_limit_bytes
-  pub loaded : IsLoadedGrid set limits first days grid
-
 -- the line audits the journal, which is not too large, over that grid
 pub record IsAudit (set limits : List ℕ) (first days : ℕ) (journal line : List ℕ) : Type 0 where
+  pub flights : List Flown
   pub grid : Legs
-  pub is_loaded : IsLoaded set limits first days grid
+  pub is_loaded : IsLoaded set limits first days flights grid
   pub within : length journal ≤ most_journal_bytes
   pub is_audited : IsAudited grid journal line
 
 -- a journal that is refused over that grid
 pub record IsRefusedOver (set limits : List ℕ) (first days : ℕ) (fault : DeskFault) (journal : List ℕ) : Type 0 where
+  pub flights : List Flown
   pub grid : Legs
-  pub is_loaded : IsLoaded set limits first days grid
+  pub is_loaded : IsLoaded set limits first days flights grid
   pub is_unlawful : IsUnlawful grid fault journal
-
--- the desk's fault for one of limit rows
-abbrev pub limit_refusal_of : LimitKind → LimitFault → DeskFault
-limit_refusal_of limit_kinds.Memory fault = Memory
-limit_refusal_of _ fault = Limit fault
-
-abbrev pub limit_refusal : LimitFault → DeskFault
-limit_refusal fault = limit_refusal_of fault.kind fault
-
--- the fault is the first of these limit rows
-abbrev pub IsUnlimited : List ℕ → DeskFault → Type 0
-IsUnlimited limits (Limit fault) = rows_in 1 (lines limits) ≡ Err fault
-IsUnlimited limits _ = ⊥
-
--- the fault is the first of the set, of its flights, or of the limits
-abbrev pub LoadRefusal : List ℕ → List ℕ → ℕ → ℕ → DeskFault → Type 0
-LoadRefusal set limits first days (Set fault) = IsUnscheduled first days (Set fault) set
-LoadRefusal set limits first days (Flight fault) = IsUnscheduled first days (Flight fault) set
-LoadRefusal set limits first days (Limit fault) = IsUnlimited limits (Limit fault)
-LoadRefusal set limits first days _ = ⊥
-
-pub record IsRefusedLoad (set limits : List ℕ) (first days : ℕ) (fault : DeskFault) : Type 0 where
-  pub refusal : LoadRefusal set limits first days fault
 
 -- that of the set, of its flights or of the limits, or else of the journal
 abbrev pub AuditRefusal : List ℕ → List ℕ → ℕ → ℕ → List ℕ → DeskFault → Type 0
@@ -146,4 +97,4 @@ pub record IsRefusedAudit (set limits : List ℕ) (first days : ℕ) (journal : 
 
 -- the set, the limits or the journal is too large
 abbrev pub IsTooLarge : List ℕ → List ℕ → List ℕ → Type 0
-IsTooLarge set limits journal = ((most_bytes < length set) ⊎ (most_limit_bytes < length limits)) ⊎ (most_journal_bytes < length journal)
+IsTooLarge set limits journal = IsTooLargeLoad set limits ⊎ (most_journal_bytes < length journal)

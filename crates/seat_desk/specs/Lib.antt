@@ -1,8 +1,12 @@
+pub mod Answering
 pub mod AuditDesk
 pub mod CheckDesk
 pub mod Desk
 pub mod LadderDesk
 pub mod FlightsDesk
 pub mod Lines
+pub mod Loading
 pub mod Orders
+pub mod Requests
+pub mod RunDesk
 pub mod Status

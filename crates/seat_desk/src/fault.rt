@@ -1,6 +1,7 @@
 ghost use Rattle.std.specs.Prelude.{◌≡◌};
 ghost use Rattle.seat_desk.specs.Status.{status_of};
 
+use airimp_lines::ScriptFault;
 use seat_core::ReplayFault;
 use seat_journal::JournalFault;
 use seat_nesting::LimitFault;
@@ -32,12 +33,24 @@ pub enum DeskFault {
     /// The entries are no legal history.
     #[error("{0}")]
     Replay(ReplayFault),
+    /// A line of a script is no request. The scripts' sessions count from 1.
+    #[error("{} {session} {}", .fault.kind, .fault.line)]
+    Script { session: u8, fault: ScriptFault },
+    /// A call of a session, to which a full journal gave no line.
+    #[error("B1 {session} {call}")]
+    Book { session: u8, call: u32 },
     /// The first day is no day of 2000 to 2099.
     #[error("E2 first")]
     BadFirst,
     /// The number of days is not one of 1 to 366.
     #[error("E2 days")]
     BadDays,
+    /// The day of reference is no day of 2000 to 2099.
+    #[error("E2 today")]
+    BadToday,
+    /// There are more scripts than sessions.
+    #[error("E2 script")]
+    TooManyScripts,
     /// An input has more bytes than it may have.
     #[error("R2")]
     TooLarge,
@@ -55,7 +68,10 @@ impl DeskFault {
         ensures { result ≡ status_of self.now }
     {
         match self {
-            DeskFault::BadFirst | DeskFault::BadDays => 2,
+            DeskFault::BadFirst
+            | DeskFault::BadDays
+            | DeskFault::BadToday
+            | DeskFault::TooManyScripts => 2,
             DeskFault::Device | DeskFault::Memory => 3,
             _ => 1,
         }

@@ -4,12 +4,16 @@
 
 mod audit;
 mod check;
+mod commands;
 mod fault;
 mod flights;
 mod ladder;
 mod lines;
 mod loading;
 mod orders;
+mod replies;
+mod run;
+mod scripts;
 mod streams;
 mod text;
 
@@ -18,3 +22,4 @@ pub use check::desk_check;
 pub use fault::DeskFault;
 pub use flights::desk_flights;
 pub use ladder::desk_ladder;
+pub use run::desk_run;

@@ -1,12 +1,11 @@
-//! The grid that a data set and limit rows give on the dates of a horizon.
+//! The flights of a data set, and the grid that limit rows give them on the dates of a horizon.
 ghost use Rattle.std.specs.Prelude.{◌≡◌, ◌≢◌, ◌<◌, ◌≤◌, ◌⊎◌, IfErr, IfOk, IfSome, length};
 ghost use Rattle.ssim_records.specs.Noting.{noted};
-ghost use Rattle.seat_desk.specs.CheckDesk.{most_bytes};
 ghost use Rattle.ssim_flights.specs.Right.{IsOfCentury};
 ghost use Rattle.seat_nesting.specs.Authorised.{authorised_grid};
 ghost use Rattle.seat_nesting.specs.LimitRows.{IsLimitText};
 ghost use Rattle.seat_desk.specs.Desk.{IsOfInput};
-ghost use Rattle.seat_desk.specs.AuditDesk.{IsLoaded, IsRefusedLoad, IsUnlimited, limit_refusal, most_limit_bytes};
+ghost use Rattle.seat_desk.specs.Loading.{IsGridOf, IsLoaded, IsRefusedLoad, IsTooLargeLoad, IsUnlimited, limit_refusal, most_limit_bytes};
 
 use crate::check::MOST_BYTES;
 use crate::fault::DeskFault;
@@ -20,26 +19,38 @@ use std::alloc::Global;
 /// 16 MiB, the most bytes of limit rows.
 pub const MOST_LIMIT_BYTES: u64 = 16_777_216;
 
-/// The grid of a data set and limit rows, each read and checked before the next is read.
+/// Flights, and the ladders of their legs.
+#[derive(Drop)]
+pub struct Loaded {
+    pub flights: Flights,
+    pub grid: Grid,
+}
+
+/// The flights of a data set and the grid that limit rows give them, each input read and checked before the next is read.
 pub fn load<S: NotedRead, L: NotedRead>(
     alloc: Global,
     set: &mut S,
     limits: &mut L,
     first: Day,
     days: u16,
-) -> Result<Grid, DeskFault>
+) -> Result<Loaded, DeskFault>
     requires first { IsOfCentury first }
     requires days { (1 ≤ days) × (days ≤ 366) }
-    ensures ok { IfOk result (λ grid. IfSome (S.remaining set.old) (λ xs. IfSome (L.remaining limits.old) (λ ys. IsLoaded xs ys first days grid))) }
+    ensures ok { IfOk result (λ loaded. IfSome (S.remaining set.old) (λ xs. IfSome (L.remaining limits.old) (λ ys. IsLoaded xs ys first days loaded.flights loaded.grid))) }
+    ensures grid { IfOk result (λ loaded. IsGridOf loaded.flights loaded.grid) }
     ensures fault { IfErr result (λ f. IsOfInput f → IfSome (S.remaining set.old) (λ xs. IfSome (L.remaining limits.old) (λ ys. IsRefusedLoad xs ys first days f))) }
-    ensures large { IfErr result (λ f. f ≡ DeskFault.TooLarge → IfSome (S.remaining set.old) (λ xs. IfSome (L.remaining limits.old) (λ ys. (most_bytes < length xs) ⊎ (most_limit_bytes < length ys)))) }
+    ensures large { IfErr result (λ f. f ≡ DeskFault.TooLarge → IfSome (S.remaining set.old) (λ xs. IfSome (L.remaining limits.old) (λ ys. IsTooLargeLoad xs ys))) }
     ensures device { IfErr result (λ f. f ≡ DeskFault.Device → (S.failure_count set.new ≡ noted (S.failure_count set.old)) ⊎ (L.failure_count limits.new ≡ noted (L.failure_count limits.old))) }
 {
     let bytes = read_input(alloc, set, MOST_BYTES)?;
     let flights = scheduled(alloc, &bytes, first, days)?;
     let bytes = read_input(alloc, limits, MOST_LIMIT_BYTES)?;
-    let rows = limit_rows(alloc, &bytes)?;
-    grid_of(alloc, &flights, &rows)
+    let rows = match limit_rows(alloc, &bytes) {
+        Ok(rows) => rows,
+        Err(fault) => return Err(fault),
+    };
+    let grid = grid_of(alloc, &flights, &rows)?;
+    Ok(Loaded { flights, grid })
 }
 
 /// The limit rows that these bytes are.
@@ -66,8 +77,10 @@ fn of_limits(fault: LimitFault) -> DeskFault
 }
 
 /// The grid of these flights under these rows.
+#[tactic(auto, using(crate::proofs::Serving::grid_of_rows))]
 pub fn grid_of(alloc: Global, flights: &Flights, rows: &LimitRows) -> Result<Grid, DeskFault>
     ensures ok { IfOk result (λ grid. grid ≡ authorised_grid rows.now flights.now) }
+    ensures rows { IfOk result (IsGridOf flights.now) }
     ensures memory { IfErr result (λ f. f ≡ DeskFault.Memory) }
 {
     match Grid::build(alloc, flights, rows.as_slice()) {

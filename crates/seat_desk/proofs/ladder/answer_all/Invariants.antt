@@ -1,7 +1,6 @@
 -- The commands so far are the journal, and the others come after them.
 use Rattle.std.proofs.Common.{◌≡◌, ℕ, List, [], length, drop}
 use Rattle.seat_journal.specs.declared.entry.Command.{Command}
-use Rattle.seat_journal.specs.declared.entry.Entry.{Entry}
 use Rattle.seat_nesting.specs.Nesting.{Legs}
 use Rattle.seat_core.specs.Inventory.{Inventory}
 use Rattle.seat_core.specs.Journal.{calls_of}

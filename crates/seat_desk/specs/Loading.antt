@@ -1,0 +1,64 @@
+-- The flights of a data set, and the grid that limit rows give them.
+use Rattle.std.specs.Prelude.{◌≡◌, ◌≤◌, ◌<◌, ◌⊎◌, ℕ, List, length, Err}
+use Rattle.std.specs.Str.Lines.{lines}
+use Rattle.ssim_flights.specs.declared.flight.Flight.{Flight as Flown}
+use Rattle.seat_nesting.specs.Authorised.{authorised_grid}
+use Rattle.seat_nesting.specs.LimitRows.{IsLimitText, rows_in}
+use Rattle.seat_nesting.specs.Nesting.{Legs}
+use Rattle.seat_nesting.specs.declared.limit_fault.LimitFault.{LimitFault}
+use Rattle.seat_nesting.specs.declared.limit_fault.LimitKind.{LimitKind}
+use Rattle.seat_nesting.specs.declared.limit_fault.LimitKind.TheVariants as limit_kinds
+use Rattle.seat_nesting.specs.declared.limit_row.LimitRow.{LimitRow}
+use Rattle.seat_desk.specs.CheckDesk.{most_bytes}
+use Rattle.seat_desk.specs.FlightsDesk.{IsSchedule, IsUnscheduled}
+use Rattle.seat_desk.specs.declared.fault.DeskFault.{DeskFault}
+use Rattle.seat_desk.specs.declared.fault.DeskFault.TheVariants.{Set, Flight, Limit, Memory}
+
+-- 16 MiB
+abbrev pub most_limit_bytes : ℕ
+most_limit_bytes = 16_777_216
+
+-- some limit rows authorise the ladder of each dated leg
+pub record IsGridOf (flights : List Flown) (grid : Legs) : Type 0 where
+  pub rows : List LimitRow
+  pub is : grid ≡ authorised_grid rows flights
+
+-- each dated leg of the data set's flights has the ladder that the limit rows authorise
+pub record IsLoadedGrid (set limits : List ℕ) (first days : ℕ) (flights : List Flown) (grid : Legs) : Type 0 where
+  pub rows : List LimitRow
+  pub is_schedule : IsSchedule set first days flights
+  pub are_rows : IsLimitText limits rows
+  pub grid_is : grid ≡ authorised_grid rows flights
+
+-- and neither is too large
+pub record IsLoaded (set limits : List ℕ) (first days : ℕ) (flights : List Flown) (grid : Legs) : Type 0 where
+  pub set_within : length set ≤ most_bytes
+  pub limits_within : length limits ≤ most_limit_bytes
+  pub loaded : IsLoadedGrid set limits first days flights grid
+
+-- the desk's fault for one of limit rows
+abbrev pub limit_refusal_of : LimitKind → LimitFault → DeskFault
+limit_refusal_of limit_kinds.Memory fault = Memory
+limit_refusal_of _ fault = Limit fault
+
+abbrev pub limit_refusal : LimitFault → DeskFault
+limit_refusal fault = limit_refusal_of fault.kind fault
+
+-- the fault is the first of these limit rows
+abbrev pub IsUnlimited : List ℕ → DeskFault → Type 0
+IsUnlimited limits (Limit fault) = rows_in 1 (lines limits) ≡ Err fault
+IsUnlimited limits _ = ⊥
+
+-- the fault is the first of the set, of its flights, or of the limits
+abbrev pub LoadRefusal : List ℕ → List ℕ → ℕ → ℕ → DeskFault → Type 0
+LoadRefusal set limits first days (Set fault) = IsUnscheduled first days (Set fault) set
+LoadRefusal set limits first days (Flight fault) = IsUnscheduled first days (Flight fault) set
+LoadRefusal set limits first days (Limit fault) = IsUnlimited limits (Limit fault)
+LoadRefusal set limits first days _ = ⊥
+
+pub record IsRefusedLoad (set limits : List ℕ) (first days : ℕ) (fault : DeskFault) : Type 0 where
+  pub refusal : LoadRefusal set limits first days fault
+
+-- the set or the limits are too large
+abbrev pub IsTooLargeLoad : List ℕ → List ℕ → Type 0
+IsTooLargeLoad set limits = (most_bytes < length set) ⊎ (most_limit_bytes < length limits)
