@@ -2,38 +2,49 @@
 //! It knows which stream is which, and nothing of what the commands do with them.
 #![tactic(auto)]
 
-ghost use Rattle.std.specs.Prelude.{◌≤◌, IfOk};
+ghost use Rattle.std.specs.Prelude.{◌≡◌, ◌≤◌, IfOk, length};
+ghost use Rattle.ssim_records.specs.Days.{IsCenturyDay};
 ghost use Rattle.ssim_flights.specs.Right.{IsOfCentury};
 
 use clap::error::ErrorKind;
-use seat_desk::{DeskFault, desk_audit, desk_check, desk_flights, desk_ladder};
-use seat_words::{Job, date_word, days_word, read_words};
+use seat_desk::{DeskFault, desk_audit, desk_check, desk_flights, desk_ladder, desk_run};
+use seat_host::NoGate;
+use seat_words::{Job, Scripts, date_word, days_word, read_words};
 use ssim_records::{Counted, Day};
 use std::fs::File;
 use std::process::ExitCode;
+use std::sync::Wait;
+use std::thread::Threads;
 use std::{fs, io};
 
+/// As many sessions as a run may have.
+const MOST_SCRIPTS: usize = 8;
+
 fn main(rt: HostRuntime) -> ExitCode {
-    match start(&rt) {
+    match start(&rt, &rt) {
         Ok(status) => status,
         Err(_) => ended(&rt, Err(DeskFault::Memory)),
     }
 }
 
-/// Runs the command that the words name. An error is want of memory for the words.
-fn start(rt: &HostRuntime) -> io::Result<ExitCode> {
+/// Runs the command that the words name, with threads where it has sessions. An error is want of memory for the words.
+fn start<T: Threads + Wait + Sync>(rt: &HostRuntime, threads: &T) -> io::Result<ExitCode> {
     let given: Vec<String> = std::env::args(rt)?.collect(rt.alloc())?;
     let mut words = Vec::new(rt.alloc());
     for word in &given {
         words.push(word.as_str())?;
     }
     match read_words(rt.alloc(), words.as_slice()) {
-        Ok(job) => Ok(ended(rt, carry_out(rt, &job))),
+        Ok(job) => Ok(ended(rt, carry_out(rt, threads, &job))),
         Err(error) => Ok(misread(rt, &error)),
     }
 }
 
-fn carry_out(rt: &HostRuntime, job: &Job<'_>) -> Result<(), DeskFault> {
+fn carry_out<T: Threads + Wait + Sync>(
+    rt: &HostRuntime,
+    threads: &T,
+    job: &Job<'_>,
+) -> Result<(), DeskFault> {
     match job {
         Job::Ladder => {
             let mut input = Counted::new(rt.stdin());
@@ -57,23 +68,80 @@ fn carry_out(rt: &HostRuntime, job: &Job<'_>) -> Result<(), DeskFault> {
             first,
             days,
             journal,
-        } => {
-            let (first, days) = horizon(first, days)?;
-            let mut set = opened(rt, set)?;
-            let mut limits = opened(rt, limits)?;
-            let mut journal = opened(rt, journal)?;
-            let mut out = Counted::new(rt.stdout());
-            desk_audit(
-                rt.alloc(),
-                &mut set,
-                &mut limits,
-                first,
-                days,
-                &mut journal,
-                &mut out,
-            )
-        }
+        } => audit(rt, set, limits, first, days, journal),
+        Job::Run {
+            set,
+            limits,
+            first,
+            days,
+            today,
+            journal,
+            scripts,
+        } => run(
+            rt, threads, set, limits, first, days, today, journal, scripts,
+        ),
     }
+}
+
+fn audit(
+    rt: &HostRuntime,
+    set: &str,
+    limits: &str,
+    first: &str,
+    days: &str,
+    journal: &str,
+) -> Result<(), DeskFault> {
+    let (first, days) = horizon(first, days)?;
+    let mut set = opened(rt, set)?;
+    let mut limits = opened(rt, limits)?;
+    let mut journal = opened(rt, journal)?;
+    let mut out = Counted::new(rt.stdout());
+    desk_audit(
+        rt.alloc(),
+        &mut set,
+        &mut limits,
+        first,
+        days,
+        &mut journal,
+        &mut out,
+    )
+}
+
+/// OUT, the file of the journal, is made once each input is open, and before the first is read.
+fn run<T: Threads + Wait + Sync>(
+    rt: &HostRuntime,
+    threads: &T,
+    set: &str,
+    limits: &str,
+    first: &str,
+    days: &str,
+    today: &str,
+    journal: &str,
+    scripts: &Scripts<'_>,
+) -> Result<(), DeskFault> {
+    let (first, days) = horizon(first, days)?;
+    let today = day_of_run(today)?;
+    if scripts.is_empty() || scripts.len() > MOST_SCRIPTS {
+        return Err(DeskFault::TooManyScripts);
+    }
+    let mut set = opened(rt, set)?;
+    let mut limits = opened(rt, limits)?;
+    let mut scripts = all_opened(rt, scripts.as_slice())?;
+    let mut journal = made(rt, journal)?;
+    let mut out = Counted::new(rt.stdout());
+    desk_run(
+        threads,
+        rt.alloc(),
+        &mut set,
+        &mut limits,
+        scripts.as_mut_slice(),
+        first,
+        days,
+        today,
+        &NoGate,
+        &mut journal,
+        &mut out,
+    )
 }
 
 /// The first day and the number of days.
@@ -91,9 +159,42 @@ fn horizon(first: &str, days: &str) -> Result<(Day, u16), DeskFault>
     Ok((first, days))
 }
 
+#[tactic(auto, using(crate::proofs::Horizons::day_of_word))]
+fn day_of_run(today: &str) -> Result<Day, DeskFault>
+    ensures { IfOk result IsCenturyDay }
+{
+    match date_word(today) {
+        Some(today) => Ok(today),
+        None => Err(DeskFault::BadToday),
+    }
+}
+
+/// The input files, in order.
+fn all_opened(rt: &HostRuntime, paths: &[&str]) -> Result<Vec<Counted<File>>, DeskFault>
+    ensures { IfOk result (λ files. length files.items ≡ length paths.now) }
+{
+    let mut files = Vec::new(rt.alloc());
+    for path in paths {
+        let file = opened(rt, path)?;
+        if files.push(file).is_err() {
+            return Err(DeskFault::Memory);
+        }
+    }
+    Ok(files)
+}
+
 /// An input file.
 fn opened(rt: &HostRuntime, path: &str) -> Result<Counted<File>, DeskFault> {
-    match fs::open(rt, path) {
+    counted(fs::open(rt, path))
+}
+
+/// An output file, empty.
+fn made(rt: &HostRuntime, path: &str) -> Result<Counted<File>, DeskFault> {
+    counted(fs::create(rt, path))
+}
+
+fn counted(file: io::Result<File>) -> Result<Counted<File>, DeskFault> {
+    match file {
         Ok(file) => Ok(Counted::new(file)),
         Err(error) if error.kind() == io::ErrorKind::OutOfMemory => Err(DeskFault::Memory),
         Err(_) => Err(DeskFault::Device),
