@@ -16,7 +16,7 @@ use std::alloc::Global;
 use std::sync::{Mutex, MutexGuard, Wait};
 use std::thread::{Threads, join_mut};
 
-/// Why a run stopped short. Its text is `N1`, the session and its call.
+/// Why a run stopped short: the session and the call that was refused.
 #[derive(Clone, Copy, Debug, PartialEq, Eq)]
 pub enum RunFault {
     /// A call of a session gave no line.
