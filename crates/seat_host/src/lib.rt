@@ -24,3 +24,5 @@ pub use workers::{RunFault, run_sessions};
 
 #[cfg(test)]
 mod tests;
+#[cfg(test)]
+mod working_tests;
