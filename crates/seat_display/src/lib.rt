@@ -14,4 +14,6 @@ pub use publisher::{Publisher, Told};
 pub use viewer::Viewer;
 
 #[cfg(test)]
+mod race_tests;
+#[cfg(test)]
 mod tests;

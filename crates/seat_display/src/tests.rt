@@ -11,7 +11,7 @@ use std::process::Abort;
 use std::sync::Wait;
 use std::test::Fail;
 
-const LEG: Place = Place {
+pub(crate) const LEG: Place = Place {
     flight: 0,
     from: 0,
     to: 0,
@@ -21,9 +21,9 @@ const LEG: Place = Place {
 type Asked = (&'static [u8], u8, &'static [u8], u16);
 
 /// An inventory of one leg, the publisher of its lines, and two viewers.
-struct Scene {
+pub(crate) struct Scene {
     core: Core,
-    publisher: Publisher,
+    pub(crate) publisher: Publisher,
     one: Viewer,
     other: Viewer,
     ghost lines: { core.journal ≡ publisher.visible ++ publisher.pending },
@@ -118,7 +118,7 @@ fn command(asked: Asked) -> Option<Command> {
 }
 
 /// Sells a seat of class F, and takes it back.
-fn sell_and_cancel() -> Option<(Command, Command)> {
+pub(crate) fn sell_and_cancel() -> Option<(Command, Command)> {
     Some((
         command((b"A00001", b'F', b"NN", 1))?,
         command((b"A00001", b'F', b"XX", 1))?,
@@ -127,7 +127,11 @@ fn sell_and_cancel() -> Option<(Command, Command)> {
 
 impl Scene {
     /// A scene, and a third viewer beside it. None where a growth of the inventory is refused.
-    fn open<R: Wait + Abort>(rt: &R, alloc: Global, ladder: &[u8]) -> Option<(Scene, Viewer)> {
+    pub(crate) fn open<R: Wait + Abort>(
+        rt: &R,
+        alloc: Global,
+        ladder: &[u8],
+    ) -> Option<(Scene, Viewer)> {
         let grid = Grid::single(alloc, read_ladder(ladder).ok()?).ok()?;
         let Ok(limits) = grid.copy(alloc) else {
             return None;
@@ -151,7 +155,7 @@ impl Scene {
         Some((scene, third))
     }
 
-    fn end<R: Wait>(self, rt: &R) {
+    pub(crate) fn end<R: Wait>(self, rt: &R) {
         let Scene {
             core: _,
             publisher,
@@ -162,7 +166,12 @@ impl Scene {
     }
 
     /// One line more, which is pending. None where a growth of the inventory is refused.
-    fn line<R: Wait + Abort>(&mut self, rt: &R, alloc: Global, command: Command) -> Option<()>
+    pub(crate) fn line<R: Wait + Abort>(
+        &mut self,
+        rt: &R,
+        alloc: Global,
+        command: Command,
+    ) -> Option<()>
         ensures { (self.new.publisher.book ≡ self.old.publisher.book) × (self.new.publisher.grid ≡ self.old.publisher.grid) }
     {
         assert!(rt; self.core.fits(&command), "the command fits");
@@ -180,7 +189,7 @@ impl Scene {
         Some(())
     }
 
-    fn look(&mut self, first: bool, class: Class) -> Option<u16> {
+    pub(crate) fn look(&mut self, first: bool, class: Class) -> Option<u16> {
         if first {
             self.one.look(LEG, class)
         } else {
@@ -188,7 +197,7 @@ impl Scene {
         }
     }
 
-    fn seen(&self, first: bool) -> u32 {
+    pub(crate) fn seen(&self, first: bool) -> u32 {
         if first {
             self.one.seen()
         } else {
@@ -196,7 +205,7 @@ impl Scene {
         }
     }
 
-    fn learn(&mut self, first: bool, told: Told)
+    pub(crate) fn learn(&mut self, first: bool, told: Told)
         requires { (told.book ≡ self.old.publisher.book) × IsLegal self.old.publisher.grid told.lines }
     {
         if first {
