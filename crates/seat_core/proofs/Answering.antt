@@ -1,6 +1,7 @@
 -- Which answer a request gets, by where its booking stands.
-use Rattle.std.proofs.Common.{◌≡◌, ℕ, zero, suc, ◌<◌, ◌≤◌, Bool, true, false, List, [], ◌∷◌, length, slice_get, cond, nat_lt, Some, None, position, find, codes, arith, refl, ap, sym, ◌∙◌}
+use Rattle.std.proofs.Common.{◌≡◌, ℕ, zero, suc, ◌<◌, ◌≤◌, Bool, true, false, List, [], ◌∷◌, length, slice_get, get_or, cond, nat_lt, Some, None, position, find, codes, arith, refl, ap, sym, ◌∙◌}
 use Rattle.std.proofs.lemmas.List.Folds.{find_at}
+use Rattle.std.proofs.lemmas.List.Quantifiers.{position-Some}
 use Rattle.std.specs.List.{position_or_len}
 use Rattle.std.proofs.lemmas.Bool.Decides.{nat_tests}
 use Rattle.ssim_records.specs.declared.place.Place.{Place}
@@ -46,6 +47,15 @@ find_none p xs e =
     let test = at_none (nat_lt (position_or_len p xs) (length xs)) (position_or_len p xs) e in
     let past : length xs ≤ position_or_len p xs = grind (arith, nat_tests, test) in
     find_at p xs ∙ outside xs (position_or_len p xs) past
+
+-- what stands where it was found
+stands : (xs : List Booking) (i : ℕ) (b : Booking) → i < length xs → b ≡ get_or xs i b → slice_get xs i ≡ Some b
+stands [] i b h e = absurd (omega (arith, h))
+stands (x ∷ xs) zero b h e = ap Some (sym e)
+stands (x ∷ xs) (suc i) b h e = stands xs i b (omega (arith, h)) e
+
+pub found_at : (test : Booking → Bool) (xs ys : List Booking) (i : ℕ) (b : Booking) → ys ≡ xs → position test xs ≡ Some i → b ≡ get_or ys i b → slice_get xs i ≡ Some b
+found_at test xs ys i b same found is = stands xs i b (position-Some test xs i b found).0 (is ∙ ap (λ (l : List Booking). get_or l i b) same)
 
 -- below, `xs` is the list of bookings in which the code looked
 pub answers_want : (w : Wish) (s : State) (n : ℕ) (c : Command) (p : Place) (xs : List Booking) → xs ≡ s.bookings → Seats w ≡ request_of c.code → c.place ≡ Some p → None ≡ position (is_for c.locator p c.class) xs

@@ -116,6 +116,18 @@ few_in_book opening now cap journal books calls counts (Some place) k =
 pub kept_same : (opening now : Legs) (cap : ℕ) (journal : List Entry) (books books' : List Book) (calls : List ℕ) (counts : Counted) → IsKept opening now cap journal books calls counts → SameBooks books books' → IsKept opening now cap journal books' calls counts
 kept_same opening now cap journal books books' calls counts k same = record { lawful = k.lawful; by_flight = λ f. same.each f ∙ k.by_flight f; by_queue = λ f. same.queues f ∙ k.by_queue f; by_session = k.by_session; limits = k.limits; seats = k.seats }
 
+-- and counters that hold the same seats
+pub kept_counts : (opening now : Legs) (cap : ℕ) (journal : List Entry) (books : List Book) (calls : List ℕ) (counts counts' : Counted) → IsKept opening now cap journal books calls counts
+    → limits_of counts' ≡ limits_of counts → seats_of counts' ≡ seats_of counts → IsKept opening now cap journal books calls counts'
+kept_counts opening now cap journal books calls counts counts' k limits seats = record {
+  lawful = k.lawful;
+  by_flight = k.by_flight;
+  by_queue = k.by_queue;
+  by_session = k.by_session;
+  limits = limits ∙ k.limits;
+  seats = λ f l c. ap (λ (t : Table). t f l c) seats ∙ k.seats f l c;
+}
+
 -- the line applied to the book of its flight
 entered_on : (opening now : Legs) (cap : ℕ) (journal : List Entry) (f : ℕ) (e : Entry) → IsLawful opening now cap journal (replay opening journal).bookings → IsNext opening journal e → is_on f e.command.place ≡ true
     → applied (bookings_on f (replay opening journal).bookings) e ≡ bookings_on f (answer (state_of now (replay opening journal).bookings) (length journal + 1) e.command).state.bookings

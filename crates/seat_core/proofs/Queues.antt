@@ -1,5 +1,5 @@
 -- Waiting lists, booking by booking.
-use Rattle.std.proofs.Common.{◌≡◌, ◌==◌, ◌&&◌, ℕ, zero, suc, ◌+◌, ◌<◌, Bool, true, false, nat_le, nat_lt, vec_len, vec_capacity, List, [], ◌∷◌, ◌++◌, length, get_or, remove, position, Some, None, arith, refl, ap, sym, ◌∙◌}
+use Rattle.std.proofs.Common.{◌≡◌, ◌==◌, ◌&&◌, ℕ, zero, suc, ◌+◌, ◌<◌, ◌≤◌, Bool, true, false, nat_le, nat_lt, vec_len, vec_capacity, List, [], ◌∷◌, ◌++◌, length, get_or, remove, position, Some, None, arith, refl, ap, sym, ◌∙◌}
 use Rattle.std.proofs.lemmas.Bool.Decides.{nat_tests}
 use Rattle.std.proofs.lemmas.List.{append-nil}
 use Rattle.std.proofs.lemmas.List.Quantifiers.{position-Some}
@@ -141,6 +141,13 @@ waiting_queue (b ∷ bs) f l k = cases (is_waiting b.status) refl (waiting_queue
       let none = held_light f l k b b.status refl e in
       let whole = sum_by-cons (waits_on f l k) b bs in
       rw e (omega (arith, rest, none, whole))
+
+pub queue_few : (bs : List Booking) → length (queue_of bs) ≤ length bs
+queue_few [] = omega arith
+queue_few (b ∷ bs) = cases (is_waiting b.status) refl (queue_few bs) where
+  cases : (t : Bool) → is_waiting b.status ≡ t → length (queue_of bs) ≤ length bs → length (queue_of (b ∷ bs)) ≤ length (b ∷ bs)
+  cases true e rest = rw e (omega (arith, rest))
+  cases false e rest = rw e (omega (arith, rest))
 
 -- memory for one booking more
 split : (t u : Bool) → (t && u) ≡ true → (t ≡ true) × (u ≡ true)

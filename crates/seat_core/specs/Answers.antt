@@ -1,14 +1,43 @@
--- What the code's answer has of an outcome.
-use Rattle.std.specs.Prelude.{◌≡◌, List}
-use Rattle.seat_nesting.specs.Nesting.{Legs}
+-- What a line is answered from, and what its answer has of an outcome.
+use Rattle.std.specs.Prelude.{◌≡◌, ℕ, ◌-◌, ◌≤◌, nat_le, List, [], ◌∷◌, length, false, if◌then◌else◌}
+use Rattle.std.specs.List.{AllByRecursion}
+use Rattle.seat_nesting.specs.Nesting.{Legs, has_class, ladder_at}
+use Rattle.seat_nesting.specs.Counting.{Counted, limits_of, seats_of}
 use Rattle.seat_core.specs.declared.booking.Booking.{Booking}
+use Rattle.seat_core.specs.declared.books.Book.{Book}
 use Rattle.seat_core.specs.declared.reply.Answer.{Answer}
 use Rattle.seat_journal.specs.declared.entry.Advice.{Advice}
-use Rattle.seat_core.specs.Sequential.{Outcome, state_of}
+use Rattle.seat_core.specs.Bookings.{held}
+use Rattle.seat_core.specs.Books.{book_at, queue_at}
+use Rattle.seat_core.specs.Queues.{queue_of}
+use Rattle.seat_core.specs.Sequential.{Outcome, NoneFits, advice_of}
 
--- the bookings and the answer are those of the outcome
-pub record Gives (outcome : Outcome) (grid : Legs) (bookings : List Booking) (told : List Advice) (answer : Answer) : Type 0 where
-  pub state : outcome.state ≡ state_of grid bookings
+-- no seat is held in a class that a leg lacks
+abbrev pub Lacks : Legs → List Booking → Type 0
+Lacks grid bookings = (flight leg class : ℕ) → has_class (ladder_at grid flight leg) class ≡ false → held bookings flight leg class ≡ 0
+
+-- the bookings of a flight: the counters hold what they hold, none of those that wait fits, and the waiting list is theirs
+pub record IsFlight (counts : Counted) (books : List Book) (flight : ℕ) : Type 0 where
+  pub few : length (book_at books flight) ≤ 999999
+  pub quiet : NoneFits (limits_of counts) (book_at books flight)
+  pub queue : queue_at books flight ≡ queue_of (book_at books flight)
+  pub seats : (leg class : ℕ) → seats_of counts flight leg class ≡ held (book_at books flight) flight leg class
+  pub lacks : Lacks (limits_of counts) (book_at books flight)
+  pub there : AllByRecursion (λ b. b.place.flight ≡ flight) (book_at books flight)
+
+-- this reply alone
+pub record IsReply (code : List ℕ) (answer : Answer) : Type 0 where
+  pub reply : answer.reply ≡ code
+  pub released : answer.released ≡ 0
+  pub advices : answer.advices.items ≡ []
+
+-- the outcome's reply, released seats and advices
+pub record Says (outcome : Outcome) (answer : Answer) : Type 0 where
   pub reply : outcome.reply ≡ answer.reply
   pub released : outcome.released ≡ answer.released
-  pub advices : outcome.advices ≡ told
+  pub advices : outcome.advices ≡ answer.advices.items
+
+-- the advice of a waiting booking that has n seats fewer, where those that are left fit this room
+abbrev pub rest_advised : ℕ → Booking → ℕ → List Advice
+rest_advised room b n =
+    (if nat_le b.seats n then [] else (if nat_le (b.seats - n) room then advice_of (record b { seats = b.seats - n }) ∷ [] else []))

@@ -1,5 +1,5 @@
 -- Bookings, and the seats that they hold.
-use Rattle.std.specs.Prelude.{◌≡◌, ℕ, ◌+◌, Bool, true, false, ◌&&◌, ◌==◌, nat_eq, nat_le, List, [], ◌∷◌, if◌then◌else◌}
+use Rattle.std.specs.Prelude.{◌≡◌, ℕ, Bool, true, false, ◌&&◌, ◌==◌, nat_eq, nat_le, List, if◌then◌else◌}
 use Rattle.std.specs.List.{sum_by}
 use Rattle.std.specs.Cmp.Lexicographic.{pointwise}
 use Rattle.ssim_records.specs.declared.place.Place.{Place}
@@ -54,8 +54,3 @@ held bookings flight leg class = sum_by (seats_on flight leg class) bookings
 -- the seats that wait on each leg in each class
 abbrev pub waiting : List Booking → Table
 waiting bookings flight leg class = sum_by (waits_on flight leg class) bookings
-
--- how many bookings wait
-abbrev pub waiting_count : List Booking → ℕ
-waiting_count [] = 0
-waiting_count (b ∷ bs) = (if is_waiting b.status then waiting_count bs + 1 else waiting_count bs)

@@ -54,3 +54,7 @@ advices_by grid table (b ∷ bs) =
     (if is_waiting b.status && nat_le b.seats (room grid table b.place b.class)
     then advice_of b ∷ advices_by grid (with_advice table (advice_of b)) bs
     else advices_by grid table bs)
+
+-- what a pass tells of one booking
+abbrev pub told_of : Legs → Table → Booking → List Advice
+told_of grid table b = (if is_waiting b.status && nat_le b.seats (room grid table b.place b.class) then advice_of b ∷ [] else [])

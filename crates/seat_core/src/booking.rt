@@ -1,5 +1,5 @@
 ghost use Rattle.std.specs.Prelude.{◌≡◌, if◌then◌else◌};
-ghost use Rattle.seat_core.specs.Bookings.{is_for, is_held, is_waiting, seats_of, seats_on, waits_on};
+ghost use Rattle.seat_core.specs.Bookings.{is_for, is_held, is_waiting, seats_of, waits_on};
 
 use seat_journal::Command;
 use ssim_records::{Class, Locator, Place};
@@ -55,16 +55,6 @@ impl Booking {
             self.seats
         } else {
             0
-        }
-    }
-
-    /// The seats that it holds in this class on this leg.
-    pub fn seats_on(&self, flight: u32, leg: u8, class: Class) -> u16
-        ensures { result ≡ seats_on flight leg class self.now }
-    {
-        match self.status {
-            Status::Held => self.seats_of(flight, leg, class),
-            Status::Waiting => 0,
         }
     }
 

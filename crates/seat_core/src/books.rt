@@ -1,6 +1,6 @@
 // The live bookings, flight by flight.
 ghost use Rattle.std.specs.Prelude.{◌≡◌, ◌<◌, ◌+◌, true, OnOk, slice_get, vec_len};
-ghost use Rattle.seat_core.specs.Books.{book_at, book_for, has_spare, has_spare_in, queue_at, IsEntered, IsQueued, SameBooks};
+ghost use Rattle.seat_core.specs.Books.{book_at, has_spare, has_spare_in, queue_at, IsEntered, IsQueued, SameBooks};
 
 use crate::booking::Booking;
 use crate::effect::apply;
@@ -31,16 +31,6 @@ pub fn queue_on(books: &[Book], flight: u32) -> &[Booking]
 {
     match books.get(flight as usize) {
         Some(book) => book.queue.as_slice(),
-        None => &[],
-    }
-}
-
-/// The bookings of a place's flight.
-pub fn book_for(books: &[Book], place: Option<Place>) -> &[Booking]
-    ensures { result.now ≡ book_for books.now place }
-{
-    match place {
-        Some(place) => book_of(books, place.flight),
         None => &[],
     }
 }

@@ -1,48 +1,56 @@
 // What a command is answered: the table of replies (AIRIMP codes).
-ghost use Rattle.std.specs.Prelude.{◌≡◌, ◌+◌, ◌^◌, ◌<◌, ◌≤◌, [], vec_len, vec_capacity, position, slice_get, None, IfOk, IsTrue, length};
+ghost use Rattle.std.specs.Prelude.{◌≡◌, ◌∷◌, ◌≤◌, [], find, position, slice_get, None, Some, IfOk, IfSome, IsTrue, length, codes, if◌then◌else◌};
 ghost use Rattle.ssim_records.specs.Names.{is_code};
-ghost use Rattle.seat_core.specs.Bookings.{waiting_count, is_for};
-ghost use Rattle.seat_core.specs.Sequential.{state_of, want, cancel, answer};
+ghost use Rattle.seat_nesting.specs.Counting.{limits_of, seats_of};
+ghost use Rattle.seat_nesting.specs.Nesting.{may_wait};
+ghost use Rattle.seat_core.specs.Bookings.{is_for, waiting};
+ghost use Rattle.seat_core.specs.Books.{book_at, book_for, queue_at};
+ghost use Rattle.seat_core.specs.Queues.{queue_of};
+ghost use Rattle.seat_core.specs.Sequential.{advice_of, answer, booking_of, cancel, pass, reduced, state_of, want};
+ghost use Rattle.seat_core.specs.declared.booking.Status.TheVariants.{Waiting};
 ghost use Rattle.seat_core.specs.Journal.{line_of};
-ghost use Rattle.seat_core.specs.Answers.{Gives};
+ghost use Rattle.seat_core.specs.Answers.{IsFlight, IsReply, Says};
 
-use crate::booking::{Booking, Status};
-use crate::bookings::{add, find_booking, take_off};
+use crate::booking::Booking;
+use crate::bookings::find_booking;
+use crate::books::{Book, book_of, queue_on};
 use crate::request::{Request, Wish, request_of};
-use crate::rooms::{may_wait_at, room_of};
-use crate::waitlist::{confirm_waiting, count_waiting};
+use crate::rooms::may_wait_at;
+use crate::waitlist::{advices_after, advices_of_rest};
 use seat_journal::{Advice, Advices, Command, Entry};
-use seat_nesting::Grid;
+use seat_nesting::{Counts, Grid};
 use ssim_records::{Code, Memory, Place};
 use std::alloc::Global;
 
-/// What a command was answered, beside the bookings and advices that it left.
+/// What a command was answered.
 #[derive(Drop)]
 pub struct Answer {
     pub reply: Code,
     pub released: u16,
+    pub advices: Vec<Advice>,
 }
 
-#[tactic(auto, using(crate::proofs::Answering::answers_want, crate::proofs::Answering::answers_taken, crate::proofs::Answering::answers_cancel, crate::proofs::Answering::answers_missing))]
-/// The line that a command makes, answered from the bookings of its flight.
+/// The line that a command makes, answered from the counters and the bookings of its flight. The counters are left as
+/// they were.
 pub fn make_line(
     alloc: Global,
-    grid: &Grid,
-    book: &[Booking],
+    limits: &Grid,
+    counts: &mut Counts,
+    books: &[Book],
     number: u32,
     session: u8,
     call: u32,
     command: Command,
 ) -> Result<Entry, Memory>
-    requires few { length book.now ≤ 999999 }
-    ensures { IfOk result (λ line. line ≡ line_of (answer (state_of grid.now book.now) number command) number session call command) }
+    requires limits { limits.now ≡ limits_of counts.old }
+    requires flight { IfSome command.place (λ p. IsFlight counts.old books.now p.flight) }
+    requires order { IfSome command.place (λ p. p.from ≤ p.to) }
+    requires some { 1 ≤ command.seats }
+    ensures line { IfOk result (λ line. line ≡ line_of (answer (state_of (limits_of counts.old) (book_for books.now command.place)) number command) number session call command) }
+    ensures limits { limits_of counts.new ≡ limits_of counts.old }
+    ensures seats { seats_of counts.new ≡ seats_of counts.old }
 {
-    let mut bookings = Vec::from_slice(alloc, book)?;
-    bookings.reserve(1)?;
-    let mut advices = Vec::new(alloc);
-    advices.reserve(count_waiting(book) + 1)?;
-    let answer = carry_out(grid, &mut bookings, &mut advices, number, &command);
-    let told = Vec::from_slice(alloc, advices.as_slice())?;
+    let answer = answer_command(alloc, limits, counts, books, number, &command)?;
     Ok(Entry {
         number,
         session,
@@ -50,119 +58,193 @@ pub fn make_line(
         command,
         reply: answer.reply,
         released: answer.released,
-        advices: Advices::from_vec(told),
+        advices: Advices::from_vec(answer.advices),
     })
 }
 
 // Answers a command as line `number`.
-fn carry_out(
-    grid: &Grid,
-    bookings: &mut Vec<Booking>,
-    advices: &mut Vec<Advice>,
+fn answer_command(
+    alloc: Global,
+    limits: &Grid,
+    counts: &mut Counts,
+    books: &[Book],
     number: u32,
     command: &Command,
-) -> Answer
-    requires few { vec_len bookings.old < 2 ^ 31 }
-    requires room { vec_len bookings.old < vec_capacity bookings.old }
-    requires none { advices.old.items ≡ [] }
-    requires spare { waiting_count bookings.old.items + 1 ≤ vec_capacity advices.old }
-    ensures { Gives (answer (state_of grid.now bookings.old.items) number command.now) grid.now bookings.new.items advices.new.items result }
+) -> Result<Answer, Memory>
+    requires limits { limits.now ≡ limits_of counts.old }
+    requires flight { IfSome command.now.place (λ p. IsFlight counts.old books.now p.flight) }
+    requires order { IfSome command.now.place (λ p. p.from ≤ p.to) }
+    requires some { 1 ≤ command.now.seats }
+    ensures says { IfOk result (λ a. Says (answer (state_of (limits_of counts.old) (book_for books.now command.now.place)) number command.now) a) }
+    ensures limits { limits_of counts.new ≡ limits_of counts.old }
+    ensures seats { seats_of counts.new ≡ seats_of counts.old }
 {
     let request = request_of(command.code);
     if let Request::Other = request {
-        return reply(*b"NO");
+        return Ok(reply(alloc, *b"NO"));
     }
     let Some(place) = command.place else {
-        return reply(*b"UN");
+        return Ok(reply(alloc, *b"UN"));
     };
-    let found = find_booking(bookings, command, place);
+    let found = find_booking(book_of(books, place.flight), command, place);
     match request {
         Request::Seats(wish) => match found {
-            None => book_seats(grid, bookings, advices, number, command, place, wish),
-            Some(_) => reply(*b"NO"),
+            None => book_seats(alloc, limits, counts, books, number, command, place, wish),
+            Some(_) => Ok(reply(alloc, *b"NO")),
         },
         Request::Cancel => match found {
-            Some(at) => cancel_seats(grid, bookings, advices, at, command, place),
-            None => reply(*b"NO"),
+            Some(at) => cancel_seats(alloc, counts, books, at, command, place),
+            None => Ok(reply(alloc, *b"NO")),
         },
-        Request::Other => reply(*b"NO"),
+        Request::Other => Ok(reply(alloc, *b"NO")),
     }
 }
 
-#[tactic(auto, using(crate::proofs::Reducing::waiting_more))]
 /// Answers NN, SS or LL, where there is no booking of the same locator, place and class.
 fn book_seats(
-    grid: &Grid,
-    bookings: &mut Vec<Booking>,
-    advices: &mut Vec<Advice>,
+    alloc: Global,
+    limits: &Grid,
+    counts: &Counts,
+    books: &[Book],
     number: u32,
     command: &Command,
     place: Place,
     wish: Wish,
-) -> Answer
-    requires few { vec_len bookings.old < 2 ^ 31 }
-    requires room { vec_len bookings.old < vec_capacity bookings.old }
-    requires none { advices.old.items ≡ [] }
-    requires spare { waiting_count bookings.old.items + 1 ≤ vec_capacity advices.old }
-    ensures { Gives (want wish (state_of grid.now bookings.old.items) number command.now place None) grid.now bookings.new.items advices.new.items result }
+) -> Result<Answer, Memory>
+    requires limits { limits.now ≡ limits_of counts.now }
+    requires flight { IsFlight counts.now books.now place.flight }
+    ensures { IfOk result (λ a. Says (want wish (state_of (limits_of counts.now) (book_at books.now place.flight)) number command.now place None) a) }
 {
-    let fits = command.seats <= room_of(grid, bookings, place, command.class);
-    let wait = may_wait_at(grid, bookings, place, command.class, command.seats);
+    let fits = command.seats <= counts.room(place, command.class);
     match wish {
-        Wish::Need | Wish::Sell if fits => {
-            add(bookings, number, command, place, Status::Held);
-            reply(*b"KK")
+        Wish::Need => {
+            if fits {
+                return Ok(reply(alloc, *b"KK"));
+            }
+            Ok(reply(alloc, *b"UC"))
         }
-        Wish::Sell if wait => {
-            add(bookings, number, command, place, Status::Waiting);
-            reply(*b"US")
+        Wish::Sell => {
+            if fits {
+                return Ok(reply(alloc, *b"KK"));
+            }
+            if may_queue(limits, books, command, place) {
+                return Ok(reply(alloc, *b"US"));
+            }
+            Ok(reply(alloc, *b"UC"))
         }
-        Wish::Waitlist if wait => {
-            add(bookings, number, command, place, Status::Waiting);
-            confirm_waiting(grid, bookings, advices);
-            reply(*b"HL")
+        Wish::Waitlist => {
+            if !may_queue(limits, books, command, place) {
+                return Ok(reply(alloc, *b"UC"));
+            }
+            let answer = queued(alloc, number, command, place, fits)?;
+            Ok(answer)
         }
-        _ => reply(*b"UC"),
     }
 }
 
-#[tactic(auto, using(crate::proofs::Reducing::waiting_reduced, crate::proofs::Reducing::length_reduced))]
+#[tactic(auto, using(crate::proofs::Replying::may_wait_is, crate::proofs::Queues::queue_few))]
+/// Whether the seats of a command may wait on its flight's waiting list.
+fn may_queue(limits: &Grid, books: &[Book], command: &Command, place: Place) -> bool
+    requires few { length (book_at books.now place.flight) ≤ 999999 }
+    requires queue { queue_at books.now place.flight ≡ queue_of (book_at books.now place.flight) }
+    ensures { result ≡ may_wait limits.now (waiting (book_at books.now place.flight)) place command.now.class command.now.seats }
+{
+    let queue = queue_on(books, place.flight);
+    may_wait_at(limits, queue, place, command.class, command.seats)
+}
+
+/// Answers LL with a booking that waits. Those before it wait in vain, so the pass confirms it alone, if it fits.
+fn queued(
+    alloc: Global,
+    number: u32,
+    command: &Command,
+    place: Place,
+    fits: bool,
+) -> Result<Answer, Memory>
+    ensures reply { IfOk result (λ a. a.reply ≡ codes "HL") }
+    ensures released { IfOk result (λ a. a.released ≡ 0) }
+    ensures advices { IfOk result (λ a. a.advices.items ≡ (if fits then advice_of (booking_of number command.now place Waiting) ∷ [] else [])) }
+{
+    let mut advices = Vec::new(alloc);
+    if fits {
+        advices.push(Advice {
+            number,
+            place,
+            class: command.class,
+            seats: command.seats,
+        })?;
+    }
+    Ok(Answer {
+        reply: Code::of(*b"HL"),
+        released: 0,
+        advices,
+    })
+}
+
 /// Answers XX, where the booking of the same locator, place and class stands at this index.
 fn cancel_seats(
-    grid: &Grid,
-    bookings: &mut Vec<Booking>,
-    advices: &mut Vec<Advice>,
+    alloc: Global,
+    counts: &mut Counts,
+    books: &[Book],
     at: usize,
     command: &Command,
     place: Place,
-) -> Answer
-    requires found { position (is_for command.now.locator place command.now.class) bookings.old.items ≡ Some at }
-    requires few { vec_len bookings.old < 2 ^ 31 }
-    requires none { advices.old.items ≡ [] }
-    requires spare { waiting_count bookings.old.items ≤ vec_capacity advices.old }
-    ensures { Gives (cancel (state_of grid.now bookings.old.items) command.now place (slice_get bookings.old.items at)) grid.now bookings.new.items advices.new.items result }
+) -> Result<Answer, Memory>
+    requires flight { IsFlight counts.old books.now place.flight }
+    requires found { position (is_for command.now.locator place command.now.class) (book_at books.now place.flight) ≡ Some at }
+    requires order { place.from ≤ place.to }
+    requires some { 1 ≤ command.now.seats }
+    ensures says { IfOk result (λ a. Says (cancel (state_of (limits_of counts.old) (book_at books.now place.flight)) command.now place (slice_get (book_at books.now place.flight) at)) a) }
+    ensures limits { limits_of counts.new ≡ limits_of counts.old }
+    ensures seats { seats_of counts.new ≡ seats_of counts.old }
 {
-    let booking = &bookings[at];
-    if command.seats > booking.seats {
-        return reply(*b"NO");
+    let booking = book_of(books, place.flight)[at];
+    let seats = command.seats;
+    if seats > booking.seats {
+        return Ok(reply(alloc, *b"NO"));
     }
-    let released = booking.released(command.seats);
-    take_off(bookings, at, command, place);
-    confirm_waiting(grid, bookings, advices);
-    Answer {
+    let advices = advices_without(alloc, counts, books, &booking, command, place)?;
+    Ok(Answer {
         reply: Code::of(*b"HX"),
-        released,
-    }
+        released: booking.released(seats),
+        advices,
+    })
 }
 
-/// A reply that releases nothing.
-fn reply(letters: [u8; 2]) -> Answer
+#[tactic(auto, using(crate::proofs::Replying::cancel_held, crate::proofs::Replying::cancel_waiting))]
+/// The advices of the pass that runs once the seats of a command are off its booking.
+fn advices_without(
+    alloc: Global,
+    counts: &mut Counts,
+    books: &[Book],
+    booking: &Booking,
+    command: &Command,
+    place: Place,
+) -> Result<Vec<Advice>, Memory>
+    requires flight { IsFlight counts.old books.now place.flight }
+    requires found { find (is_for command.now.locator place command.now.class) (book_at books.now place.flight) ≡ Some booking.now }
+    requires order { place.from ≤ place.to }
+    requires some { 1 ≤ command.now.seats }
+    requires enough { command.now.seats ≤ booking.now.seats }
+    ensures told { IfOk result (λ told. told.items ≡ (pass (limits_of counts.old) [] [] (reduced (is_for command.now.locator place command.now.class) command.now.seats (book_at books.now place.flight))).advices) }
+    ensures limits { limits_of counts.new ≡ limits_of counts.old }
+    ensures seats { seats_of counts.new ≡ seats_of counts.old }
+{
+    if booking.is_waiting() {
+        return advices_of_rest(alloc, counts, booking, command.seats);
+    }
+    let queue = queue_on(books, place.flight);
+    advices_after(alloc, counts, queue, place, command.class, command.seats)
+}
+
+/// A reply that releases nothing and confirms no waiting booking.
+fn reply(alloc: Global, letters: [u8; 2]) -> Answer
     requires { IsTrue (is_code letters) }
-    ensures reply { result.reply ≡ letters }
-    ensures released { result.released ≡ 0 }
+    ensures { IsReply letters result }
 {
     Answer {
         reply: Code::of(letters),
         released: 0,
+        advices: Vec::new(alloc),
     }
 }

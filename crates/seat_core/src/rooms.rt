@@ -1,68 +1,11 @@
-// What bookings hold on a leg and wait for there, and the room that they leave.
+// What bookings wait for on a leg, and whether more may wait there.
 ghost use Rattle.std.specs.Prelude.{◌≡◌, ◌+◌, ◌*◌, ◌^◌, ◌<◌, ◌≤◌, length};
-ghost use Rattle.seat_core.specs.Bookings.{held, waiting};
-ghost use Rattle.seat_nesting.specs.Nesting.{room_on, room, may_wait, may_wait_on};
+ghost use Rattle.seat_core.specs.Bookings.{waiting};
+ghost use Rattle.seat_nesting.specs.Nesting.{may_wait, may_wait_on};
 
 use crate::booking::Booking;
 use seat_nesting::{Grid, Step};
 use ssim_records::{Class, Place};
-
-/// The seats that are held in this class on this leg.
-pub fn seats_held(bookings: &[Booking], flight: u32, leg: u8, class: Class) -> u64
-    requires { length bookings.now < 2 ^ 32 }
-    ensures value { result ≡ held bookings.now flight leg class }
-    ensures bound { result ≤ length bookings.now * 65536 }
-{
-    let mut total = 0u64;
-    for booking in bookings {
-        total += u64::from(booking.seats_on(flight, leg, class));
-    }
-    total
-}
-
-#[tactic(auto, using(crate::proofs::Ladders::held_from_at, crate::proofs::Ladders::room_on_above, crate::proofs::Ladders::room_on_here))]
-/// The room that the bookings leave on one leg, whose ladder this is.
-pub fn room_on_leg(steps: &[Step], bookings: &[Booking], flight: u32, leg: u8, class: Class) -> u16
-    requires few { length bookings.now < 2 ^ 32 }
-    requires short { length steps.now ≤ 26 }
-    ensures { result ≡ room_on steps.now (held bookings.now flight leg) class }
-{
-    let mut held = 0u64;
-    let mut room = 0u16;
-    let mut rank = steps.len();
-    while rank > 0 {
-        rank -= 1;
-        let step = &steps[rank];
-        let limit = step.limit;
-        held += seats_held(bookings, flight, leg, step.class);
-        let here = u64::from(limit).saturating_sub(held) as u16;
-        room = if step.class == class {
-            here
-        } else {
-            here.min(room)
-        };
-    }
-    room
-}
-
-/// The room that the bookings leave on a place.
-pub fn room_of(grid: &Grid, bookings: &[Booking], place: Place, class: Class) -> u16
-    requires { length bookings.now < 2 ^ 32 }
-    ensures { result ≡ room grid.now (held bookings.now) place class }
-{
-    let flight = place.flight;
-    if place.from > place.to {
-        return 0;
-    }
-    let first = grid.steps(flight, place.from);
-    let mut room = room_on_leg(first, bookings, flight, place.from, class);
-    for leg in place.from..place.to {
-        let next = leg + 1;
-        let steps = grid.steps(flight, next);
-        room = room.min(room_on_leg(steps, bookings, flight, next, class));
-    }
-    room
-}
 
 /// The seats that wait in this class on this leg.
 pub fn seats_waiting(bookings: &[Booking], flight: u32, leg: u8, class: Class) -> u64

@@ -1,16 +1,20 @@
-// The pass over a waiting list.
-ghost use Rattle.std.specs.Prelude.{◌≡◌, ◌+◌, ◌^◌, ◌<◌, ◌≤◌, ◌++◌, ◌∷◌, [], take, drop, length, vec_len, vec_capacity, IfSome};
-ghost use Rattle.seat_core.specs.Bookings.{held, waiting_count};
-ghost use Rattle.seat_core.specs.Sequential.{pass, advice_of};
+// The pass over a flight's waiting list, by counters of held seats.
+ghost use Rattle.std.specs.Prelude.{◌≡◌, ◌+◌, ◌<◌, ◌≤◌, ◌++◌, ◌∷◌, [], length, vec_len, vec_capacity, IfOk, IfSome};
+ghost use Rattle.seat_nesting.specs.Counting.{limits_of, seats_of};
 ghost use Rattle.seat_nesting.specs.Nesting.{room};
+ghost use Rattle.seat_core.specs.Answers.{rest_advised};
+ghost use Rattle.seat_core.specs.Sequential.{advice_of};
+ghost use Rattle.seat_core.specs.Showing.{given_back, shown_advices, taken_back};
+ghost use Rattle.seat_core.specs.Tables.{advices_by, told_of};
 
-use crate::booking::{Booking, Status};
-use crate::rooms::room_of;
+use crate::booking::Booking;
+use crate::showing::give_back;
 use seat_journal::Advice;
-use seat_nesting::Grid;
-use ssim_records::{Class, Place};
+use seat_nesting::Counts;
+use ssim_records::{Class, Memory, Place};
+use std::alloc::Global;
 
-/// A room that was looked up in the book as it is.
+/// A room that was looked up in the counters as they are.
 #[derive(Clone, Copy)]
 struct Known {
     place: Place,
@@ -18,54 +22,80 @@ struct Known {
     room: u16,
 }
 
-/// Confirms each waiting booking that fits, in order, and tells of it. Bookings of one place and class
+/// The advices of the pass over a waiting list, once so many seats are given back. The counters are left as they were.
+pub fn advices_after(
+    alloc: Global,
+    counts: &mut Counts,
+    queue: &[Booking],
+    place: Place,
+    class: Class,
+    seats: u16,
+) -> Result<Vec<Advice>, Memory>
+    ensures limits { limits_of counts.new ≡ limits_of counts.old }
+    ensures seats { seats_of counts.new ≡ seats_of counts.old }
+    ensures told { IfOk result (λ told. told.items ≡ advices_by (limits_of counts.old) (given_back (limits_of counts.old) (seats_of counts.old) place class seats) queue.now) }
+{
+    counts.limits_are_kept();
+    if !counts.holds(place, class, seats) {
+        return advices_of(alloc, counts, queue);
+    }
+    counts.give(place, class, seats);
+    let told = advices_of(alloc, counts, queue);
+    counts.take(place, class, seats);
+    told
+}
+
+#[tactic(auto, using(crate::proofs::Undoing::undone))]
+/// The advices of the pass over a waiting list. The counters are left as they were.
+fn advices_of(alloc: Global, counts: &mut Counts, queue: &[Booking]) -> Result<Vec<Advice>, Memory>
+    ensures limits { limits_of counts.new ≡ limits_of counts.old }
+    ensures seats { seats_of counts.new ≡ seats_of counts.old }
+    ensures told { IfOk result (λ told. told.items ≡ advices_by (limits_of counts.old) (seats_of counts.old) queue.now) }
+{
+    let mut advices = Vec::new(alloc);
+    advices.reserve(queue.len())?;
+    confirm_each(counts, queue, &mut advices);
+    take_back_each(counts, advices.as_slice());
+    let told = Vec::from_slice(alloc, advices.as_slice())?;
+    Ok(told)
+}
+
+/// Takes the seats of each waiting booking that fits, in order, and tells of it. Bookings of one place and class
 /// that wait one behind the other share one look at the room, until one of them is confirmed.
-fn consider_each(grid: &Grid, bookings: &mut [Booking], advices: &mut Vec<Advice>)
-    requires few { length bookings.old < 2 ^ 32 }
+fn confirm_each(counts: &mut Counts, queue: &[Booking], advices: &mut Vec<Advice>)
     requires none { advices.old.items ≡ [] }
-    requires room { waiting_count bookings.old ≤ vec_capacity advices.old }
-    ensures bookings { bookings.new ≡ (pass grid.now [] [] bookings.old).bookings }
-    ensures advices { advices.new.items ≡ (pass grid.now [] [] bookings.old).advices }
+    requires room { length queue.now ≤ vec_capacity advices.old }
+    ensures limits { limits_of counts.new ≡ limits_of counts.old }
+    ensures advices { advices.new.items ≡ advices_by (limits_of counts.old) (seats_of counts.old) queue.now }
+    ensures seats { seats_of counts.new ≡ shown_advices (limits_of counts.old) (seats_of counts.old) advices.new.items }
 {
     let mut known = None;
-    for at in 0..bookings.len() {
-        known = consider(grid, bookings, at, advices, known);
+    for booking in queue {
+        known = consider(counts, booking, advices, known);
     }
 }
 
-/// The pass over a list of bookings.
-pub fn confirm_waiting(grid: &Grid, bookings: &mut Vec<Booking>, advices: &mut Vec<Advice>)
-    requires few { vec_len bookings.old < 2 ^ 32 }
-    requires none { advices.old.items ≡ [] }
-    requires room { waiting_count bookings.old.items ≤ vec_capacity advices.old }
-    ensures bookings { bookings.new.items ≡ (pass grid.now [] [] bookings.old.items).bookings }
-    ensures advices { advices.new.items ≡ (pass grid.now [] [] bookings.old.items).advices }
-{
-    consider_each(grid, bookings, advices);
-}
-
-#[tactic(auto, using(crate::proofs::Passing::pass_yes, crate::proofs::Passing::pass_no, crate::proofs::Passing::count_yes, crate::proofs::Passing::count_le))]
-/// Confirms one booking, where it waits and fits, and tells of it: the pass goes on from the next.
+#[tactic(auto, using(crate::proofs::Undoing::taken_one, crate::proofs::Undoing::told_fits, crate::proofs::Undoing::told_over, crate::proofs::Undoing::told_held))]
+/// Takes the seats of one booking, where it waits and fits, and tells of it.
 fn consider(
-    grid: &Grid,
-    bookings: &mut [Booking],
-    at: usize,
+    counts: &mut Counts,
+    booking: &Booking,
     advices: &mut Vec<Advice>,
     known: Option<Known>,
 ) -> Option<Known>
-    requires few { length bookings.old < 2 ^ 32 }
-    requires there { at < length bookings.old }
-    requires room { vec_len advices.old + waiting_count (drop at bookings.old) ≤ vec_capacity advices.old }
-    requires known { IfSome known (λ k. k.room ≡ room grid.now (held bookings.old) k.place k.class) }
-    ensures same { pass grid.now (take at bookings.old) advices.old.items (drop at bookings.old) ≡ pass grid.now (take (at + 1) bookings.new) advices.new.items (drop (at + 1) bookings.new) }
-    ensures left { vec_len advices.new + waiting_count (drop (at + 1) bookings.new) ≤ vec_capacity advices.new }
-    ensures known { IfSome result (λ k. k.room ≡ room grid.now (held bookings.new) k.place k.class) }
+    requires spare { vec_len advices.old < vec_capacity advices.old }
+    requires known { IfSome known (λ k. k.room ≡ room (limits_of counts.old) (seats_of counts.old) k.place k.class) }
+    ensures limits { limits_of counts.new ≡ limits_of counts.old }
+    ensures advices { advices.new.items ≡ advices.old.items ++ told_of (limits_of counts.old) (seats_of counts.old) booking.now }
+    ensures seats { seats_of counts.new ≡ shown_advices (limits_of counts.old) (seats_of counts.old) (told_of (limits_of counts.old) (seats_of counts.old) booking.now) }
+    ensures length { vec_len advices.new ≤ vec_len advices.old + 1 }
+    ensures capacity { vec_capacity advices.old ≤ vec_capacity advices.new }
+    ensures known { IfSome result (λ k. k.room ≡ room (limits_of counts.new) (seats_of counts.new) k.place k.class) }
 {
-    let booking = bookings[at];
     if !booking.is_waiting() {
         return known;
     }
-    let room = look(grid, bookings, booking.place, booking.class, known);
+    let room = look(counts, booking.place, booking.class, known);
     if booking.seats > room {
         return Some(Known {
             place: booking.place,
@@ -73,40 +103,62 @@ fn consider(
             room,
         });
     }
-    tell(advices, &booking);
-    bookings[at].status = Status::Held;
+    counts.take(booking.place, booking.class, booking.seats);
+    tell(advices, booking);
     None
 }
 
 #[tactic(auto, using(crate::proofs::Faults::place_same))]
-/// The room that the bookings leave on a place, as it is known or else looked up.
-fn look(grid: &Grid, bookings: &[Booking], place: Place, class: Class, known: Option<Known>) -> u16
-    requires few { length bookings.now < 2 ^ 32 }
-    requires known { IfSome known (λ k. k.room ≡ room grid.now (held bookings.now) k.place k.class) }
-    ensures { result ≡ room grid.now (held bookings.now) place class }
+/// The room of a place, as it is known or else looked up.
+fn look(counts: &Counts, place: Place, class: Class, known: Option<Known>) -> u16
+    requires known { IfSome known (λ k. k.room ≡ room (limits_of counts.now) (seats_of counts.now) k.place k.class) }
+    ensures { result ≡ room (limits_of counts.now) (seats_of counts.now) place class }
 {
     if let Some(known) = known {
         if known.class == class && known.place == place {
             return known.room;
         }
     }
-    room_of(grid, bookings, place, class)
+    counts.room(place, class)
 }
 
-/// How many bookings wait.
-pub fn count_waiting(bookings: &[Booking]) -> usize
-    ensures value { result ≡ waiting_count bookings.now }
-    ensures bound { result ≤ length bookings.now }
+/// Gives back the seats of advices, the last first.
+fn take_back_each(counts: &mut Counts, advices: &[Advice])
+    ensures limits { limits_of counts.new ≡ limits_of counts.old }
+    ensures seats { seats_of counts.new ≡ taken_back (limits_of counts.old) (seats_of counts.old) advices.now }
 {
-    let mut count = 0;
-    let mut at = bookings.len();
+    let mut at = advices.len();
     while at > 0 {
         at -= 1;
-        if bookings[at].is_waiting() {
-            count += 1;
-        }
+        let advice = &advices[at];
+        give_back(counts, advice.place, advice.class, advice.seats);
     }
-    count
+}
+
+/// The advice of a waiting booking that has so many seats fewer, where those that are left fit. The bookings beside it
+/// wait in vain as before.
+pub fn advices_of_rest(
+    alloc: Global,
+    counts: &Counts,
+    booking: &Booking,
+    seats: u16,
+) -> Result<Vec<Advice>, Memory>
+    ensures { IfOk result (λ told. told.items ≡ rest_advised (room (limits_of counts.now) (seats_of counts.now) booking.now.place booking.now.class) booking.now seats) }
+{
+    let mut told = Vec::new(alloc);
+    if booking.seats <= seats {
+        return Ok(told);
+    }
+    let left = booking.seats - seats;
+    if left <= counts.room(booking.place, booking.class) {
+        told.push(Advice {
+            number: booking.number,
+            place: booking.place,
+            class: booking.class,
+            seats: left,
+        })?;
+    }
+    Ok(told)
 }
 
 /// Adds the advice of a booking, for which there is room.

@@ -1,0 +1,46 @@
+use Rattle.std.proofs.Common.{◌≡◌, rules, refl, ap}
+use Rattle.seat_nesting.specs.Counting.{limits_of}
+use Rattle.seat_core.specs.Books.{book_at, book_for}
+use Rattle.seat_core.specs.Sequential.{state_of}
+use Rattle.seat_core.proofs.Answering.{answers_want, answers_taken, answers_cancel, answers_missing}
+use Rattle.seat_core.proofs.reply.answer_command.Goals as goal
+
+pub returns-in-None : goal.returns-in-None
+returns-in-None c =
+    let at : book_for c.args.books.now c.args.command.now.place ≡ book_at c.args.books.now c.in-Some.place.flight = ap (book_for c.args.books.now) c.in-Some.is in
+    rw (
+      at,
+      answers_want c.in-Seats.wish (state_of (limits_of c.args.counts.now) (book_at c.args.books.now c.in-Some.place.flight)) c.args.number c.args.command.now c.in-Some.place c.book_of.result.now
+          c.book_of.ensures c.in-Seats.ensures c.in-Some.is c.in-None.ensures,
+    )
+    (record { says = c.book_seats.ensures; limits = refl; seats = refl })
+
+pub returns-in-Some-found-2 : goal.returns-in-Some-found-2
+returns-in-Some-found-2 c =
+    let at : book_for c.args.books.now c.args.command.now.place ≡ book_at c.args.books.now c.in-Some.place.flight = ap (book_for c.args.books.now) c.in-Some.is in
+    rw (
+      at,
+      answers_cancel (state_of (limits_of c.args.counts.now) (book_at c.args.books.now c.in-Some.place.flight)) c.args.number c.args.command.now c.in-Some.place c.in-Some-found-2.at c.book_of.result.now
+          c.book_of.ensures c.in-Cancel.ensures c.in-Some.is c.in-Some-found-2.ensures,
+    )
+    c.cancel_seats.ensures
+
+pub returns-in-Some-found : goal.returns-in-Some-found
+returns-in-Some-found c =
+    let at : book_for c.args.books.now c.args.command.now.place ≡ book_at c.args.books.now c.in-Some.place.flight = ap (book_for c.args.books.now) c.in-Some.is in
+    rw (
+      at,
+      answers_taken c.in-Seats.wish (state_of (limits_of c.args.counts.now) (book_at c.args.books.now c.in-Some.place.flight)) c.args.number c.args.command.now c.in-Some.place c.in-Some-found.field-0 c.book_of.result.now
+          c.book_of.ensures c.in-Seats.ensures c.in-Some.is c.in-Some-found.ensures,
+    )
+    (search rules)
+
+pub returns-in-None-found : goal.returns-in-None-found
+returns-in-None-found c =
+    let at : book_for c.args.books.now c.args.command.now.place ≡ book_at c.args.books.now c.in-Some.place.flight = ap (book_for c.args.books.now) c.in-Some.is in
+    rw (
+      at,
+      answers_missing (state_of (limits_of c.args.counts.now) (book_at c.args.books.now c.in-Some.place.flight)) c.args.number c.args.command.now c.in-Some.place c.book_of.result.now
+          c.book_of.ensures c.in-Cancel.ensures c.in-Some.is c.in-None-found.ensures,
+    )
+    (search rules)
