@@ -157,16 +157,13 @@ split false u e = absurd cc
 
 pub spare_booking : (book : Book) → spare_of book ≡ true → vec_len book.bookings < vec_capacity book.bookings
 spare_booking book e =
-    let h = (split (nat_lt (vec_len book.bookings) (vec_capacity book.bookings)) (nat_lt (vec_len book.queue) (vec_capacity book.queue)) e).0 in
+    let h = (split (nat_lt (vec_len book.bookings) (vec_capacity book.bookings)) (book.queue.spare) e).0 in
     grind (arith, nat_tests)
 
-pub spare_waiting : (book : Book) → spare_of book ≡ true → vec_len book.queue < vec_capacity book.queue
-spare_waiting book e =
-    let h = (split (nat_lt (vec_len book.bookings) (vec_capacity book.bookings)) (nat_lt (vec_len book.queue) (vec_capacity book.queue)) e).1 in
-    grind (arith, nat_tests)
+pub spare_waiting : (book : Book) → spare_of book ≡ true → book.queue.spare ≡ true
+spare_waiting book e = (split (nat_lt (vec_len book.bookings) (vec_capacity book.bookings)) book.queue.spare e).1
 
-pub spare_both : (book : Book) → vec_len book.bookings < vec_capacity book.bookings → vec_len book.queue < vec_capacity book.queue → spare_of book ≡ true
+pub spare_both : (book : Book) → vec_len book.bookings < vec_capacity book.bookings → book.queue.spare ≡ true → spare_of book ≡ true
 spare_both book a b =
     let one : nat_lt (vec_len book.bookings) (vec_capacity book.bookings) ≡ true = grind (arith, nat_tests) in
-    let two : nat_lt (vec_len book.queue) (vec_capacity book.queue) ≡ true = grind (arith, nat_tests) in
-    rw (one, two) refl
+    rw (one, b) refl

@@ -1,5 +1,5 @@
 -- Counters that a pass changed, as they were before.
-use Rattle.std.proofs.Common.{◌≡◌, ◌≢◌, ◌==◌, ◌&&◌, ℕ, zero, suc, ◌+◌, ◌-◌, ◌<◌, ◌≤◌, Bool, true, false, nat_le, List, [], ◌∷◌, ◌++◌, length, drop, get_or, map, arith, refl, ap, sym, subst, ◌∙◌, append_assoc}
+use Rattle.std.proofs.Common.{◌≡◌, ◌≢◌, ◌==◌, ◌&&◌, ℕ, zero, suc, ◌+◌, ◌-◌, ◌<◌, ◌≤◌, Bool, true, false, nat_le, nat_lt, List, [], ◌∷◌, ◌++◌, length, drop, get_or, map, arith, refl, ap, sym, subst, ◌∙◌, append_assoc}
 use Rattle.std.proofs.lemmas.Bool.Decides.{nat_tests}
 use Rattle.std.proofs.lemmas.List.Sums.{sum_by-cons}
 use Rattle.ssim_records.specs.declared.place.Place.{Place}
@@ -10,6 +10,7 @@ use Rattle.seat_nesting.proofs.CountChanges.{fits_each, fits_forwards, held_each
 use Rattle.seat_core.specs.declared.booking.Booking.{Booking}
 use Rattle.seat_journal.specs.declared.entry.Advice.{Advice}
 use Rattle.seat_core.specs.Bookings.{is_waiting}
+use Rattle.seat_core.specs.Queues.{none_fits}
 use Rattle.seat_core.specs.Sequential.{advice_of}
 use Rattle.seat_core.specs.Showing.{given_back, taken_up, shown_advices, taken_back}
 use Rattle.seat_core.specs.Tables.{advices_by, told_of, with_advice}
@@ -191,6 +192,18 @@ undone grid t (b ∷ bs) = cases (is_waiting b.status && nat_le b.seats (room gr
   cases false e rest = rw e (rest t)
 
 -- ---- booking by booking
+
+-- where none fits, nothing is told
+pub none_told : (grid : Legs) (t : Table) (queue : List Booking) → none_fits grid t queue ≡ true → advices_by grid t queue ≡ []
+none_told grid t [] h = refl
+none_told grid t (b ∷ bs) h =
+    let parts = both (nat_lt (room grid t b.place b.class) b.seats) (none_fits grid t bs) h in
+    let over : nat_le b.seats (room grid t b.place b.class) ≡ false = (let e = parts.0 in grind (arith, nat_tests)) in
+    cases (is_waiting b.status) refl over (none_told grid t bs parts.1)
+  where
+    cases : (w : Bool) → is_waiting b.status ≡ w → nat_le b.seats (room grid t b.place b.class) ≡ false → advices_by grid t bs ≡ [] → advices_by grid t (b ∷ bs) ≡ []
+    cases true e high rest = rw (e, high) rest
+    cases false e high rest = rw e rest
 
 shown_push : (grid : Legs) (t : Table) (xs ys : List Advice) → shown_advices grid t (xs ++ ys) ≡ shown_advices grid (shown_advices grid t xs) ys
 shown_push grid t [] ys = refl

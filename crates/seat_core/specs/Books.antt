@@ -23,7 +23,7 @@ book_at books flight = bookings_in (slice_get books flight)
 
 abbrev pub queue_in : Option Book → List Booking
 queue_in None = []
-queue_in (Some book) = book.queue.items
+queue_in (Some book) = book.queue.bookings
 
 -- the waiting list of a flight
 abbrev pub queue_at : List Book → ℕ → List Booking
@@ -36,7 +36,7 @@ book_for books (Some place) = book_at books place.flight
 
 -- there is memory for one more booking in it, held or waiting
 abbrev pub spare_of : Book → Bool
-spare_of book = nat_lt (vec_len book.bookings) (vec_capacity book.bookings) && nat_lt (vec_len book.queue) (vec_capacity book.queue)
+spare_of book = nat_lt (vec_len book.bookings) (vec_capacity book.bookings) && book.queue.spare
 
 abbrev pub has_spare_in : Option Book → Bool
 has_spare_in None = false

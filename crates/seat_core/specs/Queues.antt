@@ -1,7 +1,18 @@
 -- Waiting lists.
-use Rattle.std.specs.Prelude.{ℕ, Bool, false, ◌==◌, List, [], ◌∷◌, if◌then◌else◌}
+use Rattle.std.specs.Prelude.{ℕ, Bool, false, ◌==◌, nat_lt, List, [], ◌∷◌, if◌then◌else◌}
+use Rattle.std.specs.List.{list_all}
+use Rattle.seat_nesting.specs.Nesting.{Legs, Table, room}
 use Rattle.seat_core.specs.declared.booking.Booking.{Booking}
 use Rattle.seat_core.specs.Bookings.{is_waiting}
+
+-- what a waiting list shows: its bookings in order of number, and whether there is memory for one more
+pub record Waitlist : Type 0 where
+  pub bookings : List Booking
+  pub spare : Bool
+
+-- each booking has more seats than the table leaves room for
+abbrev pub none_fits : Legs → Table → List Booking → Bool
+none_fits grid seats queue = list_all (λ b. nat_lt (room grid seats b.place b.class) b.seats) queue
 
 -- the bookings that wait, in order
 abbrev pub queue_of : List Booking → List Booking

@@ -1,9 +1,10 @@
 // The live bookings, flight by flight.
-ghost use Rattle.std.specs.Prelude.{◌≡◌, ◌<◌, ◌+◌, true, OnOk, slice_get, vec_len};
+ghost use Rattle.std.specs.Prelude.{◌≡◌, ◌<◌, ◌+◌, [], true, IfNone, IfSome, OnOk, slice_get, vec_len};
 ghost use Rattle.seat_core.specs.Books.{book_at, has_spare, has_spare_in, queue_at, IsEntered, IsQueued, SameBooks};
 
 use crate::booking::Booking;
 use crate::effect::apply;
+use crate::waiting_list::WaitingList;
 use seat_journal::Entry;
 use ssim_records::{Memory, Place};
 use std::alloc::Global;
@@ -12,7 +13,7 @@ use std::alloc::Global;
 #[derive(Drop)]
 pub struct Book {
     bookings: Vec<Booking>,
-    queue: Vec<Booking>,
+    queue: WaitingList,
 }
 
 /// The bookings of a flight.
@@ -25,13 +26,14 @@ pub fn book_of(books: &[Book], flight: u32) -> &[Booking]
     }
 }
 
-/// The bookings of a flight that wait.
-pub fn queue_on(books: &[Book], flight: u32) -> &[Booking]
-    ensures { result.now ≡ queue_at books.now flight }
+/// The waiting list of a flight; none where it has no book yet.
+pub fn queue_on(books: &[Book], flight: u32) -> Option<&WaitingList>
+    ensures some { IfSome result (λ queue. queue.now.bookings ≡ queue_at books.now flight) }
+    ensures none { IfNone result (queue_at books.now flight ≡ []) }
 {
     match books.get(flight as usize) {
-        Some(book) => book.queue.as_slice(),
-        None => &[],
+        Some(book) => Some(&book.queue),
+        None => None,
     }
 }
 
@@ -59,7 +61,7 @@ fn reserve_booking(alloc: Global, books: &mut Vec<Book>, flight: u32) -> Result<
     open_books(alloc, books, flight)?;
     let book = &mut books[flight as usize];
     book.bookings.reserve(1)?;
-    book.queue.reserve(1)?;
+    book.queue.reserve()?;
     Ok(())
 }
 
@@ -96,7 +98,7 @@ fn open_book(alloc: Global, books: &mut Vec<Book>) -> Result<(), Memory>
 {
     books.push(Book {
         bookings: Vec::new(alloc),
-        queue: Vec::new(alloc),
+        queue: WaitingList::new(alloc),
     })?;
     Ok(())
 }

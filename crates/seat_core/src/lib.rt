@@ -10,14 +10,14 @@ mod fault;
 mod inventory;
 mod laws;
 mod one_flight;
-mod queue;
+mod pass;
 mod replaying;
 mod reply;
 mod request;
 mod rooms;
 mod showing;
 mod totals;
-mod waitlist;
+mod waiting_list;
 
 pub use booking::{Booking, Status};
 pub use effect::Effect;

@@ -14,9 +14,9 @@ ghost use Rattle.seat_core.specs.Answers.{IsFlight, IsReply, Says};
 use crate::booking::Booking;
 use crate::bookings::find_booking;
 use crate::books::{Book, book_of, queue_on};
+use crate::pass::{advices_after, advices_of_rest};
 use crate::request::{Request, Wish, request_of};
 use crate::rooms::may_wait_at;
-use crate::waitlist::{advices_after, advices_of_rest};
 use seat_journal::{Advice, Advices, Command, Entry};
 use seat_nesting::{Counts, Grid};
 use ssim_records::{Code, Memory, Place};
@@ -149,8 +149,11 @@ fn may_queue(limits: &Grid, books: &[Book], command: &Command, place: Place) -> 
     requires queue { queue_at books.now place.flight ≡ queue_of (book_at books.now place.flight) }
     ensures { result ≡ may_wait limits.now (waiting (book_at books.now place.flight)) place command.now.class command.now.seats }
 {
-    let queue = queue_on(books, place.flight);
-    may_wait_at(limits, queue, place, command.class, command.seats)
+    let (class, seats) = (command.class, command.seats);
+    match queue_on(books, place.flight) {
+        Some(queue) => queue.may_wait(limits, place, class, seats),
+        None => may_wait_at(limits, &[], place, class, seats),
+    }
 }
 
 /// Answers LL with a booking that waits. Those before it wait in vain, so the pass confirms it alone, if it fits.
@@ -233,8 +236,10 @@ fn advices_without(
     if booking.is_waiting() {
         return advices_of_rest(alloc, counts, booking, command.seats);
     }
-    let queue = queue_on(books, place.flight);
-    advices_after(alloc, counts, queue, place, command.class, command.seats)
+    match queue_on(books, place.flight) {
+        Some(queue) => advices_after(alloc, counts, queue, place, command.class, command.seats),
+        None => Ok(Vec::new(alloc)),
+    }
 }
 
 /// A reply that releases nothing and confirms no waiting booking.

@@ -9,6 +9,7 @@ ghost use Rattle.seat_core.specs.Tables.{advices_by, told_of};
 
 use crate::booking::Booking;
 use crate::showing::give_back;
+use crate::waiting_list::WaitingList;
 use seat_journal::Advice;
 use seat_nesting::Counts;
 use ssim_records::{Class, Memory, Place};
@@ -26,14 +27,14 @@ struct Known {
 pub fn advices_after(
     alloc: Global,
     counts: &mut Counts,
-    queue: &[Booking],
+    queue: &WaitingList,
     place: Place,
     class: Class,
     seats: u16,
 ) -> Result<Vec<Advice>, Memory>
     ensures limits { limits_of counts.new ≡ limits_of counts.old }
     ensures seats { seats_of counts.new ≡ seats_of counts.old }
-    ensures told { IfOk result (λ told. told.items ≡ advices_by (limits_of counts.old) (given_back (limits_of counts.old) (seats_of counts.old) place class seats) queue.now) }
+    ensures told { IfOk result (λ told. told.items ≡ advices_by (limits_of counts.old) (given_back (limits_of counts.old) (seats_of counts.old) place class seats) queue.now.bookings) }
 {
     counts.limits_are_kept();
     if !counts.holds(place, class, seats) {
@@ -45,9 +46,26 @@ pub fn advices_after(
     told
 }
 
-#[tactic(auto, using(crate::proofs::Undoing::undone))]
+#[tactic(auto, using(crate::proofs::Undoing::none_told))]
 /// The advices of the pass over a waiting list. The counters are left as they were.
-fn advices_of(alloc: Global, counts: &mut Counts, queue: &[Booking]) -> Result<Vec<Advice>, Memory>
+fn advices_of(
+    alloc: Global,
+    counts: &mut Counts,
+    queue: &WaitingList,
+) -> Result<Vec<Advice>, Memory>
+    ensures limits { limits_of counts.new ≡ limits_of counts.old }
+    ensures seats { seats_of counts.new ≡ seats_of counts.old }
+    ensures told { IfOk result (λ told. told.items ≡ advices_by (limits_of counts.old) (seats_of counts.old) queue.now.bookings) }
+{
+    if queue.none_fits(counts) {
+        return Ok(Vec::new(alloc));
+    }
+    walk(alloc, counts, queue.as_slice())
+}
+
+#[tactic(auto, using(crate::proofs::Undoing::undone))]
+/// The same, booking by booking.
+fn walk(alloc: Global, counts: &mut Counts, queue: &[Booking]) -> Result<Vec<Advice>, Memory>
     ensures limits { limits_of counts.new ≡ limits_of counts.old }
     ensures seats { seats_of counts.new ≡ seats_of counts.old }
     ensures told { IfOk result (λ told. told.items ≡ advices_by (limits_of counts.old) (seats_of counts.old) queue.now) }

@@ -3,7 +3,7 @@ use Rattle.seat_nesting.specs.Counting.{limits_of, seats_of}
 use Rattle.seat_nesting.specs.Nesting.{room}
 use Rattle.seat_core.specs.Showing.{shown_advices}
 use Rattle.seat_core.specs.Tables.{advices_by}
-use Rattle.seat_core.proofs.waitlist.confirm_each.Given as goal
+use Rattle.seat_core.proofs.pass.confirm_each.Given as goal
 
 abbrev pub invariant-loop-booking : goal.invariant-loop-booking
 invariant-loop-booking l = record {

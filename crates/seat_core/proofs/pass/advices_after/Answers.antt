@@ -3,7 +3,7 @@ use Rattle.seat_nesting.specs.Nesting.{Legs, Table, room, seats_at}
 use Rattle.seat_nesting.specs.Counting.{limits_of, seats_of, holds}
 use Rattle.seat_core.proofs.Shows.{given}
 use Rattle.seat_core.proofs.Undoing.{fits_again, given_and_taken}
-use Rattle.seat_core.proofs.waitlist.advices_after.Goals as goal
+use Rattle.seat_core.proofs.pass.advices_after.Goals as goal
 
 pub take-requires : goal.take-requires
 take-requires c =
