@@ -72,11 +72,14 @@ refused_at cap fault list i c s t u below is p q =
     subst (λ l. IsRefused cap fault l s u) (sym (split_at list i c below ∙ ap (λ x. take i list ++ x ∷ drop (suc i) list) (sym is))) (refused_more cap fault (take i list) (c ∷ []) (drop (suc i) list) s t u p q)
 
 -- the run of the first session beside the run of the others
-pub run_both : (l : List Command) (s t : Seat) (ls : List (List Command)) (ss ts : List Seat) (first rest : Result (Unit {0}) RunFault)
-    → OnOk first (HasRun l s t) → OnOk rest (AllHaveRun ls ss ts) → OnOk (first_of first rest) (AllHaveRun (l ∷ ls) (s ∷ ss) (t ∷ ts))
-run_both l s t ls ss ts (Ok a) (Ok b) p q = (p, q)
-run_both l s t ls ss ts (Ok a) (Err f) p q = tt
-run_both l s t ls ss ts (Err f) rest p q = tt
+pub run_both : (l : List Command) (s t : Seat) (ls : List (List Command)) (ss ts : List Seat) (first rest both : Result (Unit {0}) RunFault)
+    → both ≡ first_of first rest → OnOk first (HasRun l s t) → OnOk rest (AllHaveRun ls ss ts) → OnOk both (AllHaveRun (l ∷ ls) (s ∷ ss) (t ∷ ts))
+run_both l s t ls ss ts first rest both is p q = subst (λ r. OnOk r (AllHaveRun (l ∷ ls) (s ∷ ss) (t ∷ ts))) (sym is) (ok first rest p q)
+  where
+    ok : (first rest : Result (Unit {0}) RunFault) → OnOk first (HasRun l s t) → OnOk rest (AllHaveRun ls ss ts) → OnOk (first_of first rest) (AllHaveRun (l ∷ ls) (s ∷ ss) (t ∷ ts))
+    ok (Ok a) (Ok b) p q = (p, q)
+    ok (Ok a) (Err f) p q = tt
+    ok (Err f) rest p q = tt
 
 -- and of what stands behind
 pub all_back : {A : Type 0} (P : A → Type 0) (all xs ys : List A) → all ≡ xs ++ ys → All P all → All P ys

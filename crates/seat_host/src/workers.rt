@@ -88,7 +88,7 @@ fn work_all<K: Hosting + Send + Sync, R: Threads + Wait + Sync, G: Gate>(
 
 // The first worker in this thread, and the others beside it.
 #[cycle(workers)]
-#[tactic(auto, using(crate::proofs::Working::begun_run, crate::proofs::Working::begun_refused, crate::proofs::Working::all_begun))]
+#[tactic(auto, using(crate::proofs::Working::begun_run, crate::proofs::Working::begun_refused, crate::proofs::Working::all_begun, crate::proofs::Working::run_both))]
 fn side_by_side<K: Hosting + Send + Sync, R: Threads + Wait + Sync, G: Gate>(
     rt: &R,
     alloc: Global,

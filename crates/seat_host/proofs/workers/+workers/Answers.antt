@@ -12,10 +12,3 @@ work_all-side_by_side-requires-clause-list g t c κs within =
 pub work_all-side_by_side-requires-clause-commands : goal.work_all-side_by_side-requires-clause-commands
 work_all-side_by_side-requires-clause-commands g t c κs within =
     all_later (λ list. All (FitsCommand g.K.Hosting.grid) list) c.args.lists.now c.in-Some.list.now c.in-Some.later.now c.in-Some.ensures.cases.0 c.requires.commands
-
-pub side_by_side-returns-clause-ok : goal.side_by_side-returns-clause-ok
-side_by_side-returns-clause-ok g t c =
-    let first : OnOk c.join_mut-rest.result.1 (HasRun c.args.list.now c.args.session.now c.session-1.given.0) = search rules in
-    let rest : OnOk c.join_mut-rest.result.0 (AllHaveRun c.args.later.now c.args.others.now c.others-1.given.0) = search rules in
-    rw c.first_refused.ensures
-    (run_both c.args.list.now c.args.session.now c.session-1.given.0 c.args.later.now c.args.others.now c.others-1.given.0 c.join_mut-rest.result.1 c.join_mut-rest.result.0 first rest)
