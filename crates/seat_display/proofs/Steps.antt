@@ -1,6 +1,5 @@
 -- Each step keeps the rule of what is shown.
-use Rattle.std.proofs.Common.{◌≡◌, ◌≢◌, ℕ, ◌+◌, ◌^◌, ◌<◌, ◌≤◌, ◌⊎◌, List, [], ◌∷◌, ◌++◌, length, map, set, fold, Bool, true, false, true≢false, refl, ap, sym, subst, ◌∙◌, ⊎_elim, arith, append_assoc, length-append}
-use Rattle.std.specs.Prelude.{nat_lt, if◌then◌else◌}
+use Rattle.std.proofs.Common.{◌≡◌, ◌≢◌, ℕ, ◌+◌, ◌^◌, ◌<◌, List, [], ◌∷◌, ◌++◌, length, map, set, fold, true, false, true≢false, refl, ap, sym, subst, ◌∙◌, ⊎_elim, arith, append_assoc, length-append}
 use Rattle.std.proofs.lemmas.List.{append-nil}
 use Rattle.std.proofs.lemmas.Bool.Decides.{nat_tests}
 use mathlib.Core.Option.{some}
@@ -12,10 +11,8 @@ use Rattle.ssim_records.specs.declared.place.Place.{Place}
 use Rattle.seat_nesting.specs.Nesting.{Legs, Table as HeldSeats, room}
 use Rattle.seat_nesting.specs.Counting.{Counted, limits_of, seats_of}
 use Rattle.seat_journal.specs.declared.entry.Entry.{Entry}
-use Rattle.seat_core.specs.Bookings.{held}
-use Rattle.seat_core.specs.Prefixes.{Begins}
-use Rattle.seat_core.specs.Sequential.{State, answer, room_left}
-use Rattle.seat_core.specs.Journal.{IsLegal, IsNext, replay}
+use Rattle.seat_core.specs.Sequential.{State, room_left}
+use Rattle.seat_core.specs.Journal.{IsLegal, replay}
 use Rattle.seat_core.proofs.Prefixes.{begins_longer}
 use Rattle.seat_core.proofs.Legal.{legal_nil, legal_prefix, legal_push, each_legal}
 use Rattle.seat_core.proofs.Histories.{each_replay}

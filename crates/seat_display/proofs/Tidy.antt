@@ -1,9 +1,7 @@
 -- Counters written from limits and seats.
-use Rattle.std.proofs.Common.{◌≡◌, ◌==◌, ◌||◌, ℕ, zero, suc, ◌+◌, ◌-◌, ◌≤◌, ◌^◌, Bool, true, false, ◌&&◌, nat_le, cond, List, [], ◌∷◌, length, map, Option, Some, None, fold, refl, ap, sym, subst, ◌∙◌, arith}
-use Rattle.std.specs.Prelude.{if◌then◌else◌, nat_lt}
-use Rattle.std.specs.List.{list_any}
+use Rattle.std.proofs.Common.{◌≡◌, ◌==◌, ◌||◌, ℕ, zero, suc, ◌+◌, ◌-◌, ◌≤◌, Bool, true, false, ◌&&◌, nat_le, cond, List, [], ◌∷◌, map, Option, Some, None, refl, ap, sym, ◌∙◌, arith}
+use Rattle.std.specs.Prelude.{if◌then◌else◌}
 use Rattle.std.proofs.lemmas.Bool.Decides.{nat_tests}
-use Rattle.seat_nesting.specs.declared.ladder.Step.{Step}
 use Rattle.seat_nesting.specs.Nesting.{Legs, Steps, ByClass, Table as HeldSeats, ladder_at, legs_of, steps_at, has_class, room, room_on, covers, seats_at}
 use Rattle.seat_nesting.specs.Counting.{LegSeats, Counted, count_at, seats_on, leg_in, legs_in, leg_at, limits_of, seats_of, holds}
 use Rattle.seat_nesting.proofs.CountChanges.{fits_each}
@@ -14,7 +12,7 @@ use Rattle.seat_core.specs.Totals.{is_confirmation}
 use Rattle.seat_core.specs.Showing.{given_back, taken_up, confirmed_at_once, shown_reply, shown_advices, shown}
 use Rattle.seat_display.specs.declared.table.Table.{Table}
 use Rattle.seat_display.specs.declared.table.Op.TheVariants.{Line}
-use Rattle.seat_display.specs.Shown.{leg_seats, flight_seats, all_seats, tidied, apply, one_more}
+use Rattle.seat_display.specs.Shown.{flight_seats, all_seats, tidied, apply, one_more}
 
 -- the limits of one leg
 abbrev steps_in : LegSeats → Steps

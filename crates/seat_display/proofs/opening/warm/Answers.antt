@@ -1,11 +1,11 @@
-use Rattle.std.proofs.Common.{List, ◌≡◌, ◌++◌, ◌∷◌, [], ap, sym, subst, ◌∙◌, true, drop, fold, refl}
+use Rattle.std.proofs.Common.{List, ◌++◌, ◌∷◌, [], ap, sym, subst, ◌∙◌, true, drop, refl}
 use Rattle.seat_nesting.specs.Nesting.{Legs}
 use Rattle.seat_display.specs.declared.table.Op.{Op}
 use Rattle.seat_nesting.specs.Counting.{limits_of}
 use Rattle.seat_display.specs.declared.table.View.{View}
 use Rattle.seat_display.specs.declared.table.Op.TheVariants.{Mark}
 use Rattle.seat_display.specs.declared.table.Table.{Table}
-use Rattle.seat_display.specs.Shown.{apply, tidied, IsEmptyTable}
+use Rattle.seat_display.specs.Shown.{IsEmptyTable}
 use Rattle.seat_display.proofs.Steps.{warmed, empty_as}
 use Rattle.seat_display.proofs.opening.warm.Goals as goal
 

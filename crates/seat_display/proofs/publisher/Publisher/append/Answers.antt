@@ -1,7 +1,7 @@
-use Rattle.std.proofs.Common.{◌≡◌, ◌+◌, ◌<◌, ◌^◌, ◌++◌, ◌∷◌, [], ap, ◌∙◌, sym, subst, arith, length, drop}
+use Rattle.std.proofs.Common.{◌+◌, ◌<◌, ◌^◌, ◌++◌, ◌∷◌, [], ap, ◌∙◌, sym, subst, arith, length, drop}
 use Rattle.seat_core.specs.Journal.{IsLegal}
 use Rattle.seat_display.specs.Faces.{Published}
-use Rattle.seat_display.specs.Shown.{Ready, entries_of}
+use Rattle.seat_display.specs.Shown.{entries_of}
 use Rattle.seat_display.proofs.Steps.{ready_append, entries-snoc}
 use Rattle.seat_display.proofs.publisher.Publisher.append.Goals as goal
 

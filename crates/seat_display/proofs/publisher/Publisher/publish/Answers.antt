@@ -1,10 +1,10 @@
-use Rattle.std.proofs.Common.{◌≡◌, ◌+◌, ◌++◌, ◌∷◌, [], ap, ◌∙◌, sym, refl, subst, arith, length-append, length, drop, fold}
+use Rattle.std.proofs.Common.{◌≡◌, ◌++◌, ap, ◌∙◌, sym, drop, fold}
 use Rattle.seat_nesting.specs.Counting.{limits_of}
-use Rattle.seat_display.specs.Shown.{Ready, Leaves, apply, entries_of, tidied}
+use Rattle.seat_display.specs.Shown.{apply, entries_of, tidied}
 use Rattle.seat_display.specs.History.{head_of}
 use Rattle.seat_display.specs.declared.table.Table.{Table}
 use Rattle.seat_display.specs.declared.table.Op.TheVariants.{Mark}
-use Rattle.seat_display.proofs.Steps.{applied_all, counted, leaves_marked, limits_marked, limits_as, ready_after, IsMarked}
+use Rattle.seat_display.proofs.Steps.{applied_all, counted, leaves_marked, limits_marked, limits_as, ready_after}
 use Rattle.seat_display.proofs.publisher.Publisher.publish.Goals as goal
 
 pub turn-requires-clause-leaves : goal.turn-requires-clause-leaves

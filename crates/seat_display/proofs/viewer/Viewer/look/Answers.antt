@@ -1,4 +1,4 @@
-use Rattle.std.proofs.Common.{◌≡◌, ◌≤◌, ap, sym, ◌∙◌, subst, List, length, arith}
+use Rattle.std.proofs.Common.{◌≤◌, ap, subst, List, length, arith}
 use Rattle.seat_journal.specs.declared.entry.Entry.{Entry}
 use Rattle.seat_core.specs.Prefixes.{Begins}
 use Rattle.seat_display.proofs.viewer.Viewer.look.Goals as goal
