@@ -1,5 +1,5 @@
 -- The lines by session agree with the journal.
-use Rattle.std.proofs.Common.{◌≡◌, ◌≢◌, ℕ, zero, suc, ◌+◌, ◌<◌, ◌≤◌, ◌⊎◌, ◌==◌, Bool, true, false, cond, Option, Some, None, List, [], ◌∷◌, ◌++◌, length, refl, ap, sym, subst, ◌∙◌, arith, inl, inr, ⊎_elim, append_assoc, length-append, eq-eqb, ne_eqb}
+use Rattle.std.proofs.Common.{◌≡◌, ◌≢◌, ℕ, zero, suc, ◌+◌, ◌<◌, ◌≤◌, ◌==◌, Bool, true, false, cond, Some, List, [], ◌∷◌, ◌++◌, length, refl, ap, sym, subst, ◌∙◌, arith, ⊎_elim, append_assoc, length-append, eq-eqb, ne_eqb}
 use Rattle.std.specs.Prelude.{slice_get}
 use Rattle.std.specs.List.{sum_by, slice_index_or, AllByRecursion}
 use Rattle.std.proofs.lemmas.List.Sums.{sum_by-cons, sum_by_push}
@@ -13,7 +13,7 @@ use Rattle.seat_core.specs.Journal.{IsNext, IsLegal}
 use Rattle.seat_host.specs.Histories.{of_session, by_session, OnlyFirst}
 use Rattle.seat_host.specs.Agreement.{nth, receipts_of, receipt_of, receipts_in, totals_in, HasReceipt, HasLine, Agrees}
 use Rattle.seat_host.proofs.Booking.{dec_nat}
-use Rattle.seat_host.proofs.Own.{own_append, own_one, own_other, calls_own}
+use Rattle.seat_host.proofs.Own.{own_append, own_one, calls_own}
 
 -- ---- an entry and those round it
 

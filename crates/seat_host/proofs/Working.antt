@@ -1,15 +1,13 @@
 -- Runs of one session, and of several.
-use Rattle.std.proofs.Common.{◌≡◌, ℕ, zero, suc, ◌+◌, ◌<◌, ◌⊎◌, List, [], ◌∷◌, ◌++◌, length, take, drop, get_or, refl, ap, sym, subst, arith, inl, inr, ◌∙◌, append_assoc}
-use Rattle.std.specs.Prelude.{Result, Ok, Err, OnOk, IfErr, All, map, zip, slice_index_or}
-use Rattle.std.specs.List.{AllZip}
+use Rattle.std.proofs.Common.{◌≡◌, ℕ, suc, ◌+◌, ◌<◌, List, [], ◌∷◌, ◌++◌, length, take, drop, get_or, refl, ap, sym, subst, arith, ◌∙◌, append_assoc}
+use Rattle.std.specs.Prelude.{Result, Ok, Err, OnOk, All, map}
 use Rattle.std.proofs.Math.Seq.{split_at}
 use Rattle.std.proofs.lemmas.List.{take_more, take-append-drop}
 use Rattle.seat_journal.specs.declared.entry.Command.{Command}
 use Rattle.seat_journal.specs.declared.entry.Entry.{Entry}
-use Rattle.seat_core.specs.Prefixes.{Begins}
 use Rattle.seat_core.proofs.Prefixes.{begins_trans, begins_itself}
 use Rattle.seat_host.specs.Sessions.{Seat}
-use Rattle.seat_host.specs.Working.{HasRun, HasBegun, IsRefused, AllHaveRun, AllHaveBegun, NamesFirst, first_of}
+use Rattle.seat_host.specs.Working.{HasRun, HasBegun, IsRefused, AllHaveRun, AllHaveBegun, first_of}
 use Rattle.seat_host.specs.declared.workers.RunFault.{RunFault}
 
 commands_append : (xs ys : List Entry) → map (λ (e : Entry). e.command) (xs ++ ys) ≡ map (λ (e : Entry). e.command) xs ++ map (λ (e : Entry). e.command) ys

@@ -1,7 +1,6 @@
-use Rattle.std.proofs.Common.{All, OnOk, sym, subst, rules}
+use Rattle.std.proofs.Common.{All, sym, subst}
 use Rattle.seat_core.specs.Journal.{FitsCommand}
-use Rattle.seat_host.specs.Working.{HasRun, AllHaveRun}
-use Rattle.seat_host.proofs.Working.{all_first, all_later, run_both}
+use Rattle.seat_host.proofs.Working.{all_first, all_later}
 use Rattle.seat_host.proofs.workers.+workers.Goals as goal
 
 pub work_all-side_by_side-requires-clause-list : goal.work_all-side_by_side-requires-clause-list
