@@ -2,7 +2,7 @@
 use Rattle.std.proofs.Common.{◌≡◌, ◌≤◌, ℕ, suc, List, [], ◌∷◌, ◌++◌, length, map, refl, sym, ap, ◌∙◌, arith, append_assoc, Option, IfSome}
 use Rattle.std.proofs.lemmas.List.{append-nil, length-map}
 use Rattle.airimp_lines.specs.declared.requests.Request.{Request}
-use Rattle.seat_desk.specs.Requests.{AreReadOn, AreRight, AreScripts, IsScriptOf}
+use Rattle.seat_desk.specs.Requests.{AreReadOn, AreRight, AreScripts, IsReadable, IsScriptOf}
 
 pub read_none : (today : ℕ) (old : List (List Request)) → AreReadOn today [] old old
 read_none today old = record { added = []; are_scripts = tt; are_right = tt; written = sym (append-nil old) }
@@ -33,3 +33,7 @@ pub between : (n : ℕ) (scripts slice : List (List Request)) → slice ≡ scri
 between n scripts slice same count range =
     let all : length slice ≡ n = ap length same ∙ count in
     (omega (arith, all, range.0), omega (arith, all, range.1))
+
+-- a script that is read stands before the fault
+pub readable : (today : ℕ) (text : Option (List ℕ)) (requests : List Request) → IfSome text (IsScriptOf today requests) → IsReadable today text
+readable today text requests is = record { requests = requests; is_script = is }

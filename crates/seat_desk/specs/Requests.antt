@@ -77,10 +77,15 @@ abbrev pub IsOfScript : DeskFault → Type 0
 IsOfScript (Script session fault) = Unit {0}
 IsOfScript _ = ⊥
 
--- the fault is that of one of the scripts, of which the first is that of session n
+-- a script, where the bytes are known
+pub record IsReadable (today : ℕ) (text : Option (List ℕ)) : Type 0 where
+  pub requests : List Request
+  pub is_script : IfSome text (IsScriptOf today requests)
+
+-- the fault is that of the first of these that is no script; the first of them is that of session n
 abbrev pub IsRefusedAmong : ℕ → ℕ → List (Option (List ℕ)) → DeskFault → Type 0
 IsRefusedAmong today n [] fault = ⊥
-IsRefusedAmong today n (text ∷ texts) fault = IfSome text (IsRefusedScript today n fault) ⊎ IsRefusedAmong today (n + 1) texts fault
+IsRefusedAmong today n (text ∷ texts) fault = IfSome text (IsRefusedScript today n fault) ⊎ (IsReadable today text × IsRefusedAmong today (n + 1) texts fault)
 
 -- the desk's fault for one of a session's script
 abbrev pub script_refusal_of : ScriptKind → ℕ → ScriptFault → DeskFault

@@ -158,9 +158,8 @@ pub record IsUnbookedOf (today : ℕ) (texts : List (Option (List ℕ))) (fault 
   pub are_scripts : AreScripts today texts scripts
   pub is_unbooked : IsUnbooked scripts fault
 
--- where the fault is a script's, the script of that session is none, and this is the first fault of its own lines: whether
--- scripts before it are right is not said. Where it is a call's, all scripts are read, and the session's has that request.
--- Else it is a fault of the set, of its flights or of the limits
+-- a script's fault is the first of the first script that is none. A call's names a request of its session's script, and all
+-- scripts are read. Any other is the first of the set, of its flights or of the limits
 abbrev pub RunRefusal : List ℕ → List ℕ → ℕ → ℕ → ℕ → List (Option (List ℕ)) → DeskFault → Type 0
 RunRefusal set limits first days today texts (Script session fault) = IsRefusedAmong today 1 texts (Script session fault)
 RunRefusal set limits first days today texts (Book session call) = IsUnbookedOf today texts (Book session call)

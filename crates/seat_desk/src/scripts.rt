@@ -75,7 +75,7 @@ pub fn read_scripts<C: NotedRead>(
 }
 
 /// Reads these scripts, of which the first has this number.
-#[tactic(auto, using(crate::proofs::Reading::read_none, crate::proofs::Reading::read_more))]
+#[tactic(auto, using(crate::proofs::Reading::read_none, crate::proofs::Reading::read_more, crate::proofs::Reading::readable))]
 fn read_from<C: NotedRead>(
     alloc: Global,
     scripts: &mut [C],
