@@ -10,6 +10,7 @@ mod fault;
 mod inventory;
 mod laws;
 mod one_flight;
+mod parties;
 mod pass;
 mod replaying;
 mod reply;

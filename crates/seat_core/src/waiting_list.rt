@@ -1,14 +1,16 @@
 // The waiting list of a flight.
-ghost use Rattle.std.specs.Prelude.{◌≡◌, ◌≤◌, ◌++◌, ◌∷◌, [], length, true, OnOk};
+ghost use Rattle.std.specs.Prelude.{◌≡◌, ◌<◌, ◌≤◌, ◌++◌, ◌∷◌, [], length, position, remove, true, vec_len, vec_capacity, OnOk, Some};
 ghost use Rattle.seat_nesting.specs.Counting.{limits_of, seats_of};
 ghost use Rattle.seat_nesting.specs.Nesting.{may_wait};
 ghost use Rattle.seat_core.specs.Bookings.{is_for, waiting};
+ghost use Rattle.seat_core.specs.Parties.{has_spare, IsIndexed};
 ghost use Rattle.seat_core.specs.Queues.{none_fits, without};
 ghost use Rattle.seat_core.specs.Sequential.{booking_of, reduced};
 ghost use Rattle.seat_core.specs.declared.booking.Status.TheVariants.{Waiting};
 
 use crate::booking::{Booking, Status};
-use crate::bookings::{add, reduce_in, take_out};
+use crate::bookings::{add, find_booking, find_number, take_off};
+use crate::parties::{Party, are_too_large, join, leave, lessen};
 use crate::rooms::may_wait_at;
 use seat_journal::Command;
 use seat_nesting::{Counts, Grid};
@@ -16,19 +18,26 @@ use ssim_records::{Class, Memory, Place};
 use std::alloc::Global;
 use std::marker::Model;
 
-/// The bookings of a flight that wait, in order of number.
+// As many bookings as there are numbers.
+const MOST: usize = 1 << 32;
+
+/// The bookings of a flight that wait, in order of number, and what waits for each place and class.
 #[derive(Drop)]
 pub struct WaitingList {
     bookings: Vec<Booking>,
+    parties: Vec<Party>,
 }
 
 impl Model for WaitingList {
-    ghost use Rattle.std.specs.Prelude.{nat_lt, vec_len, vec_capacity};
+    ghost use Rattle.std.specs.Prelude.{vec_len, vec_capacity};
     ghost use Rattle.seat_core.specs.Queues.{Waitlist};
+    ghost use Rattle.seat_core.specs.Parties.{has_spare, IsIndexed};
 
     ghost Value = { Waitlist };
 
-    ghost view = { λ l. record { bookings = l.bookings.items; spare = nat_lt (vec_len l.bookings) (vec_capacity l.bookings) } };
+    ghost view = { λ l. record { bookings = l.bookings.items; spare = has_spare (vec_len l.bookings) (vec_capacity l.bookings) (vec_len l.parties) (vec_capacity l.parties) } };
+
+    ghost invariant = { λ l. IsIndexed l.bookings.items l.parties.items };
 }
 
 impl WaitingList {
@@ -37,6 +46,7 @@ impl WaitingList {
     {
         WaitingList {
             bookings: Vec::new(alloc),
+            parties: Vec::new(alloc),
         }
     }
 
@@ -51,7 +61,11 @@ impl WaitingList {
         ensures same { self.new.bookings ≡ self.old.bookings }
         ensures ok { OnOk result (self.new.spare ≡ true) }
     {
+        if self.bookings.len() >= MOST {
+            return Err(Memory);
+        }
         self.bookings.reserve(1)?;
+        self.parties.reserve(1)?;
         Ok(())
     }
 
@@ -60,21 +74,33 @@ impl WaitingList {
         requires { self.old.spare ≡ true }
         ensures { self.new.bookings ≡ self.old.bookings ++ booking_of number command.now place Waiting ∷ [] }
     {
-        add(&mut self.bookings, number, command, place, Status::Waiting);
+        add_to(
+            &mut self.bookings,
+            &mut self.parties,
+            number,
+            command,
+            place,
+        );
     }
 
     /// Takes the seats of a command off its booking, where there is one.
     pub fn reduce(&mut self, command: &Command, place: Place)
         ensures { self.new.bookings ≡ reduced (is_for command.now.locator place command.now.class) command.now.seats self.old.bookings }
     {
-        reduce_in(&mut self.bookings, command, place);
+        match find_booking(&self.bookings, command, place) {
+            Some(at) => reduce_at(&mut self.bookings, &mut self.parties, at, command, place),
+            None => {}
+        }
     }
 
     /// Takes out the booking of this number, where there is one.
     pub fn take_out(&mut self, number: u32)
         ensures { self.new.bookings ≡ without self.old.bookings number }
     {
-        take_out(&mut self.bookings, number);
+        match find_number(&self.bookings, number) {
+            Some(at) => take_at(&mut self.bookings, &mut self.parties, at),
+            None => {}
+        }
     }
 
     /// Whether so many more seats may wait on a place.
@@ -82,15 +108,69 @@ impl WaitingList {
         requires { length self.now.bookings ≤ 999999 }
         ensures { result ≡ may_wait limits.now (waiting self.now.bookings) place class seats }
     {
-        may_wait_at(limits, &self.bookings, place, class, seats)
+        may_wait_at(limits, &self.parties, place, class, seats)
     }
 
     /// Whether each has more seats than the counters leave room for.
     pub fn none_fits(&self, counts: &Counts) -> bool
         ensures { result ≡ none_fits (limits_of counts.now) (seats_of counts.now) self.now.bookings }
     {
-        self.bookings
-            .iter()
-            .all(|b| counts.room(b.place, b.class) < b.seats)
+        are_too_large(counts, &self.parties)
     }
+}
+
+// Adds the booking of a command, for which there is room, to its party.
+fn add_to(
+    bookings: &mut Vec<Booking>,
+    parties: &mut Vec<Party>,
+    number: u32,
+    command: &Command,
+    place: Place,
+)
+    requires spare { has_spare (vec_len bookings.old) (vec_capacity bookings.old) (vec_len parties.old) (vec_capacity parties.old) ≡ true }
+    requires indexed { IsIndexed bookings.old.items parties.old.items }
+    ensures added { bookings.new.items ≡ bookings.old.items ++ booking_of number command.now place Waiting ∷ [] }
+    ensures indexed { IsIndexed bookings.new.items parties.new.items }
+{
+    join(parties, place, command.class, command.seats);
+    add(bookings, number, command, place, Status::Waiting);
+}
+
+// Takes the seats of a command off its booking, which stands at this index.
+fn reduce_at(
+    bookings: &mut Vec<Booking>,
+    parties: &mut Vec<Party>,
+    at: usize,
+    command: &Command,
+    place: Place,
+)
+    requires found { position (is_for command.now.locator place command.now.class) bookings.old.items ≡ Some at }
+    requires indexed { IsIndexed bookings.old.items parties.old.items }
+    ensures reduced { bookings.new.items ≡ reduced (is_for command.now.locator place command.now.class) command.now.seats bookings.old.items }
+    ensures indexed { IsIndexed bookings.new.items parties.new.items }
+{
+    let seats = bookings[at].seats;
+    if seats <= command.seats {
+        take_at(bookings, parties, at);
+        return;
+    }
+    lessen(
+        parties,
+        place,
+        command.class,
+        command.seats,
+        seats - command.seats,
+    );
+    take_off(bookings, at, command, place);
+}
+
+// Takes out the booking at an index, and from its party.
+fn take_at(bookings: &mut Vec<Booking>, parties: &mut Vec<Party>, at: usize)
+    requires within { at < length bookings.old.items }
+    requires indexed { IsIndexed bookings.old.items parties.old.items }
+    ensures gone { bookings.new.items ≡ remove bookings.old.items at }
+    ensures indexed { IsIndexed bookings.new.items parties.new.items }
+{
+    let gone = bookings.remove(at);
+    leave(parties, bookings, gone.place, gone.class, gone.seats);
 }

@@ -1,0 +1,9 @@
+use Rattle.std.proofs.Common.{◌≡◌, [], refl, sym, ◌∙◌}
+use Rattle.seat_nesting.specs.Nesting.{may_wait}
+use Rattle.seat_core.specs.Bookings.{waiting}
+use Rattle.seat_core.specs.Books.{book_at}
+use Rattle.seat_core.proofs.Replying.{may_wait_is}
+use Rattle.seat_core.proofs.reply.may_queue.Goals as goal
+
+pub returns-in-None : goal.returns-in-None
+returns-in-None c = c.may_wait_at.ensures ∙ may_wait_is c.args.limits.now (book_at c.args.books.now c.args.place.flight) [] c.args.place c.args.command.now.class c.args.command.now.seats (sym c.in-None.ensures.none ∙ c.requires.queue)
