@@ -1,6 +1,6 @@
 -- What the parties answer is what the bookings answer.
-use Rattle.std.proofs.Common.{◌≡◌, ◌==◌, ◌&&◌, ◌||◌, ℕ, ◌+◌, ◌<◌, Bool, true, false, min, nat_lt, List, [], ◌∷◌, Option, Some, None, if◌then◌else◌, arith, refl, sym, subst, ap, ◌∙◌}
-use Rattle.std.specs.List.{AllByRecursion, list_any}
+use Rattle.std.proofs.Common.{◌≡◌, ◌==◌, ◌&&◌, ℕ, ◌+◌, Bool, true, false, min, nat_lt, List, [], ◌∷◌, Option, Some, None, if◌then◌else◌, arith, refl, sym, subst, ap, ◌∙◌}
+use Rattle.std.specs.List.{AllByRecursion}
 use Rattle.std.proofs.lemmas.Bool.Decides.{nat_tests}
 use Rattle.std.proofs.lemmas.List.Sums.{sum_by-cons}
 use Rattle.ssim_records.specs.declared.place.Place.{Place}
@@ -9,9 +9,9 @@ use Rattle.seat_core.specs.declared.booking.Booking.{Booking}
 use Rattle.seat_core.specs.declared.booking.Status.{Status}
 use Rattle.seat_core.specs.declared.booking.Status.TheVariants.{Held, Waiting}
 use Rattle.seat_core.specs.declared.parties.Party.{Party}
-use Rattle.seat_core.specs.Bookings.{covers, is_waiting, seats_of, waits_on, waiting}
+use Rattle.seat_core.specs.Bookings.{covers, is_waiting, waits_on, waiting}
 use Rattle.seat_core.specs.Queues.{none_fits}
-use Rattle.seat_core.specs.Parties.{is_at, is_party_of, is_booking_of, is_apart, least_with, smallest_of, seats_for, party_smallest, party_seats, party_waits, waits_of, no_party_fits, IsIndexed}
+use Rattle.seat_core.specs.Parties.{is_at, is_party_of, is_booking_of, is_apart, least_with, smallest_of, seats_for, party_smallest, party_seats, waits_of, no_party_fits, IsIndexed}
 use Rattle.seat_core.proofs.Flights.{may_wait_same}
 use Rattle.seat_core.proofs.Indexing.{at_itself, at_turned, at_same, at_other, apart_rest, no_seats, no_smallest}
 

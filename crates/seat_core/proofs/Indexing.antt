@@ -57,6 +57,26 @@ pub least_lower : (m n : ℕ) (o : Option ℕ) → m ≤ n → least_with m o �
 least_lower m n None le = ap Some (omega arith)
 least_lower m n (Some k) le = ap Some (omega arith)
 
+least_twice : (n : ℕ) (o : Option ℕ) → least_with n (least_with n o) ≡ least_with n o
+least_twice n None = ap Some (omega arith)
+least_twice n (Some k) = ap Some (omega arith)
+
+-- the least of a booking and others is that of the others, or there are none that are less
+pub none_least : (n : ℕ) (o : Option ℕ) → None ≡ least_with n o → None ≡ o
+none_least n None e = refl
+none_least n (Some k) e = absurd cc
+
+some_same : (m n : ℕ) → Some m ≡ Some n → m ≡ n
+some_same m n e = cc
+
+pub other_least : (m n : ℕ) (o : Option ℕ) → Some m ≡ least_with n o → m < n → Some m ≡ o
+other_least m n None e lt = absurd (omega (arith, lt, some_same m n e))
+other_least m n (Some k) e lt = ap Some (omega (arith, lt, some_same m (min n k) e))
+
+pub same_least : (m n : ℕ) (o : Option ℕ) → Some m ≡ least_with n o → n ≤ m → least_with m o ≡ Some m
+same_least m n None e le = refl
+same_least m n (Some k) e le = ap Some (omega (arith, le, some_same m (min n k) e))
+
 -- ---- one booking more, wherever it stands
 abbrev with_least : Place → ℕ → Booking → Option ℕ → Option ℕ
 with_least q c b o = (if is_booking_of q c b then least_with b.seats o else o)
@@ -383,6 +403,13 @@ least_at xs i b h is = smallest_get b.place b.class xs i b h is ∙ rw (at_itsel
 
 sum_at : (xs : List Booking) (i : ℕ) (b : Booking) → i < length xs → b ≡ get_or xs i b → seats_for b.place b.class xs ≡ b.seats + seats_for b.place b.class (remove xs i)
 sum_at xs i b h is = seats_get b.place b.class xs i b h is ∙ rw (at_itself b.place b.class) refl
+
+-- the least of all, where none has fewer seats than this one
+pub floor_at : (q : Place) (c : ℕ) (xs : List Booking) (i : ℕ) (b : Booking) → i < length xs → b ≡ get_or xs i b → is_booking_of q c b ≡ true
+    → least_with b.seats (smallest_of q c xs) ≡ Some b.seats → Some b.seats ≡ smallest_of q c xs
+floor_at q c xs i b h is here least =
+    let all : smallest_of q c xs ≡ least_with b.seats (smallest_of q c (remove xs i)) = smallest_get q c xs i b h is ∙ rw here refl in
+    sym least ∙ (ap (least_with b.seats) all ∙ (least_twice b.seats (smallest_of q c (remove xs i)) ∙ sym all))
 
 -- and to those of other places and classes
 smallest_away : (q : Place) (c : ℕ) (xs : List Booking) (i : ℕ) (b : Booking) → i < length xs → b ≡ get_or xs i b → is_at b.place b.class q c ≡ false → smallest_of q c xs ≡ smallest_of q c (remove xs i)

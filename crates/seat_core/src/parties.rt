@@ -110,6 +110,7 @@ fn settle(parties: &mut Vec<Party>, place: Place, class: Class, smallest: Option
     }
 }
 
+#[tactic(auto, using(crate::proofs::Indexing::none_least, crate::proofs::Indexing::other_least, crate::proofs::Indexing::same_least))]
 // The least seats of a booking once one with so many left: they are looked up only where that was the smallest.
 fn smallest_left(
     parties: &[Party],
@@ -121,19 +122,18 @@ fn smallest_left(
     requires { party_smallest place class parties.now ≡ least_with seats (smallest_of place class queue.now) }
     ensures { result ≡ smallest_of place class queue.now }
 {
-    match smallest_in(parties, place, class) {
-        Some(smallest) => {
-            if smallest < seats {
-                return Some(smallest);
-            }
-            smallest_of(queue, place, class)
-        }
-        None => smallest_of(queue, place, class),
+    let Some(smallest) = smallest_in(parties, place, class) else {
+        return None;
+    };
+    if smallest < seats {
+        return Some(smallest);
     }
+    smallest_of(queue, place, class, smallest)
 }
 
-/// The least seats among the bookings of this place and class.
-fn smallest_of(queue: &[Booking], place: Place, class: Class) -> Option<u16>
+// The least seats among the bookings of this place and class, none of which has fewer than `floor`.
+fn smallest_of(queue: &[Booking], place: Place, class: Class, floor: u16) -> Option<u16>
+    requires { least_with floor (smallest_of place class queue.now) ≡ Some floor }
     ensures { result ≡ smallest_of place class queue.now }
 {
     let mut smallest = None;
@@ -142,6 +142,9 @@ fn smallest_of(queue: &[Booking], place: Place, class: Class) -> Option<u16>
         at -= 1;
         let booking = &queue[at];
         if booking.place == place && booking.class == class {
+            if booking.seats == floor {
+                return Some(floor);
+            }
             smallest = Some(least(booking.seats, smallest));
         }
     }

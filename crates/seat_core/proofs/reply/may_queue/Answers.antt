@@ -1,6 +1,4 @@
-use Rattle.std.proofs.Common.{◌≡◌, [], refl, sym, ◌∙◌}
-use Rattle.seat_nesting.specs.Nesting.{may_wait}
-use Rattle.seat_core.specs.Bookings.{waiting}
+use Rattle.std.proofs.Common.{[], sym, ◌∙◌}
 use Rattle.seat_core.specs.Books.{book_at}
 use Rattle.seat_core.proofs.Replying.{may_wait_is}
 use Rattle.seat_core.proofs.reply.may_queue.Goals as goal

@@ -1,4 +1,4 @@
-use Rattle.std.proofs.Common.{◌≡◌, ◌-◌, List, subst, sym, ◌∙◌}
+use Rattle.std.proofs.Common.{List, subst, sym, ◌∙◌}
 use Rattle.seat_core.specs.declared.booking.Booking.{Booking}
 use Rattle.seat_core.specs.Bookings.{is_for}
 use Rattle.seat_core.specs.Sequential.{reduced}

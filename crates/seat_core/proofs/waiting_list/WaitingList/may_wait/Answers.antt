@@ -1,4 +1,4 @@
-use Rattle.std.proofs.Common.{◌≡◌, List, subst, sym, ap, ◌∙◌}
+use Rattle.std.proofs.Common.{◌≡◌, List, subst, ap, ◌∙◌}
 use Rattle.seat_nesting.specs.Nesting.{may_wait}
 use Rattle.seat_core.specs.declared.parties.Party.{Party}
 use Rattle.seat_core.specs.Bookings.{waiting}

@@ -1,6 +1,5 @@
-use Rattle.std.proofs.Common.{◌≡◌, List, subst, sym, ap, ◌∙◌}
+use Rattle.std.proofs.Common.{◌≡◌, subst, ap, ◌∙◌}
 use Rattle.seat_nesting.specs.Counting.{limits_of, seats_of}
-use Rattle.seat_core.specs.declared.parties.Party.{Party}
 use Rattle.seat_core.specs.Parties.{no_party_fits}
 use Rattle.seat_core.specs.Queues.{none_fits, Waitlist}
 use Rattle.seat_core.proofs.Gathering.{none_fits_told}
