@@ -1,6 +1,6 @@
 use Rattle.std.proofs.Common.{◌≡◌, subst, sym, ◌∙◌}
 use Rattle.seat_core.specs.Queues.{without, Waitlist}
-use Rattle.seat_core.proofs.Indexing.{number_gone}
+use Rattle.seat_core.proofs.Leaving.{number_gone}
 use Rattle.seat_core.proofs.Queues.{without_none}
 use Rattle.seat_core.proofs.waiting_list.WaitingList.take_out.Goals as goal
 
