@@ -1,5 +1,5 @@
 ghost use Rattle.std.specs.Prelude.{◌≡◌, if◌then◌else◌};
-ghost use Rattle.seat_core.specs.Bookings.{is_for, is_held, is_waiting, seats_of, waits_on};
+ghost use Rattle.seat_core.specs.Bookings.{is_for, is_held, is_waiting};
 
 use seat_journal::Command;
 use ssim_records::{Class, Locator, Place};
@@ -44,27 +44,5 @@ impl Booking {
         ensures { result ≡ is_waiting self.now.status }
     {
         matches!(self.status, Status::Waiting)
-    }
-
-    /// Its seats in this class on this leg.
-    fn seats_of(&self, flight: u32, leg: u8, class: Class) -> u16
-        ensures { result ≡ seats_of flight leg class self.now }
-    {
-        let here = self.place.flight == flight && self.place.from <= leg && leg <= self.place.to;
-        if here && self.class == class {
-            self.seats
-        } else {
-            0
-        }
-    }
-
-    /// The seats that it waits for in this class on this leg.
-    pub fn waits_on(&self, flight: u32, leg: u8, class: Class) -> u16
-        ensures { result ≡ waits_on flight leg class self.now }
-    {
-        match self.status {
-            Status::Held => 0,
-            Status::Waiting => self.seats_of(flight, leg, class),
-        }
     }
 }
