@@ -6,15 +6,11 @@ mod date;
 mod fault;
 mod fields;
 pub mod laws;
-#[cfg(test)]
-mod line_tests;
 mod messages;
 mod reading;
 mod reply;
 mod requests;
 mod script;
-#[cfg(test)]
-mod script_tests;
 mod segment;
 
 pub use fault::{LineFault, ScriptFault, ScriptKind};

@@ -16,8 +16,6 @@ mod leg_list;
 mod plan;
 mod rows;
 mod schedule;
-#[cfg(test)]
-mod tests;
 
 pub use days::{Days, operating_days};
 pub use expansion::expand;

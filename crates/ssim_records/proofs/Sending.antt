@@ -1,10 +1,9 @@
 -- What the parts of a text that a writer took make together.
-use Rattle.std.proofs.Common.{◌<◌, ◌≡◌, ℕ, ◌-◌, List, [], ◌++◌, length, take, drop, sym, ap, ◌∙◌, subst, append_assoc, append-nil, take-append-drop, OnErr, Result, Ok, Err}
+use Rattle.std.proofs.Common.{◌≡◌, ℕ, ◌-◌, List, [], ◌++◌, length, take, drop, sym, ap, ◌∙◌, subst, append_assoc, append-nil, take-append-drop, OnErr, Result, Ok, Err}
 use Rattle.std.specs.Prelude.{Option}
-use Rattle.std.proofs.lemmas.List.{take_rest, take-append-le}
+use Rattle.std.proofs.lemmas.List.{take_rest}
 use lib.Seq.{take-append_seam}
-use Rattle.std.specs.Io.{ReadsAtMost}
-use Rattle.std.specs.Io.KnownBytes.{Appends, Consumes, ReadConsumes}
+use Rattle.std.specs.Io.KnownBytes.{Appends}
 use Rattle.std.proofs.KnownBytes.{Appends-trans}
 use Rattle.ssim_records.specs.Noting.{Sent, TookFront}
 
@@ -32,10 +31,3 @@ took_front old mid new k j text rest s none = record {
 pub on_err_any : {A E : Type 0} (r : Result A E) (P : Type 0) → P → OnErr r P
 on_err_any (Ok a) P p = tt
 on_err_any (Err e) P p = p
-
--- a read into the front of a buffer
-pub read_front : {E : Type 0} (a b : Option (List ℕ)) (r : Result ℕ E) (front rest : List ℕ) → 0 < length front → ReadsAtMost r front → ReadConsumes a b r front → ReadConsumes a b r (front ++ rest)
-read_front a b (Ok n) front rest some bound h =
-    let same : take n (front ++ rest) ≡ take n front = take-append-le n front rest bound.0 in
-    (subst (λ (x : List ℕ). Consumes a b x) (sym same) h.0, λ none more. h.1 none some)
-read_front a b (Err e) front rest some bound h = h

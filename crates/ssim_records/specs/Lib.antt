@@ -2,7 +2,6 @@ pub mod Bytes
 pub mod Counting
 pub mod Cut
 pub mod Days
-pub mod Failing
 pub mod FaultText
 pub mod Fields
 pub mod Lines

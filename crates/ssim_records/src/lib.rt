@@ -6,9 +6,6 @@ mod carrier;
 mod counted;
 mod cut;
 mod days;
-#[cfg(test)]
-mod device_tests;
-mod failing;
 pub mod fields;
 pub mod laws;
 pub mod lines;
@@ -21,8 +18,6 @@ mod records;
 mod set;
 mod set_fault;
 mod set_reading;
-#[cfg(test)]
-mod set_tests;
 mod state;
 mod steps;
 mod writing;
@@ -30,7 +25,6 @@ mod writing;
 pub use carrier::{Carrier, Leg};
 pub use counted::{Counted, Failures, NotedRead, NotedWrite};
 pub use days::Day;
-pub use failing::{FailingReader, FailingWriter, Stop};
 pub use memory::Memory;
 pub use names::{Airline, Class, Code, Locator, Station};
 pub use place::Place;

@@ -218,39 +218,3 @@ fn is_name_byte(byte: u8) -> bool
 {
     byte.is_ascii_uppercase() || byte.is_ascii_digit()
 }
-
-#[cfg(test)]
-mod tests {
-    use super::*;
-
-    #[test]
-    fn names(rt: HostRuntime) {
-        // Whether the text is a station, an airline, a code and a locator.
-        let rows: [(&[u8], [bool; 4]); 12] = [
-            (b"", [false, false, false, false]),
-            (b"X", [false, false, false, false]),
-            (b"XX", [false, true, true, false]),
-            (b"9W", [false, true, false, false]),
-            (b"W9", [false, true, false, false]),
-            (b"99", [false, false, false, false]),
-            (b"xx", [false, false, false, false]),
-            (b"LHR", [true, false, false, false]),
-            (b"LH1", [false, false, false, false]),
-            (b"A00001", [false, false, false, true]),
-            (b"A0000*", [false, false, false, false]),
-            (b"A000001", [false, false, false, false]),
-        ];
-        for (text, want) in rows {
-            let found = [
-                Station::new(text).is_some(),
-                Airline::new(text).is_some(),
-                Code::new(text).is_some(),
-                Locator::new(text).is_some(),
-            ];
-            assert_eq!(rt; found, want, "{text:?}");
-        }
-        assert_eq!(rt; Class::new(b'Y').map(|class| class.letter()), Some(b'Y'));
-        assert!(rt; Class::new(b'1').is_none());
-        assert_eq!(rt; Code::of(*b"NN").letters(), *b"NN");
-    }
-}

@@ -1,8 +1,8 @@
-//! Devices for tests: they pass some calls on, a few bytes at a time, and then fail.
+// The reader and the writer, with what a clause reads of them.
 ghost use Rattle.std.specs.Prelude.{◌≡◌, ◌-◌, ◌≤◌, ℕ, max, IsErr, IfOk, Ok};
 ghost use Rattle.std.specs.Io.{ReadsAtMost, WritesAtMost};
 ghost use Rattle.std.specs.Io.KnownBytes.{Keeps, ReadConsumes, WriteAppends};
-ghost use Rattle.ssim_records.specs.Failing.{read_inner, reads_piece, reads_left, write_inner, writes_piece, writes_left, writes_stop};
+ghost use Rattle.failing_devices.specs.Failing.{read_inner, reads_piece, reads_left, write_inner, writes_piece, writes_left, writes_stop};
 
 use std::io;
 use std::io::{Read, Write};

@@ -1,8 +1,8 @@
 -- What a clause reads of a device that fails.
 use Rattle.std.specs.Prelude.{ℕ}
-use Rattle.ssim_records.specs.declared.failing.FailingReader.{FailingReader}
-use Rattle.ssim_records.specs.declared.failing.FailingWriter.{FailingWriter}
-use Rattle.ssim_records.specs.declared.failing.Stop.{Stop}
+use Rattle.failing_devices.specs.declared.failing.FailingReader.{FailingReader}
+use Rattle.failing_devices.specs.declared.failing.FailingWriter.{FailingWriter}
+use Rattle.failing_devices.specs.declared.failing.Stop.{Stop}
 
 abbrev pub read_inner : {R : Type 0} → FailingReader R → R
 read_inner r = r.inner
