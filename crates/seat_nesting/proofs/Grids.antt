@@ -14,13 +14,6 @@ single_ladders steps h zero zero = h
 single_ladders steps h zero (suc leg) = tt
 single_ladders steps h (suc flight) leg = tt
 
--- one flight of two legs
-pub double_ladders : (first second : Steps) → IsDistinct first → IsDistinct second → HasLadders ((first ∷ second ∷ []) ∷ [])
-double_ladders first second h k zero zero = h
-double_ladders first second h k zero (suc zero) = k
-double_ladders first second h k zero (suc (suc leg)) = tt
-double_ladders first second h k (suc flight) leg = tt
-
 -- one leg more
 pub legs_more : (ladders : List (Option Steps)) (o : Option Steps) (legs : List DatedLeg) (f : DatedLeg → Steps) (i : ℕ) (leg : DatedLeg) → map steps_of ladders ≡ take i (map f legs) → i < length legs → leg ≡ get_or legs i leg → steps_of o ≡ f leg
     → map steps_of (ladders ++ o ∷ []) ≡ take (i + 1) (map f legs)

@@ -136,24 +136,6 @@ impl Grid {
     }
 }
 
-#[cfg(test)]
-impl Grid {
-    /// One flight of two legs.
-    #[tactic(auto, using(crate::proofs::Grids::double_ladders))]
-    pub(crate) fn double(alloc: Global, first: Ladder, second: Ladder) -> Result<Grid, Memory>
-        ensures { IfOk result (λ grid. grid ≡ (first ∷ second ∷ []) ∷ []) }
-    {
-        let _ = first.steps();
-        let _ = second.steps();
-        let mut ladders = Vec::new(alloc);
-        ladders.push(Some(first))?;
-        ladders.push(Some(second))?;
-        let mut flights = Vec::new(alloc);
-        flights.push(FlightLegs { ladders })?;
-        Ok(Grid { flights })
-    }
-}
-
 impl FlightLegs {
     /// The ladder of each leg, where it has one.
     pub(crate) fn ladders(&self) -> &[Option<Ladder>]

@@ -2,20 +2,14 @@
 //! It knows how many seats a table of held seats leaves, and nothing of bookings or of who holds them.
 #![tactic(auto)]
 
-#[cfg(test)]
-mod count_tests;
 mod counts;
 mod grid;
 mod ladder;
-#[cfg(test)]
-mod ladder_tests;
 mod ladder_text;
 mod leg_counts;
 mod limit_fault;
 mod limit_reading;
 mod limit_row;
-#[cfg(test)]
-mod limit_tests;
 mod row_fields;
 mod row_index;
 mod row_reading;
