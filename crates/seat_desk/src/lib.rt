@@ -3,8 +3,6 @@
 #![tactic(auto)]
 
 mod audit;
-#[cfg(test)]
-mod busy_tests;
 mod check;
 mod commands;
 mod fault;
@@ -15,12 +13,6 @@ mod loading;
 mod orders;
 mod replies;
 mod run;
-#[cfg(test)]
-mod run_tests;
-#[cfg(test)]
-mod sample_runs;
-#[cfg(test)]
-mod sample_sets;
 mod scripts;
 mod streams;
 mod text;

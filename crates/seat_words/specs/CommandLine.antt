@@ -18,37 +18,37 @@ required_value id = record (new_rule id) { required = true; value_names = 1 }
 abbrev pub required_values : Text → Rule
 required_values id = record (required_value id) { action = Some Append }
 
-abbrev pub ladder_app : App
+unfoldable pub ladder_app : App
 ladder_app = new_app (codes "ladder")
 
-abbrev pub check_app : App
+unfoldable pub check_app : App
 check_app = with_rule (new_app (codes "check")) (required_value (codes "set"))
 
-abbrev pub flights_app : App
+unfoldable pub flights_app : App
 flights_app = with_rule (with_rule (with_rule (new_app (codes "flights"))
     (required_option (codes "first")))
     (required_option (codes "days")))
     (required_value (codes "set"))
 
 -- what a command asks for that works on the limits of a horizon
-abbrev pub horizon_app : Text → App
+unfoldable pub horizon_app : Text → App
 horizon_app name = with_rule (with_rule (with_rule (with_rule (new_app name)
     (required_option (codes "set")))
     (required_option (codes "limits")))
     (required_option (codes "first")))
     (required_option (codes "days"))
 
-abbrev pub audit_app : App
+unfoldable pub audit_app : App
 audit_app = with_rule (horizon_app (codes "audit")) (required_value (codes "journal"))
 
-abbrev pub run_app : App
+unfoldable pub run_app : App
 run_app = with_rule (with_rule (with_rule (horizon_app (codes "run"))
     (required_option (codes "today")))
     (required_option (codes "journal")))
     (required_values (codes "scripts"))
 
 -- the program before its commands
-abbrev pub bare_app : App
+unfoldable pub bare_app : App
 bare_app = record {
   top = record (new_app (codes "seatdesk")).top {
     has_version = true;
@@ -72,3 +72,18 @@ pub record IsBuiltAs (a : App) (c : Command) : Type 0 where
 pub record IsReadAs (r : Rule) (a : Arg) : Type 0 where
   pub rule : rule_of a ≡ r
   pub local : a.global ≡ false
+
+-- new is read as old
+pub record IsReadAlike (old new : Command) : Type 0 where
+  pub app : app_of new ≡ app_of old
+  pub local : (fields_of new).has_globals ≡ (fields_of old).has_globals
+
+-- new is old with one more argument of its own, which is read as r
+pub record HasArgument (r : Rule) (old new : Command) : Type 0 where
+  pub app : app_of new ≡ with_rule (app_of old) r
+  pub local : (fields_of new).has_globals ≡ (fields_of old).has_globals
+
+-- new is old with one more command, which is read as s
+pub record HasSubcommand (s : App) (old new : Command) : Type 0 where
+  pub app : app_of new ≡ with_subcommand (app_of old) s.top
+  pub local : (fields_of new).has_globals ≡ (fields_of old).has_globals

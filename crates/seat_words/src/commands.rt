@@ -1,7 +1,7 @@
 //! The commands, as clap reads them and as their help shows them.
 ghost use Rattle.std.specs.Prelude.{IfOk, codes};
 ghost use Rattle.clap.specs.Words.{new_app};
-ghost use Rattle.seat_words.specs.CommandLine.{IsBuiltAs, IsReadAs, audit_app, bare_app, check_app, flights_app, horizon_app, ladder_app, required_option, required_value, required_values, run_app, seatdesk_app};
+ghost use Rattle.seat_words.specs.CommandLine.{HasArgument, HasSubcommand, IsBuiltAs, IsReadAlike, IsReadAs, audit_app, bare_app, check_app, flights_app, horizon_app, ladder_app, required_option, required_value, required_values, run_app, seatdesk_app};
 
 use clap::{Arg, ArgAction, Command};
 use std::alloc::{AllocError, Global};
@@ -24,22 +24,19 @@ const JOURNAL_HELP: &str = "The journal to replay: a file that run wrote";
 const SCRIPTS_HELP: &str = "The scripts of the sessions, 1 to 8 files of AIRIMP messages";
 
 /// The whole command line.
+#[tactic(auto, using(crate::proofs::Building::grown), unfolding(crate::specs::CommandLine::seatdesk_app))]
 pub(crate) fn seatdesk_command<'a>(alloc: Global) -> Result<Command<'a>, AllocError>
     ensures { IfOk result (IsBuiltAs seatdesk_app) }
 {
-    let check = check_command(alloc)?;
-    let flights = flights_command(alloc)?;
-    let audit = audit_command(alloc)?;
-    let run = run_command(alloc)?;
-    let seatdesk = bare_command(alloc)?
-        .subcommand(ladder_command(alloc))?
-        .subcommand(check)?
-        .subcommand(flights)?
-        .subcommand(audit)?
-        .subcommand(run)?;
-    Ok(seatdesk)
+    let command = with_ladder(alloc, bare_command(alloc)?)?;
+    let command = with_check(alloc, command)?;
+    let command = with_flights(alloc, command)?;
+    let command = with_audit(alloc, command)?;
+    let command = with_run(alloc, command)?;
+    Ok(command)
 }
 
+#[tactic(auto, unfolding(crate::specs::CommandLine::bare_app))]
 fn bare_command<'a>(alloc: Global) -> Result<Command<'a>, AllocError>
     ensures { IfOk result (IsBuiltAs bare_app) }
 {
@@ -55,6 +52,42 @@ fn bare_command<'a>(alloc: Global) -> Result<Command<'a>, AllocError>
     Ok(bare)
 }
 
+fn with_ladder<'a>(alloc: Global, program: Command<'a>) -> Result<Command<'a>, AllocError>
+    ensures { IfOk result (HasSubcommand ladder_app program.entry) }
+{
+    let program = program.subcommand(ladder_command(alloc))?;
+    Ok(program)
+}
+
+fn with_check<'a>(alloc: Global, program: Command<'a>) -> Result<Command<'a>, AllocError>
+    ensures { IfOk result (HasSubcommand check_app program.entry) }
+{
+    let program = program.subcommand(check_command(alloc)?)?;
+    Ok(program)
+}
+
+fn with_flights<'a>(alloc: Global, program: Command<'a>) -> Result<Command<'a>, AllocError>
+    ensures { IfOk result (HasSubcommand flights_app program.entry) }
+{
+    let program = program.subcommand(flights_command(alloc)?)?;
+    Ok(program)
+}
+
+fn with_audit<'a>(alloc: Global, program: Command<'a>) -> Result<Command<'a>, AllocError>
+    ensures { IfOk result (HasSubcommand audit_app program.entry) }
+{
+    let program = program.subcommand(audit_command(alloc)?)?;
+    Ok(program)
+}
+
+fn with_run<'a>(alloc: Global, program: Command<'a>) -> Result<Command<'a>, AllocError>
+    ensures { IfOk result (HasSubcommand run_app program.entry) }
+{
+    let program = program.subcommand(run_command(alloc)?)?;
+    Ok(program)
+}
+
+#[tactic(auto, unfolding(crate::specs::CommandLine::ladder_app))]
 fn ladder_command<'a>(alloc: Global) -> Command<'a>
     ensures { IsBuiltAs ladder_app result }
 {
@@ -66,6 +99,7 @@ fn ladder_command<'a>(alloc: Global) -> Command<'a>
     )
 }
 
+#[tactic(auto, using(crate::proofs::Building::argued), unfolding(crate::specs::CommandLine::check_app))]
 fn check_command<'a>(alloc: Global) -> Result<Command<'a>, AllocError>
     ensures { IfOk result (IsBuiltAs check_app) }
 {
@@ -74,11 +108,12 @@ fn check_command<'a>(alloc: Global) -> Result<Command<'a>, AllocError>
         "check",
         "Reads a data set and writes one summary line",
         "Example: seatdesk check examples/summer.ssim",
-    )
-    .arg(wanted_value(alloc, "set", "SET", SET_HELP))?;
+    );
+    let check = with_value(alloc, check, "set", "SET", SET_HELP)?;
     Ok(check)
 }
 
+#[tactic(auto, using(crate::proofs::Building::argued), unfolding(crate::specs::CommandLine::flights_app))]
 fn flights_command<'a>(alloc: Global) -> Result<Command<'a>, AllocError>
     ensures { IfOk result (IsBuiltAs flights_app) }
 {
@@ -87,13 +122,14 @@ fn flights_command<'a>(alloc: Global) -> Result<Command<'a>, AllocError>
         "flights",
         "Writes one line for each dated flight",
         "Example: seatdesk flights --first 2024-07-01 --days 31 examples/summer.ssim",
-    )
-    .arg(wanted_option(alloc, "first", "DATE", FIRST_HELP))?
-    .arg(wanted_option(alloc, "days", "N", DAYS_HELP))?
-    .arg(wanted_value(alloc, "set", "SET", SET_HELP))?;
+    );
+    let flights = with_option(alloc, flights, "first", "DATE", FIRST_HELP)?;
+    let flights = with_option(alloc, flights, "days", "N", DAYS_HELP)?;
+    let flights = with_value(alloc, flights, "set", "SET", SET_HELP)?;
     Ok(flights)
 }
 
+#[tactic(auto, using(crate::proofs::Building::argued), unfolding(crate::specs::CommandLine::audit_app))]
 fn audit_command<'a>(alloc: Global) -> Result<Command<'a>, AllocError>
     ensures { IfOk result (IsBuiltAs audit_app) }
 {
@@ -102,11 +138,12 @@ fn audit_command<'a>(alloc: Global) -> Result<Command<'a>, AllocError>
         "audit",
         "Replays a journal against its schedule and limits, and writes one summary line",
         "Example: seatdesk audit --set examples/summer.ssim --limits examples/limits.txt --first 2024-07-01 --days 31 examples/journal.txt",
-    )?
-    .arg(wanted_value(alloc, "journal", "JOURNAL", JOURNAL_HELP))?;
+    )?;
+    let audit = with_value(alloc, audit, "journal", "JOURNAL", JOURNAL_HELP)?;
     Ok(audit)
 }
 
+#[tactic(auto, using(crate::proofs::Building::argued), unfolding(crate::specs::CommandLine::run_app))]
 fn run_command<'a>(alloc: Global) -> Result<Command<'a>, AllocError>
     ensures { IfOk result (IsBuiltAs run_app) }
 {
@@ -115,14 +152,15 @@ fn run_command<'a>(alloc: Global) -> Result<Command<'a>, AllocError>
         "run",
         "Books the requests of scripts, one session on a thread for each script, and writes the replies",
         "OUT is created, empty, after the inputs open and before they are read; a refused run leaves it empty.\n\nExample: seatdesk run --set examples/summer.ssim --limits examples/limits.txt --first 2024-07-01 --days 31 --today 2024-06-20 --journal journal.txt examples/london.txt examples/lisbon.txt",
-    )?
-    .arg(wanted_option(alloc, "today", "DATE", TODAY_HELP))?
-    .arg(wanted_option(alloc, "journal", "OUT", OUT_HELP))?
-    .arg(wanted_values(alloc, "scripts", "SCRIPT", SCRIPTS_HELP))?;
+    )?;
+    let run = with_option(alloc, run, "today", "DATE", TODAY_HELP)?;
+    let run = with_option(alloc, run, "journal", "OUT", OUT_HELP)?;
+    let run = with_values(alloc, run, "scripts", "SCRIPT", SCRIPTS_HELP)?;
     Ok(run)
 }
 
 // A command over the limits of the dated flights.
+#[tactic(auto, using(crate::proofs::Building::argued), unfolding(crate::specs::CommandLine::horizon_app))]
 fn horizon_command<'a>(
     alloc: Global,
     name: &'a str,
@@ -131,19 +169,82 @@ fn horizon_command<'a>(
 ) -> Result<Command<'a>, AllocError>
     ensures { IfOk result (IsBuiltAs (horizon_app name.entry.now)) }
 {
-    let command = named_command(alloc, name, about, more)
-        .arg(wanted_option(alloc, "set", "SET", SET_HELP))?
-        .arg(wanted_option(alloc, "limits", "LIMITS", LIMITS_HELP))?
-        .arg(wanted_option(alloc, "first", "DATE", FIRST_HELP))?
-        .arg(wanted_option(alloc, "days", "N", DAYS_HELP))?;
+    let command = named_command(alloc, name, about, more);
+    let command = with_option(alloc, command, "set", "SET", SET_HELP)?;
+    let command = with_option(alloc, command, "limits", "LIMITS", LIMITS_HELP)?;
+    let command = with_option(alloc, command, "first", "DATE", FIRST_HELP)?;
+    let command = with_option(alloc, command, "days", "N", DAYS_HELP)?;
     Ok(command)
 }
 
 // A command with what its help says before and behind its arguments.
+#[tactic(auto, using(crate::proofs::Building::alike))]
 fn named_command<'a>(alloc: Global, name: &'a str, about: &'a str, more: &'a str) -> Command<'a>
     ensures { IsBuiltAs (new_app name.entry.now) result }
 {
-    Command::new(alloc, name).about(about).after_help(more)
+    let command = new_command(alloc, name);
+    let command = with_about(command, about);
+    with_more(command, more)
+}
+
+fn new_command<'a>(alloc: Global, name: &'a str) -> Command<'a>
+    ensures { IsBuiltAs (new_app name.entry.now) result }
+{
+    Command::new(alloc, name)
+}
+
+fn with_about<'a>(command: Command<'a>, about: &'a str) -> Command<'a>
+    ensures { IsReadAlike command.entry result }
+{
+    command.about(about)
+}
+
+fn with_more<'a>(command: Command<'a>, more: &'a str) -> Command<'a>
+    ensures { IsReadAlike command.entry result }
+{
+    command.after_help(more)
+}
+
+#[tactic(auto, using(crate::proofs::Building::taken))]
+fn with_value<'a>(
+    alloc: Global,
+    command: Command<'a>,
+    id: &'a str,
+    value: &'a str,
+    help: &'a str,
+) -> Result<Command<'a>, AllocError>
+    ensures { IfOk result (HasArgument (required_value id.entry.now) command.entry) }
+{
+    let command = command.arg(wanted_value(alloc, id, value, help))?;
+    Ok(command)
+}
+
+#[tactic(auto, using(crate::proofs::Building::taken))]
+fn with_option<'a>(
+    alloc: Global,
+    command: Command<'a>,
+    id: &'a str,
+    value: &'a str,
+    help: &'a str,
+) -> Result<Command<'a>, AllocError>
+    ensures { IfOk result (HasArgument (required_option id.entry.now) command.entry) }
+{
+    let command = command.arg(wanted_option(alloc, id, value, help))?;
+    Ok(command)
+}
+
+#[tactic(auto, using(crate::proofs::Building::taken))]
+fn with_values<'a>(
+    alloc: Global,
+    command: Command<'a>,
+    id: &'a str,
+    value: &'a str,
+    help: &'a str,
+) -> Result<Command<'a>, AllocError>
+    ensures { IfOk result (HasArgument (required_values id.entry.now) command.entry) }
+{
+    let command = command.arg(wanted_values(alloc, id, value, help))?;
+    Ok(command)
 }
 
 // A value by its place, which must be there.

@@ -12,6 +12,3 @@ pub use days::{date_word, days_word};
 pub use examples::examples_are_read;
 pub use job::{Job, read_words};
 pub use scripts::Scripts;
-
-#[cfg(test)]
-mod tests;
