@@ -2,7 +2,7 @@
 use ssim_records::{Airline, Class, Code, Day, Station};
 
 /// A request for seats from one city or airport to another on a dated flight (AIRIMP segment line).
-#[derive(Clone, Copy, Debug, PartialEq, Eq)]
+#[derive(Clone, Copy)]
 pub struct Segment {
     pub airline: Airline,
     /// The flight number, 1 to 9999.
@@ -20,7 +20,7 @@ pub struct Segment {
 }
 
 /// A segment as the line writes it: its day has no year.
-#[derive(Clone, Copy, Debug)]
+#[derive(Clone, Copy)]
 pub struct Undated {
     pub airline: Airline,
     pub number: u16,
@@ -35,7 +35,7 @@ pub struct Undated {
 }
 
 /// What a line asks for, behind its flight and day.
-#[derive(Clone, Copy, Debug)]
+#[derive(Clone, Copy)]
 pub struct Asked {
     pub board: Station,
     pub off: Station,

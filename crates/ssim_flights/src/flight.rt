@@ -7,7 +7,7 @@ use std::alloc::Global;
 use std::marker::Model;
 
 /// A leg on its local day of departure.
-#[derive(Clone, Copy, Debug, PartialEq, Eq)]
+#[derive(Clone, Copy)]
 pub struct DatedLeg {
     pub board: Station,
     pub off: Station,
@@ -72,7 +72,7 @@ pub struct Flight {
 }
 
 /// What a passenger asks for: a flight from one station, on a local day there, to another.
-#[derive(Clone, Copy, Debug, PartialEq, Eq, Hash)]
+#[derive(Clone, Copy, PartialEq, Eq, Hash)]
 pub struct Wanted {
     pub airline: Airline,
     pub number: u16,

@@ -14,7 +14,7 @@ use std::alloc::Global;
 use std::collections::HashSet;
 
 /// What no two flights of a carrier share: the flight number, the suffix and the first operating day.
-#[derive(Clone, Copy, Debug, PartialEq, Eq, Hash)]
+#[derive(Clone, Copy, PartialEq, Eq, Hash)]
 pub(crate) struct Departure {
     pub number: u16,
     pub suffix: Option<u8>,

@@ -8,7 +8,7 @@ use ssim_records::{Leg, Memory};
 use std::alloc::Global;
 
 /// What the legs of an itinerary share, the airline aside.
-#[derive(Clone, Copy, Debug, PartialEq, Eq, Hash)]
+#[derive(Clone, Copy, PartialEq, Eq, Hash)]
 pub(crate) struct Name {
     pub number: u16,
     pub suffix: Option<u8>,

@@ -2,7 +2,7 @@
 use ssim_records::{Airline, Day};
 
 /// The carrier's airline and time mode, and the horizon.
-#[derive(Clone, Copy, Debug)]
+#[derive(Clone, Copy)]
 pub(crate) struct Plan {
     pub airline: Airline,
     pub local: bool,

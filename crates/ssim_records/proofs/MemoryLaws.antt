@@ -12,7 +12,7 @@ use Rattle.ssim_records.specs.Days.{date_in}
 use Rattle.ssim_records.specs.RecordFields.{padded_in, positive_in, six_in, mode_in, designator_in, station_in, suffix_in, byte_in, until_in, days_in, rate_in, time_in, offset_in, shift_in, continued_in}
 use Rattle.ssim_records.specs.Cut.{cut_at, ended, end_at}
 use Rattle.ssim_records.specs.SetFaults.{missing}
-use Rattle.ssim_records.specs.SetSteps.{◌>>=◌, want, check, carrier_at, leg_at, trailer_at, header_at, second_at, segment_at, numbered_at, header_step, carrier_step, leg_step, segment_step, trailer_step, body_step, type_of, has_serial, taken, within, is_start, step, moved, cut_then, next}
+use Rattle.ssim_records.specs.SetSteps.{◌>>=◌, want, check, carrier_at, leg_at, leg_name_at, leg_period_at, leg_path_at, trailer_at, header_at, second_at, segment_at, numbered_at, header_step, carrier_step, leg_step, segment_step, trailer_step, body_step, type_of, has_serial, taken, within, is_start, step, moved, cut_then, next}
 
 abbrev refusal : {A : Type 0} → SetKind → Result A SetKind
 refusal kind = Err kind
@@ -50,25 +50,40 @@ carrier_none text e =
     want_none 15 (date_in (field 15 21 text)) _ e2 (λ from e3.
     want_none 22 (until_in from (field 22 28 text)) _ e3 (λ to e4. some_none _ e4))))
 
-leg_none : (airline : List ℕ) (serial : ℕ) (text : List ℕ) → (leg_at airline serial text) ≡ Err kinds.Memory → ⊥
-unfolding leg_at
-leg_none airline serial text e =
+name_none : (text : List ℕ) → (leg_name_at text) ≡ Err kinds.Memory → ⊥
+unfolding leg_name_at
+name_none text e =
     want_none 2 (suffix_in (field 2 2 text)) _ e (λ suffix e1.
     want_none 3 (designator_in (field 3 5 text)) _ e1 (λ own e2.
     want_none 6 (positive_in (field 6 9 text)) _ e2 (λ number e3.
     want_none 10 (padded_in (field 10 11 text)) _ e3 (λ variation e4.
-    want_none 12 (positive_in (field 12 13 text)) _ e4 (λ sequence e5.
-    want_none 15 (date_in (field 15 21 text)) _ e5 (λ from e6.
-    want_none 22 (until_in from (field 22 28 text)) _ e6 (λ to e7.
-    want_none 29 (days_in (field 29 35 text)) _ e7 (λ days e8.
-    want_none 36 (rate_in (field 36 36 text)) _ e8 (λ second_week e9.
-    want_none 37 (station_in (field 37 39 text)) _ e9 (λ board e10.
-    want_none 44 (time_in (field 44 47 text)) _ e10 (λ std e11.
-    want_none 48 (offset_in (field 48 52 text)) _ e11 (λ offset e12.
-    want_none 55 (station_in (field 55 57 text)) _ e12 (λ off e13.
-    want_none 128 (byte_in (field 128 128 text)) _ e13 (λ overflow e14.
-    want_none 193 (shift_in (field 193 193 text)) _ e14 (λ shift e15.
-    check_none kinds.OtherAirline (same_text own airline) _ e15 (λ k. absurd cc) (λ e16. some_none _ e16))))))))))))))))
+    want_none 12 (positive_in (field 12 13 text)) _ e4 (λ sequence e5. some_none _ e5)))))
+
+period_none : (text : List ℕ) → (leg_period_at text) ≡ Err kinds.Memory → ⊥
+unfolding leg_period_at
+period_none text e =
+    want_none 15 (date_in (field 15 21 text)) _ e (λ from e1.
+    want_none 22 (until_in from (field 22 28 text)) _ e1 (λ to e2.
+    want_none 29 (days_in (field 29 35 text)) _ e2 (λ days e3.
+    want_none 36 (rate_in (field 36 36 text)) _ e3 (λ second_week e4. some_none _ e4))))
+
+path_none : (text : List ℕ) → (leg_path_at text) ≡ Err kinds.Memory → ⊥
+unfolding leg_path_at
+path_none text e =
+    want_none 37 (station_in (field 37 39 text)) _ e (λ board e1.
+    want_none 44 (time_in (field 44 47 text)) _ e1 (λ std e2.
+    want_none 48 (offset_in (field 48 52 text)) _ e2 (λ offset e3.
+    want_none 55 (station_in (field 55 57 text)) _ e3 (λ off e4.
+    want_none 128 (byte_in (field 128 128 text)) _ e4 (λ overflow e5.
+    want_none 193 (shift_in (field 193 193 text)) _ e5 (λ shift e6. some_none _ e6))))))
+
+leg_none : (airline : List ℕ) (serial : ℕ) (text : List ℕ) → (leg_at airline serial text) ≡ Err kinds.Memory → ⊥
+unfolding leg_at
+leg_none airline serial text e =
+    step_none (leg_name_at text) _ e (name_none text) (λ name e1.
+    step_none (leg_period_at text) _ e1 (period_none text) (λ period e2.
+    step_none (leg_path_at text) _ e2 (path_none text) (λ path e3.
+    check_none kinds.OtherAirline (same_text name.own airline) _ e3 (λ k. absurd cc) (λ e4. some_none _ e4))))
 
 trailer_none : (airline : List ℕ) (before : ℕ) (text : List ℕ) → (trailer_at airline before text) ≡ Err kinds.Memory → ⊥
 unfolding trailer_at

@@ -1,5 +1,5 @@
 -- A record that is taken is formed so, and what is formed so is taken.
-use Rattle.std.proofs.Common.{◌⊎◌, inl, inr, ◌≡◌, ℕ, suc, ◌+◌, ◌-◌, ◌<◌, Bool, true, false, not, cond, eqb, List, [], ◌∷◌, ◌++◌, length, Option, Some, None, Result, Ok, Err, refl, sym, ap, subst, ◌∙◌, arith}
+use Rattle.std.proofs.Common.{◌⊎◌, inl, inr, ◌≡◌, ℕ, suc, ◌+◌, ◌-◌, ◌<◌, ◌≤◌, IsTrue, Bool, true, false, not, cond, eqb, List, [], ◌∷◌, ◌++◌, length, Option, Some, None, Result, Ok, Err, refl, sym, ap, subst, ◌∙◌, arith}
 use Rattle.std.proofs.lemmas.Bool.{eqb-true}
 use Rattle.std.proofs.lemmas.Bool.Decides.{nat_tests}
 use Rattle.ssim_records.specs.declared.set_fault.SetKind.{SetKind}
@@ -8,10 +8,15 @@ use Rattle.ssim_records.specs.declared.carrier.Carrier.{Carrier}
 use Rattle.ssim_records.specs.declared.carrier.Leg.{Leg}
 use Rattle.ssim_records.specs.declared.state.Phase.TheVariants.{Open, Body, Done}
 use Rattle.ssim_records.specs.declared.state.Reader.{Reader}
+use Rattle.ssim_records.specs.declared.records.LegName.{LegName}
+use Rattle.ssim_records.specs.declared.records.LegPeriod.{LegPeriod}
+use Rattle.ssim_records.specs.declared.records.LegPath.{LegPath}
 use Rattle.ssim_records.specs.Bytes.{field, set_title}
+use Rattle.ssim_records.specs.Days.{IsDayField}
+use Rattle.ssim_records.specs.Names.{is_station}
 use Rattle.ssim_records.specs.RecordFields.{six_in}
-use Rattle.ssim_records.specs.SetSteps.{◌>>=◌, want, check, carrier_at, leg_at, trailer_at, type_of, is_number, has_serial, header_at, second_at, segment_at, numbered_at, header_step, carrier_step, leg_step, segment_step, trailer_step, body_step}
-use Rattle.ssim_records.specs.SetText.{IsSix, IsTyped, IsHeader, IsCarrier, IsLeg, IsTrailer, IsDesignator}
+use Rattle.ssim_records.specs.SetSteps.{◌>>=◌, want, check, carrier_at, leg_at, leg_name_at, leg_period_at, leg_path_at, trailer_at, type_of, is_number, has_serial, header_at, second_at, segment_at, numbered_at, header_step, carrier_step, leg_step, segment_step, trailer_step, body_step}
+use Rattle.ssim_records.specs.SetText.{IsSix, IsTyped, IsHeader, IsCarrier, IsLeg, IsTrailer, IsDesignator, IsPadded, IsSuffix, IsUntil, IsDays, IsRate, IsTime, IsOffset, IsShift}
 use Rattle.ssim_records.proofs.Chains.{with_want, with_check, with_step}
 use Rattle.ssim_records.proofs.Tests.{some_is, none_some}
 use Rattle.ssim_records.proofs.FieldLaws.{same_takes, same_again, padded_takes, padded_again, positive_takes, positive_again, six_takes, six_again, mode_takes, mode_again, designator_takes, designator_again, station_takes, station_again, suffix_takes, suffix_again, byte_takes, byte_again, days_takes, days_again, rate_takes, rate_again, time_takes, time_again, offset_takes, offset_again, shift_takes, shift_again, last_takes, last_again, until_takes, until_again}
@@ -87,67 +92,157 @@ carrier_again text c h =
 
 -- ---- a leg's record
 
+-- what names a leg
+record IsNamed (text : List ℕ) (name : LegName) : Type 0 where
+  suffix : IsSuffix (field 2 2 text) name.suffix
+  own : IsDesignator (field 3 5 text) name.own
+  number : IsPadded (field 6 9 text) name.number × (1 ≤ name.number)
+  variation : IsPadded (field 10 11 text) name.variation
+  sequence : IsPadded (field 12 13 text) name.sequence × (1 ≤ name.sequence)
+
+name_takes : (text : List ℕ) (name : LegName) → leg_name_at text ≡ Ok name → IsNamed text name
+unfolding leg_name_at done
+name_takes text name e =
+    with_want 2 _ _ name e (λ suffix e1 k1.
+    with_want 3 _ _ name k1 (λ own e2 k2.
+    with_want 6 _ _ name k2 (λ number e3 k3.
+    with_want 10 _ _ name k3 (λ variation e4 k4.
+    with_want 12 _ _ name k4 (λ sequence e5 k5.
+    subst (IsNamed text) (ok_is _ name k5) (record {
+      suffix = suffix_takes (field 2 2 text) suffix e1;
+      own = designator_takes (field 3 5 text) own e2;
+      number = positive_takes (field 6 9 text) number e3;
+      variation = padded_takes (field 10 11 text) variation e4;
+      sequence = positive_takes (field 12 13 text) sequence e5;
+    }))))))
+
+name_again : (text : List ℕ) (name : LegName) → IsNamed text name → leg_name_at text ≡ Ok name
+unfolding leg_name_at
+name_again text name h =
+    let e1 = suffix_again (field 2 2 text) name.suffix h.suffix in
+    let e2 = designator_again (field 3 5 text) name.own h.own in
+    let e3 = positive_again (field 6 9 text) name.number h.number in
+    let e4 = padded_again (field 10 11 text) name.variation h.variation in
+    let e5 = positive_again (field 12 13 text) name.sequence h.sequence in
+    rw (e1, e2, e3, e4, e5) refl
+
+-- its operating days
+record IsPeriod (text : List ℕ) (period : LegPeriod) : Type 0 where
+  from : IsDayField (field 15 21 text) period.from
+  to : IsUntil period.from (field 22 28 text) period.to
+  days : IsDays (field 29 35 text) period.days
+  rate : IsRate (field 36 36 text) period.second_week
+
+period_takes : (text : List ℕ) (period : LegPeriod) → leg_period_at text ≡ Ok period → IsPeriod text period
+unfolding leg_period_at done
+period_takes text period e =
+    with_want 15 _ _ period e (λ from e1 k1.
+    with_want 22 _ _ period k1 (λ to e2 k2.
+    with_want 29 _ _ period k2 (λ days e3 k3.
+    with_want 36 _ _ period k3 (λ second_week e4 k4.
+    subst (IsPeriod text) (ok_is _ period k4) (record {
+      from = date_takes (field 15 21 text) from e1;
+      to = until_takes from (field 22 28 text) to e2;
+      days = days_takes (field 29 35 text) days e3;
+      rate = rate_takes (field 36 36 text) second_week e4;
+    })))))
+
+period_again : (text : List ℕ) (period : LegPeriod) → IsPeriod text period → leg_period_at text ≡ Ok period
+unfolding leg_period_at
+period_again text period h =
+    let e1 = date_again (field 15 21 text) period.from h.from in
+    let e2 = until_again period.from (field 22 28 text) period.to h.to in
+    let e3 = days_again (field 29 35 text) period.days h.days in
+    let e4 = rate_again (field 36 36 text) period.second_week h.rate in
+    rw (e1, e2, e3, e4) refl
+
+-- its departure and its arrival
+record IsPath (text : List ℕ) (path : LegPath) : Type 0 where
+  board : IsTrue (is_station path.board) × (field 37 39 text ≡ path.board)
+  std : IsTime (field 44 47 text) path.std
+  offset : IsOffset (field 48 52 text) path.offset
+  off : IsTrue (is_station path.off) × (field 55 57 text ≡ path.off)
+  overflow : field 128 128 text ≡ path.overflow ∷ []
+  shift : IsShift (field 193 193 text) path.shift
+
+path_takes : (text : List ℕ) (path : LegPath) → leg_path_at text ≡ Ok path → IsPath text path
+unfolding leg_path_at done
+path_takes text path e =
+    with_want 37 _ _ path e (λ board e1 k1.
+    with_want 44 _ _ path k1 (λ std e2 k2.
+    with_want 48 _ _ path k2 (λ offset e3 k3.
+    with_want 55 _ _ path k3 (λ off e4 k4.
+    with_want 128 _ _ path k4 (λ overflow e5 k5.
+    with_want 193 _ _ path k5 (λ shift e6 k6.
+    subst (IsPath text) (ok_is _ path k6) (record {
+      board = station_takes (field 37 39 text) board e1;
+      std = time_takes (field 44 47 text) std e2;
+      offset = offset_takes (field 48 52 text) offset e3;
+      off = station_takes (field 55 57 text) off e4;
+      overflow = byte_takes (field 128 128 text) overflow e5;
+      shift = shift_takes (field 193 193 text) shift e6;
+    })))))))
+
+path_again : (text : List ℕ) (path : LegPath) → IsPath text path → leg_path_at text ≡ Ok path
+unfolding leg_path_at
+path_again text path h =
+    let e1 = station_again (field 37 39 text) path.board h.board in
+    let e2 = time_again (field 44 47 text) path.std h.std in
+    let e3 = offset_again (field 48 52 text) path.offset h.offset in
+    let e4 = station_again (field 55 57 text) path.off h.off in
+    let e5 = byte_again (field 128 128 text) path.overflow h.overflow in
+    let e6 = shift_again (field 193 193 text) path.shift h.shift in
+    rw (e1, e2, e3, e4, e5, e6) refl
+
 pub leg_takes : (airline : List ℕ) (serial : ℕ) (text : List ℕ) (leg : Leg) → IsTyped 51 text → leg_at airline serial text ≡ Ok leg → IsLeg airline text leg × (leg.serial ≡ serial)
 unfolding leg_at done
 leg_takes airline serial text leg typed e =
-    with_want 2 _ _ leg e (λ suffix e1 k1.
-    with_want 3 _ _ leg k1 (λ own e2 k2.
-    with_want 6 _ _ leg k2 (λ number e3 k3.
-    with_want 10 _ _ leg k3 (λ variation e4 k4.
-    with_want 12 _ _ leg k4 (λ sequence e5 k5.
-    with_want 15 _ _ leg k5 (λ from e6 k6.
-    with_want 22 _ _ leg k6 (λ to e7 k7.
-    with_want 29 _ _ leg k7 (λ days e8 k8.
-    with_want 36 _ _ leg k8 (λ second_week e9 k9.
-    with_want 37 _ _ leg k9 (λ board e10 k10.
-    with_want 44 _ _ leg k10 (λ std e11 k11.
-    with_want 48 _ _ leg k11 (λ offset e12 k12.
-    with_want 55 _ _ leg k12 (λ off e13 k13.
-    with_want 128 _ _ leg k13 (λ overflow e14 k14.
-    with_want 193 _ _ leg k14 (λ shift e15 k15.
-    with_check kinds.OtherAirline _ _ leg k15 (λ e16 k16.
-    subst (λ (x : Leg). IsLeg airline text x × (x.serial ≡ serial)) (ok_is _ leg k16) (
+    with_step (leg_name_at text) _ leg e (λ name n1 k1.
+    with_step (leg_period_at text) _ leg k1 (λ period n2 k2.
+    with_step (leg_path_at text) _ leg k2 (λ path n3 k3.
+    with_check kinds.OtherAirline _ _ leg k3 (λ same k4.
+    let a : IsNamed text name = name_takes text name n1 in
+    let b : IsPeriod text period = period_takes text period n2 in
+    let c : IsPath text path = path_takes text path n3 in
+    subst (λ (x : Leg). IsLeg airline text x × (x.serial ≡ serial)) (ok_is _ leg k4) (
       record {
         typed = typed;
-        suffix = suffix_takes (field 2 2 text) suffix e1;
-        own = subst (IsDesignator (field 3 5 text)) (same_takes own airline e16) (designator_takes (field 3 5 text) own e2);
-        number = positive_takes (field 6 9 text) number e3;
-        variation = padded_takes (field 10 11 text) variation e4;
-        sequence = positive_takes (field 12 13 text) sequence e5;
-        from = date_takes (field 15 21 text) from e6;
-        to = until_takes from (field 22 28 text) to e7;
-        days = days_takes (field 29 35 text) days e8;
-        rate = rate_takes (field 36 36 text) second_week e9;
-        board = station_takes (field 37 39 text) board e10;
-        std = time_takes (field 44 47 text) std e11;
-        offset = offset_takes (field 48 52 text) offset e12;
-        off = station_takes (field 55 57 text) off e13;
-        overflow = byte_takes (field 128 128 text) overflow e14;
-        shift = shift_takes (field 193 193 text) shift e15;
+        suffix = a.suffix;
+        own = subst (IsDesignator (field 3 5 text)) (same_takes name.own airline same) a.own;
+        number = a.number;
+        variation = a.variation;
+        sequence = a.sequence;
+        from = b.from;
+        to = b.to;
+        days = b.days;
+        rate = b.rate;
+        board = c.board;
+        std = c.std;
+        offset = c.offset;
+        off = c.off;
+        overflow = c.overflow;
+        shift = c.shift;
       },
       refl,
-    )))))))))))))))))
+    )))))
+
+name_of : List ℕ → Leg → LegName
+name_of airline leg = record { suffix = leg.suffix; own = airline; number = leg.number; variation = leg.variation; sequence = leg.sequence }
+
+period_of : Leg → LegPeriod
+period_of leg = record { from = leg.from; to = leg.to; days = leg.days; second_week = leg.second_week }
+
+path_of : Leg → LegPath
+path_of leg = record { board = leg.board; std = leg.std; offset = leg.offset; off = leg.off; overflow = leg.overflow; shift = leg.shift }
 
 pub leg_again : (airline text : List ℕ) (leg : Leg) → IsLeg airline text leg → leg_at airline leg.serial text ≡ Ok leg
-unfolding leg_at
+unfolding leg_at name_of period_of path_of
 leg_again airline text leg h =
-    let e1 = suffix_again (field 2 2 text) leg.suffix h.suffix in
-    let e2 = designator_again (field 3 5 text) airline h.own in
-    let e3 = positive_again (field 6 9 text) leg.number h.number in
-    let e4 = padded_again (field 10 11 text) leg.variation h.variation in
-    let e5 = positive_again (field 12 13 text) leg.sequence h.sequence in
-    let e6 = date_again (field 15 21 text) leg.from h.from in
-    let e7 = until_again leg.from (field 22 28 text) leg.to h.to in
-    let e8 = days_again (field 29 35 text) leg.days h.days in
-    let e9 = rate_again (field 36 36 text) leg.second_week h.rate in
-    let e10 = station_again (field 37 39 text) leg.board h.board in
-    let e11 = time_again (field 44 47 text) leg.std h.std in
-    let e12 = offset_again (field 48 52 text) leg.offset h.offset in
-    let e13 = station_again (field 55 57 text) leg.off h.off in
-    let e14 = byte_again (field 128 128 text) leg.overflow h.overflow in
-    let e15 = shift_again (field 193 193 text) leg.shift h.shift in
-    let e16 = same_again airline airline refl in
-    rw (e1, e2, e3, e4, e5, e6, e7, e8, e9, e10, e11, e12, e13, e14, e15, e16) refl
+    let e1 : leg_name_at text ≡ Ok (name_of airline leg) = name_again text (name_of airline leg) (record { suffix = h.suffix; own = h.own; number = h.number; variation = h.variation; sequence = h.sequence }) in
+    let e2 : leg_period_at text ≡ Ok (period_of leg) = period_again text (period_of leg) (record { from = h.from; to = h.to; days = h.days; rate = h.rate }) in
+    let e3 : leg_path_at text ≡ Ok (path_of leg) = path_again text (path_of leg) (record { board = h.board; std = h.std; offset = h.offset; off = h.off; overflow = h.overflow; shift = h.shift }) in
+    let e4 = same_again airline airline refl in
+    rw (e1, e2, e3, e4) refl
 
 -- ---- the trailer's record
 

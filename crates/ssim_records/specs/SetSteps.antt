@@ -4,6 +4,9 @@ use Rattle.ssim_records.specs.declared.set_fault.SetKind.{SetKind}
 use Rattle.ssim_records.specs.declared.set_fault.SetKind.TheVariants as kinds
 use Rattle.ssim_records.specs.declared.carrier.Carrier.{Carrier}
 use Rattle.ssim_records.specs.declared.carrier.Leg.{Leg}
+use Rattle.ssim_records.specs.declared.records.LegName.{LegName}
+use Rattle.ssim_records.specs.declared.records.LegPeriod.{LegPeriod}
+use Rattle.ssim_records.specs.declared.records.LegPath.{LegPath}
 use Rattle.ssim_records.specs.declared.state.Phase.{Phase}
 use Rattle.ssim_records.specs.declared.state.Phase.TheVariants.{Start, Open, Body, Done}
 use Rattle.ssim_records.specs.declared.state.Reader.{Reader}
@@ -36,40 +39,58 @@ carrier_at text = do
   to ← want 22 (until_in from (field 22 28 text))
   Ok (record { airline = airline; local = local; from = from; to = to })
 
-unfoldable pub leg_at : List ℕ → ℕ → List ℕ → Result Leg SetKind
-leg_at airline serial text = do
+-- what names a leg
+unfoldable pub leg_name_at : List ℕ → Result LegName SetKind
+leg_name_at text = do
   suffix ← want 2 (suffix_in (field 2 2 text))
   own ← want 3 (designator_in (field 3 5 text))
   number ← want 6 (positive_in (field 6 9 text))
   variation ← want 10 (padded_in (field 10 11 text))
   sequence ← want 12 (positive_in (field 12 13 text))
+  Ok (record { suffix = suffix; own = own; number = number; variation = variation; sequence = sequence })
+
+-- its operating days
+unfoldable pub leg_period_at : List ℕ → Result LegPeriod SetKind
+leg_period_at text = do
   from ← want 15 (date_in (field 15 21 text))
   to ← want 22 (until_in from (field 22 28 text))
   days ← want 29 (days_in (field 29 35 text))
   second_week ← want 36 (rate_in (field 36 36 text))
+  Ok (record { from = from; to = to; days = days; second_week = second_week })
+
+-- its departure and its arrival
+unfoldable pub leg_path_at : List ℕ → Result LegPath SetKind
+leg_path_at text = do
   board ← want 37 (station_in (field 37 39 text))
   std ← want 44 (time_in (field 44 47 text))
   offset ← want 48 (offset_in (field 48 52 text))
   off ← want 55 (station_in (field 55 57 text))
   overflow ← want 128 (byte_in (field 128 128 text))
   shift ← want 193 (shift_in (field 193 193 text))
-  _ ← check kinds.OtherAirline (same_text own airline)
+  Ok (record { board = board; std = std; offset = offset; off = off; overflow = overflow; shift = shift })
+
+unfoldable pub leg_at : List ℕ → ℕ → List ℕ → Result Leg SetKind
+leg_at airline serial text = do
+  name ← leg_name_at text
+  period ← leg_period_at text
+  path ← leg_path_at text
+  _ ← check kinds.OtherAirline (same_text name.own airline)
   Ok (record {
     serial = serial;
-    number = number;
-    suffix = suffix;
-    variation = variation;
-    overflow = overflow;
-    sequence = sequence;
-    from = from;
-    to = to;
-    days = days;
-    second_week = second_week;
-    board = board;
-    std = std;
-    offset = offset;
-    off = off;
-    shift = shift;
+    number = name.number;
+    suffix = name.suffix;
+    variation = name.variation;
+    overflow = path.overflow;
+    sequence = name.sequence;
+    from = period.from;
+    to = period.to;
+    days = period.days;
+    second_week = period.second_week;
+    board = path.board;
+    std = path.std;
+    offset = path.offset;
+    off = path.off;
+    shift = path.shift;
   })
 
 -- the trailer after the record with this serial

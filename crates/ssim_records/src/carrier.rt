@@ -3,7 +3,7 @@ use crate::days::Day;
 use crate::names::{Airline, Station};
 
 /// Whose flights these are, and when they are valid (SSIM chapter 7, carrier record).
-#[derive(Clone, Copy, Debug)]
+#[derive(Clone, Copy)]
 pub struct Carrier {
     pub airline: Airline,
     /// Whether the times are local. Else they are UTC.
@@ -14,7 +14,7 @@ pub struct Carrier {
 }
 
 /// One leg of an itinerary (SSIM chapter 7, flight leg record).
-#[derive(Clone, Copy, Debug)]
+#[derive(Clone, Copy)]
 pub struct Leg {
     /// The record's serial number.
     pub serial: u32,

@@ -12,7 +12,7 @@ use std::marker::Model;
 const DAYS_BEFORE_1970: u32 = 4_371_587;
 
 /// A day of the years 1999 to 2199, by its number from 1 January 1970.
-#[derive(Clone, Copy, Debug, PartialEq, Eq, PartialOrd, Ord, Hash)]
+#[derive(Clone, Copy, PartialEq, Eq, Hash)]
 pub struct Day {
     number: u32,
 }

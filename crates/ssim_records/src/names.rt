@@ -133,7 +133,7 @@ impl Code {
 }
 
 /// A booking class: one letter A to Z.
-#[derive(Clone, Copy, Debug, PartialEq, Eq, PartialOrd, Ord)]
+#[derive(Clone, Copy, Debug, PartialEq, Eq)]
 pub struct Class {
     byte: u8,
 }

@@ -45,10 +45,15 @@ pub fn station_of(text: &[u8]) -> Option<Station>
 pub fn suffix_of(text: &[u8]) -> Option<Option<u8>>
     ensures { result ≡ suffix_in text.now }
 {
-    match text {
-        [b' '] => Some(None),
-        [letter] if letter.is_ascii_uppercase() => Some(Some(*letter)),
-        _ => None,
+    let [letter] = text else {
+        return None;
+    };
+    if *letter == b' ' {
+        Some(None)
+    } else if letter.is_ascii_uppercase() {
+        Some(Some(*letter))
+    } else {
+        None
     }
 }
 

@@ -1,11 +1,11 @@
 //! The records of a data set (SSIM chapter 7), each with its first fault.
 ghost use Rattle.std.specs.Prelude.{◌≡◌, ◌≤◌, ◌==◌, ◌+◌, ℕ, length};
 ghost use Rattle.ssim_records.specs.Bytes.{same_text, set_title};
-ghost use Rattle.ssim_records.specs.SetSteps.{type_of, has_serial, header_at, carrier_at, second_at, leg_at, numbered_at, segment_at, trailer_at};
+ghost use Rattle.ssim_records.specs.SetSteps.{type_of, has_serial, header_at, carrier_at, second_at, leg_at, leg_name_at, leg_period_at, leg_path_at, numbered_at, segment_at, trailer_at};
 
 use crate::carrier::{Carrier, Leg};
 use crate::days::Day;
-use crate::names::Airline;
+use crate::names::{Airline, Station};
 use crate::record_fields::{
     byte_of, continued_of, days_of, designator_of, mode_of, number_of, offset_of, rate_of,
     sequence_of, shift_of, six_of, small_of, station_of, suffix_of, time_of, until_of,
@@ -136,27 +136,63 @@ fn carrier_fields(text: &[u8]) -> Result<Carrier, SetKind>
     })
 }
 
+/// What names a leg: its flight, its itinerary and its place there.
+#[derive(Clone, Copy)]
+struct LegName {
+    suffix: Option<u8>,
+    own: Airline,
+    number: u16,
+    variation: u8,
+    sequence: u8,
+}
+
+/// On which days a leg operates.
+#[derive(Clone, Copy)]
+struct LegPeriod {
+    from: Day,
+    to: Option<Day>,
+    days: [bool; 7],
+    second_week: bool,
+}
+
+/// Where and when a leg departs, and where it arrives.
+#[derive(Clone, Copy)]
+struct LegPath {
+    board: Station,
+    std: u16,
+    offset: i16,
+    off: Station,
+    overflow: u8,
+    shift: i8,
+}
+
 /// The fields of a leg's record.
 #[tactic(auto, unfolding(crate::specs::SetSteps::leg_at))]
 fn leg_fields(text: &[u8], airline: Airline, serial: u32) -> Result<Leg, SetKind>
     requires { length text.now ≡ 200 }
     ensures { result ≡ leg_at airline serial text.now }
 {
-    let suffix = suffix_of(&text[1..2]).ok_or(SetKind::BadField(2))?;
-    let own = designator_of(&text[2..5]).ok_or(SetKind::BadField(3))?;
-    let number = number_of(&text[5..9]).ok_or(SetKind::BadField(6))?;
-    let variation = small_of(&text[9..11]).ok_or(SetKind::BadField(10))?;
-    let sequence = sequence_of(&text[11..13]).ok_or(SetKind::BadField(12))?;
-    let from = Day::read(&text[14..21]).ok_or(SetKind::BadField(15))?;
-    let to = until_of(from, &text[21..28]).ok_or(SetKind::BadField(22))?;
-    let days = days_of(&text[28..35]).ok_or(SetKind::BadField(29))?;
-    let second_week = rate_of(&text[35..36]).ok_or(SetKind::BadField(36))?;
-    let board = station_of(&text[36..39]).ok_or(SetKind::BadField(37))?;
-    let std = time_of(&text[43..47]).ok_or(SetKind::BadField(44))?;
-    let offset = offset_of(&text[47..52]).ok_or(SetKind::BadField(48))?;
-    let off = station_of(&text[54..57]).ok_or(SetKind::BadField(55))?;
-    let overflow = byte_of(&text[127..128]).ok_or(SetKind::BadField(128))?;
-    let shift = shift_of(&text[192..193]).ok_or(SetKind::BadField(193))?;
+    let LegName {
+        suffix,
+        own,
+        number,
+        variation,
+        sequence,
+    } = leg_name(text)?;
+    let LegPeriod {
+        from,
+        to,
+        days,
+        second_week,
+    } = leg_period(text)?;
+    let LegPath {
+        board,
+        std,
+        offset,
+        off,
+        overflow,
+        shift,
+    } = leg_path(text)?;
     if !is_same(own, airline) {
         return Err(SetKind::OtherAirline);
     }
@@ -175,6 +211,63 @@ fn leg_fields(text: &[u8], airline: Airline, serial: u32) -> Result<Leg, SetKind
         std,
         offset,
         off,
+        shift,
+    })
+}
+
+#[tactic(auto, unfolding(crate::specs::SetSteps::leg_name_at))]
+fn leg_name(text: &[u8]) -> Result<LegName, SetKind>
+    requires { length text.now ≡ 200 }
+    ensures { result ≡ leg_name_at text.now }
+{
+    let suffix = suffix_of(&text[1..2]).ok_or(SetKind::BadField(2))?;
+    let own = designator_of(&text[2..5]).ok_or(SetKind::BadField(3))?;
+    let number = number_of(&text[5..9]).ok_or(SetKind::BadField(6))?;
+    let variation = small_of(&text[9..11]).ok_or(SetKind::BadField(10))?;
+    let sequence = sequence_of(&text[11..13]).ok_or(SetKind::BadField(12))?;
+    Ok(LegName {
+        suffix,
+        own,
+        number,
+        variation,
+        sequence,
+    })
+}
+
+#[tactic(auto, unfolding(crate::specs::SetSteps::leg_period_at))]
+fn leg_period(text: &[u8]) -> Result<LegPeriod, SetKind>
+    requires { length text.now ≡ 200 }
+    ensures { result ≡ leg_period_at text.now }
+{
+    let from = Day::read(&text[14..21]).ok_or(SetKind::BadField(15))?;
+    let to = until_of(from, &text[21..28]).ok_or(SetKind::BadField(22))?;
+    let days = days_of(&text[28..35]).ok_or(SetKind::BadField(29))?;
+    let second_week = rate_of(&text[35..36]).ok_or(SetKind::BadField(36))?;
+    Ok(LegPeriod {
+        from,
+        to,
+        days,
+        second_week,
+    })
+}
+
+#[tactic(auto, unfolding(crate::specs::SetSteps::leg_path_at))]
+fn leg_path(text: &[u8]) -> Result<LegPath, SetKind>
+    requires { length text.now ≡ 200 }
+    ensures { result ≡ leg_path_at text.now }
+{
+    let board = station_of(&text[36..39]).ok_or(SetKind::BadField(37))?;
+    let std = time_of(&text[43..47]).ok_or(SetKind::BadField(44))?;
+    let offset = offset_of(&text[47..52]).ok_or(SetKind::BadField(48))?;
+    let off = station_of(&text[54..57]).ok_or(SetKind::BadField(55))?;
+    let overflow = byte_of(&text[127..128]).ok_or(SetKind::BadField(128))?;
+    let shift = shift_of(&text[192..193]).ok_or(SetKind::BadField(193))?;
+    Ok(LegPath {
+        board,
+        std,
+        offset,
+        off,
+        overflow,
         shift,
     })
 }

@@ -3,7 +3,7 @@ use crate::carrier::Carrier;
 use crate::set::Legs;
 
 /// What may come next: the header, the carrier's record, a record of the body, or fillers alone.
-#[derive(Clone, Copy, Debug)]
+#[derive(Clone, Copy)]
 pub enum Phase {
     Start,
     Open,
