@@ -82,8 +82,3 @@ pub record IsReadAlike (old new : Command) : Type 0 where
 pub record HasArgument (r : Rule) (old new : Command) : Type 0 where
   pub app : app_of new ≡ with_rule (app_of old) r
   pub local : (fields_of new).has_globals ≡ (fields_of old).has_globals
-
--- new is old with one more command, which is read as s
-pub record HasSubcommand (s : App) (old new : Command) : Type 0 where
-  pub app : app_of new ≡ with_subcommand (app_of old) s.top
-  pub local : (fields_of new).has_globals ≡ (fields_of old).has_globals

@@ -1,7 +1,7 @@
 //! The commands, as clap reads them and as their help shows them.
-ghost use Rattle.std.specs.Prelude.{IfOk, codes};
-ghost use Rattle.clap.specs.Words.{new_app};
-ghost use Rattle.seat_words.specs.CommandLine.{HasArgument, HasSubcommand, IsBuiltAs, IsReadAlike, IsReadAs, audit_app, bare_app, check_app, flights_app, horizon_app, ladder_app, required_option, required_value, required_values, run_app, seatdesk_app};
+ghost use Rattle.std.specs.Prelude.{IfOk, IsOkAnd, codes};
+ghost use Rattle.clap.specs.Words.{AddsSubcommand, new_app};
+ghost use Rattle.seat_words.specs.CommandLine.{HasArgument, IsBuiltAs, IsReadAlike, IsReadAs, audit_app, bare_app, check_app, flights_app, horizon_app, ladder_app, required_option, required_value, required_values, run_app, seatdesk_app};
 
 use clap::{Arg, ArgAction, Command};
 use std::alloc::{AllocError, Global};
@@ -24,16 +24,27 @@ const JOURNAL_HELP: &str = "The journal to replay: a file that run wrote";
 const SCRIPTS_HELP: &str = "The scripts of the sessions, 1 to 8 files of AIRIMP messages";
 
 /// The whole command line.
-#[tactic(auto, using(crate::proofs::Building::grown), unfolding(crate::specs::CommandLine::seatdesk_app))]
 pub(crate) fn seatdesk_command<'a>(alloc: Global) -> Result<Command<'a>, AllocError>
     ensures { IfOk result (IsBuiltAs seatdesk_app) }
 {
-    let command = with_ladder(alloc, bare_command(alloc)?)?;
-    let command = with_check(alloc, command)?;
-    let command = with_flights(alloc, command)?;
-    let command = with_audit(alloc, command)?;
-    let command = with_run(alloc, command)?;
-    Ok(command)
+    let one = with_command(bare_command(alloc)?, Ok(ladder_command(alloc)))?;
+    let two = with_command(one, check_command(alloc))?;
+    let three = with_command(two, flights_command(alloc))?;
+    let four = with_command(three, audit_command(alloc))?;
+    let five = with_command(four, run_command(alloc))?;
+    Ok(five)
+}
+
+// The program with one more command, if that could be made.
+fn with_command<'a>(
+    program: Command<'a>,
+    command: Result<Command<'a>, AllocError>,
+) -> Result<Command<'a>, AllocError>
+    ensures { IfOk result (λ new. IsOkAnd command.entry (λ sub. AddsSubcommand program.entry sub new)) }
+{
+    let command = command?;
+    let program = program.subcommand(command)?;
+    Ok(program)
 }
 
 #[tactic(auto, unfolding(crate::specs::CommandLine::bare_app))]
@@ -52,41 +63,6 @@ fn bare_command<'a>(alloc: Global) -> Result<Command<'a>, AllocError>
     Ok(bare)
 }
 
-fn with_ladder<'a>(alloc: Global, program: Command<'a>) -> Result<Command<'a>, AllocError>
-    ensures { IfOk result (HasSubcommand ladder_app program.entry) }
-{
-    let program = program.subcommand(ladder_command(alloc))?;
-    Ok(program)
-}
-
-fn with_check<'a>(alloc: Global, program: Command<'a>) -> Result<Command<'a>, AllocError>
-    ensures { IfOk result (HasSubcommand check_app program.entry) }
-{
-    let program = program.subcommand(check_command(alloc)?)?;
-    Ok(program)
-}
-
-fn with_flights<'a>(alloc: Global, program: Command<'a>) -> Result<Command<'a>, AllocError>
-    ensures { IfOk result (HasSubcommand flights_app program.entry) }
-{
-    let program = program.subcommand(flights_command(alloc)?)?;
-    Ok(program)
-}
-
-fn with_audit<'a>(alloc: Global, program: Command<'a>) -> Result<Command<'a>, AllocError>
-    ensures { IfOk result (HasSubcommand audit_app program.entry) }
-{
-    let program = program.subcommand(audit_command(alloc)?)?;
-    Ok(program)
-}
-
-fn with_run<'a>(alloc: Global, program: Command<'a>) -> Result<Command<'a>, AllocError>
-    ensures { IfOk result (HasSubcommand run_app program.entry) }
-{
-    let program = program.subcommand(run_command(alloc)?)?;
-    Ok(program)
-}
-
 #[tactic(auto, unfolding(crate::specs::CommandLine::ladder_app))]
 fn ladder_command<'a>(alloc: Global) -> Command<'a>
     ensures { IsBuiltAs ladder_app result }
@@ -99,7 +75,6 @@ fn ladder_command<'a>(alloc: Global) -> Command<'a>
     )
 }
 
-#[tactic(auto, using(crate::proofs::Building::argued), unfolding(crate::specs::CommandLine::check_app))]
 fn check_command<'a>(alloc: Global) -> Result<Command<'a>, AllocError>
     ensures { IfOk result (IsBuiltAs check_app) }
 {
@@ -113,7 +88,6 @@ fn check_command<'a>(alloc: Global) -> Result<Command<'a>, AllocError>
     Ok(check)
 }
 
-#[tactic(auto, using(crate::proofs::Building::argued), unfolding(crate::specs::CommandLine::flights_app))]
 fn flights_command<'a>(alloc: Global) -> Result<Command<'a>, AllocError>
     ensures { IfOk result (IsBuiltAs flights_app) }
 {
