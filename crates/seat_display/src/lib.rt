@@ -12,8 +12,3 @@ mod viewer;
 pub use opening::open;
 pub use publisher::{Publisher, Told};
 pub use viewer::Viewer;
-
-#[cfg(test)]
-mod race_tests;
-#[cfg(test)]
-mod tests;

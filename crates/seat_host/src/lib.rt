@@ -21,8 +21,3 @@ pub use parts::{HostFault, Parts};
 pub use session::{Receipt, Session};
 pub use settling::{AllReceipts, GatherFault, Receipts, Settled, gather};
 pub use workers::{RunFault, run_sessions};
-
-#[cfg(test)]
-mod tests;
-#[cfg(test)]
-mod working_tests;

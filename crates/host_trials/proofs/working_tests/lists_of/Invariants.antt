@@ -1,6 +1,6 @@
 use Rattle.std.proofs.Common.{All}
 use Rattle.seat_core.specs.Journal.{FitsCommand}
-use Rattle.seat_host.proofs.working_tests.lists_of.Given as goal
+use Rattle.host_trials.proofs.working_tests.lists_of.Given as goal
 
 abbrev pub invariant-loop-length : goal.invariant-loop-length
 invariant-loop-length g l = All (λ list. All (λ command. FitsCommand l.grid command) list) l.lists.items

@@ -1,8 +1,10 @@
+//! A viewer that looks while another thread publishes.
 ghost use Rattle.std.specs.Thread.{IsSync};
 
-use crate::Viewer;
-use crate::tests::{LEG, Scene, sell_and_cancel};
-use seat_core::Command;
+use crate::inventories::{LEG, sold_and_cancelled};
+use crate::scene::{Scene, same_look};
+use crate::steps::same;
+use seat_display::Viewer;
 use ssim_records::Class;
 use std::alloc::Global;
 use std::process::Abort;
@@ -12,17 +14,11 @@ use std::thread::{Threads, join_mut};
 
 const LINES: u32 = 100_000;
 
-/// Sells a seat and takes it back, over and over, each line published by itself. None where a growth is refused.
-fn publish_all_along<R: Wait + Abort>(
-    rt: &R,
-    alloc: Global,
-    scene: &mut Scene,
-    sell: Command,
-    cancel: Command,
-) -> Option<()> {
-    for line in 0..LINES {
-        scene.line(rt, alloc, if line % 2 == 0 { sell } else { cancel })?;
-        scene.publisher.publish(rt);
+/// Each line is published by itself. None where a growth is refused.
+fn publish_all_along<R: Wait + Abort>(rt: &R, alloc: Global, scene: &mut Scene) -> Option<()> {
+    for _ in 0..LINES {
+        scene.line(rt, alloc)?;
+        scene.publish(rt);
     }
     Some(())
 }
@@ -45,51 +41,53 @@ fn look_all_along<R: Wait>(rt: &R, viewer: &mut Viewer, class: Class) -> u32 {
     wrong
 }
 
-/// One thread publishes while another looks. Whether all lines were published, and how many looks were wrong.
+/// Whether all lines were published, and how many looks were wrong.
 fn race<R: Threads + Wait + Abort + Sync>(
     rt: &R,
     alloc: Global,
     scene: &mut Scene,
     viewer: &mut Viewer,
-    sell: Command,
-    cancel: Command,
+    class: Class,
 ) -> (Option<()>, u32) {
-    let class = sell.class;
     let mut publisher = || -> Option<()>
         requires { IsSync R.row }
-    { publish_all_along(rt, alloc, scene, sell, cancel) };
+    { publish_all_along(rt, alloc, scene) };
     let mut looker = || -> u32
         requires { IsSync R.row }
     { look_all_along(rt, viewer, class) };
     join_mut(rt, &mut publisher, &mut looker)
 }
 
+/// Behind the race a viewer that never looked learns all of it from a note.
 fn settle<R: Threads + Wait + Abort + Sync>(
     rt: &R,
     alloc: Global,
     scene: &mut Scene,
     viewer: &mut Viewer,
 ) -> Option<()> {
-    let (sell, cancel) = sell_and_cancel()?;
-    let class = sell.class;
-    let (published, wrong) = race(rt, alloc, scene, viewer, sell, cancel);
+    let class = Class::new(b'F')?;
+    let (published, wrong) = race(rt, alloc, scene, viewer, class);
     published?;
-    assert_eq!(rt; wrong, 0, "looks that fell back, or that show no table");
-    let told = scene.publisher.tell();
-    scene.learn(false, told);
-    assert_eq!(rt; scene.seen(false), LINES, "after a note");
-    let room = scene.look(false, class);
-    assert_eq!(rt; room, Some(999), "the last table");
-    Some(())
+    same(
+        rt,
+        u64::from(wrong),
+        0,
+        "looks that fell back, or that show no table",
+    );
+    scene.learn(2);
+    same(
+        rt,
+        u64::from(scene.seen(2)),
+        u64::from(LINES),
+        "after a note",
+    );
+    let found = scene.look(2, class);
+    same_look(rt, found, 999, LINES, "the last table")
 }
 
-fn settle_and_end<R: Threads + Wait + Abort + Sync>(
-    rt: &R,
-    alloc: Global,
-    scene: Scene,
-    viewer: Viewer,
-) -> Option<()> {
-    let (mut scene, mut viewer) = (scene, viewer);
+fn open_and_race<R: Threads + Wait + Abort + Sync>(rt: &R, alloc: Global) -> Option<()> {
+    let core = sold_and_cancelled(alloc, b"F999/000", LINES)?;
+    let (mut scene, mut viewer) = Scene::open(rt, alloc, core)?;
     let settled = settle(rt, alloc, &mut scene, &mut viewer);
     scene.end(rt);
     settled
@@ -97,8 +95,6 @@ fn settle_and_end<R: Threads + Wait + Abort + Sync>(
 
 #[test]
 fn looks_beside_a_publisher(rt: HostRuntime) -> Result<(), Fail> {
-    let alloc = rt.alloc();
-    let (scene, viewer) = Scene::open(&rt, alloc, b"F999/000").ok_or("memory")?;
-    settle_and_end(&rt, alloc, scene, viewer).ok_or("memory")?;
+    open_and_race(&rt, rt.alloc()).ok_or("memory")?;
     Ok(())
 }

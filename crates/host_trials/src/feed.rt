@@ -1,0 +1,125 @@
+//! A publisher that is given the lines of a journal, one after the other.
+ghost use Rattle.std.specs.Prelude.{◌≡◌, ◌<◌, ◌+◌, ◌++◌, ◌∷◌, [], length, IfSome, All};
+ghost use Rattle.seat_core.specs.Journal.{IsLegal};
+ghost use Rattle.seat_display.specs.Faces.{opened};
+
+use seat_core::{Core, Entry};
+use seat_display::{Publisher, Told, Viewer, open};
+use ssim_records::Memory;
+use std::alloc::Global;
+use std::marker::Model;
+use std::process::Abort;
+use std::sync::Wait;
+
+/// Contracts see whose viewers it has.
+pub struct Feed {
+    core: Core,
+    publisher: Publisher,
+    next: usize,
+}
+
+impl Model for Feed {
+    ghost use Rattle.std.specs.Prelude.{◌≡◌, ◌≤◌, ◌++◌, length, take};
+    ghost use Rattle.host_trials.specs.Feeding.{Fed};
+
+    ghost Value = { Fed };
+
+    ghost view = { λ f. record { book = f.publisher.book; grid = f.publisher.grid } };
+
+    ghost invariant = { λ f. (f.publisher.grid ≡ f.core.grid) × (length f.core.journal ≤ 999999) × (f.publisher.visible ++ f.publisher.pending ≡ take f.next f.core.journal) };
+}
+
+impl Feed {
+    /// A display of no line yet, and so many viewers.
+    pub fn open<R: Wait>(
+        rt: &R,
+        alloc: Global,
+        core: Core,
+        places: u8,
+    ) -> Option<(Feed, Vec<Viewer>)>
+        requires { (0 < places) × (places < 10) }
+        ensures { IfSome result (λ r. All (λ v. v ≡ opened r.0.book r.0.grid) r.1.items) }
+    {
+        if core.journal().len() > 999_999 {
+            return None;
+        }
+        let Ok((publisher, viewers)) = open(rt, alloc, core.grid(), places) else {
+            return None;
+        };
+        let feed = Feed {
+            core,
+            publisher,
+            next: 0,
+        };
+        Some((feed, viewers))
+    }
+
+    #[tactic(auto, using(crate::proofs::Feeding::fed_more))]
+    /// Appends the next line. None where there is none, or where no copy of it is made.
+    pub fn line<R: Abort>(&mut self, rt: &R, alloc: Global) -> Option<()>
+        ensures { self.new ≡ self.old }
+    {
+        let Feed {
+            core,
+            publisher,
+            next,
+        } = self;
+        let journal = core.journal();
+        if *next >= journal.len() {
+            return None;
+        }
+        let Ok(entry) = journal[*next].copy(alloc) else {
+            return None;
+        };
+        append_again(rt, publisher, entry);
+        *next += 1;
+        Some(())
+    }
+
+    /// Shows what is pending.
+    pub fn publish<R: Wait>(&mut self, rt: &R)
+        ensures { self.new ≡ self.old }
+    {
+        self.publisher.publish(rt);
+    }
+
+    /// A note of what is visible.
+    pub fn tell(&self) -> Told
+        ensures { (result.book ≡ self.now.book) × IsLegal self.now.grid result.lines }
+    {
+        self.publisher.tell()
+    }
+
+    /// No viewer is ahead of it.
+    pub fn covers<R: Wait>(&self, rt: &R, viewer: &Viewer)
+        requires { viewer.now.book ≡ self.now.book }
+    {
+        self.publisher.covers(rt, viewer);
+    }
+
+    pub fn end<R: Wait>(self, rt: &R) {
+        let Feed {
+            core: _,
+            publisher,
+            next: _,
+        } = self;
+        publisher.end(rt);
+    }
+}
+
+/// Appends a line. Where a growth is refused the line comes back, and is appended once more.
+fn append_again<R: Abort>(rt: &R, publisher: &mut Publisher, entry: Entry)
+    requires legal { IsLegal publisher.old.grid ((publisher.old.visible ++ publisher.old.pending) ++ entry ∷ []) }
+    requires short { length publisher.old.visible + length publisher.old.pending < 1000000 }
+    ensures lines { publisher.new.visible ++ publisher.new.pending ≡ (publisher.old.visible ++ publisher.old.pending) ++ entry ∷ [] }
+    ensures same { (publisher.new.book ≡ publisher.old.book) × (publisher.new.grid ≡ publisher.old.grid) }
+{
+    let (number, command) = (entry.number, entry.command);
+    let Err((entry, Memory)) = publisher.append(entry) else {
+        return;
+    };
+    let came_back = entry.number == number && entry.command == command;
+    assert!(rt; came_back, "a refused line comes back");
+    let again = publisher.append(entry);
+    assert!(rt; again.is_ok(), "it is appended once more");
+}

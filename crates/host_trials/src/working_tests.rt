@@ -1,0 +1,301 @@
+//! Sessions side by side, each with a list of its own.
+ghost use Rattle.std.specs.Prelude.{◌≡◌, ◌≤◌, All, IfOk, IsTrue};
+ghost use Rattle.seat_core.specs.Journal.{FitsCommand};
+
+use crate::inventories::{command, grid_of};
+use crate::meeting::{Holds, Meeting};
+use crate::steps::same;
+use seat_core::Command;
+use seat_host::{
+    BookFault, Commands, Gate, Host, Hosting, Parts, Receipt, RunFault, Settled, gather,
+    run_sessions,
+};
+use seat_nesting::Grid;
+use ssim_records::Memory;
+use std::alloc::Global;
+use std::marker::Brand;
+use std::process::Abort;
+use std::sync::Wait;
+use std::test::Fail;
+use std::thread::Threads;
+use std::time::Clock;
+
+/// How many commands each list has, the most lines of the journal, and what comes of the run: the session and call
+/// that it names, or 0 and 0, the receipts of each session and the lines of the journal.
+struct Row {
+    shows: &'static str,
+    lists: &'static [usize],
+    cap: u32,
+    holds: Holds,
+    named: (u8, u32),
+    receipts: &'static [usize],
+    lines: u64,
+}
+
+const OVERLAPS: [Row; 3] = [
+    Row {
+        shows: "session 1 waits for the answer of session 2",
+        lists: &[1, 1],
+        cap: 9,
+        holds: Holds::FirstUntilAnswer,
+        named: (0, 0),
+        receipts: &[1, 1],
+        lines: 2,
+    },
+    Row {
+        shows: "sessions 1 and 2 wait for each other",
+        lists: &[1, 1],
+        cap: 9,
+        holds: Holds::EachUntilOther,
+        named: (0, 0),
+        receipts: &[1, 1],
+        lines: 2,
+    },
+    Row {
+        shows: "the journal is full once session 2 was answered",
+        lists: &[1, 1],
+        cap: 1,
+        holds: Holds::FirstUntilAnswer,
+        named: (1, 1),
+        receipts: &[0, 1],
+        lines: 1,
+    },
+];
+
+const LISTS: [Row; 5] = [
+    Row {
+        shows: "eight sessions of a thousand calls",
+        lists: &[1000, 1000, 1000, 1000, 1000, 1000, 1000, 1000],
+        cap: 8000,
+        holds: Holds::Nobody,
+        named: (0, 0),
+        receipts: &[1000, 1000, 1000, 1000, 1000, 1000, 1000, 1000],
+        lines: 8000,
+    },
+    Row {
+        shows: "one session, no list",
+        lists: &[0],
+        cap: 1,
+        holds: Holds::Nobody,
+        named: (0, 0),
+        receipts: &[0],
+        lines: 0,
+    },
+    Row {
+        shows: "the third call finds a full journal",
+        lists: &[5],
+        cap: 2,
+        holds: Holds::Nobody,
+        named: (1, 3),
+        receipts: &[2],
+        lines: 2,
+    },
+    Row {
+        shows: "session 2 is refused, and the others are not",
+        lists: &[0, 2, 0],
+        cap: 1,
+        holds: Holds::Nobody,
+        named: (2, 2),
+        receipts: &[0, 1, 0],
+        lines: 1,
+    },
+    Row {
+        shows: "a refusal after several turns",
+        lists: &[3000],
+        cap: 2500,
+        holds: Holds::Nobody,
+        named: (1, 2501),
+        receipts: &[2500],
+        lines: 2500,
+    },
+];
+
+/// A list for each session, of commands for a seat each.
+fn lists_of(
+    rt: &impl Abort,
+    alloc: Global,
+    grid: &Grid,
+    lengths: &[usize],
+) -> Result<Vec<Commands>, Memory>
+    ensures { IfOk result (λ lists. All (λ list. All (λ command. FitsCommand grid.now command) list) lists.items) }
+{
+    let mut lists = Vec::new(alloc);
+    for (length, initial) in lengths.iter().zip(b"ABCDEFGH".iter()) {
+        lists.push(list_of(rt, alloc, grid, *length, *initial)?)?;
+    }
+    Ok(lists)
+}
+
+fn list_of(
+    rt: &impl Abort,
+    alloc: Global,
+    grid: &Grid,
+    length: usize,
+    initial: u8,
+) -> Result<Commands, Memory>
+    ensures { IfOk result (λ list. All (λ command. FitsCommand grid.now command) list) }
+{
+    let mut items = Vec::new(alloc);
+    for nth in 0..length {
+        items.push(nth_command(rt, grid, nth, initial)?)?;
+    }
+    Ok(Commands::from_vec(items))
+}
+
+/// Locators differ by a letter and five digits.
+fn nth_command(rt: &impl Abort, grid: &Grid, nth: usize, initial: u8) -> Result<Command, Memory>
+    ensures { IfOk result (λ command. FitsCommand grid.now command) }
+{
+    let Some(command) = command(&locator(nth, initial), b"NN") else {
+        return Err(Memory);
+    };
+    assert!(rt; fits(grid, &command), "the command fits");
+    Ok(command)
+}
+
+fn fits(grid: &Grid, command: &Command) -> bool
+    ensures { IsTrue result → FitsCommand grid.now command.now }
+{
+    let seats = command.seats;
+    if seats < 1 || seats > 999 {
+        return false;
+    }
+    match command.place {
+        Some(place) => grid.fits(place),
+        None => true,
+    }
+}
+
+fn locator(nth: usize, initial: u8) -> [u8; 6] {
+    [
+        initial,
+        digit(nth / 10_000),
+        digit(nth / 1_000),
+        digit(nth / 100),
+        digit(nth / 10),
+        digit(nth),
+    ]
+}
+
+fn digit(number: usize) -> u8 {
+    b'0' + (number % 10) as u8
+}
+
+/// Opens a host, runs its sessions and gathers it.
+fn run<K: Hosting + Send + Sync, R: Threads + Wait + Sync, G: Gate>(
+    rt: &R,
+    alloc: Global,
+    parts: Parts,
+    lists: &[Commands],
+    gate: &G,
+) -> Option<(Result<(), RunFault>, Settled)>
+    requires parts { (parts.grid ≡ K.grid) × (parts.cap ≡ K.cap) × (parts.book ≡ K.book) × (parts.sessions ≡ K.sessions) × (parts.names ≡ K.names) }
+    requires lists { All (λ list. All (λ command. FitsCommand parts.grid command) list) lists.now }
+{
+    let (host, mut sessions) = Host::<K>::open(rt, alloc, parts).ok()?;
+    if sessions.len() != lists.len() {
+        host.end(rt);
+        return None;
+    }
+    let answer = run_sessions(rt, alloc, &host, sessions.as_mut_slice(), lists, gate);
+    match gather(rt, alloc, host, sessions) {
+        Ok(settled) => Some((answer, settled)),
+        Err((_, host, _)) => {
+            host.end(rt);
+            None
+        }
+    }
+}
+
+/// Runs a row, and compares what it leaves.
+fn follow<R: Threads + Wait + Clock + Abort + Sync>(
+    rt: &R,
+    alloc: Global,
+    row: &Row,
+) -> Option<()> {
+    let grid = grid_of(alloc, b"F010/000")?;
+    let Ok(lists) = lists_of(rt, alloc, &grid, row.lists) else {
+        return None;
+    };
+    let sessions = u8::try_from(row.lists.len()).ok()?;
+    let parts = Parts::new(rt, alloc, grid, sessions, row.cap.clamp(1, 999_999)).ok()?;
+    let meeting = Meeting::new(rt, row.holds);
+    let (answer, settled) = run::<Brand, R, Meeting<'_, R>>(rt, alloc, parts, &lists, &meeting)?;
+    assert!(rt;
+        !meeting.held_too_long(),
+        "{}: a session was held for too long",
+        row.shows
+    );
+    compare_named(rt, answer, row);
+    compare(rt, &lists, &settled, row)
+}
+
+/// Compares the call that the run names. The journal is full there.
+fn compare_named(rt: &impl Abort, answer: Result<(), RunFault>, row: &Row) {
+    let named = match answer {
+        Ok(()) => (0, 0),
+        Err(
+            RunFault::Book {
+                session,
+                call,
+                fault,
+            },
+        ) => {
+            assert!(rt; fault == BookFault::JournalFull, "{}: the fault", row.shows);
+            (session, call)
+        }
+    };
+    assert!(rt; named == row.named, "{}: the call that is named", row.shows);
+}
+
+/// Each session has a receipt for each command of its list, in order, as far as the row says.
+fn compare(rt: &impl Abort, lists: &[Commands], settled: &Settled, row: &Row) -> Option<()> {
+    let lines = settled.journal.as_slice();
+    same(rt, lines.len() as u64, row.lines, row.shows);
+    if row.holds == Holds::FirstUntilAnswer {
+        same(rt, u64::from(lines.first()?.session), 2, row.shows);
+    }
+    let receipts = settled.receipts.as_slice();
+    same(
+        rt,
+        receipts.len() as u64,
+        row.receipts.len() as u64,
+        row.shows,
+    );
+    for ((own, want), list) in receipts.iter().zip(row.receipts.iter()).zip(lists.iter()) {
+        let own = own.as_slice();
+        same(rt, own.len() as u64, *want as u64, row.shows);
+        assert!(rt;
+            are_answered(own, list.as_slice()),
+            "{}: commands",
+            row.shows
+        );
+    }
+    Some(())
+}
+
+/// Whether these receipts are of the first of these commands, in order.
+fn are_answered(receipts: &[Receipt], commands: &[Command]) -> bool {
+    for (receipt, asked) in receipts.iter().zip(commands.iter()) {
+        if receipt.entry().command != *asked {
+            return false;
+        }
+    }
+    true
+}
+
+#[test]
+fn sessions_overlap(rt: HostRuntime) -> Result<(), Fail> {
+    for row in &OVERLAPS {
+        follow(&rt, rt.alloc(), row).ok_or(row.shows)?;
+    }
+    Ok(())
+}
+
+#[test]
+fn lists_are_booked(rt: HostRuntime) -> Result<(), Fail> {
+    for row in &LISTS {
+        follow(&rt, rt.alloc(), row).ok_or(row.shows)?;
+    }
+    Ok(())
+}
