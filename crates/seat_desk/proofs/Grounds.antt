@@ -1,11 +1,15 @@
--- Why limit rows are refused.
+-- Why limit rows are refused, and what they give.
 use Rattle.std.proofs.Common.{◌≡◌, ◌≢◌, ℕ, List, Option, Some, None, IfSome, Err, refl, subst, ◌∙◌}
 use Rattle.std.specs.Str.Lines.{lines}
+use Rattle.ssim_flights.specs.declared.flight.Flight.{Flight as Flown}
+use Rattle.seat_nesting.specs.Authorised.{authorised_grid}
 use Rattle.seat_nesting.specs.LimitRows.{rows_in}
+use Rattle.seat_nesting.specs.Nesting.{Legs}
 use Rattle.seat_nesting.specs.declared.limit_fault.LimitFault.{LimitFault}
 use Rattle.seat_nesting.specs.declared.limit_fault.LimitKind.{LimitKind}
 use Rattle.seat_nesting.specs.declared.limit_fault.LimitKind.TheVariants as limit_kinds
-use Rattle.seat_desk.specs.Loading.{IsRefusedLoad, IsUnlimited, limit_refusal, limit_refusal_of}
+use Rattle.seat_nesting.specs.declared.limit_row.LimitRow.{LimitRow}
+use Rattle.seat_desk.specs.Loading.{IsGridOf, IsRefusedLoad, IsUnlimited, limit_refusal, limit_refusal_of}
 use Rattle.seat_desk.specs.declared.fault.DeskFault.TheVariants.{Limit, Memory}
 use Rattle.seat_desk.specs.declared.fault.DeskFault.{DeskFault}
 use Rattle.seat_desk.specs.Desk.{IsOfInput}
@@ -29,3 +33,7 @@ load_refused (Some xs) (Some ys) first days fault bytes slice whole same wrong i
     of_limits xs ys first days fault (subst (λ (l : List ℕ). IsUnlimited l fault) (whole ∙ same) (wrong (λ (e : fault ≡ Memory). subst IsOfInput e input)))
 load_refused (Some xs) None first days fault bytes slice whole same wrong input = tt
 load_refused None limits first days fault bytes slice whole same wrong input = tt
+
+-- a grid that limit rows give is one
+pub grid_of_rows : (rows : List LimitRow) (flights : List Flown) (grid : Legs) → grid ≡ authorised_grid rows flights → IsGridOf flights grid
+grid_of_rows rows flights grid is = record { rows = rows; is = is }

@@ -1,12 +1,5 @@
 mod Cuts
 mod Auditing
-mod Texts
+pub mod Texts
 mod Schedules
 mod Grounds
-mod Serving
-mod Advised
-mod Parts
-mod Histories
-mod Reading
-mod Gathering
-mod Written

@@ -1,4 +1,3 @@
-pub mod Answering
 pub mod AuditDesk
 pub mod CheckDesk
 pub mod Desk
@@ -7,6 +6,4 @@ pub mod FlightsDesk
 pub mod Lines
 pub mod Loading
 pub mod Orders
-pub mod Requests
-pub mod RunDesk
 pub mod Status

@@ -7,59 +7,78 @@ use seat_journal::JournalFault;
 use seat_nesting::LimitFault;
 use ssim_flights::FlightFault;
 use ssim_records::SetFault;
-use thiserror::Error;
+use std::fmt;
 
 /// Why a command is refused. Its text is the code, and where the fault stands.
-#[derive(Clone, Copy, Debug, PartialEq, Eq, Error)]
+#[derive(Clone, Copy)]
 pub enum DeskFault {
     /// The bytes are no data set.
-    #[error("{0}")]
     Set(SetFault),
     /// The legs are no flights.
-    #[error("{0}")]
     Flight(FlightFault),
     /// A ladder or a limit row is malformed.
-    #[error("{0}")]
     Limit(LimitFault),
     /// A line is no command.
-    #[error("E1 {line}")]
     Command { line: u32 },
     /// A command beyond those that a journal has room for.
-    #[error("C1 {line}")]
     Full { line: u32 },
     /// The bytes are no journal.
-    #[error("{0}")]
     Journal(JournalFault),
     /// The entries are no legal history.
-    #[error("{0}")]
     Replay(ReplayFault),
     /// A line of a script is no request. The scripts' sessions count from 1.
-    #[error("{} {session} {}", .fault.kind, .fault.line)]
     Script { session: u8, fault: ScriptFault },
     /// A call of a session, to which a full journal gave no line.
-    #[error("B1 {session} {call}")]
     Book { session: u8, call: u32 },
     /// The first day is no day of 2000 to 2099.
-    #[error("E2 first")]
     BadFirst,
     /// The number of days is not one of 1 to 366.
-    #[error("E2 days")]
     BadDays,
     /// The day of reference is no day of 2000 to 2099.
-    #[error("E2 today")]
     BadToday,
     /// There are more scripts than sessions.
-    #[error("E2 script")]
     TooManyScripts,
     /// An input has more bytes than it may have.
-    #[error("R2")]
     TooLarge,
     /// A device failed.
-    #[error("DEVICE")]
     Device,
     /// A growth was refused.
-    #[error("MEMORY")]
     Memory,
+}
+
+impl fmt::Display for DeskFault {
+    /// The code, and where the fault stands.
+    fn fmt<W: fmt::Write>(&self, f: &mut fmt::Formatter<W>) -> fmt::Result {
+        match self {
+            DeskFault::Set(fault) => fault.fmt(f),
+            DeskFault::Flight(fault) => fault.fmt(f),
+            DeskFault::Limit(fault) => fault.fmt(f),
+            DeskFault::Journal(fault) => fault.fmt(f),
+            DeskFault::Replay(fault) => fault.fmt(f),
+            DeskFault::Command { line } => write!(f, "E1 {line}"),
+            DeskFault::Full { line } => write!(f, "C1 {line}"),
+            DeskFault::Script { session, fault } => put_script_fault(f, *session, fault),
+            DeskFault::Book { session, call } => write!(f, "B1 {session} {call}"),
+            DeskFault::BadFirst => f.write_str("E2 first"),
+            DeskFault::BadDays => f.write_str("E2 days"),
+            DeskFault::BadToday => f.write_str("E2 today"),
+            DeskFault::TooManyScripts => f.write_str("E2 script"),
+            DeskFault::TooLarge => f.write_str("R2"),
+            DeskFault::Device => f.write_str("DEVICE"),
+            DeskFault::Memory => f.write_str("MEMORY"),
+        }
+    }
+}
+
+/// The code of a script's fault, the session, and the line.
+fn put_script_fault<W: fmt::Write>(
+    f: &mut fmt::Formatter<W>,
+    session: u8,
+    fault: &ScriptFault,
+) -> fmt::Result {
+    let kind = fault.kind;
+    let line = fault.line;
+    write!(f, "{kind} {session} {line}")
 }
 
 impl DeskFault {

@@ -1,19 +1,15 @@
-//! The commands of `seatdesk`, as functions over readers and writers.
+//! The commands of `seatdesk` that need no session, as functions over readers and writers, and what `run` shares with them.
 //! It knows the texts that come and go and the order in which they are checked, and leaves every answer to the crates below.
 #![tactic(auto)]
 
 mod audit;
 mod check;
-mod commands;
 mod fault;
 mod flights;
 mod ladder;
 mod lines;
 mod loading;
 mod orders;
-mod replies;
-mod run;
-mod scripts;
 mod streams;
 mod text;
 
@@ -22,4 +18,6 @@ pub use check::desk_check;
 pub use fault::DeskFault;
 pub use flights::desk_flights;
 pub use ladder::desk_ladder;
-pub use run::desk_run;
+pub use loading::{Loaded, load};
+pub use streams::read_input;
+pub use text::{put, put_number};

@@ -77,7 +77,7 @@ fn of_limits(fault: LimitFault) -> DeskFault
 }
 
 /// The grid of these flights under these rows.
-#[tactic(auto, using(crate::proofs::Serving::grid_of_rows))]
+#[tactic(auto, using(crate::proofs::Grounds::grid_of_rows))]
 pub fn grid_of(alloc: Global, flights: &Flights, rows: &LimitRows) -> Result<Grid, DeskFault>
     ensures ok { IfOk result (λ grid. grid ≡ authorised_grid rows.now flights.now) }
     ensures rows { IfOk result (IsGridOf flights.now) }

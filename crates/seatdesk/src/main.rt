@@ -7,8 +7,9 @@ ghost use Rattle.ssim_records.specs.Days.{IsCenturyDay};
 ghost use Rattle.ssim_flights.specs.Right.{IsOfCentury};
 
 use clap::error::ErrorKind;
-use seat_desk::{DeskFault, desk_audit, desk_check, desk_flights, desk_ladder, desk_run};
+use seat_desk::{DeskFault, desk_audit, desk_check, desk_flights, desk_ladder};
 use seat_host::NoGate;
+use seat_run::desk_run;
 use seat_words::{Job, Scripts, date_word, days_word, read_words};
 use ssim_records::{Counted, Day};
 use std::fs::File;

@@ -1,8 +1,0 @@
--- The answers so far are written.
-use Rattle.std.proofs.Common.{take}
-use Rattle.seat_desk.specs.FlightsDesk.{IsPut}
-use Rattle.seat_desk.specs.RunDesk.{IsAnswer, at_any}
-use Rattle.seat_desk.proofs.replies.put_answers.Given as goal
-
-abbrev pub invariant-loop-receipt : goal.invariant-loop-receipt
-invariant-loop-receipt l = IsPut (at_any (IsAnswer l.scripts l.journal)) 0 (take l.receipt-index l.receipts) l.initial.text.items l.text.items

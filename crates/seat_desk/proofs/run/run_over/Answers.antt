@@ -1,5 +1,0 @@
-use Rattle.seat_desk.proofs.Gathering.{as_many}
-use Rattle.seat_desk.proofs.run.run_over.Goals as goal
-
-pub work-requires-clause-lists : goal.work-requires-clause-lists
-work-requires-clause-lists g c κs within = as_many g.K.Hosting.sessions c.args.lists.now c.in-Ok.sessions.items c.in-Ok.ensures.sessions c.requires.count

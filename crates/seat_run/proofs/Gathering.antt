@@ -1,0 +1,143 @@
+-- What the sessions booked is a history of their lists.
+use Rattle.std.proofs.Common.{◌≡◌, ◌≢◌, ⊎_elim, Option, Some, None, ◌-◌, ℕ, zero, suc, ◌+◌, ◌<◌, ◌≤◌, List, [], ◌∷◌, ◌++◌, length, take, map, refl, sym, ap, ◌∙◌, subst, arith, get_or, length-append}
+use Rattle.std.specs.List.{AllByRecursion}
+use Rattle.std.specs.Prelude.{slice_get}
+use Rattle.std.specs.Option.{option_map}
+use Rattle.std.proofs.lemmas.Option.{get_or_from_slice_get, slice_get-map, slice_get_within}
+use Rattle.std.proofs.lemmas.List.{length-map, take_all, take_more, map_push}
+use Rattle.seat_journal.specs.declared.entry.Command.{Command}
+use Rattle.seat_journal.specs.declared.entry.Entry.{Entry}
+use Rattle.seat_nesting.specs.Nesting.{Legs}
+use Rattle.seat_core.specs.Journal.{IsLegal}
+use Rattle.seat_host.specs.Histories.{of_session, by_session}
+use Rattle.seat_host.specs.Sessions.{Seat, fresh, fresh_sessions}
+use Rattle.seat_host.specs.Settling.{IsConfirmed}
+use Rattle.seat_host.specs.Histories.{OnlyFirst}
+use Rattle.seat_host.specs.Working.{AllHaveRun, HasRun, IsRefused, NamesFirst}
+use Rattle.seat_host.specs.declared.desk.BookFault.{BookFault}
+use Rattle.seat_host.specs.declared.desk.BookFault.TheVariants.{JournalFull as Full, Memory as NoRoom}
+use Rattle.seat_host.specs.declared.workers.RunFault.{RunFault}
+use Rattle.seat_host.specs.declared.workers.RunFault.TheVariants as run_faults
+use Rattle.airimp_lines.specs.declared.requests.Request.{Request}
+use Rattle.ssim_flights.specs.declared.flight.Flight.{Flight as Flown}
+use Rattle.seat_desk.specs.declared.fault.DeskFault.{DeskFault}
+use Rattle.seat_desk.specs.declared.fault.DeskFault.TheVariants.{Book, Memory}
+use Rattle.seat_run.specs.Requests.{command_of, commands_of}
+use Rattle.seat_run.specs.RunDesk.{HasCall, HasCommand, IsHistoryOf, IsUnbooked, IsUnlisted, commands_in, run_refusal}
+use Rattle.seat_run.proofs.Histories.{all_of, row_at, row_count}
+
+fresh_count : (n : ℕ) → length (fresh_sessions n) ≡ n
+fresh_count n = row_count fresh fresh_sessions refl (λ k. refl) n
+
+pub as_many : (n : ℕ) (lists : List (List Command)) (sessions : List Seat) → sessions ≡ fresh_sessions n → length lists ≡ n → length lists ≡ length sessions
+as_many n lists sessions opened count = count ∙ (sym (fresh_count n) ∙ ap length (sym opened))
+
+run_at : (lists : List (List Command)) (olds news : List Seat) (i : ℕ) (d e : Seat) → AllHaveRun lists olds news → length lists ≡ length olds → i < length lists
+    → HasRun (get_or lists i []) (get_or olds i d) (get_or news i e) × (i < length news)
+run_at [] olds news i d e run same lt = absurd (omega (arith, lt))
+run_at (l ∷ lists) [] news i d e run same lt = absurd (omega (arith, same))
+run_at (l ∷ lists) (s ∷ olds) [] i d e run same lt = absurd run
+run_at (l ∷ lists) (s ∷ olds) (t ∷ news) zero d e run same lt = (run.0, omega arith)
+run_at (l ∷ lists) (s ∷ olds) (t ∷ news) (suc i) d e run same lt =
+    let below = run_at lists olds news i d e run.1 (omega (arith, same)) (omega (arith, lt)) in (below.0, omega (arith, below.1))
+
+-- a session that ran from nothing has its list in the journal
+own_list : (n i : ℕ) (journal : List Entry) (list : List Command) (t : Seat) → HasRun list (fresh (suc i)) t → IsConfirmed n journal t → commands_in (of_session (suc i) journal) ≡ list
+own_list n i journal list t run confirmed =
+    let lines : run.lines ≡ of_session (suc i) journal = sym run.receipts ∙ (confirmed.lines ∙ ap (λ (k : ℕ). of_session k journal) run.id) in
+    ap commands_in (sym lines) ∙ run.commands
+
+module _ (n : ℕ) (lists : List (List Command)) (news : List Seat) (journal : List Entry) (count : length lists ≡ n)
+    (run : AllHaveRun lists (fresh_sessions n) news) (confirmed : AllByRecursion (IsConfirmed n journal) news) where
+  list_at : (i : ℕ) → i < n → commands_in (of_session (suc i) journal) ≡ get_or lists i []
+  list_at i lt =
+      let nobody = fresh 0 in
+      let here = run_at lists (fresh_sessions n) news i nobody nobody run (count ∙ sym (fresh_count n)) (omega (arith, lt, count)) in
+      let from : get_or (fresh_sessions n) i nobody ≡ fresh (suc i) = row_at fresh fresh_sessions refl (λ k. refl) n i nobody lt in
+      own_list n i journal (get_or lists i []) (get_or news i nobody)
+      (subst (λ (s : Seat). HasRun (get_or lists i []) s (get_or news i nobody)) from here.0)
+      (all_of (IsConfirmed n journal) news confirmed i nobody here.1)
+
+  lists_to : (k : ℕ) → k ≤ n → map commands_in (by_session k journal) ≡ take k lists
+  lists_to zero le = refl
+  lists_to (suc k) le =
+      let lt : k < length lists = omega (arith, le, count) in
+      let more : take (suc k) lists ≡ take k lists ++ get_or lists k [] ∷ [] = (let up : k + 1 ≡ suc k = omega arith in subst (λ (j : ℕ). take j lists ≡ take k lists ++ get_or lists k [] ∷ []) up (take_more lists k [] lt)) in
+      map_push commands_in (by_session k journal) (of_session (suc k) journal)
+      ∙ (ap (λ (l : List (List Command)). l ++ commands_in (of_session (suc k) journal) ∷ []) (lists_to k (omega (arith, le)))
+      ∙ (ap (λ (x : List Command). take k lists ++ x ∷ []) (list_at k (omega (arith, le))) ∙ sym more))
+
+pub settled_history : (grid : Legs) (n : ℕ) (lists : List (List Command)) (olds news : List Seat) (journal : List Entry)
+    → olds ≡ fresh_sessions n → length lists ≡ n → AllHaveRun lists olds news → AllByRecursion (IsConfirmed n journal) news
+    → IsLegal grid journal → OnlyFirst n journal → IsHistoryOf grid lists journal
+settled_history grid n lists olds news journal opened count run confirmed legal only = record {
+  legal = legal;
+  asked = subst (λ (k : ℕ). map commands_in (by_session k journal) ≡ lists) (sym count)
+      (lists_to n lists news journal count (subst (λ (l : List Seat). AllHaveRun lists l news) opened run) confirmed n (omega arith) ∙ take_all n lists (omega (arith, count)));
+  only = subst (λ (k : ℕ). OnlyFirst k journal) (sym count) only;
+}
+
+-- ---- refusals
+
+-- the fault is that of the session at some place
+record IsRefusedAt (most : ℕ) (fault : RunFault) (lists : List (List Command)) (olds : List Seat) : Type 0 where
+  place : ℕ
+  list : List Command
+  old : Seat
+  new : Seat
+  of_lists : slice_get lists place ≡ Some list
+  of_olds : slice_get olds place ≡ Some old
+  refused : IsRefused most fault list old new
+
+refused_at : (most : ℕ) (fault : RunFault) (lists : List (List Command)) (olds news : List Seat) → NamesFirst most fault lists olds news → IsRefusedAt most fault lists olds
+refused_at most fault [] olds news named = absurd named
+refused_at most fault (list ∷ lists) [] news named = absurd named
+refused_at most fault (list ∷ lists) (s ∷ olds) [] named = absurd named
+refused_at most fault (list ∷ lists) (s ∷ olds) (t ∷ news) named =
+    ⊎_elim here (λ (later : HasRun list s t × NamesFirst most fault lists olds news). there (refused_at most fault lists olds news later.1)) named where
+      here : IsRefused most fault list s t → IsRefusedAt most fault (list ∷ lists) (s ∷ olds)
+      here refused = record { place = 0; list = list; old = s; new = t; of_lists = refl; of_olds = refl; refused = refused }
+
+      there : IsRefusedAt most fault lists olds → IsRefusedAt most fault (list ∷ lists) (s ∷ olds)
+      there at = record { place = suc at.place; list = at.list; old = at.old; new = at.new; of_lists = at.of_lists; of_olds = at.of_olds; refused = at.refused }
+
+refusal_of : (lists : List (List Command)) (session call : ℕ) (why : BookFault) → HasCommand lists session call
+    → run_refusal (run_faults.Book session call why) ≢ Memory → IsUnlisted lists (run_refusal (run_faults.Book session call why))
+refusal_of lists session call Full has not = has
+refusal_of lists session call NoRoom has not = absurd (not refl)
+
+pub unlisted : (most n : ℕ) (fault : RunFault) (lists : List (List Command)) (olds news : List Seat) → olds ≡ fresh_sessions n
+    → NamesFirst most fault lists olds news → run_refusal fault ≢ Memory → IsUnlisted lists (run_refusal fault)
+unlisted most n fault lists olds news opened named not =
+    let at = refused_at most fault lists olds news named in
+    let r = at.refused in
+    let within : at.place < n = omega (arith, slice_get_within olds at.place at.old at.of_olds, ap (length {A = Seat}) opened, fresh_count n) in
+    let is : at.old ≡ fresh (suc at.place) =
+    sym (get_or_from_slice_get olds at.place at.old (fresh 0) at.of_olds) ∙ (ap (λ (l : List Seat). get_or l at.place (fresh 0)) opened ∙ row_at fresh fresh_sessions refl (λ k. refl) n at.place (fresh 0) within) in
+    let id : at.new.id ≡ suc at.place = r.run.id ∙ ap (λ (s : Seat). s.id) is in
+    let lines : at.new.receipts ≡ r.run.lines = r.run.receipts ∙ ap (λ (s : Seat). s.receipts ++ r.run.lines) is in
+    let count : length at.new.receipts ≡ length r.booked = ap length lines ∙ (sym (length-map r.run.lines (λ (e : Entry). e.command)) ∙ ap length r.run.commands) in
+    let long : length at.list ≡ length r.booked + suc (length r.left) = ap length r.parts ∙ length-append r.booked (r.refused ∷ r.left) in
+    let has : HasCommand lists at.new.id (length at.new.receipts + 1) = record {
+      list = at.list;
+      at = (let down : at.place ≡ at.new.id - 1 = omega (arith, id) in subst (λ (k : ℕ). slice_get lists k ≡ Some at.list) down at.of_lists);
+      call_is = (omega arith, omega (arith, count, long));
+    } in
+    subst (λ (f : RunFault). run_refusal f ≢ Memory → IsUnlisted lists (run_refusal f)) (sym r.named) (refusal_of lists at.new.id (length at.new.receipts + 1) r.why has) not
+
+-- a call of a list is that of a request
+pub unbooked : (flights : List Flown) (scripts : List (List Request)) (lists : List (List Command)) (fault : DeskFault) → lists ≡ map (commands_of flights) scripts
+    → IsUnlisted lists fault → IsUnbooked scripts fault
+unbooked flights scripts lists (Book session call) is has = asked where
+  of_script : (o : Option (List Request)) → slice_get scripts (session - 1) ≡ o → option_map (commands_of flights) o ≡ Some has.list → HasCall scripts session call
+  of_script None here same = absurd (cc same)
+  of_script (Some script) here same =
+      let lists_same : commands_of flights script ≡ has.list = cc same in
+      let count : length script ≡ length has.list = sym (length-map script (command_of flights)) ∙ ap length lists_same in
+      record { script = script; at = here; call_is = (has.call_is.0, omega (arith, has.call_is.1, count)) }
+
+  asked : HasCall scripts session call
+  asked =
+      of_script (slice_get scripts (session - 1)) refl
+      (sym (slice_get-map (commands_of flights) scripts (session - 1)) ∙ (ap (λ (l : List (List Command)). slice_get l (session - 1)) (sym is) ∙ has.at))
+unbooked flights scripts lists _ is has = absurd has

@@ -1,0 +1,7 @@
+mod Advised
+mod Parts
+mod Histories
+mod Serving
+mod Reading
+mod Gathering
+mod Written

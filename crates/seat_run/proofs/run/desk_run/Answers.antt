@@ -1,0 +1,26 @@
+use Rattle.std.proofs.Common.{map, subst, sym, length}
+use Rattle.seat_run.specs.Requests.{AreScripts}
+use Rattle.seat_run.proofs.Reading.{between}
+use Rattle.seat_run.proofs.Written.{run_stopped, run_written}
+use Rattle.seat_run.proofs.run.desk_run.Goals as goal
+
+pub answer-requires-clause-count : goal.answer-requires-clause-count
+answer-requires-clause-count g c κs within = between (length c.args.scripts.now) _ c.as_slice.result.now c.as_slice.ensures c.in-Ok.ensures.count c.requires.scripts
+
+pub returns-clause-ok : goal.returns-clause-ok
+returns-clause-ok g c =
+    let texts = map g.C.Read.remaining c.args.scripts.now in
+    let scripts = subst (AreScripts c.args.today texts) (sym c.as_slice.ensures) c.in-Ok.ensures.ok in
+    run_written c.args.first c.args.days c.args.today texts c.in_ok-loaded.loaded.flights c.in_ok-loaded.loaded.grid c.as_slice.result.now
+    c.in_ok-answer.answer.settled.journal c.in_ok-answer.answer.replies.items
+    (record { are_scripts = scripts; is_history = c.in_ok-answer.ensures.ok; are_replies = c.in_ok-answer.ensures.replies })
+    _ _ _ _ _ _ c.as_slice-2.result.now c.deref.result.now c.write_both.result c.in_ok-loaded.ensures.ok c.as_slice-2.ensures c.deref.ensures.value c.write_both.ensures.ok
+
+pub returns-clause-device : goal.returns-clause-device
+returns-clause-device g c =
+    let texts = map g.C.Read.remaining c.args.scripts.now in
+    let scripts = subst (AreScripts c.args.today texts) (sym c.as_slice.ensures) c.in-Ok.ensures.ok in
+    run_stopped c.args.first c.args.days c.args.today texts c.in_ok-loaded.loaded.flights c.in_ok-loaded.loaded.grid c.as_slice.result.now
+    c.in_ok-answer.answer.settled.journal c.in_ok-answer.answer.replies.items
+    (record { are_scripts = scripts; is_history = c.in_ok-answer.ensures.ok; are_replies = c.in_ok-answer.ensures.replies })
+    _ _ _ _ _ _ _ _ _ _ _ c.as_slice-2.result.now c.deref.result.now c.write_both.result c.in_ok-loaded.ensures.ok c.as_slice-2.ensures c.deref.ensures.value c.write_both.ensures.stopped

@@ -1,0 +1,182 @@
+-- What `run` writes: the journal of what the scripts ask, and the replies to each script.
+use Rattle.std.specs.Prelude.{◌≡◌, ◌≤◌, ◌-◌, ◌⊎◌, ℕ, List, [], ◌∷◌, ◌++◌, length, map, decimal, codes, Option, Some, None, slice_get}
+use Rattle.std.specs.Io.KnownBytes.{Appends}
+use Rattle.ssim_flights.specs.declared.flight.Flight.{Flight as Flown}
+use Rattle.ssim_records.specs.Noting.{TookFront}
+use Rattle.seat_nesting.specs.Nesting.{Legs}
+use Rattle.airimp_lines.specs.Grammar.{IsPlainLine, reply_of}
+use Rattle.airimp_lines.specs.declared.requests.Request.{Request}
+use Rattle.seat_journal.specs.Text.{journal_text}
+use Rattle.seat_journal.specs.declared.entry.Advice.{Advice}
+use Rattle.seat_journal.specs.declared.entry.Command.{Command}
+use Rattle.seat_journal.specs.declared.entry.Entry.{Entry}
+use Rattle.seat_core.specs.Journal.{IsLegal}
+use Rattle.seat_host.specs.Histories.{OnlyFirst, by_session}
+use Rattle.seat_desk.specs.FlightsDesk.{IsText}
+use Rattle.seat_desk.specs.Loading.{IsLoaded, IsRefusedLoad, IsTooLargeLoad}
+use Rattle.seat_run.specs.Requests.{AreScripts, IsRefusedAmong, IsTooLargeAmong, commands_of}
+use Rattle.seat_desk.specs.declared.fault.DeskFault.{DeskFault}
+use Rattle.seat_desk.specs.declared.fault.DeskFault.TheVariants.{Script, Book, Memory}
+use Rattle.seat_host.specs.declared.desk.BookFault.TheVariants.{JournalFull as Full, Memory as NoRoom}
+use Rattle.seat_host.specs.declared.workers.RunFault.{RunFault}
+use Rattle.seat_host.specs.declared.workers.RunFault.TheVariants as run_faults
+
+-- the commands of these lines, in order
+abbrev pub commands_in : List Entry → List Command
+commands_in lines = map (λ (e : Entry). e.command) lines
+
+-- a history of lists of commands: the lines of session 1 are the first list, in order, and so on, and no other session has any
+pub record IsHistoryOf (grid : Legs) (lists : List (List Command)) (history : List Entry) : Type 0 where
+  pub legal : IsLegal grid history
+  pub asked : map commands_in (by_session (length lists) history) ≡ lists
+  pub only : OnlyFirst (length lists) history
+
+-- ---- the replies
+
+-- a part of its kind, at whatever place
+abbrev pub at_any : {A : Type 0} → (A → List ℕ → Type 0) → ℕ → A → List ℕ → Type 0
+at_any IsPart n x text = IsPart x text
+
+-- SESSION NUMBER LOCATOR
+abbrev pub reply_head : Entry → Request → List ℕ
+reply_head e request = decimal e.session ++ codes " " ++ decimal e.number ++ codes " " ++ request.locator ++ codes " "
+
+-- and the segment with this code and these seats
+pub record IsReply (e : Entry) (request : Request) (code : List ℕ) (seats : ℕ) (line : List ℕ) : Type 0 where
+  pub text : List ℕ
+  pub is_text : IsPlainLine (reply_of request.segment code seats) text
+  pub written : line ≡ reply_head e request ++ text ++ 10 ∷ []
+
+-- the request that a line answers: its call's, in its session's script
+abbrev pub requested : Option (List Request) → ℕ → Option Request
+requested None call = None
+requested (Some script) call = slice_get script (call - 1)
+
+abbrev pub request_of : List (List Request) → Entry → Option Request
+request_of scripts e = requested (slice_get scripts (e.session - 1)) e.call
+
+-- the request that made the booking of this number
+abbrev pub requested_by : List (List Request) → Option Entry → Option Request
+requested_by scripts None = None
+requested_by scripts (Some e) = request_of scripts e
+
+abbrev pub booked_by : List (List Request) → List Entry → ℕ → Option Request
+booked_by scripts history number = requested_by scripts (slice_get history (number - 1))
+
+-- KL and its seats, with the locator and the segment of the booking
+pub record IsAdviceLine (scripts : List (List Request)) (history : List Entry) (e : Entry) (a : Advice) (line : List ℕ) : Type 0 where
+  pub request : Request
+  pub booked : booked_by scripts history a.number ≡ Some request
+  pub is_reply : IsReply e request (codes "KL") a.seats line
+
+-- the reply to a line's request with the seats asked, and then its advices
+pub record IsAnswer (scripts : List (List Request)) (history : List Entry) (e : Entry) (text : List ℕ) : Type 0 where
+  pub request : Request
+  pub requested : request_of scripts e ≡ Some request
+  pub line : List ℕ
+  pub advices : List ℕ
+  pub is_reply : IsReply e request e.reply request.segment.seats line
+  pub are_advices : IsText (at_any (IsAdviceLine scripts history e)) 0 e.advices advices
+  pub written : text ≡ line ++ advices
+
+-- the answers to the lines of one session, in order
+abbrev pub AreAnswers : List (List Request) → List Entry → List Entry → List ℕ → Type 0
+AreAnswers scripts history lines text = IsText (at_any (IsAnswer scripts history)) 0 lines text
+
+-- those of session 1, then those of session 2, and so on
+abbrev pub AreReplies : List (List Request) → List Entry → List ℕ → Type 0
+AreReplies scripts history text = IsText (at_any (AreAnswers scripts history)) 0 (by_session (length scripts) history) text
+
+-- ---- the whole
+
+-- the texts of one history of what the scripts ask, over the grid of the set and the limits
+pub record IsRun (set limits : List ℕ) (first days today : ℕ) (texts : List (Option (List ℕ))) (journal replies : List ℕ) : Type 0 where
+  pub flights : List Flown
+  pub grid : Legs
+  pub scripts : List (List Request)
+  pub history : List Entry
+  pub is_loaded : IsLoaded set limits first days flights grid
+  pub are_scripts : AreScripts today texts scripts
+  pub is_history : IsHistoryOf grid (map (commands_of flights) scripts) history
+  pub journal_is : journal ≡ journal_text history
+  pub are_replies : AreReplies scripts history replies
+
+-- both texts are written, whole
+pub record AreWritten (answers : List ℕ → List ℕ → Type 0) (journal_old journal_new out_old out_new : Option (List ℕ)) : Type 0 where
+  pub journal : List ℕ
+  pub replies : List ℕ
+  pub right : answers journal replies
+  pub first : Appends journal_old journal_new journal
+  pub second : Appends out_old out_new replies
+
+-- the journal's text is begun
+pub record IsFirstBegun (answers : List ℕ → List ℕ → Type 0) (journal_old journal_new : Option (List ℕ)) : Type 0 where
+  pub journal : List ℕ
+  pub replies : List ℕ
+  pub right : answers journal replies
+  pub front : TookFront journal_old journal_new journal
+
+-- the journal's text is written, whole, and the replies are begun
+pub record IsSecondBegun (answers : List ℕ → List ℕ → Type 0) (journal_old journal_new out_old out_new : Option (List ℕ)) : Type 0 where
+  pub journal : List ℕ
+  pub replies : List ℕ
+  pub right : answers journal replies
+  pub first : Appends journal_old journal_new journal
+  pub front : TookFront out_old out_new replies
+
+-- ---- refusals
+
+-- a list of the session has a command for this call
+pub record HasCommand (lists : List (List Command)) (session call : ℕ) : Type 0 where
+  pub list : List Command
+  pub at : slice_get lists (session - 1) ≡ Some list
+  pub call_is : (1 ≤ call) × (call ≤ length list)
+
+-- the fault is that of a call, whose command was not booked
+abbrev pub IsUnlisted : List (List Command) → DeskFault → Type 0
+IsUnlisted lists (Book session call) = HasCommand lists session call
+IsUnlisted lists _ = ⊥
+
+-- the desk's fault for one of a run
+abbrev pub run_refusal : RunFault → DeskFault
+run_refusal (run_faults.Book session call Full) = Book session call
+run_refusal (run_faults.Book session call NoRoom) = Memory
+
+-- the session's script has a request for this call
+pub record HasCall (scripts : List (List Request)) (session call : ℕ) : Type 0 where
+  pub script : List Request
+  pub at : slice_get scripts (session - 1) ≡ Some script
+  pub call_is : (1 ≤ call) × (call ≤ length script)
+
+abbrev pub IsUnbooked : List (List Request) → DeskFault → Type 0
+IsUnbooked scripts (Book session call) = HasCall scripts session call
+IsUnbooked scripts _ = ⊥
+
+-- the scripts are read, and one of their requests was not booked
+pub record IsUnbookedOf (today : ℕ) (texts : List (Option (List ℕ))) (fault : DeskFault) : Type 0 where
+  pub scripts : List (List Request)
+  pub are_scripts : AreScripts today texts scripts
+  pub is_unbooked : IsUnbooked scripts fault
+
+-- a script's fault is the first of the first script that is none. A call's names a request of its session's script, and all
+-- scripts are read. Any other is the first of the set, of its flights or of the limits
+abbrev pub RunRefusal : List ℕ → List ℕ → ℕ → ℕ → ℕ → List (Option (List ℕ)) → DeskFault → Type 0
+RunRefusal set limits first days today texts (Script session fault) = IsRefusedAmong today 1 texts (Script session fault)
+RunRefusal set limits first days today texts (Book session call) = IsUnbookedOf today texts (Book session call)
+RunRefusal set limits first days today texts fault = IsRefusedLoad set limits first days fault
+
+pub record IsRefusedRun (set limits : List ℕ) (first days today : ℕ) (texts : List (Option (List ℕ))) (fault : DeskFault) : Type 0 where
+  pub refusal : RunRefusal set limits first days today texts fault
+
+-- the set, the limits or a script is too large
+abbrev pub IsTooLargeRun : List ℕ → List ℕ → List (Option (List ℕ)) → Type 0
+IsTooLargeRun set limits texts = IsTooLargeLoad set limits ⊎ IsTooLargeAmong texts
+
+-- a device failed: an input, and then nothing is written; or the journal's, and then its text is begun and no reply is written; or that of the replies, which are then begun behind a whole journal
+abbrev pub HasFailedAt : Type 0 → Type 0 → Type 0 → Type 0 → Type 0 → Type 0 → Type 0 → Type 0
+HasFailedAt input journal out no_line no_reply first second = (input × (no_line × no_reply)) ⊎ ((journal × (no_reply × first)) ⊎ (out × second))
+
+-- the first of two writers failed, and then the second is as it was; or the second, behind a whole first text. Each took a beginning of its text
+abbrev pub HasStopped : Type 0 → Type 0 → Type 0 → Option (List ℕ) → Option (List ℕ) → List ℕ → Option (List ℕ) → Option (List ℕ) → List ℕ → Type 0
+HasStopped first second nothing first_old first_new first_text second_old second_new second_text =
+    (first × (nothing × TookFront first_old first_new first_text)) ⊎ (second × (Appends first_old first_new first_text × TookFront second_old second_new second_text))

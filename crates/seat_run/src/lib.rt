@@ -1,0 +1,10 @@
+//! `run`: the requests of scripts, booked by a session on a thread for each, with the journal of all and the replies.
+//! It knows scripts, replies and the order in which they are read and written, and leaves every answer to the host.
+#![tactic(auto)]
+
+mod commands;
+mod replies;
+mod run;
+mod scripts;
+
+pub use run::desk_run;
