@@ -39,6 +39,3 @@ pub use request::{Request, Wish};
 pub use seat_journal::{Advice, Advices, Command, Entry};
 pub use showing::show;
 pub use totals::Totals;
-
-#[cfg(test)]
-mod tests;

@@ -1,268 +1,266 @@
 //! Want of memory: a call that is refused changes nothing that a call shows, and is answered when it comes again.
 //! Each of these tests passes with any one growth refused.
-use crate::leg_tests::{JOURNAL, Legs, Line, PART, command_of, compare, place_of};
-use crate::worked_set::two_legs;
-use seat_core::*;
+use crate::texts::{lines_of_flight_1, no_lines, same_ladders, six_lines};
+use crate::trial::{Trial, Why, are_same, entries, is_memory, is_same, is_text, place_of};
+use crate::worked_set::{grid, two_legs};
+use seat_core::Entry;
 use seat_nesting::{Counts, Grid};
 use ssim_records::Class;
 use std::alloc::Global;
-use std::process::Abort;
 use std::test::Fail;
 
-/// Legs and class of the rooms that are looked at.
-const ROOMS: [(Legs, u8); 4] = [
-    ((0, 0, 1), b'Y'),
-    ((0, 0, 0), b'M'),
-    ((1, 0, 0), b'F'),
-    ((1, 1, 1), b'M'),
-];
+fn open(alloc: Global) -> Result<Trial, Why> {
+    Trial::of_two_legs(alloc, same_ladders(), 6)
+}
 
-fn grid(alloc: Global) -> Result<Grid, Fail> {
-    match two_legs(alloc) {
-        Some(grid) => Ok(grid),
-        None => Ok(two_legs(alloc).ok_or("a grid")?),
+fn open_grid(alloc: Global) -> Result<Grid, Why> {
+    grid(alloc, two_legs(), same_ladders()).ok_or("a grid")
+}
+
+/// How a line comes to be added.
+#[derive(Clone, Copy)]
+enum Way {
+    Steps,
+    Prepares,
+}
+
+/// Adds a line; false where that was refused.
+fn add(trial: &mut Trial, way: Way, line: &Entry) -> Result<bool, Why> {
+    let answer = match way {
+        Way::Steps => trial.step(line.session, line.command),
+        Way::Prepares => trial.prepare(line.session, line.command),
+    };
+    match answer {
+        Ok(entry) => {
+            if are_same(entry, line) {
+                Ok(true)
+            } else {
+                Err("another line")
+            }
+        }
+        Err(why) => { if is_memory(why) { Ok(false) } else { Err(why) } }
     }
 }
 
-fn open(alloc: Global) -> Result<Core, Fail> {
-    let first = grid(alloc)?;
-    let second = grid(alloc)?;
-    match Core::new(alloc, first, 6) {
-        Ok(core) => Ok(core),
-        Err(_) => Ok(Core::new(alloc, second, 6)?),
+/// Adds a line, and once more where that was refused without a change.
+fn add_again(trial: &mut Trial, way: Way, line: &Entry) -> Result<(), Why> {
+    let before = trial.shown();
+    if add(trial, way, line)? {
+        return Ok(());
     }
+    is_same(trial, before)?;
+    if add(trial, way, line)? {
+        return Ok(());
+    }
+    Err("a line once more")
+}
+
+fn fill(trial: &mut Trial, way: Way, lines: &[Entry]) -> Result<(), Why> {
+    for line in lines {
+        add_again(trial, way, line)?;
+    }
+    trial.has_text(six_lines())
 }
 
 /// An inventory with the six lines.
-fn filled(rt: &impl Abort, alloc: Global) -> Result<Core, Fail> {
-    let mut core = open(alloc)?;
-    for line in JOURNAL {
-        if !step(rt, alloc, &mut core, &line)? {
-            assert!(rt; step(rt, alloc, &mut core, &line)?, "{line:?} once more");
-        }
+fn filled(alloc: Global, way: Way) -> Result<Trial, Why> {
+    let lines = entries(alloc, six_lines())?;
+    let mut trial = open(alloc)?;
+    fill(&mut trial, way, lines.as_slice())?;
+    Ok(trial)
+}
+
+/// No lines, and the rooms of the limits.
+fn open_again(alloc: Global) -> Result<(), Why> {
+    let trial = open(alloc)?;
+    if trial.has_room(place_of((0, 0, 1)), b'Y', 8)
+        && trial.has_room(place_of((1, 1, 1)), b'M', 5)
+    {
+        trial.has_text(no_lines())
+    } else {
+        Err("the rooms of the limits")
     }
-    Ok(core)
-}
-
-/// What calls show beside the lines: the totals, the calls of each session, and rooms.
-#[derive(Clone, Copy, Debug, PartialEq)]
-struct Shown {
-    totals: Totals,
-    calls: [u32; 10],
-    rooms: [u16; 4],
-}
-
-fn room(rt: &impl Abort, core: &Core, at: (Legs, u8)) -> Result<u16, Fail> {
-    let place = place_of(at.0);
-    assert!(rt; core.grid().fits(place), "{place:?} is there");
-    let class = Class::new(at.1).ok_or("class")?;
-    Ok(core.room(place, class))
-}
-
-fn look(rt: &impl Abort, core: &Core) -> Result<Shown, Fail> {
-    let mut rooms = [0u16; 4];
-    for (slot, at) in rooms.iter_mut().zip(ROOMS.iter()) {
-        *slot = room(rt, core, *at)?;
-    }
-    let mut calls = [0u32; 10];
-    for session in 0..10u8 {
-        if let Some(slot) = calls.get_mut(session as usize) {
-            *slot = core.calls_of(session);
-        }
-    }
-    Ok(Shown {
-        totals: core.totals(),
-        calls,
-        rooms,
-    })
-}
-
-/// Compares the lines of an inventory with the first of the journal.
-fn has_lines(rt: &impl Abort, core: &Core, lines: usize) -> Result<(), Fail> {
-    assert_eq!(rt; core.journal().len(), lines, "so many lines");
-    for (entry, line) in core.journal().iter().zip(JOURNAL.iter()) {
-        compare(rt, entry, line)?;
-    }
-    Ok(())
-}
-
-/// Compares an inventory with what it showed before.
-fn is_same(rt: &impl Abort, core: &Core, before: Shown) -> Result<(), Fail> {
-    assert_eq!(rt; look(rt, core)?, before, "what is shown");
-    has_lines(rt, core, before.totals.lines as usize)
-}
-
-/// Prepares the line and adds it; false where that was refused.
-fn prepare(rt: &impl Abort, alloc: Global, core: &mut Core, line: &Line) -> Result<bool, Fail> {
-    let before = look(rt, core)?;
-    let command = command_of(line)?;
-    let session = line.counted.1;
-    assert!(rt;
-        session >= 1 && session <= 8 && core.fits(&command),
-        "{line:?} fits"
-    );
-    let call = core.calls_of(session) + 1;
-    let prepared = match core.prepare(alloc, session, call, command) {
-        Ok(prepared) => prepared,
-        Err(fault) => {
-            assert_eq!(rt; fault, CoreFault::Memory, "{line:?}");
-            is_same(rt, core, before)?;
-            return Ok(false);
-        }
-    };
-    is_same(rt, core, before)?;
-    let entry = core.commit(prepared);
-    compare(rt, entry, line)?;
-    Ok(true)
-}
-
-/// Steps the command of the line; false where that was refused.
-fn step(rt: &impl Abort, alloc: Global, core: &mut Core, line: &Line) -> Result<bool, Fail> {
-    let before = look(rt, core)?;
-    let command = command_of(line)?;
-    let session = line.counted.1;
-    assert!(rt;
-        session >= 1 && session <= 8 && core.fits(&command),
-        "{line:?} fits"
-    );
-    let call = core.calls_of(session) + 1;
-    match core.step(alloc, session, call, command) {
-        Ok(entry) => {
-            compare(rt, entry, line)?;
-            return Ok(true);
-        }
-        Err(fault) => assert_eq!(rt; fault, CoreFault::Memory, "{line:?}"),
-    }
-    is_same(rt, core, before)?;
-    Ok(false)
 }
 
 #[test]
 fn opens_again(rt: HostRuntime) -> Result<(), Fail> {
-    let alloc = rt.alloc();
-    let core = open(alloc)?;
-    assert_eq!(rt;
-        look(&rt, &core)?.rooms,
-        [8, 5, 10, 5],
-        "the rooms of the limits"
-    );
-    has_lines(&rt, &core, 0)
+    Ok(open_again(rt.alloc())?)
 }
 
 #[test]
 fn prepares_again(rt: HostRuntime) -> Result<(), Fail> {
-    let alloc = rt.alloc();
-    let mut core = open(alloc)?;
-    for line in JOURNAL {
-        if !prepare(&rt, alloc, &mut core, &line)? {
-            assert!(rt;
-                prepare(&rt, alloc, &mut core, &line)?,
-                "{line:?} once more"
-            );
-        }
-    }
-    has_lines(&rt, &core, JOURNAL.len())
+    let _ = filled(rt.alloc(), Way::Prepares)?;
+    Ok(())
 }
 
 #[test]
 fn steps_again(rt: HostRuntime) -> Result<(), Fail> {
-    let alloc = rt.alloc();
-    let core = filled(&rt, alloc)?;
-    has_lines(&rt, &core, JOURNAL.len())
+    let _ = filled(rt.alloc(), Way::Steps)?;
+    Ok(())
+}
+
+fn try_part(trial: &Trial) -> Result<Trial, Why> {
+    trial.part(1)
+}
+
+/// The part of flight 1; a refused call is made again.
+fn part_of(trial: &Trial) -> Result<Trial, Why> {
+    match try_part(trial) {
+        Ok(part) => Ok(part),
+        Err(_) => try_part(trial),
+    }
+}
+
+fn part_again(alloc: Global) -> Result<(), Why> {
+    let trial = filled(alloc, Way::Steps)?;
+    let before = trial.shown();
+    let part = part_of(&trial)?;
+    is_same(&trial, before)?;
+    part.has_text(lines_of_flight_1())
 }
 
 #[test]
 fn parts_again(rt: HostRuntime) -> Result<(), Fail> {
-    let alloc = rt.alloc();
-    let core = filled(&rt, alloc)?;
-    let before = look(&rt, &core)?;
-    let part = match core.of_flight(alloc, 1) {
-        Ok(part) => part,
-        Err(_) => {
-            is_same(&rt, &core, before)?;
-            core.of_flight(alloc, 1)?
-        }
-    };
-    is_same(&rt, &core, before)?;
-    assert_eq!(rt; part.journal().len(), PART.len(), "lines of flight 1");
-    for (entry, line) in part.journal().iter().zip(PART.iter()) {
-        compare(&rt, entry, line)?;
+    Ok(part_again(rt.alloc())?)
+}
+
+fn try_replay(alloc: Global, trial: &Trial) -> Result<Trial, Why> {
+    match grid(alloc, two_legs(), same_ladders()) {
+        Some(grid) => trial.again(grid, 6),
+        None => Err("a grid"),
     }
-    Ok(())
+}
+
+/// The replay of a journal, which is told of want of memory alone and then made again.
+fn replayed(alloc: Global, trial: &Trial) -> Result<Trial, Why> {
+    match try_replay(alloc, trial) {
+        Ok(again) => Ok(again),
+        Err(why) => {
+            if is_memory(why) {
+                try_replay(alloc, trial)
+            } else {
+                Err(why)
+            }
+        }
+    }
+}
+
+fn replay_again(alloc: Global) -> Result<(), Why> {
+    let trial = filled(alloc, Way::Steps)?;
+    let before = trial.shown();
+    let again = replayed(alloc, &trial)?;
+    is_same(&trial, before)?;
+    is_same(&again, before)
 }
 
 #[test]
 fn replays_again(rt: HostRuntime) -> Result<(), Fail> {
-    let alloc = rt.alloc();
-    let core = filled(&rt, alloc)?;
-    let before = look(&rt, &core)?;
-    let (first, second) = (grid(alloc)?, grid(alloc)?);
-    let again = match replay(alloc, first, 6, core.journal()) {
-        Ok(again) => again,
-        Err(fault) => {
-            assert_eq!(rt; fault.kind, ReplayKind::Memory, "want of memory alone");
-            replay(alloc, second, 6, core.journal())?
+    Ok(replay_again(rt.alloc())?)
+}
+
+fn copy_again(alloc: Global, entry: &Entry) -> Result<Entry, Why> {
+    match entry.copy(alloc) {
+        Ok(copy) => Ok(copy),
+        Err(_) => match entry.copy(alloc) {
+            Ok(copy) => Ok(copy),
+            Err(_) => Err("a copy once more"),
+        },
+    }
+}
+
+/// Copies each entry, which stays as it is.
+fn copy_all(alloc: Global, all: &[Entry]) -> Result<(), Why> {
+    for entry in all {
+        let copy = copy_again(alloc, entry)?;
+        if !are_same(&copy, entry) {
+            return Err("a copy of a line");
         }
-    };
-    is_same(&rt, &core, before)?;
-    is_same(&rt, &again, before)
+    }
+    Ok(())
+}
+
+fn copy_lines(alloc: Global) -> Result<(), Why> {
+    let lines = entries(alloc, six_lines())?;
+    copy_all(alloc, lines.as_slice())?;
+    if is_text(lines.as_slice(), six_lines()) {
+        Ok(())
+    } else {
+        Err("other lines")
+    }
 }
 
 #[test]
 fn copies_an_entry_again(rt: HostRuntime) -> Result<(), Fail> {
-    let alloc = rt.alloc();
-    let core = filled(&rt, alloc)?;
-    for (entry, line) in core.journal().iter().zip(JOURNAL.iter()) {
-        let copy = match entry.copy(alloc) {
-            Ok(copy) => copy,
-            Err(_) => entry.copy(alloc)?,
-        };
-        compare(&rt, entry, line)?;
-        compare(&rt, &copy, line)?;
+    Ok(copy_lines(rt.alloc())?)
+}
+
+fn copy_of(alloc: Global, grid: &Grid) -> Result<Grid, Why> {
+    match grid.copy(alloc) {
+        Ok(copy) => Ok(copy),
+        Err(_) => match grid.copy(alloc) {
+            Ok(copy) => Ok(copy),
+            Err(_) => Err("a grid once more"),
+        },
+    }
+}
+
+/// Compares the ladders of two grids on the legs of flights 0 and 1.
+fn same_limits(one: &Grid, other: &Grid) -> Result<(), Why> {
+    for flight in 0..2u32 {
+        for leg in 0..2u8 {
+            let steps = one.steps(flight, leg);
+            if steps.len() != 3 || steps != other.steps(flight, leg) {
+                return Err("the ladder of a leg");
+            }
+        }
     }
     Ok(())
 }
 
-/// Compares two grids on the places and legs that are looked at.
-fn same_limits(rt: &impl Abort, one: &Grid, other: &Grid) -> Result<(), Fail> {
-    for (legs, _) in ROOMS {
-        let place = place_of(legs);
-        assert!(rt; one.fits(place) && other.fits(place), "{place:?} is there");
-        assert!(rt;
-            one.steps(legs.0, legs.1) == other.steps(legs.0, legs.1),
-            "the ladder of {place:?}"
-        );
-    }
-    Ok(())
+fn copy_grid(alloc: Global) -> Result<(), Why> {
+    let grid = open_grid(alloc)?;
+    let copy = copy_of(alloc, &grid)?;
+    same_limits(&grid, &copy)
 }
 
 #[test]
 fn copies_a_grid_again(rt: HostRuntime) -> Result<(), Fail> {
-    let alloc = rt.alloc();
-    let grid = grid(alloc)?;
-    let copy = match grid.copy(alloc) {
-        Ok(copy) => copy,
-        Err(_) => grid.copy(alloc)?,
-    };
-    assert_eq!(rt; grid.steps(0, 0).len(), 3, "three classes");
-    same_limits(&rt, &grid, &copy)
+    Ok(copy_grid(rt.alloc())?)
+}
+
+fn counts_of(alloc: Global, grid: &Grid) -> Result<Counts, Why> {
+    match Counts::new(alloc, grid) {
+        Ok(counts) => Ok(counts),
+        Err(_) => match Counts::new(alloc, grid) {
+            Ok(counts) => Ok(counts),
+            Err(_) => Err("counters once more"),
+        },
+    }
+}
+
+fn room(counts: &Counts, letter: u8) -> u16 {
+    match Class::new(letter) {
+        Some(class) => counts.room(place_of((1, 0, 1)), class),
+        None => 9999,
+    }
+}
+
+/// No seat is held: the rooms are those of the limits.
+fn has_limits(counts: &Counts) -> Result<(), Why> {
+    if room(counts, b'F') == 10 && room(counts, b'Y') == 8 && room(counts, b'M') == 5 {
+        Ok(())
+    } else {
+        Err("no seat is held")
+    }
+}
+
+fn count_again(alloc: Global) -> Result<(), Why> {
+    let grid = open_grid(alloc)?;
+    let counts = counts_of(alloc, &grid)?;
+    has_limits(&counts)
 }
 
 #[test]
 fn counts_again(rt: HostRuntime) -> Result<(), Fail> {
-    let alloc = rt.alloc();
-    let grid = grid(alloc)?;
-    let counts = match Counts::new(alloc, &grid) {
-        Ok(counts) => counts,
-        Err(_) => Counts::new(alloc, &grid)?,
-    };
-    for ((legs, letter), room) in ROOMS.iter().zip([8u16, 5, 10, 5].iter()) {
-        let class = Class::new(*letter).ok_or("class")?;
-        assert_eq!(rt;
-            counts.room(place_of(*legs), class),
-            *room,
-            "no seat is held"
-        );
-    }
-    Ok(())
+    Ok(count_again(rt.alloc())?)
 }

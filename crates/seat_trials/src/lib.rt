@@ -1,9 +1,13 @@
-//! The inventory on trial: beside its rules told once more, on places of several legs, and where memory is refused.
-//! It is tests alone, and knows of the inventory what its callers know.
+//! The ladders, journals and inventories on trial: rules told once more, and where memory or a device is refused.
+//! It is tests alone, and knows of what it tests what its callers know.
 #![tactic(auto)]
 
 #[cfg(test)]
+mod count_tests;
+#[cfg(test)]
 mod growth_tests;
+#[cfg(test)]
+mod journal_tests;
 #[cfg(test)]
 mod leg_tests;
 #[cfg(test)]
@@ -12,5 +16,9 @@ mod lots;
 mod plain;
 #[cfg(test)]
 mod side_tests;
+#[cfg(test)]
+mod texts;
+#[cfg(test)]
+mod trial;
 #[cfg(test)]
 mod worked_set;
