@@ -20,7 +20,7 @@ use Rattle.seat_core.specs.Sequential.{State, Outcome, state_of, room_left, answ
 use Rattle.seat_core.specs.Journal.{replay, calls_of, line_of, next_line, IsNext, IsLegal}
 use Rattle.seat_core.specs.Applying.{applied, confirmed_each, replied, IsOrdered, IsNumbered}
 use Rattle.seat_core.specs.Flights.{bookings_on, is_on, advices_anew}
-use Rattle.seat_core.specs.Inventory.{has_memory, IsLawful}
+use Rattle.seat_core.specs.Inventory.{has_memory, HoldsWithinLimits, IsLawful, KeepsLimits}
 use Rattle.seat_core.specs.Showing.{shown}
 use Rattle.seat_core.specs.Tables.{nothing_held}
 use Rattle.seat_core.specs.Books.{book_at, book_for, has_spare, has_spare_in, spare_of, IsEntered, IsKept, IsQueued, SameBooks}
@@ -308,3 +308,9 @@ kept_opened grid limits cap counts same ladders small counted none = record {
   limits = counted;
   seats = none;
 }
+
+-- what is kept holds no more than authorised
+pub kept_within : (opening now : Legs) (cap : ℕ) (journal : List Entry) (books : List Book) (calls : List ℕ) (counts : Counted) → IsKept opening now cap journal books calls counts → HoldsWithinLimits opening journal
+kept_within opening now cap journal books calls counts k =
+    let P : State → Type 0 = λ s. KeepsLimits s.grid s.bookings in
+    record { held = subst P (sym k.lawful.left) k.lawful.within }
