@@ -5,7 +5,7 @@ use seat_core::Command;
 use std::marker::Model;
 
 /// The commands that a session is to book, in order.
-#[derive(Debug, Drop)]
+#[derive(Drop)]
 pub struct Commands {
     items: Vec<Command>,
 }

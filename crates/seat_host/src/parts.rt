@@ -11,7 +11,7 @@ use std::marker::Model;
 use std::sync::Wait;
 
 /// Why no host was opened.
-#[derive(Clone, Copy, Debug, PartialEq, Eq)]
+#[derive(Clone, Copy, PartialEq, Eq)]
 pub enum HostFault {
     /// The number of sessions is not 1 to 8.
     Sessions,

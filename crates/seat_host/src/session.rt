@@ -18,7 +18,7 @@ use std::marker::Model;
 use std::sync::Wait;
 
 /// The line that a call was given.
-#[derive(Debug, Drop)]
+#[derive(Drop)]
 pub struct Receipt {
     entry: Entry,
 }

@@ -20,7 +20,7 @@ use std::marker::Model;
 use std::sync::Wait;
 
 /// Why nothing was gathered.
-#[derive(Clone, Copy, Debug, PartialEq, Eq)]
+#[derive(Clone, Copy, PartialEq, Eq)]
 pub enum GatherFault {
     /// The sessions' numbers are not 1 to the number opened, each once.
     Missing,

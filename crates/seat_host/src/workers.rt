@@ -17,7 +17,7 @@ use std::sync::{Mutex, MutexGuard, Wait};
 use std::thread::{Threads, join_mut};
 
 /// Why a run stopped short: the session and the call that was refused.
-#[derive(Clone, Copy, Debug, PartialEq, Eq)]
+#[derive(Clone, Copy, PartialEq, Eq)]
 pub enum RunFault {
     /// A call of a session gave no line.
     Book {
