@@ -251,16 +251,17 @@ lists_count grid n journal lists legal only is =
     sym (ap (λ (t : Totals). t.lines) (lists_sum grid n journal lists (totals_of journal) legal only is refl))
 
 -- what is gathered keeps the headline
-pub headline_of : (grid : Legs) (cap n : ℕ) (journal : List Entry) (lists : List (List Entry)) (totals : Totals) → IsLegal grid journal → length journal ≤ cap → HoldsWithinLimits grid journal → OnlyFirst n journal
-    → lists ≡ by_session n journal → totals ≡ totals_of journal → Headline grid cap n journal lists totals
-headline_of grid cap n journal lists totals legal capped within only is are = record {
-  legal = legal;
-  capped = capped;
-  within = within;
-  each = lists_agree grid n journal lists legal only is;
-  lines = lists_count grid n journal lists legal only is;
-  own = is;
-  only = only;
-  totals_are = are;
-  sums = lists_sum grid n journal lists totals legal only is are;
-}
+pub headline_of : (grid : Legs) (cap n : ℕ) (journal given : List Entry) (lists : List (List Entry)) (totals : Totals) → IsLegal grid journal → length journal ≤ cap → HoldsWithinLimits grid journal → OnlyFirst n journal
+    → lists ≡ by_session n journal → totals ≡ totals_of journal → given ≡ journal → Headline grid cap n given lists totals
+headline_of grid cap n journal given lists totals legal capped within only is are same =
+    subst (λ (j : List Entry). Headline grid cap n j lists totals) (sym same) (record {
+      legal = legal;
+      capped = capped;
+      within = within;
+      each = lists_agree grid n journal lists legal only is;
+      lines = lists_count grid n journal lists legal only is;
+      own = is;
+      only = only;
+      totals_are = are;
+      sums = lists_sum grid n journal lists totals legal only is are;
+    })
