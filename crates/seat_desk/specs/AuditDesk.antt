@@ -11,6 +11,7 @@ use Rattle.seat_journal.specs.declared.fault.JournalKind.TheVariants as journal_
 use Rattle.seat_core.specs.declared.fault.ReplayFault.{ReplayFault}
 use Rattle.seat_core.specs.declared.fault.ReplayKind.{ReplayKind}
 use Rattle.seat_core.specs.declared.fault.ReplayKind.TheVariants as replay_kinds
+use Rattle.seat_core.specs.Inventory.{HoldsWithinLimits}
 use Rattle.seat_core.specs.Journal.{IsLegal}
 use Rattle.seat_core.specs.Replaying.{replay_fault}
 use Rattle.seat_core.specs.Totals.{totals_of}
@@ -29,12 +30,13 @@ audit_line totals =
 abbrev pub most_lines : ℕ
 most_lines = 999_999
 
--- the bytes are the text of a legal history over these limits, and the line says what it comes to
+-- the bytes are the text of a legal history over these limits, after which no leg holds more than authorised, and the line says what it comes to
 pub record IsAudited (grid : Legs) (bytes line : List ℕ) : Type 0 where
   pub entries : List Entry
   pub is_text : IsJournalText bytes entries
   pub legal : IsLegal grid entries
   pub few : length entries ≤ most_lines
+  pub within : HoldsWithinLimits grid entries
   pub sums : line ≡ audit_line (totals_of entries)
 
 -- the fault is the first of the text, or that of the entries that it is the text of
@@ -44,9 +46,9 @@ IsRefusedJournal grid (Replay fault) bytes =
     (entries : List Entry) × IsJournalText bytes entries × (replay_fault grid most_lines entries ≡ Some fault)
 IsRefusedJournal grid _ bytes = ⊥
 
--- and nothing to be audited
+-- and there is no such history
 abbrev pub IsUnaudited : Legs → List ℕ → Type 0
-IsUnaudited grid bytes = (line : List ℕ) → IsAudited grid bytes line → ⊥
+IsUnaudited grid bytes = (entries : List Entry) → IsJournalText bytes entries → IsLegal grid entries → length entries ≤ most_lines → ⊥
 
 pub record IsUnlawful (grid : Legs) (fault : DeskFault) (bytes : List ℕ) : Type 0 where
   pub refused : IsRefusedJournal grid fault bytes

@@ -9,8 +9,10 @@ use Rattle.seat_nesting.specs.Nesting.{Legs}
 use Rattle.seat_journal.specs.declared.entry.Entry.{Entry}
 use Rattle.seat_core.specs.declared.totals.Totals.{Totals}
 use Rattle.seat_core.specs.Totals.{confirmed_by, released_by, totals_of}
+use Rattle.seat_core.specs.Inventory.{HoldsWithinLimits}
 use Rattle.seat_core.specs.Journal.{IsNext, IsLegal}
 use Rattle.seat_host.specs.Histories.{of_session, by_session, OnlyFirst}
+use Rattle.seat_host.specs.Headline.{Headline}
 use Rattle.seat_host.specs.Agreement.{nth, receipts_of, receipt_of, receipts_in, totals_in, HasReceipt, HasLine, Agrees}
 use Rattle.seat_host.proofs.Booking.{dec_nat}
 use Rattle.seat_host.proofs.Own.{own_append, own_one, calls_own}
@@ -247,3 +249,19 @@ lists_sum grid n journal lists totals legal only is are =
 pub lists_count : (grid : Legs) (n : ℕ) (journal : List Entry) (lists : List (List Entry)) → IsLegal grid journal → OnlyFirst n journal → lists ≡ by_session n journal → receipts_in lists ≡ length journal
 lists_count grid n journal lists legal only is =
     sym (ap (λ (t : Totals). t.lines) (lists_sum grid n journal lists (totals_of journal) legal only is refl))
+
+-- what is gathered keeps the headline
+pub headline_of : (grid : Legs) (cap n : ℕ) (journal given : List Entry) (lists : List (List Entry)) (totals : Totals) → IsLegal grid journal → length journal ≤ cap → HoldsWithinLimits grid journal → OnlyFirst n journal
+    → lists ≡ by_session n journal → totals ≡ totals_of journal → given ≡ journal → Headline grid cap n given lists totals
+headline_of grid cap n journal given lists totals legal capped within only is are same =
+    subst (λ (j : List Entry). Headline grid cap n j lists totals) (sym same) (record {
+      legal = legal;
+      capped = capped;
+      within = within;
+      each = lists_agree grid n journal lists legal only is;
+      lines = lists_count grid n journal lists legal only is;
+      own = is;
+      only = only;
+      totals_are = are;
+      sums = lists_sum grid n journal lists totals legal only is are;
+    })

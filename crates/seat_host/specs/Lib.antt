@@ -1,5 +1,6 @@
 pub mod Agreement
 pub mod Answering
+pub mod Headline
 pub mod Histories
 pub mod Ledgers
 pub mod Named

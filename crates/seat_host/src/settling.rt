@@ -1,10 +1,8 @@
 //! Gathering: what a host and all its sessions come to.
 ghost use Rattle.std.specs.Prelude.{◌≡◌, ◌↔◌, ◌≤◌, ◌<◌, ◌-◌, ℕ, [], length, false, true, slice_set, IfOk, IfErr, OnOk};
 ghost use Rattle.std.specs.List.{AllByRecursion};
-ghost use Rattle.seat_core.specs.Journal.{IsLegal};
-ghost use Rattle.seat_core.specs.Totals.{totals_of};
-ghost use Rattle.seat_host.specs.Histories.{OnlyFirst, by_session};
-ghost use Rattle.seat_host.specs.Agreement.{receipts_in, totals_in, Agrees};
+ghost use Rattle.seat_host.specs.Histories.{by_session};
+ghost use Rattle.seat_host.specs.Headline.{Headline};
 ghost use Rattle.seat_host.specs.Settling.{has_all, has_id, IsConfirmed};
 ghost use Rattle.seat_host.specs.declared.settling.GatherFault.TheVariants.{Missing};
 
@@ -84,7 +82,6 @@ impl Receipts {
     }
 }
 
-#[tactic(auto, using(crate::proofs::Agreeing::lists_agree, crate::proofs::Agreeing::lists_count))]
 /// Settles a host with all its sessions: each receipt is the journal's line of its call, and no line is left out.
 pub fn gather<K: Hosting, R: Wait>(
     rt: &R,
@@ -92,13 +89,7 @@ pub fn gather<K: Hosting, R: Wait>(
     host: Host<K>,
     sessions: Vec<Session<K>>,
 ) -> Result<Settled, (GatherFault, Host<K>, Vec<Session<K>>)>
-    ensures legal { IfOk result (λ r. IsLegal K.grid r.journal) }
-    ensures totals { IfOk result (λ r. r.totals ≡ totals_of r.journal) }
-    ensures receipts { IfOk result (λ r. r.receipts ≡ by_session K.sessions r.journal) }
-    ensures only { IfOk result (λ r. OnlyFirst K.sessions r.journal) }
-    ensures lines { IfOk result (λ r. receipts_in r.receipts ≡ length r.journal) }
-    ensures each { IfOk result (λ r. Agrees r.receipts r.journal) }
-    ensures sums { IfOk result (λ r. r.totals ≡ totals_in r.receipts) }
+    ensures headline { IfOk result (λ r. Headline K.grid K.cap K.sessions r.journal r.receipts r.totals) }
     ensures handed { IfOk result (λ r. AllByRecursion (IsConfirmed K.sessions r.journal) sessions.items) }
     ensures all { OnOk result (has_all K.sessions sessions.items ≡ true) }
     ensures missing { IfErr result (λ f. (f.0 ≡ Missing) ↔ (has_all K.sessions sessions.items ≡ false)) }

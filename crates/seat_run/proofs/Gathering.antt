@@ -8,11 +8,13 @@ use Rattle.std.proofs.lemmas.List.{length-map, take_all, take_more, map_push}
 use Rattle.seat_journal.specs.declared.entry.Command.{Command}
 use Rattle.seat_journal.specs.declared.entry.Entry.{Entry}
 use Rattle.seat_nesting.specs.Nesting.{Legs}
-use Rattle.seat_core.specs.Journal.{IsLegal}
+use Rattle.seat_core.specs.declared.totals.Totals.{Totals}
+use Rattle.seat_core.specs.Totals.{totals_of}
 use Rattle.seat_host.specs.Histories.{of_session, by_session}
 use Rattle.seat_host.specs.Sessions.{Seat, fresh, fresh_sessions}
 use Rattle.seat_host.specs.Settling.{IsConfirmed}
-use Rattle.seat_host.specs.Histories.{OnlyFirst}
+use Rattle.seat_host.specs.Headline.{Headline}
+use Rattle.seat_desk.specs.AuditDesk.{most_lines}
 use Rattle.seat_host.specs.Working.{AllHaveRun, HasRun, IsRefused, NamesFirst}
 use Rattle.seat_host.specs.declared.desk.BookFault.{BookFault}
 use Rattle.seat_host.specs.declared.desk.BookFault.TheVariants.{JournalFull as Full, Memory as NoRoom}
@@ -67,14 +69,25 @@ module _ (n : ℕ) (lists : List (List Command)) (news : List Seat) (journal : L
       ∙ (ap (λ (l : List (List Command)). l ++ commands_in (of_session (suc k) journal) ∷ []) (lists_to k (omega (arith, le)))
       ∙ (ap (λ (x : List Command). take k lists ++ x ∷ []) (list_at k (omega (arith, le))) ∙ sym more))
 
-pub settled_history : (grid : Legs) (n : ℕ) (lists : List (List Command)) (olds news : List Seat) (journal : List Entry)
+-- the headline, said of a journal alone
+of_journal : (grid : Legs) (cap n most count : ℕ) (journal : List Entry) (receipts : List (List Entry)) (totals : Totals) → cap ≡ most → n ≡ count
+    → Headline grid cap n journal receipts totals → Headline grid most count journal (by_session count journal) (totals_of journal)
+of_journal grid cap n most count journal receipts totals cap_is count_is h =
+    let own = subst (λ (r : List (List Entry)). Headline grid cap n journal r totals) h.own h in
+    let summed = subst (λ (t : Totals). Headline grid cap n journal (by_session n journal) t) h.totals_are own in
+    let capped = subst (λ (c : ℕ). Headline grid c n journal (by_session n journal) (totals_of journal)) cap_is summed in
+    subst (λ (k : ℕ). Headline grid most k journal (by_session k journal) (totals_of journal)) count_is capped
+
+pub own_receipts : (grid : Legs) (cap n : ℕ) (journal : List Entry) (receipts : List (List Entry)) (totals : Totals) → Headline grid cap n journal receipts totals → receipts ≡ by_session n journal
+own_receipts grid cap n journal receipts totals h = h.own
+
+pub settled_history : (grid : Legs) (cap n : ℕ) (lists : List (List Command)) (olds news : List Seat) (journal : List Entry) (receipts : List (List Entry)) (totals : Totals)
     → olds ≡ fresh_sessions n → length lists ≡ n → AllHaveRun lists olds news → AllByRecursion (IsConfirmed n journal) news
-    → IsLegal grid journal → OnlyFirst n journal → IsHistoryOf grid lists journal
-settled_history grid n lists olds news journal opened count run confirmed legal only = record {
-  legal = legal;
+    → cap ≡ most_lines → Headline grid cap n journal receipts totals → IsHistoryOf grid lists journal
+settled_history grid cap n lists olds news journal receipts totals opened count run confirmed most h = record {
+  headline = of_journal grid cap n most_lines (length lists) journal receipts totals most (sym count) h;
   asked = subst (λ (k : ℕ). map commands_in (by_session k journal) ≡ lists) (sym count)
       (lists_to n lists news journal count (subst (λ (l : List Seat). AllHaveRun lists l news) opened run) confirmed n (omega arith) ∙ take_all n lists (omega (arith, count)));
-  only = subst (λ (k : ℕ). OnlyFirst k journal) (sym count) only;
 }
 
 -- ---- refusals

@@ -122,7 +122,7 @@ has_request grid flights scripts history past es e h right is next =
         either (suc a) (suc b) = ⊎_elim (λ (le : a ≤ b). inl (omega (arith, le))) (λ (lt : b < a). inr (omega (arith, lt))) (either a b)
 
         beyond : length scripts < s → ⊥
-        beyond lt = let empty : length (of_session s history) ≡ 0 = ap length (h.only.none s (omega (arith, lt, n))) in omega (arith, empty, counted)
+        beyond lt = let empty : length (of_session s history) ≡ 0 = ap length (h.headline.only.none s (omega (arith, lt, n))) in omega (arith, empty, counted)
 
 have_requests : (grid : Legs) (flights : List Flown) (scripts : List (List Request)) (history past es : List Entry)
     → IsHistoryOf grid (map (commands_of flights) scripts) history → All AreRight scripts → history ≡ past ++ es → IsLegalAfter grid past es → AllByRecursion (HasRequest scripts) es
@@ -149,8 +149,8 @@ all_lines : (grid : Legs) (flights : List Flown) (scripts : List (List Request))
     → IsHistoryOf grid (map (commands_of flights) scripts) history → AllByRecursion AreRight scripts → AllByRecursion (IsAnswerable scripts history) history
 all_lines grid flights scripts history h right =
     answer_each scripts history history
-    (have_requests grid flights scripts history [] history h (all_of AreRight scripts right) refl (legal_to_after grid [] history h.legal))
-    (legal_is_advised grid history h.legal)
+    (have_requests grid flights scripts history [] history h (all_of AreRight scripts right) refl (legal_to_after grid [] history h.headline.legal))
+    (legal_is_advised grid history h.headline.legal)
 
 -- all lines of the history can be answered, also session by session
 pub answerable : (grid : Legs) (flights : List Flown) (scripts : List (List Request)) (history : List Entry)

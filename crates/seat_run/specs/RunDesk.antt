@@ -10,8 +10,10 @@ use Rattle.seat_journal.specs.Text.{journal_text}
 use Rattle.seat_journal.specs.declared.entry.Advice.{Advice}
 use Rattle.seat_journal.specs.declared.entry.Command.{Command}
 use Rattle.seat_journal.specs.declared.entry.Entry.{Entry}
-use Rattle.seat_core.specs.Journal.{IsLegal}
-use Rattle.seat_host.specs.Histories.{OnlyFirst, by_session}
+use Rattle.seat_core.specs.Totals.{totals_of}
+use Rattle.seat_host.specs.Headline.{Headline}
+use Rattle.seat_host.specs.Histories.{by_session}
+use Rattle.seat_desk.specs.AuditDesk.{most_lines}
 use Rattle.seat_desk.specs.FlightsDesk.{IsText}
 use Rattle.seat_desk.specs.Loading.{IsLoaded, IsRefusedLoad, IsTooLargeLoad}
 use Rattle.seat_run.specs.Requests.{AreScripts, IsRefusedAmong, IsTooLargeAmong, commands_of}
@@ -25,11 +27,10 @@ use Rattle.seat_host.specs.declared.workers.RunFault.TheVariants as run_faults
 abbrev pub commands_in : List Entry → List Command
 commands_in lines = map (λ (e : Entry). e.command) lines
 
--- a history of lists of commands: the lines of session 1 are the first list, in order, and so on, and no other session has any
+-- a history of lists of commands: the headline holds of it, with its lines by session as receipts, and the lines of session 1 are the first list, in order, and so on
 pub record IsHistoryOf (grid : Legs) (lists : List (List Command)) (history : List Entry) : Type 0 where
-  pub legal : IsLegal grid history
+  pub headline : Headline grid most_lines (length lists) history (by_session (length lists) history) (totals_of history)
   pub asked : map commands_in (by_session (length lists) history) ≡ lists
-  pub only : OnlyFirst (length lists) history
 
 -- ---- the replies
 
