@@ -27,8 +27,8 @@ pub enum RunFault {
     },
 }
 
-// The calls of a turn: so few that sessions book side by side, and so many that threads rarely meet at the lock.
-const TURN: usize = 32;
+// The calls of a turn.
+const TURN: usize = 1024;
 
 /// Books each list in order, by a worker of its own for the session at its place. A worker whose call is refused
 /// stops there, and the others finish.
