@@ -12,7 +12,8 @@ use Rattle.ssim_records.specs.Days.{date_in}
 use Rattle.ssim_records.specs.RecordFields.{padded_in, positive_in, six_in, mode_in, designator_in, station_in, suffix_in, byte_in, until_in, days_in, rate_in, time_in, offset_in, shift_in, continued_in}
 use Rattle.ssim_records.specs.Cut.{cut_at, ended, end_at}
 use Rattle.ssim_records.specs.SetFaults.{missing}
-use Rattle.ssim_records.specs.SetSteps.{◌>>=◌, want, check, carrier_at, leg_at, leg_name_at, leg_period_at, leg_path_at, trailer_at, header_at, second_at, segment_at, numbered_at, header_step, carrier_step, leg_step, segment_step, trailer_step, body_step, type_of, has_serial, taken, within, is_start, step, moved, cut_then, next}
+use Rattle.ssim_records.specs.Chains.{◌>>=◌, want, check}
+use Rattle.ssim_records.specs.SetSteps.{carrier_at, leg_at, leg_name_at, leg_period_at, leg_path_at, trailer_at, header_at, second_at, segment_at, numbered_at, header_step, carrier_step, leg_step, segment_step, trailer_step, body_step, type_of, has_serial, taken, within, is_start, step, moved, cut_then, next}
 
 abbrev refusal : {A : Type 0} → SetKind → Result A SetKind
 refusal kind = Err kind
@@ -28,7 +29,7 @@ some_none x e = cc
 
 -- ---- chains
 
-want_none : {A B : Type 0} (place : ℕ) (o : Option A) (f : A → Result B SetKind) → (want place o >>= f) ≡ Err kinds.Memory → ((x : A) → (f x) ≡ Err kinds.Memory → ⊥) → ⊥
+want_none : {A B : Type 0} (place : ℕ) (o : Option A) (f : A → Result B SetKind) → (want (kinds.BadField place) o >>= f) ≡ Err kinds.Memory → ((x : A) → (f x) ≡ Err kinds.Memory → ⊥) → ⊥
 want_none place None f e k = cc
 want_none place (Some x) f e k = k x e
 
