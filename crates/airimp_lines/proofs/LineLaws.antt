@@ -7,25 +7,13 @@ use Rattle.airimp_lines.specs.declared.fault.LineFault.{LineFault}
 use Rattle.airimp_lines.specs.declared.fault.LineFault.TheVariants as faults
 use Rattle.airimp_lines.specs.declared.segment.Asked.{Asked}
 use Rattle.airimp_lines.specs.declared.segment.Undated.{Undated}
-use Rattle.airimp_lines.specs.Fields.{fixed_at, byte_at, numeral_at, letters_at, in_month, day_at, is_tail}
-use Rattle.airimp_lines.specs.Reading.{◌>>=◌, want, check, asked_at, undated_at}
-use Rattle.airimp_lines.specs.Grammar.{IsNumberText, letters_text, Spells}
-use Rattle.airimp_lines.proofs.FieldLaws.{fixed_takes, fixed_again, byte_takes, numeral_takes, numeral_again, letters_takes, letters_again, day_takes, day_again, length_airline, length_station, length_code, letters_stop, day_stops, tail_stops}
-
--- ---- steps
-
--- a step that was taken, and what follows it
-pub with_want : {A B C : Type 0} (fault : LineFault) (o : Option A) (f : A → Result B LineFault) (y : B) → (want fault o >>= f) ≡ Ok y → ((x : A) → o ≡ Some x → f x ≡ Ok y → C) → C
-with_want fault None f y e k = absurd cc
-with_want fault (Some x) f y e k = k x refl e
-
-pub with_check : {B C : Type 0} (fault : LineFault) (b : Bool) (f : Unit {0} → Result B LineFault) (y : B) → (check fault b >>= f) ≡ Ok y → (b ≡ true → f tt ≡ Ok y → C) → C
-with_check fault true f y e k = k refl e
-with_check fault false f y e k = absurd cc
-
-pub with_step : {A B C : Type 0} (r : Result A LineFault) (f : A → Result B LineFault) (y : B) → (r >>= f) ≡ Ok y → ((x : A) → r ≡ Ok x → f x ≡ Ok y → C) → C
-with_step (Ok x) f y e k = k x refl e
-with_step (Err fault) f y e k = absurd cc
+use Rattle.ssim_records.specs.Fields.{fixed_at, byte_at, numeral_at, IsNumberText}
+use Rattle.ssim_records.proofs.Chains.{with_want, with_check, with_step}
+use Rattle.ssim_records.proofs.LeadingFields.{fixed_takes, fixed_again, byte_takes, numeral_takes, numeral_again, length_airline, length_station, length_code}
+use Rattle.airimp_lines.specs.Fields.{letters_at, in_month, day_at, is_tail}
+use Rattle.airimp_lines.specs.Reading.{asked_at, undated_at}
+use Rattle.airimp_lines.specs.Grammar.{letters_text, Spells}
+use Rattle.airimp_lines.proofs.FieldLaws.{letters_takes, letters_again, day_takes, day_again, letters_stop, day_stops, tail_stops}
 
 -- ---- what is asked
 

@@ -1,30 +1,9 @@
--- Fields at the front of the bytes: a value, and the bytes after it.
-use Rattle.std.specs.Prelude.{ℕ, Bool, true, ◌&&◌, ◌||◌, ◌==◌, nat_lt, nat_le, if◌then◌else◌, List, [], ◌∷◌, length, take, drop, Option, Some, None}
-use Rattle.std.specs.Char.{is_ascii_uppercase, is_ascii_digit}
+-- The fields that segment lines alone have.
+use Rattle.std.specs.Prelude.{ℕ, Bool, true, ◌&&◌, ◌||◌, ◌==◌, nat_le, if◌then◌else◌, List, [], ◌∷◌, take, drop, Option, Some, None}
+use Rattle.std.specs.Char.{is_ascii_uppercase}
 use Rattle.std.specs.List.{prefix_len, list_all}
-use Rattle.std.specs.Str.Parse.{digits_value}
 use Rattle.ssim_records.specs.Bytes.{is_printable}
-use Rattle.ssim_records.specs.Fields.{two_are, two_value, month_of}
-
-abbrev pub Field : Type 0 → Type 0
-Field A = Option (A × List ℕ)
-
--- n bytes that pass the test
-abbrev pub fixed_at : ℕ → (List ℕ → Bool) → List ℕ → Field (List ℕ)
-fixed_at n test bytes = if test (take n bytes) then Some (take n bytes, drop n bytes) else None
-
--- this byte
-abbrev pub byte_at : ℕ → List ℕ → Option (List ℕ)
-byte_at b [] = None
-byte_at b (c ∷ rest) = if c == b then Some rest else None
-
--- the run of digits, which is not empty, not too long, and not 0
-abbrev pub numeral_in : ℕ → List ℕ → List ℕ → Field ℕ
-numeral_in most run rest =
-    if nat_le (length run) most && nat_lt 0 (digits_value 10 run) then Some (digits_value 10 run, rest) else None
-
-unfoldable pub numeral_at : ℕ → List ℕ → Field ℕ
-numeral_at most bytes = numeral_in most (take (prefix_len is_ascii_digit bytes) bytes) (drop (prefix_len is_ascii_digit bytes) bytes)
+use Rattle.ssim_records.specs.Fields.{Field, two_are, two_value, month_of}
 
 -- the run of letters: a class, or a suffix and a class
 abbrev pub letters_in : List ℕ → List ℕ → Field (Option ℕ × ℕ)
