@@ -1,11 +1,12 @@
 -- A field that is read is spelled so, and what is spelled so is read.
-use Rattle.std.proofs.Common.{◌≡◌, ℕ, ◌<◌, ◌≤◌, Bool, true, false, ltb, leb, eqb, ◌&&◌, List, [], ◌∷◌, ◌++◌, length, take, drop, Option, Some, None, refl, sym, ap, subst, ◌∙◌, IsTrue, arith}
+use Rattle.std.proofs.Common.{◌≡◌, ℕ, ◌<◌, ◌≤◌, Bool, true, false, leb, eqb, ◌&&◌, List, [], ◌∷◌, ◌++◌, take, drop, Option, Some, None, refl, sym, ap, subst, ◌∙◌, IsTrue, arith, cond, ◌||◌, pos}
 use Rattle.std.specs.Prelude.{IfSome}
 use Rattle.std.specs.Char.{is_ascii_digit, is_ascii_uppercase}
 use Rattle.std.specs.List.{prefix_len, list_all}
-use Rattle.std.proofs.lemmas.Bool.{eqb-true}
+use Rattle.std.proofs.lemmas.Bool.{eqb-true, leb-true}
 use Rattle.std.proofs.lemmas.Bool.Decides.{nat_tests}
 use Rattle.std.proofs.lemmas.List.{take-append-drop}
+use Rattle.jiff_core.specs.Calendar.{days_in_month, is_leap_year}
 use Rattle.ssim_records.specs.Days.{two_digits, month_name, day_month}
 use Rattle.ssim_records.specs.Fields.{suffix_text, two_are, two_value, month_of}
 use Rattle.ssim_records.proofs.Tests.{passed, guarded, both_true, some_is}
@@ -70,6 +71,14 @@ pub record IsDayText (text : List ℕ) (day month : ℕ) : Type 0 where
   pub high : month ≤ 12
   pub in_month : in_month day month ≡ true
 
+in_31 : (leap : Bool) (m d : ℕ) → d ≤ cond (eqb m 2) (cond leap 29 28) (cond (eqb m 4 || eqb m 6 || eqb m 9 || eqb m 11) 30 31) → d ≤ 31
+in_31 leap m d h = grind (arith, nat_tests, h)
+
+-- no month has more days than 31
+month_31 : (day month : ℕ) → in_month day month ≡ true → day ≤ 31
+unfolding in_month
+month_31 day month h = in_31 (is_leap_year (pos 2104)) month day (leb-true day (days_in_month (pos 2104) month) (both_true (leb 1 day) (leb day (days_in_month (pos 2104) month)) h).1)
+
 day_in_takes : (n : ℕ) (after : List ℕ) (o : Option ℕ) (day month : ℕ) (rest : List ℕ) → day_in n after o ≡ Some ((day, month), rest) → (o ≡ Some month) × (n ≡ day) × (after ≡ rest) × (in_month day month ≡ true)
 day_in_takes n after None day month rest e = absurd cc
 day_in_takes n after (Some m) day month rest e =
@@ -100,7 +109,7 @@ read_again day month (a ∷ []) rest h is = absurd h
 read_again day month (a ∷ b ∷ []) rest h is = absurd h
 read_again day month (a ∷ b ∷ c ∷ d ∷ name) rest h is = absurd h
 read_again day month (a ∷ b ∷ c ∷ []) rest h is =
-    let small : day < 100 = grind (arith, nat_tests, is) in
+    let small : day < 100 = omega (arith, month_31 day month is) in
     let two = two_again day small in
     rw (two.0, two.1, h, is) refl
 
@@ -116,7 +125,7 @@ letters_stop (Some suffix) class rest s c = no_digit suffix s
 
 pub day_stops : (day month : ℕ) (rest : List ℕ) → in_month day month ≡ true → Stops is_ascii_uppercase (day_month day month ++ rest)
 day_stops day month rest h =
-    let d : day ≤ 31 = grind (arith, nat_tests, h) in
+    let d : day ≤ 31 = month_31 day month h in
     grind (arith, nat_tests)
 
 pub tail_stops : (tail : List ℕ) → is_tail tail ≡ true → Stops is_ascii_digit tail

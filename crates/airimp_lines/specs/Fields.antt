@@ -1,7 +1,8 @@
 -- The fields that segment lines alone have.
-use Rattle.std.specs.Prelude.{ℕ, Bool, true, ◌&&◌, ◌||◌, ◌==◌, nat_le, if◌then◌else◌, List, [], ◌∷◌, take, drop, Option, Some, None}
+use Rattle.std.specs.Prelude.{ℕ, Bool, true, ◌&&◌, ◌==◌, nat_le, if◌then◌else◌, List, [], ◌∷◌, take, drop, Option, Some, None, pos}
 use Rattle.std.specs.Char.{is_ascii_uppercase}
 use Rattle.std.specs.List.{prefix_len, list_all}
+use Rattle.jiff_core.specs.Calendar.{days_in_month}
 use Rattle.ssim_records.specs.Bytes.{is_printable}
 use Rattle.ssim_records.specs.Fields.{Field, two_are, two_value, month_of}
 
@@ -14,12 +15,9 @@ letters_in _ rest = None
 unfoldable pub letters_at : List ℕ → Field (Option ℕ × ℕ)
 letters_at bytes = letters_in (take (prefix_len is_ascii_uppercase bytes) bytes) (drop (prefix_len is_ascii_uppercase bytes) bytes)
 
--- the days of a month in the year that has most
-abbrev pub longest_month : ℕ → ℕ
-longest_month m = if m == 2 then 29 else if (m == 4) || (m == 6) || (m == 9) || (m == 11) then 30 else 31
-
-abbrev pub in_month : ℕ → ℕ → Bool
-in_month day month = nat_le 1 day && nat_le day (longest_month month)
+-- a day of the month in some year: the leap year 2104 has each
+unfoldable pub in_month : ℕ → ℕ → Bool
+in_month day month = nat_le 1 day && nat_le day (days_in_month (pos 2104) month)
 
 abbrev pub day_in : ℕ → List ℕ → Option ℕ → Field (ℕ × ℕ)
 day_in day rest None = None

@@ -1,6 +1,6 @@
 -- The grammar of segment lines (AIRIMP), apart from how one is read. The single blanks, the suffix, the tail and the
 -- choice of the year are this product's own.
-use Rattle.std.specs.Prelude.{◌^◌, decimal, ◌≡◌, ℕ, ◌≤◌, ◌<◌, IsTrue, List, [], ◌∷◌, ◌++◌, length, Option, Some, None, IfSome}
+use Rattle.std.specs.Prelude.{◌^◌, decimal, ◌≡◌, ℕ, ◌≤◌, ◌<◌, IsTrue, List, [], ◌∷◌, ◌++◌, length, Option, IfSome}
 use Rattle.std.specs.Char.{is_ascii_uppercase}
 use Rattle.ssim_records.specs.Names.{is_airline, is_station, is_code}
 use Rattle.ssim_records.specs.Days.{IsDate, day_month}

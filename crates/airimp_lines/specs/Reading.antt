@@ -1,5 +1,5 @@
 -- Reading a segment line from left to right, with the first fault that is met.
-use Rattle.std.specs.Prelude.{ℕ, ◌&&◌, nat_le, Bool, true, false, List, length, Option, Some, None, Result, Ok, Err}
+use Rattle.std.specs.Prelude.{ℕ, ◌&&◌, nat_le, List, length, Result, Ok}
 use Rattle.ssim_records.specs.Names.{is_airline, is_station, is_code}
 use Rattle.airimp_lines.specs.declared.fault.LineFault.{LineFault}
 use Rattle.airimp_lines.specs.declared.fault.LineFault.TheVariants as faults
