@@ -1,12 +1,12 @@
 -- A row that is read is spelled so, and what is spelled so is read.
-use Rattle.std.proofs.Common.{◌≡◌, ℕ, Bool, true, false, leb, List, ◌∷◌, ◌++◌, Option, Some, None, Result, Ok, Err, refl, ap, subst, ◌∙◌}
+use Rattle.std.proofs.Common.{◌≡◌, ℕ, true, leb, List, ◌∷◌, ◌++◌, Option, Some, None, Result, Ok, Err, refl, ap, subst, ◌∙◌}
 use Rattle.std.specs.Prelude.{IfOk, codes}
 use Rattle.std.proofs.lemmas.Bool.{leb-true, le-leb}
 use Rattle.ssim_records.specs.Names.{is_airline, is_station}
+use Rattle.ssim_records.proofs.Reaches.{ok_is}
 use Rattle.seat_nesting.specs.Nesting.{Steps, HasLetters, IsLadder}
-use Rattle.ssim_records.specs.Chains.{◌>>=◌, want, check}
 use Rattle.ssim_records.specs.Fields.{byte_at, word_at, fixed_at, numeral_at, suffix_text}
-use Rattle.ssim_records.proofs.Chains.{with_want, with_check, with_step}
+use Rattle.ssim_records.proofs.Chains.{with_want, with_check, with_step, want_none, check_none, step_none}
 use Rattle.ssim_records.proofs.LeadingFields.{byte_takes, word_takes, word_again, fixed_takes, fixed_again, length_airline, length_station, numeral_takes, numeral_again}
 use Rattle.seat_nesting.specs.LadderText.{SpellsSteps, ladder_in, ladder_of, ladder_or, steps_in}
 use Rattle.seat_nesting.specs.Ladders.{ladder_fault}
@@ -19,13 +19,6 @@ use Rattle.seat_nesting.specs.declared.limit_fault.LimitKind.TheVariants as kind
 use Rattle.seat_nesting.proofs.LadderLaws.{is_found, is_only, steps_take, letters_of}
 use Rattle.seat_nesting.proofs.LadderFaults.{is_ladder_of}
 use Rattle.seat_nesting.proofs.RowFieldLaws.{suffix_takes, suffix_again, suffix_stops, date_takes_front, date_again_front}
-
-unfoldable pub done : LimitRow → Result LimitRow LimitKind
-done row = Ok row
-
-row_is : (x y : LimitRow) → done x ≡ done y → x ≡ y
-unfolding done
-row_is x y e = cc
 
 -- ---- the ladder of a row
 
@@ -82,24 +75,6 @@ assemble line head airline number period from second to pair board off entries l
 
 -- ---- no fault of a row is want of memory
 
-abbrev refusal : {A : Type 0} → LimitKind → Result A LimitKind
-refusal kind = Err kind
-
-kind_is : {A : Type 0} (a b : LimitKind) → refusal {A = A} a ≡ refusal b → a ≡ b
-kind_is a b e = cc
-
-want_none : {A B : Type 0} (fault : LimitKind) (o : Option A) (f : A → Result B LimitKind) → (want fault o >>= f) ≡ Err kinds.Memory → (fault ≡ kinds.Memory → ⊥) → ((x : A) → f x ≡ Err kinds.Memory → ⊥) → ⊥
-want_none {B = B} fault None f e other k = other (kind_is {A = B} fault kinds.Memory e)
-want_none fault (Some x) f e other k = k x e
-
-check_none : {B : Type 0} (fault : LimitKind) (b : Bool) (f : Unit {0} → Result B LimitKind) → (check fault b >>= f) ≡ Err kinds.Memory → (fault ≡ kinds.Memory → ⊥) → (f tt ≡ Err kinds.Memory → ⊥) → ⊥
-check_none fault true f e other k = k e
-check_none {B = B} fault false f e other k = other (kind_is {A = B} fault kinds.Memory e)
-
-last_none : (r : Result Steps LimitKind) (f : Steps → LimitRow) → (r >>= (λ x. Ok (f x))) ≡ Err kinds.Memory → (r ≡ Err kinds.Memory → ⊥) → ⊥
-last_none (Ok x) f e k = absurd cc
-last_none (Err kind) f e k = let same : kind ≡ kinds.Memory = kind_is {A = LimitRow} kind kinds.Memory e in k (ap (λ (x : LimitKind). refusal {A = Steps} x) same)
-
 ladder_or_none : (steps : Steps) (o : Option LadderFault) → ladder_or steps o ≡ Err kinds.Memory → ⊥
 ladder_or_none steps None e = cc
 ladder_or_none steps (Some fault) e = cc
@@ -127,7 +102,7 @@ row_none line e =
     want_none kinds.Pair (fixed_at 3 is_station pair) _ e8 (λ k. absurd cc) (λ board e9.
     want_none kinds.Pair (fixed_at 3 is_station board.1) _ e9 (λ k. absurd cc) (λ off e10.
     want_none kinds.Entry (byte_at 32 off.1) _ e10 (λ k. absurd cc) (λ entries e11.
-    last_none (ladder_in entries) _ e11 (ladder_none entries)))))))))))))
+    step_none (ladder_in entries) _ e11 (ladder_none entries) (λ ladder k. absurd cc)))))))))))))
 
 -- ---- the row that is read
 
@@ -145,7 +120,7 @@ ladder_is text found e = ladder_of_is (steps_in text) found (λ steps is. letter
 
 -- each step was taken, so the line is spelled so
 pub row_takes : (line : List ℕ) (row : LimitRow) → row_at line ≡ Ok row → SpellsRow line row
-unfolding row_at done
+unfolding row_at
 row_takes line row e =
     with_want kinds.Head _ _ row e (λ head e0 k0.
     with_want kinds.Flight _ _ row k0 (λ airline e1 k1.
@@ -160,10 +135,10 @@ row_takes line row e =
     with_want kinds.Pair _ _ row k9 (λ off e10 k10.
     with_want kinds.Entry _ _ row k10 (λ entries e11 k11.
     with_step (ladder_in entries) _ row k11 (λ ladder e12 k12.
-    subst (SpellsRow line) (row_is _ row k12) (assemble line head airline number period from second to pair board off entries ladder e0 e1 e2 e3 e4 e5 e6 e7 e8 e9 e10 e11 e12 (ladder_is entries ladder e12)))))))))))))))
+    subst (SpellsRow line) (ok_is _ row k12) (assemble line head airline number period from second to pair board off entries ladder e0 e1 e2 e3 e4 e5 e6 e7 e8 e9 e10 e11 e12 (ladder_is entries ladder e12)))))))))))))))
 
-pub row_again : (line : List ℕ) (row : LimitRow) → SpellsRow line row → row_at line ≡ done row
-unfolding row_at done
+pub row_again : (line : List ℕ) (row : LimitRow) → SpellsRow line row → row_at line ≡ Ok row
+unfolding row_at
 row_again line row s =
     let r11 = 32 ∷ s.entries in
     let r10 = row.off ++ r11 in
