@@ -1,15 +1,16 @@
 -- The earliest date on or after a day.
-use Rattle.std.proofs.Common.{◌≡◌, ℕ, ◌+◌, ◌<◌, ◌≤◌, inl, inr, Bool, true, cond, eqb, ◌||◌, refl, sym, subst, ◌∙◌, arith, rules, pos, unsigned_abs}
-use Rattle.std.proofs.lemmas.Bool.{cases_order, cases_lt}
+use Rattle.std.proofs.Common.{◌≡◌, ℕ, ◌+◌, ◌<◌, ◌≤◌, inl, inr, Bool, true, cond, leb, eqb, ◌||◌, refl, sym, subst, ◌∙◌, arith, rules, pos, unsigned_abs}
+use Rattle.std.proofs.lemmas.Bool.{cases_order, cases_lt, leb-true, le-leb}
 use Rattle.std.proofs.lemmas.Bool.Decides.{nat_tests}
-use Rattle.jiff_core.specs.Calendar.{day_count, days_from_civil, is_leap_year, IsCivilDate}
+use Rattle.jiff_core.specs.Calendar.{day_count, days_from_civil, days_in_month, is_leap_year, IsCivilDate}
 use Rattle.jiff_core.proofs.SignedLemmas.{signed_arith}
 use Rattle.jiff_core.proofs.CalendarLemmas.{days_from_civil-day_count, day_count-lt_year}
 use Rattle.jiff_core.proofs.MarchLemmas.{day_count-late}
 use Rattle.ssim_records.specs.Days.{IsDate}
 use Rattle.ssim_records.proofs.Years.{low_day, pos_inj}
 use Rattle.ssim_records.proofs.DateLaws.{from_zero}
-use Rattle.airimp_lines.specs.Fields.{in_month, longest_month}
+use Rattle.ssim_records.proofs.Tests.{both_true, both_are}
+use Rattle.airimp_lines.specs.Fields.{in_month}
 use Rattle.airimp_lines.specs.Grammar.{IsNextDate}
 
 -- a date of an earlier year has a smaller number
@@ -33,19 +34,24 @@ today_year y m d n date h =
       | inr le ↦ le
     ]
 
--- the year 2104 is a leap year, and has each day that some year has
+-- the year 2104 has each day that some year has
 civil_2104 : (m d : ℕ) → 1 ≤ m → m ≤ 12 → in_month d m ≡ true → IsCivilDate (pos 2104) m d
+unfolding in_month
 civil_2104 m d low high h =
-    let bounds : (1 ≤ d) × (d ≤ longest_month m) = grind (arith, nat_tests, h) in
-    (search rules, (low, high), bounds)
+    let b = both_true (leb 1 d) (leb d (days_in_month (pos 2104) m)) h in
+    (search rules, (low, high), (leb-true 1 d b.0, leb-true d (days_in_month (pos 2104) m) b.1))
 
 pub date_2104 : (m d : ℕ) → 1 ≤ m → m ≤ 12 → in_month d m ≡ true → (n : ℕ) × IsDate 2104 m d n
 date_2104 m d low high h =
     let civil = civil_2104 m d low high h in
     (unsigned_abs (days_from_civil (pos 2104) m d), (civil, from_zero _ (low_day (pos 2104) m d civil (omega (arith, signed_arith)))))
 
+in_leap : (leap : Bool) (m d : ℕ) → d ≤ cond (eqb m 2) (cond leap 29 28) (cond (eqb m 4 || eqb m 6 || eqb m 9 || eqb m 11) 30 31) → d ≤ cond (eqb m 2) 29 (cond (eqb m 4 || eqb m 6 || eqb m 9 || eqb m 11) 30 31)
+in_leap leap m d high = grind (arith, nat_tests, high)
+
 in_longest : (leap : Bool) (m d : ℕ) → 1 ≤ d → d ≤ cond (eqb m 2) (cond leap 29 28) (cond (eqb m 4 || eqb m 6 || eqb m 9 || eqb m 11) 30 31) → in_month d m ≡ true
-in_longest leap m d low high = grind (arith, nat_tests, low, high)
+unfolding in_month
+in_longest leap m d low high = both_are (leb 1 d) (leb d (days_in_month (pos 2104) m)) (le-leb 1 d low) (le-leb d (days_in_month (pos 2104) m) (in_leap leap m d high))
 
 -- some year has the day
 pub has_year : (y m d n : ℕ) → IsDate y m d n → (1 ≤ m) × (m ≤ 12) × (in_month d m ≡ true)

@@ -1,62 +1,19 @@
 -- A field that is read is spelled so, and what is spelled so is read.
-use Rattle.std.proofs.Common.{◌≡◌, ℕ, ◌<◌, ◌≤◌, Bool, true, false, ltb, leb, eqb, ◌&&◌, List, [], ◌∷◌, ◌++◌, length, take, drop, Option, Some, None, refl, sym, ap, subst, ◌∙◌, IsTrue, arith}
+use Rattle.std.proofs.Common.{◌≡◌, ℕ, ◌<◌, ◌≤◌, Bool, true, false, leb, eqb, ◌&&◌, List, [], ◌∷◌, ◌++◌, take, drop, Option, Some, None, refl, sym, ap, subst, ◌∙◌, IsTrue, arith, cond, ◌||◌, pos}
 use Rattle.std.specs.Prelude.{IfSome}
 use Rattle.std.specs.Char.{is_ascii_digit, is_ascii_uppercase}
 use Rattle.std.specs.List.{prefix_len, list_all}
-use Rattle.std.specs.Str.Parse.{digits_value}
-use Rattle.std.proofs.lemmas.Bool.{eqb-true}
+use Rattle.std.proofs.lemmas.Bool.{eqb-true, leb-true}
 use Rattle.std.proofs.lemmas.Bool.Decides.{nat_tests}
-use Rattle.std.proofs.lemmas.List.{take_at, drop_at, take-append-drop}
-use Rattle.ssim_records.specs.Names.{is_airline, is_station, is_code}
+use Rattle.std.proofs.lemmas.List.{take-append-drop}
+use Rattle.jiff_core.specs.Calendar.{days_in_month, is_leap_year}
 use Rattle.ssim_records.specs.Days.{two_digits, month_name, day_month}
-use Rattle.ssim_records.specs.Fields.{two_are, two_value, month_of}
+use Rattle.ssim_records.specs.Fields.{suffix_text, two_are, two_value, month_of}
 use Rattle.ssim_records.proofs.Tests.{passed, guarded, both_true, some_is}
 use Rattle.ssim_records.proofs.DateLaws.{month_takes, reads_month, month_again, two_takes, two_again}
-use Rattle.airimp_lines.specs.Fields.{fixed_at, byte_at, numeral_at, letters_in, letters_at, in_month, day_in, day_at, is_tail}
+use Rattle.airimp_lines.specs.Fields.{letters_in, letters_at, in_month, day_in, day_at, is_tail}
 use Rattle.ssim_records.proofs.LeadingRuns.{Stops, run_all, prefix_run}
-use Rattle.airimp_lines.specs.Grammar.{IsNumberText, suffix_text, letters_text}
-
--- ---- fixed fields and single bytes
-
-pub fixed_takes : (n : ℕ) (test : List ℕ → Bool) (bytes text rest : List ℕ) → fixed_at n test bytes ≡ Some (text, rest) → (bytes ≡ text ++ rest) × (test text ≡ true)
-fixed_takes n test bytes text rest e =
-    let p = passed (test (take n bytes)) (take n bytes, drop n bytes) (text, rest) e in
-    let t : take n bytes ≡ text = ap (λ (x : List ℕ × List ℕ). x.0) p.1 in
-    let r : drop n bytes ≡ rest = ap (λ (x : List ℕ × List ℕ). x.1) p.1 in
-    (rw (← t, ← r) (sym (take-append-drop n bytes)), rw (← t) p.0)
-
-pub fixed_again : (n : ℕ) (test : List ℕ → Bool) (text rest : List ℕ) → length text ≡ n → test text ≡ true → fixed_at n test (text ++ rest) ≡ Some (text, rest)
-fixed_again n test text rest len is = rw (take_at text rest n len, drop_at text rest n len, is) refl
-
-pub byte_takes : (b : ℕ) (bytes rest : List ℕ) → byte_at b bytes ≡ Some rest → bytes ≡ b ∷ rest
-byte_takes b [] rest e = absurd cc
-byte_takes b (c ∷ bytes) rest e =
-    let p = passed (eqb c b) bytes rest e in
-    let same : c ≡ b = eqb-true c b p.0 in
-    rw (same, p.1) refl
-
--- ---- numbers
-
-pub numeral_takes : (most : ℕ) (bytes : List ℕ) (n : ℕ) (rest : List ℕ) → numeral_at most bytes ≡ Some (n, rest) → (digits : List ℕ) × (bytes ≡ digits ++ rest) × IsNumberText most digits n
-unfolding numeral_at
-numeral_takes most bytes n rest e =
-    let run = take (prefix_len is_ascii_digit bytes) bytes in
-    let after = drop (prefix_len is_ascii_digit bytes) bytes in
-    let p = passed (leb (length run) most && ltb 0 (digits_value 10 run)) (digits_value 10 run, after) (n, rest) e in
-    let t = both_true (leb (length run) most) (ltb 0 (digits_value 10 run)) p.0 in
-    let v : digits_value 10 run ≡ n = ap (λ (x : ℕ × List ℕ). x.0) p.1 in
-    let r : after ≡ rest = ap (λ (x : ℕ × List ℕ). x.1) p.1 in
-    let few : length run ≤ most = grind (arith, nat_tests, t.0) in
-    let positive : 0 < digits_value 10 run = grind (arith, nat_tests, t.1) in
-    (run, rw (← r) (sym (take-append-drop (prefix_len is_ascii_digit bytes) bytes)), record { few = few; each = run_all is_ascii_digit bytes; value = sym v; positive = rw (← v) positive })
-
-pub numeral_again : (most : ℕ) (digits : List ℕ) (n : ℕ) (rest : List ℕ) → IsNumberText most digits n → Stops is_ascii_digit rest → numeral_at most (digits ++ rest) ≡ Some (n, rest)
-unfolding numeral_at
-numeral_again most digits n rest is h =
-    let len = prefix_run is_ascii_digit digits rest is.each h in
-    let few : leb (length digits) most ≡ true = grind (arith, nat_tests, is.few) in
-    let positive : ltb 0 (digits_value 10 digits) ≡ true = grind (arith, nat_tests, is.positive, is.value) in
-    rw (len, take_at digits rest (length digits) refl, drop_at digits rest (length digits) refl, few, positive, ← is.value) refl
+use Rattle.airimp_lines.specs.Grammar.{letters_text}
 
 -- ---- a suffix and a class
 
@@ -114,6 +71,14 @@ pub record IsDayText (text : List ℕ) (day month : ℕ) : Type 0 where
   pub high : month ≤ 12
   pub in_month : in_month day month ≡ true
 
+in_31 : (leap : Bool) (m d : ℕ) → d ≤ cond (eqb m 2) (cond leap 29 28) (cond (eqb m 4 || eqb m 6 || eqb m 9 || eqb m 11) 30 31) → d ≤ 31
+in_31 leap m d h = grind (arith, nat_tests, h)
+
+-- no month has more days than 31
+month_31 : (day month : ℕ) → in_month day month ≡ true → day ≤ 31
+unfolding in_month
+month_31 day month h = in_31 (is_leap_year (pos 2104)) month day (leb-true day (days_in_month (pos 2104) month) (both_true (leb 1 day) (leb day (days_in_month (pos 2104) month)) h).1)
+
 day_in_takes : (n : ℕ) (after : List ℕ) (o : Option ℕ) (day month : ℕ) (rest : List ℕ) → day_in n after o ≡ Some ((day, month), rest) → (o ≡ Some month) × (n ≡ day) × (after ≡ rest) × (in_month day month ≡ true)
 day_in_takes n after None day month rest e = absurd cc
 day_in_takes n after (Some m) day month rest e =
@@ -144,41 +109,12 @@ read_again day month (a ∷ []) rest h is = absurd h
 read_again day month (a ∷ b ∷ []) rest h is = absurd h
 read_again day month (a ∷ b ∷ c ∷ d ∷ name) rest h is = absurd h
 read_again day month (a ∷ b ∷ c ∷ []) rest h is =
-    let small : day < 100 = grind (arith, nat_tests, is) in
+    let small : day < 100 = omega (arith, month_31 day month is) in
     let two = two_again day small in
     rw (two.0, two.1, h, is) refl
 
-length_read : (m : ℕ) (name : List ℕ) → reads_month m name → length name ≡ 3
-length_read m [] h = absurd h
-length_read m (a ∷ []) h = absurd h
-length_read m (a ∷ b ∷ []) h = absurd h
-length_read m (a ∷ b ∷ c ∷ []) h = refl
-length_read m (a ∷ b ∷ c ∷ d ∷ name) h = absurd h
-
-pub length_name : (m : ℕ) → 1 ≤ m → m ≤ 12 → length (month_name m) ≡ 3
-length_name m low high = length_read m (month_name m) (month_again m low high)
-
 pub day_again : (day month : ℕ) (rest : List ℕ) → 1 ≤ month → month ≤ 12 → in_month day month ≡ true → day_at (two_digits day ++ (month_name month ++ rest)) ≡ Some ((day, month), rest)
 day_again day month rest low high is = read_again day month (month_name month) rest (month_again month low high) is
-
-pub length_airline : (xs : List ℕ) → is_airline xs ≡ true → length xs ≡ 2
-length_airline [] h = absurd cc
-length_airline (a ∷ []) h = absurd cc
-length_airline (a ∷ b ∷ []) h = refl
-length_airline (a ∷ b ∷ c ∷ xs) h = absurd cc
-
-pub length_code : (xs : List ℕ) → is_code xs ≡ true → length xs ≡ 2
-length_code [] h = absurd cc
-length_code (a ∷ []) h = absurd cc
-length_code (a ∷ b ∷ []) h = refl
-length_code (a ∷ b ∷ c ∷ xs) h = absurd cc
-
-pub length_station : (xs : List ℕ) → is_station xs ≡ true → length xs ≡ 3
-length_station [] h = absurd cc
-length_station (a ∷ []) h = absurd cc
-length_station (a ∷ b ∷ []) h = absurd cc
-length_station (a ∷ b ∷ c ∷ []) h = refl
-length_station (a ∷ b ∷ c ∷ d ∷ xs) h = absurd cc
 
 no_digit : (c : ℕ) → is_ascii_uppercase c ≡ true → is_ascii_digit c ≡ false
 no_digit c h = grind (arith, nat_tests, h)
@@ -189,7 +125,7 @@ letters_stop (Some suffix) class rest s c = no_digit suffix s
 
 pub day_stops : (day month : ℕ) (rest : List ℕ) → in_month day month ≡ true → Stops is_ascii_uppercase (day_month day month ++ rest)
 day_stops day month rest h =
-    let d : day ≤ 31 = grind (arith, nat_tests, h) in
+    let d : day ≤ 31 = month_31 day month h in
     grind (arith, nat_tests)
 
 pub tail_stops : (tail : List ℕ) → is_tail tail ≡ true → Stops is_ascii_digit tail

@@ -1,32 +1,17 @@
 -- The first line of a message.
-use Rattle.std.proofs.Common.{◌≡◌, ℕ, true, cond, eqb, List, [], ◌∷◌, ◌++◌, length, take, drop, Option, Some, None, refl, sym, ap, subst, ◌∙◌}
+use Rattle.std.proofs.Common.{◌≡◌, ℕ, true, cond, eqb, List, ◌∷◌, ◌++◌, length, take, drop, Some, None, refl, sym, ap, subst, ◌∙◌}
 use Rattle.std.specs.List.{list_all}
 use Rattle.std.proofs.lemmas.Bool.{eqb-true}
 use Rattle.std.proofs.lemmas.List.{take_at, drop_at, take-append-drop}
 use Rattle.ssim_records.specs.Names.{is_locator, is_name_byte}
 use Rattle.ssim_records.proofs.Tests.{passed, both_true}
-use Rattle.airimp_lines.specs.Fields.{fixed_at, byte_at}
-use Rattle.airimp_lines.specs.Messages.{is_address, address_at, is_remark, heading_at, ◌>>=◌}
+use Rattle.ssim_records.specs.Fields.{fixed_at, byte_at}
+use Rattle.ssim_records.proofs.LeadingFields.{with_some, fixed_takes, fixed_again, byte_takes, length_locator}
+use Rattle.airimp_lines.specs.Messages.{is_address, address_at, is_remark, heading_at}
 use Rattle.airimp_lines.specs.Script.{IsHeading}
-use Rattle.airimp_lines.proofs.FieldLaws.{fixed_takes, fixed_again, byte_takes}
-
--- a step that was taken, and what follows it
-with_step : {A B C : Type 0} (o : Option A) (f : A → Option B) (y : B) → (o >>= f) ≡ Some y → ((x : A) → o ≡ Some x → f x ≡ Some y → C) → C
-with_step None f y e k = absurd cc
-with_step (Some x) f y e k = k x refl e
 
 length_address : (text : List ℕ) → is_address text ≡ true → length text ≡ 5
 length_address text h = eqb-true (length text) 5 (both_true (eqb (length text) 5) (list_all is_name_byte text) h).0
-
-length_locator : (xs : List ℕ) → is_locator xs ≡ true → length xs ≡ 6
-length_locator [] h = absurd cc
-length_locator (a ∷ []) h = absurd cc
-length_locator (a ∷ b ∷ []) h = absurd cc
-length_locator (a ∷ b ∷ c ∷ []) h = absurd cc
-length_locator (a ∷ b ∷ c ∷ d ∷ []) h = absurd cc
-length_locator (a ∷ b ∷ c ∷ d ∷ e ∷ []) h = absurd cc
-length_locator (a ∷ b ∷ c ∷ d ∷ e ∷ f ∷ []) h = refl
-length_locator (a ∷ b ∷ c ∷ d ∷ e ∷ f ∷ g ∷ xs) h = absurd cc
 
 heading_of : (text address locator : List ℕ) (blank : List ℕ) (named : List ℕ × List ℕ) → address_at text ≡ Some address → byte_at 32 address ≡ Some blank → fixed_at 6 is_locator blank ≡ Some named → cond (is_remark named.1) (Some named.0) None ≡ Some locator → IsHeading text locator
 heading_of text address locator blank named e0 e1 e2 e3 =
@@ -48,9 +33,9 @@ heading_of text address locator blank named e0 e1 e2 e3 =
 pub heading_takes : (text locator : List ℕ) → heading_at text ≡ Some locator → IsHeading text locator
 unfolding heading_at
 heading_takes text locator e =
-    with_step (address_at text) _ locator e (λ address e0 k0.
-    with_step (byte_at 32 address) _ locator k0 (λ blank e1 k1.
-    with_step (fixed_at 6 is_locator blank) _ locator k1 (λ named e2 k2.
+    with_some (address_at text) _ locator e (λ address e0 k0.
+    with_some (byte_at 32 address) _ locator k0 (λ blank e1 k1.
+    with_some (fixed_at 6 is_locator blank) _ locator k1 (λ named e2 k2.
     heading_of text address locator blank named e0 e1 e2 k2)))
 
 pub heading_again : (text locator : List ℕ) → IsHeading text locator → heading_at text ≡ Some locator

@@ -1,31 +1,19 @@
 -- A segment line that is read is spelled so, and what is spelled so is read.
-use Rattle.std.proofs.Common.{◌≡◌, ℕ, ◌≤◌, Bool, true, false, leb, ◌&&◌, List, ◌∷◌, ◌++◌, length, Option, Some, None, Result, Ok, Err, refl, ap, subst, ◌∙◌, arith, append_assoc}
+use Rattle.std.proofs.Common.{◌≡◌, ℕ, ◌≤◌, true, leb, ◌&&◌, List, ◌∷◌, ◌++◌, length, Option, Some, Ok, refl, ap, subst, ◌∙◌, arith, append_assoc}
 use Rattle.std.proofs.lemmas.Bool.Decides.{nat_tests}
 use Rattle.ssim_records.specs.Names.{is_airline, is_station, is_code}
 use Rattle.ssim_records.specs.Days.{two_digits, month_name, day_month}
-use Rattle.airimp_lines.specs.declared.fault.LineFault.{LineFault}
 use Rattle.airimp_lines.specs.declared.fault.LineFault.TheVariants as faults
 use Rattle.airimp_lines.specs.declared.segment.Asked.{Asked}
 use Rattle.airimp_lines.specs.declared.segment.Undated.{Undated}
-use Rattle.airimp_lines.specs.Fields.{fixed_at, byte_at, numeral_at, letters_at, in_month, day_at, is_tail}
-use Rattle.airimp_lines.specs.Reading.{◌>>=◌, want, check, asked_at, undated_at}
-use Rattle.airimp_lines.specs.Grammar.{IsNumberText, letters_text, Spells}
-use Rattle.airimp_lines.proofs.FieldLaws.{fixed_takes, fixed_again, byte_takes, numeral_takes, numeral_again, letters_takes, letters_again, day_takes, day_again, length_airline, length_station, length_code, letters_stop, day_stops, tail_stops}
-
--- ---- steps
-
--- a step that was taken, and what follows it
-pub with_want : {A B C : Type 0} (fault : LineFault) (o : Option A) (f : A → Result B LineFault) (y : B) → (want fault o >>= f) ≡ Ok y → ((x : A) → o ≡ Some x → f x ≡ Ok y → C) → C
-with_want fault None f y e k = absurd cc
-with_want fault (Some x) f y e k = k x refl e
-
-pub with_check : {B C : Type 0} (fault : LineFault) (b : Bool) (f : Unit {0} → Result B LineFault) (y : B) → (check fault b >>= f) ≡ Ok y → (b ≡ true → f tt ≡ Ok y → C) → C
-with_check fault true f y e k = k refl e
-with_check fault false f y e k = absurd cc
-
-pub with_step : {A B C : Type 0} (r : Result A LineFault) (f : A → Result B LineFault) (y : B) → (r >>= f) ≡ Ok y → ((x : A) → r ≡ Ok x → f x ≡ Ok y → C) → C
-with_step (Ok x) f y e k = k x refl e
-with_step (Err fault) f y e k = absurd cc
+use Rattle.ssim_records.specs.Fields.{fixed_at, byte_at, numeral_at, IsNumberText}
+use Rattle.ssim_records.proofs.Chains.{with_want, with_check, with_step}
+use Rattle.ssim_records.proofs.LeadingFields.{fixed_takes, fixed_again, byte_takes, numeral_takes, numeral_again, length_airline, length_station, length_code}
+use Rattle.ssim_records.proofs.Reaches.{ok_is}
+use Rattle.airimp_lines.specs.Fields.{letters_at, in_month, day_at, is_tail}
+use Rattle.airimp_lines.specs.Reading.{asked_at, undated_at}
+use Rattle.airimp_lines.specs.Grammar.{letters_text, Spells}
+use Rattle.airimp_lines.proofs.FieldLaws.{letters_takes, letters_again, day_takes, day_again, letters_stop, day_stops, tail_stops}
 
 -- ---- what is asked
 
@@ -66,12 +54,6 @@ asked_is bytes pair board off action code seats e5 e6 e7 e8 e9 e10 e11 =
       is_tail = e11;
     }
 
-abbrev done_asked : Asked → Result Asked LineFault
-done_asked a = Ok a
-
-same_asked : (a b : Asked) → done_asked a ≡ done_asked b → a ≡ b
-same_asked a b e = cc
-
 asked_takes : (bytes : List ℕ) (a : Asked) → asked_at bytes ≡ Ok a → SpellsAsked bytes a
 unfolding asked_at
 asked_takes bytes a e =
@@ -82,7 +64,7 @@ asked_takes bytes a e =
     with_want faults.Code _ _ a k8 (λ code e9 k9.
     with_want faults.Seats _ _ a k9 (λ seats e10 k10.
     with_check faults.Tail _ _ a k10 (λ e11 k11.
-    subst (SpellsAsked bytes) (same_asked _ a k11) (asked_is bytes pair board off action code seats e5 e6 e7 e8 e9 e10 e11))))))))
+    subst (SpellsAsked bytes) (ok_is _ a k11) (asked_is bytes pair board off action code seats e5 e6 e7 e8 e9 e10 e11))))))))
 
 asked_again : (bytes : List ℕ) (a : Asked) → SpellsAsked bytes a → asked_at bytes ≡ Ok a
 unfolding asked_at
@@ -112,13 +94,6 @@ joined l a n le d t r1 r2 r3 r4 e1 e2 e3 e4 e5 = rw (e1, e2, e3, e4, e5) refl
 
 length_is : (n : ℕ) → (leb 20 n && leb n 69) ≡ true → (20 ≤ n) × (n ≤ 69)
 length_is n h = grind (arith, nat_tests, h)
-
-unfoldable pub done : Undated → Result Undated LineFault
-done u = Ok u
-
-pub ok_is : (x y : Undated) → done x ≡ done y → x ≡ y
-unfolding done
-ok_is x y e = cc
 
 -- each step was taken, so the line is spelled so
 assemble : (line : List ℕ) (airline : List ℕ × List ℕ) (number : ℕ × List ℕ) (letters : (Option ℕ × ℕ) × List ℕ) (day : (ℕ × ℕ) × List ℕ) (asked : Asked)
@@ -157,7 +132,7 @@ assemble line airline number letters day asked e0 e1 e2 e3 e4 t5 =
     }
 
 pub undated_takes : (line : List ℕ) (u : Undated) → undated_at line ≡ Ok u → Told line u
-unfolding undated_at done
+unfolding undated_at
 undated_takes line u e =
     with_check faults.Length _ _ u e (λ e0 k0.
     with_want faults.Airline _ _ u k0 (λ airline e1 k1.

@@ -11,8 +11,10 @@ use Rattle.ssim_records.specs.Days.{day_month, two_digits, month_name}
 use Rattle.ssim_records.proofs.Years.{same_parts}
 use Rattle.airimp_lines.specs.Fields.{is_tail}
 use Rattle.airimp_lines.specs.declared.segment.Segment.{Segment}
-use Rattle.airimp_lines.specs.Grammar.{IsNumberText, letters_text, SpellsSegment, plain_line, IsWritable, IsPlainLine, reply_of}
-use Rattle.airimp_lines.proofs.FieldLaws.{length_airline, length_station, length_code, length_name}
+use Rattle.ssim_records.specs.Fields.{IsNumberText}
+use Rattle.airimp_lines.specs.Grammar.{letters_text, SpellsSegment, plain_line, IsWritable, IsPlainLine, reply_of}
+use Rattle.ssim_records.proofs.DateLaws.{length_name}
+use Rattle.ssim_records.proofs.LeadingFields.{length_airline, length_station, length_code}
 
 one : (n : ℕ) → n < 10 → list_all is_ascii_digit ((48 + n) ∷ []) ≡ true
 one n lt =

@@ -1,20 +1,17 @@
 -- What a line spells has numbers and a suffix as they may be.
-use Rattle.std.proofs.Common.{ℕ, ◌^◌, ◌<◌, ◌≤◌, List, [], ◌∷◌, length, All, sym, subst, arith}
-use Rattle.std.proofs.Math.Nat.{pow-le-pow_right}
+use Rattle.std.proofs.Common.{ℕ, ◌^◌, ◌<◌, List, [], ◌∷◌, length, All, sym, subst, arith}
 use Rattle.std.proofs.lemmas.Int.Digits.{digits_value-lt}
 use Rattle.std.proofs.lemmas.List.Elements.{All-nil, All-cons, All-append}
 use Rattle.ssim_records.proofs.RightLaws.{all_digits}
 use Rattle.airimp_lines.specs.declared.requests.Request.{Request}
 use Rattle.airimp_lines.specs.declared.segment.Segment.{Segment}
-use Rattle.airimp_lines.specs.Grammar.{IsNumberText, IsRightSegment, SpellsSegment}
+use Rattle.ssim_records.specs.Fields.{IsNumberText}
+use Rattle.ssim_records.proofs.Digits.{below_power}
+use Rattle.airimp_lines.specs.Grammar.{IsRightSegment, SpellsSegment}
 use Rattle.airimp_lines.specs.Script.{Line, segment_lines, AreRequests, IsMessage, AreMessages, IsScript}
 
 numeral_below : (most : ℕ) (digits : List ℕ) (n : ℕ) → IsNumberText most digits n → n < 10 ^ most
-numeral_below most digits n is =
-    let one : 1 ≤ 10 = omega arith in
-    let few = is.few in
-    let bound : 10 ^ length digits ≤ 10 ^ most = pow-le-pow_right one few in
-    omega (arith, is.value, digits_value-lt 10 digits (all_digits digits is.each), bound)
+numeral_below most digits n is = below_power n (length digits) most is.few (omega (arith, is.value, digits_value-lt 10 digits (all_digits digits is.each)))
 
 pub right_segment : (today : ℕ) (line : List ℕ) (s : Segment) → SpellsSegment today line s → IsRightSegment s
 right_segment today line s h = record {

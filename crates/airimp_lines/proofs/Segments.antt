@@ -1,11 +1,12 @@
 -- What is read is a segment that the line spells, and the only one.
 use Rattle.std.proofs.Common.{◌≡◌, ℕ, Result, Ok, Err, sym, ap, subst, ◌∙◌, List}
+use Rattle.ssim_records.proofs.Reaches.{ok_is}
 use Rattle.airimp_lines.specs.declared.fault.LineFault.{LineFault}
 use Rattle.airimp_lines.specs.declared.segment.Segment.{Segment}
 use Rattle.airimp_lines.specs.declared.segment.Undated.{Undated}
 use Rattle.airimp_lines.specs.Reading.{undated_at}
 use Rattle.airimp_lines.specs.Grammar.{SpellsSegment, IsNextDate, undated_of}
-use Rattle.airimp_lines.proofs.LineLaws.{undated_takes, undated_again, done, ok_is}
+use Rattle.airimp_lines.proofs.LineLaws.{undated_takes, undated_again}
 use Rattle.airimp_lines.proofs.Dates.{has_year, same_next}
 
 abbrev pub dated : Undated → ℕ → Segment
@@ -31,18 +32,18 @@ is_read today line s h =
     undated_again line (undated_of h.day h.month s) (record { spelled = h.spelled; low = year.0; high = year.1; in_month = year.2 })
 
 pub is_only : (today : ℕ) (line : List ℕ) (u : Undated) (n : ℕ) (s : Segment) → undated_at line ≡ Ok u → IsNextDate today u.day u.month n → SpellsSegment today line s → dated u n ≡ s
-unfolding done
 is_only today line u n s e next h =
     let same : undated_of h.day h.month s ≡ u = ok_is (undated_of h.day h.month s) u (sym (is_read today line s h) ∙ e) in
     let family : Undated → Type 0 = λ v. IsNextDate today v.day v.month n → dated v n ≡ s in
     subst family same (λ at. ap (λ (k : ℕ). dated (undated_of h.day h.month s) k) (same_next today h.day h.month n s.day at h.date)) next
 
-pub apart : (u : Undated) (e : LineFault) → done u ≡ Err e → ⊥
-unfolding done
+abbrev answer : Undated → Result Undated LineFault
+answer u = Ok u
+
+apart : (u : Undated) (e : LineFault) → answer u ≡ Err e → ⊥
 apart u e h = cc
 
 pub is_fault : (today : ℕ) (line : List ℕ) (e : LineFault) (s : Segment) → undated_at line ≡ Err e → SpellsSegment today line s → ⊥
-unfolding done
 is_fault today line e s h spelled = apart (undated_of spelled.day spelled.month s) e (sym (is_read today line s spelled) ∙ h)
 
 abbrev pub read : Segment → Result Segment LineFault

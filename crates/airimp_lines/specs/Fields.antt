@@ -1,30 +1,10 @@
--- Fields at the front of the bytes: a value, and the bytes after it.
-use Rattle.std.specs.Prelude.{ℕ, Bool, true, ◌&&◌, ◌||◌, ◌==◌, nat_lt, nat_le, if◌then◌else◌, List, [], ◌∷◌, length, take, drop, Option, Some, None}
-use Rattle.std.specs.Char.{is_ascii_uppercase, is_ascii_digit}
+-- The fields that segment lines alone have.
+use Rattle.std.specs.Prelude.{ℕ, Bool, true, ◌&&◌, ◌==◌, nat_le, if◌then◌else◌, List, [], ◌∷◌, take, drop, Option, Some, None, pos}
+use Rattle.std.specs.Char.{is_ascii_uppercase}
 use Rattle.std.specs.List.{prefix_len, list_all}
-use Rattle.std.specs.Str.Parse.{digits_value}
+use Rattle.jiff_core.specs.Calendar.{days_in_month}
 use Rattle.ssim_records.specs.Bytes.{is_printable}
-use Rattle.ssim_records.specs.Fields.{two_are, two_value, month_of}
-
-abbrev pub Field : Type 0 → Type 0
-Field A = Option (A × List ℕ)
-
--- n bytes that pass the test
-abbrev pub fixed_at : ℕ → (List ℕ → Bool) → List ℕ → Field (List ℕ)
-fixed_at n test bytes = if test (take n bytes) then Some (take n bytes, drop n bytes) else None
-
--- this byte
-abbrev pub byte_at : ℕ → List ℕ → Option (List ℕ)
-byte_at b [] = None
-byte_at b (c ∷ rest) = if c == b then Some rest else None
-
--- the run of digits, which is not empty, not too long, and not 0
-abbrev pub numeral_in : ℕ → List ℕ → List ℕ → Field ℕ
-numeral_in most run rest =
-    if nat_le (length run) most && nat_lt 0 (digits_value 10 run) then Some (digits_value 10 run, rest) else None
-
-unfoldable pub numeral_at : ℕ → List ℕ → Field ℕ
-numeral_at most bytes = numeral_in most (take (prefix_len is_ascii_digit bytes) bytes) (drop (prefix_len is_ascii_digit bytes) bytes)
+use Rattle.ssim_records.specs.Fields.{Field, two_are, two_value, month_of}
 
 -- the run of letters: a class, or a suffix and a class
 abbrev pub letters_in : List ℕ → List ℕ → Field (Option ℕ × ℕ)
@@ -35,12 +15,9 @@ letters_in _ rest = None
 unfoldable pub letters_at : List ℕ → Field (Option ℕ × ℕ)
 letters_at bytes = letters_in (take (prefix_len is_ascii_uppercase bytes) bytes) (drop (prefix_len is_ascii_uppercase bytes) bytes)
 
--- the days of a month in the year that has most
-abbrev pub longest_month : ℕ → ℕ
-longest_month m = if m == 2 then 29 else if (m == 4) || (m == 6) || (m == 9) || (m == 11) then 30 else 31
-
-abbrev pub in_month : ℕ → ℕ → Bool
-in_month day month = nat_le 1 day && nat_le day (longest_month month)
+-- a day of the month in some year: the leap year 2104 has each
+unfoldable pub in_month : ℕ → ℕ → Bool
+in_month day month = nat_le 1 day && nat_le day (days_in_month (pos 2104) month)
 
 abbrev pub day_in : ℕ → List ℕ → Option ℕ → Field (ℕ × ℕ)
 day_in day rest None = None

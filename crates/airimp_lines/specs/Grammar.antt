@@ -1,26 +1,13 @@
 -- The grammar of segment lines (AIRIMP), apart from how one is read. The single blanks, the suffix, the tail and the
 -- choice of the year are this product's own.
-use Rattle.std.specs.Prelude.{◌^◌, decimal, ◌≡◌, ℕ, ◌≤◌, ◌<◌, IsTrue, List, [], ◌∷◌, ◌++◌, length, Option, Some, None, IfSome}
-use Rattle.std.specs.Char.{is_ascii_uppercase, is_ascii_digit}
-use Rattle.std.specs.List.{list_all}
-use Rattle.std.specs.Str.Parse.{digits_value}
+use Rattle.std.specs.Prelude.{◌^◌, decimal, ◌≡◌, ℕ, ◌≤◌, ◌<◌, IsTrue, List, [], ◌∷◌, ◌++◌, length, Option, IfSome}
+use Rattle.std.specs.Char.{is_ascii_uppercase}
 use Rattle.ssim_records.specs.Names.{is_airline, is_station, is_code}
 use Rattle.ssim_records.specs.Days.{IsDate, day_month}
+use Rattle.ssim_records.specs.Fields.{IsNumberText, suffix_text}
 use Rattle.airimp_lines.specs.Fields.{is_tail}
 use Rattle.airimp_lines.specs.declared.segment.Segment.{Segment}
 use Rattle.airimp_lines.specs.declared.segment.Undated.{Undated}
-
--- a number above 0 in at most so many digits, with or without leading zeros
-pub record IsNumberText (most : ℕ) (digits : List ℕ) (n : ℕ) : Type 0 where
-  pub few : length digits ≤ most
-  pub each : IsTrue (list_all is_ascii_digit digits)
-  pub value : n ≡ digits_value 10 digits
-  pub positive : 0 < n
-
--- the one letter of a suffix, where there is one
-abbrev pub suffix_text : Option ℕ → List ℕ
-suffix_text None = []
-suffix_text (Some letter) = letter ∷ []
 
 -- a suffix, where there is one, and a class
 abbrev pub letters_text : Option ℕ → ℕ → List ℕ

@@ -3,7 +3,7 @@ use Rattle.std.specs.Prelude.{ℕ, Bool, true, false, not, ◌&&◌, ◌||◌, �
 use Rattle.std.specs.Char.{is_ascii_digit}
 use Rattle.std.specs.List.{list_all, starts_with}
 use Rattle.ssim_records.specs.Names.{is_name_byte, is_locator}
-use Rattle.airimp_lines.specs.Fields.{fixed_at, byte_at}
+use Rattle.ssim_records.specs.Fields.{◌>>=◌, fixed_at, byte_at}
 
 -- five of A to Z and 0 to 9
 abbrev pub is_address : List ℕ → Bool
@@ -17,11 +17,6 @@ address_at bytes = if is_address (take 5 bytes) then Some (drop 5 bytes) else No
 abbrev pub is_remark : List ℕ → Bool
 is_remark [] = true
 is_remark (c ∷ rest) = (c == 47) || (c == 32)
-
-infixl 10 ◌>>=◌
-abbrev pub ◌>>=◌ : {A B : Type 0} → Option A → (A → Option B) → Option B
-None >>= f = None
-(Some x) >>= f = f x
 
 -- the locator on the first line of a message
 unfoldable pub heading_at : List ℕ → Option (List ℕ)

@@ -1,25 +1,13 @@
 -- Reading a segment line from left to right, with the first fault that is met.
-use Rattle.std.specs.Prelude.{ℕ, ◌&&◌, nat_le, Bool, true, false, List, length, Option, Some, None, Result, Ok, Err}
+use Rattle.std.specs.Prelude.{ℕ, ◌&&◌, nat_le, List, length, Result, Ok}
 use Rattle.ssim_records.specs.Names.{is_airline, is_station, is_code}
 use Rattle.airimp_lines.specs.declared.fault.LineFault.{LineFault}
 use Rattle.airimp_lines.specs.declared.fault.LineFault.TheVariants as faults
 use Rattle.airimp_lines.specs.declared.segment.Asked.{Asked}
 use Rattle.airimp_lines.specs.declared.segment.Undated.{Undated}
-use Rattle.airimp_lines.specs.Fields.{fixed_at, byte_at, numeral_at, letters_at, day_at, is_tail}
-
-infixl 10 ◌>>=◌
-abbrev pub ◌>>=◌ : {A B : Type 0} → Result A LineFault → (A → Result B LineFault) → Result B LineFault
-(Ok x) >>= f = f x
-(Err e) >>= f = Err e
-
--- the field, or this fault
-abbrev pub want : {A : Type 0} → LineFault → Option A → Result A LineFault
-want fault None = Err fault
-want fault (Some x) = Ok x
-
-abbrev pub check : LineFault → Bool → Result (Unit {0}) LineFault
-check fault true = Ok tt
-check fault false = Err fault
+use Rattle.ssim_records.specs.Chains.{◌>>=◌, want, check}
+use Rattle.ssim_records.specs.Fields.{fixed_at, byte_at, numeral_at}
+use Rattle.airimp_lines.specs.Fields.{letters_at, day_at, is_tail}
 
 -- the pair, the code, the seats and the tail
 unfoldable pub asked_at : List ℕ → Result Asked LineFault

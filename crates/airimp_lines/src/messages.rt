@@ -1,12 +1,11 @@
 //! The lines of a booking message.
 ghost use Rattle.std.specs.Prelude.{◌≡◌, option_map};
 ghost use Rattle.std.specs.List.{list_all};
-ghost use Rattle.ssim_records.specs.Names.{is_name_byte, is_locator};
-ghost use Rattle.airimp_lines.specs.Fields.{fixed_at};
+ghost use Rattle.ssim_records.specs.Names.{is_name_byte};
 ghost use Rattle.airimp_lines.specs.Messages.{address_at, heading_at, is_address, is_remark, is_service_line, is_name_line, is_passed_over};
 
-use crate::fields::blank_of;
 use ssim_records::Locator;
+use ssim_records::fields::{byte_of, locator_of};
 
 /// The locator on the first line of a message.
 #[tactic(auto, unfolding(crate::specs::Messages::heading_at))]
@@ -16,7 +15,7 @@ pub(crate) fn heading_of(text: &[u8]) -> Option<Locator>
     let Some(rest) = after_address(text) else {
         return None;
     };
-    let Some(rest) = blank_of(rest) else {
+    let Some(rest) = byte_of(b' ', rest) else {
         return None;
     };
     let Some((locator, rest)) = locator_of(rest) else {
@@ -50,13 +49,6 @@ fn are_name_bytes(text: &[u8]) -> bool
 {
     text.iter()
         .all(|c| c.is_ascii_uppercase() || c.is_ascii_digit())
-}
-
-fn locator_of(bytes: &[u8]) -> Option<(Locator, &[u8])>
-    ensures { option_map (λ x. (x.0, x.1.now)) result ≡ fixed_at 6 is_locator bytes.now }
-{
-    let (front, rest) = bytes.split_at_checked(6)?;
-    Some((Locator::new(front)?, rest))
 }
 
 fn is_remark(bytes: &[u8]) -> bool

@@ -1,6 +1,8 @@
 //! Lines that end with LF or the end of the bytes.
-ghost use Rattle.std.specs.Prelude.{◌≡◌, ◌<◌, ◌∷◌, ◌==◌, length, position};
+ghost use Rattle.std.specs.Prelude.{◌≡◌, ◌<◌, ◌∷◌, length};
 ghost use Rattle.seat_desk.specs.Lines.{lines_of};
+
+use ssim_records::lines::line_end;
 
 /// The first line, and the bytes behind its LF.
 #[tactic(auto, using(crate::proofs::Cuts::lines_cut, crate::proofs::Cuts::lines_last))]
@@ -13,10 +15,4 @@ pub fn cut_line(bytes: &[u8]) -> (&[u8], &[u8])
         Some(at) => (&bytes[..at], &bytes[at + 1..]),
         None => (bytes, &[]),
     }
-}
-
-fn line_end(bytes: &[u8]) -> Option<usize>
-    ensures { result ≡ position (λ c. c == 10) bytes.now }
-{
-    bytes.iter().position(|byte| *byte == b'\n')
 }

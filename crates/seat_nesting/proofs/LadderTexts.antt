@@ -1,7 +1,8 @@
 -- Reading the entries of a ladder's text one by one.
 use Rattle.std.proofs.Common.{◌≡◌, ℕ, suc, ◌+◌, ◌<◌, Bool, true, false, if◌then◌else◌, ◌==◌, cond, List, [], ◌∷◌, ◌++◌, length, Option, Some, None, is_some, option_map, append_assoc, refl, sym, ap, ◌∙◌, arith}
 use Rattle.seat_nesting.specs.Nesting.{Steps}
-use Rattle.seat_nesting.specs.LadderText.{entry_in, entry_at, blank_at, with_entry, steps_in}
+use Rattle.ssim_records.specs.Fields.{byte_at}
+use Rattle.seat_nesting.specs.LadderText.{entry_in, entry_at, with_entry, steps_in}
 use Rattle.seat_nesting.specs.declared.ladder.Step.{Step}
 
 -- what follows an entry: the end, or a blank and more entries
@@ -38,7 +39,7 @@ pub last_entry : (text : List ℕ) (s : Step) (after : List ℕ) → entry_at te
 last_entry text s [] h none = steps_split text ∙ ap steps_from h
 last_entry text s (i ∷ after) h none = absurd (omega arith)
 
-pub bad_entry : (text : List ℕ) (s : Step) (after : List ℕ) → entry_at text ≡ Some (s, after) → 0 < length after → blank_at after ≡ None → steps_in text ≡ None
+pub bad_entry : (text : List ℕ) (s : Step) (after : List ℕ) → entry_at text ≡ Some (s, after) → 0 < length after → byte_at 32 after ≡ None → steps_in text ≡ None
 bad_entry text s [] h some e = absurd (omega arith)
 bad_entry text s (i ∷ rest) h some e = steps_split text ∙ ap steps_from h ∙ ap (with_entry (Some s)) (stopped (i == 32) (steps_in rest) e)
   where
@@ -46,7 +47,7 @@ bad_entry text s (i ∷ rest) h some e = steps_split text ∙ ap steps_from h �
     stopped true o e = absurd cc
     stopped false o e = refl
 
-pub one_entry : (text : List ℕ) (s : Step) (after next : List ℕ) → entry_at text ≡ Some (s, after) → blank_at after ≡ Some next → steps_in text ≡ with_entry (Some s) (steps_in next)
+pub one_entry : (text : List ℕ) (s : Step) (after next : List ℕ) → entry_at text ≡ Some (s, after) → byte_at 32 after ≡ Some next → steps_in text ≡ with_entry (Some s) (steps_in next)
 one_entry text s [] next h e = absurd cc
 one_entry text s (i ∷ rest) next h e = steps_split text ∙ ap steps_from h ∙ ap (with_entry (Some s)) (passed (i == 32) e)
   where
@@ -70,7 +71,7 @@ entry_length (a ∷ b ∷ c ∷ d ∷ e ∷ f ∷ g ∷ h ∷ rest) s after is =
     rw same (omega arith)
 entry_length _ s after is = absurd cc
 
-pub blank_length : (text next : List ℕ) → blank_at text ≡ Some next → length text ≡ 1 + length next
+pub blank_length : (text next : List ℕ) → byte_at 32 text ≡ Some next → length text ≡ 1 + length next
 blank_length [] next h = absurd cc
 blank_length (c ∷ rest) next h = of (c == 32) h
   where
@@ -87,7 +88,7 @@ entry_more : (steps : Steps) (s : Step) (o : Option Steps) → behind_steps step
 entry_more steps s None = refl
 entry_more steps s (Some lower) = ap (λ (x : Steps). Some x) (sym (append_assoc steps (s ∷ []) lower))
 
-pub read_more : (text rest : List ℕ) (steps : Steps) (s : Step) (after next : List ℕ) → steps_in text ≡ behind_steps steps (steps_in rest) → entry_at rest ≡ Some (s, after) → blank_at after ≡ Some next
+pub read_more : (text rest : List ℕ) (steps : Steps) (s : Step) (after next : List ℕ) → steps_in text ≡ behind_steps steps (steps_in rest) → entry_at rest ≡ Some (s, after) → byte_at 32 after ≡ Some next
     → steps_in text ≡ behind_steps (steps ++ s ∷ []) (steps_in next)
 read_more text rest steps s after next h e b = h ∙ ap (behind_steps steps) (one_entry rest s after next e b) ∙ entry_more steps s (steps_in next)
 
@@ -102,5 +103,5 @@ some_more : (s : Step) (o : Option Steps) → is_some (with_entry (Some s) o) �
 some_more s None = refl
 some_more s (Some lower) = refl
 
-pub is_more : (rest : List ℕ) (s : Step) (after next : List ℕ) → entry_at rest ≡ Some (s, after) → blank_at after ≡ Some next → is_some (steps_in rest) ≡ is_some (steps_in next)
+pub is_more : (rest : List ℕ) (s : Step) (after next : List ℕ) → entry_at rest ≡ Some (s, after) → byte_at 32 after ≡ Some next → is_some (steps_in rest) ≡ is_some (steps_in next)
 is_more rest s after next e b = ap is_some (one_entry rest s after next e b) ∙ some_more s (steps_in next)

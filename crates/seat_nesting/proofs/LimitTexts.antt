@@ -11,7 +11,7 @@ use Rattle.seat_nesting.specs.declared.limit_fault.LimitFault.{LimitFault}
 use Rattle.seat_nesting.specs.declared.limit_fault.LimitKind.{LimitKind}
 use Rattle.seat_nesting.specs.declared.limit_fault.LimitKind.TheVariants as kinds
 use Rattle.ssim_records.proofs.LineCuts.{lines_are, rest_shorter}
-use Rattle.seat_nesting.proofs.RowLaws.{done, row_takes, row_again, row_none}
+use Rattle.seat_nesting.proofs.RowLaws.{row_takes, row_again, row_none}
 
 abbrev Rows : Type 0
 Rows = Result (List LimitRow) LimitFault
@@ -39,7 +39,7 @@ rows_take ([] ∷ texts) n rows e = rows_take texts (n + 1) rows e
 rows_take ((c ∷ text) ∷ texts) n rows e = take_then texts n c text (row_at (c ∷ text)) (rows_in (n + 1) texts) rows refl (rows_take texts (n + 1)) e
 
 rows_again : (texts : List (List ℕ)) (n : ℕ) (rows : List LimitRow) → SpellsRows texts rows → rows_in n texts ≡ ok_rows rows
-unfolding rows_in done
+unfolding rows_in
 rows_again [] n [] h = refl
 rows_again [] n (row ∷ rows) h = absurd h
 rows_again ([] ∷ texts) n rows h = rows_again texts (n + 1) rows h

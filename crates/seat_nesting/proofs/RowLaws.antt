@@ -1,42 +1,24 @@
 -- A row that is read is spelled so, and what is spelled so is read.
-use Rattle.std.proofs.Common.{◌≡◌, ℕ, Bool, true, false, leb, List, ◌∷◌, ◌++◌, Option, Some, None, Result, Ok, Err, refl, ap, subst, ◌∙◌}
-use Rattle.std.specs.Prelude.{IfOk}
+use Rattle.std.proofs.Common.{◌≡◌, ℕ, true, leb, List, ◌∷◌, ◌++◌, Option, Some, None, Result, Ok, Err, refl, ap, subst, ◌∙◌}
+use Rattle.std.specs.Prelude.{IfOk, codes}
 use Rattle.std.proofs.lemmas.Bool.{leb-true, le-leb}
 use Rattle.ssim_records.specs.Names.{is_airline, is_station}
+use Rattle.ssim_records.proofs.Reaches.{ok_is}
 use Rattle.seat_nesting.specs.Nesting.{Steps, HasLetters, IsLadder}
-use Rattle.seat_nesting.specs.LadderText.{SpellsSteps, blank_at, ladder_in, ladder_of, ladder_or, steps_in}
+use Rattle.ssim_records.specs.Fields.{byte_at, word_at, fixed_at, numeral_at, suffix_text}
+use Rattle.ssim_records.proofs.Chains.{with_want, with_check, with_step, want_none, check_none, step_none}
+use Rattle.ssim_records.proofs.LeadingFields.{byte_takes, word_takes, word_again, fixed_takes, fixed_again, length_airline, length_station, numeral_takes, numeral_again}
+use Rattle.seat_nesting.specs.LadderText.{SpellsSteps, ladder_in, ladder_of, ladder_or, steps_in}
 use Rattle.seat_nesting.specs.Ladders.{ladder_fault}
-use Rattle.seat_nesting.specs.RowFields.{head_at, fixed_at, number_at, suffix_at, date_at}
-use Rattle.seat_nesting.specs.LimitRows.{◌>>=◌, want, check, row_at, SpellsRow, suffix_text}
+use Rattle.seat_nesting.specs.RowFields.{suffix_at, date_at}
+use Rattle.seat_nesting.specs.LimitRows.{row_at, SpellsRow}
 use Rattle.seat_nesting.specs.declared.limit_row.LimitRow.{LimitRow}
 use Rattle.seat_nesting.specs.declared.ladder.LadderFault.{LadderFault}
 use Rattle.seat_nesting.specs.declared.limit_fault.LimitKind.{LimitKind}
 use Rattle.seat_nesting.specs.declared.limit_fault.LimitKind.TheVariants as kinds
 use Rattle.seat_nesting.proofs.LadderLaws.{is_found, is_only, steps_take, letters_of}
 use Rattle.seat_nesting.proofs.LadderFaults.{is_ladder_of}
-use Rattle.seat_nesting.proofs.RowFieldLaws.{head_takes, blank_takes, fixed_takes, fixed_again, length_airline, length_station, number_takes, number_again, suffix_takes, suffix_again, suffix_stops, date_takes_front, date_again_front}
-
--- ---- steps
-
--- a step that was taken, and what follows it
-with_want : {A B C : Type 0} (fault : LimitKind) (o : Option A) (f : A → Result B LimitKind) (y : B) → (want fault o >>= f) ≡ Ok y → ((x : A) → o ≡ Some x → f x ≡ Ok y → C) → C
-with_want fault None f y e k = absurd cc
-with_want fault (Some x) f y e k = k x refl e
-
-with_check : {B C : Type 0} (fault : LimitKind) (b : Bool) (f : Unit {0} → Result B LimitKind) (y : B) → (check fault b >>= f) ≡ Ok y → (b ≡ true → f tt ≡ Ok y → C) → C
-with_check fault true f y e k = k refl e
-with_check fault false f y e k = absurd cc
-
-with_step : {A B C : Type 0} (r : Result A LimitKind) (f : A → Result B LimitKind) (y : B) → (r >>= f) ≡ Ok y → ((x : A) → r ≡ Ok x → f x ≡ Ok y → C) → C
-with_step (Err fault) f y e k = absurd cc
-with_step (Ok x) f y e k = k x refl e
-
-unfoldable pub done : LimitRow → Result LimitRow LimitKind
-done row = Ok row
-
-row_is : (x y : LimitRow) → done x ≡ done y → x ≡ y
-unfolding done
-row_is x y e = cc
+use Rattle.seat_nesting.proofs.RowFieldLaws.{suffix_takes, suffix_again, suffix_stops, date_takes_front, date_again_front}
 
 -- ---- the ladder of a row
 
@@ -57,30 +39,30 @@ joined : (line a n s f t b o e r1 r2 r3 r4 r5 r6 r7 r8 r9 r10 : List ℕ) → li
 joined line a n s f t b o e r1 r2 r3 r4 r5 r6 r7 r8 r9 r10 e0 e1 e2 e3 e4 e5 e6 e7 e8 e9 e10 = rw (e0, e1, e2, e3, e4, e5, e6, e7, e8, e9, e10) refl
 
 assemble : (line head : List ℕ) (airline : List ℕ × List ℕ) (number : ℕ × List ℕ) (period : List ℕ) (from : ℕ × List ℕ) (second : List ℕ) (to : ℕ × List ℕ) (pair : List ℕ) (board off : List ℕ × List ℕ) (entries : List ℕ) (ladder : Steps)
-    → head_at line ≡ Some head → fixed_at 2 is_airline head ≡ Some airline → number_at airline.1 ≡ Some number → blank_at (suffix_at number.1).1 ≡ Some period → date_at period ≡ Some from → blank_at from.1 ≡ Some second
-    → date_at second ≡ Some to → blank_at to.1 ≡ Some pair → leb from.0 to.0 ≡ true → fixed_at 3 is_station pair ≡ Some board → fixed_at 3 is_station board.1 ≡ Some off → blank_at off.1 ≡ Some entries → ladder_in entries ≡ ok_steps ladder → IsLadder ladder
+    → word_at (codes "AU ") line ≡ Some head → fixed_at 2 is_airline head ≡ Some airline → numeral_at 4 airline.1 ≡ Some number → byte_at 32 (suffix_at number.1).1 ≡ Some period → date_at period ≡ Some from → byte_at 32 from.1 ≡ Some second
+    → date_at second ≡ Some to → byte_at 32 to.1 ≡ Some pair → leb from.0 to.0 ≡ true → fixed_at 3 is_station pair ≡ Some board → fixed_at 3 is_station board.1 ≡ Some off → byte_at 32 off.1 ≡ Some entries → ladder_in entries ≡ ok_steps ladder → IsLadder ladder
     → SpellsRow line (record { airline = airline.0; number = number.0; suffix = (suffix_at number.1).0; from = from.0; to = to.0; board = board.0; off = off.0; ladder = ladder })
 assemble line head airline number period from second to pair board off entries ladder e0 e1 e2 e3 e4 e5 e6 e7 e8 e9 e10 e11 e12 is =
-    let t0 = head_takes line head e0 in
+    let t0 = word_takes (codes "AU ") line head e0 in
     let t1 = fixed_takes 2 is_airline head airline.0 airline.1 e1 in
-    let t2 = number_takes airline.1 number.0 number.1 e2 in
+    let t2 = numeral_takes 4 airline.1 number.0 number.1 e2 in
     let t3 = suffix_takes number.1 in
-    let t4 = blank_takes (suffix_at number.1).1 period e3 in
+    let t4 = byte_takes 32 (suffix_at number.1).1 period e3 in
     let t5 = date_takes_front period from.0 from.1 e4 in
-    let t6 = blank_takes from.1 second e5 in
+    let t6 = byte_takes 32 from.1 second e5 in
     let t7 = date_takes_front second to.0 to.1 e6 in
-    let t8 = blank_takes to.1 pair e7 in
+    let t8 = byte_takes 32 to.1 pair e7 in
     let t9 = fixed_takes 3 is_station pair board.0 board.1 e9 in
     let t10 = fixed_takes 3 is_station board.1 off.0 off.1 e10 in
-    let t11 = blank_takes off.1 entries e11 in
+    let t11 = byte_takes 32 off.1 entries e11 in
     record {
-      number = t2.digits;
+      number = t2.0;
       from = t5.text;
       to = t7.text;
       entries = entries;
-      written = joined line airline.0 t2.digits (suffix_text (suffix_at number.1).0) t5.text t7.text board.0 off.0 entries head airline.1 number.1 (suffix_at number.1).1 period from.1 second to.1 pair board.1 t0 t1.0 t2.written t3.written t4 t5.written t6 t7.written t8 t9.0 (t10.0 ∙ ap (λ (x : List ℕ). off.0 ++ x) t11);
+      written = joined line airline.0 t2.0 (suffix_text (suffix_at number.1).0) t5.text t7.text board.0 off.0 entries head airline.1 number.1 (suffix_at number.1).1 period from.1 second to.1 pair board.1 t0 t1.0 t2.1 t3.written t4 t5.written t6 t7.written t8 t9.0 (t10.0 ∙ ap (λ (x : List ℕ). off.0 ++ x) t11);
       is_airline = t1.1;
-      is_number = t2.is_number;
+      is_number = t2.2;
       is_suffix = t3.letter;
       is_from = t5.is_day;
       is_to = t7.is_day;
@@ -92,24 +74,6 @@ assemble line head airline number period from second to pair board off entries l
     }
 
 -- ---- no fault of a row is want of memory
-
-abbrev refusal : {A : Type 0} → LimitKind → Result A LimitKind
-refusal kind = Err kind
-
-kind_is : {A : Type 0} (a b : LimitKind) → refusal {A = A} a ≡ refusal b → a ≡ b
-kind_is a b e = cc
-
-want_none : {A B : Type 0} (fault : LimitKind) (o : Option A) (f : A → Result B LimitKind) → (want fault o >>= f) ≡ Err kinds.Memory → (fault ≡ kinds.Memory → ⊥) → ((x : A) → f x ≡ Err kinds.Memory → ⊥) → ⊥
-want_none {B = B} fault None f e other k = other (kind_is {A = B} fault kinds.Memory e)
-want_none fault (Some x) f e other k = k x e
-
-check_none : {B : Type 0} (fault : LimitKind) (b : Bool) (f : Unit {0} → Result B LimitKind) → (check fault b >>= f) ≡ Err kinds.Memory → (fault ≡ kinds.Memory → ⊥) → (f tt ≡ Err kinds.Memory → ⊥) → ⊥
-check_none fault true f e other k = k e
-check_none {B = B} fault false f e other k = other (kind_is {A = B} fault kinds.Memory e)
-
-last_none : (r : Result Steps LimitKind) (f : Steps → LimitRow) → (r >>= (λ x. Ok (f x))) ≡ Err kinds.Memory → (r ≡ Err kinds.Memory → ⊥) → ⊥
-last_none (Ok x) f e k = absurd cc
-last_none (Err kind) f e k = let same : kind ≡ kinds.Memory = kind_is {A = LimitRow} kind kinds.Memory e in k (ap (λ (x : LimitKind). refusal {A = Steps} x) same)
 
 ladder_or_none : (steps : Steps) (o : Option LadderFault) → ladder_or steps o ≡ Err kinds.Memory → ⊥
 ladder_or_none steps None e = cc
@@ -126,19 +90,19 @@ ladder_none text e = ladder_of_none (steps_in text) e
 pub row_none : (line : List ℕ) → row_at line ≡ Err kinds.Memory → ⊥
 unfolding row_at
 row_none line e =
-    want_none kinds.Head (head_at line) _ e (λ k. absurd cc) (λ head e0.
+    want_none kinds.Head (word_at (codes "AU ") line) _ e (λ k. absurd cc) (λ head e0.
     want_none kinds.Flight (fixed_at 2 is_airline head) _ e0 (λ k. absurd cc) (λ airline e1.
-    want_none kinds.Flight (number_at airline.1) _ e1 (λ k. absurd cc) (λ number e2.
-    want_none kinds.Flight (blank_at (suffix_at number.1).1) _ e2 (λ k. absurd cc) (λ period e3.
+    want_none kinds.Flight (numeral_at 4 airline.1) _ e1 (λ k. absurd cc) (λ number e2.
+    want_none kinds.Flight (byte_at 32 (suffix_at number.1).1) _ e2 (λ k. absurd cc) (λ period e3.
     want_none kinds.Period (date_at period) _ e3 (λ k. absurd cc) (λ from e4.
-    want_none kinds.Period (blank_at from.1) _ e4 (λ k. absurd cc) (λ second e5.
+    want_none kinds.Period (byte_at 32 from.1) _ e4 (λ k. absurd cc) (λ second e5.
     want_none kinds.Period (date_at second) _ e5 (λ k. absurd cc) (λ to e6.
-    want_none kinds.Period (blank_at to.1) _ e6 (λ k. absurd cc) (λ pair e7.
+    want_none kinds.Period (byte_at 32 to.1) _ e6 (λ k. absurd cc) (λ pair e7.
     check_none kinds.Period (leb from.0 to.0) _ e7 (λ k. absurd cc) (λ e8.
     want_none kinds.Pair (fixed_at 3 is_station pair) _ e8 (λ k. absurd cc) (λ board e9.
     want_none kinds.Pair (fixed_at 3 is_station board.1) _ e9 (λ k. absurd cc) (λ off e10.
-    want_none kinds.Entry (blank_at off.1) _ e10 (λ k. absurd cc) (λ entries e11.
-    last_none (ladder_in entries) _ e11 (ladder_none entries)))))))))))))
+    want_none kinds.Entry (byte_at 32 off.1) _ e10 (λ k. absurd cc) (λ entries e11.
+    step_none (ladder_in entries) _ e11 (ladder_none entries) (λ ladder k. absurd cc)))))))))))))
 
 -- ---- the row that is read
 
@@ -156,7 +120,7 @@ ladder_is text found e = ladder_of_is (steps_in text) found (λ steps is. letter
 
 -- each step was taken, so the line is spelled so
 pub row_takes : (line : List ℕ) (row : LimitRow) → row_at line ≡ Ok row → SpellsRow line row
-unfolding row_at done
+unfolding row_at
 row_takes line row e =
     with_want kinds.Head _ _ row e (λ head e0 k0.
     with_want kinds.Flight _ _ row k0 (λ airline e1 k1.
@@ -171,10 +135,10 @@ row_takes line row e =
     with_want kinds.Pair _ _ row k9 (λ off e10 k10.
     with_want kinds.Entry _ _ row k10 (λ entries e11 k11.
     with_step (ladder_in entries) _ row k11 (λ ladder e12 k12.
-    subst (SpellsRow line) (row_is _ row k12) (assemble line head airline number period from second to pair board off entries ladder e0 e1 e2 e3 e4 e5 e6 e7 e8 e9 e10 e11 e12 (ladder_is entries ladder e12)))))))))))))))
+    subst (SpellsRow line) (ok_is _ row k12) (assemble line head airline number period from second to pair board off entries ladder e0 e1 e2 e3 e4 e5 e6 e7 e8 e9 e10 e11 e12 (ladder_is entries ladder e12)))))))))))))))
 
-pub row_again : (line : List ℕ) (row : LimitRow) → SpellsRow line row → row_at line ≡ done row
-unfolding row_at done
+pub row_again : (line : List ℕ) (row : LimitRow) → SpellsRow line row → row_at line ≡ Ok row
+unfolding row_at
 row_again line row s =
     let r11 = 32 ∷ s.entries in
     let r10 = row.off ++ r11 in
@@ -187,9 +151,9 @@ row_again line row s =
     let r3 = suffix_text row.suffix ++ r4 in
     let r2 = s.number ++ r3 in
     let r1 = row.airline ++ r2 in
-    let head : head_at line ≡ Some r1 = ap head_at s.written in
+    let head : word_at (codes "AU ") line ≡ Some r1 = ap (word_at (codes "AU ")) s.written ∙ word_again (codes "AU ") r1 in
     let airline : fixed_at 2 is_airline r1 ≡ Some (row.airline, r2) = fixed_again 2 is_airline row.airline r2 (length_airline row.airline s.is_airline) s.is_airline in
-    let number : number_at r2 ≡ Some (row.number, r3) = number_again s.number row.number r3 s.is_number (suffix_stops row.suffix r5 s.is_suffix) in
+    let number : numeral_at 4 r2 ≡ Some (row.number, r3) = numeral_again 4 s.number row.number r3 s.is_number (suffix_stops row.suffix r5 s.is_suffix) in
     let suffix = suffix_again row.suffix r5 s.is_suffix in
     let from : date_at r5 ≡ Some (row.from, r6) = date_again_front s.from row.from r6 s.is_from in
     let to : date_at r7 ≡ Some (row.to, r8) = date_again_front s.to row.to r8 s.is_to in

@@ -65,11 +65,6 @@ abbrev pub entry_at : List ℕ → Option (Step × List ℕ)
 entry_at (a ∷ b ∷ c ∷ d ∷ e ∷ f ∷ g ∷ h ∷ rest) = option_map (λ s. (s, rest)) (entry_in a b c d e f g h)
 entry_at _ = None
 
--- what follows a blank
-abbrev pub blank_at : List ℕ → Option (List ℕ)
-blank_at [] = None
-blank_at (c ∷ rest) = if c == 32 then Some rest else None
-
 abbrev pub with_entry : Option Step → Option Steps → Option Steps
 with_entry None lower = None
 with_entry (Some s) None = None

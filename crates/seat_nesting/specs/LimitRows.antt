@@ -1,32 +1,20 @@
 -- Limit rows: their grammar, and their reading with the first fault.
-use Rattle.std.specs.Prelude.{◌≡◌, ℕ, ◌+◌, ◌<◌, ◌≤◌, nat_le, Bool, true, false, IsTrue, List, [], ◌∷◌, ◌++◌, length, Option, Some, None, IfSome, Result, Ok, Err, IsOk}
-use Rattle.std.specs.Char.{is_ascii_uppercase, is_ascii_digit}
-use Rattle.std.specs.List.{list_all}
-use Rattle.std.specs.Str.Parse.{digits_value}
+use Rattle.std.specs.Prelude.{◌≡◌, ℕ, ◌+◌, ◌≤◌, nat_le, IsTrue, List, [], ◌∷◌, ◌++◌, length, IfSome, Result, Ok, Err, IsOk, codes}
+use Rattle.std.specs.Char.{is_ascii_uppercase}
 use Rattle.std.specs.Str.Lines.{lines}
 use Rattle.ssim_records.specs.Names.{is_airline, is_station}
 use Rattle.ssim_records.specs.Days.{IsDayField}
 use Rattle.seat_nesting.specs.Nesting.{IsLadder}
-use Rattle.seat_nesting.specs.LadderText.{SpellsSteps, blank_at, ladder_in}
-use Rattle.seat_nesting.specs.RowFields.{head_at, fixed_at, number_at, suffix_at, date_at}
+use Rattle.ssim_records.specs.Chains.{◌>>=◌, want, check}
+use Rattle.ssim_records.specs.Fields.{byte_at, word_at, fixed_at, numeral_at, IsNumberText, suffix_text}
+use Rattle.seat_nesting.specs.LadderText.{SpellsSteps, ladder_in}
+use Rattle.seat_nesting.specs.RowFields.{suffix_at, date_at}
 use Rattle.seat_nesting.specs.declared.limit_row.LimitRow.{LimitRow}
 use Rattle.seat_nesting.specs.declared.limit_fault.LimitFault.{LimitFault}
 use Rattle.seat_nesting.specs.declared.limit_fault.LimitKind.{LimitKind}
 use Rattle.seat_nesting.specs.declared.limit_fault.LimitKind.TheVariants as kinds
 
 -- ---- grammar
-
--- a number above 0 in at most four digits, with or without leading zeros
-pub record IsFlightNumber (digits : List ℕ) (n : ℕ) : Type 0 where
-  pub few : length digits ≤ 4
-  pub each : IsTrue (list_all is_ascii_digit digits)
-  pub value : n ≡ digits_value 10 digits
-  pub positive : 0 < n
-
--- the one letter of a suffix, where there is one
-abbrev pub suffix_text : Option ℕ → List ℕ
-suffix_text None = []
-suffix_text (Some letter) = letter ∷ []
 
 -- AU, flight, first and last day, city pair and ladder, with a blank before each but the pair's second city
 pub record SpellsRow (line : List ℕ) (row : LimitRow) : Type 0 where
@@ -36,7 +24,7 @@ pub record SpellsRow (line : List ℕ) (row : LimitRow) : Type 0 where
   pub entries : List ℕ
   pub written : line ≡ 65 ∷ 85 ∷ 32 ∷ (row.airline ++ (number ++ (suffix_text row.suffix ++ 32 ∷ (from ++ 32 ∷ (to ++ 32 ∷ (row.board ++ (row.off ++ 32 ∷ entries)))))))
   pub is_airline : IsTrue (is_airline row.airline)
-  pub is_number : IsFlightNumber number row.number
+  pub is_number : IsNumberText 4 number row.number
   pub is_suffix : IfSome row.suffix (λ c. IsTrue (is_ascii_uppercase c))
   pub is_from : IsDayField from row.from
   pub is_to : IsDayField to row.to
@@ -60,34 +48,20 @@ pub record IsLimitText (bytes : List ℕ) (rows : List LimitRow) : Type 0 where
 
 -- ---- reading from left to right
 
-infixl 10 ◌>>=◌
-abbrev pub ◌>>=◌ : {A B : Type 0} → Result A LimitKind → (A → Result B LimitKind) → Result B LimitKind
-(Ok x) >>= f = f x
-(Err e) >>= f = Err e
-
--- the field, or this fault
-abbrev pub want : {A : Type 0} → LimitKind → Option A → Result A LimitKind
-want fault None = Err fault
-want fault (Some x) = Ok x
-
-abbrev pub check : LimitKind → Bool → Result (Unit {0}) LimitKind
-check fault true = Ok tt
-check fault false = Err fault
-
 unfoldable pub row_at : List ℕ → Result LimitRow LimitKind
 row_at line = do
-  head ← want kinds.Head (head_at line)
+  head ← want kinds.Head (word_at (codes "AU ") line)
   airline ← want kinds.Flight (fixed_at 2 is_airline head)
-  number ← want kinds.Flight (number_at airline.1)
-  period ← want kinds.Flight (blank_at (suffix_at number.1).1)
+  number ← want kinds.Flight (numeral_at 4 airline.1)
+  period ← want kinds.Flight (byte_at 32 (suffix_at number.1).1)
   from ← want kinds.Period (date_at period)
-  second ← want kinds.Period (blank_at from.1)
+  second ← want kinds.Period (byte_at 32 from.1)
   to ← want kinds.Period (date_at second)
-  pair ← want kinds.Period (blank_at to.1)
+  pair ← want kinds.Period (byte_at 32 to.1)
   _ ← check kinds.Period (nat_le from.0 to.0)
   board ← want kinds.Pair (fixed_at 3 is_station pair)
   off ← want kinds.Pair (fixed_at 3 is_station board.1)
-  entries ← want kinds.Entry (blank_at off.1)
+  entries ← want kinds.Entry (byte_at 32 off.1)
   ladder ← ladder_in entries
   Ok (record {
     airline = airline.0;

@@ -1,12 +1,13 @@
 //! Ladders as text: entries as `F010/000`, with single blanks between them.
 ghost use Rattle.std.specs.Prelude.{◌≡◌, ◌≤◌, ◌+◌, ◌*◌, ◌<◌, IfErr, IfOk, IfSome, IsTrue, is_some, length, option_map, Ok, Err};
 ghost use Rattle.seat_nesting.specs.Nesting.{Steps, IsLadder};
-ghost use Rattle.seat_nesting.specs.LadderText.{SpellsSteps, IsLadderRefusal, three_in, entry_at, blank_at, steps_in, ladder_in};
+ghost use Rattle.seat_nesting.specs.LadderText.{SpellsSteps, IsLadderRefusal, three_in, entry_at, steps_in, ladder_in};
 
 use crate::ladder::{Ladder, LadderFault, Step};
 use crate::limit_fault::LimitKind;
 use arrayvec::ArrayVec;
 use ssim_records::Class;
+use ssim_records::fields::byte_of;
 
 /// 26 entries of eight bytes, and the 25 blanks between them.
 const LONGEST: usize = 233;
@@ -64,7 +65,7 @@ fn are_entries(text: &[u8]) -> bool
         if after.is_empty() {
             return true;
         }
-        let Some(next) = blank_of(after) else {
+        let Some(next) = byte_of(b' ', after) else {
             return false;
         };
         rest = next;
@@ -85,7 +86,7 @@ fn steps_of(text: &[u8]) -> Option<ArrayVec<Step, 26>>
         if after.is_empty() {
             return Some(steps);
         }
-        let Some(next) = blank_of(after) else {
+        let Some(next) = byte_of(b' ', after) else {
             return None;
         };
         rest = next;
@@ -104,16 +105,6 @@ fn entry_of(bytes: &[u8]) -> Option<(Step, &[u8])>
             let class = Class::new(*class)?;
             Some((Step { class, limit, wait }, rest))
         }
-        _ => None,
-    }
-}
-
-/// What follows a blank.
-pub(crate) fn blank_of(bytes: &[u8]) -> Option<&[u8]>
-    ensures { option_map (λ x. x.now) result ≡ blank_at bytes.now }
-{
-    match bytes {
-        [b' ', rest @ ..] => Some(rest),
         _ => None,
     }
 }

@@ -2,39 +2,40 @@
 ghost use Rattle.std.specs.Prelude.{◌≡◌};
 ghost use Rattle.seat_nesting.specs.LimitRows.{row_at};
 
-use crate::ladder_text::{blank_of, ladder_of};
+use crate::ladder_text::ladder_of;
 use crate::limit_fault::LimitKind;
 use crate::limit_row::LimitRow;
-use crate::row_fields::{airline_of, date_of, head_of, number_of, station_of, suffix_of};
+use crate::row_fields::{date_of, suffix_of};
+use ssim_records::fields::{airline_of, byte_of, numeral_of, station_of, word_of};
 
 /// The row that a line spells, or its first fault from left to right.
 #[tactic(auto, unfolding(crate::specs::LimitRows::row_at))]
 pub(crate) fn row_of(line: &[u8]) -> Result<LimitRow, LimitKind>
     ensures { result ≡ row_at line.now }
 {
-    let Some(rest) = head_of(line) else {
+    let Some(rest) = word_of(b"AU ", line) else {
         return Err(LimitKind::Head);
     };
     let Some((airline, rest)) = airline_of(rest) else {
         return Err(LimitKind::Flight);
     };
-    let Some((number, rest)) = number_of(rest) else {
+    let Some((number, rest)) = numeral_of(rest, 4) else {
         return Err(LimitKind::Flight);
     };
     let (suffix, rest) = suffix_of(rest);
-    let Some(rest) = blank_of(rest) else {
+    let Some(rest) = byte_of(b' ', rest) else {
         return Err(LimitKind::Flight);
     };
     let Some((from, rest)) = date_of(rest) else {
         return Err(LimitKind::Period);
     };
-    let Some(rest) = blank_of(rest) else {
+    let Some(rest) = byte_of(b' ', rest) else {
         return Err(LimitKind::Period);
     };
     let Some((to, rest)) = date_of(rest) else {
         return Err(LimitKind::Period);
     };
-    let Some(rest) = blank_of(rest) else {
+    let Some(rest) = byte_of(b' ', rest) else {
         return Err(LimitKind::Period);
     };
     if from.number() > to.number() {
@@ -46,7 +47,7 @@ pub(crate) fn row_of(line: &[u8]) -> Result<LimitRow, LimitKind>
     let Some((off, rest)) = station_of(rest) else {
         return Err(LimitKind::Pair);
     };
-    let Some(entries) = blank_of(rest) else {
+    let Some(entries) = byte_of(b' ', rest) else {
         return Err(LimitKind::Entry);
     };
     let ladder = ladder_of(entries)?;

@@ -1,5 +1,5 @@
 -- A date that is read is written so, and what is written so is read.
-use Rattle.std.proofs.Common.{inl, inr, ◌≡◌, ℕ, zero, suc, ◌+◌, ◌-◌, ◌*◌, ◌/◌, ◌%◌, ◌<◌, ◌≤◌, Bool, true, false, cond, leb, eqb, ◌&&◌, ◌||◌, List, [], ◌∷◌, ◌++◌, Option, Some, None, refl, sym, ap, subst, ◌∙◌, arith, ℤ, pos, negsuc, ◌≤ℤ◌, unsigned_abs}
+use Rattle.std.proofs.Common.{inl, inr, ◌≡◌, ℕ, zero, suc, ◌+◌, ◌-◌, ◌*◌, ◌/◌, ◌%◌, ◌<◌, ◌≤◌, Bool, true, false, cond, leb, eqb, ◌&&◌, ◌||◌, List, [], ◌∷◌, ◌++◌, length, Option, Some, None, refl, sym, ap, subst, ◌∙◌, arith, ℤ, pos, negsuc, ◌≤ℤ◌, unsigned_abs}
 use Rattle.std.specs.Prelude.{IsSome, IfSome}
 use Rattle.std.specs.Char.{is_ascii_digit}
 use Rattle.std.proofs.lemmas.Bool.{eqb-true}
@@ -79,6 +79,16 @@ month_again (suc (suc (suc (suc (suc (suc (suc (suc (suc (suc zero)))))))))) low
 month_again (suc (suc (suc (suc (suc (suc (suc (suc (suc (suc (suc zero))))))))))) low high = refl
 month_again (suc (suc (suc (suc (suc (suc (suc (suc (suc (suc (suc (suc zero)))))))))))) low high = refl
 month_again (suc (suc (suc (suc (suc (suc (suc (suc (suc (suc (suc (suc (suc n))))))))))))) low high = absurd (omega arith)
+
+length_read : (m : ℕ) (name : List ℕ) → reads_month m name → length name ≡ 3
+length_read m [] h = absurd h
+length_read m (a ∷ []) h = absurd h
+length_read m (a ∷ b ∷ []) h = absurd h
+length_read m (a ∷ b ∷ c ∷ []) h = refl
+length_read m (a ∷ b ∷ c ∷ d ∷ name) h = absurd h
+
+pub length_name : (m : ℕ) → 1 ≤ m → m ≤ 12 → length (month_name m) ≡ 3
+length_name m low high = length_read m (month_name m) (month_again m low high)
 
 -- ---- the calendar
 

@@ -26,12 +26,19 @@ all_at [] i h lt = absurd (omega arith)
 all_at (d ∷ digits) zero h lt = (both_true (is_ascii_digit d) (list_all is_ascii_digit digits) h).0
 all_at (d ∷ digits) (suc i) h lt = all_at digits i (both_true (is_ascii_digit d) (list_all is_ascii_digit digits) h).1 (omega arith)
 
--- a further digit leaves room in a number of 32 bits
-pub more_room : (digits : List ℕ) (i number : ℕ) → length digits ≤ 9 → i < length digits → is_ascii_digit (get_or digits i 0) ≡ true → number < 10 ^ i
-    → number * 10 + (get_or digits i 0 - 48) < 1_000_000_000
+-- a further digit leaves room in a number of 64 bits
+pub more_room : (digits : List ℕ) (i number : ℕ) → length digits ≤ 10 → i < length digits → is_ascii_digit (get_or digits i 0) ≡ true → number < 10 ^ i
+    → number * 10 + (get_or digits i 0 - 48) < 10_000_000_000
 more_room digits i number short lt is small =
     let d = digit_is (get_or digits i 0) is in
     let low : 1 ≤ 10 = omega arith in
-    let high : i ≤ 8 = omega arith in
-    let most : 10 ^ i ≤ 10 ^ 8 = pow-le-pow_right low high in
+    let high : i ≤ 9 = omega arith in
+    let most : 10 ^ i ≤ 10 ^ 9 = pow-le-pow_right low high in
     omega (arith, d.1, most)
+
+-- a number of so many digits
+pub below_power : (n len most : ℕ) → len ≤ most → n < 10 ^ len → n < 10 ^ most
+below_power n len most short small =
+    let one : 1 ≤ 10 = omega arith in
+    let bound : 10 ^ len ≤ 10 ^ most = pow-le-pow_right one short in
+    omega arith

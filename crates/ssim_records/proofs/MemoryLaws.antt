@@ -12,70 +12,51 @@ use Rattle.ssim_records.specs.Days.{date_in}
 use Rattle.ssim_records.specs.RecordFields.{padded_in, positive_in, six_in, mode_in, designator_in, station_in, suffix_in, byte_in, until_in, days_in, rate_in, time_in, offset_in, shift_in, continued_in}
 use Rattle.ssim_records.specs.Cut.{cut_at, ended, end_at}
 use Rattle.ssim_records.specs.SetFaults.{missing}
-use Rattle.ssim_records.specs.SetSteps.{◌>>=◌, want, check, carrier_at, leg_at, leg_name_at, leg_period_at, leg_path_at, trailer_at, header_at, second_at, segment_at, numbered_at, header_step, carrier_step, leg_step, segment_step, trailer_step, body_step, type_of, has_serial, taken, within, is_start, step, moved, cut_then, next}
-
-abbrev refusal : {A : Type 0} → SetKind → Result A SetKind
-refusal kind = Err kind
+use Rattle.ssim_records.specs.SetSteps.{carrier_at, leg_at, leg_name_at, leg_period_at, leg_path_at, trailer_at, header_at, second_at, segment_at, numbered_at, header_step, carrier_step, leg_step, segment_step, trailer_step, body_step, type_of, has_serial, taken, within, is_start, step, moved, cut_then, next}
+use Rattle.ssim_records.proofs.Chains.{refusal, fault_is, want_none, check_none, step_none}
 
 abbrev answer : {A : Type 0} → A → Result A SetKind
 answer x = Ok x
 
-kind_is : {A : Type 0} (a b : SetKind) → refusal {A = A} a ≡ refusal b → a ≡ b
-kind_is a b e = cc
-
 some_none : {A : Type 0} (x : A) → answer x ≡ Err kinds.Memory → ⊥
 some_none x e = cc
-
--- ---- chains
-
-want_none : {A B : Type 0} (place : ℕ) (o : Option A) (f : A → Result B SetKind) → (want place o >>= f) ≡ Err kinds.Memory → ((x : A) → (f x) ≡ Err kinds.Memory → ⊥) → ⊥
-want_none place None f e k = cc
-want_none place (Some x) f e k = k x e
-
-check_none : {B : Type 0} (kind : SetKind) (b : Bool) (f : Unit {0} → Result B SetKind) → (check kind b >>= f) ≡ Err kinds.Memory → (kind ≡ kinds.Memory → ⊥) → ((f tt) ≡ Err kinds.Memory → ⊥) → ⊥
-check_none kind true f e other k = k e
-check_none {B = B} kind false f e other k = other (kind_is {A = B} kind kinds.Memory e)
-
-step_none : {A B : Type 0} (r : Result A SetKind) (f : A → Result B SetKind) → (r >>= f) ≡ Err kinds.Memory → (r ≡ Err kinds.Memory → ⊥) → ((x : A) → (f x) ≡ Err kinds.Memory → ⊥) → ⊥
-step_none (Ok x) f e none k = k x e
-step_none {A = A} {B = B} (Err kind) f e none k = none (ap (λ (x : SetKind). refusal {A = A} x) (kind_is {A = B} kind kinds.Memory e))
 
 -- ---- records
 
 carrier_none : (text : List ℕ) → (carrier_at text) ≡ Err kinds.Memory → ⊥
 unfolding carrier_at
 carrier_none text e =
-    want_none 2 (mode_in (field 2 2 text)) _ e (λ local e1.
-    want_none 3 (designator_in (field 3 5 text)) _ e1 (λ airline e2.
-    want_none 15 (date_in (field 15 21 text)) _ e2 (λ from e3.
-    want_none 22 (until_in from (field 22 28 text)) _ e3 (λ to e4. some_none _ e4))))
+    want_none (kinds.BadField 2) (mode_in (field 2 2 text)) _ e (λ k. absurd cc) (λ local e1.
+    want_none (kinds.BadField 3) (designator_in (field 3 5 text)) _ e1 (λ k. absurd cc) (λ airline e2.
+    want_none (kinds.BadField 15) (date_in (field 15 21 text)) _ e2 (λ k. absurd cc) (λ from e3.
+    want_none (kinds.BadField 22) (until_in from (field 22 28 text)) _ e3 (λ k. absurd cc) (λ to e4. some_none _ e4))))
 
 name_none : (text : List ℕ) → (leg_name_at text) ≡ Err kinds.Memory → ⊥
 unfolding leg_name_at
 name_none text e =
-    want_none 2 (suffix_in (field 2 2 text)) _ e (λ suffix e1.
-    want_none 3 (designator_in (field 3 5 text)) _ e1 (λ own e2.
-    want_none 6 (positive_in (field 6 9 text)) _ e2 (λ number e3.
-    want_none 10 (padded_in (field 10 11 text)) _ e3 (λ variation e4.
-    want_none 12 (positive_in (field 12 13 text)) _ e4 (λ sequence e5. some_none _ e5)))))
+    want_none (kinds.BadField 2) (suffix_in (field 2 2 text)) _ e (λ k. absurd cc) (λ suffix e1.
+    want_none (kinds.BadField 3) (designator_in (field 3 5 text)) _ e1 (λ k. absurd cc) (λ own e2.
+    want_none (kinds.BadField 6) (positive_in (field 6 9 text)) _ e2 (λ k. absurd cc) (λ number e3.
+    want_none (kinds.BadField 10) (padded_in (field 10 11 text)) _ e3 (λ k. absurd cc) (λ variation e4.
+    want_none (kinds.BadField 12) (positive_in (field 12 13 text)) _ e4 (λ k. absurd cc) (λ sequence e5. some_none _ e5)))))
 
 period_none : (text : List ℕ) → (leg_period_at text) ≡ Err kinds.Memory → ⊥
 unfolding leg_period_at
 period_none text e =
-    want_none 15 (date_in (field 15 21 text)) _ e (λ from e1.
-    want_none 22 (until_in from (field 22 28 text)) _ e1 (λ to e2.
-    want_none 29 (days_in (field 29 35 text)) _ e2 (λ days e3.
-    want_none 36 (rate_in (field 36 36 text)) _ e3 (λ second_week e4. some_none _ e4))))
+    want_none (kinds.BadField 15) (date_in (field 15 21 text)) _ e (λ k. absurd cc) (λ from e1.
+    want_none (kinds.BadField 22) (until_in from (field 22 28 text)) _ e1 (λ k. absurd cc) (λ to e2.
+    want_none (kinds.BadField 29) (days_in (field 29 35 text)) _ e2 (λ k. absurd cc) (λ days e3.
+    want_none (kinds.BadField 36) (rate_in (field 36 36 text)) _ e3 (λ k. absurd cc) (λ second_week e4. some_none _ e4))))
 
 path_none : (text : List ℕ) → (leg_path_at text) ≡ Err kinds.Memory → ⊥
 unfolding leg_path_at
 path_none text e =
-    want_none 37 (station_in (field 37 39 text)) _ e (λ board e1.
-    want_none 44 (time_in (field 44 47 text)) _ e1 (λ std e2.
-    want_none 48 (offset_in (field 48 52 text)) _ e2 (λ offset e3.
-    want_none 55 (station_in (field 55 57 text)) _ e3 (λ off e4.
-    want_none 128 (byte_in (field 128 128 text)) _ e4 (λ overflow e5.
-    want_none 193 (shift_in (field 193 193 text)) _ e5 (λ shift e6. some_none _ e6))))))
+    want_none (kinds.BadField 37) (station_in (field 37 39 text)) _ e (λ k. absurd cc) (λ board e1.
+    want_none (kinds.BadField 44) (time_in (field 44 47 text)) _ e1 (λ k. absurd cc) (λ std e2.
+    want_none (kinds.BadField 48) (offset_in (field 48 52 text)) _ e2 (λ k. absurd cc) (λ offset e3.
+    want_none (kinds.BadField 55) (station_in (field 55 57 text)) _ e3 (λ k. absurd cc) (λ off e4.
+    want_none (kinds.BadField 128) (byte_in (field 128 128 text)) _ e4 (λ k. absurd cc) (λ overflow e5.
+    want_none (kinds.BadField 193) (shift_in (field 193 193 text)) _ e5 (λ k. absurd cc) (λ shift e6. some_none _ e6))))))
 
 leg_none : (airline : List ℕ) (serial : ℕ) (text : List ℕ) → (leg_at airline serial text) ≡ Err kinds.Memory → ⊥
 unfolding leg_at
@@ -88,9 +69,9 @@ leg_none airline serial text e =
 trailer_none : (airline : List ℕ) (before : ℕ) (text : List ℕ) → (trailer_at airline before text) ≡ Err kinds.Memory → ⊥
 unfolding trailer_at
 trailer_none airline before text e =
-    want_none 3 (designator_in (field 3 5 text)) _ e (λ own e1.
-    want_none 188 (six_in (field 188 193 text)) _ e1 (λ reference e2.
-    want_none 194 (continued_in (field 194 194 text)) _ e2 (λ more e3.
+    want_none (kinds.BadField 3) (designator_in (field 3 5 text)) _ e (λ k. absurd cc) (λ own e1.
+    want_none (kinds.BadField 188) (six_in (field 188 193 text)) _ e1 (λ k. absurd cc) (λ reference e2.
+    want_none (kinds.BadField 194) (continued_in (field 194 194 text)) _ e2 (λ k. absurd cc) (λ more e3.
     check_none kinds.OtherAirline (same_text own airline) _ e3 (λ k. absurd cc) (λ e4.
     check_none kinds.BadCheck (eqb reference before) _ e4 (λ k. absurd cc) (λ e5.
     check_none kinds.Continued (not more) _ e5 (λ k. absurd cc) (λ e6. some_none _ e6))))))
@@ -183,14 +164,14 @@ cut_none bytes e = of (ltb (length bytes) 200) (list_all is_printable (take 200 
 
 moved_none : (rest : List ℕ) (r : Result Reader SetKind) → (moved rest r) ≡ Err kinds.Memory → (r ≡ Err kinds.Memory → ⊥) → ⊥
 moved_none rest (Ok t) e none = absurd cc
-moved_none rest (Err kind) e none = none (ap (λ (x : SetKind). refusal {A = Reader} x) (kind_is {A = Reader × List ℕ} kind kinds.Memory e))
+moved_none rest (Err kind) e none = none (ap (λ (x : SetKind). refusal {A = Reader} x) (fault_is {A = Reader × List ℕ} kind kinds.Memory e))
 
 pub next_none : (most : ℕ) (s : Reader) (bytes : List ℕ) → (next most s bytes) ≡ Err kinds.Memory → ⊥
 unfolding next
 next_none most s bytes e = of (cut_at bytes) (cut_none bytes) e
   where
     of : (r : Result (List ℕ × List ℕ) SetKind) → (r ≡ Err kinds.Memory → ⊥) → (cut_then most s r) ≡ Err kinds.Memory → ⊥
-    of (Err kind) none h = none (ap (λ (x : SetKind). refusal {A = List ℕ × List ℕ} x) (kind_is {A = Reader × List ℕ} kind kinds.Memory h))
+    of (Err kind) none h = none (ap (λ (x : SetKind). refusal {A = List ℕ × List ℕ} x) (fault_is {A = Reader × List ℕ} kind kinds.Memory h))
     of (Ok p) none h = moved_none p.1 (step most s p.0) h (step_of_none most s p.0)
 
 pub missing_none : (p : Phase) → missing p ≡ Some kinds.Memory → ⊥

@@ -15,7 +15,8 @@ use Rattle.ssim_records.specs.Bytes.{field, set_title}
 use Rattle.ssim_records.specs.Days.{IsDayField}
 use Rattle.ssim_records.specs.Names.{is_station}
 use Rattle.ssim_records.specs.RecordFields.{six_in}
-use Rattle.ssim_records.specs.SetSteps.{◌>>=◌, want, check, carrier_at, leg_at, leg_name_at, leg_period_at, leg_path_at, trailer_at, type_of, is_number, has_serial, header_at, second_at, segment_at, numbered_at, header_step, carrier_step, leg_step, segment_step, trailer_step, body_step}
+use Rattle.ssim_records.specs.Chains.{◌>>=◌, want, check}
+use Rattle.ssim_records.specs.SetSteps.{carrier_at, leg_at, leg_name_at, leg_period_at, leg_path_at, trailer_at, type_of, is_number, has_serial, header_at, second_at, segment_at, numbered_at, header_step, carrier_step, leg_step, segment_step, trailer_step, body_step}
 use Rattle.ssim_records.specs.SetText.{IsSix, IsTyped, IsHeader, IsCarrier, IsLeg, IsTrailer, IsDesignator, IsPadded, IsSuffix, IsUntil, IsDays, IsRate, IsTime, IsOffset, IsShift}
 use Rattle.ssim_records.proofs.Chains.{with_want, with_check, with_step}
 use Rattle.ssim_records.proofs.Tests.{some_is, none_some}
@@ -60,19 +61,19 @@ pub check_is : {B : Type 0} (kind : SetKind) (b : Bool) (f : Unit {0} → Result
 check_is kind true f h = refl
 check_is kind false f h = absurd cc
 
-pub want_is : {A B : Type 0} (place : ℕ) (o : Option A) (x : A) (f : A → Result B SetKind) → o ≡ Some x → (want place o >>= f) ≡ f x
-want_is place None x f h = absurd (none_some x h)
-want_is place (Some y) x f h = ap f (some_is y x h)
+pub want_is : {A B : Type 0} (fault : SetKind) (o : Option A) (x : A) (f : A → Result B SetKind) → o ≡ Some x → (want fault o >>= f) ≡ f x
+want_is fault None x f h = absurd (none_some x h)
+want_is fault (Some y) x f h = ap f (some_is y x h)
 
 -- ---- the carrier's record
 
 pub carrier_takes : (text : List ℕ) (c : Carrier) → IsTyped 50 text → carrier_at text ≡ Ok c → IsCarrier text c
 unfolding carrier_at done
 carrier_takes text c typed e =
-    with_want 2 _ _ c e (λ local e1 k1.
-    with_want 3 _ _ c k1 (λ airline e2 k2.
-    with_want 15 _ _ c k2 (λ from e3 k3.
-    with_want 22 _ _ c k3 (λ to e4 k4.
+    with_want (kinds.BadField 2) _ _ c e (λ local e1 k1.
+    with_want (kinds.BadField 3) _ _ c k1 (λ airline e2 k2.
+    with_want (kinds.BadField 15) _ _ c k2 (λ from e3 k3.
+    with_want (kinds.BadField 22) _ _ c k3 (λ to e4 k4.
     subst (IsCarrier text) (ok_is _ c k4) (record {
       typed = typed;
       mode = mode_takes (field 2 2 text) local e1;
@@ -103,11 +104,11 @@ record IsNamed (text : List ℕ) (name : LegName) : Type 0 where
 name_takes : (text : List ℕ) (name : LegName) → leg_name_at text ≡ Ok name → IsNamed text name
 unfolding leg_name_at done
 name_takes text name e =
-    with_want 2 _ _ name e (λ suffix e1 k1.
-    with_want 3 _ _ name k1 (λ own e2 k2.
-    with_want 6 _ _ name k2 (λ number e3 k3.
-    with_want 10 _ _ name k3 (λ variation e4 k4.
-    with_want 12 _ _ name k4 (λ sequence e5 k5.
+    with_want (kinds.BadField 2) _ _ name e (λ suffix e1 k1.
+    with_want (kinds.BadField 3) _ _ name k1 (λ own e2 k2.
+    with_want (kinds.BadField 6) _ _ name k2 (λ number e3 k3.
+    with_want (kinds.BadField 10) _ _ name k3 (λ variation e4 k4.
+    with_want (kinds.BadField 12) _ _ name k4 (λ sequence e5 k5.
     subst (IsNamed text) (ok_is _ name k5) (record {
       suffix = suffix_takes (field 2 2 text) suffix e1;
       own = designator_takes (field 3 5 text) own e2;
@@ -136,10 +137,10 @@ record IsPeriod (text : List ℕ) (period : LegPeriod) : Type 0 where
 period_takes : (text : List ℕ) (period : LegPeriod) → leg_period_at text ≡ Ok period → IsPeriod text period
 unfolding leg_period_at done
 period_takes text period e =
-    with_want 15 _ _ period e (λ from e1 k1.
-    with_want 22 _ _ period k1 (λ to e2 k2.
-    with_want 29 _ _ period k2 (λ days e3 k3.
-    with_want 36 _ _ period k3 (λ second_week e4 k4.
+    with_want (kinds.BadField 15) _ _ period e (λ from e1 k1.
+    with_want (kinds.BadField 22) _ _ period k1 (λ to e2 k2.
+    with_want (kinds.BadField 29) _ _ period k2 (λ days e3 k3.
+    with_want (kinds.BadField 36) _ _ period k3 (λ second_week e4 k4.
     subst (IsPeriod text) (ok_is _ period k4) (record {
       from = date_takes (field 15 21 text) from e1;
       to = until_takes from (field 22 28 text) to e2;
@@ -168,12 +169,12 @@ record IsPath (text : List ℕ) (path : LegPath) : Type 0 where
 path_takes : (text : List ℕ) (path : LegPath) → leg_path_at text ≡ Ok path → IsPath text path
 unfolding leg_path_at done
 path_takes text path e =
-    with_want 37 _ _ path e (λ board e1 k1.
-    with_want 44 _ _ path k1 (λ std e2 k2.
-    with_want 48 _ _ path k2 (λ offset e3 k3.
-    with_want 55 _ _ path k3 (λ off e4 k4.
-    with_want 128 _ _ path k4 (λ overflow e5 k5.
-    with_want 193 _ _ path k5 (λ shift e6 k6.
+    with_want (kinds.BadField 37) _ _ path e (λ board e1 k1.
+    with_want (kinds.BadField 44) _ _ path k1 (λ std e2 k2.
+    with_want (kinds.BadField 48) _ _ path k2 (λ offset e3 k3.
+    with_want (kinds.BadField 55) _ _ path k3 (λ off e4 k4.
+    with_want (kinds.BadField 128) _ _ path k4 (λ overflow e5 k5.
+    with_want (kinds.BadField 193) _ _ path k5 (λ shift e6 k6.
     subst (IsPath text) (ok_is _ path k6) (record {
       board = station_takes (field 37 39 text) board e1;
       std = time_takes (field 44 47 text) std e2;
@@ -252,9 +253,9 @@ serial_less reference before h = omega (arith, eqb-true reference before h)
 pub trailer_takes : (airline : List ℕ) (before : ℕ) (text : List ℕ) (u : Unit {0}) → IsTyped 53 text → trailer_at airline before text ≡ Ok u → IsTrailer airline (before + 1) text
 unfolding trailer_at
 trailer_takes airline before text u typed e =
-    with_want 3 _ _ u e (λ own e1 k1.
-    with_want 188 _ _ u k1 (λ reference e2 k2.
-    with_want 194 _ _ u k2 (λ more e3 k3.
+    with_want (kinds.BadField 3) _ _ u e (λ own e1 k1.
+    with_want (kinds.BadField 188) _ _ u k1 (λ reference e2 k2.
+    with_want (kinds.BadField 194) _ _ u k2 (λ more e3 k3.
     with_check kinds.OtherAirline _ _ u k3 (λ e4 k4.
     with_check kinds.BadCheck _ _ u k4 (λ e5 k5.
     with_check kinds.Continued _ _ u k5 (λ e6 k6.

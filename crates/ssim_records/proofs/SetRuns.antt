@@ -10,7 +10,8 @@ use Rattle.ssim_records.specs.declared.state.Reader.{Reader}
 use Rattle.ssim_records.specs.Bytes.{is_filler}
 use Rattle.ssim_records.specs.Cut.{cut_at}
 use Rattle.ssim_records.specs.Reach.{reach}
-use Rattle.ssim_records.specs.SetSteps.{◌>>=◌, type_of, taken, within, is_start, step, moved, cut_then, next}
+use Rattle.ssim_records.specs.Chains.{◌>>=◌}
+use Rattle.ssim_records.specs.SetSteps.{type_of, taken, within, is_start, step, moved, cut_then, next}
 use Rattle.ssim_records.specs.SetText.{IsCut}
 use Rattle.ssim_records.proofs.Chains.{with_step}
 use Rattle.ssim_records.proofs.RecordLaws.{done, ok_is, carried, with_leg, with_segment, closed, carrier_step_takes, leg_step_takes, segment_step_takes, trailer_step_takes, typed_takes, body_takes_one}

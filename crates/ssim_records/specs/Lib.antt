@@ -1,4 +1,5 @@
 pub mod Bytes
+pub mod Chains
 pub mod Counting
 pub mod Cut
 pub mod Days

@@ -11,62 +11,49 @@ use Rattle.ssim_records.specs.declared.state.Phase.{Phase}
 use Rattle.ssim_records.specs.declared.state.Phase.TheVariants.{Start, Open, Body, Done}
 use Rattle.ssim_records.specs.declared.state.Reader.{Reader}
 use Rattle.ssim_records.specs.Bytes.{header_type, carrier_type, leg_type, segment_type, trailer_type, field, same_text, is_filler, set_title}
+use Rattle.ssim_records.specs.Chains.{◌>>=◌, want, check}
 use Rattle.ssim_records.specs.Cut.{cut_at}
 use Rattle.ssim_records.specs.Days.{date_in}
 use Rattle.ssim_records.specs.RecordFields.{padded_in, positive_in, six_in, mode_in, designator_in, station_in, suffix_in, byte_in, until_in, days_in, rate_in, time_in, offset_in, shift_in, continued_in}
-
-infixl 10 ◌>>=◌
-abbrev pub ◌>>=◌ : {A B : Type 0} → Result A SetKind → (A → Result B SetKind) → Result B SetKind
-(Ok x) >>= f = f x
-(Err e) >>= f = Err e
-
--- the field that begins at this byte, or the fault that names it
-abbrev pub want : {A : Type 0} → ℕ → Option A → Result A SetKind
-want place None = Err (kinds.BadField place)
-want place (Some x) = Ok x
-
-abbrev pub check : SetKind → Bool → Result (Unit {0}) SetKind
-check kind true = Ok tt
-check kind false = Err kind
 
 -- ---- records
 
 unfoldable pub carrier_at : List ℕ → Result Carrier SetKind
 carrier_at text = do
-  local ← want 2 (mode_in (field 2 2 text))
-  airline ← want 3 (designator_in (field 3 5 text))
-  from ← want 15 (date_in (field 15 21 text))
-  to ← want 22 (until_in from (field 22 28 text))
+  local ← want (kinds.BadField 2) (mode_in (field 2 2 text))
+  airline ← want (kinds.BadField 3) (designator_in (field 3 5 text))
+  from ← want (kinds.BadField 15) (date_in (field 15 21 text))
+  to ← want (kinds.BadField 22) (until_in from (field 22 28 text))
   Ok (record { airline = airline; local = local; from = from; to = to })
 
 -- what names a leg
 unfoldable pub leg_name_at : List ℕ → Result LegName SetKind
 leg_name_at text = do
-  suffix ← want 2 (suffix_in (field 2 2 text))
-  own ← want 3 (designator_in (field 3 5 text))
-  number ← want 6 (positive_in (field 6 9 text))
-  variation ← want 10 (padded_in (field 10 11 text))
-  sequence ← want 12 (positive_in (field 12 13 text))
+  suffix ← want (kinds.BadField 2) (suffix_in (field 2 2 text))
+  own ← want (kinds.BadField 3) (designator_in (field 3 5 text))
+  number ← want (kinds.BadField 6) (positive_in (field 6 9 text))
+  variation ← want (kinds.BadField 10) (padded_in (field 10 11 text))
+  sequence ← want (kinds.BadField 12) (positive_in (field 12 13 text))
   Ok (record { suffix = suffix; own = own; number = number; variation = variation; sequence = sequence })
 
 -- its operating days
 unfoldable pub leg_period_at : List ℕ → Result LegPeriod SetKind
 leg_period_at text = do
-  from ← want 15 (date_in (field 15 21 text))
-  to ← want 22 (until_in from (field 22 28 text))
-  days ← want 29 (days_in (field 29 35 text))
-  second_week ← want 36 (rate_in (field 36 36 text))
+  from ← want (kinds.BadField 15) (date_in (field 15 21 text))
+  to ← want (kinds.BadField 22) (until_in from (field 22 28 text))
+  days ← want (kinds.BadField 29) (days_in (field 29 35 text))
+  second_week ← want (kinds.BadField 36) (rate_in (field 36 36 text))
   Ok (record { from = from; to = to; days = days; second_week = second_week })
 
 -- its departure and its arrival
 unfoldable pub leg_path_at : List ℕ → Result LegPath SetKind
 leg_path_at text = do
-  board ← want 37 (station_in (field 37 39 text))
-  std ← want 44 (time_in (field 44 47 text))
-  offset ← want 48 (offset_in (field 48 52 text))
-  off ← want 55 (station_in (field 55 57 text))
-  overflow ← want 128 (byte_in (field 128 128 text))
-  shift ← want 193 (shift_in (field 193 193 text))
+  board ← want (kinds.BadField 37) (station_in (field 37 39 text))
+  std ← want (kinds.BadField 44) (time_in (field 44 47 text))
+  offset ← want (kinds.BadField 48) (offset_in (field 48 52 text))
+  off ← want (kinds.BadField 55) (station_in (field 55 57 text))
+  overflow ← want (kinds.BadField 128) (byte_in (field 128 128 text))
+  shift ← want (kinds.BadField 193) (shift_in (field 193 193 text))
   Ok (record { board = board; std = std; offset = offset; off = off; overflow = overflow; shift = shift })
 
 unfoldable pub leg_at : List ℕ → ℕ → List ℕ → Result Leg SetKind
@@ -96,9 +83,9 @@ leg_at airline serial text = do
 -- the trailer after the record with this serial
 unfoldable pub trailer_at : List ℕ → ℕ → List ℕ → Result (Unit {0}) SetKind
 trailer_at airline before text = do
-  own ← want 3 (designator_in (field 3 5 text))
-  reference ← want 188 (six_in (field 188 193 text))
-  more ← want 194 (continued_in (field 194 194 text))
+  own ← want (kinds.BadField 3) (designator_in (field 3 5 text))
+  reference ← want (kinds.BadField 188) (six_in (field 188 193 text))
+  more ← want (kinds.BadField 194) (continued_in (field 194 194 text))
   _ ← check kinds.OtherAirline (same_text own airline)
   _ ← check kinds.BadCheck (reference == before)
   _ ← check kinds.Continued (not more)

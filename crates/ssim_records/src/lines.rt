@@ -11,13 +11,14 @@ pub fn cut_line(bytes: &[u8]) -> (&[u8], &[u8])
     ensures lines { 0 < length bytes.now → lines bytes.now ≡ result.0.now ∷ lines result.1.now }
     ensures shorter { 0 < length bytes.now → length result.1.now < length bytes.now }
 {
-    let Some(end) = end_of(bytes) else {
+    let Some(end) = line_end(bytes) else {
         return (bytes, &[]);
     };
     (without_return(&bytes[..end]), &bytes[end + 1..])
 }
 
-fn end_of(bytes: &[u8]) -> Option<usize>
+/// Where the first LF stands.
+pub fn line_end(bytes: &[u8]) -> Option<usize>
     ensures { result ≡ position is_line_feed bytes.now }
 {
     bytes.iter().position(|c| *c == b'\n')
