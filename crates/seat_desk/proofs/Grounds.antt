@@ -1,14 +1,17 @@
--- Why limit rows are refused, and what they give.
-use Rattle.std.proofs.Common.{◌≡◌, ◌≢◌, ℕ, List, Option, Some, None, IfSome, Err, refl, subst, ◌∙◌}
+-- Why limit rows are refused, what they give, and what holds of every loaded grid.
+use Rattle.std.proofs.Common.{◌≡◌, ◌≢◌, ℕ, List, Option, Some, None, IfSome, Err, refl, sym, subst, ◌∙◌}
 use Rattle.std.specs.Str.Lines.{lines}
 use Rattle.ssim_flights.specs.declared.flight.Flight.{Flight as Flown}
 use Rattle.seat_nesting.specs.Authorised.{authorised_grid}
 use Rattle.seat_nesting.specs.LimitRows.{rows_in}
-use Rattle.seat_nesting.specs.Nesting.{Legs}
 use Rattle.seat_nesting.specs.declared.limit_fault.LimitFault.{LimitFault}
 use Rattle.seat_nesting.specs.declared.limit_fault.LimitKind.{LimitKind}
 use Rattle.seat_nesting.specs.declared.limit_fault.LimitKind.TheVariants as limit_kinds
 use Rattle.seat_nesting.specs.declared.limit_row.LimitRow.{LimitRow}
+use Rattle.seat_nesting.proofs.Grids.{limit_text_ladders}
+use Rattle.seat_nesting.specs.Nesting.{Legs, HasLadders}
+use Rattle.seat_core.proofs.Replays.{replay_holds_within}
+use Rattle.seat_desk.specs.Laws.{LoadedLaddersDiffer, LoadedReplaysKeepLimits}
 use Rattle.seat_desk.specs.Loading.{IsGridOf, IsRefusedLoad, IsUnlimited, limit_refusal, limit_refusal_of}
 use Rattle.seat_desk.specs.declared.fault.DeskFault.TheVariants.{Limit, Memory}
 use Rattle.seat_desk.specs.declared.fault.DeskFault.{DeskFault}
@@ -37,3 +40,12 @@ load_refused None limits first days fault bytes slice whole same wrong input = t
 -- a grid that limit rows give is one
 pub grid_of_rows : (rows : List LimitRow) (flights : List Flown) (grid : Legs) → grid ≡ authorised_grid rows flights → IsGridOf flights grid
 grid_of_rows rows flights grid is = record { rows = rows; is = is }
+
+-- each row of the limits' text has a ladder, so each leg of the loaded grid has one or none
+pub loaded_ladders_differ : LoadedLaddersDiffer
+loaded_ladders_differ set limits first days flights grid is =
+    subst HasLadders (sym is.loaded.grid_is) (limit_text_ladders limits is.loaded.rows flights is.loaded.are_rows)
+
+pub loaded_replays_keep_limits : LoadedReplaysKeepLimits
+loaded_replays_keep_limits set limits first days flights grid journal is =
+    replay_holds_within grid journal (loaded_ladders_differ set limits first days flights grid is)
