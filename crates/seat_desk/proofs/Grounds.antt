@@ -1,15 +1,20 @@
--- Why limit rows are refused, and what they give.
-use Rattle.std.proofs.Common.{◌≡◌, ◌≢◌, ℕ, List, Option, Some, None, IfSome, Err, refl, subst, ◌∙◌}
+-- Why limit rows are refused, what they give, and what holds of every loaded grid.
+use Rattle.std.proofs.Common.{◌≡◌, ◌≢◌, ℕ, List, ◌≤◌, length, Option, Some, None, IfSome, Err, refl, sym, subst, ◌∙◌}
 use Rattle.std.specs.Str.Lines.{lines}
 use Rattle.ssim_flights.specs.declared.flight.Flight.{Flight as Flown}
 use Rattle.seat_nesting.specs.Authorised.{authorised_grid}
-use Rattle.seat_nesting.specs.LimitRows.{rows_in}
-use Rattle.seat_nesting.specs.Nesting.{Legs}
+use Rattle.seat_nesting.specs.LimitRows.{IsLimitText, rows_in}
 use Rattle.seat_nesting.specs.declared.limit_fault.LimitFault.{LimitFault}
 use Rattle.seat_nesting.specs.declared.limit_fault.LimitKind.{LimitKind}
 use Rattle.seat_nesting.specs.declared.limit_fault.LimitKind.TheVariants as limit_kinds
 use Rattle.seat_nesting.specs.declared.limit_row.LimitRow.{LimitRow}
-use Rattle.seat_desk.specs.Loading.{IsGridOf, IsRefusedLoad, IsUnlimited, limit_refusal, limit_refusal_of}
+use Rattle.seat_nesting.proofs.Grids.{limit_text_ladders}
+use Rattle.seat_nesting.specs.Nesting.{Legs, HasLadders}
+use Rattle.seat_core.proofs.Replays.{replay_holds_within}
+use Rattle.seat_desk.specs.Laws.{LoadedLaddersDiffer, LoadedReplaysKeepLimits}
+use Rattle.seat_desk.specs.CheckDesk.{most_bytes}
+use Rattle.seat_desk.specs.FlightsDesk.{IsSchedule}
+use Rattle.seat_desk.specs.Loading.{IsGridOf, IsLoaded, IsRefusedLoad, IsUnlimited, most_limit_bytes, limit_refusal, limit_refusal_of}
 use Rattle.seat_desk.specs.declared.fault.DeskFault.TheVariants.{Limit, Memory}
 use Rattle.seat_desk.specs.declared.fault.DeskFault.{DeskFault}
 use Rattle.seat_desk.specs.Desk.{IsOfInput}
@@ -34,6 +39,33 @@ load_refused (Some xs) (Some ys) first days fault bytes slice whole same wrong i
 load_refused (Some xs) None first days fault bytes slice whole same wrong input = tt
 load_refused None limits first days fault bytes slice whole same wrong input = tt
 
+-- what was read of each input is all of it
+pub loaded_whole : (set limits : Option (List ℕ)) (first days : ℕ) (bytes slice text text_slice : List ℕ) (flights : List Flown) (rows : List LimitRow) (grid : Legs)
+    → slice ≡ bytes → IfSome set (λ xs. bytes ≡ xs) → length bytes ≤ most_bytes → IsSchedule slice first days flights
+    → text_slice ≡ text → IfSome limits (λ ys. text ≡ ys) → length text ≤ most_limit_bytes → IsLimitText text_slice rows
+    → grid ≡ authorised_grid rows flights → IfSome set (λ xs. IfSome limits (λ ys. IsLoaded xs ys first days flights grid))
+loaded_whole (Some xs) (Some ys) first days bytes slice text text_slice flights rows grid of_set set_is set_fits schedule of_limits limits_are limits_fit is_text grid_is = record {
+  set_within = subst (λ (l : List ℕ). length l ≤ most_bytes) set_is set_fits;
+  limits_within = subst (λ (l : List ℕ). length l ≤ most_limit_bytes) limits_are limits_fit;
+  loaded = record {
+    rows = rows;
+    is_schedule = subst (λ (l : List ℕ). IsSchedule l first days flights) (of_set ∙ set_is) schedule;
+    are_rows = subst (λ (l : List ℕ). IsLimitText l rows) (of_limits ∙ limits_are) is_text;
+    grid_is = grid_is;
+  };
+}
+loaded_whole (Some xs) None first days bytes slice text text_slice flights rows grid of_set set_is set_fits schedule of_limits limits_are limits_fit is_text grid_is = tt
+loaded_whole None limits first days bytes slice text text_slice flights rows grid of_set set_is set_fits schedule of_limits limits_are limits_fit is_text grid_is = tt
+
 -- a grid that limit rows give is one
 pub grid_of_rows : (rows : List LimitRow) (flights : List Flown) (grid : Legs) → grid ≡ authorised_grid rows flights → IsGridOf flights grid
 grid_of_rows rows flights grid is = record { rows = rows; is = is }
+
+-- each row of the limits' text has a ladder, so each leg of the loaded grid has one or none
+pub loaded_ladders_differ : LoadedLaddersDiffer
+loaded_ladders_differ set limits first days flights grid is =
+    subst HasLadders (sym is.loaded.grid_is) (limit_text_ladders limits is.loaded.rows flights is.loaded.are_rows)
+
+pub loaded_replays_keep_limits : LoadedReplaysKeepLimits
+loaded_replays_keep_limits set limits first days flights grid journal is =
+    replay_holds_within grid journal (loaded_ladders_differ set limits first days flights grid is)

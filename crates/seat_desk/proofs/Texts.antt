@@ -1,6 +1,7 @@
 -- Texts of parts, one for each of a list.
 use Rattle.std.proofs.Common.{◌≡◌, ℕ, suc, ◌+◌, ◌<◌, ◌≤◌, List, [], ◌∷◌, ◌++◌, length, take, refl, sym, ap, ◌∙◌, subst, arith, append_assoc, get_or, zero-add, ⊎_elim}
-use Rattle.std.proofs.lemmas.List.{append-nil, length-take-le, take_more}
+use Rattle.std.specs.List.{flat_map}
+use Rattle.std.proofs.lemmas.List.{append-nil, flat_map_more, length-take-le, take_all, take_more}
 use Rattle.seat_desk.specs.FlightsDesk.{IsText, IsPut, IsLegText, IsFlightLine, IsLinePut, head_text}
 use Rattle.ssim_flights.specs.declared.flight.Flight.{Flight}
 use Rattle.std.specs.Prelude.{slice_get, Some, None}
@@ -35,6 +36,25 @@ module _ {A : Type 0} where
         is_text = subst (λ (l : List A). IsText IsPart n l (put.part ++ part)) (sym more) pushed;
         written = added ∙ ap (λ l. l ++ part) put.written ∙ append_assoc old put.part part;
       }
+
+  -- the text is whole where the parts are those of all
+  pub put_whole : (IsPart : ℕ → A → List ℕ → Type 0) (n i : ℕ) (xs : List A) (old new : List ℕ) → IsPut IsPart n (take i xs) old new → length xs ≤ i → IsPut IsPart n xs old new
+  put_whole IsPart n i xs old new put over = subst (λ (l : List A). IsPut IsPart n l old new) (take_all i xs over) put
+
+  pub text_whole : (IsPart : ℕ → A → List ℕ → Type 0) (n i count : ℕ) (xs : List A) (new : List ℕ) → IsPut IsPart n (take i xs) [] new → count ≡ length xs → count ≤ i → IsText IsPart n xs new
+  text_whole IsPart n i count xs new put counted over =
+      let whole = put_whole IsPart n i xs [] new put (subst (λ (k : ℕ). k ≤ i) counted over) in
+      subst (λ (l : List ℕ). IsText IsPart n xs l) (sym whole.written) whole.is_text
+
+  -- one part more, where a function gives the parts
+  pub each_more : (part : A → List ℕ) (i : ℕ) (xs : List A) (x : A) (old mid new : List ℕ) → mid ≡ old ++ flat_map part (take i xs) → i < length xs → x ≡ get_or xs i x → new ≡ mid ++ part x
+      → new ≡ old ++ flat_map part (take (i + 1) xs)
+  each_more part i xs x old mid new so_far in_range here added =
+      let more : take (i + 1) xs ≡ take i xs ++ x ∷ [] = take_more xs i x in_range ∙ ap (λ y. take i xs ++ y ∷ []) (sym here) in
+      added ∙ ap (λ (l : List ℕ). l ++ part x) so_far ∙ flat_map_more part old (take i xs) x ∙ ap (λ (l : List A). old ++ flat_map part l) (sym more)
+
+  pub each_whole : (part : A → List ℕ) (i : ℕ) (xs : List A) (old new : List ℕ) → new ≡ old ++ flat_map part (take i xs) → length xs ≤ i → new ≡ old ++ flat_map part xs
+  each_whole part i xs old new so_far over = so_far ∙ ap (λ (l : List A). old ++ flat_map part l) (take_all i xs over)
 
 assoc_four : (a b c d : List ℕ) → ((a ++ b) ++ c) ++ d ≡ a ++ ((b ++ c) ++ d)
 assoc_four a b c d = simp append_assoc

@@ -3,6 +3,7 @@ pub mod CheckDesk
 pub mod Desk
 pub mod LadderDesk
 pub mod FlightsDesk
+pub mod Laws
 pub mod Lines
 pub mod Loading
 pub mod Orders

@@ -88,7 +88,6 @@ fn of_expansion(fault: FlightFault) -> DeskFault
 }
 
 /// A line for each flight.
-#[tactic(auto, using(crate::proofs::Texts::put_none, crate::proofs::Texts::flights_more))]
 fn text_of(alloc: Global, flights: &Flights) -> Result<Vec<u8>, AllocError>
     ensures { IfOk result (λ text. IsFlightsText flights.now text.items) }
 {
@@ -128,7 +127,6 @@ fn put_suffix(text: &mut Vec<u8>, suffix: Option<u8>) -> Result<(), AllocError>
     }
 }
 
-#[tactic(auto, using(crate::proofs::Texts::put_none, crate::proofs::Texts::put_more))]
 fn put_legs(text: &mut Vec<u8>, legs: &[DatedLeg]) -> Result<(), AllocError>
     ensures { OnOk result (IsPut IsLegText 0 legs.now text.old.items text.new.items) }
 {

@@ -27,6 +27,7 @@ pub struct Loaded {
 }
 
 /// The flights of a data set and the grid that limit rows give them, each input read and checked before the next is read.
+/// No leg of that grid has a class twice: [`loaded_ladders_differ`](crate::loaded_ladders_differ).
 pub fn load<S: NotedRead, L: NotedRead>(
     alloc: Global,
     set: &mut S,

@@ -31,7 +31,6 @@ fn put_advice(text: &mut Vec<u8>, advice: &Advice) -> Result<(), AllocError>
     put_number(text, u64::from(advice.number))
 }
 
-#[tactic(auto, using(std::proofs::lemmas::List::flat_map_more))]
 fn put_advices(text: &mut Vec<u8>, advices: &[Advice]) -> Result<(), AllocError>
     ensures { OnOk result (text.new.items ≡ text.old.items ++ flat_map advice_text advices.now) }
 {

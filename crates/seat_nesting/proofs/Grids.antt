@@ -1,12 +1,17 @@
 -- Grids of ladders.
-use Rattle.std.proofs.Common.{◌≡◌, ℕ, zero, suc, ◌+◌, ◌<◌, List, [], ◌∷◌, ◌++◌, length, map, take, get_or, Option, Some, sym, ap, subst, ◌∙◌}
-use Rattle.std.specs.List.{slice_get}
+use Rattle.std.proofs.Common.{◌≡◌, ℕ, zero, suc, ◌+◌, ◌<◌, Bool, true, false, cond, List, [], ◌∷◌, ◌++◌, length, map, fold, take, get_or, Option, Some, sym, ap, subst, ◌∙◌}
+use Rattle.std.specs.List.{AllByRecursion, slice_get}
+use Rattle.std.specs.Str.Lines.{lines}
 use Rattle.std.proofs.lemmas.List.{map-append, length-map, get_or-map, take_more}
 use Rattle.std.proofs.lemmas.Option.{slice_get_within, get_or_from_slice_get}
 use Rattle.ssim_flights.specs.declared.flight.DatedLeg.{DatedLeg}
 use Rattle.ssim_flights.specs.declared.flight.Flight.{Flight}
 use Rattle.seat_nesting.proofs.CountChanges.{each_push}
+use Rattle.seat_nesting.specs.Authorised.{after_row, authorised, authorised_grid, is_for, leg_pair}
+use Rattle.seat_nesting.specs.LimitRows.{IsLimitText, SpellsRows}
 use Rattle.seat_nesting.specs.Nesting.{Steps, Legs, steps_of, steps_at, IsDistinct, HasLadders}
+use Rattle.seat_nesting.specs.declared.limit_row.LimitRow.{LimitRow}
+use Rattle.seat_nesting.specs.declared.row_index.Pair.{Pair}
 
 -- one flight of one leg
 pub single_ladders : (steps : Steps) → IsDistinct steps → HasLadders ((steps ∷ []) ∷ [])
@@ -38,3 +43,40 @@ ladders_more grid legs all here = each_push grid legs [] (λ (l : List Steps). (
 
 pub built_ladders : HasLadders []
 built_ladders flight leg = tt
+
+-- ---- the grid that limit rows give
+
+-- no ladder of these rows names a class twice
+abbrev HaveLadders : List LimitRow → Type 0
+HaveLadders rows = AllByRecursion (λ row. IsDistinct row.ladder) rows
+
+spelled_ladders : (texts : List (List ℕ)) (rows : List LimitRow) → SpellsRows texts rows → HaveLadders rows
+spelled_ladders [] [] h = tt
+spelled_ladders [] (row ∷ rows) h = absurd h
+spelled_ladders ([] ∷ texts) rows h = spelled_ladders texts rows h
+spelled_ladders ((c ∷ text) ∷ texts) [] h = absurd h
+spelled_ladders ((c ∷ text) ∷ texts) (row ∷ rows) h = (h.0.is_ladder.distinct, spelled_ladders texts rows h.1)
+
+one_of : (b : Bool) (here before : Steps) → IsDistinct here → IsDistinct before → IsDistinct (cond b here before)
+one_of true here before h k = h
+one_of false here before h k = k
+
+last_ladder : (rows : List LimitRow) (pair : Pair) (day : ℕ) (before : Steps) → HaveLadders rows → IsDistinct before → IsDistinct (fold (after_row pair day) before rows)
+last_ladder [] pair day before all k = k
+last_ladder (row ∷ rows) pair day before all k =
+    last_ladder rows pair day (after_row pair day before row) all.1 (one_of (is_for pair day row) row.ladder before all.0 k)
+
+leg_ladders : (rows : List LimitRow) (flight : Flight) (legs : List DatedLeg) (at : ℕ) → HaveLadders rows
+    → IsDistinct (steps_at (map (λ (leg : DatedLeg). authorised rows (leg_pair flight leg) leg.day) legs) at)
+leg_ladders rows flight [] at all = tt
+leg_ladders rows flight (leg ∷ legs) zero all = last_ladder rows (leg_pair flight leg) leg.day [] all tt
+leg_ladders rows flight (leg ∷ legs) (suc at) all = leg_ladders rows flight legs at all
+
+authorised_ladders : (rows : List LimitRow) (flights : List Flight) → HaveLadders rows → HasLadders (authorised_grid rows flights)
+authorised_ladders rows [] all at leg = tt
+authorised_ladders rows (flight ∷ flights) all zero leg = leg_ladders rows flight flight.legs leg all
+authorised_ladders rows (flight ∷ flights) all (suc at) leg = authorised_ladders rows flights all at leg
+
+-- the text of limit rows gives each leg a ladder that names no class twice
+pub limit_text_ladders : (bytes : List ℕ) (rows : List LimitRow) (flights : List Flight) → IsLimitText bytes rows → HasLadders (authorised_grid rows flights)
+limit_text_ladders bytes rows flights is = authorised_ladders rows flights (spelled_ladders (lines bytes) rows is.spelled)

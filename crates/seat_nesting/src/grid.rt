@@ -28,7 +28,8 @@ impl Model for FlightLegs {
     ghost view = { λ f. map steps_of f.ladders.items };
 }
 
-/// The ladder of each leg of each flight.
+/// The ladder of each leg of each flight. No leg's ladder has a class twice, which
+/// [`Grid::ladders_are_distinct`] hands out.
 #[derive(Drop)]
 pub struct Grid {
     flights: Vec<FlightLegs>,
@@ -128,7 +129,7 @@ impl Grid {
         &self.flights
     }
 
-    /// No class stands twice in a leg's steps.
+    /// No class stands twice in a leg's steps. It does nothing: each grid promises this.
     pub fn ladders_are_distinct(&self)
         ensures { HasLadders self.now }
     {
