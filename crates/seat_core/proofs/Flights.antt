@@ -85,10 +85,6 @@ told_append anew f (a ∷ xs) ys = cases (a.place.flight == f) refl (told_append
   cases true e rest = rw (e, rest) refl
   cases false e rest = rw (e, rest) refl
 
--- the flight's table is that of its own bookings
-elsewhere : (f l k : ℕ) (b : Booking) → (b.place.flight == f) ≡ false → seats_of f l k b ≡ 0
-elsewhere f l k b e = rw e refl
-
 held_elsewhere : (f l k : ℕ) (b : Booking) (s : Status) → b.status ≡ s → (b.place.flight == f) ≡ false → seats_on f l k b ≡ 0
 held_elsewhere f l k b Held s e = rw (s, e) refl
 held_elsewhere f l k b Waiting s e = rw s refl

@@ -4,12 +4,12 @@ use Rattle.std.specs.List.{AllByRecursion}
 use Rattle.std.proofs.lemmas.Bool.Decides.{nat_tests}
 use Rattle.std.proofs.lemmas.List.Sums.{sum_by-cons}
 use Rattle.ssim_records.specs.declared.place.Place.{Place}
-use Rattle.seat_nesting.specs.Nesting.{Legs, Table, room, may_wait}
+use Rattle.seat_nesting.specs.Nesting.{Legs, Table, room, may_wait, covers}
 use Rattle.seat_core.specs.declared.booking.Booking.{Booking}
 use Rattle.seat_core.specs.declared.booking.Status.{Status}
 use Rattle.seat_core.specs.declared.booking.Status.TheVariants.{Held, Waiting}
 use Rattle.seat_core.specs.declared.parties.Party.{Party}
-use Rattle.seat_core.specs.Bookings.{covers, is_waiting, waits_on, waiting}
+use Rattle.seat_core.specs.Bookings.{is_waiting, waits_on, waiting}
 use Rattle.seat_core.specs.Queues.{none_fits}
 use Rattle.seat_core.specs.Parties.{is_at, is_party_of, is_booking_of, is_apart, least_with, smallest_of, seats_for, party_smallest, party_seats, waits_of, no_party_fits, IsIndexed}
 use Rattle.seat_core.proofs.Flights.{may_wait_same}

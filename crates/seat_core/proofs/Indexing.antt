@@ -159,9 +159,6 @@ pub neither : (t u : Bool) → (t || u) ≡ false → (t ≡ false) × (u ≡ fa
 neither true u e = absurd cc
 neither false u e = (refl, e)
 
-pub party_turned : (p q : Party) → is_party_of p.place p.class q ≡ is_party_of q.place q.class p
-party_turned p q = at_turned p.place q.place p.class q.class
-
 pub no_seats : (q : Place) (c : ℕ) (ps : List Party) → list_any (is_party_of q c) ps ≡ false → party_seats q c ps ≡ 0
 no_seats q c [] e = refl
 no_seats q c (p ∷ ps) e =

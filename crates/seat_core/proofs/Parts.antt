@@ -136,10 +136,5 @@ find_view anew f test (b ∷ bs) k = cases (b.place.flight == f) (test b) refl r
   cases false true e p rest = let no : test b ≡ false = k.only b e in absurd cc
   cases false false e p rest = rw (e, p) rest
 
--- a booking on another flight than the place has another place
-no_place : (a b : Bool) → (a && (false && b)) ≡ false
-no_place true b = refl
-no_place false b = refl
-
 pub other_flight : (locator : List ℕ) (p : Place) (class f : ℕ) (b : Booking) → (b.place.flight == p.flight) ≡ false → is_for locator p class b ≡ false
 other_flight locator p class f b e = rw e (grind (arith, nat_tests))

@@ -122,11 +122,3 @@ quiet_answer s number c q =
     (λ place at none over. quiet_push s.grid s.bookings (booking_of number c place Waiting) q (over_push s.grid s.bookings (booking_of number c place Waiting) over))
     (λ place at none. quiet_passed s.grid (s.bookings ++ booking_of number c place Waiting ∷ []))
     (λ place b at found le. quiet_passed s.grid (reduced (is_for c.locator place c.class) c.seats s.bookings))
-
--- a table that agrees on the classes of a ladder leaves the same room
-pub room_on_same : (xs : Steps) (t u : ℕ → ℕ) (class : ℕ) → AllByRecursion (λ s. t s.class ≡ u s.class) xs → (held_from t xs ≡ held_from u xs) × (room_on xs t class ≡ room_on xs u class)
-room_on_same [] t u class a = (refl, refl)
-room_on_same (s ∷ xs) t u class a =
-    let rest = room_on_same xs t u class a.1 in
-    let sums : held_from t (s ∷ xs) ≡ held_from u (s ∷ xs) = omega (arith, sum_by-cons (λ x. t x.class) s xs, sum_by-cons (λ x. u x.class) s xs, a.0, rest.0) in
-    (sums, rw (sums, rest.1) refl)

@@ -4,7 +4,7 @@ use Rattle.std.specs.List.{AllByRecursion}
 use Rattle.std.proofs.lemmas.List.Sums.{sum_by-cons}
 use Rattle.std.proofs.lemmas.Bool.Decides.{nat_tests}
 use Rattle.ssim_records.specs.declared.place.Place.{Place}
-use Rattle.seat_nesting.specs.Nesting.{Legs, Table, Fits, room, may_wait, ladder_at, each_leg}
+use Rattle.seat_nesting.specs.Nesting.{Legs, Table, Fits, room, may_wait, ladder_at, each_leg, seats_at}
 use Rattle.seat_nesting.specs.Counting.{Counted, limits_of, seats_of, holds, leg_holds}
 use Rattle.seat_core.specs.declared.booking.Booking.{Booking}
 use Rattle.seat_core.specs.declared.booking.Status.TheVariants.{Held, Waiting}
@@ -20,7 +20,7 @@ use Rattle.seat_core.specs.Journal.{replay}
 use Rattle.seat_core.specs.Queues.{queue_of, first_waits}
 use Rattle.seat_core.specs.Sequential.{State, pass, reduced, advice_of, booking_of, may_confirm, NoneFits, NoneFitsAmong}
 use Rattle.seat_core.specs.Showing.{given_back}
-use Rattle.seat_core.specs.Tables.{advices_by, with_advice, advice_at}
+use Rattle.seat_core.specs.Tables.{advices_by, with_advice}
 use Rattle.seat_core.proofs.Flights.{room_same, may_wait_same, room_of_flight, held_view, bookings_view}
 use Rattle.seat_core.proofs.Keeping.{few_in_book, kept_queued}
 use Rattle.seat_core.proofs.Queues.{waiting_queue, reduced_holds}
@@ -146,7 +146,7 @@ advices_same grid f t u (b ∷ bs) on same =
         → advices_by grid t (b ∷ bs) ≡ advices_by grid u (b ∷ bs)
     cases true e rest =
         rw (room_here, e) (ap (λ (l : List Advice). advice_of b ∷ l)
-        (rest (with_advice t (advice_of b)) (with_advice u (advice_of b)) (λ l k. ap (λ x. x + advice_at f l k (advice_of b)) (same l k))))
+        (rest (with_advice t (advice_of b)) (with_advice u (advice_of b)) (λ l k. ap (λ x. x + seats_at b.place b.class b.seats f l k) (same l k))))
     cases false e rest = rw (room_here, e) (rest t u same)
 
 each_same : (p q : ℕ → Bool) (from n : ℕ) → ((leg : ℕ) → p leg ≡ q leg) → each_leg p from n ≡ each_leg q from n
@@ -293,10 +293,6 @@ pub kept_flight : (opening now : Legs) (cap : ℕ) (journal : List Entry) (books
     → IfSome o (λ p. IsFlight counts books p.flight)
 kept_flight opening now cap journal books calls counts None k = tt
 kept_flight opening now cap journal books calls counts (Some p) k = flight_kept opening now cap journal books calls counts p.flight p refl k
-
--- what holds of the place of a command
-pub at_place : (P : Place → Type 0) (o : Option Place) (p : Place) → o ≡ Some p → IfSome o P → P p
-at_place P o p e h = let Q : Option Place → Type 0 = λ x. IfSome x P in subst Q e h
 
 -- its legs stand in order
 pub in_order : (grid : Legs) (o : Option Place) → IfSome o (Fits grid) → IfSome o (λ p. p.from ≤ p.to)

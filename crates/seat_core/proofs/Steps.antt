@@ -3,7 +3,7 @@ use Rattle.std.proofs.Common.{◌≡◌, ◌≢◌, ◌==◌, ◌&&◌, ℕ, ◌
 use Rattle.std.proofs.lemmas.Bool.Decides.{nat_tests}
 use Rattle.std.proofs.lemmas.List.Sums.{sum_by-cons, sum_by-append, sum_by_push}
 use Rattle.ssim_records.specs.declared.place.Place.{Place}
-use Rattle.seat_nesting.specs.Nesting.{Legs, ladder_at, room_on, room, IsWithin, HasLadders}
+use Rattle.seat_nesting.specs.Nesting.{Legs, ladder_at, room_on, room, IsWithin, HasLadders, covers}
 use Rattle.seat_core.specs.declared.booking.Booking.{Booking}
 use Rattle.seat_core.specs.declared.booking.Status.TheVariants.{Held, Waiting}
 use Rattle.seat_journal.specs.declared.entry.Command.{Command}
@@ -12,7 +12,7 @@ use Rattle.seat_journal.specs.declared.entry.Advice.{Advice}
 use Rattle.seat_core.proofs.Outcomes.{each_outcome}
 use Rattle.seat_core.proofs.Reducing.{length_reduced}
 use Rattle.std.proofs.lemmas.List.{append-nil}
-use Rattle.seat_core.specs.Bookings.{is_for, is_held, is_waiting, seats_on, held, covers}
+use Rattle.seat_core.specs.Bookings.{is_for, is_held, is_waiting, seats_on, held}
 use Rattle.seat_core.specs.Sequential.{state_of, room_left, reduced, booking_of, answer, pass, may_confirm, confirmed, advice_of}
 use Rattle.seat_core.specs.Inventory.{KeepsLimits}
 use Rattle.seat_core.proofs.Limits.{within_less, within_more, least_le}

@@ -1,37 +1,23 @@
 -- The table that entries leave is that of the bookings.
-use Rattle.std.proofs.Common.{◌≡◌, ◌==◌, nat_eq, ℕ, ◌+◌, ◌-◌, ◌≤◌, ◌&&◌, Bool, true, false, List, [], ◌∷◌, ◌++◌, length, Option, Some, None, find, fold, nat_le, append_assoc, if◌then◌else◌, arith, refl, ap, sym, subst, ◌∙◌}
-use Rattle.std.specs.List.{sum_by}
+use Rattle.std.proofs.Common.{◌≡◌, ◌==◌, nat_eq, ℕ, ◌+◌, ◌-◌, ◌≤◌, ◌&&◌, Bool, true, false, List, [], ◌∷◌, ◌++◌, Some, find, nat_le, append_assoc, if◌then◌else◌, arith, refl, ap, sym, subst, ◌∙◌}
 use Rattle.std.proofs.lemmas.List.{append-nil}
 use Rattle.std.specs.Cmp.Lexicographic.{pointwise}
-use Rattle.std.proofs.lemmas.List.Sums.{sum_by_push, fold_push}
 use Rattle.std.proofs.lemmas.Bool.Decides.{nat_tests}
 use Rattle.ssim_records.specs.declared.place.Place.{Place}
-use Rattle.seat_nesting.specs.Nesting.{Legs, Table, room}
+use Rattle.seat_nesting.specs.Nesting.{Legs, Table, room, covers, seats_at}
 use Rattle.seat_journal.specs.declared.entry.Advice.{Advice}
 use Rattle.seat_core.specs.declared.booking.Booking.{Booking}
 use Rattle.seat_core.specs.declared.booking.Status.{Status}
 use Rattle.seat_core.specs.declared.booking.Status.TheVariants.{Held, Waiting}
-use Rattle.seat_journal.specs.declared.entry.Command.{Command}
-use Rattle.seat_journal.specs.declared.entry.Entry.{Entry}
-use Rattle.seat_core.specs.Bookings.{is_for, same_place, is_held, is_waiting, covers, seats_on, held}
-use Rattle.seat_core.specs.Sequential.{State, Outcome, refused, answer, pass, reduced, confirmed, may_confirm, advice_of, booking_of}
-use Rattle.seat_core.specs.Journal.{replay, after, next_line}
-use Rattle.seat_core.specs.Tables.{seats_at, advice_at, reply_takes, gives_back, given, show, nothing_held, with_advice, advices_by}
-use Rattle.seat_core.specs.Laws.{TableIsHeld, EntryGivesWhatIsHeld, PassIsByTable}
-use Rattle.seat_core.proofs.Outcomes.{each_outcome, Refusal, code_of}
-use Rattle.seat_core.proofs.Outcomes.Refusal.{No, Unable, Closed}
-use Rattle.seat_core.proofs.Histories.{replay_next}
-use Rattle.seat_core.proofs.Legal.{each_legal}
-use Rattle.seat_core.proofs.Weighing.{sum_in, pass_weighs, reduced_weighs, found_passes}
+use Rattle.seat_core.specs.Bookings.{is_for, same_place, is_held, is_waiting, seats_on, held}
+use Rattle.seat_core.specs.Sequential.{pass, reduced, confirmed, may_confirm, advice_of}
+use Rattle.seat_core.specs.Tables.{with_advice, advices_by}
+use Rattle.seat_core.specs.Laws.{PassIsByTable}
+use Rattle.seat_core.proofs.Weighing.{sum_in, reduced_weighs}
 
 pub waiting_light : (f l k : ℕ) (b : Booking) (s : Status) → b.status ≡ s → is_waiting s ≡ true → seats_on f l k b ≡ 0
 waiting_light f l k b Held e h = absurd cc
 waiting_light f l k b Waiting e h = rw e refl
-
-passes : (f l k : ℕ) (grid : Legs) (xs : List Booking) → held (pass grid [] [] xs).bookings f l k ≡ held xs f l k + sum_by (advice_at f l k) (pass grid [] [] xs).advices
-passes f l k grid xs =
-    let h = pass_weighs (seats_on f l k) (advice_at f l k) (λ b w. waiting_light f l k b b.status refl w) (λ b. refl) grid [] xs [] in
-    omega (arith, h)
 
 -- the weight that a cancellation of n seats takes off
 abbrev pub loses : ℕ → ℕ → ℕ → ℕ → Booking → ℕ
@@ -85,72 +71,6 @@ loses_is f l k n p class b at is =
     turn true u n = refl
     turn false true n = refl
     turn false false n = refl
-
--- one step
-pub record Shows (s : State) (c : Command) (f l k : ℕ) (place : Option Place) (o : Outcome) : Type 0 where
-  pub back : gives_back place c.class o.released f l k ≤ held s.bookings f l k
-  pub sums : held o.state.bookings f l k + gives_back place c.class o.released f l k ≡ held s.bookings f l k + (reply_takes place o.reply c.class c.seats f l k + sum_by (advice_at f l k) o.advices)
-
-answer_shows : (s : State) (number : ℕ) (c : Command) (f l k : ℕ) → Shows s c f l k c.place (answer s number c)
-answer_shows s number c f l k =
-    each_outcome (Shows s c f l k c.place) s number c
-    (λ r. refuses c.place r)
-    (λ place at none fits. by_place place at _ (
-    let more = sum_by_push (seats_on f l k) s.bookings (booking_of number c place Held) in
-    let zero = if_zero (covers f l place && (c.class == k)) in
-    record { back = omega (arith, zero); sums = omega (arith, more, zero) }))
-    (λ place at none over. by_place place at _ (
-    let more = sum_by_push (seats_on f l k) s.bookings (booking_of number c place Waiting) in
-    let zero = if_zero (covers f l place && (c.class == k)) in
-    record { back = omega (arith, zero); sums = omega (arith, more, zero) }))
-    (λ place at none. by_place place at _ (
-    let bs : List Booking = s.bookings ++ booking_of number c place Waiting ∷ [] in
-    let more = sum_by_push (seats_on f l k) s.bookings (booking_of number c place Waiting) in
-    let zero = if_zero (covers f l place && (c.class == k)) in
-    record { back = omega (arith, zero); sums = omega (arith, more, zero, passes f l k s.grid bs) }))
-    (λ place b at found le. by_place place at _ (
-    let test : Booking → Bool = is_for c.locator place c.class in
-    let bs : List Booking = reduced test c.seats s.bookings in
-    let is = is_for_facts c.locator place c.class b (found_passes test s.bookings b found) in
-    let lost = loses_is f l k c.seats place c.class b is.0 is.1 in
-    let less = cancels f l k c.seats test s.bookings b found le in
-    record { back = omega (arith, lost, less); sums = omega (arith, lost, less, passes f l k s.grid bs) }))
-  where
-    refuses : (o : Option Place) (r : Refusal) → Shows s c f l k o (refused s (code_of r))
-    refuses None No = record { back = omega arith; sums = omega arith }
-    refuses None Unable = record { back = omega arith; sums = omega arith }
-    refuses None Closed = record { back = omega arith; sums = omega arith }
-    refuses (Some place) No = let zero = if_zero (covers f l place && (c.class == k)) in record { back = omega (arith, zero); sums = omega (arith, zero) }
-    refuses (Some place) Unable = let zero = if_zero (covers f l place && (c.class == k)) in record { back = omega (arith, zero); sums = omega (arith, zero) }
-    refuses (Some place) Closed = let zero = if_zero (covers f l place && (c.class == k)) in record { back = omega (arith, zero); sums = omega (arith, zero) }
-
-    by_place : (place : Place) → c.place ≡ Some place → (o : Outcome) → Shows s c f l k (Some place) o → Shows s c f l k c.place o
-    by_place place at o h = let P : Option Place → Type 0 = λ x. Shows s c f l k x o in subst P (sym at) h
-
-pub entry_gives_what_is_held : EntryGivesWhatIsHeld
-entry_gives_what_is_held grid past e next f l k =
-    let P : Entry → Type 0 = λ x. given x f l k ≤ held (replay grid past).bookings f l k in
-    subst P (sym next.line) (answer_shows (replay grid past) (length past + 1) e.command f l k).back
-
-abbrev pub IsShown : Legs → List Entry → Type 0
-IsShown grid journal = (f l k : ℕ) → fold show nothing_held journal f l k ≡ held (replay grid journal).bookings f l k
-
-shown_next : (grid : Legs) (past : List Entry) (session call : ℕ) (c : Command) → IsShown grid past → IsShown grid (past ++ next_line grid past session call c ∷ [])
-shown_next grid past session call c h f l k =
-    let e : Entry = next_line grid past session call c in
-    let one = answer_shows (replay grid past) (length past + 1) c f l k in
-    let back = one.back in
-    let sums = one.sums in
-    let next : held (replay grid (past ++ e ∷ [])).bookings f l k ≡ held (after (replay grid past) e).bookings f l k = ap (λ (s : State). held s.bookings f l k) (replay_next grid past e) in
-    let shown : fold show nothing_held (past ++ e ∷ []) f l k ≡ show (fold show nothing_held past) e f l k = ap (λ (t : Table). t f l k) (fold_push show nothing_held past e) in
-    let before = h f l k in
-    omega (arith, before, back, sums, next, shown)
-
-pub table_is_held : TableIsHeld
-table_is_held grid journal legal =
-    each_legal grid (IsShown grid)
-    (λ past e l next h. let P : Entry → Type 0 = λ x. IsShown grid (past ++ x ∷ []) in subst P (sym next.line) (shown_next grid past e.session e.call e.command h))
-    [] journal (λ f l k. refl) legal
 
 -- a booking confirmed, in the table
 confirmed_table : (done : List Booking) (b : Booking) (bs : List Booking) → is_waiting b.status ≡ true

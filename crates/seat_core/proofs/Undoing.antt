@@ -65,10 +65,6 @@ each_at p from (suc n) leg e a b = cases (leg == from + suc n) refl (λ (le : le
   cases true g _ = let is : leg ≡ from + suc n = grind (arith, nat_tests) in ap p is ∙ (both (each_leg p from n) (p (from + suc n)) e).1
   cases false g below = let le : leg ≤ from + n = grind (arith, nat_tests) in below le
 
--- the steps of a leg are those of its counters
-steps_in : List LegSeats → List Steps
-steps_in legs = map (λ (l : LegSeats). l.steps) legs
-
 leg_steps : (legs : List LegSeats) (leg : ℕ) → steps_at (map (λ (l : LegSeats). l.steps) legs) leg ≡ (leg_in legs leg).steps
 leg_steps [] leg = refl
 leg_steps (l ∷ legs) zero = refl
