@@ -8,7 +8,7 @@ use Rattle.seat_core.specs.declared.booking.Booking.{Booking}
 use Rattle.seat_core.specs.declared.booking.Status.{Status}
 use Rattle.seat_core.specs.declared.booking.Status.TheVariants.{Held, Waiting}
 use Rattle.seat_journal.specs.declared.entry.Advice.{Advice}
-use Rattle.seat_core.specs.Bookings.{is_waiting, seats_of, seats_on, waits_on, held, waiting}
+use Rattle.seat_core.specs.Bookings.{is_waiting, seats_on, waits_on, held, waiting}
 use Rattle.seat_core.specs.Sequential.{pass, may_confirm, confirmed, advice_of}
 use Rattle.seat_core.specs.Flights.{renumbered, AgreeOn, NoneElseFits, bookings_on, pass_on, PassOfFlight, RoomOfFlight}
 use Rattle.seat_core.proofs.Quiet.{room_on_less, still, all_map, confirmed_more, held_at}

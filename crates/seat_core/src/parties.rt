@@ -8,7 +8,7 @@ use seat_nesting::Counts;
 use ssim_records::{Class, Place};
 
 /// The bookings that wait for one place in one class: the least seats of one, and the seats of all.
-#[derive(Clone, Copy, Debug, PartialEq, Eq)]
+#[derive(Clone, Copy)]
 pub struct Party {
     pub place: Place,
     pub class: Class,
