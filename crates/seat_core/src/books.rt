@@ -17,7 +17,7 @@ pub struct Book {
 }
 
 impl Book {
-    #[tactic(auto, using(crate::proofs::Queues::spare_both))]
+    #[tactic(auto, using(crate::proofs::Waitlists::Queue::spare_both))]
     // Makes the memory for one more booking.
     fn reserve(&mut self) -> Result<(), Memory>
         ensures bookings { self.new.bookings.items ≡ self.old.bookings.items }
@@ -74,7 +74,7 @@ fn reserve_booking(alloc: Global, books: &mut Vec<Book>, flight: u32) -> Result<
     books[flight as usize].reserve()
 }
 
-#[tactic(auto, using(crate::proofs::Queues::spare_booking, crate::proofs::Queues::spare_waiting))]
+#[tactic(auto, using(crate::proofs::Waitlists::Queue::spare_booking, crate::proofs::Waitlists::Queue::spare_waiting))]
 /// Does what an entry tells to the book of its flight, which has room for one more.
 pub fn enter(books: &mut Vec<Book>, entry: &Entry)
     requires spare { has_spare books.old.items entry.now.command.place ≡ true }
