@@ -1,9 +1,9 @@
 -- Bookings, and the seats that they hold.
-use Rattle.std.specs.Prelude.{◌≡◌, ℕ, Bool, true, false, ◌&&◌, ◌==◌, nat_eq, nat_le, List, if◌then◌else◌}
+use Rattle.std.specs.Prelude.{◌≡◌, ℕ, Bool, true, false, ◌&&◌, ◌==◌, nat_eq, List, if◌then◌else◌}
 use Rattle.std.specs.List.{sum_by}
 use Rattle.std.specs.Cmp.Lexicographic.{pointwise}
 use Rattle.ssim_records.specs.declared.place.Place.{Place}
-use Rattle.seat_nesting.specs.Nesting.{Table, Steps, has_class}
+use Rattle.seat_nesting.specs.Nesting.{Table, Steps, has_class, covers}
 use Rattle.seat_core.specs.declared.booking.Booking.{Booking}
 use Rattle.seat_core.specs.declared.booking.Status.{Status}
 use Rattle.seat_core.specs.declared.booking.Status.TheVariants.{Held, Waiting}
@@ -18,10 +18,6 @@ is_for locator place class b = pointwise nat_eq b.locator locator && same_place 
 -- two bookings of one locator, place and class
 abbrev pub IsSameBooking : Booking → Booking → Type 0
 IsSameBooking a b = (a.locator ≡ b.locator) × (a.place ≡ b.place) × (a.class ≡ b.class)
-
--- the place covers the leg
-abbrev pub covers : ℕ → ℕ → Place → Bool
-covers flight leg place = (place.flight == flight) && nat_le place.from leg && nat_le leg place.to
 
 abbrev pub is_held : Status → Bool
 is_held Held = true

@@ -1,14 +1,13 @@
 -- One flight alone: its bookings, the pass over its waiting list, and its part of a journal.
-use Rattle.std.specs.Prelude.{◌≡◌, ◌==◌, ◌&&◌, ℕ, ◌+◌, Bool, true, false, nat_le, List, [], ◌∷◌, ◌++◌, length, map, take, Option, Some, None, count_by, if◌then◌else◌}
+use Rattle.std.specs.Prelude.{◌≡◌, ◌==◌, ◌&&◌, ℕ, ◌+◌, Bool, true, false, List, [], ◌∷◌, ◌++◌, length, map, take, Option, Some, None, count_by, if◌then◌else◌}
 use Rattle.std.specs.List.{AllByRecursion}
 use Rattle.ssim_records.specs.declared.place.Place.{Place}
-use Rattle.seat_nesting.specs.Nesting.{Legs, Table, legs_of, room}
+use Rattle.seat_nesting.specs.Nesting.{Legs, legs_of, room}
 use Rattle.seat_core.specs.declared.booking.Booking.{Booking}
 use Rattle.seat_journal.specs.declared.entry.Advice.{Advice}
 use Rattle.seat_journal.specs.declared.entry.Entry.{Entry}
-use Rattle.seat_core.specs.Bookings.{is_for, is_waiting, held}
-use Rattle.seat_core.specs.Sequential.{reduced, Passed, pass, may_confirm, confirmed, advice_of, room_left, NoneFits}
-use Rattle.seat_core.specs.Tables.{with_advice}
+use Rattle.seat_core.specs.Bookings.{is_waiting, held}
+use Rattle.seat_core.specs.Sequential.{Passed, pass, may_confirm, confirmed, advice_of, room_left}
 use Rattle.seat_core.specs.Journal.{replay, calls_of, next_line, IsLegal}
 
 -- the two grids have the same ladders on the flight
@@ -121,50 +120,6 @@ PartLeavesRoom = (g h : Legs) (journal : List Entry) (place : Place) (class : �
 abbrev pub queue_on : ℕ → List Booking → List Booking
 queue_on flight [] = []
 queue_on flight (b ∷ bs) = (if (b.place.flight == flight) && is_waiting b.status then b ∷ queue_on flight bs else queue_on flight bs)
-
--- what a walk over a waiting list leaves: the seats held, those that wait on, and its advices in order
-pub record Walked : Type 0 where
-  pub seats : Table
-  pub left : List Booking
-  pub advices : List Advice
-
--- the walk over a waiting list, by the seats held alone: each booking that fits is told and its seats taken, each other one goes on waiting
-abbrev pub walk : Legs → Table → List Booking → List Advice → List Booking → Walked
-walk grid seats left told [] = record { seats = seats; left = left; advices = told }
-walk grid seats left told (b ∷ queue) =
-    (if nat_le b.seats (room grid seats b.place b.class)
-    then walk grid (with_advice seats (advice_of b)) left (told ++ advice_of b ∷ []) queue
-    else walk grid seats (left ++ b ∷ []) told queue)
-
--- the walk leaves the seats held, the waiting lists and the advices of the pass
-pub record IsWalk (flight : ℕ) (old : List Booking) (passed : Passed) (walked : Walked) : Type 0 where
-  pub seats : (flight leg class : ℕ) → held passed.bookings flight leg class ≡ walked.seats flight leg class
-  pub advices : passed.advices ≡ walked.advices
-  pub left : queue_on flight passed.bookings ≡ walked.left
-  pub others : (other : ℕ) → (other == flight) ≡ false → queue_on other passed.bookings ≡ queue_on other old
-
--- where none of another flight fits, the walk over one flight's waiting list is the pass
-abbrev pub WalkOfFlight : Type 0
-WalkOfFlight = (flight : ℕ) (grid : Legs) (bookings : List Booking) → NoneElseFits flight grid bookings bookings
-    → IsWalk flight bookings (pass grid [] [] bookings) (walk grid (held bookings) [] [] (queue_on flight bookings))
-
--- so it is in a book in which none fits once a booking on the flight is added
-abbrev pub WalkAfterAdding : Type 0
-WalkAfterAdding = (grid : Legs) (bookings : List Booking) (b : Booking) → NoneFits grid bookings
-    → let flight = b.place.flight in
-    let book = bookings ++ b ∷ [] in
-    IsWalk flight book (pass grid [] [] book) (walk grid (held book) [] [] (queue_on flight book))
-
--- and once one on the flight is reduced
-abbrev pub WalkAfterReducing : Type 0
-WalkAfterReducing = (grid : Legs) (bookings : List Booking) (locator : List ℕ) (place : Place) (class n : ℕ) → NoneFits grid bookings
-    → let flight = place.flight in
-    let book = reduced (is_for locator place class) n bookings in
-    IsWalk flight book (pass grid [] [] book) (walk grid (held book) [] [] (queue_on flight book))
-
--- after each line no waiting booking fits
-abbrev pub ReplayIsQuiet : Type 0
-ReplayIsQuiet = (grid : Legs) (journal : List Entry) → NoneFits grid (replay grid journal).bookings
 
 -- the booking under a new number
 abbrev pub renumbered : (ℕ → ℕ) → Booking → Booking

@@ -1,5 +1,5 @@
 -- The laws of the definitions.
-use Rattle.std.specs.Prelude.{◌≡◌, ◌↔◌, ℕ, ◌+◌, ◌<◌, ◌≤◌, slice_index_or, fold, List, [], length, drop}
+use Rattle.std.specs.Prelude.{◌≡◌, ◌↔◌, ℕ, ◌+◌, ◌<◌, ◌≤◌, slice_index_or, List, [], length, drop}
 use Rattle.std.specs.List.{AllPairs, sum_by}
 use Rattle.seat_nesting.specs.declared.ladder.Step.{Step}
 use Rattle.seat_nesting.specs.Nesting.{Legs, HasLadders, ladder_at, held_from}
@@ -9,8 +9,8 @@ use Rattle.seat_core.specs.Totals.{totals_of, seats_held}
 use Rattle.seat_journal.specs.declared.entry.Command.{Command}
 use Rattle.seat_journal.specs.declared.entry.Entry.{Entry}
 use Rattle.seat_core.specs.Sequential.{answer, pass, NoneFits}
-use Rattle.seat_core.specs.Journal.{replay, after, next_line, IsNext, IsLegal, IsLegalAfter}
-use Rattle.seat_core.specs.Tables.{given, show, nothing_held, advices_by}
+use Rattle.seat_core.specs.Journal.{replay, after, next_line, IsLegal, IsLegalAfter}
+use Rattle.seat_core.specs.Tables.{advices_by}
 use Rattle.seat_core.specs.Applying.{applied, IsNumbered}
 
 -- a history is legal where its entries may follow one another from the first
@@ -54,16 +54,6 @@ abbrev pub ApplyingIsTheStep : Type 0
 ApplyingIsTheStep = (grid : Legs) (past : List Entry) (session call : ℕ) (command : Command) → IsLegal grid past →
     let line = next_line grid past session call command in
     applied (replay grid past).bookings line ≡ (after (replay grid past) line).bookings
-
--- the next line gives back no more than is held
-abbrev pub EntryGivesWhatIsHeld : Type 0
-EntryGivesWhatIsHeld = (grid : Legs) (past : List Entry) (e : Entry) → IsNext grid past e → (flight leg class : ℕ) →
-    given e flight leg class ≤ held (replay grid past).bookings flight leg class
-
--- the table that the entries of a legal history leave is that of its replay
-abbrev pub TableIsHeld : Type 0
-TableIsHeld = (grid : Legs) (journal : List Entry) → IsLegal grid journal → (flight leg class : ℕ) →
-    fold show nothing_held journal flight leg class ≡ held (replay grid journal).bookings flight leg class
 
 -- the table of held seats and the bookings in order give the advices of a pass
 abbrev pub PassIsByTable : Type 0

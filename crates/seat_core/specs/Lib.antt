@@ -9,6 +9,7 @@ pub mod Inventory
 pub mod Stepping
 pub mod Totals
 pub mod Replaying
+pub mod FaultText
 pub mod Tables
 pub mod Applying
 pub mod Flights

@@ -2,10 +2,10 @@
 use Rattle.std.specs.Prelude.{◌≡◌, ℕ, ◌==◌, ◌&&◌, ◌+◌, ◌-◌, ◌<◌, ◌^◌, nat_lt, min, Bool, true, false, List, [], ◌∷◌, Option, Some, None, if◌then◌else◌}
 use Rattle.std.specs.List.{AllByRecursion, list_any, list_all}
 use Rattle.ssim_records.specs.declared.place.Place.{Place}
-use Rattle.seat_nesting.specs.Nesting.{Legs, Table, room}
+use Rattle.seat_nesting.specs.Nesting.{Legs, Table, room, covers}
 use Rattle.seat_core.specs.declared.booking.Booking.{Booking}
 use Rattle.seat_core.specs.declared.parties.Party.{Party}
-use Rattle.seat_core.specs.Bookings.{same_place, covers, is_waiting}
+use Rattle.seat_core.specs.Bookings.{same_place, is_waiting}
 
 -- q and c are this place and class
 abbrev pub is_at : Place → ℕ → Place → ℕ → Bool

@@ -5,14 +5,14 @@ use seat_journal::Command;
 use ssim_records::{Class, Locator, Place};
 
 /// Whether a booking's seats are held or waited for.
-#[derive(Clone, Copy, Debug, PartialEq, Eq)]
+#[derive(Clone, Copy)]
 pub enum Status {
     Held,
     Waiting,
 }
 
 /// A live booking, under the number of the line that made it.
-#[derive(Clone, Copy, Debug, PartialEq, Eq)]
+#[derive(Clone, Copy)]
 pub struct Booking {
     pub number: u32,
     pub locator: Locator,

@@ -1,6 +1,6 @@
 // The live bookings, flight by flight.
 ghost use Rattle.std.specs.Prelude.{◌≡◌, ◌<◌, ◌+◌, [], true, IfNone, IfSome, OnOk, slice_get, vec_len};
-ghost use Rattle.seat_core.specs.Books.{book_at, has_spare, has_spare_in, queue_at, IsEntered, IsQueued, SameBooks};
+ghost use Rattle.seat_core.specs.Books.{book_at, has_spare, has_spare_in, queue_at, spare_of, IsEntered, IsQueued, SameBooks};
 
 use crate::booking::Booking;
 use crate::effect::apply;
@@ -14,6 +14,19 @@ use std::alloc::Global;
 pub struct Book {
     bookings: Vec<Booking>,
     queue: WaitingList,
+}
+
+impl Book {
+    #[tactic(auto, using(crate::proofs::Waitlists::Queue::spare_both))]
+    // Makes the memory for one more booking.
+    fn reserve(&mut self) -> Result<(), Memory>
+        ensures bookings { self.new.bookings.items ≡ self.old.bookings.items }
+        ensures queue { self.new.queue.bookings ≡ self.old.queue.bookings }
+        ensures ok { OnOk result (spare_of self.new ≡ true) }
+    {
+        self.bookings.reserve(1)?;
+        self.queue.reserve()
+    }
 }
 
 /// The bookings of a flight.
@@ -52,20 +65,16 @@ pub fn reserve_place(
     }
 }
 
-#[tactic(auto, using(crate::proofs::Queues::spare_both))]
 // Makes the memory for one more booking on a flight.
 fn reserve_booking(alloc: Global, books: &mut Vec<Book>, flight: u32) -> Result<(), Memory>
     ensures same { SameBooks books.old.items books.new.items }
     ensures ok { OnOk result (has_spare_in (slice_get books.new.items flight) ≡ true) }
 {
     open_books(alloc, books, flight)?;
-    let book = &mut books[flight as usize];
-    book.bookings.reserve(1)?;
-    book.queue.reserve()?;
-    Ok(())
+    books[flight as usize].reserve()
 }
 
-#[tactic(auto, using(crate::proofs::Queues::spare_booking, crate::proofs::Queues::spare_waiting))]
+#[tactic(auto, using(crate::proofs::Waitlists::Queue::spare_booking, crate::proofs::Waitlists::Queue::spare_waiting))]
 /// Does what an entry tells to the book of its flight, which has room for one more.
 pub fn enter(books: &mut Vec<Book>, entry: &Entry)
     requires spare { has_spare books.old.items entry.now.command.place ≡ true }

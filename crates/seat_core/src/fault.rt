@@ -1,46 +1,71 @@
-use thiserror::Error;
+//! Why a command gets no line, and what is wrong with an entry.
+use std::fmt;
 
 /// Why a command gets no line.
-#[derive(Clone, Copy, Debug, PartialEq, Eq, Error)]
+#[derive(Clone, Copy)]
 pub enum CoreFault {
     /// The journal has as many lines as it may have.
-    #[error("C1")]
     JournalFull,
     /// Memory for the line was refused.
-    #[error("C2")]
     Memory,
 }
 
 /// What is wrong with an entry, looked for in this order: number, caller, command, reply, released, advices.
-#[derive(Clone, Copy, Debug, PartialEq, Eq, Error)]
+#[derive(Clone, Copy)]
 pub enum ReplayKind {
     /// Its number is not its place, or above the most lines.
-    #[error("P1")]
     BadNumber,
     /// Another reply is right.
-    #[error("P2")]
     OtherReply,
     /// Another number of released seats is right.
-    #[error("P3")]
     OtherReleased,
     /// Other advices are right.
-    #[error("P4")]
     OtherAdvices,
     /// Its session is not 1 to 8, or its call is not that session's next.
-    #[error("P5")]
     BadCaller,
     /// Memory was refused.
-    #[error("P6")]
     Memory,
     /// It has no seats, or more than 999, or a place that is not there.
-    #[error("P7")]
     BadCommand,
 }
 
+impl fmt::Display for ReplayKind {
+    ghost use Rattle.std.specs.Prelude.{Some};
+    ghost use Rattle.seat_core.specs.FaultText.{code_of};
+
+    ghost output = { λ kind. Some (code_of kind) };
+
+    /// The code, P1 to P7.
+    fn fmt<W: fmt::Write>(&self, f: &mut fmt::Formatter<W>) -> fmt::Result {
+        match self {
+            ReplayKind::BadNumber => f.write_str("P1"),
+            ReplayKind::OtherReply => f.write_str("P2"),
+            ReplayKind::OtherReleased => f.write_str("P3"),
+            ReplayKind::OtherAdvices => f.write_str("P4"),
+            ReplayKind::BadCaller => f.write_str("P5"),
+            ReplayKind::Memory => f.write_str("P6"),
+            ReplayKind::BadCommand => f.write_str("P7"),
+        }
+    }
+}
+
 /// The first entry with a fault, by its place from 1, and its first fault. Want of memory at the opening has the number 0.
-#[derive(Clone, Copy, Debug, PartialEq, Eq, Error)]
-#[error("{kind} {number}")]
+#[derive(Clone, Copy)]
 pub struct ReplayFault {
     pub number: u32,
     pub kind: ReplayKind,
+}
+
+impl fmt::Display for ReplayFault {
+    ghost use Rattle.std.specs.Prelude.{Some};
+    ghost use Rattle.seat_core.specs.FaultText.{fault_text};
+
+    ghost output = { λ fault. Some (fault_text fault) };
+
+    /// The code and the place.
+    fn fmt<W: fmt::Write>(&self, f: &mut fmt::Formatter<W>) -> fmt::Result {
+        let kind = self.kind;
+        let number = self.number;
+        write!(f, "{kind} {number}")
+    }
 }

@@ -25,14 +25,13 @@ pub use effect::Effect;
 pub use fault::{CoreFault, ReplayFault, ReplayKind};
 pub use inventory::{Core, Prepared};
 pub use laws::{
-    applying_is_the_step, entry_gives_what_is_held, held_by_rank, held_seats_are_the_totals,
-    legal_by_recursion, legal_has_no_fault, live_bookings_differ, none_fits_after_a_step,
-    pass_is_by_table, replay_is_numbered, replay_keeps_limits, shown_is_held, table_is_held,
+    applying_is_the_step, held_by_rank, held_seats_are_the_totals, legal_by_recursion,
+    legal_has_no_fault, live_bookings_differ, none_fits_after_a_step, pass_is_by_table,
+    replay_is_numbered, replay_keeps_limits, shown_is_held,
 };
 pub use one_flight::{
     line_of_part, part_grows, part_is_alone, part_is_legal, part_leaves_bookings, part_leaves_room,
-    pass_of_flight, replay_is_quiet, room_of_flight, walk_after_adding, walk_after_reducing,
-    walk_of_flight,
+    pass_of_flight, room_of_flight,
 };
 pub use replaying::replay;
 pub use request::{Request, Wish};

@@ -8,7 +8,7 @@ use seat_nesting::Counts;
 use ssim_records::{Class, Place};
 
 /// The bookings that wait for one place in one class: the least seats of one, and the seats of all.
-#[derive(Clone, Copy, Debug, PartialEq, Eq)]
+#[derive(Clone, Copy)]
 pub struct Party {
     pub place: Place,
     pub class: Class,
@@ -39,7 +39,7 @@ pub fn are_too_large(counts: &Counts, parties: &[Party]) -> bool
         .all(|p| counts.room(p.place, p.class) < p.smallest)
 }
 
-#[tactic(auto, using(crate::proofs::Settling::seats_found, crate::proofs::Settling::joined_found, crate::proofs::Settling::joined_none))]
+#[tactic(auto, using(crate::proofs::Waitlists::Parties::seats_found, crate::proofs::Waitlists::Parties::joined_found, crate::proofs::Waitlists::Parties::joined_none))]
 /// A booking with so many seats waits from now on.
 pub fn join(parties: &mut Vec<Party>, place: Place, class: Class, seats: u16)
     requires spare { vec_len parties.old < vec_capacity parties.old }
@@ -89,7 +89,7 @@ fn open(parties: &mut Vec<Party>, place: Place, class: Class, seats: u16)
     let _ = pushed;
 }
 
-#[tactic(auto, using(crate::proofs::Settling::seats_found, crate::proofs::Settling::settled_found, crate::proofs::Settling::settled_gone, crate::proofs::Settling::settled_none))]
+#[tactic(auto, using(crate::proofs::Waitlists::Parties::seats_found, crate::proofs::Waitlists::Parties::settled_found, crate::proofs::Waitlists::Parties::settled_gone, crate::proofs::Waitlists::Parties::settled_none))]
 // Takes seats off the party, which has this smallest from now on, and goes where there is none.
 fn settle(parties: &mut Vec<Party>, place: Place, class: Class, smallest: Option<u16>, off: u16)
     requires { off ≤ party_seats place class parties.old.items }
@@ -110,7 +110,7 @@ fn settle(parties: &mut Vec<Party>, place: Place, class: Class, smallest: Option
     }
 }
 
-#[tactic(auto, using(crate::proofs::Indexing::none_least, crate::proofs::Indexing::other_least, crate::proofs::Indexing::same_least))]
+#[tactic(auto, using(crate::proofs::Waitlists::Index::none_least, crate::proofs::Waitlists::Index::other_least, crate::proofs::Waitlists::Index::same_least))]
 // The least seats of a booking once one with so many left: they are looked up only where that was the smallest.
 fn smallest_left(
     parties: &[Party],

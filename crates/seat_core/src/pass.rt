@@ -46,7 +46,7 @@ pub fn advices_after(
     told
 }
 
-#[tactic(auto, using(crate::proofs::Undoing::none_told))]
+#[tactic(auto, using(crate::proofs::Passes::Undone::none_told))]
 /// The advices of the pass over a waiting list. The counters are left as they were.
 fn advices_of(
     alloc: Global,
@@ -63,7 +63,7 @@ fn advices_of(
     walk(alloc, counts, queue.as_slice())
 }
 
-#[tactic(auto, using(crate::proofs::Undoing::undone))]
+#[tactic(auto, using(crate::proofs::Passes::Undone::undone))]
 /// The same, booking by booking.
 fn walk(alloc: Global, counts: &mut Counts, queue: &[Booking]) -> Result<Vec<Advice>, Memory>
     ensures limits { limits_of counts.new ≡ limits_of counts.old }
@@ -93,7 +93,7 @@ fn confirm_each(counts: &mut Counts, queue: &[Booking], advices: &mut Vec<Advice
     }
 }
 
-#[tactic(auto, using(crate::proofs::Undoing::taken_one, crate::proofs::Undoing::told_fits, crate::proofs::Undoing::told_over, crate::proofs::Undoing::told_held))]
+#[tactic(auto, using(crate::proofs::Passes::Undone::taken_one, crate::proofs::Passes::Undone::told_fits, crate::proofs::Passes::Undone::told_over, crate::proofs::Passes::Undone::told_held))]
 /// Takes the seats of one booking, where it waits and fits, and tells of it.
 fn consider(
     counts: &mut Counts,
@@ -126,7 +126,7 @@ fn consider(
     None
 }
 
-#[tactic(auto, using(crate::proofs::Faults::place_same))]
+#[tactic(auto, using(crate::proofs::History::Faults::place_same))]
 /// The room of a place, as it is known or else looked up.
 fn look(counts: &Counts, place: Place, class: Class, known: Option<Known>) -> u16
     requires known { IfSome known (λ k. k.room ≡ room (limits_of counts.now) (seats_of counts.now) k.place k.class) }

@@ -142,7 +142,7 @@ fn book_seats(
     }
 }
 
-#[tactic(auto, using(crate::proofs::Replying::may_wait_is, crate::proofs::Queues::queue_few))]
+#[tactic(auto, using(crate::proofs::Step::Reply::may_wait_is, crate::proofs::Waitlists::Queue::queue_few))]
 /// Whether the seats of a command may wait on its flight's waiting list.
 fn may_queue(limits: &Grid, books: &[Book], command: &Command, place: Place) -> bool
     requires few { length (book_at books.now place.flight) ≤ 999999 }
@@ -214,7 +214,7 @@ fn cancel_seats(
     })
 }
 
-#[tactic(auto, using(crate::proofs::Replying::cancel_held, crate::proofs::Replying::cancel_waiting))]
+#[tactic(auto, using(crate::proofs::Step::Reply::cancel_held, crate::proofs::Step::Reply::cancel_waiting))]
 /// The advices of the pass that runs once the seats of a command are off its booking.
 fn advices_without(
     alloc: Global,

@@ -4,7 +4,7 @@ ghost use Rattle.seat_core.specs.Codes.{request_of};
 use ssim_records::Code;
 
 /// How a command wants seats: only now, now or later, or on the waitlist.
-#[derive(Clone, Copy, Debug, PartialEq, Eq)]
+#[derive(Clone, Copy)]
 pub enum Wish {
     Need,
     Sell,
@@ -12,7 +12,7 @@ pub enum Wish {
 }
 
 /// What the code of a command asks for.
-#[derive(Clone, Copy, Debug, PartialEq, Eq)]
+#[derive(Clone, Copy)]
 pub enum Request {
     Seats(Wish),
     Cancel,

@@ -103,7 +103,7 @@ impl WaitingList {
         }
     }
 
-    #[tactic(auto, using(crate::proofs::Gathering::may_wait_told))]
+    #[tactic(auto, using(crate::proofs::Waitlists::Room::may_wait_told))]
     /// Whether so many more seats may wait on a place.
     pub fn may_wait(&self, limits: &Grid, place: Place, class: Class, seats: u16) -> bool
         requires { length self.now.bookings ≤ 999999 }

@@ -13,10 +13,10 @@ use Rattle.seat_nesting.specs.Counting.{Counted, limits_of, seats_of}
 use Rattle.seat_journal.specs.declared.entry.Entry.{Entry}
 use Rattle.seat_core.specs.Sequential.{State, room_left}
 use Rattle.seat_core.specs.Journal.{IsLegal, replay}
-use Rattle.seat_core.proofs.Prefixes.{begins_longer}
-use Rattle.seat_core.proofs.Legal.{legal_nil, legal_prefix, legal_push, each_legal}
-use Rattle.seat_core.proofs.Histories.{each_replay}
-use Rattle.seat_core.proofs.Outcomes.{grid_answer}
+use Rattle.seat_core.proofs.History.Prefixes.{begins_longer}
+use Rattle.seat_core.proofs.History.Legal.{legal_nil, legal_prefix, legal_push, each_legal}
+use Rattle.seat_core.proofs.History.Lines.{each_replay}
+use Rattle.seat_core.proofs.Step.Outcomes.{grid_answer}
 use Rattle.seat_core.specs.Showing.{shown}
 use Rattle.seat_core.specs.Tables.{nothing_held}
 use Rattle.std.proofs.lemmas.List.Sums.{fold_push}
@@ -25,7 +25,7 @@ use Rattle.seat_display.specs.declared.table.Op.{Op}
 use Rattle.seat_display.specs.declared.table.Op.TheVariants.{Line, Mark}
 use Rattle.seat_display.specs.declared.table.View.{View}
 use Rattle.seat_display.specs.Shown.{all_seats, tidied, left_by, counts_after, one_more, apply, entries_of, nobody, Leaves, IsEmptyTable, Fits, Kept, Sees, Ready, informed}
-use Rattle.seat_core.proofs.Shown.{shown_is_held}
+use Rattle.seat_core.proofs.Counters.Shown.{shown_is_held}
 use Rattle.seat_display.proofs.Tidy.{IsOnLadders, limits_written, seats_written, own_seats, shown_on}
 
 off : false ≡ true → ⊥

@@ -94,7 +94,7 @@ impl Viewer {
     }
 
     /// A viewer that has seen nothing.
-    #[tactic(auto, using(seat_core::proofs::Legal::legal_nil))]
+    #[tactic(auto, using(seat_core::proofs::History::Legal::legal_nil))]
     pub(crate) fn over(reader: TableReader, seen: &Trace) -> Viewer
         requires knows { ((view reader.place).knows ≡ true) × ((view reader.place).seen.book ≡ seen.now.book) }
         requires empty { seen.now.log ≡ [] }

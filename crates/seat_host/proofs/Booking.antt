@@ -9,8 +9,8 @@ use Rattle.seat_journal.specs.declared.entry.Command.{Command}
 use Rattle.seat_journal.specs.declared.entry.Entry.{Entry}
 use Rattle.seat_core.specs.Prefixes.{Begins}
 use Rattle.seat_core.specs.Journal.{IsNext, IsLegal, calls_of, next_line}
-use Rattle.seat_core.proofs.Prefixes.{begins_trans, begins_whole, begins_length, begins_longer, begins_itself}
-use Rattle.seat_core.proofs.Legal.{legal_push, legal_nil}
+use Rattle.seat_core.proofs.History.Prefixes.{begins_trans, begins_whole, begins_length, begins_longer, begins_itself}
+use Rattle.seat_core.proofs.History.Legal.{legal_push, legal_nil}
 use Rattle.seat_host.specs.Histories.{of_session}
 use Rattle.seat_host.specs.Sessions.{IsTied, Stands, Booked, Waits, Seat}
 use Rattle.seat_host.proofs.Own.{own_append, own_prefix, own_length, own_one, own_other, calls_own}

@@ -5,7 +5,7 @@ use Rattle.std.proofs.Math.Seq.{split_at}
 use Rattle.std.proofs.lemmas.List.{take_more, take-append-drop}
 use Rattle.seat_journal.specs.declared.entry.Command.{Command}
 use Rattle.seat_journal.specs.declared.entry.Entry.{Entry}
-use Rattle.seat_core.proofs.Prefixes.{begins_trans, begins_itself}
+use Rattle.seat_core.proofs.History.Prefixes.{begins_trans, begins_itself}
 use Rattle.seat_host.specs.Sessions.{Seat}
 use Rattle.seat_host.specs.Working.{HasRun, HasBegun, IsRefused, AllHaveRun, AllHaveBegun, first_of}
 use Rattle.seat_host.specs.declared.workers.RunFault.{RunFault}

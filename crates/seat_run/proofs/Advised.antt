@@ -11,9 +11,9 @@ use Rattle.seat_core.specs.declared.booking.Status.TheVariants.{Held, Waiting}
 use Rattle.seat_core.specs.Bookings.{is_for}
 use Rattle.seat_core.specs.Sequential.{State, Outcome, answer, pass, may_confirm, confirmed, advice_of, reduced, booking_of}
 use Rattle.seat_core.specs.Journal.{replay, IsLegal, IsNext}
-use Rattle.seat_core.proofs.Histories.{replay_next}
-use Rattle.seat_core.proofs.Legal.{each_legal}
-use Rattle.seat_core.proofs.Outcomes.{each_outcome}
+use Rattle.seat_core.proofs.History.Lines.{replay_next}
+use Rattle.seat_core.proofs.History.Legal.{each_legal}
+use Rattle.seat_core.proofs.Step.Outcomes.{each_outcome}
 use Rattle.seat_run.specs.Answering.{IsAdvisable}
 
 module _ {A : Type 0} where

@@ -13,7 +13,7 @@ use Rattle.seat_journal.specs.declared.entry.Command.{Command}
 use Rattle.seat_journal.specs.declared.entry.Entry.{Entry}
 use Rattle.seat_nesting.specs.Nesting.{Legs}
 use Rattle.seat_core.specs.Journal.{IsLegalAfter, IsNext, calls_of}
-use Rattle.seat_core.proofs.Legal.{legal_to_after}
+use Rattle.seat_core.proofs.History.Legal.{legal_to_after}
 use Rattle.seat_host.specs.Histories.{of_session, by_session}
 use Rattle.seat_host.proofs.Own.{own_append, own_one, calls_own}
 use Rattle.seat_run.specs.Answering.{AreAllAnswerable, AreAnswerable, HasRequest, IsAdvisable, IsAnswerable}

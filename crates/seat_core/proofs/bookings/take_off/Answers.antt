@@ -2,7 +2,7 @@ use Rattle.std.proofs.Common.{◌≡◌, ◌∙◌, sym, ap, set, remove, List}
 use Rattle.std.proofs.lemmas.List.{set-get_or}
 use Rattle.seat_core.specs.declared.booking.Booking.{Booking}
 use Rattle.seat_core.specs.Bookings.{is_for}
-use Rattle.seat_core.proofs.Reducing.{reduced_gone}
+use Rattle.seat_core.proofs.Step.Reduced.{reduced_gone}
 use Rattle.seat_core.proofs.bookings.take_off.Goals as goal
 
 pub returns-else-booking-command : goal.returns-else-booking-command

@@ -1,6 +1,6 @@
 use Rattle.std.proofs.Common.{rules, ◌≡◌, ◌-◌, ◌<◌, ℕ, true, length, arith, Some, subst}
 use Rattle.seat_core.specs.Parties.{is_booking_of, smallest_of, least_with}
-use Rattle.seat_core.proofs.Leaving.{floor_at}
+use Rattle.seat_core.proofs.Waitlists.Departures.{floor_at}
 use Rattle.seat_core.proofs.parties.smallest_of.Goals as goal
 
 pub returns-then-booking-floor : goal.returns-then-booking-floor

@@ -4,7 +4,7 @@ use Rattle.seat_nesting.specs.Counting.{limits_of, seats_of}
 use Rattle.seat_journal.specs.declared.entry.Advice.{Advice}
 use Rattle.seat_core.specs.Showing.{shown_advices}
 use Rattle.seat_core.specs.Tables.{advices_by, told_of}
-use Rattle.seat_core.proofs.Undoing.{told_next, shown_more}
+use Rattle.seat_core.proofs.Passes.Undone.{told_next, shown_more}
 use Rattle.seat_core.proofs.pass.confirm_each.Goals as goal
 
 pub loop-booking-preserved : goal.loop-booking-preserved

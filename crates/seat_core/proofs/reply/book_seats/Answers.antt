@@ -5,7 +5,7 @@ use Rattle.seat_core.specs.declared.booking.Status.TheVariants.{Waiting}
 use Rattle.seat_core.specs.Bookings.{held, waiting}
 use Rattle.seat_core.specs.Books.{book_at}
 use Rattle.seat_core.specs.Sequential.{advice_of, booking_of}
-use Rattle.seat_core.proofs.Replying.{fits_yes, fits_no, room_is, queued_is}
+use Rattle.seat_core.proofs.Step.Reply.{fits_yes, fits_no, room_is, queued_is}
 use Rattle.seat_core.proofs.reply.book_seats.Goals as goal
 
 pub returns-then-fits : goal.returns-then-fits

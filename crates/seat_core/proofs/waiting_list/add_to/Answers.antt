@@ -3,8 +3,8 @@ use Rattle.seat_core.specs.declared.booking.Booking.{Booking}
 use Rattle.seat_core.specs.declared.booking.Status.TheVariants.{Waiting}
 use Rattle.seat_core.specs.Sequential.{booking_of}
 use Rattle.seat_core.specs.Parties.{IsIndexed}
-use Rattle.seat_core.proofs.Indexing.{added}
-use Rattle.seat_core.proofs.Leaving.{seats_spare}
+use Rattle.seat_core.proofs.Waitlists.Index.{added}
+use Rattle.seat_core.proofs.Waitlists.Departures.{seats_spare}
 use Rattle.seat_core.proofs.waiting_list.add_to.Goals as goal
 
 pub join-requires-clause-few : goal.join-requires-clause-few

@@ -3,8 +3,8 @@ use Rattle.seat_core.specs.declared.booking.Booking.{Booking}
 use Rattle.seat_core.specs.Bookings.{is_for}
 use Rattle.seat_core.specs.Sequential.{reduced}
 use Rattle.seat_core.specs.Parties.{IsIndexed}
-use Rattle.seat_core.proofs.Reducing.{reduced_gone}
-use Rattle.seat_core.proofs.Leaving.{reduced_enough, reduced_indexed}
+use Rattle.seat_core.proofs.Step.Reduced.{reduced_gone}
+use Rattle.seat_core.proofs.Waitlists.Departures.{reduced_enough, reduced_indexed}
 use Rattle.seat_core.proofs.waiting_list.reduce_at.Goals as goal
 
 pub returns-then-seats-command-clause-reduced : goal.returns-then-seats-command-clause-reduced

@@ -1,7 +1,7 @@
 use Rattle.std.proofs.Common.{◌≡◌, List, remove, ap, subst, sym, ◌∙◌}
 use Rattle.seat_core.specs.declared.booking.Booking.{Booking}
 use Rattle.seat_core.specs.Parties.{least_with, smallest_of, party_smallest, settled, IsIndexed}
-use Rattle.seat_core.proofs.Leaving.{party_enough, party_least, left}
+use Rattle.seat_core.proofs.Waitlists.Departures.{party_enough, party_least, left}
 use Rattle.seat_core.proofs.waiting_list.take_at.Goals as goal
 
 pub leave-requires-clause-enough : goal.leave-requires-clause-enough

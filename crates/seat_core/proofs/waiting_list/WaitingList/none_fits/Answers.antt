@@ -2,7 +2,7 @@ use Rattle.std.proofs.Common.{◌≡◌, subst, ap, ◌∙◌}
 use Rattle.seat_nesting.specs.Counting.{limits_of, seats_of}
 use Rattle.seat_core.specs.Parties.{no_party_fits}
 use Rattle.seat_core.specs.Queues.{none_fits, Waitlist}
-use Rattle.seat_core.proofs.Gathering.{none_fits_told}
+use Rattle.seat_core.proofs.Waitlists.Room.{none_fits_told}
 use Rattle.seat_core.proofs.waiting_list.WaitingList.none_fits.Goals as goal
 
 pub returns : goal.returns

@@ -2,7 +2,7 @@ use Rattle.std.proofs.Common.{◌≡◌, subst, sym}
 use Rattle.seat_core.specs.Bookings.{is_for}
 use Rattle.seat_core.specs.Sequential.{reduced}
 use Rattle.seat_core.specs.Queues.{Waitlist}
-use Rattle.seat_core.proofs.Applying.{reduced_none}
+use Rattle.seat_core.proofs.Step.Effect.{reduced_none}
 use Rattle.seat_core.proofs.waiting_list.WaitingList.reduce.Goals as goal
 
 pub returns-in-None : goal.returns-in-None

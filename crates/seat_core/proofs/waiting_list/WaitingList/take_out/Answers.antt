@@ -1,7 +1,7 @@
 use Rattle.std.proofs.Common.{◌≡◌, subst, sym, ◌∙◌}
 use Rattle.seat_core.specs.Queues.{without, Waitlist}
-use Rattle.seat_core.proofs.Leaving.{number_gone}
-use Rattle.seat_core.proofs.Queues.{without_none}
+use Rattle.seat_core.proofs.Waitlists.Departures.{number_gone}
+use Rattle.seat_core.proofs.Waitlists.Queue.{without_none}
 use Rattle.seat_core.proofs.waiting_list.WaitingList.take_out.Goals as goal
 
 pub returns-in-Some : goal.returns-in-Some

@@ -1,0 +1,6 @@
+-- One flight alone.
+pub mod View
+pub mod Parts
+pub mod Seen
+pub mod Locality
+pub mod Commands

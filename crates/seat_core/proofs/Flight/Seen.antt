@@ -1,0 +1,218 @@
+-- What one answer is to a flight, whether its place is on it or not.
+use Rattle.std.proofs.Common.{◌≡◌, ◌==◌, ◌&&◌, ℕ, Bool, true, false, nat_le, List, [], ◌∷◌, ◌++◌, Option, Some, None, codes, if◌then◌else◌, arith, refl, ap, sym, subst, ◌∙◌}
+use Rattle.std.proofs.lemmas.Bool.Decides.{nat_tests}
+use Rattle.ssim_records.specs.declared.place.Place.{Place}
+use Rattle.seat_nesting.specs.Nesting.{Legs, room, may_wait}
+use Rattle.seat_core.specs.declared.booking.Booking.{Booking}
+use Rattle.seat_core.specs.declared.booking.Status.{Status}
+use Rattle.seat_core.specs.declared.booking.Status.TheVariants.{Held, Waiting}
+use Rattle.seat_journal.specs.declared.entry.Advice.{Advice}
+use Rattle.seat_journal.specs.declared.entry.Command.{Command}
+use Rattle.seat_core.specs.declared.request.Request.{Request}
+use Rattle.seat_core.specs.declared.request.Request.TheVariants.{Seats, Cancel, Other}
+use Rattle.seat_core.specs.declared.request.Wish.{Wish}
+use Rattle.seat_core.specs.declared.request.Wish.TheVariants.{Need, Sell, Waitlist}
+use Rattle.seat_core.specs.Codes.{request_of}
+use Rattle.seat_core.specs.Bookings.{is_for, is_held, is_waiting, held, waiting}
+use Rattle.seat_core.specs.Sequential.{State, Outcome, Passed, state_of, room_left, reduced, booking_of, booking_for, pass, passed, want, want_new, cancel, answer, answer_to, may_confirm, confirmed, advice_of, NoneFits}
+use Rattle.seat_core.specs.Flights.{renumbered, AgreeOn, NoneElseFits, pass_on, is_on, advices_anew}
+use Rattle.seat_core.proofs.Step.Outcomes.{each_outcome, grid_answer}
+use Rattle.seat_core.proofs.Step.Apart.{all_reduced}
+use Rattle.seat_core.proofs.Passes.Quiet.{all_push, all_map, quiet_answer}
+use Rattle.seat_core.proofs.Flight.View.{view, told_on, told_append, room_view, room_over, may_wait_over, pass_of}
+use Rattle.seat_core.proofs.Flight.Parts.{IsTestOn, IsTestOff, pass_view, pass_none, none_among, reduced_view, reduced_same, found_anew, find_view, other_flight, view_push, view_same}
+
+-- an answer leaves the limits, and these bookings
+pub answer_state : (grid : Legs) (bookings : List Booking) (n : ℕ) (c : Command) → (answer (state_of grid bookings) n c).state ≡ state_of grid (answer (state_of grid bookings) n c).state.bookings
+answer_state grid bookings n c =
+    each_outcome (λ o. o.state ≡ state_of grid o.state.bookings) (state_of grid bookings) n c (λ r. refl) (λ p at none fits. refl) (λ p at none over. refl) (λ p at none. refl) (λ p b at found le. refl)
+
+-- after each answer no waiting booking fits
+pub none_answer : (grid : Legs) (bookings : List Booking) (n : ℕ) (c : Command) → NoneFits grid bookings → NoneFits grid (answer (state_of grid bookings) n c).state.bookings
+none_answer grid bookings n c a =
+    let P : Legs → Type 0 = λ g. NoneFits g (answer (state_of grid bookings) n c).state.bookings in
+    subst P (grid_answer (state_of grid bookings) n c) (quiet_answer (state_of grid bookings) n c a)
+
+-- the test of a command, on its flight and off it
+test_on : (anew : ℕ → ℕ) (f : ℕ) (locator : List ℕ) (p : Place) (class : ℕ) → p.flight ≡ f → IsTestOn anew f (is_for locator p class)
+test_on anew f locator p class e = record {
+  only = λ b h. (let P : ℕ → Type 0 = λ x. (b.place.flight == x) ≡ false in other_flight locator p class f b (subst P (sym e) h));
+  whatever = λ b. refl;
+}
+
+apart : (x y f : ℕ) → (x == f) ≡ true → (y == f) ≡ false → (x == y) ≡ false
+apart x y f e h = grind (arith, nat_tests)
+
+apart_too : (x y f : ℕ) → (x == f) ≡ true → (y == f) ≡ false → (y == x) ≡ false
+apart_too x y f e h = grind (arith, nat_tests)
+
+test_off : (f : ℕ) (locator : List ℕ) (p : Place) (class : ℕ) → (p.flight == f) ≡ false → IsTestOff f (is_for locator p class)
+test_off f locator p class e = record { never = λ b h. other_flight locator p class f b (apart b.place.flight p.flight f h e) }
+
+-- what the flight sees of an outcome, over these limits
+abbrev pub seen_over : Legs → (ℕ → ℕ) → ℕ → Outcome → Outcome
+seen_over h anew f o = record { state = state_of h (view anew f o.state.bookings); reply = o.reply; released = o.released; advices = told_on anew f o.advices }
+
+-- and over its own
+abbrev pub seen : (ℕ → ℕ) → ℕ → Outcome → Outcome
+seen anew f o = seen_over o.state.grid anew f o
+
+passed_view : (g h : Legs) (anew : ℕ → ℕ) (f : ℕ) (bs : List Booking) (reply : List ℕ) (released : ℕ) → AgreeOn f g h → passed h (view anew f bs) reply released ≡ seen_over h anew f (passed g bs reply released)
+passed_view g h anew f bs reply released a =
+    ap (λ (p : Passed). outcome_of p) (pass_view g h anew f [] [] bs a)
+  where
+    outcome_of : Passed → Outcome
+    outcome_of p = record { state = state_of h p.bookings; reply = reply; released = released; advices = p.advices }
+
+-- a command on the flight is answered from what the flight sees, over each grid that agrees on it, as from the whole
+pub answer_over : (g h : Legs) (anew : ℕ → ℕ) (f : ℕ) (bookings : List Booking) (n : ℕ) (c : Command) (o : Option Place) → AgreeOn f g h → c.place ≡ o → is_on f o ≡ true
+    → answer (state_of h (view anew f bookings)) (anew n) c ≡ seen_over h anew f (answer (state_of g bookings) n c)
+answer_over g h anew f bookings n c None a at e = absurd cc
+answer_over g h anew f bookings n c (Some place) a at e =
+    ap (λ (o : Option Place). answer_to (request_of c.code) o (state_of h (view anew f bookings)) (anew n) c) at
+    ∙ (by_request (request_of c.code) ∙ sym (ap (λ (o : Option Place). seen_over h anew f (answer_to (request_of c.code) o (state_of g bookings) n c)) at))
+  where
+    s : State
+    s = state_of g bookings
+
+    v : State
+    v = state_of h (view anew f bookings)
+
+    here : place.flight ≡ f
+    here = grind (arith, nat_tests)
+
+    test : Booking → Bool
+    test = is_for c.locator place c.class
+
+    pushed : (st : Status) → view anew f bookings ++ booking_of (anew n) c place st ∷ [] ≡ view anew f (bookings ++ booking_of n c place st ∷ [])
+    pushed st = sym (view_push anew f bookings (booking_of n c place st) e)
+
+    made : List ℕ → List Booking → Outcome
+    made reply l = record { state = state_of h l; reply = reply; released = 0; advices = [] }
+
+    want_if : (w : Wish) (fits may : Bool) → want_new w v (anew n) c place fits may ≡ seen_over h anew f (want_new w s n c place fits may)
+    want_if Need true may = ap (made (codes "KK")) (pushed Held)
+    want_if Need false may = refl
+    want_if Sell true may = ap (made (codes "KK")) (pushed Held)
+    want_if Sell false true = ap (made (codes "US")) (pushed Waiting)
+    want_if Sell false false = refl
+    want_if Waitlist fits true = ap (λ (l : List Booking). passed h l (codes "HL") 0) (pushed Waiting) ∙ passed_view g h anew f (bookings ++ booking_of n c place Waiting ∷ []) (codes "HL") 0 a
+    want_if Waitlist fits false = refl
+
+    by_found : (w : Wish) (o : Option Booking) → want w v (anew n) c place (found_anew anew o) ≡ seen_over h anew f (want w s n c place o)
+    by_found w (Some b) = refl
+    by_found w None =
+        ap (λ x. want_new w v (anew n) c place (nat_le c.seats x) (may_wait h (waiting (view anew f bookings)) place c.class c.seats)) (room_over g h anew f bookings place c.class a here)
+        ∙ (ap (λ x. want_new w v (anew n) c place (nat_le c.seats (room_left s place c.class)) x) (may_wait_over g h anew f bookings place c.class c.seats a here)
+        ∙ want_if w (nat_le c.seats (room_left s place c.class)) (may_wait g (waiting bookings) place c.class c.seats))
+
+    cancel_if : (b : Booking) (t : Bool) → nat_le c.seats b.seats ≡ t → cancel v c place (Some (renumbered anew b)) ≡ seen_over h anew f (cancel s c place (Some b))
+    cancel_if b true le = rw le
+        (ap (λ (l : List Booking). passed h l (codes "HX") (if is_held b.status then c.seats else 0)) (sym (reduced_view anew f test c.seats bookings (test_on anew f c.locator place c.class here)))
+        ∙ passed_view g h anew f (reduced test c.seats bookings) (codes "HX") (if is_held b.status then c.seats else 0) a)
+    cancel_if b false le = rw le refl
+
+    by_held : (o : Option Booking) → cancel v c place (found_anew anew o) ≡ seen_over h anew f (cancel s c place o)
+    by_held None = refl
+    by_held (Some b) = cancel_if b (nat_le c.seats b.seats) refl
+
+    by_request : (r : Request) → answer_to r (Some place) v (anew n) c ≡ seen_over h anew f (answer_to r (Some place) s n c)
+    by_request Other = refl
+    by_request (Seats w) = ap (λ (o : Option Booking). want w v (anew n) c place o) (find_view anew f test bookings (test_on anew f c.locator place c.class here)) ∙ by_found w (booking_for s c place)
+    by_request Cancel = ap (λ (o : Option Booking). cancel v c place o) (find_view anew f test bookings (test_on anew f c.locator place c.class here)) ∙ by_held (booking_for s c place)
+
+-- and over its own limits
+pub answer_on : (grid : Legs) (anew : ℕ → ℕ) (f : ℕ) (bookings : List Booking) (n : ℕ) (c : Command) (o : Option Place) → c.place ≡ o → is_on f o ≡ true
+    → answer (state_of grid (view anew f bookings)) (anew n) c ≡ seen anew f (answer (state_of grid bookings) n c)
+answer_on grid anew f bookings n c o at e =
+    answer_over grid grid anew f bookings n c o refl at e
+    ∙ ap (λ (g : Legs). seen_over g anew f (answer (state_of grid bookings) n c)) (sym (grid_answer (state_of grid bookings) n c))
+
+-- a command off the flight changes nothing that the flight sees
+pub answer_off : (grid : Legs) (anew : ℕ → ℕ) (f : ℕ) (bookings : List Booking) (n : ℕ) (c : Command) → is_on f c.place ≡ false → NoneFits grid bookings
+    → view anew f (answer (state_of grid bookings) n c).state.bookings ≡ view anew f bookings
+answer_off grid anew f bookings n c off a =
+    each_outcome (λ o. view anew f o.state.bookings ≡ view anew f bookings) (state_of grid bookings) n c
+    (λ r. refl)
+    (λ p at none fits. view_same anew f bookings (booking_of n c p Held) (away p at))
+    (λ p at none over. view_same anew f bookings (booking_of n c p Waiting) (away p at))
+    (λ p at none. quiet (bookings ++ booking_of n c p Waiting ∷ []) (view_same anew f bookings (booking_of n c p Waiting) (away p at)))
+    (λ p b at found le. quiet (reduced (is_for c.locator p c.class) c.seats bookings)
+    (reduced_same anew f (is_for c.locator p c.class) c.seats bookings (test_off f c.locator p c.class (away p at))))
+  where
+    away : (p : Place) → c.place ≡ Some p → (p.flight == f) ≡ false
+    away p at = sym (ap (is_on f) at) ∙ off
+
+    quiet : (l : List Booking) → view anew f l ≡ view anew f bookings → view anew f (pass grid [] [] l).bookings ≡ view anew f bookings
+    quiet l e =
+        ap (λ (p : Passed). p.bookings) (sym (pass_view grid grid anew f [] [] l refl))
+        ∙ (ap (λ (x : List Booking). (pass grid [] [] x).bookings) e
+        ∙ ap (λ (p : Passed). p.bookings) (pass_none grid [] [] (view anew f bookings) (none_among grid anew f bookings bookings a)))
+
+-- a booking of a flight whose bookings are the same fits as before
+same_fit : (grid : Legs) (old new : List Booking) (b : Booking) → view (λ n. n) b.place.flight new ≡ view (λ n. n) b.place.flight old → may_confirm grid new b ≡ may_confirm grid old b
+same_fit grid old new b e =
+    ap (λ r. is_waiting b.status && nat_le b.seats r)
+    (sym (room_view grid (λ n. n) b.place.flight new b.place b.class refl)
+    ∙ (ap (λ (l : List Booking). room grid (held l) b.place b.class) e ∙ room_view grid (λ n. n) b.place.flight old b.place b.class refl))
+
+pub else_push : (grid : Legs) (f : ℕ) (bookings : List Booking) (b : Booking) → NoneFits grid bookings → (b.place.flight == f) ≡ true
+    → NoneElseFits f grid (bookings ++ b ∷ []) (bookings ++ b ∷ [])
+else_push grid f bookings b a here =
+    all_push (λ x. (x.place.flight == f) ≡ false → may_confirm grid (bookings ++ b ∷ []) x ≡ false) bookings b
+    (all_map (λ x. may_confirm grid bookings x ≡ false) (λ x. (x.place.flight == f) ≡ false → may_confirm grid (bookings ++ b ∷ []) x ≡ false) bookings
+    (λ x no away. same_fit grid bookings (bookings ++ b ∷ []) x (view_same (λ n. n) x.place.flight bookings b (apart b.place.flight x.place.flight f here away)) ∙ no) a)
+    (λ away. absurd cc)
+
+pub else_reduced : (grid : Legs) (f : ℕ) (bookings : List Booking) (locator : List ℕ) (p : Place) (class n : ℕ) → NoneFits grid bookings → (p.flight == f) ≡ true
+    → NoneElseFits f grid (reduced (is_for locator p class) n bookings) (reduced (is_for locator p class) n bookings)
+else_reduced grid f bookings locator p class n a here =
+    all_reduced (λ x. (x.place.flight == f) ≡ false → may_confirm grid (reduced (is_for locator p class) n bookings) x ≡ false) (is_for locator p class) n bookings
+    (λ b pass no away. clash b pass away)
+    (all_map (λ x. may_confirm grid bookings x ≡ false) (λ x. (x.place.flight == f) ≡ false → may_confirm grid (reduced (is_for locator p class) n bookings) x ≡ false) bookings
+    (λ x no away. same_fit grid bookings (reduced (is_for locator p class) n bookings) x
+    (reduced_same (λ n. n) x.place.flight (is_for locator p class) n bookings (test_off x.place.flight locator p class (apart p.flight x.place.flight f here away))) ∙ no) a)
+  where
+    clash : {X : Type 0} (b : Booking) → is_for locator p class b ≡ true → (b.place.flight == f) ≡ false → X
+    clash b is away =
+        let no : is_for locator p class b ≡ false = other_flight locator p class f b (apart_too p.flight b.place.flight f here away) in
+        absurd cc
+
+anew_append : (anew : ℕ → ℕ) (xs ys : List Advice) → advices_anew anew (xs ++ ys) ≡ advices_anew anew xs ++ advices_anew anew ys
+anew_append anew [] ys = refl
+anew_append anew (a ∷ xs) ys = rw (anew_append anew xs ys) refl
+
+-- the pass over one flight tells that flight alone
+told_pass : (grid : Legs) (anew : ℕ → ℕ) (f : ℕ) (done : List Booking) (told : List Advice) (bs : List Booking) → told_on anew f told ≡ advices_anew anew told
+    → told_on anew f (pass_on f grid done told bs).advices ≡ advices_anew anew (pass_on f grid done told bs).advices
+told_pass grid anew f done told [] h = h
+told_pass grid anew f done told (b ∷ bs) h =
+    cases (b.place.flight == f) (may_confirm grid (done ++ b ∷ bs) b) refl refl
+    (λ (x : Booking) (t : List Advice) (k : told_on anew f t ≡ advices_anew anew t). told_pass grid anew f (done ++ x ∷ []) t bs k)
+  where
+    push : (told : List Advice) → (b.place.flight == f) ≡ true → told_on anew f told ≡ advices_anew anew told → told_on anew f (told ++ advice_of b ∷ []) ≡ advices_anew anew (told ++ advice_of b ∷ [])
+    push told e h = told_append anew f told (advice_of b ∷ []) ∙ (ap (λ (x : List Advice). x ++ told_on anew f (advice_of b ∷ [])) h ∙ (rw e refl ∙ sym (anew_append anew told (advice_of b ∷ []))))
+
+    cases : (t u : Bool) → (b.place.flight == f) ≡ t → may_confirm grid (done ++ b ∷ bs) b ≡ u
+        → ((x : Booking) (t : List Advice) → told_on anew f t ≡ advices_anew anew t → told_on anew f (pass_on f grid (done ++ x ∷ []) t bs).advices ≡ advices_anew anew (pass_on f grid (done ++ x ∷ []) t bs).advices)
+        → told_on anew f (pass_on f grid done told (b ∷ bs)).advices ≡ advices_anew anew (pass_on f grid done told (b ∷ bs)).advices
+    cases true true e may rest = rw (e, may) (rest (confirmed b) (told ++ advice_of b ∷ []) (push told e h))
+    cases true false e may rest = rw (e, may) (rest b told h)
+    cases false u e may rest = rw e (rest b told h)
+
+-- an answer to a command on the flight advises the flight alone
+pub advices_on : (grid : Legs) (anew : ℕ → ℕ) (f : ℕ) (bookings : List Booking) (n : ℕ) (c : Command) → is_on f c.place ≡ true → NoneFits grid bookings
+    → told_on anew f (answer (state_of grid bookings) n c).advices ≡ advices_anew anew (answer (state_of grid bookings) n c).advices
+advices_on grid anew f bookings n c on a =
+    each_outcome (λ o. told_on anew f o.advices ≡ advices_anew anew o.advices) (state_of grid bookings) n c
+    (λ r. refl) (λ p at none fits. refl) (λ p at none over. refl)
+    (λ p at none. quiet (bookings ++ booking_of n c p Waiting ∷ []) (else_push grid f bookings (booking_of n c p Waiting) a (here p at)))
+    (λ p b at found le. quiet (reduced (is_for c.locator p c.class) c.seats bookings) (else_reduced grid f bookings c.locator p c.class c.seats a (here p at)))
+  where
+    here : (p : Place) → c.place ≡ Some p → (p.flight == f) ≡ true
+    here p at = sym (ap (is_on f) at) ∙ on
+
+    quiet : (l : List Booking) → NoneElseFits f grid l l → told_on anew f (pass grid [] [] l).advices ≡ advices_anew anew (pass grid [] [] l).advices
+    quiet l k =
+        let P : Passed → Type 0 = λ p. told_on anew f p.advices ≡ advices_anew anew p.advices in
+        subst P (sym (pass_of f grid [] [] l k)) (told_pass grid anew f [] [] l refl)

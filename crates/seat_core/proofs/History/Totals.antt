@@ -1,0 +1,77 @@
+-- The seats held are those confirmed less those released.
+use Rattle.std.proofs.Common.{◌≡◌, ℕ, ◌+◌, ◌-◌, ◌≤◌, Bool, true, false, List, [], ◌∷◌, ◌++◌, length, Some, find, if◌then◌else◌, arith, refl, ap, sym, subst}
+use Rattle.std.proofs.lemmas.List.Sums.{sum_by_push}
+use Rattle.seat_nesting.specs.Nesting.{Legs}
+use Rattle.seat_core.specs.declared.booking.Booking.{Booking}
+use Rattle.seat_core.specs.declared.booking.Status.{Status}
+use Rattle.seat_core.specs.declared.booking.Status.TheVariants.{Held, Waiting}
+use Rattle.seat_journal.specs.declared.entry.Command.{Command}
+use Rattle.seat_journal.specs.declared.entry.Entry.{Entry}
+use Rattle.seat_core.specs.Bookings.{is_for, is_held, is_waiting}
+use Rattle.seat_core.specs.Sequential.{State, Outcome, answer, pass, reduced, booking_of, refused}
+use Rattle.seat_core.specs.Journal.{replay, next_line}
+use Rattle.seat_core.specs.Totals.{is_confirmation, advised, confirmed_by, released_by, totals_of, held_by, seats_held}
+use Rattle.seat_core.specs.Laws.{HeldSeatsAreTheTotals}
+use Rattle.seat_core.proofs.Step.Outcomes.{each_outcome, Refusal, code_of}
+use Rattle.seat_core.proofs.Step.Outcomes.Refusal.{No, Unable, Closed}
+use Rattle.seat_core.proofs.History.Lines.{replay_next}
+use Rattle.seat_core.proofs.History.Legal.{each_legal}
+use Rattle.seat_core.proofs.Passes.Weights.{pass_weighs, reduced_weighs}
+
+waiting_none : (b : Booking) (s : Status) → b.status ≡ s → is_waiting s ≡ true → held_by b ≡ 0
+waiting_none b Held e h = absurd cc
+waiting_none b Waiting e h = rw e refl
+
+-- a pass holds what it tells of
+pass_sums : (grid : Legs) (xs : List Booking) → seats_held (pass grid [] [] xs).bookings ≡ seats_held xs + advised (pass grid [] [] xs).advices
+pass_sums grid xs =
+    let h = pass_weighs held_by (λ a. a.seats) (λ b w. waiting_none b b.status refl w) (λ b. refl) grid [] xs [] in omega (arith, h)
+
+less_held : (t : Bool) (m n : ℕ) → n ≤ m → (if t then m - n else 0) + (if t then n else 0) ≡ (if t then m else 0)
+less_held true m n le = omega arith
+less_held false m n le = refl
+
+-- a cancellation gives up what it releases
+reduced_sums : (test : Booking → Bool) (n : ℕ) (xs : List Booking) (b : Booking) → find test xs ≡ Some b → n ≤ b.seats
+    → seats_held (reduced test n xs) + (if is_held b.status then n else 0) ≡ seats_held xs
+reduced_sums test n xs b found le =
+    reduced_weighs held_by (λ x. if is_held x.status then n else 0) test n
+    (λ x le'. less_held (is_held x.status) x.seats n le')
+    (λ x same. ap (λ (m : ℕ). if is_held x.status then m else 0) same)
+    xs b found le
+
+-- one step
+abbrev pub Balances : State → Command → Outcome → Type 0
+Balances s c o = seats_held o.state.bookings + o.released ≡ seats_held s.bookings + ((if is_confirmation o.reply then c.seats else 0) + advised o.advices)
+
+pub answer_balances : (s : State) (number : ℕ) (c : Command) → Balances s c (answer s number c)
+answer_balances s number c =
+    each_outcome (Balances s c) s number c refuses
+    (λ place at none fits. omega (arith, sum_by_push held_by s.bookings (booking_of number c place Held)))
+    (λ place at none over. omega (arith, sum_by_push held_by s.bookings (booking_of number c place Waiting)))
+    (λ place at none. omega (arith, sum_by_push held_by s.bookings (booking_of number c place Waiting), pass_sums s.grid (s.bookings ++ booking_of number c place Waiting ∷ [])))
+    (λ place b at found le. omega (
+      arith,
+      reduced_sums (is_for c.locator place c.class) c.seats s.bookings b found le,
+      pass_sums s.grid (reduced (is_for c.locator place c.class) c.seats s.bookings),
+    ))
+  where
+    refuses : (r : Refusal) → Balances s c (refused s (code_of r))
+    refuses No = omega arith
+    refuses Unable = omega arith
+    refuses Closed = omega arith
+
+abbrev pub IsBalanced : Legs → List Entry → Type 0
+IsBalanced grid journal = seats_held (replay grid journal).bookings + (totals_of journal).released ≡ (totals_of journal).confirmed
+
+balanced_next : (grid : Legs) (past : List Entry) (session call : ℕ) (c : Command) → IsBalanced grid past → IsBalanced grid (past ++ next_line grid past session call c ∷ [])
+balanced_next grid past session call c h =
+    let e : Entry = next_line grid past session call c in
+    let one = answer_balances (replay grid past) (length past + 1) c in
+    omega (arith, h, one, ap (λ (s : State). seats_held s.bookings) (replay_next grid past e), sum_by_push confirmed_by past e, sum_by_push released_by past e)
+
+pub held_seats_are_the_totals : HeldSeatsAreTheTotals
+held_seats_are_the_totals grid journal legal =
+    each_legal grid (IsBalanced grid)
+    (λ past e l next h. let P : Entry → Type 0 = λ x. IsBalanced grid (past ++ x ∷ []) in subst P (sym next.line) (balanced_next grid past e.session e.call e.command h))
+    [] journal refl legal

@@ -1,0 +1,3 @@
+-- What an inventory keeps.
+pub mod Commits
+pub mod Books
