@@ -283,7 +283,7 @@ fn gather_without_last<K: Hosting, R: Wait + Abort>(
     };
     match gather(rt, alloc, host, sessions) {
         Ok(_) => None,
-        Err((fault, host, mut others)) => {
+        Err((fault, unsettled, mut others)) => {
             assert!(rt; fault == GatherFault::Missing, "a session is missing");
             assert!(rt; others.push(last).is_ok(), "there was room for it");
             same(
@@ -292,7 +292,7 @@ fn gather_without_last<K: Hosting, R: Wait + Abort>(
                 opened as u64,
                 "the others come back",
             );
-            Some((host, others))
+            Some((unsettled.into_host(), others))
         }
     }
 }
@@ -305,13 +305,15 @@ fn gather_all<K: Hosting, R: Wait>(
     sessions: Vec<Session<K>>,
 ) -> Option<Settled> {
     let answer = match gather(rt, alloc, host, sessions) {
-        Err((GatherFault::Memory, host, sessions)) => gather(rt, alloc, host, sessions),
+        Err((GatherFault::Memory, unsettled, sessions)) => {
+            gather(rt, alloc, unsettled.into_host(), sessions)
+        }
         answer => answer,
     };
     match answer {
         Ok(settled) => Some(settled),
-        Err((_, host, _)) => {
-            host.end(rt);
+        Err((_, unsettled, _)) => {
+            unsettled.into_host().end(rt);
             None
         }
     }

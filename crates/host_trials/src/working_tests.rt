@@ -200,8 +200,8 @@ fn run<K: Hosting + Send + Sync, R: Threads + Wait + Sync, G: Gate>(
     let answer = run_sessions(rt, alloc, &host, sessions.as_mut_slice(), lists, gate);
     match gather(rt, alloc, host, sessions) {
         Ok(settled) => Some((answer, settled)),
-        Err((_, host, _)) => {
-            host.end(rt);
+        Err((_, unsettled, _)) => {
+            unsettled.into_host().end(rt);
             None
         }
     }

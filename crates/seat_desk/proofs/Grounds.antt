@@ -10,7 +10,7 @@ use Rattle.seat_nesting.specs.declared.limit_fault.LimitKind.TheVariants as limi
 use Rattle.seat_nesting.specs.declared.limit_row.LimitRow.{LimitRow}
 use Rattle.seat_nesting.proofs.Grids.{limit_text_ladders}
 use Rattle.seat_nesting.specs.Nesting.{Legs, HasLadders}
-use Rattle.seat_core.proofs.Replays.{replay_holds_within}
+use Rattle.seat_core.proofs.History.Replays.{replay_holds_within}
 use Rattle.seat_desk.specs.Laws.{LoadedLaddersDiffer, LoadedReplaysKeepLimits}
 use Rattle.seat_desk.specs.CheckDesk.{most_bytes}
 use Rattle.seat_desk.specs.FlightsDesk.{IsSchedule}

@@ -7,12 +7,18 @@ use native.Mathlib.Decide.{ℕ_discrete}
 use Rattle.seat_nesting.specs.Nesting.{Legs}
 use Rattle.seat_journal.specs.declared.entry.Command.{Command}
 use Rattle.seat_journal.specs.declared.entry.Entry.{Entry}
+use Rattle.logbook.specs.Pages.{Book}
+use Rattle.seat_core.specs.Inventory.{Inventory, HoldsWithinLimits}
 use Rattle.seat_core.specs.Prefixes.{Begins}
-use Rattle.seat_core.specs.Journal.{IsNext, IsLegal, calls_of, next_line}
+use Rattle.seat_core.specs.Journal.{IsNext, IsLegal}
 use Rattle.seat_core.proofs.History.Prefixes.{begins_trans, begins_whole, begins_length, begins_longer, begins_itself}
 use Rattle.seat_core.proofs.History.Legal.{legal_push, legal_nil}
 use Rattle.seat_host.specs.Histories.{of_session}
-use Rattle.seat_host.specs.Sessions.{IsTied, Stands, Booked, Waits, Seat}
+use Rattle.seat_display.specs.Faces.{Published}
+use Rattle.seat_host.specs.Lawful.{IsTied, Shows, LawfulUnderLock, AddsLine}
+use Rattle.seat_host.specs.Ledgers.{Staked, counted}
+use Rattle.seat_host.specs.Sessions.{Stands, Booked, Waits, Seat}
+use Rattle.seat_host.specs.Settling.{IsConfirmed}
 use Rattle.seat_host.proofs.Own.{own_append, own_prefix, own_length, own_one, own_other, calls_own}
 
 -- as many receipts as lines, in a front that the journal begins with: they are the lines
@@ -91,69 +97,113 @@ tied_push grid cap n books now journal e t next room le is =
       only = record { none = λ s more. there s (λ q. absurd (omega (arith, q, le, more))) ∙ t.only.none s more };
     }
 
--- what a call finds: the desk, the session, its receipts counted, and a front that the journal begins with
-pub record Meets (grid : Legs) (cap n : ℕ) (books : List ℕ) (journal : List Entry) (s : Seat) : Type 0 where
-  pub tied : IsTied grid cap n books journal
-  pub stands : Stands grid n s
-  pub same : length s.receipts ≡ slice_index books s.id
-  pub pre : Begins s.front journal
+-- a session whose receipts its book counts, and whose front begins the journal, is confirmed by the journal
+pub confirmed_by : (grid : Legs) (cap n : ℕ) (books : List ℕ) (journal : List Entry) (s : Seat) (stake : Staked) → IsTied grid cap n books journal → Stands grid n s → stake ≡ counted s.id (length s.receipts) → stake.amount ≡ slice_index books stake.number → Begins s.front journal → IsConfirmed n journal s
+confirmed_by grid cap n books journal s stake t stands staked counts pre =
+    let same : length s.receipts ≡ slice_index books s.id = sym (ap (λ (k : Staked). k.amount) staked) ∙ counts ∙ ap (λ (k : Staked). slice_index books k.number) staked in
+    let number : length s.receipts ≡ length (of_session s.id journal) = same ∙ t.counts s.id stands.number.0 (omega (arith, stands.number.1, stands.number.2)) in
+    record {
+      number = (stands.number.0, stands.number.1);
+      lines = own_all s.id s.receipts s.front journal stands.own pre number;
+      front = pre;
+    }
 
-pub meets_number : (grid : Legs) (cap n : ℕ) (books : List ℕ) (journal : List Entry) (s : Seat) → Meets grid cap n books journal s → length s.receipts ≡ length (of_session s.id journal)
-meets_number grid cap n books journal s m =
-    m.same ∙ m.tied.counts s.id m.stands.number.0 (omega (arith, m.stands.number.1, m.stands.number.2))
-
-pub few_receipts : (grid : Legs) (cap n : ℕ) (books : List ℕ) (journal : List Entry) (s : Seat) → Meets grid cap n books journal s → length s.receipts < 1000000
-few_receipts grid cap n books journal s m =
-    omega (arith, meets_number grid cap n books journal s m, own_length s.id journal, m.tied.capped, m.tied.small)
-
--- the receipts of a session are its lines in the journal
-pub receipts_are : (grid : Legs) (cap n : ℕ) (books : List ℕ) (journal : List Entry) (s : Seat) → Meets grid cap n books journal s → s.receipts ≡ of_session s.id journal
-receipts_are grid cap n books journal s m =
-    own_all s.id s.receipts s.front journal m.stands.own m.pre (meets_number grid cap n books journal s m)
-
--- the next call of a session is one more than its receipts
-pub call_is : (grid : Legs) (cap n : ℕ) (books : List ℕ) (journal : List Entry) (s : Seat) (call : ℕ) → Meets grid cap n books journal s → call ≡ length s.receipts + 1 → call ≡ calls_of journal s.id + 1
-call_is grid cap n books journal s call m is =
-    omega (arith, is, meets_number grid cap n books journal s m, calls_own journal s.id)
-
-abbrev pub with_receipt : Seat → Entry → List Entry → Seat
-with_receipt s e front = record { id = s.id; receipts = s.receipts ++ e ∷ []; front = front }
+abbrev pub with_line : Seat → List Entry → List Entry → Seat
+with_line s kept front = record { id = s.id; receipts = kept; front = front }
 
 -- what a booking leaves a session with
-pub record AfterBooking (grid : Legs) (n : ℕ) (journal : List Entry) (command : Command) (s : Seat) (e : Entry) (front : List Entry) : Type 0 where
-  pub is : front ≡ journal ++ e ∷ []
-  pub booked : Booked grid command s (with_receipt s e front)
-  pub stands : Stands grid n (with_receipt s e front)
+pub record AfterBooking (grid : Legs) (n : ℕ) (journal : List Entry) (command : Command) (s : Seat) (kept front : List Entry) : Type 0 where
+  pub is : front ≡ journal
+  pub len : length kept ≡ length s.receipts + 1
+  pub booked : Booked grid command s (with_line s kept front)
+  pub stands : Stands grid n (with_line s kept front)
 
-pub booking : (grid : Legs) (cap n : ℕ) (books : List ℕ) (journal : List Entry) (s : Seat) (e : Entry) (front : List Entry) (command : Command) (call : ℕ)
-    → Meets grid cap n books journal s → IsNext grid journal e → call ≡ length s.receipts + 1 → e ≡ next_line grid journal s.id call command
-    → Begins (journal ++ e ∷ []) front → (front ≡ s.front) ⊎ (front ≡ journal ++ e ∷ [])
-    → AfterBooking grid n journal command s e front
-booking grid cap n books journal s e front command call m next called line more longer =
-    let session : e.session ≡ s.id = ap (λ (x : Entry). x.session) line in
-    let is : front ≡ journal ++ e ∷ [] = front_is s.front front journal e m.pre more longer in
-    let mine = receipts_are grid cap n books journal s m in
-    let all : of_session s.id front ≡ s.receipts ++ e ∷ [] =
-    ap (of_session s.id) is ∙ own_append s.id journal (e ∷ []) ∙ (λ i. sym mine i ++ own_one s.id e session i) in
-    let legal : IsLegal grid front = subst (IsLegal grid) (sym is) (legal_push grid journal e m.tied.legal next) in
-    let before : Begins s.front front = subst (λ (l : List Entry). Begins s.front l) (sym is) (begins_trans s.front journal (journal ++ e ∷ []) m.pre (begins_longer journal (e ∷ []))) in
+pub booking : (grid : Legs) (cap n : ℕ) (core now : Inventory) (books : List ℕ) (s : Seat) (command : Command) (kept front : List Entry)
+    → core.grid ≡ grid → now.grid ≡ core.grid → IsTied grid cap n books core.journal → Stands grid n s → IsConfirmed n core.journal s → AddsLine core now s.id command s.receipts kept
+    → Begins now.journal front → (front ≡ s.front) ⊎ (front ≡ now.journal) → AfterBooking grid n now.journal command s kept front
+booking grid cap n core now books s command kept front over same t stands c a more longer =
+    let journal = core.journal in
+    let e = a.line in
+    let next : IsNext grid journal e = subst (λ (h : Legs). IsNext h journal e) over a.next in
+    let session : e.session ≡ s.id = ap (λ (x : Entry). x.session) a.is in
+    let more : Begins (journal ++ e ∷ []) front = subst (λ (l : List Entry). Begins l front) a.journal_is more in
+    let is : front ≡ journal ++ e ∷ [] = front_is s.front front journal e c.front more (⊎_elim (λ b. inl b) (λ b. inr (b ∙ a.journal_is)) longer) in
+    let all : of_session s.id front ≡ kept =
+    ap (of_session s.id) is ∙ own_append s.id journal (e ∷ []) ∙ (λ i. sym c.lines i ++ own_one s.id e session i) ∙ sym a.kept_is in
+    let legal : IsLegal grid front = subst (IsLegal grid) (sym is) (legal_push grid journal e t.legal next) in
+    let within : HoldsWithinLimits grid front =
+    subst (λ (x : Legs × List Entry). HoldsWithinLimits x.0 x.1) (λ i. ((same ∙ over) i, (a.journal_is ∙ sym is) i)) a.within in
+    let before : Begins s.front front = subst (λ (l : List Entry). Begins s.front l) (sym is) (begins_trans s.front journal (journal ++ e ∷ []) c.front (begins_longer journal (e ∷ []))) in
+    let len : length kept ≡ length s.receipts + 1 = omega (arith, ap length a.kept_is, length-append s.receipts (e ∷ [])) in
+    let few : length s.receipts ≤ 999999 = omega (arith, ap length c.lines, own_length s.id journal, t.capped, t.small) in
     record {
-      is = is;
+      is = is ∙ sym a.journal_is;
+      len = len;
       booked = record {
         line = e;
         session = session;
-        call = ap (λ (x : Entry). x.call) line ∙ called;
-        command_is = ap (λ (x : Entry). x.command) line;
+        call = ap (λ (x : Entry). x.call) a.is ∙ omega (arith, calls_own journal s.id, ap length c.lines);
+        command_is = ap (λ (x : Entry). x.command) a.is;
         id = refl;
-        receipts = refl;
+        receipts = a.kept_is;
         before = before;
         past = journal;
         last = is;
         own = all;
         legal = legal;
+        within = within;
       };
-      stands = record { number = m.stands.number; legal = legal; own = subst (λ (l : List Entry). Begins (s.receipts ++ e ∷ []) l) (sym all) (begins_itself (s.receipts ++ e ∷ [])); few = omega (arith, few_receipts grid cap n books journal s m, length-append s.receipts (e ∷ [])) };
+      stands = record { number = stands.number; legal = legal; own = subst (λ (l : List Entry). Begins kept l) (sym all) (begins_itself kept); few = omega (arith, few, len) };
     }
+
+-- the same of what a call finds and is told
+pub after_call : (grid : Legs) (cap : ℕ) (book : Book) (n : ℕ) (core now : Inventory) (books : List ℕ) (publisher shown : Published) (opened : ℕ) (s old : Seat) (command : Command) (kept front told : List Entry)
+    → LawfulUnderLock grid cap book n core books publisher opened → Stands grid n s → s ≡ old → IsConfirmed n publisher.visible old → AddsLine core now s.id command s.receipts kept → now.grid ≡ core.grid → Shows now shown
+    → told ≡ shown.visible → Begins told front → (front ≡ s.front) ⊎ (front ≡ told) → AfterBooking grid n now.journal command s kept front
+after_call grid cap book n core now books publisher shown opened s old command kept front told l stands is c a same shows tells more longer =
+    let all : told ≡ now.journal = tells ∙ shows.visible in
+    booking grid cap n core now books s command kept front l.grid_is same l.tied stands
+    (subst (λ (x : List Entry × Seat). IsConfirmed n x.0 x.1) (λ i. (l.shown.visible i, sym is i)) c) a
+    (subst (λ (x : List Entry). Begins x front) all more) (⊎_elim (λ b. inl b) (λ b. inr (b ∙ all)) longer)
+
+-- the line that comes next may be shown behind the others
+pub legal_shown : (core : Inventory) (publisher : Published) (e shown : Entry) → Shows core publisher → shown ≡ e → IsLegal core.grid core.journal → IsNext core.grid core.journal e → IsLegal publisher.grid ((publisher.visible ++ publisher.pending) ++ shown ∷ [])
+legal_shown core publisher e shown s is legal next =
+    let all : publisher.visible ++ publisher.pending ≡ core.journal = (λ i. s.visible i ++ s.pending i) ∙ append-nil core.journal in
+    subst (λ (x : Legs × (List Entry × Entry)). IsLegal x.0 (x.1.0 ++ x.1.1 ∷ [])) (λ i. (sym s.grid_is i, (sym all i, sym is i))) (legal_push core.grid core.journal e legal next)
+
+-- what holds under the lock holds with one line more
+pub lawful_push : (grid : Legs) (cap : ℕ) (book : Book) (n : ℕ) (core now : Inventory) (books audited more : List ℕ) (publisher shown : Published) (opened session many : ℕ) (stake : Staked) (command : Command) (receipts kept : List Entry)
+    → LawfulUnderLock grid cap book n core books publisher opened → AddsLine core now session command receipts kept → now.grid ≡ core.grid → now.cap ≡ core.cap → shown.book ≡ publisher.book → Shows now shown
+    → session ≤ n → audited ≡ books → stake ≡ counted session many → more ≡ slice_set audited stake.number (slice_index audited stake.number + 1) → LawfulUnderLock grid cap book n now more shown opened
+lawful_push grid cap book n core now books audited more publisher shown opened session many stake command receipts kept l a grid_same cap_same book_same shows le same staked added =
+    let e = a.line in
+    let mine : session ≡ e.session = sym (ap (λ (x : Entry). x.session) a.is) in
+    let number : stake.number ≡ e.session = ap (λ (k : Staked). k.number) staked ∙ mine in
+    let is : more ≡ slice_set books e.session (slice_index books e.session + 1) = added ∙ (λ i. slice_set (same i) (number i) (slice_index (same i) (number i) + 1)) in
+    let next : IsNext grid core.journal e = subst (λ (h : Legs). IsNext h core.journal e) l.grid_is a.next in
+    let tied = tied_push grid cap n books more core.journal e l.tied next (omega (arith, a.below, l.cap_is)) (omega (arith, le, mine)) is in
+    record {
+      grid_is = grid_same ∙ l.grid_is;
+      cap_is = cap_same ∙ l.cap_is;
+      opened_is = l.opened_is;
+      book_is = book_same ∙ l.book_is;
+      shown = shows;
+      tied = subst (λ (j : List Entry). IsTied grid cap n more j) (sym a.journal_is) tied;
+    }
+
+-- and where no line came
+pub lawful_same : (grid : Legs) (cap : ℕ) (book : Book) (n : ℕ) (core now : Inventory) (books : List ℕ) (publisher shown : Published) (opened : ℕ)
+    → LawfulUnderLock grid cap book n core books publisher opened → now.grid ≡ core.grid → now.cap ≡ core.cap → now.journal ≡ core.journal → shown.book ≡ publisher.book → Shows now shown
+    → LawfulUnderLock grid cap book n now books shown opened
+lawful_same grid cap book n core now books publisher shown opened l grid_same cap_same same book_same shows = record {
+  grid_is = grid_same ∙ l.grid_is;
+  cap_is = cap_same ∙ l.cap_is;
+  opened_is = l.opened_is;
+  book_is = book_same ∙ l.book_is;
+  shown = shows;
+  tied = subst (λ (j : List Entry). IsTied grid cap n books j) (sym same) l.tied;
+}
 
 -- a look keeps what a session stands for
 pub stands_longer : (grid : Legs) (n : ℕ) (s : Seat) (front : List Entry) → Stands grid n s → Begins s.front front → IsLegal grid front → Stands grid n (record { id = s.id; receipts = s.receipts; front = front })

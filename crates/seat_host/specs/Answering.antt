@@ -6,19 +6,20 @@ use Rattle.seat_journal.specs.declared.entry.Command.{Command}
 use Rattle.seat_journal.specs.declared.entry.Entry.{Entry}
 use Rattle.seat_host.specs.declared.desk.BookFault.{BookFault}
 use Rattle.seat_host.specs.declared.desk.BookFault.TheVariants.{JournalFull, Memory}
-use Rattle.seat_host.specs.Sessions.{Seat, Booked, Waits}
+use Rattle.seat_host.specs.Sessions.{Seat, Booked, Waits, HasLineLeft}
 
 -- the call gave one line more, and this is its receipt
 pub record Answers (grid : Legs) (command : Command) (s t : Seat) (receipt : Entry) : Type 0 where
   pub booked : Booked grid command s t
   pub last : t.receipts ≡ s.receipts ++ receipt ∷ []
 
--- the call gave no line: the journal is full, as the session has then seen, or a growth was refused, and nothing changed
-pub record Refuses (cap : ℕ) (s t : Seat) (fault : BookFault) : Type 0 where
+-- the call gave no line: the journal is full, as the session has then seen, or it is not and a growth was refused, and nothing changed
+pub record Refuses (grid : Legs) (cap : ℕ) (s t : Seat) (fault : BookFault) : Type 0 where
   pub waits : Waits s t
   pub full : fault ≡ JournalFull → cap ≤ length t.front
+  pub room : fault ≡ Memory → HasLineLeft grid cap s.front
   pub memory : fault ≡ Memory → t ≡ s
 
 -- what a call leaves
 abbrev pub Leaves : Legs → ℕ → Command → Seat → Result (Bor Entry) BookFault → Seat → Type 0
-Leaves grid cap command s result t = MatchResult result (λ receipt. Answers grid command s t receipt.now) (λ fault. Refuses cap s t fault)
+Leaves grid cap command s result t = MatchResult result (λ receipt. Answers grid command s t receipt.now) (λ fault. Refuses grid cap s t fault)

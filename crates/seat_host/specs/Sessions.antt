@@ -1,11 +1,12 @@
 -- What a session and the desk know.
-use Rattle.std.specs.Prelude.{◌≡◌, ℕ, zero, suc, ◌+◌, ◌<◌, ◌≤◌, List, [], ◌∷◌, ◌++◌, length, slice_index}
+use Rattle.std.specs.Prelude.{◌≡◌, ℕ, zero, suc, ◌+◌, ◌<◌, ◌≤◌, List, [], ◌∷◌, ◌++◌, length}
 use Rattle.seat_nesting.specs.Nesting.{Legs}
 use Rattle.seat_journal.specs.declared.entry.Command.{Command}
 use Rattle.seat_journal.specs.declared.entry.Entry.{Entry}
 use Rattle.seat_core.specs.Prefixes.{Begins}
+use Rattle.seat_core.specs.Inventory.{HoldsWithinLimits}
 use Rattle.seat_core.specs.Journal.{IsLegal}
-use Rattle.seat_host.specs.Histories.{of_session, OnlyFirst}
+use Rattle.seat_host.specs.Histories.{of_session}
 
 -- what contracts see of a session: its number, the lines that it was given, and what it has seen
 pub record Seat : Type 0 where
@@ -29,17 +30,7 @@ pub record Stands (grid : Legs) (n : ℕ) (s : Seat) : Type 0 where
   pub own : Begins s.receipts (of_session s.id s.front)
   pub few : length s.receipts ≤ 1000000
 
--- the journal beside the books of n sessions: each book counts its session's lines, and no others have any
-pub record IsTied (grid : Legs) (cap n : ℕ) (books : List ℕ) (journal : List Entry) : Type 0 where
-  pub wide : length books ≡ 9
-  pub few : n < 9
-  pub legal : IsLegal grid journal
-  pub capped : length journal ≤ cap
-  pub small : cap ≤ 999999
-  pub counts : (s : ℕ) → 0 < s → s < 9 → slice_index books s ≡ length (of_session s journal)
-  pub only : OnlyFirst n journal
-
--- the call gave one line more, of this session, its next call and this command. The session has then seen all lines so far, of which its receipts are its own, in order
+-- the call gave one line more, of this session, its next call and this command. The session has then seen all lines so far, of which its receipts are its own, in order, and after which no leg holds more than authorised
 pub record Booked (grid : Legs) (command : Command) (s t : Seat) : Type 0 where
   pub line : Entry
   pub session : line.session ≡ s.id
@@ -52,9 +43,17 @@ pub record Booked (grid : Legs) (command : Command) (s t : Seat) : Type 0 where
   pub last : t.front ≡ past ++ line ∷ []
   pub own : of_session t.id t.front ≡ t.receipts
   pub legal : IsLegal grid t.front
+  pub within : HoldsWithinLimits grid t.front
 
 -- nothing but the front may have grown
 pub record Waits (s t : Seat) : Type 0 where
   pub id : t.id ≡ s.id
   pub receipts : t.receipts ≡ s.receipts
   pub before : Begins s.front t.front
+
+-- the journal had a line left: it was a legal history of fewer than cap lines, and began with what the session had seen
+pub record HasLineLeft (grid : Legs) (cap : ℕ) (front : List Entry) : Type 0 where
+  pub journal : List Entry
+  pub legal : IsLegal grid journal
+  pub begins : Begins front journal
+  pub left : length journal < cap

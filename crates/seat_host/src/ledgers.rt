@@ -1,7 +1,7 @@
 //! One ledger for each session number, all named by one parameter.
 ghost use Rattle.std.specs.Prelude.{◌≡◌, ◌+◌, ◌-◌, ◌<◌, ◌≤◌, [], ◌∷◌, slice_index, slice_set, IfOk, IfSome, IsSome};
 ghost use Rattle.seat_host.specs.Ledgers.{counted};
-ghost use Rattle.seat_host.specs.Shares.{parts_of, staked};
+ghost use Rattle.seat_host.specs.Shares.{staked};
 
 use ssim_records::Memory;
 use std::alloc::Global;
@@ -74,16 +74,56 @@ impl<K: Hosting> Model for Books<K> {
     ghost view = { λ b. 0 ∷ b.one.total ∷ b.two.total ∷ b.three.total ∷ b.four.total ∷ b.five.total ∷ b.six.total ∷ b.seven.total ∷ b.eight.total ∷ [] };
 }
 
+/// A session's share of its ledger, which has every part of it. Contracts see its amount.
+#[derive(Drop)]
+pub struct Whole<K: Hosting, const N: u8> {
+    share: Share<Numbered<K, N>>,
+}
+
+impl<K: Hosting, const N: u8> Model for Whole<K, N> {
+    ghost use Rattle.std.specs.Prelude.{ℕ, ◌≡◌};
+
+    ghost Value = { ℕ };
+
+    ghost view = { λ w. w.share.amount };
+
+    ghost invariant = { λ w. w.share.parts ≡ 1 };
+}
+
+impl<K: Hosting, const N: u8> Whole<K, N> {
+    fn of(share: Share<Numbered<K, N>>) -> Whole<K, N>
+        requires { share.parts ≡ 1 }
+        ensures { result ≡ share.amount }
+    {
+        Whole { share }
+    }
+
+    // Changes nothing.
+    fn audit(&mut self, book: &mut Book<Numbered<K, N>>)
+        ensures same { (book.new.total ≡ book.old.total) × (self.new ≡ self.old) }
+        ensures whole { self.old ≡ book.old.total }
+    {
+        book.audit(&mut self.share);
+    }
+
+    // Counts one line more.
+    fn add(&mut self, book: &mut Book<Numbered<K, N>>)
+        ensures { (book.new.total ≡ book.old.total + 1) × (self.new ≡ self.old + 1) }
+    {
+        book.add(&mut self.share, 1);
+    }
+}
+
 #[derive(Drop)]
 pub enum AnyShare<K: Hosting> {
-    One(Share<Numbered<K, 1>>),
-    Two(Share<Numbered<K, 2>>),
-    Three(Share<Numbered<K, 3>>),
-    Four(Share<Numbered<K, 4>>),
-    Five(Share<Numbered<K, 5>>),
-    Six(Share<Numbered<K, 6>>),
-    Seven(Share<Numbered<K, 7>>),
-    Eight(Share<Numbered<K, 8>>),
+    One(Whole<K, 1>),
+    Two(Whole<K, 2>),
+    Three(Whole<K, 3>),
+    Four(Whole<K, 4>),
+    Five(Whole<K, 5>),
+    Six(Whole<K, 6>),
+    Seven(Whole<K, 7>),
+    Eight(Whole<K, 8>),
 }
 
 /// The one share of a session's ledger. Contracts see its number and its amount.
@@ -93,30 +133,12 @@ pub struct Stake<K: Hosting> {
 }
 
 impl<K: Hosting> Model for Stake<K> {
-    ghost use Rattle.std.specs.Prelude.{◌≡◌};
     ghost use Rattle.seat_host.specs.Ledgers.{Staked};
+    ghost use Rattle.seat_host.specs.Shares.{staked};
 
     ghost Value = { Staked };
 
-    ghost use Rattle.seat_host.specs.Shares.{staked, parts_of};
-
     ghost view = { λ s. staked s.share };
-
-    ghost invariant = { λ s. parts_of s.share ≡ 1 };
-}
-
-fn audit<L: Ledger>(book: &mut Book<L>, share: &mut Share<L>)
-    requires { share.old.parts ≡ L.parts }
-    ensures { (book.new.total ≡ book.old.total) × (share.new.amount ≡ share.old.amount) × (share.new.parts ≡ share.old.parts) × (share.old.amount ≡ book.old.total) }
-{
-    book.audit(share);
-}
-
-fn add<L: Ledger>(book: &mut Book<L>, share: &mut Share<L>)
-    requires { (share.old.parts ≡ L.parts) × (0 < L.parts) }
-    ensures { (book.new.total ≡ book.old.total + 1) × (share.new.amount ≡ share.old.amount + 1) × (share.new.parts ≡ share.old.parts) }
-{
-    book.add(share, 1);
 }
 
 impl<K: Hosting> Books<K> {
@@ -126,14 +148,14 @@ impl<K: Hosting> Books<K> {
         ensures whole { mine.old.amount ≡ slice_index self.old mine.old.number }
     {
         match &mut mine.share {
-            AnyShare::One(share) => audit(&mut self.one, share),
-            AnyShare::Two(share) => audit(&mut self.two, share),
-            AnyShare::Three(share) => audit(&mut self.three, share),
-            AnyShare::Four(share) => audit(&mut self.four, share),
-            AnyShare::Five(share) => audit(&mut self.five, share),
-            AnyShare::Six(share) => audit(&mut self.six, share),
-            AnyShare::Seven(share) => audit(&mut self.seven, share),
-            AnyShare::Eight(share) => audit(&mut self.eight, share),
+            AnyShare::One(share) => share.audit(&mut self.one),
+            AnyShare::Two(share) => share.audit(&mut self.two),
+            AnyShare::Three(share) => share.audit(&mut self.three),
+            AnyShare::Four(share) => share.audit(&mut self.four),
+            AnyShare::Five(share) => share.audit(&mut self.five),
+            AnyShare::Six(share) => share.audit(&mut self.six),
+            AnyShare::Seven(share) => share.audit(&mut self.seven),
+            AnyShare::Eight(share) => share.audit(&mut self.eight),
         }
     }
 
@@ -143,14 +165,14 @@ impl<K: Hosting> Books<K> {
         ensures total { self.new ≡ slice_set self.old mine.old.number (slice_index self.old mine.old.number + 1) }
     {
         match &mut mine.share {
-            AnyShare::One(share) => add(&mut self.one, share),
-            AnyShare::Two(share) => add(&mut self.two, share),
-            AnyShare::Three(share) => add(&mut self.three, share),
-            AnyShare::Four(share) => add(&mut self.four, share),
-            AnyShare::Five(share) => add(&mut self.five, share),
-            AnyShare::Six(share) => add(&mut self.six, share),
-            AnyShare::Seven(share) => add(&mut self.seven, share),
-            AnyShare::Eight(share) => add(&mut self.eight, share),
+            AnyShare::One(share) => share.add(&mut self.one),
+            AnyShare::Two(share) => share.add(&mut self.two),
+            AnyShare::Three(share) => share.add(&mut self.three),
+            AnyShare::Four(share) => share.add(&mut self.four),
+            AnyShare::Five(share) => share.add(&mut self.five),
+            AnyShare::Six(share) => share.add(&mut self.six),
+            AnyShare::Seven(share) => share.add(&mut self.seven),
+            AnyShare::Eight(share) => share.add(&mut self.eight),
         }
     }
 }
@@ -263,21 +285,20 @@ pub fn open_ledgers<K: Hosting>(
         eight,
     };
     let stakes = [
-        staked(AnyShare::Eight(share_eight)),
-        staked(AnyShare::Seven(share_seven)),
-        staked(AnyShare::Six(share_six)),
-        staked(AnyShare::Five(share_five)),
-        staked(AnyShare::Four(share_four)),
-        staked(AnyShare::Three(share_three)),
-        staked(AnyShare::Two(share_two)),
-        staked(AnyShare::One(share_one)),
+        staked(AnyShare::Eight(Whole::of(share_eight))),
+        staked(AnyShare::Seven(Whole::of(share_seven))),
+        staked(AnyShare::Six(Whole::of(share_six))),
+        staked(AnyShare::Five(Whole::of(share_five))),
+        staked(AnyShare::Four(Whole::of(share_four))),
+        staked(AnyShare::Three(Whole::of(share_three))),
+        staked(AnyShare::Two(Whole::of(share_two))),
+        staked(AnyShare::One(Whole::of(share_one))),
     ];
     let rest = Vec::from_array(alloc, stakes)?;
     Ok((books, Stakes { rest, next: 1 }))
 }
 
 fn staked<K: Hosting>(share: AnyShare<K>) -> Stake<K>
-    requires { parts_of share ≡ 1 }
     ensures { result ≡ staked share }
 {
     Stake { share }

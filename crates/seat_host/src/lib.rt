@@ -19,5 +19,5 @@ pub use host::Host;
 pub use ledgers::Hosting;
 pub use parts::{HostFault, Parts};
 pub use session::{Receipt, Session};
-pub use settling::{AllReceipts, GatherFault, Receipts, Settled, gather};
+pub use settling::{AllReceipts, GatherFault, Receipts, Settled, Unsettled, gather};
 pub use workers::{RunFault, run_sessions};

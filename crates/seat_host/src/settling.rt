@@ -12,6 +12,7 @@ use crate::ledgers::Hosting;
 use crate::session::{Receipt, Session};
 use seat_core::Totals;
 use seat_journal::Entries;
+use seat_nesting::Grid;
 use ssim_records::Memory;
 use std::alloc::Global;
 use std::marker::Model;
@@ -82,25 +83,52 @@ impl Receipts {
     }
 }
 
+/// A host that was not settled. Contracts see its journal. It is never dropped: `into_host` gives the host again.
+pub struct Unsettled<K: Hosting> {
+    grid: Grid,
+    desk: Desk<K>,
+}
+
+impl<K: Hosting> Model for Unsettled<K> {
+    ghost use Rattle.std.specs.Prelude.{◌≡◌, List};
+    ghost use Rattle.seat_journal.specs.declared.entry.Entry.{Entry};
+
+    ghost Value = { List Entry };
+
+    ghost view = { λ u. u.desk };
+
+    ghost invariant = { λ u. u.grid ≡ K.grid };
+}
+
+impl<K: Hosting> Unsettled<K> {
+    /// The host, with these lines.
+    pub fn into_host(self) -> Host<K> {
+        let Unsettled { grid, desk } = self;
+        Host::over(grid, desk)
+    }
+}
+
 /// Settles a host with all its sessions: each receipt is the journal's line of its call, and no line is left out.
+/// Where it refuses, all comes back as it was: the sessions, and a host whose journal confirms each of them.
 pub fn gather<K: Hosting, R: Wait>(
     rt: &R,
     alloc: Global,
     host: Host<K>,
     sessions: Vec<Session<K>>,
-) -> Result<Settled, (GatherFault, Host<K>, Vec<Session<K>>)>
+) -> Result<Settled, (GatherFault, Unsettled<K>, Vec<Session<K>>)>
     ensures headline { IfOk result (λ r. Headline K.grid K.cap K.sessions r.journal r.receipts r.totals) }
     ensures handed { IfOk result (λ r. AllByRecursion (IsConfirmed K.sessions r.journal) sessions.items) }
     ensures all { OnOk result (has_all K.sessions sessions.items ≡ true) }
     ensures missing { IfErr result (λ f. (f.0 ≡ Missing) ↔ (has_all K.sessions sessions.items ≡ false)) }
+    ensures kept { IfErr result (λ f. AllByRecursion (IsConfirmed K.sessions f.1) sessions.items) }
     ensures same { IfErr result (λ f. f.2.items ≡ sessions.items) }
 {
     let (grid, mut desk) = host.into_parts();
     if !are_all(sessions.as_slice(), desk.sessions()) {
-        return Err((GatherFault::Missing, Host::over(grid, desk), sessions));
+        return Err(refused(rt, GatherFault::Missing, grid, desk, sessions));
     }
     let Ok(slots) = empty_lists(alloc, desk.sessions()) else {
-        return Err((GatherFault::Memory, Host::over(grid, desk), sessions));
+        return Err(refused(rt, GatherFault::Memory, grid, desk, sessions));
     };
     let totals = desk.totals();
     let items = settle_all(rt, &mut desk, sessions, slots);
@@ -109,6 +137,36 @@ pub fn gather<K: Hosting, R: Wait>(
         totals,
         receipts: AllReceipts { items },
     })
+}
+
+// Hands all back, after the host has confirmed each session.
+fn refused<K: Hosting, R: Wait>(
+    rt: &R,
+    fault: GatherFault,
+    grid: Grid,
+    desk: Desk<K>,
+    sessions: Vec<Session<K>>,
+) -> (GatherFault, Unsettled<K>, Vec<Session<K>>)
+    requires { grid ≡ K.grid }
+    ensures fault { result.0 ≡ fault }
+    ensures kept { AllByRecursion (IsConfirmed K.sessions result.1) sessions.items }
+    ensures same { result.2.items ≡ sessions.items }
+{
+    let mut desk = desk;
+    let mut sessions = sessions;
+    confirm_all(rt, &mut desk, sessions.as_mut_slice());
+    (fault, Unsettled { grid, desk }, sessions)
+}
+
+fn confirm_all<K: Hosting, R: Wait>(rt: &R, desk: &mut Desk<K>, sessions: &mut [Session<K>])
+    ensures same { (desk.new ≡ desk.old) × (sessions.new ≡ sessions.old) }
+    ensures each { AllByRecursion (IsConfirmed K.sessions desk.old) sessions.old }
+{
+    let Some((session, others)) = sessions.split_first_mut() else {
+        return;
+    };
+    desk.confirm(rt, session);
+    confirm_all(rt, desk, others);
 }
 
 #[tactic(auto, using(crate::proofs::Gathered::up_more))]

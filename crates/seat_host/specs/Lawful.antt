@@ -1,0 +1,52 @@
+-- What holds of the inventory, the books and the publisher whenever the lock is free.
+use Rattle.std.specs.Prelude.{◌≡◌, ℕ, ◌+◌, ◌<◌, ◌≤◌, List, [], ◌∷◌, ◌++◌, length, slice_index}
+use Rattle.logbook.specs.Pages.{Book}
+use Rattle.seat_nesting.specs.Nesting.{Legs}
+use Rattle.seat_journal.specs.declared.entry.Command.{Command}
+use Rattle.seat_journal.specs.declared.entry.Entry.{Entry}
+use Rattle.seat_core.specs.Inventory.{Inventory, HoldsWithinLimits}
+use Rattle.seat_core.specs.Journal.{IsLegal, IsNext, calls_of, next_line}
+use Rattle.seat_display.specs.Faces.{Published}
+use Rattle.seat_host.specs.Histories.{of_session, OnlyFirst}
+
+-- the journal beside the books of n sessions
+pub record IsTied (grid : Legs) (cap n : ℕ) (books : List ℕ) (journal : List Entry) : Type 0 where
+  -- there are at most 8 sessions, and a book at each number up to 8
+  pub wide : length books ≡ 9
+  pub few : n < 9
+  -- the journal is a legal history over the limits, of at most cap lines
+  pub legal : IsLegal grid journal
+  pub capped : length journal ≤ cap
+  pub small : cap ≤ 999999
+  -- each book counts its session's lines
+  pub counts : (s : ℕ) → 0 < s → s < 9 → slice_index books s ≡ length (of_session s journal)
+  -- no session but the first n has any
+  pub only : OnlyFirst n journal
+
+-- what viewers find is the journal, over the same limits, and nothing is pending
+pub record Shows (core : Inventory) (publisher : Published) : Type 0 where
+  pub grid_is : publisher.grid ≡ core.grid
+  pub visible : publisher.visible ≡ core.journal
+  pub pending : publisher.pending ≡ []
+
+pub record LawfulUnderLock (grid : Legs) (cap : ℕ) (book : Book) (n : ℕ) (core : Inventory) (books : List ℕ) (publisher : Published) (opened : ℕ) : Type 0 where
+  -- the inventory is over the host's limits, and takes cap lines
+  pub grid_is : core.grid ≡ grid
+  pub cap_is : core.cap ≡ cap
+  -- the host's number of sessions was opened
+  pub opened_is : opened ≡ n
+  -- the display is the host's, and what it shows is the journal
+  pub book_is : publisher.book ≡ book
+  pub shown : Shows core publisher
+  -- the journal is legal, and each book counts its session's lines
+  pub tied : IsTied grid cap n books core.journal
+
+-- the inventory took one line more, the next one of this session with this command, and its receipt was kept
+pub record AddsLine (old new : Inventory) (session : ℕ) (command : Command) (receipts kept : List Entry) : Type 0 where
+  pub line : Entry
+  pub is : line ≡ next_line old.grid old.journal session (calls_of old.journal session + 1) command
+  pub next : IsNext old.grid old.journal line
+  pub below : length old.journal < old.cap
+  pub journal_is : new.journal ≡ old.journal ++ line ∷ []
+  pub within : HoldsWithinLimits new.grid new.journal
+  pub kept_is : kept ≡ receipts ++ line ∷ []
