@@ -5,3 +5,5 @@ mod Serving
 mod Reading
 mod Gathering
 mod Written
+mod Lengths
+mod Audits

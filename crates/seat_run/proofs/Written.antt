@@ -1,10 +1,11 @@
 -- What a run writes is the text of its history.
 use Rattle.std.proofs.Common.{◌≡◌, ℕ, List, Option, Some, None, IfSome, IfErr, OnOk, OnErr, Result, Ok, Err, ⊎_elim, inl, inr, map, refl, subst}
 use Rattle.std.specs.Io.KnownBytes.{Appends}
+use Rattle.std.specs.List.{AllByRecursion}
 use Rattle.ssim_records.specs.Noting.{TookFront}
 use Rattle.airimp_lines.specs.declared.requests.Request.{Request}
 use Rattle.ssim_flights.specs.declared.flight.Flight.{Flight as Flown}
-use Rattle.seat_journal.specs.Text.{journal_text}
+use Rattle.seat_journal.specs.Text.{IsEntry, journal_text}
 use Rattle.seat_journal.specs.declared.entry.Entry.{Entry}
 use Rattle.seat_nesting.specs.Nesting.{Legs}
 use Rattle.seat_desk.specs.Loading.{IsLoaded}
@@ -18,6 +19,7 @@ use Rattle.seat_desk.specs.Desk.{IsOfInput}
 pub record IsBooked (today : ℕ) (texts : List (Option (List ℕ))) (flights : List Flown) (grid : Legs) (scripts : List (List Request)) (history : List Entry) (replies : List ℕ) : Type 0 where
   pub are_scripts : AreScripts today texts scripts
   pub is_history : IsHistoryOf grid (map (commands_of flights) scripts) history
+  pub are_entries : AllByRecursion IsEntry history
   pub are_replies : AreReplies scripts history replies
 
 module _ (first days today : ℕ) (texts : List (Option (List ℕ))) (flights : List Flown) (grid : Legs) (scripts : List (List Request)) (history : List Entry) (replies : List ℕ)
@@ -31,6 +33,7 @@ module _ (first days today : ℕ) (texts : List (Option (List ℕ))) (flights : 
     is_loaded = loaded;
     are_scripts = booked.are_scripts;
     is_history = booked.is_history;
+    are_entries = booked.are_entries;
     journal_is = refl;
     are_replies = booked.are_replies;
   }

@@ -1,3 +1,4 @@
 pub mod Answering
+pub mod Audits
 pub mod Requests
 pub mod RunDesk

@@ -1,12 +1,13 @@
 -- What `run` writes: the journal of what the scripts ask, and the replies to each script.
 use Rattle.std.specs.Prelude.{◌≡◌, ◌≤◌, ◌-◌, ◌⊎◌, ℕ, List, [], ◌∷◌, ◌++◌, length, map, decimal, codes, Option, Some, None, slice_get}
 use Rattle.std.specs.Io.KnownBytes.{Appends}
+use Rattle.std.specs.List.{AllByRecursion}
 use Rattle.ssim_flights.specs.declared.flight.Flight.{Flight as Flown}
 use Rattle.ssim_records.specs.Noting.{TookFront}
 use Rattle.seat_nesting.specs.Nesting.{Legs}
 use Rattle.airimp_lines.specs.Grammar.{IsPlainLine, reply_of}
 use Rattle.airimp_lines.specs.declared.requests.Request.{Request}
-use Rattle.seat_journal.specs.Text.{journal_text}
+use Rattle.seat_journal.specs.Text.{IsEntry, journal_text}
 use Rattle.seat_journal.specs.declared.entry.Advice.{Advice}
 use Rattle.seat_journal.specs.declared.entry.Command.{Command}
 use Rattle.seat_journal.specs.declared.entry.Entry.{Entry}
@@ -99,6 +100,7 @@ pub record IsRun (set limits : List ℕ) (first days today : ℕ) (texts : List 
   pub is_loaded : IsLoaded set limits first days flights grid
   pub are_scripts : AreScripts today texts scripts
   pub is_history : IsHistoryOf grid (map (commands_of flights) scripts) history
+  pub are_entries : AllByRecursion IsEntry history
   pub journal_is : journal ≡ journal_text history
   pub are_replies : AreReplies scripts history replies
 

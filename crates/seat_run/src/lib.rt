@@ -3,8 +3,11 @@
 #![tactic(auto)]
 
 mod commands;
+mod laws;
+mod readable;
 mod replies;
 mod run;
 mod scripts;
 
+pub use laws::runs_are_audited;
 pub use run::desk_run;
