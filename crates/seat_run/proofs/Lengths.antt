@@ -17,8 +17,8 @@ use Rattle.seat_core.specs.Sequential.{State, Outcome, answer, pass, may_confirm
 use Rattle.seat_core.specs.Journal.{replay, IsLegal, IsNext}
 use Rattle.seat_desk.specs.AuditDesk.{most_journal_bytes, most_lines}
 use Rattle.seat_core.proofs.Histories.{replay_next}
-use Rattle.seat_core.proofs.Legal.{each_legal}
-use Rattle.seat_core.proofs.Outcomes.{each_outcome}
+use Rattle.seat_core.proofs.History.Legal.{each_legal}
+use Rattle.seat_core.proofs.Step.Outcomes.{each_outcome}
 
 -- ---- a line makes at most one waiting booking, and an advice ends one
 
