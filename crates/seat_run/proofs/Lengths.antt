@@ -16,7 +16,7 @@ use Rattle.seat_core.specs.Bookings.{is_for, is_waiting}
 use Rattle.seat_core.specs.Sequential.{State, Outcome, answer, pass, may_confirm, confirmed, advice_of, reduced, booking_of}
 use Rattle.seat_core.specs.Journal.{replay, IsLegal, IsNext}
 use Rattle.seat_desk.specs.AuditDesk.{most_journal_bytes, most_lines}
-use Rattle.seat_core.proofs.Histories.{replay_next}
+use Rattle.seat_core.proofs.History.Lines.{replay_next}
 use Rattle.seat_core.proofs.History.Legal.{each_legal}
 use Rattle.seat_core.proofs.Step.Outcomes.{each_outcome}
 
