@@ -38,6 +38,8 @@ pub enum DeskFault {
     BadToday,
     /// There are more scripts than sessions.
     TooManyScripts,
+    /// A word of the command line is not UTF-8.
+    BadWords,
     /// An input has more bytes than it may have.
     TooLarge,
     /// A device failed.
@@ -63,6 +65,7 @@ impl fmt::Display for DeskFault {
             DeskFault::BadDays => f.write_str("E2 days"),
             DeskFault::BadToday => f.write_str("E2 today"),
             DeskFault::TooManyScripts => f.write_str("E2 script"),
+            DeskFault::BadWords => f.write_str("E2 words"),
             DeskFault::TooLarge => f.write_str("R2"),
             DeskFault::Device => f.write_str("DEVICE"),
             DeskFault::Memory => f.write_str("MEMORY"),
@@ -90,7 +93,8 @@ impl DeskFault {
             DeskFault::BadFirst
             | DeskFault::BadDays
             | DeskFault::BadToday
-            | DeskFault::TooManyScripts => 2,
+            | DeskFault::TooManyScripts
+            | DeskFault::BadWords => 2,
             DeskFault::Device | DeskFault::Memory => 3,
             _ => 1,
         }

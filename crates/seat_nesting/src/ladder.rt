@@ -2,7 +2,7 @@ ghost use Rattle.std.specs.Prelude.{◌≡◌, ◌≤◌, ◌↔◌, IfNone, IfO
 ghost use Rattle.std.specs.Bool.{OnFalse};
 ghost use Rattle.std.specs.Result.{result_err};
 ghost use Rattle.seat_nesting.specs.Nesting.{IsLadder, HasLetters, has_class};
-ghost use Rattle.seat_nesting.specs.Ladders.{ladder_fault, repeats_class, is_rising, is_too_large};
+ghost use Rattle.seat_nesting.specs.Ladders.{ladder_fault, repeats_class, is_below_next, is_rising, is_too_large};
 
 use arrayvec::ArrayVec;
 use ssim_records::Class;
@@ -171,14 +171,22 @@ fn is_rising(steps: &[Step]) -> bool
 {
     let mut rest = steps;
     while let [step, lower @ ..] = rest {
-        if let [next, ..] = lower
-            && step.limit < next.limit
-        {
+        if is_below_next(step.limit, lower) {
             return true;
         }
         rest = lower;
     }
     false
+}
+
+/// Whether a limit is below that of the next lower rank.
+fn is_below_next(limit: u16, lower: &[Step]) -> bool
+    ensures { result ≡ is_below_next limit lower.now }
+{
+    match lower {
+        [next, ..] => limit < next.limit,
+        [] => false,
+    }
 }
 
 fn is_too_large(steps: &[Step]) -> bool

@@ -24,11 +24,20 @@ const MOST_SCRIPTS: usize = 8;
 fn main(rt: HostRuntime) -> ExitCode {
     match start(&rt, &rt) {
         Ok(status) => status,
-        Err(_) => ended(&rt, Err(DeskFault::Memory)),
+        Err(error) => ended(&rt, Err(unread(&error))),
     }
 }
 
-/// Runs the command that the words name, with threads where it has sessions. An error is want of memory for the words.
+/// Why the words are not read: one of them is not UTF-8, or a growth was refused.
+fn unread(error: &io::Error) -> DeskFault {
+    if error.kind() == io::ErrorKind::InvalidData {
+        DeskFault::BadWords
+    } else {
+        DeskFault::Memory
+    }
+}
+
+/// Runs the command that the words name, with threads where it has sessions. An error is one of the words themselves.
 fn start<T: Threads + Wait + Sync>(rt: &HostRuntime, threads: &T) -> io::Result<ExitCode> {
     let given: Vec<String> = std::env::args(rt)?.collect(rt.alloc())?;
     let mut words = Vec::new(rt.alloc());
@@ -47,22 +56,9 @@ fn carry_out<T: Threads + Wait + Sync>(
     job: &Job<'_>,
 ) -> Result<(), DeskFault> {
     match job {
-        Job::Ladder => {
-            let mut input = Counted::new(rt.stdin());
-            let mut out = Counted::new(rt.stdout());
-            desk_ladder(rt.alloc(), &mut input, &mut out)
-        }
-        Job::Check { set } => {
-            let mut set = opened(rt, set)?;
-            let mut out = Counted::new(rt.stdout());
-            desk_check(rt.alloc(), &mut set, &mut out)
-        }
-        Job::Flights { set, first, days } => {
-            let (first, days) = horizon(first, days)?;
-            let mut set = opened(rt, set)?;
-            let mut out = Counted::new(rt.stdout());
-            desk_flights(rt.alloc(), &mut set, first, days, &mut out)
-        }
+        Job::Ladder => ladder(rt),
+        Job::Check { set } => check(rt, set),
+        Job::Flights { set, first, days } => flights(rt, set, first, days),
         Job::Audit {
             set,
             limits,
@@ -82,6 +78,25 @@ fn carry_out<T: Threads + Wait + Sync>(
             rt, threads, set, limits, first, days, today, journal, scripts,
         ),
     }
+}
+
+fn ladder(rt: &HostRuntime) -> Result<(), DeskFault> {
+    let mut input = Counted::new(rt.stdin());
+    let mut out = Counted::new(rt.stdout());
+    desk_ladder(rt.alloc(), &mut input, &mut out)
+}
+
+fn check(rt: &HostRuntime, set: &str) -> Result<(), DeskFault> {
+    let mut set = opened(rt, set)?;
+    let mut out = Counted::new(rt.stdout());
+    desk_check(rt.alloc(), &mut set, &mut out)
+}
+
+fn flights(rt: &HostRuntime, set: &str, first: &str, days: &str) -> Result<(), DeskFault> {
+    let (first, days) = horizon(first, days)?;
+    let mut set = opened(rt, set)?;
+    let mut out = Counted::new(rt.stdout());
+    desk_flights(rt.alloc(), &mut set, first, days, &mut out)
 }
 
 fn audit(
