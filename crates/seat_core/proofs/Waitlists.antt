@@ -1,5 +1,5 @@
 -- Waiting lists, and what waits for each place and class.
-pub mod Parties
+pub mod Demands
 pub mod Index
 pub mod Departures
 pub mod Room

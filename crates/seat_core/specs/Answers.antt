@@ -4,7 +4,7 @@ use Rattle.std.specs.List.{AllByRecursion}
 use Rattle.seat_nesting.specs.Nesting.{Legs, has_class, ladder_at}
 use Rattle.seat_nesting.specs.Counting.{Counted, limits_of, seats_of}
 use Rattle.seat_core.specs.declared.booking.Booking.{Booking}
-use Rattle.seat_core.specs.declared.books.Book.{Book}
+use Rattle.seat_core.specs.declared.books.FlightBook.{FlightBook}
 use Rattle.seat_core.specs.declared.reply.Answer.{Answer}
 use Rattle.seat_journal.specs.declared.entry.Advice.{Advice}
 use Rattle.seat_core.specs.Bookings.{held}
@@ -17,7 +17,7 @@ abbrev pub Lacks : Legs → List Booking → Type 0
 Lacks grid bookings = (flight leg class : ℕ) → has_class (ladder_at grid flight leg) class ≡ false → held bookings flight leg class ≡ 0
 
 -- the bookings of a flight: the counters hold what they hold, none of those that wait fits, and the waiting list is theirs
-pub record IsFlight (counts : Counted) (books : List Book) (flight : ℕ) : Type 0 where
+pub record IsFlight (counts : Counted) (books : List FlightBook) (flight : ℕ) : Type 0 where
   pub few : length (book_at books flight) ≤ 999999
   pub quiet : NoneFits (limits_of counts) (book_at books flight)
   pub queue : queue_at books flight ≡ queue_of (book_at books flight)

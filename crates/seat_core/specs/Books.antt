@@ -5,7 +5,7 @@ use Rattle.seat_nesting.specs.Nesting.{Legs}
 use Rattle.seat_nesting.specs.Counting.{Counted, limits_of, seats_of}
 use Rattle.seat_journal.specs.declared.entry.Entry.{Entry}
 use Rattle.seat_core.specs.declared.booking.Booking.{Booking}
-use Rattle.seat_core.specs.declared.books.Book.{Book}
+use Rattle.seat_core.specs.declared.books.FlightBook.{FlightBook}
 use Rattle.seat_core.specs.Bookings.{held}
 use Rattle.seat_core.specs.Journal.{replay, calls_of}
 use Rattle.seat_core.specs.Flights.{bookings_on, queue_on, is_on}
@@ -13,55 +13,55 @@ use Rattle.seat_core.specs.Queues.{queue_of}
 use Rattle.seat_core.specs.Applying.{applied}
 use Rattle.seat_core.specs.Inventory.{IsLawful}
 
-abbrev pub bookings_in : Option Book → List Booking
+abbrev pub bookings_in : Option FlightBook → List Booking
 bookings_in None = []
 bookings_in (Some book) = book.bookings.items
 
 -- the bookings of a flight; none where it has no book yet
-abbrev pub book_at : List Book → ℕ → List Booking
+abbrev pub book_at : List FlightBook → ℕ → List Booking
 book_at books flight = bookings_in (slice_get books flight)
 
-abbrev pub queue_in : Option Book → List Booking
+abbrev pub queue_in : Option FlightBook → List Booking
 queue_in None = []
 queue_in (Some book) = book.queue.bookings
 
 -- the waiting list of a flight
-abbrev pub queue_at : List Book → ℕ → List Booking
+abbrev pub queue_at : List FlightBook → ℕ → List Booking
 queue_at books flight = queue_in (slice_get books flight)
 
 -- those of a place's flight; no place has none
-abbrev pub book_for : List Book → Option Place → List Booking
+abbrev pub book_for : List FlightBook → Option Place → List Booking
 book_for books None = []
 book_for books (Some place) = book_at books place.flight
 
 -- there is memory for one more booking in it, held or waiting
-abbrev pub spare_of : Book → Bool
+abbrev pub spare_of : FlightBook → Bool
 spare_of book = nat_lt (vec_len book.bookings) (vec_capacity book.bookings) && book.queue.spare
 
-abbrev pub has_spare_in : Option Book → Bool
+abbrev pub has_spare_in : Option FlightBook → Bool
 has_spare_in None = false
 has_spare_in (Some book) = spare_of book
 
 -- there is memory for one more booking on the place's flight; no place needs none
-abbrev pub has_spare : List Book → Option Place → Bool
+abbrev pub has_spare : List FlightBook → Option Place → Bool
 has_spare books None = true
 has_spare books (Some place) = has_spare_in (slice_get books place.flight)
 
 -- each flight has the same bookings and waiting list
-pub record SameBooks (old new : List Book) : Type 0 where
+pub record SameBooks (old new : List FlightBook) : Type 0 where
   pub each : (flight : ℕ) → book_at new flight ≡ book_at old flight
   pub queues : (flight : ℕ) → queue_at new flight ≡ queue_at old flight
 
 -- each waiting list is that of its flight's bookings
-pub record IsQueued (books : List Book) : Type 0 where
+pub record IsQueued (books : List FlightBook) : Type 0 where
   pub each : (flight : ℕ) → queue_at books flight ≡ queue_of (book_at books flight)
 
 -- the entry was applied to the book of its flight, and to no other
-pub record IsEntered (old new : List Book) (e : Entry) : Type 0 where
+pub record IsEntered (old new : List FlightBook) (e : Entry) : Type 0 where
   pub each : (flight : ℕ) → book_at new flight ≡ (if is_on flight e.command.place then applied (book_at old flight) e else book_at old flight)
 
 -- the books and the waiting lists are those of the replay, flight by flight; each session's calls are counted, sessions 1 to 8; and each counter, over the limits now, is what the replay holds
-pub record IsKept (opening now : Legs) (cap : ℕ) (journal : List Entry) (books : List Book) (calls : List ℕ) (counts : Counted) : Type 0 where
+pub record IsKept (opening now : Legs) (cap : ℕ) (journal : List Entry) (books : List FlightBook) (calls : List ℕ) (counts : Counted) : Type 0 where
   pub lawful : IsLawful opening now cap journal (replay opening journal).bookings
   pub by_flight : (flight : ℕ) → book_at books flight ≡ bookings_on flight (replay opening journal).bookings
   pub by_queue : (flight : ℕ) → queue_at books flight ≡ queue_on flight (replay opening journal).bookings

@@ -14,7 +14,7 @@ pub mod Tables
 pub mod Applying
 pub mod Flights
 pub mod Queues
-pub mod Parties
+pub mod Demands
 pub mod Books
 pub mod Laws
 pub mod Showing

@@ -8,11 +8,11 @@ use Rattle.seat_core.specs.declared.booking.Status.{Status}
 use Rattle.seat_core.specs.declared.booking.Status.TheVariants.{Held, Waiting}
 use Rattle.seat_journal.specs.declared.entry.Advice.{Advice}
 use Rattle.seat_journal.specs.declared.entry.Command.{Command}
-use Rattle.seat_core.specs.declared.request.Request.{Request}
-use Rattle.seat_core.specs.declared.request.Request.TheVariants.{Seats, Cancel, Other}
-use Rattle.seat_core.specs.declared.request.Wish.{Wish}
-use Rattle.seat_core.specs.declared.request.Wish.TheVariants.{Need, Sell, Waitlist}
-use Rattle.seat_core.specs.Codes.{request_of}
+use Rattle.seat_core.specs.declared.action.Action.{Action}
+use Rattle.seat_core.specs.declared.action.Action.TheVariants.{Seats, Cancel, Other}
+use Rattle.seat_core.specs.declared.action.Wish.{Wish}
+use Rattle.seat_core.specs.declared.action.Wish.TheVariants.{Need, Sell, Waitlist}
+use Rattle.seat_core.specs.Codes.{action_of}
 use Rattle.seat_core.specs.Bookings.{is_for, is_held, is_waiting, held, waiting}
 
 -- what a journal leaves: the limits, and the live bookings in order of number
@@ -122,7 +122,7 @@ cancel s c place (Some b) =
 abbrev pub booking_for : State → Command → Place → Option Booking
 booking_for s c place = find (is_for c.locator place c.class) s.bookings
 
-abbrev pub answer_to : Request → Option Place → State → ℕ → Command → Outcome
+abbrev pub answer_to : Action → Option Place → State → ℕ → Command → Outcome
 answer_to Other place s number c = refused s (codes "NO")
 answer_to (Seats wish) None s number c = refused s (codes "UN")
 answer_to (Seats wish) (Some place) s number c = want wish s number c place (booking_for s c place)
@@ -131,4 +131,4 @@ answer_to Cancel (Some place) s number c = cancel s c place (booking_for s c pla
 
 -- the sequential step: the answer to a command as line `number`
 abbrev pub answer : State → ℕ → Command → Outcome
-answer s number c = answer_to (request_of c.code) c.place s number c
+answer s number c = answer_to (action_of c.code) c.place s number c

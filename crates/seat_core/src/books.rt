@@ -11,12 +11,12 @@ use std::alloc::Global;
 
 /// The bookings of one flight, and those of them that wait, each in order of number.
 #[derive(Drop)]
-pub struct Book {
+pub struct FlightBook {
     bookings: Vec<Booking>,
     queue: WaitingList,
 }
 
-impl Book {
+impl FlightBook {
     #[tactic(auto, using(crate::proofs::Waitlists::Queue::spare_both))]
     // Makes the memory for one more booking.
     fn reserve(&mut self) -> Result<(), Memory>
@@ -30,7 +30,7 @@ impl Book {
 }
 
 /// The bookings of a flight.
-pub fn book_of(books: &[Book], flight: u32) -> &[Booking]
+pub fn book_at(books: &[FlightBook], flight: u32) -> &[Booking]
     ensures { result.now ≡ book_at books.now flight }
 {
     match books.get(flight as usize) {
@@ -40,7 +40,7 @@ pub fn book_of(books: &[Book], flight: u32) -> &[Booking]
 }
 
 /// The waiting list of a flight; none where it has no book yet.
-pub fn queue_on(books: &[Book], flight: u32) -> Option<&WaitingList>
+pub fn queue_at(books: &[FlightBook], flight: u32) -> Option<&WaitingList>
     ensures some { IfSome result (λ queue. queue.now.bookings ≡ queue_at books.now flight) }
     ensures none { IfNone result (queue_at books.now flight ≡ []) }
 {
@@ -53,7 +53,7 @@ pub fn queue_on(books: &[Book], flight: u32) -> Option<&WaitingList>
 /// Makes the memory for one more booking on the flight of a place.
 pub fn reserve_place(
     alloc: Global,
-    books: &mut Vec<Book>,
+    books: &mut Vec<FlightBook>,
     place: Option<Place>,
 ) -> Result<(), Memory>
     ensures same { SameBooks books.old.items books.new.items }
@@ -66,7 +66,7 @@ pub fn reserve_place(
 }
 
 // Makes the memory for one more booking on a flight.
-fn reserve_booking(alloc: Global, books: &mut Vec<Book>, flight: u32) -> Result<(), Memory>
+fn reserve_booking(alloc: Global, books: &mut Vec<FlightBook>, flight: u32) -> Result<(), Memory>
     ensures same { SameBooks books.old.items books.new.items }
     ensures ok { OnOk result (has_spare_in (slice_get books.new.items flight) ≡ true) }
 {
@@ -76,7 +76,7 @@ fn reserve_booking(alloc: Global, books: &mut Vec<Book>, flight: u32) -> Result<
 
 #[tactic(auto, using(crate::proofs::Waitlists::Queue::spare_booking, crate::proofs::Waitlists::Queue::spare_waiting))]
 /// Does what an entry tells to the book of its flight, which has room for one more.
-pub fn enter(books: &mut Vec<Book>, entry: &Entry)
+pub fn enter(books: &mut Vec<FlightBook>, entry: &Entry)
     requires spare { has_spare books.old.items entry.now.command.place ≡ true }
     requires queued { IsQueued books.old.items }
     ensures entered { IsEntered books.old.items books.new.items entry.now }
@@ -90,7 +90,7 @@ pub fn enter(books: &mut Vec<Book>, entry: &Entry)
 }
 
 // Sees to it that a flight has a book.
-fn open_books(alloc: Global, books: &mut Vec<Book>, flight: u32) -> Result<(), Memory>
+fn open_books(alloc: Global, books: &mut Vec<FlightBook>, flight: u32) -> Result<(), Memory>
     ensures same { SameBooks books.old.items books.new.items }
     ensures ok { OnOk result (flight < vec_len books.new) }
 {
@@ -101,11 +101,11 @@ fn open_books(alloc: Global, books: &mut Vec<Book>, flight: u32) -> Result<(), M
 }
 
 // One book more, without bookings.
-fn open_book(alloc: Global, books: &mut Vec<Book>) -> Result<(), Memory>
+fn open_book(alloc: Global, books: &mut Vec<FlightBook>) -> Result<(), Memory>
     ensures same { SameBooks books.old.items books.new.items }
     ensures ok { OnOk result (vec_len books.new ≡ vec_len books.old + 1) }
 {
-    books.push(Book {
+    books.push(FlightBook {
         bookings: Vec::new(alloc),
         queue: WaitingList::new(alloc),
     })?;

@@ -2,24 +2,25 @@
 //! It knows bookings, waiting lists and legal histories, and nothing of threads, of texts or of where commands come from.
 #![tactic(auto)]
 
+mod action;
 mod booking;
 mod bookings;
 mod books;
+mod demands;
 mod effect;
 mod fault;
 mod inventory;
 mod laws;
 mod one_flight;
-mod parties;
 mod pass;
 mod replaying;
 mod reply;
-mod request;
 mod rooms;
 mod showing;
 mod totals;
 mod waiting_list;
 
+pub use action::{Action, Wish};
 pub use booking::{Booking, Status};
 pub use effect::Effect;
 pub use fault::{CoreFault, ReplayFault, ReplayKind};
@@ -34,7 +35,6 @@ pub use one_flight::{
     pass_of_flight, room_of_flight,
 };
 pub use replaying::replay;
-pub use request::{Request, Wish};
 pub use seat_journal::{Advice, Advices, Command, Entry};
 pub use showing::show;
 pub use totals::Totals;

@@ -60,12 +60,12 @@ fn advices_of(
     if queue.none_fits(counts) {
         return Ok(Vec::new(alloc));
     }
-    walk(alloc, counts, queue.as_slice())
+    advices_by(alloc, counts, queue.as_slice())
 }
 
 #[tactic(auto, using(crate::proofs::Passes::Undone::undone))]
 /// The same, booking by booking.
-fn walk(alloc: Global, counts: &mut Counts, queue: &[Booking]) -> Result<Vec<Advice>, Memory>
+fn advices_by(alloc: Global, counts: &mut Counts, queue: &[Booking]) -> Result<Vec<Advice>, Memory>
     ensures limits { limits_of counts.new ≡ limits_of counts.old }
     ensures seats { seats_of counts.new ≡ seats_of counts.old }
     ensures told { IfOk result (λ told. told.items ≡ advices_by (limits_of counts.old) (seats_of counts.old) queue.now) }

@@ -11,11 +11,11 @@ ghost use Rattle.seat_core.specs.declared.booking.Status.TheVariants.{Waiting};
 ghost use Rattle.seat_core.specs.Journal.{line_of};
 ghost use Rattle.seat_core.specs.Answers.{IsFlight, IsReply, Says};
 
+use crate::action::{Action, Wish, action_of};
 use crate::booking::Booking;
 use crate::bookings::find_booking;
-use crate::books::{Book, book_of, queue_on};
+use crate::books::{FlightBook, book_at, queue_at};
 use crate::pass::{advices_after, advices_of_rest};
-use crate::request::{Request, Wish, request_of};
 use crate::rooms::may_wait_at;
 use seat_journal::{Advice, Advices, Command, Entry};
 use seat_nesting::{Counts, Grid};
@@ -36,7 +36,7 @@ pub fn make_line(
     alloc: Global,
     limits: &Grid,
     counts: &mut Counts,
-    books: &[Book],
+    books: &[FlightBook],
     number: u32,
     session: u8,
     call: u32,
@@ -67,7 +67,7 @@ fn answer_command(
     alloc: Global,
     limits: &Grid,
     counts: &mut Counts,
-    books: &[Book],
+    books: &[FlightBook],
     number: u32,
     command: &Command,
 ) -> Result<Answer, Memory>
@@ -79,24 +79,24 @@ fn answer_command(
     ensures limits { limits_of counts.new ≡ limits_of counts.old }
     ensures seats { seats_of counts.new ≡ seats_of counts.old }
 {
-    let request = request_of(command.code);
-    if let Request::Other = request {
+    let action = action_of(command.code);
+    if let Action::Other = action {
         return Ok(reply(alloc, *b"NO"));
     }
     let Some(place) = command.place else {
         return Ok(reply(alloc, *b"UN"));
     };
-    let found = find_booking(book_of(books, place.flight), command, place);
-    match request {
-        Request::Seats(wish) => match found {
+    let found = find_booking(book_at(books, place.flight), command, place);
+    match action {
+        Action::Seats(wish) => match found {
             None => book_seats(alloc, limits, counts, books, number, command, place, wish),
             Some(_) => Ok(reply(alloc, *b"NO")),
         },
-        Request::Cancel => match found {
+        Action::Cancel => match found {
             Some(at) => cancel_seats(alloc, counts, books, at, command, place),
             None => Ok(reply(alloc, *b"NO")),
         },
-        Request::Other => Ok(reply(alloc, *b"NO")),
+        Action::Other => Ok(reply(alloc, *b"NO")),
     }
 }
 
@@ -105,7 +105,7 @@ fn book_seats(
     alloc: Global,
     limits: &Grid,
     counts: &Counts,
-    books: &[Book],
+    books: &[FlightBook],
     number: u32,
     command: &Command,
     place: Place,
@@ -144,13 +144,13 @@ fn book_seats(
 
 #[tactic(auto, using(crate::proofs::Step::Reply::may_wait_is, crate::proofs::Waitlists::Queue::queue_few))]
 /// Whether the seats of a command may wait on its flight's waiting list.
-fn may_queue(limits: &Grid, books: &[Book], command: &Command, place: Place) -> bool
+fn may_queue(limits: &Grid, books: &[FlightBook], command: &Command, place: Place) -> bool
     requires few { length (book_at books.now place.flight) ≤ 999999 }
     requires queue { queue_at books.now place.flight ≡ queue_of (book_at books.now place.flight) }
     ensures { result ≡ may_wait limits.now (waiting (book_at books.now place.flight)) place command.now.class command.now.seats }
 {
     let (class, seats) = (command.class, command.seats);
-    match queue_on(books, place.flight) {
+    match queue_at(books, place.flight) {
         Some(queue) => queue.may_wait(limits, place, class, seats),
         None => may_wait_at(limits, &[], place, class, seats),
     }
@@ -188,7 +188,7 @@ fn queued(
 fn cancel_seats(
     alloc: Global,
     counts: &mut Counts,
-    books: &[Book],
+    books: &[FlightBook],
     at: usize,
     command: &Command,
     place: Place,
@@ -201,7 +201,7 @@ fn cancel_seats(
     ensures limits { limits_of counts.new ≡ limits_of counts.old }
     ensures seats { seats_of counts.new ≡ seats_of counts.old }
 {
-    let booking = book_of(books, place.flight)[at];
+    let booking = book_at(books, place.flight)[at];
     let seats = command.seats;
     if seats > booking.seats {
         return Ok(reply(alloc, *b"NO"));
@@ -219,7 +219,7 @@ fn cancel_seats(
 fn advices_without(
     alloc: Global,
     counts: &mut Counts,
-    books: &[Book],
+    books: &[FlightBook],
     booking: &Booking,
     command: &Command,
     place: Place,
@@ -236,7 +236,7 @@ fn advices_without(
     if booking.is_waiting() {
         return advices_of_rest(alloc, counts, booking, command.seats);
     }
-    match queue_on(books, place.flight) {
+    match queue_at(books, place.flight) {
         Some(queue) => advices_after(alloc, counts, queue, place, command.class, command.seats),
         None => Ok(Vec::new(alloc)),
     }

@@ -3,14 +3,14 @@ ghost use Rattle.std.specs.Prelude.{◌≡◌, ◌<◌, ◌≤◌, ◌++◌, ◌
 ghost use Rattle.seat_nesting.specs.Counting.{limits_of, seats_of};
 ghost use Rattle.seat_nesting.specs.Nesting.{may_wait};
 ghost use Rattle.seat_core.specs.Bookings.{is_for, waiting};
-ghost use Rattle.seat_core.specs.Parties.{has_spare, IsIndexed};
+ghost use Rattle.seat_core.specs.Demands.{has_spare, IsIndexed};
 ghost use Rattle.seat_core.specs.Queues.{none_fits, without};
 ghost use Rattle.seat_core.specs.Sequential.{booking_of, reduced};
 ghost use Rattle.seat_core.specs.declared.booking.Status.TheVariants.{Waiting};
 
 use crate::booking::{Booking, Status};
 use crate::bookings::{add, find_booking, find_number, take_off};
-use crate::parties::{Party, are_too_large, join, leave, lessen};
+use crate::demands::{Demand, are_too_large, join, leave, lessen};
 use crate::rooms::may_wait_at;
 use seat_journal::Command;
 use seat_nesting::{Counts, Grid};
@@ -25,19 +25,19 @@ const MOST: usize = 1 << 32;
 #[derive(Drop)]
 pub struct WaitingList {
     bookings: Vec<Booking>,
-    parties: Vec<Party>,
+    demands: Vec<Demand>,
 }
 
 impl Model for WaitingList {
     ghost use Rattle.std.specs.Prelude.{vec_len, vec_capacity};
     ghost use Rattle.seat_core.specs.Queues.{Waitlist};
-    ghost use Rattle.seat_core.specs.Parties.{has_spare, IsIndexed};
+    ghost use Rattle.seat_core.specs.Demands.{has_spare, IsIndexed};
 
     ghost Value = { Waitlist };
 
-    ghost view = { λ l. record { bookings = l.bookings.items; spare = has_spare (vec_len l.bookings) (vec_capacity l.bookings) (vec_len l.parties) (vec_capacity l.parties) } };
+    ghost view = { λ l. record { bookings = l.bookings.items; spare = has_spare (vec_len l.bookings) (vec_capacity l.bookings) (vec_len l.demands) (vec_capacity l.demands) } };
 
-    ghost invariant = { λ l. IsIndexed l.bookings.items l.parties.items };
+    ghost invariant = { λ l. IsIndexed l.bookings.items l.demands.items };
 }
 
 impl WaitingList {
@@ -46,7 +46,7 @@ impl WaitingList {
     {
         WaitingList {
             bookings: Vec::new(alloc),
-            parties: Vec::new(alloc),
+            demands: Vec::new(alloc),
         }
     }
 
@@ -65,7 +65,7 @@ impl WaitingList {
             return Err(Memory);
         }
         self.bookings.reserve(1)?;
-        self.parties.reserve(1)?;
+        self.demands.reserve(1)?;
         Ok(())
     }
 
@@ -76,7 +76,7 @@ impl WaitingList {
     {
         add_to(
             &mut self.bookings,
-            &mut self.parties,
+            &mut self.demands,
             number,
             command,
             place,
@@ -88,7 +88,7 @@ impl WaitingList {
         ensures { self.new.bookings ≡ reduced (is_for command.now.locator place command.now.class) command.now.seats self.old.bookings }
     {
         match find_booking(&self.bookings, command, place) {
-            Some(at) => reduce_at(&mut self.bookings, &mut self.parties, at, command, place),
+            Some(at) => reduce_at(&mut self.bookings, &mut self.demands, at, command, place),
             None => {}
         }
     }
@@ -98,7 +98,7 @@ impl WaitingList {
         ensures { self.new.bookings ≡ without self.old.bookings number }
     {
         match find_number(&self.bookings, number) {
-            Some(at) => take_at(&mut self.bookings, &mut self.parties, at),
+            Some(at) => take_at(&mut self.bookings, &mut self.demands, at),
             None => {}
         }
     }
@@ -109,54 +109,54 @@ impl WaitingList {
         requires { length self.now.bookings ≤ 999999 }
         ensures { result ≡ may_wait limits.now (waiting self.now.bookings) place class seats }
     {
-        may_wait_at(limits, &self.parties, place, class, seats)
+        may_wait_at(limits, &self.demands, place, class, seats)
     }
 
     /// Whether each has more seats than the counters leave room for.
     pub fn none_fits(&self, counts: &Counts) -> bool
         ensures { result ≡ none_fits (limits_of counts.now) (seats_of counts.now) self.now.bookings }
     {
-        are_too_large(counts, &self.parties)
+        are_too_large(counts, &self.demands)
     }
 }
 
-// Adds the booking of a command, for which there is room, to its party.
+// Adds the booking of a command, for which there is room, to its demand.
 fn add_to(
     bookings: &mut Vec<Booking>,
-    parties: &mut Vec<Party>,
+    demands: &mut Vec<Demand>,
     number: u32,
     command: &Command,
     place: Place,
 )
-    requires spare { has_spare (vec_len bookings.old) (vec_capacity bookings.old) (vec_len parties.old) (vec_capacity parties.old) ≡ true }
-    requires indexed { IsIndexed bookings.old.items parties.old.items }
+    requires spare { has_spare (vec_len bookings.old) (vec_capacity bookings.old) (vec_len demands.old) (vec_capacity demands.old) ≡ true }
+    requires indexed { IsIndexed bookings.old.items demands.old.items }
     ensures added { bookings.new.items ≡ bookings.old.items ++ booking_of number command.now place Waiting ∷ [] }
-    ensures indexed { IsIndexed bookings.new.items parties.new.items }
+    ensures indexed { IsIndexed bookings.new.items demands.new.items }
 {
-    join(parties, place, command.class, command.seats);
+    join(demands, place, command.class, command.seats);
     add(bookings, number, command, place, Status::Waiting);
 }
 
 // Takes the seats of a command off its booking, which stands at this index.
 fn reduce_at(
     bookings: &mut Vec<Booking>,
-    parties: &mut Vec<Party>,
+    demands: &mut Vec<Demand>,
     at: usize,
     command: &Command,
     place: Place,
 )
     requires found { position (is_for command.now.locator place command.now.class) bookings.old.items ≡ Some at }
-    requires indexed { IsIndexed bookings.old.items parties.old.items }
+    requires indexed { IsIndexed bookings.old.items demands.old.items }
     ensures reduced { bookings.new.items ≡ reduced (is_for command.now.locator place command.now.class) command.now.seats bookings.old.items }
-    ensures indexed { IsIndexed bookings.new.items parties.new.items }
+    ensures indexed { IsIndexed bookings.new.items demands.new.items }
 {
     let seats = bookings[at].seats;
     if seats <= command.seats {
-        take_at(bookings, parties, at);
+        take_at(bookings, demands, at);
         return;
     }
     lessen(
-        parties,
+        demands,
         place,
         command.class,
         command.seats,
@@ -165,13 +165,13 @@ fn reduce_at(
     take_off(bookings, at, command, place);
 }
 
-// Takes out the booking at an index, and from its party.
-fn take_at(bookings: &mut Vec<Booking>, parties: &mut Vec<Party>, at: usize)
+// Takes out the booking at an index, and from its demand.
+fn take_at(bookings: &mut Vec<Booking>, demands: &mut Vec<Demand>, at: usize)
     requires within { at < length bookings.old.items }
-    requires indexed { IsIndexed bookings.old.items parties.old.items }
+    requires indexed { IsIndexed bookings.old.items demands.old.items }
     ensures gone { bookings.new.items ≡ remove bookings.old.items at }
-    ensures indexed { IsIndexed bookings.new.items parties.new.items }
+    ensures indexed { IsIndexed bookings.new.items demands.new.items }
 {
     let gone = bookings.remove(at);
-    leave(parties, bookings, gone.place, gone.class, gone.seats);
+    leave(demands, bookings, gone.place, gone.class, gone.seats);
 }

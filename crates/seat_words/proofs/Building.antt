@@ -4,7 +4,7 @@ use Rattle.clap.specs.Words.{AddsArg, AddsSubcommand, App, Rule, Text, app_of, w
 use Rattle.clap.specs.declared.builder.action.ArgAction.TheVariants.{Append}
 use Rattle.clap.specs.declared.builder.arg.Arg.{Arg}
 use Rattle.clap.specs.declared.builder.command.Command.{Command}
-use Rattle.seat_words.specs.CommandLine.{HasArgument, IsBuiltAs, IsReadAlike, IsReadAs, required_value, required_values}
+use Rattle.seat_words.specs.CommandLine.{IsBuiltAs, IsReadAlike, IsReadAs, required_value, required_values}
 
 -- what is added has no global arguments
 or_false : (x y : Bool) → y ≡ false → (x || y) ≡ x
@@ -13,24 +13,31 @@ or_false true false e = refl
 or_false x true e = absurd cc
 
 -- a command with one more argument
-pub taken : (r : Rule) (old : Command) (arg : Arg) (new : Command) → AddsArg old arg new → IsReadAs r arg → HasArgument r old new
-taken r old arg new adds has = record {
-  app = adds.shape has.local ∙ ap (λ x. with_rule (app_of old) x) has.rule;
-  local = adds.globals ∙ or_false _ _ has.local;
+argued_on : (a : App) (r : Rule) (old : Command) (arg : Arg) (new : Command) → IsBuiltAs a old → IsReadAs r arg → AddsArg old arg new → IsBuiltAs (with_rule a r) new
+argued_on a r old arg new was has adds = record {
+  app = adds.shape has.local ∙ ap₂ with_rule was.app has.rule;
+  local = adds.globals ∙ (or_false _ _ has.local ∙ was.local);
 }
 
+pub argued : {E : Type 0} (a : App) (r : Rule) (old new : Result Command E) (arg : Arg) → IfOk old (IsBuiltAs a) → IsReadAs r arg
+    → IfOk new (λ x. IsOkAnd old (λ y. AddsArg y arg x)) → IfOk new (IsBuiltAs (with_rule a r))
+argued a r (Ok x) (Ok y) arg was has adds = argued_on a r x arg y was has adds
+argued a r (Err e) (Ok y) arg was has adds = absurd adds
+argued a r old (Err e) arg was has adds = tt
+
 -- a command with one more subcommand
-pub joined : (a s : App) (old new sub : Command) → IsBuiltAs s sub → AddsSubcommand old sub new → IsBuiltAs a old → IsBuiltAs (with_subcommand a s.top) new
-joined a s old new sub built adds was = record {
+joined_on : (a s : App) (old new sub : Command) → IsBuiltAs a old → IsBuiltAs s sub → AddsSubcommand old sub new → IsBuiltAs (with_subcommand a s.top) new
+joined_on a s old new sub was built adds = record {
   app = adds.shape built.local ∙ ap₂ with_subcommand was.app (ap (λ (y : App). y.top) built.app);
   local = adds.globals ∙ (or_false _ _ built.local ∙ was.local);
 }
 
--- with one that could be made
-pub added : {E : Type 0} (a s : App) (old new : Command) (sub : Result Command E) → IfOk sub (IsBuiltAs s) → IsOkAnd sub (λ x. AddsSubcommand old x new)
-    → IsBuiltAs a old → IsBuiltAs (with_subcommand a s.top) new
-added a s old new (Ok x) built adds was = joined a s old new x built adds was
-added a s old new (Err e) built adds was = absurd adds
+pub joined : {E : Type 0} (a s : App) (old sub new : Result Command E) → IfOk old (IsBuiltAs a) → IfOk sub (IsBuiltAs s)
+    → IfOk new (λ x. IsOkAnd old (λ y. IsOkAnd sub (λ z. AddsSubcommand y z x))) → IfOk new (IsBuiltAs (with_subcommand a s.top))
+joined a s (Ok x) (Ok z) (Ok y) was built adds = joined_on a s x y z was built adds
+joined a s (Err e) sub (Ok y) was built adds = absurd adds
+joined a s (Ok x) (Err e) (Ok y) was built adds = absurd adds
+joined a s old sub (Err e) was built adds = tt
 
 -- an argument that may be given more than once
 pub valued : (id : Text) (one many : Arg) → many ≡ record one { action = Some Append } → IsReadAs (required_value id) one → IsReadAs (required_values id) many
@@ -38,12 +45,6 @@ valued id one many e has = subst (IsReadAs (required_values id)) (sym e) (record
   rule = ap (λ (r : Rule). record r { action = Some Append }) has.rule;
   local = has.local;
 })
-
-pub argued : (a : App) (r : Rule) (old new : Command) → HasArgument r old new → IsBuiltAs a old → IsBuiltAs (with_rule a r) new
-argued a r old new has was = record {
-  app = has.app ∙ ap (λ x. with_rule x r) was.app;
-  local = has.local ∙ was.local;
-}
 
 pub alike : (a : App) (old new : Command) → IsReadAlike old new → IsBuiltAs a old → IsBuiltAs a new
 alike a old new same was = record {

@@ -77,8 +77,3 @@ pub record IsReadAs (r : Rule) (a : Arg) : Type 0 where
 pub record IsReadAlike (old new : Command) : Type 0 where
   pub app : app_of new ≡ app_of old
   pub local : (fields_of new).has_globals ≡ (fields_of old).has_globals
-
--- new is old with one more argument of its own, which is read as r
-pub record HasArgument (r : Rule) (old new : Command) : Type 0 where
-  pub app : app_of new ≡ with_rule (app_of old) r
-  pub local : (fields_of new).has_globals ≡ (fields_of old).has_globals

@@ -1,7 +1,7 @@
 //! The commands, as clap reads them and as their help shows them.
 ghost use Rattle.std.specs.Prelude.{IfOk, IsOkAnd, codes};
-ghost use Rattle.clap.specs.Words.{AddsSubcommand, new_app};
-ghost use Rattle.seat_words.specs.CommandLine.{HasArgument, IsBuiltAs, IsReadAlike, IsReadAs, audit_app, bare_app, check_app, flights_app, horizon_app, ladder_app, required_option, required_value, required_values, run_app, seatdesk_app};
+ghost use Rattle.clap.specs.Words.{AddsArg, AddsSubcommand, new_app};
+ghost use Rattle.seat_words.specs.CommandLine.{IsBuiltAs, IsReadAlike, IsReadAs, audit_app, bare_app, check_app, flights_app, horizon_app, ladder_app, required_option, required_value, required_values, run_app, seatdesk_app};
 
 use clap::{Arg, ArgAction, Command};
 use std::alloc::{AllocError, Global};
@@ -27,40 +27,37 @@ const SCRIPTS_HELP: &str = "The scripts of the sessions, 1 to 8 files of AIRIMP 
 pub(crate) fn seatdesk_command<'a>(alloc: Global) -> Result<Command<'a>, AllocError>
     ensures { IfOk result (IsBuiltAs seatdesk_app) }
 {
-    let one = with_command(bare_command(alloc)?, Ok(ladder_command(alloc)))?;
-    let two = with_command(one, check_command(alloc))?;
-    let three = with_command(two, flights_command(alloc))?;
-    let four = with_command(three, audit_command(alloc))?;
-    let five = with_command(four, run_command(alloc))?;
-    Ok(five)
+    let program = bare_command(alloc);
+    let program = with_command(program, Ok(ladder_command(alloc)));
+    let program = with_command(program, check_command(alloc));
+    let program = with_command(program, flights_command(alloc));
+    let program = with_command(program, audit_command(alloc));
+    with_command(program, run_command(alloc))
 }
 
-// The program with one more command, if that could be made.
+// The program with one more command, if both could be made.
 fn with_command<'a>(
-    program: Command<'a>,
+    program: Result<Command<'a>, AllocError>,
     command: Result<Command<'a>, AllocError>,
 ) -> Result<Command<'a>, AllocError>
-    ensures { IfOk result (λ new. IsOkAnd command.entry (λ sub. AddsSubcommand program.entry sub new)) }
+    ensures { IfOk result (λ new. IsOkAnd program.entry (λ old. IsOkAnd command.entry (λ sub. AddsSubcommand old sub new))) }
 {
-    let command = command?;
-    let program = program.subcommand(command)?;
-    Ok(program)
+    program?.subcommand(command?)
 }
 
 #[tactic(auto, unfolding(crate::specs::CommandLine::bare_app))]
 fn bare_command<'a>(alloc: Global) -> Result<Command<'a>, AllocError>
     ensures { IfOk result (IsBuiltAs bare_app) }
 {
-    let bare = Command::new(alloc, "seatdesk")
-        .bin_name("seatdesk")?
+    Command::new(alloc, "seatdesk")
         .version("1.0.0")
         .about("The seat inventory of an airline's reservations host")
         .after_help(
             "Example: seatdesk check examples/summer.ssim\nEach command tells more: seatdesk run --help",
         )
         .subcommand_required(true)
-        .disable_help_subcommand(true);
-    Ok(bare)
+        .disable_help_subcommand(true)
+        .bin_name("seatdesk")
 }
 
 #[tactic(auto, unfolding(crate::specs::CommandLine::ladder_app))]
@@ -84,8 +81,7 @@ fn check_command<'a>(alloc: Global) -> Result<Command<'a>, AllocError>
         "Reads a data set and writes one summary line",
         "Example: seatdesk check examples/summer.ssim",
     );
-    let check = with_value(alloc, check, "set", "SET", SET_HELP)?;
-    Ok(check)
+    with_argument(Ok(check), wanted_value(alloc, "set", "SET", SET_HELP))
 }
 
 fn flights_command<'a>(alloc: Global) -> Result<Command<'a>, AllocError>
@@ -97,13 +93,14 @@ fn flights_command<'a>(alloc: Global) -> Result<Command<'a>, AllocError>
         "Writes one line for each dated flight",
         "Example: seatdesk flights --first 2024-07-01 --days 31 examples/summer.ssim",
     );
-    let flights = with_option(alloc, flights, "first", "DATE", FIRST_HELP)?;
-    let flights = with_option(alloc, flights, "days", "N", DAYS_HELP)?;
-    let flights = with_value(alloc, flights, "set", "SET", SET_HELP)?;
-    Ok(flights)
+    let flights = with_argument(
+        Ok(flights),
+        wanted_option(alloc, "first", "DATE", FIRST_HELP),
+    );
+    let flights = with_argument(flights, wanted_option(alloc, "days", "N", DAYS_HELP));
+    with_argument(flights, wanted_value(alloc, "set", "SET", SET_HELP))
 }
 
-#[tactic(auto, using(crate::proofs::Building::argued), unfolding(crate::specs::CommandLine::audit_app))]
 fn audit_command<'a>(alloc: Global) -> Result<Command<'a>, AllocError>
     ensures { IfOk result (IsBuiltAs audit_app) }
 {
@@ -112,12 +109,13 @@ fn audit_command<'a>(alloc: Global) -> Result<Command<'a>, AllocError>
         "audit",
         "Replays a journal against its schedule and limits, and writes one summary line",
         "Example: seatdesk audit --set examples/summer.ssim --limits examples/limits.txt --first 2024-07-01 --days 31 examples/journal.txt",
-    )?;
-    let audit = with_value(alloc, audit, "journal", "JOURNAL", JOURNAL_HELP)?;
-    Ok(audit)
+    );
+    with_argument(
+        audit,
+        wanted_value(alloc, "journal", "JOURNAL", JOURNAL_HELP),
+    )
 }
 
-#[tactic(auto, using(crate::proofs::Building::argued), unfolding(crate::specs::CommandLine::run_app))]
 fn run_command<'a>(alloc: Global) -> Result<Command<'a>, AllocError>
     ensures { IfOk result (IsBuiltAs run_app) }
 {
@@ -126,15 +124,13 @@ fn run_command<'a>(alloc: Global) -> Result<Command<'a>, AllocError>
         "run",
         "Books the requests of scripts, one session on a thread for each script, and writes the replies",
         "OUT is created, empty, after the inputs open and before they are read; a refused run leaves it empty.\n\nExample: seatdesk run --set examples/summer.ssim --limits examples/limits.txt --first 2024-07-01 --days 31 --today 2024-06-20 --journal journal.txt examples/london.txt examples/lisbon.txt",
-    )?;
-    let run = with_option(alloc, run, "today", "DATE", TODAY_HELP)?;
-    let run = with_option(alloc, run, "journal", "OUT", OUT_HELP)?;
-    let run = with_values(alloc, run, "scripts", "SCRIPT", SCRIPTS_HELP)?;
-    Ok(run)
+    );
+    let run = with_argument(run, wanted_option(alloc, "today", "DATE", TODAY_HELP));
+    let run = with_argument(run, wanted_option(alloc, "journal", "OUT", OUT_HELP));
+    with_argument(run, wanted_values(alloc, "scripts", "SCRIPT", SCRIPTS_HELP))
 }
 
 // A command over the limits of the dated flights.
-#[tactic(auto, using(crate::proofs::Building::argued), unfolding(crate::specs::CommandLine::horizon_app))]
 fn horizon_command<'a>(
     alloc: Global,
     name: &'a str,
@@ -144,11 +140,13 @@ fn horizon_command<'a>(
     ensures { IfOk result (IsBuiltAs (horizon_app name.entry.now)) }
 {
     let command = named_command(alloc, name, about, more);
-    let command = with_option(alloc, command, "set", "SET", SET_HELP)?;
-    let command = with_option(alloc, command, "limits", "LIMITS", LIMITS_HELP)?;
-    let command = with_option(alloc, command, "first", "DATE", FIRST_HELP)?;
-    let command = with_option(alloc, command, "days", "N", DAYS_HELP)?;
-    Ok(command)
+    let command = with_argument(Ok(command), wanted_option(alloc, "set", "SET", SET_HELP));
+    let command = with_argument(
+        command,
+        wanted_option(alloc, "limits", "LIMITS", LIMITS_HELP),
+    );
+    let command = with_argument(command, wanted_option(alloc, "first", "DATE", FIRST_HELP));
+    with_argument(command, wanted_option(alloc, "days", "N", DAYS_HELP))
 }
 
 // A command with what its help says before and behind its arguments.
@@ -179,46 +177,14 @@ fn with_more<'a>(command: Command<'a>, more: &'a str) -> Command<'a>
     command.after_help(more)
 }
 
-#[tactic(auto, using(crate::proofs::Building::taken))]
-fn with_value<'a>(
-    alloc: Global,
-    command: Command<'a>,
-    id: &'a str,
-    value: &'a str,
-    help: &'a str,
+// The command with one more argument, if it could be made.
+fn with_argument<'a>(
+    command: Result<Command<'a>, AllocError>,
+    argument: Arg<'a>,
 ) -> Result<Command<'a>, AllocError>
-    ensures { IfOk result (HasArgument (required_value id.entry.now) command.entry) }
+    ensures { IfOk result (λ new. IsOkAnd command.entry (λ old. AddsArg old argument.entry new)) }
 {
-    let command = command.arg(wanted_value(alloc, id, value, help))?;
-    Ok(command)
-}
-
-#[tactic(auto, using(crate::proofs::Building::taken))]
-fn with_option<'a>(
-    alloc: Global,
-    command: Command<'a>,
-    id: &'a str,
-    value: &'a str,
-    help: &'a str,
-) -> Result<Command<'a>, AllocError>
-    ensures { IfOk result (HasArgument (required_option id.entry.now) command.entry) }
-{
-    let command = command.arg(wanted_option(alloc, id, value, help))?;
-    Ok(command)
-}
-
-#[tactic(auto, using(crate::proofs::Building::taken))]
-fn with_values<'a>(
-    alloc: Global,
-    command: Command<'a>,
-    id: &'a str,
-    value: &'a str,
-    help: &'a str,
-) -> Result<Command<'a>, AllocError>
-    ensures { IfOk result (HasArgument (required_values id.entry.now) command.entry) }
-{
-    let command = command.arg(wanted_values(alloc, id, value, help))?;
-    Ok(command)
+    command?.arg(argument)
 }
 
 // A value by its place, which must be there.

@@ -8,11 +8,11 @@ use Rattle.seat_core.specs.declared.booking.Status.{Status}
 use Rattle.seat_core.specs.declared.booking.Status.TheVariants.{Held, Waiting}
 use Rattle.seat_journal.specs.declared.entry.Advice.{Advice}
 use Rattle.seat_journal.specs.declared.entry.Command.{Command}
-use Rattle.seat_core.specs.declared.request.Request.{Request}
-use Rattle.seat_core.specs.declared.request.Request.TheVariants.{Seats, Cancel, Other}
-use Rattle.seat_core.specs.declared.request.Wish.{Wish}
-use Rattle.seat_core.specs.declared.request.Wish.TheVariants.{Need, Sell, Waitlist}
-use Rattle.seat_core.specs.Codes.{request_of}
+use Rattle.seat_core.specs.declared.action.Action.{Action}
+use Rattle.seat_core.specs.declared.action.Action.TheVariants.{Seats, Cancel, Other}
+use Rattle.seat_core.specs.declared.action.Wish.{Wish}
+use Rattle.seat_core.specs.declared.action.Wish.TheVariants.{Need, Sell, Waitlist}
+use Rattle.seat_core.specs.Codes.{action_of}
 use Rattle.seat_core.specs.Bookings.{is_for, is_held, is_waiting, held, waiting}
 use Rattle.seat_core.specs.Sequential.{State, Outcome, Passed, state_of, room_left, reduced, booking_of, booking_for, pass, passed, want, want_new, cancel, answer, answer_to, may_confirm, confirmed, advice_of, NoneFits}
 use Rattle.seat_core.specs.Flights.{renumbered, AgreeOn, NoneElseFits, pass_on, is_on, advices_anew}
@@ -69,8 +69,8 @@ pub answer_over : (g h : Legs) (anew : ℕ → ℕ) (f : ℕ) (bookings : List B
     → answer (state_of h (view anew f bookings)) (anew n) c ≡ seen_over h anew f (answer (state_of g bookings) n c)
 answer_over g h anew f bookings n c None a at e = absurd cc
 answer_over g h anew f bookings n c (Some place) a at e =
-    ap (λ (o : Option Place). answer_to (request_of c.code) o (state_of h (view anew f bookings)) (anew n) c) at
-    ∙ (by_request (request_of c.code) ∙ sym (ap (λ (o : Option Place). seen_over h anew f (answer_to (request_of c.code) o (state_of g bookings) n c)) at))
+    ap (λ (o : Option Place). answer_to (action_of c.code) o (state_of h (view anew f bookings)) (anew n) c) at
+    ∙ (by_action (action_of c.code) ∙ sym (ap (λ (o : Option Place). seen_over h anew f (answer_to (action_of c.code) o (state_of g bookings) n c)) at))
   where
     s : State
     s = state_of g bookings
@@ -116,10 +116,10 @@ answer_over g h anew f bookings n c (Some place) a at e =
     by_held None = refl
     by_held (Some b) = cancel_if b (nat_le c.seats b.seats) refl
 
-    by_request : (r : Request) → answer_to r (Some place) v (anew n) c ≡ seen_over h anew f (answer_to r (Some place) s n c)
-    by_request Other = refl
-    by_request (Seats w) = ap (λ (o : Option Booking). want w v (anew n) c place o) (find_view anew f test bookings (test_on anew f c.locator place c.class here)) ∙ by_found w (booking_for s c place)
-    by_request Cancel = ap (λ (o : Option Booking). cancel v c place o) (find_view anew f test bookings (test_on anew f c.locator place c.class here)) ∙ by_held (booking_for s c place)
+    by_action : (r : Action) → answer_to r (Some place) v (anew n) c ≡ seen_over h anew f (answer_to r (Some place) s n c)
+    by_action Other = refl
+    by_action (Seats w) = ap (λ (o : Option Booking). want w v (anew n) c place o) (find_view anew f test bookings (test_on anew f c.locator place c.class here)) ∙ by_found w (booking_for s c place)
+    by_action Cancel = ap (λ (o : Option Booking). cancel v c place o) (find_view anew f test bookings (test_on anew f c.locator place c.class here)) ∙ by_held (booking_for s c place)
 
 -- and over its own limits
 pub answer_on : (grid : Legs) (anew : ℕ → ℕ) (f : ℕ) (bookings : List Booking) (n : ℕ) (c : Command) (o : Option Place) → c.place ≡ o → is_on f o ≡ true

@@ -8,13 +8,13 @@ use Rattle.ssim_records.specs.declared.place.Place.{Place}
 use Rattle.seat_nesting.specs.Nesting.{Legs, Table, legs_of, room, HasLadders}
 use Rattle.seat_nesting.specs.Counting.{Counted, limits_of, seats_of}
 use Rattle.seat_core.specs.declared.booking.Booking.{Booking}
-use Rattle.seat_core.specs.declared.books.Book.{Book}
+use Rattle.seat_core.specs.declared.books.FlightBook.{FlightBook}
 use Rattle.seat_journal.specs.declared.entry.Advice.{Advice}
 use Rattle.seat_journal.specs.declared.entry.Command.{Command}
 use Rattle.seat_journal.specs.declared.entry.Entry.{Entry}
-use Rattle.seat_core.specs.declared.request.Request.{Request}
-use Rattle.seat_core.specs.declared.request.Request.TheVariants.{Seats, Cancel, Other}
-use Rattle.seat_core.specs.Codes.{request_of}
+use Rattle.seat_core.specs.declared.action.Action.{Action}
+use Rattle.seat_core.specs.declared.action.Action.TheVariants.{Seats, Cancel, Other}
+use Rattle.seat_core.specs.Codes.{action_of}
 use Rattle.seat_core.specs.Bookings.{held}
 use Rattle.seat_core.specs.Sequential.{State, Outcome, state_of, room_left, answer, answer_to, NoneFits}
 use Rattle.seat_core.specs.Journal.{replay, calls_of, line_of, next_line, IsNext, IsLegal}
@@ -91,33 +91,33 @@ left_off grid f bs n c off quiet =
     sym (bookings_view f (answer (state_of grid bs) n c).state.bookings) ∙ (answer_off grid (λ n. n) f bs n c off quiet ∙ bookings_view f bs)
 
 -- a command without a place is answered from nothing
-nowhere : (r : Request) (s t : State) (n : ℕ) (c : Command) → SameAnswer (answer_to r None s n c) (answer_to r None t n c)
+nowhere : (r : Action) (s t : State) (n : ℕ) (c : Command) → SameAnswer (answer_to r None s n c) (answer_to r None t n c)
 nowhere Other s t n c = record { reply = refl; released = refl; advices = refl }
 nowhere (Seats w) s t n c = record { reply = refl; released = refl; advices = refl }
 nowhere Cancel s t n c = record { reply = refl; released = refl; advices = refl }
 
 -- a command, answered from the book of its flight
-pub same_answer : (opening now : Legs) (cap : ℕ) (journal : List Entry) (books : List Book) (calls : List ℕ) (counts : Counted) (n : ℕ) (c : Command) (o : Option Place) → c.place ≡ o → IsKept opening now cap journal books calls counts
+pub same_answer : (opening now : Legs) (cap : ℕ) (journal : List Entry) (books : List FlightBook) (calls : List ℕ) (counts : Counted) (n : ℕ) (c : Command) (o : Option Place) → c.place ≡ o → IsKept opening now cap journal books calls counts
     → SameAnswer (answer (state_of now (book_for books o)) n c) (answer (state_of now (replay opening journal).bookings) n c)
 same_answer opening now cap journal books calls counts n c None at k =
-    let P : Option Place → Type 0 = λ o. SameAnswer (answer_to (request_of c.code) o (state_of now []) n c) (answer_to (request_of c.code) o (state_of now (replay opening journal).bookings) n c) in
-    subst P (sym at) (nowhere (request_of c.code) (state_of now []) (state_of now (replay opening journal).bookings) n c)
+    let P : Option Place → Type 0 = λ o. SameAnswer (answer_to (action_of c.code) o (state_of now []) n c) (answer_to (action_of c.code) o (state_of now (replay opening journal).bookings) n c) in
+    subst P (sym at) (nowhere (action_of c.code) (state_of now []) (state_of now (replay opening journal).bookings) n c)
 same_answer opening now cap journal books calls counts n c (Some place) at k =
     let on : is_on place.flight c.place ≡ true = ap (is_on place.flight) at ∙ (let e : (place.flight == place.flight) ≡ true = grind (arith, nat_tests) in e) in
     let P : List Booking → Type 0 = λ l. SameAnswer (answer (state_of now l) n c) (answer (state_of now (replay opening journal).bookings) n c) in
     subst P (sym (k.by_flight place.flight)) (same_on now place.flight (replay opening journal).bookings n c on k.lawful.quiet)
 
-pub few_in_book : (opening now : Legs) (cap : ℕ) (journal : List Entry) (books : List Book) (calls : List ℕ) (counts : Counted) (o : Option Place) → IsKept opening now cap journal books calls counts → length (book_for books o) ≤ 999999
+pub few_in_book : (opening now : Legs) (cap : ℕ) (journal : List Entry) (books : List FlightBook) (calls : List ℕ) (counts : Counted) (o : Option Place) → IsKept opening now cap journal books calls counts → length (book_for books o) ≤ 999999
 few_in_book opening now cap journal books calls counts None k = omega arith
 few_in_book opening now cap journal books calls counts (Some place) k =
     omega (arith, ap length (k.by_flight place.flight), few_on place.flight (replay opening journal).bookings, k.lawful.few, k.lawful.capped, k.lawful.small)
 
 -- books that are the same are kept
-pub kept_same : (opening now : Legs) (cap : ℕ) (journal : List Entry) (books books' : List Book) (calls : List ℕ) (counts : Counted) → IsKept opening now cap journal books calls counts → SameBooks books books' → IsKept opening now cap journal books' calls counts
+pub kept_same : (opening now : Legs) (cap : ℕ) (journal : List Entry) (books books' : List FlightBook) (calls : List ℕ) (counts : Counted) → IsKept opening now cap journal books calls counts → SameBooks books books' → IsKept opening now cap journal books' calls counts
 kept_same opening now cap journal books books' calls counts k same = record { lawful = k.lawful; by_flight = λ f. same.each f ∙ k.by_flight f; by_queue = λ f. same.queues f ∙ k.by_queue f; by_session = k.by_session; limits = k.limits; seats = k.seats }
 
 -- and counters that hold the same seats
-pub kept_counts : (opening now : Legs) (cap : ℕ) (journal : List Entry) (books : List Book) (calls : List ℕ) (counts counts' : Counted) → IsKept opening now cap journal books calls counts
+pub kept_counts : (opening now : Legs) (cap : ℕ) (journal : List Entry) (books : List FlightBook) (calls : List ℕ) (counts counts' : Counted) → IsKept opening now cap journal books calls counts
     → limits_of counts' ≡ limits_of counts → seats_of counts' ≡ seats_of counts → IsKept opening now cap journal books calls counts'
 kept_counts opening now cap journal books calls counts counts' k limits seats = record {
   lawful = k.lawful;
@@ -168,12 +168,12 @@ counted journal e calls k nine most s le = cases (e.session == s) refl where
       get_or-set_other calls e.session s (calls_of journal e.session + 1) 0 other ∙ (k s le ∙ sym same)
 
 -- each waiting list is that of its flight's bookings
-pub kept_queued : (opening now : Legs) (cap : ℕ) (journal : List Entry) (books : List Book) (calls : List ℕ) (counts : Counted) → IsKept opening now cap journal books calls counts → IsQueued books
+pub kept_queued : (opening now : Legs) (cap : ℕ) (journal : List Entry) (books : List FlightBook) (calls : List ℕ) (counts : Counted) → IsKept opening now cap journal books calls counts → IsQueued books
 kept_queued opening now cap journal books calls counts k =
     record { each = λ f. k.by_queue f ∙ (sym (queue_is f (replay opening journal).bookings) ∙ ap queue_of (sym (k.by_flight f))) }
 
 -- the counters, shown one line more
-table_next : (opening now : Legs) (cap : ℕ) (journal : List Entry) (books : List Book) (calls : List ℕ) (counts : Counted) (e : Entry) → IsKept opening now cap journal books calls counts → IsLegal opening (journal ++ e ∷ [])
+table_next : (opening now : Legs) (cap : ℕ) (journal : List Entry) (books : List FlightBook) (calls : List ℕ) (counts : Counted) (e : Entry) → IsKept opening now cap journal books calls counts → IsLegal opening (journal ++ e ∷ [])
     → shown (limits_of counts) (seats_of counts) e ≡ held (replay opening (journal ++ e ∷ [])).bookings
 table_next opening now cap journal books calls counts e k legal =
     let before : fold (shown opening) nothing_held journal ≡ held (replay opening journal).bookings = same_table (fold (shown opening) nothing_held journal) (held (replay opening journal).bookings) (shown_is_held opening journal k.lawful.legal) in
@@ -185,7 +185,7 @@ table_next opening now cap journal books calls counts e k legal =
     ∙ (sym (fold_push (shown opening) nothing_held journal e) ∙ after))
 
 -- a line that is added keeps the books
-pub kept_next : (opening now : Legs) (cap : ℕ) (journal : List Entry) (books books' : List Book) (calls : List ℕ) (counts counts' : Counted) (e : Entry) → IsKept opening now cap journal books calls counts → length calls ≡ 9 → length journal < cap → IsNext opening journal e
+pub kept_next : (opening now : Legs) (cap : ℕ) (journal : List Entry) (books books' : List FlightBook) (calls : List ℕ) (counts counts' : Counted) (e : Entry) → IsKept opening now cap journal books calls counts → length calls ≡ 9 → length journal < cap → IsNext opening journal e
     → IsEntered books books' e → IsQueued books' → limits_of counts' ≡ limits_of counts → seats_of counts' ≡ shown (limits_of counts) (seats_of counts) e
     → IsKept opening now cap (journal ++ e ∷ []) books' (set calls e.session (calls_of journal e.session + 1)) counts'
 kept_next opening now cap journal books books' calls counts counts' e k nine lt next entered queued same_limits shows = record {
@@ -232,24 +232,24 @@ none_beyond s beyond grid journal legal =
     called past e s ∙ (ap (λ t. calls_of past s + cond t 1 0) other ∙ omega (arith, h)))
     [] journal refl legal
 
-pub no_calls : (opening now : Legs) (cap : ℕ) (journal : List Entry) (books : List Book) (calls : List ℕ) (counts : Counted) (s : ℕ) → IsKept opening now cap journal books calls counts → 8 < s → calls_of journal s ≡ 0
+pub no_calls : (opening now : Legs) (cap : ℕ) (journal : List Entry) (books : List FlightBook) (calls : List ℕ) (counts : Counted) (s : ℕ) → IsKept opening now cap journal books calls counts → 8 < s → calls_of journal s ≡ 0
 no_calls opening now cap journal books calls counts s k beyond = none_beyond s beyond opening journal k.lawful.legal
 
-pub few_calls : (opening now : Legs) (cap : ℕ) (journal : List Entry) (books : List Book) (calls : List ℕ) (counts : Counted) (s : ℕ) → IsKept opening now cap journal books calls counts → calls_of journal s ≤ 999999
+pub few_calls : (opening now : Legs) (cap : ℕ) (journal : List Entry) (books : List FlightBook) (calls : List ℕ) (counts : Counted) (s : ℕ) → IsKept opening now cap journal books calls counts → calls_of journal s ≤ 999999
 few_calls opening now cap journal books calls counts s k = omega (arith, count_by-le-length (λ (x : Entry). x.session == s) journal, k.lawful.capped, k.lawful.small)
 
 -- the memory of the books, as it is shown
-spares_at : (books : List Book) (i : ℕ) → unwrap_or (slice_get (map spare_of books) i) false ≡ has_spare_in (slice_get books i)
+spares_at : (books : List FlightBook) (i : ℕ) → unwrap_or (slice_get (map spare_of books) i) false ≡ has_spare_in (slice_get books i)
 spares_at [] i = refl
 spares_at (b ∷ bs) zero = refl
 spares_at (b ∷ bs) (suc i) = spares_at bs i
 
-pub memory_is : (books : List Book) (o : Option Place) → has_memory (map spare_of books) o ≡ has_spare books o
+pub memory_is : (books : List FlightBook) (o : Option Place) → has_memory (map spare_of books) o ≡ has_spare books o
 memory_is books None = refl
 memory_is books (Some place) = spares_at books place.flight
 
 -- the line that is answered from the flight's book is the next
-pub next_kept : (opening now : Legs) (cap : ℕ) (journal : List Entry) (books : List Book) (calls : List ℕ) (counts : Counted) (book : List Booking) (n session call : ℕ) (c : Command) (line : Entry) → IsKept opening now cap journal books calls counts
+pub next_kept : (opening now : Legs) (cap : ℕ) (journal : List Entry) (books : List FlightBook) (calls : List ℕ) (counts : Counted) (book : List Booking) (n session call : ℕ) (c : Command) (line : Entry) → IsKept opening now cap journal books calls counts
     → book ≡ book_for books c.place → n ≡ length journal + 1 → line ≡ line_of (answer (state_of now book) n c) n session call c → line ≡ next_line opening journal session call c
 next_kept opening now cap journal books calls counts book n session call c line k is number made =
     let here : Outcome = answer (state_of now (book_for books c.place)) n c in
@@ -265,7 +265,7 @@ next_kept opening now cap journal books calls counts book n session call c line 
     same_line a b s = λ i. record { number = n; session = session; call = call; command = c; reply = s.reply i; released = s.released i; advices = s.advices i }
 
 -- the room that the counters leave
-pub room_kept : (opening now : Legs) (cap : ℕ) (journal : List Entry) (books : List Book) (calls : List ℕ) (counts : Counted) (place : Place) (class : ℕ) → IsKept opening now cap journal books calls counts
+pub room_kept : (opening now : Legs) (cap : ℕ) (journal : List Entry) (books : List FlightBook) (calls : List ℕ) (counts : Counted) (place : Place) (class : ℕ) → IsKept opening now cap journal books calls counts
     → room (limits_of counts) (seats_of counts) place class ≡ room_left (replay opening journal) place class
 room_kept opening now cap journal books calls counts place class k =
     ap (λ (g : Legs). room g (seats_of counts) place class) k.limits
@@ -310,7 +310,7 @@ kept_opened grid limits cap counts same ladders small counted none = record {
 }
 
 -- what is kept holds no more than authorised
-pub kept_within : (opening now : Legs) (cap : ℕ) (journal : List Entry) (books : List Book) (calls : List ℕ) (counts : Counted) → IsKept opening now cap journal books calls counts → HoldsWithinLimits opening journal
+pub kept_within : (opening now : Legs) (cap : ℕ) (journal : List Entry) (books : List FlightBook) (calls : List ℕ) (counts : Counted) → IsKept opening now cap journal books calls counts → HoldsWithinLimits opening journal
 kept_within opening now cap journal books calls counts k =
     let P : State → Type 0 = λ s. KeepsLimits s.grid s.bookings in
     record { held = subst P (sym k.lawful.left) k.lawful.within }

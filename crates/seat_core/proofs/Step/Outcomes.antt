@@ -6,11 +6,11 @@ use Rattle.seat_nesting.specs.Nesting.{may_wait}
 use Rattle.seat_core.specs.declared.booking.Booking.{Booking}
 use Rattle.seat_core.specs.declared.booking.Status.TheVariants.{Held, Waiting}
 use Rattle.seat_journal.specs.declared.entry.Command.{Command}
-use Rattle.seat_core.specs.declared.request.Request.{Request}
-use Rattle.seat_core.specs.declared.request.Request.TheVariants.{Seats, Cancel, Other}
-use Rattle.seat_core.specs.declared.request.Wish.{Wish}
-use Rattle.seat_core.specs.declared.request.Wish.TheVariants.{Need, Sell, Waitlist}
-use Rattle.seat_core.specs.Codes.{request_of}
+use Rattle.seat_core.specs.declared.action.Action.{Action}
+use Rattle.seat_core.specs.declared.action.Action.TheVariants.{Seats, Cancel, Other}
+use Rattle.seat_core.specs.declared.action.Wish.{Wish}
+use Rattle.seat_core.specs.declared.action.Wish.TheVariants.{Need, Sell, Waitlist}
+use Rattle.seat_core.specs.Codes.{action_of}
 use Rattle.seat_core.specs.Bookings.{is_for, is_held, waiting}
 use Rattle.seat_core.specs.Sequential.{State, Outcome, room_left, refused, booked, booking_of, booking_for, reduced, passed, want, want_new, cancel, answer, answer_to}
 
@@ -36,7 +36,7 @@ pub each_outcome : (P : Outcome → Type 0) (s : State) (number : ℕ) (c : Comm
     → ((place : Place) (b : Booking) → c.place ≡ Some place → booking_for s c place ≡ Some b → c.seats ≤ b.seats
     → P (passed s.grid (reduced (is_for c.locator place c.class) c.seats s.bookings) (codes "HX") (if is_held b.status then c.seats else 0)))
     → P (answer s number c)
-each_outcome P s number c refuses holds waits lists cancels = by_request (request_of c.code) c.place refl where
+each_outcome P s number c refuses holds waits lists cancels = by_action (action_of c.code) c.place refl where
   le_of : (place : Place) → nat_le c.seats (room_left s place c.class) ≡ true → c.seats ≤ room_left s place c.class
   le_of place e = grind (arith, nat_tests)
 
@@ -64,12 +64,12 @@ each_outcome P s number c refuses holds waits lists cancels = by_request (reques
   by_held place at None found = refuses No
   by_held place at (Some b) found = cancel_if place at b found (nat_le c.seats b.seats) refl
 
-  by_request : (r : Request) (o : Option Place) → c.place ≡ o → P (answer_to r o s number c)
-  by_request Other o at = refuses No
-  by_request (Seats w) None at = refuses Unable
-  by_request (Seats w) (Some place) at = by_found place at w (booking_for s c place) refl
-  by_request Cancel None at = refuses Unable
-  by_request Cancel (Some place) at = by_held place at (booking_for s c place) refl
+  by_action : (r : Action) (o : Option Place) → c.place ≡ o → P (answer_to r o s number c)
+  by_action Other o at = refuses No
+  by_action (Seats w) None at = refuses Unable
+  by_action (Seats w) (Some place) at = by_found place at w (booking_for s c place) refl
+  by_action Cancel None at = refuses Unable
+  by_action Cancel (Some place) at = by_held place at (booking_for s c place) refl
 
 -- no answer changes the limits
 pub grid_answer : (s : State) (number : ℕ) (c : Command) → (answer s number c).state.grid ≡ s.grid

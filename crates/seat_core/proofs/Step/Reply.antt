@@ -8,7 +8,7 @@ use Rattle.seat_nesting.specs.Nesting.{Legs, Table, Fits, room, may_wait, ladder
 use Rattle.seat_nesting.specs.Counting.{Counted, limits_of, seats_of, holds, leg_holds}
 use Rattle.seat_core.specs.declared.booking.Booking.{Booking}
 use Rattle.seat_core.specs.declared.booking.Status.TheVariants.{Held, Waiting}
-use Rattle.seat_core.specs.declared.books.Book.{Book}
+use Rattle.seat_core.specs.declared.books.FlightBook.{FlightBook}
 use Rattle.seat_journal.specs.declared.entry.Advice.{Advice}
 use Rattle.seat_journal.specs.declared.entry.Command.{Command}
 use Rattle.seat_journal.specs.declared.entry.Entry.{Entry}
@@ -32,7 +32,7 @@ use Rattle.seat_core.proofs.Passes.Weights.{found_passes}
 -- ---- rooms and waiting lists
 
 -- the room of a place is that of its flight's bookings
-pub room_is : (counts : Counted) (books : List Book) (p : Place) (class : ℕ) → IsFlight counts books p.flight
+pub room_is : (counts : Counted) (books : List FlightBook) (p : Place) (class : ℕ) → IsFlight counts books p.flight
     → room (limits_of counts) (seats_of counts) p class ≡ room (limits_of counts) (held (book_at books p.flight)) p class
 room_is counts books p class h = room_same (limits_of counts) (seats_of counts) (held (book_at books p.flight)) p class h.seats
 
@@ -42,13 +42,13 @@ may_wait_is limits xs ys p class n is =
     ap (λ (l : List Booking). may_wait limits (waiting l) p class n) is ∙ may_wait_same limits (waiting (queue_of xs)) (waiting xs) p class n (λ l. waiting_queue xs p.flight l class)
 
 -- whether so many seats fit, by the counters
-pub fits_yes : (counts : Counted) (books : List Book) (p : Place) (class n r : ℕ) → IsFlight counts books p.flight → r ≡ room (limits_of counts) (seats_of counts) p class → n ≤ r
+pub fits_yes : (counts : Counted) (books : List FlightBook) (p : Place) (class n r : ℕ) → IsFlight counts books p.flight → r ≡ room (limits_of counts) (seats_of counts) p class → n ≤ r
     → nat_le n (room (limits_of counts) (held (book_at books p.flight)) p class) ≡ true
 fits_yes counts books p class n r h is le =
     let test : nat_le n r ≡ true = grind (arith, nat_tests) in
     ap (nat_le n) (sym (room_is counts books p class h) ∙ sym is) ∙ test
 
-pub fits_no : (counts : Counted) (books : List Book) (p : Place) (class n r : ℕ) → IsFlight counts books p.flight → r ≡ room (limits_of counts) (seats_of counts) p class → r < n
+pub fits_no : (counts : Counted) (books : List FlightBook) (p : Place) (class n r : ℕ) → IsFlight counts books p.flight → r ≡ room (limits_of counts) (seats_of counts) p class → r < n
     → nat_le n (room (limits_of counts) (held (book_at books p.flight)) p class) ≡ false
 fits_no counts books p class n r h is lt =
     let test : nat_le n r ≡ false = grind (arith, nat_tests) in
@@ -189,7 +189,7 @@ waits_as_found test (x ∷ bs) b found = cases (test x) refl (waits_as_found tes
   cases false m rest = let later : find test bs ≡ Some b = rw m at found in rw m (rest later)
 
 -- a cancellation of held seats: the pass runs over the waiting list, once they are given back
-pub cancel_held : (counts : Counted) (books : List Book) (c : Command) (p : Place) (b : Booking) → IsFlight counts books p.flight → find (is_for c.locator p c.class) (book_at books p.flight) ≡ Some b
+pub cancel_held : (counts : Counted) (books : List FlightBook) (c : Command) (p : Place) (b : Booking) → IsFlight counts books p.flight → find (is_for c.locator p c.class) (book_at books p.flight) ≡ Some b
     → p.from ≤ p.to → 1 ≤ c.seats → c.seats ≤ b.seats → is_waiting b.status ≡ false
     → (pass (limits_of counts) [] [] (reduced (is_for c.locator p c.class) c.seats (book_at books p.flight))).advices
     ≡ advices_by (limits_of counts) (given_back (limits_of counts) (seats_of counts) p c.class c.seats) (queue_at books p.flight)
@@ -214,7 +214,7 @@ cancel_held counts books c p b h found order some le held_now =
     (given_same grid (held bs) (seats_of counts) p c.class c.seats (λ l k. sym (h.seats l k))))))
 
 -- and of seats that wait: the booking that keeps fewer may fit
-pub cancel_waiting : (counts : Counted) (books : List Book) (c : Command) (p : Place) (b : Booking) → IsFlight counts books p.flight → find (is_for c.locator p c.class) (book_at books p.flight) ≡ Some b
+pub cancel_waiting : (counts : Counted) (books : List FlightBook) (c : Command) (p : Place) (b : Booking) → IsFlight counts books p.flight → find (is_for c.locator p c.class) (book_at books p.flight) ≡ Some b
     → p.from ≤ p.to → 1 ≤ c.seats → c.seats ≤ b.seats → is_waiting b.status ≡ true
     → (pass (limits_of counts) [] [] (reduced (is_for c.locator p c.class) c.seats (book_at books p.flight))).advices
     ≡ rest_advised (room (limits_of counts) (seats_of counts) b.place b.class) b c.seats
@@ -272,7 +272,7 @@ held_on_le f (b ∷ bs) x l k = cases (b.place.flight == f) refl (held_on_le f b
   cases true e rest = rw e (omega (arith, rest, sum_by-cons (seats_on x l k) b (bookings_on f bs), sum_by-cons (seats_on x l k) b bs))
   cases false e rest = rw e (omega (arith, rest, sum_by-cons (seats_on x l k) b bs))
 
-pub flight_kept : (opening now : Legs) (cap : ℕ) (journal : List Entry) (books : List Book) (calls : List ℕ) (counts : Counted) (f : ℕ) (p : Place) → p.flight ≡ f → IsKept opening now cap journal books calls counts → IsFlight counts books f
+pub flight_kept : (opening now : Legs) (cap : ℕ) (journal : List Entry) (books : List FlightBook) (calls : List ℕ) (counts : Counted) (f : ℕ) (p : Place) → p.flight ≡ f → IsKept opening now cap journal books calls counts → IsFlight counts books f
 flight_kept opening now cap journal books calls counts f p at k =
     let bs : List Booking = (replay opening journal).bookings in
     let book : bookings_on f bs ≡ book_at books f = sym (k.by_flight f) in
@@ -289,7 +289,7 @@ flight_kept opening now cap journal books calls counts f p at k =
       there = (let P : List Booking → Type 0 = λ l. AllByRecursion (λ b. b.place.flight ≡ f) l in subst P book (all_there f bs));
     }
 
-pub kept_flight : (opening now : Legs) (cap : ℕ) (journal : List Entry) (books : List Book) (calls : List ℕ) (counts : Counted) (o : Option Place) → IsKept opening now cap journal books calls counts
+pub kept_flight : (opening now : Legs) (cap : ℕ) (journal : List Entry) (books : List FlightBook) (calls : List ℕ) (counts : Counted) (o : Option Place) → IsKept opening now cap journal books calls counts
     → IfSome o (λ p. IsFlight counts books p.flight)
 kept_flight opening now cap journal books calls counts None k = tt
 kept_flight opening now cap journal books calls counts (Some p) k = flight_kept opening now cap journal books calls counts p.flight p refl k

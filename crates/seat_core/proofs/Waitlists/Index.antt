@@ -1,13 +1,13 @@
--- The parties of a waiting list stay what its bookings are.
+-- The demands of a waiting list stay what its bookings are.
 use Rattle.std.proofs.Common.{◌≡◌, ◌==◌, ◌||◌, ℕ, zero, suc, ◌+◌, ◌*◌, ◌<◌, ◌≤◌, Bool, true, false, min, List, [], ◌∷◌, ◌++◌, length, get_or, set, remove, Option, Some, None, if◌then◌else◌, arith, refl, sym, subst, ap, ◌∙◌}
 use Rattle.std.specs.List.{AllByRecursion, list_any}
 use Rattle.std.proofs.lemmas.Bool.Decides.{nat_tests}
 use Rattle.std.proofs.lemmas.List.{set-get_or}
 use Rattle.ssim_records.specs.declared.place.Place.{Place}
 use Rattle.seat_core.specs.declared.booking.Booking.{Booking}
-use Rattle.seat_core.specs.declared.parties.Party.{Party}
+use Rattle.seat_core.specs.declared.demands.Demand.{Demand}
 use Rattle.seat_core.specs.Bookings.{same_place, is_waiting}
-use Rattle.seat_core.specs.Parties.{is_at, is_party_of, is_booking_of, is_apart, least_with, smallest_of, seats_for, party_smallest, party_seats, joined, IsIndexed}
+use Rattle.seat_core.specs.Demands.{is_at, is_demand_of, is_booking_of, is_apart, least_with, smallest_of, seats_for, demand_smallest, demand_seats, joined, IsIndexed}
 use Rattle.seat_core.proofs.Step.Limits.{both}
 use Rattle.seat_core.proofs.History.Faults.{place_same}
 use Rattle.seat_core.proofs.Passes.Quiet.{all_push}
@@ -154,95 +154,95 @@ none_left q c (b ∷ bs) e = cases (is_booking_of q c b) refl e (none_left q c b
   cases true f g rest = some b.seats (smallest_of q c bs) (rw f at g)
   cases false f g rest = rw f (rest (rw f at g))
 
--- ---- the parties, place by place
+-- ---- the demands, place by place
 pub neither : (t u : Bool) → (t || u) ≡ false → (t ≡ false) × (u ≡ false)
 neither true u e = absurd cc
 neither false u e = (refl, e)
 
-pub no_seats : (q : Place) (c : ℕ) (ps : List Party) → list_any (is_party_of q c) ps ≡ false → party_seats q c ps ≡ 0
+pub no_seats : (q : Place) (c : ℕ) (ps : List Demand) → list_any (is_demand_of q c) ps ≡ false → demand_seats q c ps ≡ 0
 no_seats q c [] e = refl
 no_seats q c (p ∷ ps) e =
-    let h = neither (is_party_of q c p) (list_any (is_party_of q c) ps) e in
+    let h = neither (is_demand_of q c p) (list_any (is_demand_of q c) ps) e in
     rw (h.0) (no_seats q c ps h.1)
 
-pub no_smallest : (q : Place) (c : ℕ) (ps : List Party) → list_any (is_party_of q c) ps ≡ false → party_smallest q c ps ≡ None
+pub no_smallest : (q : Place) (c : ℕ) (ps : List Demand) → list_any (is_demand_of q c) ps ≡ false → demand_smallest q c ps ≡ None
 no_smallest q c [] e = refl
 no_smallest q c (p ∷ ps) e =
-    let h = neither (is_party_of q c p) (list_any (is_party_of q c) ps) e in
+    let h = neither (is_demand_of q c p) (list_any (is_demand_of q c) ps) e in
     rw (h.0) (no_smallest q c ps h.1)
 
 -- none but the first of a list is of its place and class
-pub apart_rest : (p : Party) (ps : List Party) → is_apart (p ∷ ps) ≡ true → (list_any (is_party_of p.place p.class) ps ≡ false) × (is_apart ps ≡ true)
-apart_rest p ps e = cases (list_any (is_party_of p.place p.class) ps) refl e where
-  cases : (t : Bool) → list_any (is_party_of p.place p.class) ps ≡ t → (if list_any (is_party_of p.place p.class) ps then false else is_apart ps) ≡ true
-      → (list_any (is_party_of p.place p.class) ps ≡ false) × (is_apart ps ≡ true)
+pub apart_rest : (p : Demand) (ps : List Demand) → is_apart (p ∷ ps) ≡ true → (list_any (is_demand_of p.place p.class) ps ≡ false) × (is_apart ps ≡ true)
+apart_rest p ps e = cases (list_any (is_demand_of p.place p.class) ps) refl e where
+  cases : (t : Bool) → list_any (is_demand_of p.place p.class) ps ≡ t → (if list_any (is_demand_of p.place p.class) ps then false else is_apart ps) ≡ true
+      → (list_any (is_demand_of p.place p.class) ps ≡ false) × (is_apart ps ≡ true)
   cases true f g = let no : false ≡ true = rw f at g in absurd cc
   cases false f g = (f, rw f at g)
 
--- no party of one place and class is among those of another list
-pub gone_at : (place : Place) (class : ℕ) (p : Party) (ps : List Party) → is_party_of place class p ≡ true → list_any (is_party_of p.place p.class) ps ≡ false → list_any (is_party_of place class) ps ≡ false
+-- no demand of one place and class is among those of another list
+pub gone_at : (place : Place) (class : ℕ) (p : Demand) (ps : List Demand) → is_demand_of place class p ≡ true → list_any (is_demand_of p.place p.class) ps ≡ false → list_any (is_demand_of place class) ps ≡ false
 gone_at place class p ps e f =
     let h = at_same place p.place class p.class e in
-    let P : Place → Type 0 = λ y. list_any (is_party_of y p.class) ps ≡ false in
-    let Q : ℕ → Type 0 = λ j. list_any (is_party_of place j) ps ≡ false in
+    let P : Place → Type 0 = λ y. list_any (is_demand_of y p.class) ps ≡ false in
+    let Q : ℕ → Type 0 = λ j. list_any (is_demand_of place j) ps ≡ false in
     subst Q h.1 (subst P h.0 f)
 
 -- ---- a booking joins
-pub joined_smallest : (place : Place) (class n : ℕ) (q : Place) (c : ℕ) (ps : List Party) → is_at place class q c ≡ false → party_smallest q c (joined ps place class n) ≡ party_smallest q c ps
+pub joined_smallest : (place : Place) (class n : ℕ) (q : Place) (c : ℕ) (ps : List Demand) → is_at place class q c ≡ false → demand_smallest q c (joined ps place class n) ≡ demand_smallest q c ps
 joined_smallest place class n q c [] other = rw (at_turned q place c class ∙ other) refl
-joined_smallest place class n q c (p ∷ ps) other = cases (is_party_of place class p) (is_party_of q c p) refl refl (joined_smallest place class n q c ps other) where
-  cases : (t u : Bool) → is_party_of place class p ≡ t → is_party_of q c p ≡ u → party_smallest q c (joined ps place class n) ≡ party_smallest q c ps
-      → party_smallest q c (joined (p ∷ ps) place class n) ≡ party_smallest q c (p ∷ ps)
+joined_smallest place class n q c (p ∷ ps) other = cases (is_demand_of place class p) (is_demand_of q c p) refl refl (joined_smallest place class n q c ps other) where
+  cases : (t u : Bool) → is_demand_of place class p ≡ t → is_demand_of q c p ≡ u → demand_smallest q c (joined ps place class n) ≡ demand_smallest q c ps
+      → demand_smallest q c (joined (p ∷ ps) place class n) ≡ demand_smallest q c (p ∷ ps)
   cases true u e f rest = let away = at_other place q p.place class c p.class other e in rw e (rw away refl)
   cases false true e f rest = rw (e, f) refl
   cases false false e f rest = rw (e, f) rest
 
-pub joined_seats : (place : Place) (class n : ℕ) (q : Place) (c : ℕ) (ps : List Party) → is_at place class q c ≡ false → party_seats q c (joined ps place class n) ≡ party_seats q c ps
+pub joined_seats : (place : Place) (class n : ℕ) (q : Place) (c : ℕ) (ps : List Demand) → is_at place class q c ≡ false → demand_seats q c (joined ps place class n) ≡ demand_seats q c ps
 joined_seats place class n q c [] other = rw (at_turned q place c class ∙ other) refl
-joined_seats place class n q c (p ∷ ps) other = cases (is_party_of place class p) (is_party_of q c p) refl refl (joined_seats place class n q c ps other) where
-  cases : (t u : Bool) → is_party_of place class p ≡ t → is_party_of q c p ≡ u → party_seats q c (joined ps place class n) ≡ party_seats q c ps
-      → party_seats q c (joined (p ∷ ps) place class n) ≡ party_seats q c (p ∷ ps)
+joined_seats place class n q c (p ∷ ps) other = cases (is_demand_of place class p) (is_demand_of q c p) refl refl (joined_seats place class n q c ps other) where
+  cases : (t u : Bool) → is_demand_of place class p ≡ t → is_demand_of q c p ≡ u → demand_seats q c (joined ps place class n) ≡ demand_seats q c ps
+      → demand_seats q c (joined (p ∷ ps) place class n) ≡ demand_seats q c (p ∷ ps)
   cases true u e f rest = let away = at_other place q p.place class c p.class other e in rw e (rw away refl)
   cases false true e f rest = rw (e, f) refl
   cases false false e f rest = rw (e, f) rest
 
-pub joined_smallest_here : (place : Place) (class n : ℕ) (ps : List Party) → party_smallest place class (joined ps place class n) ≡ least_with n (party_smallest place class ps)
+pub joined_smallest_here : (place : Place) (class n : ℕ) (ps : List Demand) → demand_smallest place class (joined ps place class n) ≡ least_with n (demand_smallest place class ps)
 joined_smallest_here place class n [] = rw (at_itself place class) refl
-joined_smallest_here place class n (p ∷ ps) = cases (is_party_of place class p) refl (joined_smallest_here place class n ps) where
-  cases : (t : Bool) → is_party_of place class p ≡ t → party_smallest place class (joined ps place class n) ≡ least_with n (party_smallest place class ps)
-      → party_smallest place class (joined (p ∷ ps) place class n) ≡ least_with n (party_smallest place class (p ∷ ps))
+joined_smallest_here place class n (p ∷ ps) = cases (is_demand_of place class p) refl (joined_smallest_here place class n ps) where
+  cases : (t : Bool) → is_demand_of place class p ≡ t → demand_smallest place class (joined ps place class n) ≡ least_with n (demand_smallest place class ps)
+      → demand_smallest place class (joined (p ∷ ps) place class n) ≡ least_with n (demand_smallest place class (p ∷ ps))
   cases true e rest = rw e (rw e refl)
   cases false e rest = rw e (rw e rest)
 
-pub joined_seats_here : (place : Place) (class n : ℕ) (ps : List Party) → party_seats place class (joined ps place class n) ≡ n + party_seats place class ps
+pub joined_seats_here : (place : Place) (class n : ℕ) (ps : List Demand) → demand_seats place class (joined ps place class n) ≡ n + demand_seats place class ps
 joined_seats_here place class n [] = rw (at_itself place class) (omega arith)
-joined_seats_here place class n (p ∷ ps) = cases (is_party_of place class p) refl (joined_seats_here place class n ps) where
-  cases : (t : Bool) → is_party_of place class p ≡ t → party_seats place class (joined ps place class n) ≡ n + party_seats place class ps
-      → party_seats place class (joined (p ∷ ps) place class n) ≡ n + party_seats place class (p ∷ ps)
+joined_seats_here place class n (p ∷ ps) = cases (is_demand_of place class p) refl (joined_seats_here place class n ps) where
+  cases : (t : Bool) → is_demand_of place class p ≡ t → demand_seats place class (joined ps place class n) ≡ n + demand_seats place class ps
+      → demand_seats place class (joined (p ∷ ps) place class n) ≡ n + demand_seats place class (p ∷ ps)
   cases true e rest = rw e (rw e (omega arith))
   cases false e rest = rw e (rw e rest)
 
-pub joined_other : (ps : List Party) (place : Place) (class n : ℕ) (q : Place) (c : ℕ) → is_at place class q c ≡ false → list_any (is_party_of q c) ps ≡ false → list_any (is_party_of q c) (joined ps place class n) ≡ false
+pub joined_other : (ps : List Demand) (place : Place) (class n : ℕ) (q : Place) (c : ℕ) → is_at place class q c ≡ false → list_any (is_demand_of q c) ps ≡ false → list_any (is_demand_of q c) (joined ps place class n) ≡ false
 joined_other [] place class n q c other e = rw (at_turned q place c class ∙ other) refl
 joined_other (p ∷ ps) place class n q c other e =
-    let h = neither (is_party_of q c p) (list_any (is_party_of q c) ps) e in
-    cases (is_party_of place class p) refl h.0 h.1 (joined_other ps place class n q c other h.1)
+    let h = neither (is_demand_of q c p) (list_any (is_demand_of q c) ps) e in
+    cases (is_demand_of place class p) refl h.0 h.1 (joined_other ps place class n q c other h.1)
   where
-    cases : (t : Bool) → is_party_of place class p ≡ t → is_party_of q c p ≡ false → list_any (is_party_of q c) ps ≡ false
-        → list_any (is_party_of q c) (joined ps place class n) ≡ false → list_any (is_party_of q c) (joined (p ∷ ps) place class n) ≡ false
+    cases : (t : Bool) → is_demand_of place class p ≡ t → is_demand_of q c p ≡ false → list_any (is_demand_of q c) ps ≡ false
+        → list_any (is_demand_of q c) (joined ps place class n) ≡ false → list_any (is_demand_of q c) (joined (p ∷ ps) place class n) ≡ false
     cases true e f g rest = rw e (rw (f, g) refl)
     cases false e f g rest = rw e (rw (f, rest) refl)
 
-pub joined_apart : (ps : List Party) (place : Place) (class n : ℕ) → is_apart ps ≡ true → is_apart (joined ps place class n) ≡ true
+pub joined_apart : (ps : List Demand) (place : Place) (class n : ℕ) → is_apart ps ≡ true → is_apart (joined ps place class n) ≡ true
 joined_apart [] place class n e = refl
-joined_apart (p ∷ ps) place class n e = cases (is_party_of place class p) refl (joined_apart ps place class n (apart_rest p ps e).1) where
-  cases : (t : Bool) → is_party_of place class p ≡ t → is_apart (joined ps place class n) ≡ true → is_apart (joined (p ∷ ps) place class n) ≡ true
+joined_apart (p ∷ ps) place class n e = cases (is_demand_of place class p) refl (joined_apart ps place class n (apart_rest p ps e).1) where
+  cases : (t : Bool) → is_demand_of place class p ≡ t → is_apart (joined ps place class n) ≡ true → is_apart (joined (p ∷ ps) place class n) ≡ true
   cases true f rest = rw f e
   cases false f rest =
       let none = joined_other ps place class n p.place p.class f (apart_rest p ps e).0 in
       rw f (rw none rest)
 
-pub added : (xs : List Booking) (ps : List Party) (b : Booking) → IsIndexed xs ps → is_waiting b.status ≡ true → b.seats < 65536 → IsIndexed (xs ++ b ∷ []) (joined ps b.place b.class b.seats)
+pub added : (xs : List Booking) (ps : List Demand) (b : Booking) → IsIndexed xs ps → is_waiting b.status ≡ true → b.seats < 65536 → IsIndexed (xs ++ b ∷ []) (joined ps b.place b.class b.seats)
 added xs ps b i waits few = record {
   waits = all_push (λ x. is_waiting x.status ≡ true) xs b i.waits waits;
   small = all_push (λ x. x.seats < 65536) xs b i.small few;
@@ -250,10 +250,10 @@ added xs ps b i waits few = record {
   smallest = λ q c. smallest_cases q c (is_at b.place b.class q c) refl;
   seats = λ q c. seats_cases q c (is_at b.place b.class q c) refl;
 } where
-  smallest_cases : (q : Place) (c : ℕ) (t : Bool) → is_at b.place b.class q c ≡ t → party_smallest q c (joined ps b.place b.class b.seats) ≡ smallest_of q c (xs ++ b ∷ [])
+  smallest_cases : (q : Place) (c : ℕ) (t : Bool) → is_at b.place b.class q c ≡ t → demand_smallest q c (joined ps b.place b.class b.seats) ≡ smallest_of q c (xs ++ b ∷ [])
   smallest_cases q c true e =
       let h = at_same b.place q b.class c e in
-      let P : Place → ℕ → Type 0 = λ y j. party_smallest y j (joined ps b.place b.class b.seats) ≡ smallest_of y j (xs ++ b ∷ []) in
+      let P : Place → ℕ → Type 0 = λ y j. demand_smallest y j (joined ps b.place b.class b.seats) ≡ smallest_of y j (xs ++ b ∷ []) in
       let here : P b.place b.class =
       joined_smallest_here b.place b.class b.seats ps
       ∙ (ap (least_with b.seats) (i.smallest b.place b.class)
@@ -265,10 +265,10 @@ added xs ps b i waits few = record {
       joined_smallest b.place b.class b.seats q c ps e
       ∙ (i.smallest q c ∙ sym (smallest_push q c xs b ∙ rw (at_turned q b.place c b.class ∙ e) refl))
 
-  seats_cases : (q : Place) (c : ℕ) (t : Bool) → is_at b.place b.class q c ≡ t → party_seats q c (joined ps b.place b.class b.seats) ≡ seats_for q c (xs ++ b ∷ [])
+  seats_cases : (q : Place) (c : ℕ) (t : Bool) → is_at b.place b.class q c ≡ t → demand_seats q c (joined ps b.place b.class b.seats) ≡ seats_for q c (xs ++ b ∷ [])
   seats_cases q c true e =
       let h = at_same b.place q b.class c e in
-      let P : Place → ℕ → Type 0 = λ y j. party_seats y j (joined ps b.place b.class b.seats) ≡ seats_for y j (xs ++ b ∷ []) in
+      let P : Place → ℕ → Type 0 = λ y j. demand_seats y j (joined ps b.place b.class b.seats) ≡ seats_for y j (xs ++ b ∷ []) in
       let here : P b.place b.class =
       joined_seats_here b.place b.class b.seats ps
       ∙ (ap (λ n. b.seats + n) (i.seats b.place b.class)

@@ -10,7 +10,7 @@ use Rattle.seat_journal.specs.declared.entry.Command.{Command}
 use Rattle.seat_core.specs.declared.booking.Booking.{Booking}
 use Rattle.seat_core.specs.declared.booking.Status.{Status}
 use Rattle.seat_core.specs.declared.booking.Status.TheVariants.{Held, Waiting}
-use Rattle.seat_core.specs.declared.books.Book.{Book}
+use Rattle.seat_core.specs.declared.books.FlightBook.{FlightBook}
 use Rattle.seat_core.specs.Bookings.{is_waiting, waits_on, waiting}
 use Rattle.seat_core.specs.Books.{spare_of}
 use Rattle.seat_core.specs.Sequential.{reduced, booking_of}
@@ -155,15 +155,15 @@ split true true e = (refl, refl)
 split true false e = absurd cc
 split false u e = absurd cc
 
-pub spare_booking : (book : Book) → spare_of book ≡ true → vec_len book.bookings < vec_capacity book.bookings
+pub spare_booking : (book : FlightBook) → spare_of book ≡ true → vec_len book.bookings < vec_capacity book.bookings
 spare_booking book e =
     let h = (split (nat_lt (vec_len book.bookings) (vec_capacity book.bookings)) (book.queue.spare) e).0 in
     grind (arith, nat_tests)
 
-pub spare_waiting : (book : Book) → spare_of book ≡ true → book.queue.spare ≡ true
+pub spare_waiting : (book : FlightBook) → spare_of book ≡ true → book.queue.spare ≡ true
 spare_waiting book e = (split (nat_lt (vec_len book.bookings) (vec_capacity book.bookings)) book.queue.spare e).1
 
-pub spare_both : (book : Book) → vec_len book.bookings < vec_capacity book.bookings → book.queue.spare ≡ true → spare_of book ≡ true
+pub spare_both : (book : FlightBook) → vec_len book.bookings < vec_capacity book.bookings → book.queue.spare ≡ true → spare_of book ≡ true
 spare_both book a b =
     let one : nat_lt (vec_len book.bookings) (vec_capacity book.bookings) ≡ true = grind (arith, nat_tests) in
     rw (one, b) refl

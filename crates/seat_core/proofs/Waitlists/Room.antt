@@ -1,4 +1,4 @@
--- What the parties answer is what the bookings answer.
+-- What the demands answer is what the bookings answer.
 use Rattle.std.proofs.Common.{◌≡◌, ◌==◌, ◌&&◌, ℕ, ◌+◌, Bool, true, false, min, nat_lt, List, [], ◌∷◌, Option, Some, None, if◌then◌else◌, arith, refl, sym, subst, ap, ◌∙◌}
 use Rattle.std.specs.List.{AllByRecursion}
 use Rattle.std.proofs.lemmas.Bool.Decides.{nat_tests}
@@ -8,10 +8,10 @@ use Rattle.seat_nesting.specs.Nesting.{Legs, Table, room, may_wait, covers}
 use Rattle.seat_core.specs.declared.booking.Booking.{Booking}
 use Rattle.seat_core.specs.declared.booking.Status.{Status}
 use Rattle.seat_core.specs.declared.booking.Status.TheVariants.{Held, Waiting}
-use Rattle.seat_core.specs.declared.parties.Party.{Party}
+use Rattle.seat_core.specs.declared.demands.Demand.{Demand}
 use Rattle.seat_core.specs.Bookings.{is_waiting, waits_on, waiting}
 use Rattle.seat_core.specs.Queues.{none_fits}
-use Rattle.seat_core.specs.Parties.{is_at, is_party_of, is_booking_of, is_apart, least_with, smallest_of, seats_for, party_smallest, party_seats, waits_of, no_party_fits, IsIndexed}
+use Rattle.seat_core.specs.Demands.{is_at, is_demand_of, is_booking_of, is_apart, least_with, smallest_of, seats_for, demand_smallest, demand_seats, waits_of, no_demand_fits, IsIndexed}
 use Rattle.seat_core.proofs.Flight.View.{may_wait_same}
 use Rattle.seat_core.proofs.Waitlists.Index.{at_itself, at_turned, at_same, at_other, apart_rest, no_seats, no_smallest}
 
@@ -20,11 +20,11 @@ abbrev others : Place → ℕ → List Booking → List Booking
 others q c [] = []
 others q c (b ∷ bs) = (if is_booking_of q c b then others q c bs else b ∷ others q c bs)
 
--- the parties tell what the bookings ask for
-record Tells (xs : List Booking) (ps : List Party) : Type 0 where
+-- the demands tell what the bookings ask for
+record Tells (xs : List Booking) (ps : List Demand) : Type 0 where
   apart : is_apart ps ≡ true
-  smallest : (place : Place) (class : ℕ) → party_smallest place class ps ≡ smallest_of place class xs
-  seats : (place : Place) (class : ℕ) → party_seats place class ps ≡ seats_for place class xs
+  smallest : (place : Place) (class : ℕ) → demand_smallest place class ps ≡ smallest_of place class xs
+  seats : (place : Place) (class : ℕ) → demand_seats place class ps ≡ seats_for place class xs
 
 -- ---- without those of one place and class
 all_others : (P : Booking → Type 0) (q : Place) (c : ℕ) (xs : List Booking) → AllByRecursion P xs → AllByRecursion P (others q c xs)
@@ -64,46 +64,46 @@ seats_kept q c y j (b ∷ bs) other = cases (is_booking_of q c b) (is_booking_of
   cases false true e f rest = rw e (rw f (ap (λ n. b.seats + n) rest))
   cases false false e f rest = rw e (rw f rest)
 
--- the first party told of its bookings, the rest tell of the others
-rest_tells : (xs : List Booking) (p : Party) (ps : List Party) → Tells xs (p ∷ ps) → Tells (others p.place p.class xs) ps
+-- the first demand told of its bookings, the rest tell of the others
+rest_tells : (xs : List Booking) (p : Demand) (ps : List Demand) → Tells xs (p ∷ ps) → Tells (others p.place p.class xs) ps
 rest_tells xs p ps t = record {
   apart = (apart_rest p ps t.apart).1;
   smallest = λ y j. smallest_cases y j (is_at p.place p.class y j) refl;
   seats = λ y j. seats_cases y j (is_at p.place p.class y j) refl;
 } where
-  smallest_cases : (y : Place) (j : ℕ) (u : Bool) → is_at p.place p.class y j ≡ u → party_smallest y j ps ≡ smallest_of y j (others p.place p.class xs)
+  smallest_cases : (y : Place) (j : ℕ) (u : Bool) → is_at p.place p.class y j ≡ u → demand_smallest y j ps ≡ smallest_of y j (others p.place p.class xs)
   smallest_cases y j true e =
       let h = at_same p.place y p.class j e in
-      let P : Place → ℕ → Type 0 = λ z i. party_smallest z i ps ≡ smallest_of z i (others p.place p.class xs) in
+      let P : Place → ℕ → Type 0 = λ z i. demand_smallest z i ps ≡ smallest_of z i (others p.place p.class xs) in
       let here : P p.place p.class = no_smallest p.place p.class ps (apart_rest p ps t.apart).0 ∙ sym (smallest_none p.place p.class xs) in
       let Q : Place → Type 0 = λ z. P z p.class in
       let R : ℕ → Type 0 = λ i. P y i in
       subst R (sym h.1) (subst Q (sym h.0) here)
   smallest_cases y j false e =
-      let away : is_party_of y j p ≡ false = at_turned y p.place j p.class ∙ e in
-      let skip : party_smallest y j (p ∷ ps) ≡ party_smallest y j ps = rw away refl in
+      let away : is_demand_of y j p ≡ false = at_turned y p.place j p.class ∙ e in
+      let skip : demand_smallest y j (p ∷ ps) ≡ demand_smallest y j ps = rw away refl in
       sym skip ∙ (t.smallest y j ∙ sym (smallest_kept p.place p.class y j xs e))
 
-  seats_cases : (y : Place) (j : ℕ) (u : Bool) → is_at p.place p.class y j ≡ u → party_seats y j ps ≡ seats_for y j (others p.place p.class xs)
+  seats_cases : (y : Place) (j : ℕ) (u : Bool) → is_at p.place p.class y j ≡ u → demand_seats y j ps ≡ seats_for y j (others p.place p.class xs)
   seats_cases y j true e =
       let h = at_same p.place y p.class j e in
-      let P : Place → ℕ → Type 0 = λ z i. party_seats z i ps ≡ seats_for z i (others p.place p.class xs) in
+      let P : Place → ℕ → Type 0 = λ z i. demand_seats z i ps ≡ seats_for z i (others p.place p.class xs) in
       let here : P p.place p.class = no_seats p.place p.class ps (apart_rest p ps t.apart).0 ∙ sym (seats_none p.place p.class xs) in
       let Q : Place → Type 0 = λ z. P z p.class in
       let R : ℕ → Type 0 = λ i. P y i in
       subst R (sym h.1) (subst Q (sym h.0) here)
   seats_cases y j false e =
-      let away : is_party_of y j p ≡ false = at_turned y p.place j p.class ∙ e in
-      let skip : party_seats y j (p ∷ ps) ≡ party_seats y j ps = rw away refl in
+      let away : is_demand_of y j p ≡ false = at_turned y p.place j p.class ∙ e in
+      let skip : demand_seats y j (p ∷ ps) ≡ demand_seats y j ps = rw away refl in
       sym skip ∙ (t.seats y j ∙ sym (seats_kept p.place p.class y j xs e))
 
-first_smallest : (p : Party) (ps : List Party) → party_smallest p.place p.class (p ∷ ps) ≡ Some p.smallest
+first_smallest : (p : Demand) (ps : List Demand) → demand_smallest p.place p.class (p ∷ ps) ≡ Some p.smallest
 first_smallest p ps = rw (at_itself p.place p.class) refl
 
-first_seats : (p : Party) (ps : List Party) → party_seats p.place p.class (p ∷ ps) ≡ p.seats
+first_seats : (p : Demand) (ps : List Demand) → demand_seats p.place p.class (p ∷ ps) ≡ p.seats
 first_seats p ps = rw (at_itself p.place p.class) refl
 
--- no party, no booking
+-- no demand, no booking
 none_told : (xs : List Booking) → ((q : Place) (c : ℕ) → None ≡ smallest_of q c xs) → xs ≡ []
 none_told [] h = refl
 none_told (b ∷ bs) h = some (smallest_of b.place b.class bs) (h b.place b.class ∙ rw (at_itself b.place b.class) refl) where
@@ -151,7 +151,7 @@ waiting_parts f l k q c (b ∷ bs) a = cases (is_booking_of q c b) refl (waiting
   cases false e rest =
       rw e (omega (arith, sum_by-cons (waits_on f l k) b bs, sum_by-cons (waits_on f l k) b (others q c bs), rest))
 
-waits_told : (f l k : ℕ) (ps : List Party) (xs : List Booking) → AllByRecursion (λ b. is_waiting b.status ≡ true) xs → Tells xs ps → waits_of ps f l k ≡ waiting xs f l k
+waits_told : (f l k : ℕ) (ps : List Demand) (xs : List Booking) → AllByRecursion (λ b. is_waiting b.status ≡ true) xs → Tells xs ps → waits_of ps f l k ≡ waiting xs f l k
 waits_told f l k [] xs a t = sym (ap (λ (ys : List Booking). waiting ys f l k) (none_told xs t.smallest))
 waits_told f l k (p ∷ ps) xs a t =
     let rest = waits_told f l k ps (others p.place p.class xs) (all_others (λ b. is_waiting b.status ≡ true) p.place p.class xs a) (rest_tells xs p ps t) in
@@ -159,10 +159,10 @@ waits_told f l k (p ∷ ps) xs a t =
     let part : share f l k p.place p.class p.seats ≡ share f l k p.place p.class (seats_for p.place p.class xs) = ap (share f l k p.place p.class) own in
     omega (arith, part, rest, waiting_parts f l k p.place p.class xs a)
 
-tells : (xs : List Booking) (ps : List Party) → IsIndexed xs ps → Tells xs ps
+tells : (xs : List Booking) (ps : List Demand) → IsIndexed xs ps → Tells xs ps
 tells xs ps i = record { apart = i.apart; smallest = i.smallest; seats = i.seats }
 
-pub may_wait_told : (grid : Legs) (xs : List Booking) (ps : List Party) (p : Place) (class n : ℕ) → IsIndexed xs ps → may_wait grid (waits_of ps) p class n ≡ may_wait grid (waiting xs) p class n
+pub may_wait_told : (grid : Legs) (xs : List Booking) (ps : List Demand) (p : Place) (class n : ℕ) → IsIndexed xs ps → may_wait grid (waits_of ps) p class n ≡ may_wait grid (waiting xs) p class n
 may_wait_told grid xs ps p class n i =
     may_wait_same grid (waits_of ps) (waiting xs) p class n (λ l. waits_told p.flight l class ps xs i.waits (tells xs ps i))
 
@@ -212,7 +212,7 @@ fits_parts grid t q c (b ∷ bs) = cases (is_booking_of q c b) refl (fits_parts 
       (ap (λ (v : Bool). nat_lt (room grid t b.place b.class) b.seats && v) rest
       ∙ and_swap (nat_lt (room grid t b.place b.class) b.seats) (over (room grid t q c) (smallest_of q c bs)) (none_fits grid t (others q c bs)))
 
-fits_told : (grid : Legs) (t : Table) (ps : List Party) (xs : List Booking) → Tells xs ps → no_party_fits grid t ps ≡ none_fits grid t xs
+fits_told : (grid : Legs) (t : Table) (ps : List Demand) (xs : List Booking) → Tells xs ps → no_demand_fits grid t ps ≡ none_fits grid t xs
 fits_told grid t [] xs h = sym (ap (none_fits grid t) (none_told xs h.smallest))
 fits_told grid t (p ∷ ps) xs h =
     let rest = fits_told grid t ps (others p.place p.class xs) (rest_tells xs p ps h) in
@@ -221,5 +221,5 @@ fits_told grid t (p ∷ ps) xs h =
     ∙ (ap (λ (o : Option ℕ). over (room grid t p.place p.class) o && none_fits grid t (others p.place p.class xs)) own
     ∙ sym (fits_parts grid t p.place p.class xs))
 
-pub none_fits_told : (grid : Legs) (t : Table) (xs : List Booking) (ps : List Party) → IsIndexed xs ps → no_party_fits grid t ps ≡ none_fits grid t xs
+pub none_fits_told : (grid : Legs) (t : Table) (xs : List Booking) (ps : List Demand) → IsIndexed xs ps → no_demand_fits grid t ps ≡ none_fits grid t xs
 none_fits_told grid t xs ps i = fits_told grid t ps xs (tells xs ps i)

@@ -7,16 +7,16 @@ use Rattle.seat_core.proofs.reply.cancel_seats.Goals as goal
 
 pub advices_without-requires-clause-found : goal.advices_without-requires-clause-found
 advices_without-requires-clause-found c =
-    let here : slice_get (book_at c.args.books.now c.args.place.flight) c.args.at ≡ Some c.index-book_of-at.result =
-    found_at (is_for c.args.command.now.locator c.args.place c.args.command.now.class) (book_at c.args.books.now c.args.place.flight) c.book_of.result.now c.args.at c.index-book_of-at.result
-    c.book_of.ensures c.requires.found c.index-book_of-at.is in
+    let here : slice_get (book_at c.args.books.now c.args.place.flight) c.args.at ≡ Some c.index-book_at-at.result =
+    found_at (is_for c.args.command.now.locator c.args.place c.args.command.now.class) (book_at c.args.books.now c.args.place.flight) c.book_at.result.now c.args.at c.index-book_at-at.result
+    c.book_at.ensures c.requires.found c.index-book_at-at.is in
     find_found (is_for c.args.command.now.locator c.args.place c.args.command.now.class) (book_at c.args.books.now c.args.place.flight) c.args.at c.requires.found ∙ here
 
 pub returns-clause-says : goal.returns-clause-says
 returns-clause-says c =
-    let here : slice_get (book_at c.args.books.now c.args.place.flight) c.args.at ≡ Some c.index-book_of-at.result =
-    found_at (is_for c.args.command.now.locator c.args.place c.args.command.now.class) (book_at c.args.books.now c.args.place.flight) c.book_of.result.now c.args.at c.index-book_of-at.result
-    c.book_of.ensures c.requires.found c.index-book_of-at.is in
-    let enough : c.args.command.now.seats ≤ c.index-book_of-at.result.seats = c.if-seats-booking.false in
-    let test : nat_le c.args.command.now.seats c.index-book_of-at.result.seats ≡ true = grind (arith, nat_tests) in
+    let here : slice_get (book_at c.args.books.now c.args.place.flight) c.args.at ≡ Some c.index-book_at-at.result =
+    found_at (is_for c.args.command.now.locator c.args.place c.args.command.now.class) (book_at c.args.books.now c.args.place.flight) c.book_at.result.now c.args.at c.index-book_at-at.result
+    c.book_at.ensures c.requires.found c.index-book_at-at.is in
+    let enough : c.args.command.now.seats ≤ c.index-book_at-at.result.seats = c.if-seats-booking.false in
+    let test : nat_le c.args.command.now.seats c.index-book_at-at.result.seats ≡ true = grind (arith, nat_tests) in
     rw (here, test) (record { reply = sym c.of.ensures; released = sym c.released.ensures; advices = sym c.in_ok-advices.ensures.told })

@@ -2,7 +2,7 @@ use Rattle.std.proofs.Common.{List, subst, sym, ◌∙◌}
 use Rattle.seat_core.specs.declared.booking.Booking.{Booking}
 use Rattle.seat_core.specs.Bookings.{is_for}
 use Rattle.seat_core.specs.Sequential.{reduced}
-use Rattle.seat_core.specs.Parties.{IsIndexed}
+use Rattle.seat_core.specs.Demands.{IsIndexed}
 use Rattle.seat_core.proofs.Step.Reduced.{reduced_gone}
 use Rattle.seat_core.proofs.Waitlists.Departures.{reduced_enough, reduced_indexed}
 use Rattle.seat_core.proofs.waiting_list.reduce_at.Goals as goal
@@ -16,12 +16,12 @@ returns-then-seats-command-clause-reduced c =
 pub lessen-requires : goal.lessen-requires
 lessen-requires c =
     let command = c.args.command.now in
-    reduced_enough c.args.bookings.now.items c.args.parties.now.items command.locator c.args.place command.class command.seats c.args.at c.index.result.now c.requires.indexed c.requires.found c.index.ensures c.if-seats-command.false
+    reduced_enough c.args.bookings.now.items c.args.demands.now.items command.locator c.args.place command.class command.seats c.args.at c.index.result.now c.requires.indexed c.requires.found c.index.ensures c.if-seats-command.false
 
 pub returns-clause-indexed : goal.returns-clause-indexed
 returns-clause-indexed c =
     let command = c.args.command.now in
     let xs = c.args.bookings.now.items in
-    let after = reduced_indexed xs c.args.parties.now.items command.locator c.args.place command.class command.seats c.args.at c.index.result.now c.requires.indexed c.requires.found c.index.ensures c.if-seats-command.false in
-    let P : List Booking → Type 0 = λ ys. IsIndexed ys c.lessen.new.parties.items in
+    let after = reduced_indexed xs c.args.demands.now.items command.locator c.args.place command.class command.seats c.args.at c.index.result.now c.requires.indexed c.requires.found c.index.ensures c.if-seats-command.false in
+    let P : List Booking → Type 0 = λ ys. IsIndexed ys c.lessen.new.demands.items in
     subst P (sym c.take_off.ensures) (subst (IsIndexed (reduced (is_for command.locator c.args.place command.class) command.seats xs)) (sym c.lessen.ensures) after)

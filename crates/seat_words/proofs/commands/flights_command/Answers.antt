@@ -1,7 +1,11 @@
+use Rattle.std.proofs.Common.{Ok}
 use Rattle.seat_words.specs.CommandLine.{flights_app}
 use Rattle.seat_words.proofs.Building.{argued}
 use Rattle.seat_words.proofs.commands.flights_command.Goals as goal
 
 pub returns : goal.returns
 unfolding flights_app
-returns c = argued _ _ _ _ c.in_ok-flights-3.ensures (argued _ _ _ _ c.in_ok-flights-2.ensures (argued _ _ _ _ c.in_ok-flights.ensures c.named_command-flights.ensures))
+returns c =
+    let first = argued _ _ (Ok c.named_command-flights.result) c.with_argument-flights.result c.wanted_option.result c.named_command-flights.ensures c.wanted_option.ensures c.with_argument-flights.ensures in
+    let days = argued _ _ c.with_argument-flights.result c.with_argument-flights-2.result c.wanted_option-2.result first c.wanted_option-2.ensures c.with_argument-flights-2.ensures in
+    argued _ _ c.with_argument-flights-2.result c.with_argument.result c.wanted_value.result days c.wanted_value.ensures c.with_argument.ensures

@@ -1,5 +1,5 @@
 ghost use Rattle.std.specs.Prelude.{◌≡◌};
-ghost use Rattle.seat_core.specs.Codes.{request_of};
+ghost use Rattle.seat_core.specs.Codes.{action_of};
 
 use ssim_records::Code;
 
@@ -13,21 +13,21 @@ pub enum Wish {
 
 /// What the code of a command asks for.
 #[derive(Clone, Copy)]
-pub enum Request {
+pub enum Action {
     Seats(Wish),
     Cancel,
     Other,
 }
 
 /// Reads a command's code.
-pub fn request_of(code: Code) -> Request
-    ensures { result ≡ request_of code }
+pub fn action_of(code: Code) -> Action
+    ensures { result ≡ action_of code }
 {
     match code.letters() {
-        [b'N', b'N'] => Request::Seats(Wish::Need),
-        [b'S', b'S'] => Request::Seats(Wish::Sell),
-        [b'L', b'L'] => Request::Seats(Wish::Waitlist),
-        [b'X', b'X'] => Request::Cancel,
-        _ => Request::Other,
+        [b'N', b'N'] => Action::Seats(Wish::Need),
+        [b'S', b'S'] => Action::Seats(Wish::Sell),
+        [b'L', b'L'] => Action::Seats(Wish::Waitlist),
+        [b'X', b'X'] => Action::Cancel,
+        _ => Action::Other,
     }
 }

@@ -1,6 +1,6 @@
 use Rattle.std.proofs.Common.{◌≡◌, ◌≤◌, drop, length}
-use Rattle.seat_core.specs.Parties.{smallest_of}
-use Rattle.seat_core.proofs.parties.smallest_of.Given as goal
+use Rattle.seat_core.specs.Demands.{smallest_of}
+use Rattle.seat_core.proofs.demands.smallest_of.Given as goal
 
 abbrev pub invariant-loop-at : goal.invariant-loop-at
 invariant-loop-at l = record {

@@ -1,7 +1,7 @@
 use Rattle.std.proofs.Common.{rules, ◌≡◌, ◌-◌, ◌<◌, ℕ, true, length, arith, Some, subst}
-use Rattle.seat_core.specs.Parties.{is_booking_of, smallest_of, least_with}
+use Rattle.seat_core.specs.Demands.{is_booking_of, smallest_of, least_with}
 use Rattle.seat_core.proofs.Waitlists.Departures.{floor_at}
-use Rattle.seat_core.proofs.parties.smallest_of.Goals as goal
+use Rattle.seat_core.proofs.demands.smallest_of.Goals as goal
 
 pub returns-then-booking-floor : goal.returns-then-booking-floor
 returns-then-booking-floor c =
