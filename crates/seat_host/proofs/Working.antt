@@ -1,13 +1,14 @@
 -- Runs of one session, and of several.
 use Rattle.std.proofs.Common.{◌≡◌, ℕ, suc, ◌+◌, ◌<◌, List, [], ◌∷◌, ◌++◌, length, take, drop, get_or, refl, ap, sym, subst, arith, ◌∙◌, append_assoc}
 use Rattle.std.specs.Prelude.{Result, Ok, Err, OnOk, All, map}
+use Rattle.core.specs.Result.{result_and}
 use Rattle.std.proofs.Math.Seq.{split_at}
 use Rattle.std.proofs.lemmas.List.{take_more, take-append-drop}
 use Rattle.seat_journal.specs.declared.entry.Command.{Command}
 use Rattle.seat_journal.specs.declared.entry.Entry.{Entry}
 use Rattle.seat_core.proofs.History.Prefixes.{begins_trans, begins_itself}
 use Rattle.seat_host.specs.Sessions.{Seat}
-use Rattle.seat_host.specs.Working.{HasRun, HasBegun, IsRefused, AllHaveRun, AllHaveBegun, first_of}
+use Rattle.seat_host.specs.Working.{HasRun, HasBegun, IsRefused, AllHaveRun, AllHaveBegun}
 use Rattle.seat_host.specs.declared.workers.RunFault.{RunFault}
 
 commands_append : (xs ys : List Entry) → map (λ (e : Entry). e.command) (xs ++ ys) ≡ map (λ (e : Entry). e.command) xs ++ map (λ (e : Entry). e.command) ys
@@ -71,10 +72,10 @@ refused_at cap fault list i c s t u below is p q =
 
 -- the run of the first session beside the run of the others
 pub run_both : (l : List Command) (s t : Seat) (ls : List (List Command)) (ss ts : List Seat) (first rest both : Result (Unit {0}) RunFault)
-    → both ≡ first_of first rest → OnOk first (HasRun l s t) → OnOk rest (AllHaveRun ls ss ts) → OnOk both (AllHaveRun (l ∷ ls) (s ∷ ss) (t ∷ ts))
+    → both ≡ result_and first rest → OnOk first (HasRun l s t) → OnOk rest (AllHaveRun ls ss ts) → OnOk both (AllHaveRun (l ∷ ls) (s ∷ ss) (t ∷ ts))
 run_both l s t ls ss ts first rest both is p q = subst (λ r. OnOk r (AllHaveRun (l ∷ ls) (s ∷ ss) (t ∷ ts))) (sym is) (ok first rest p q)
   where
-    ok : (first rest : Result (Unit {0}) RunFault) → OnOk first (HasRun l s t) → OnOk rest (AllHaveRun ls ss ts) → OnOk (first_of first rest) (AllHaveRun (l ∷ ls) (s ∷ ss) (t ∷ ts))
+    ok : (first rest : Result (Unit {0}) RunFault) → OnOk first (HasRun l s t) → OnOk rest (AllHaveRun ls ss ts) → OnOk (result_and first rest) (AllHaveRun (l ∷ ls) (s ∷ ss) (t ∷ ts))
     ok (Ok a) (Ok b) p q = (p, q)
     ok (Ok a) (Err f) p q = tt
     ok (Err f) rest p q = tt

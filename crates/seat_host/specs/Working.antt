@@ -1,5 +1,5 @@
 -- What a run of sessions leaves.
-use Rattle.std.specs.Prelude.{◌≡◌, ◌⊎◌, ℕ, ◌+◌, ◌≤◌, List, [], ◌∷◌, ◌++◌, Result, Ok, Err, length, map, zip}
+use Rattle.std.specs.Prelude.{◌≡◌, ◌⊎◌, ℕ, ◌+◌, ◌≤◌, List, [], ◌∷◌, ◌++◌, length, map, zip}
 use Rattle.std.specs.List.{AllZip}
 use Rattle.seat_journal.specs.declared.entry.Command.{Command}
 use Rattle.seat_journal.specs.declared.entry.Entry.{Entry}
@@ -50,8 +50,3 @@ NamesFirst cap fault (list ∷ lists) (s ∷ olds) (t ∷ news) =
 NamesFirst cap fault (list ∷ lists) (s ∷ olds) [] = ⊥
 NamesFirst cap fault (list ∷ lists) [] news = ⊥
 NamesFirst cap fault [] olds news = ⊥
-
--- the first refusal of two outcomes
-abbrev pub first_of : Result (Unit {0}) RunFault → Result (Unit {0}) RunFault → Result (Unit {0}) RunFault
-first_of (Ok done) rest = rest
-first_of (Err fault) rest = Err fault

@@ -10,6 +10,7 @@ mod ledgers;
 mod parts;
 mod session;
 mod settling;
+mod turns;
 mod workers;
 
 pub use commands::Commands;

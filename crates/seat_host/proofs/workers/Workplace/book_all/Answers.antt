@@ -1,7 +1,7 @@
 use Rattle.std.proofs.Common.{◌<◌, length, arith, rules}
 use Rattle.seat_host.specs.Working.{IsRefused}
 use Rattle.seat_host.proofs.Working.{refused_at, run_at}
-use Rattle.seat_host.proofs.workers.book_all.Goals as goal
+use Rattle.seat_host.proofs.workers.Workplace.book_all.Goals as goal
 
 pub returns-in_err-book_next-clause-refused : goal.returns-in_err-book_next-clause-refused
 returns-in_err-book_next-clause-refused g c =

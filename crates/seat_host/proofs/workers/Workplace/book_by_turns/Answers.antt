@@ -2,7 +2,7 @@ use Rattle.std.proofs.Common.{◌≡◌, ◌++◌, rules}
 use Rattle.seat_core.specs.Journal.{FitsCommand}
 use Rattle.seat_host.specs.Working.{IsRefused}
 use Rattle.seat_host.proofs.Working.{all_back, cut_there, at_more, at_refused}
-use Rattle.seat_host.proofs.workers.book_by_turns.Goals as goal
+use Rattle.seat_host.proofs.workers.Workplace.book_by_turns.Goals as goal
 
 pub returns-in_err-take_turn-clause-refused : goal.returns-in_err-take_turn-clause-refused
 returns-in_err-take_turn-clause-refused g c =

@@ -1,7 +1,7 @@
 use Rattle.std.proofs.Common.{All, length}
 use Rattle.seat_core.specs.Journal.{FitsCommand}
 use Rattle.seat_host.proofs.Working.{IsAt}
-use Rattle.seat_host.proofs.workers.book_by_turns.Given as goal
+use Rattle.seat_host.proofs.workers.Workplace.book_by_turns.Given as goal
 
 abbrev pub invariant-loop-left : goal.invariant-loop-left
 invariant-loop-left g l = record {
