@@ -4,6 +4,7 @@ use Rattle.std.specs.List.{AllByRecursion}
 use Rattle.std.specs.Prelude.{slice_get}
 use Rattle.std.specs.Option.{option_map}
 use Rattle.std.proofs.lemmas.Option.{get_or_from_slice_get, slice_get-map, slice_get_within}
+use Rattle.std.proofs.lemmas.List.Sums.{sum_by-cons}
 use Rattle.std.proofs.lemmas.List.{length-map, take_all, take_more, map_push}
 use Rattle.seat_journal.specs.declared.entry.Command.{Command}
 use Rattle.seat_journal.specs.declared.entry.Entry.{Entry}
@@ -15,7 +16,8 @@ use Rattle.seat_host.specs.Sessions.{Seat, fresh, fresh_sessions}
 use Rattle.seat_host.specs.Settling.{IsConfirmed}
 use Rattle.seat_host.specs.Headline.{Headline}
 use Rattle.seat_desk.specs.AuditDesk.{most_lines}
-use Rattle.seat_host.specs.Working.{AllHaveRun, HasRun, IsRefused, NamesFirst}
+use Rattle.seat_host.specs.Agreement.{receipts_in}
+use Rattle.seat_host.specs.Working.{AllHaveBegun, AllHaveRun, HasBegun, HasRun, IsRefused, NamesFirst}
 use Rattle.seat_host.specs.declared.desk.BookFault.{BookFault}
 use Rattle.seat_host.specs.declared.desk.BookFault.TheVariants.{JournalFull as Full, Memory as NoRoom}
 use Rattle.seat_host.specs.declared.workers.RunFault.{RunFault}
@@ -25,7 +27,7 @@ use Rattle.ssim_flights.specs.declared.flight.Flight.{Flight as Flown}
 use Rattle.seat_desk.specs.declared.fault.DeskFault.{DeskFault}
 use Rattle.seat_desk.specs.declared.fault.DeskFault.TheVariants.{Book, Memory}
 use Rattle.seat_run.specs.Requests.{command_of, commands_of}
-use Rattle.seat_run.specs.RunDesk.{HasCall, HasCommand, IsHistoryOf, IsUnbooked, IsUnlisted, commands_in, run_refusal}
+use Rattle.seat_run.specs.RunDesk.{asked_in, HasCall, HasCommand, IsHistoryOf, IsUnbooked, IsUnlisted, commands_in, run_refusal}
 use Rattle.seat_run.proofs.Histories.{all_of, row_at, row_count}
 
 fresh_count : (n : ℕ) → length (fresh_sessions n) ≡ n
@@ -92,6 +94,81 @@ settled_history grid cap n lists olds news journal receipts totals opened count 
 
 -- ---- refusals
 
+-- the beginnings of the lists that were booked, which are so much shorter in all
+record IsTaken (slack : ℕ) (lists : List (List Command)) (olds news : List Seat) : Type 0 where
+  taken : List (List Command)
+  run : AllHaveRun taken olds news
+  count : length taken ≡ length lists
+  fewer : asked_in taken + slack ≤ asked_in lists
+
+begun_length : (list : List Command) (s t : Seat) (h : HasBegun list s t) → length h.booked ≤ length list
+begun_length list s t h = omega (arith, ap length h.begins.is, length-append h.booked h.begins.rest)
+
+all_taken : (lists : List (List Command)) (olds news : List Seat) → length lists ≡ length olds → AllHaveBegun lists olds news → IsTaken 0 lists olds news
+all_taken [] olds [] same h = record { taken = []; run = h; count = refl; fewer = omega arith }
+all_taken [] olds (t ∷ news) same h = absurd h
+all_taken (list ∷ lists) [] news same h = absurd (omega (arith, same))
+all_taken (list ∷ lists) (s ∷ olds) [] same h = absurd h
+all_taken (list ∷ lists) (s ∷ olds) (t ∷ news) same h =
+    let rest = all_taken lists olds news (omega (arith, same)) h.1 in
+    record { taken = h.0.booked ∷ rest.taken; run = (h.0.run, rest.run); count = ap suc rest.count; fewer = omega (arith, rest.fewer, begun_length list s t h.0) }
+
+named_taken : (cap : ℕ) (fault : RunFault) (lists : List (List Command)) (olds news : List Seat) → length lists ≡ length olds → AllHaveBegun lists olds news
+    → NamesFirst cap fault lists olds news → IsTaken 1 lists olds news
+named_taken cap fault [] olds news same h named = absurd named
+named_taken cap fault (list ∷ lists) [] news same h named = absurd named
+named_taken cap fault (list ∷ lists) (s ∷ olds) [] same h named = absurd named
+named_taken cap fault (list ∷ lists) (s ∷ olds) (t ∷ news) same h named =
+    ⊎_elim here (λ (later : HasRun list s t × NamesFirst cap fault lists olds news). there (named_taken cap fault lists olds news (omega (arith, same)) h.1 later.1)) named where
+      here : IsRefused cap fault list s t → IsTaken 1 (list ∷ lists) (s ∷ olds) (t ∷ news)
+      here r =
+          let rest = all_taken lists olds news (omega (arith, same)) h.1 in
+          let long : length list ≡ length r.booked + suc (length r.left) = ap length r.parts ∙ length-append r.booked (r.refused ∷ r.left) in
+          record { taken = r.booked ∷ rest.taken; run = (r.run, rest.run); count = ap suc rest.count; fewer = omega (arith, rest.fewer, long) }
+
+      there : IsTaken 1 lists olds news → IsTaken 1 (list ∷ lists) (s ∷ olds) (t ∷ news)
+      there rest = record { taken = h.0.booked ∷ rest.taken; run = (h.0.run, rest.run); count = ap suc rest.count; fewer = omega (arith, rest.fewer, begun_length list s t h.0) }
+
+full_of : (session call : ℕ) (why : BookFault) → run_refusal (run_faults.Book session call why) ≢ Memory → why ≡ Full
+full_of session call Full not = refl
+full_of session call NoRoom not = absurd (not refl)
+
+-- the journal in which a call was refused is full
+is_full : (cap n : ℕ) (fault : RunFault) (journal : List Entry) (lists : List (List Command)) (olds news : List Seat) → run_refusal fault ≢ Memory → NamesFirst cap fault lists olds news
+    → AllByRecursion (IsConfirmed n journal) news → cap ≤ length journal
+is_full cap n fault journal [] olds news not named confirmed = absurd named
+is_full cap n fault journal (list ∷ lists) [] news not named confirmed = absurd named
+is_full cap n fault journal (list ∷ lists) (s ∷ olds) [] not named confirmed = absurd named
+is_full cap n fault journal (list ∷ lists) (s ∷ olds) (t ∷ news) not named confirmed =
+    ⊎_elim here (λ (later : HasRun list s t × NamesFirst cap fault lists olds news). is_full cap n fault journal lists olds news not later.1 confirmed.1) named where
+      here : IsRefused cap fault list s t → cap ≤ length journal
+      here r =
+          let why : r.why ≡ Full = full_of t.id (length t.receipts + 1) r.why (subst (λ (f : RunFault). run_refusal f ≢ Memory) r.named not) in
+          let seen = confirmed.0.front in
+          omega (arith, r.full why, ap length seen.is, length-append t.front seen.rest)
+
+asked_map : {A B : Type 0} (f : A → B) (lists : List (List A)) → asked_in (map (map f) lists) ≡ asked_in lists
+asked_map f [] = refl
+asked_map f (list ∷ lists) = omega (arith, length-map list f, asked_map f lists)
+
+receipts_are_asked : (lists : List (List Entry)) → receipts_in lists ≡ asked_in lists
+receipts_are_asked [] = refl
+receipts_are_asked (list ∷ lists) = omega (arith, sum_by-cons (λ (receipts : List Entry). length receipts) list lists, receipts_are_asked lists)
+
+-- where a call is refused, more is asked than a journal has lines
+too_many : (grid : Legs) (cap n : ℕ) (fault : RunFault) (lists : List (List Command)) (olds news : List Seat) (journal : List Entry) (receipts : List (List Entry)) (totals : Totals)
+    → olds ≡ fresh_sessions n → length lists ≡ n → AllHaveBegun lists olds news → NamesFirst cap fault lists olds news → run_refusal fault ≢ Memory
+    → AllByRecursion (IsConfirmed n journal) news → cap ≡ most_lines → Headline grid cap n journal receipts totals → most_lines < asked_in lists
+too_many grid cap n fault lists olds news journal receipts totals opened count begun named not confirmed most h =
+    let t = named_taken cap fault lists olds news (as_many n lists olds opened count) begun named in
+    let as_all : length t.taken ≡ n = t.count ∙ count in
+    let own : map commands_in (by_session n journal) ≡ t.taken =
+    lists_to n t.taken news journal as_all (subst (λ (l : List Seat). AllHaveRun t.taken l news) opened t.run) confirmed n (omega arith) ∙ take_all n t.taken (omega (arith, as_all)) in
+    let all : asked_in t.taken ≡ length journal =
+    ap asked_in (sym own) ∙ (asked_map (λ (e : Entry). e.command) (by_session n journal) ∙ (sym (receipts_are_asked (by_session n journal)) ∙ (ap receipts_in (sym h.own) ∙ h.lines))) in
+    let full : cap ≤ length journal = is_full cap n fault journal lists olds news not named confirmed in
+    omega (arith, t.fewer, all, full, most)
+
 -- the fault is that of the session at some place
 record IsRefusedAt (most : ℕ) (fault : RunFault) (lists : List (List Command)) (olds : List Seat) : Type 0 where
   place : ℕ
@@ -119,9 +196,9 @@ refusal_of : (lists : List (List Command)) (session call : ℕ) (why : BookFault
 refusal_of lists session call Full has not = has
 refusal_of lists session call NoRoom has not = absurd (not refl)
 
-pub unlisted : (most n : ℕ) (fault : RunFault) (lists : List (List Command)) (olds news : List Seat) → olds ≡ fresh_sessions n
+unlisted : (most n : ℕ) (fault : RunFault) (lists : List (List Command)) (olds news : List Seat) → (run_refusal fault ≢ Memory → most_lines < asked_in lists) → olds ≡ fresh_sessions n
     → NamesFirst most fault lists olds news → run_refusal fault ≢ Memory → IsUnlisted lists (run_refusal fault)
-unlisted most n fault lists olds news opened named not =
+unlisted most n fault lists olds news many opened named not =
     let at = refused_at most fault lists olds news named in
     let r = at.refused in
     let within : at.place < n = omega (arith, slice_get_within olds at.place at.old at.of_olds, ap (length {A = Seat}) opened, fresh_count n) in
@@ -132,25 +209,38 @@ unlisted most n fault lists olds news opened named not =
     let count : length at.new.receipts ≡ length r.booked = ap length lines ∙ (sym (length-map r.run.lines (λ (e : Entry). e.command)) ∙ ap length r.run.commands) in
     let long : length at.list ≡ length r.booked + suc (length r.left) = ap length r.parts ∙ length-append r.booked (r.refused ∷ r.left) in
     let has : HasCommand lists at.new.id (length at.new.receipts + 1) = record {
+      many = many not;
       list = at.list;
       at = (let down : at.place ≡ at.new.id - 1 = omega (arith, id) in subst (λ (k : ℕ). slice_get lists k ≡ Some at.list) down at.of_lists);
       call_is = (omega arith, omega (arith, count, long));
     } in
     subst (λ (f : RunFault). run_refusal f ≢ Memory → IsUnlisted lists (run_refusal f)) (sym r.named) (refusal_of lists at.new.id (length at.new.receipts + 1) r.why has) not
 
+-- the fault of such a run
+pub refused_run : (grid : Legs) (cap n : ℕ) (fault : RunFault) (lists : List (List Command)) (olds news : List Seat) (journal : List Entry) (receipts : List (List Entry)) (totals : Totals) (f : DeskFault)
+    → f ≡ run_refusal fault → olds ≡ fresh_sessions n → length lists ≡ n → AllHaveBegun lists olds news → NamesFirst cap fault lists olds news
+    → AllByRecursion (IsConfirmed n journal) news → cap ≡ most_lines → Headline grid cap n journal receipts totals → f ≢ Memory → IsUnlisted lists f
+refused_run grid cap n fault lists olds news journal receipts totals f is opened count begun named confirmed most h =
+    let many : run_refusal fault ≢ Memory → most_lines < asked_in lists =
+    λ not. too_many grid cap n fault lists olds news journal receipts totals opened count begun named not confirmed most h in
+    subst (λ (x : DeskFault). x ≢ Memory → IsUnlisted lists x) (sym is) (λ not. unlisted cap n fault lists olds news many opened named not)
+
 -- a call of a list is that of a request
 pub unbooked : (flights : List Flown) (scripts : List (List Request)) (lists : List (List Command)) (fault : DeskFault) → lists ≡ map (commands_of flights) scripts
     → IsUnlisted lists fault → IsUnbooked scripts fault
-unbooked flights scripts lists (Book session call) is has = asked where
+unbooked flights scripts lists (Book session call) is has = asked_so where
+  asked : asked_in lists ≡ asked_in scripts
+  asked = ap asked_in is ∙ asked_map (command_of flights) scripts
+
   of_script : (o : Option (List Request)) → slice_get scripts (session - 1) ≡ o → option_map (commands_of flights) o ≡ Some has.list → HasCall scripts session call
   of_script None here same = absurd (cc same)
   of_script (Some script) here same =
       let lists_same : commands_of flights script ≡ has.list = cc same in
       let count : length script ≡ length has.list = sym (length-map script (command_of flights)) ∙ ap length lists_same in
-      record { script = script; at = here; call_is = (has.call_is.0, omega (arith, has.call_is.1, count)) }
+      record { many = omega (arith, has.many, asked); script = script; at = here; call_is = (has.call_is.0, omega (arith, has.call_is.1, count)) }
 
-  asked : HasCall scripts session call
-  asked =
+  asked_so : HasCall scripts session call
+  asked_so =
       of_script (slice_get scripts (session - 1)) refl
       (sym (slice_get-map (commands_of flights) scripts (session - 1)) ∙ (ap (λ (l : List (List Command)). slice_get l (session - 1)) (sym is) ∙ has.at))
 unbooked flights scripts lists _ is has = absurd has

@@ -1,5 +1,5 @@
 -- What `run` writes: the journal of what the scripts ask, and the replies to each script.
-use Rattle.std.specs.Prelude.{◌≡◌, ◌≤◌, ◌-◌, ◌⊎◌, ℕ, List, [], ◌∷◌, ◌++◌, length, map, decimal, codes, Option, Some, None, slice_get}
+use Rattle.std.specs.Prelude.{◌≡◌, ◌≤◌, ◌<◌, ◌+◌, ◌-◌, ◌⊎◌, ℕ, List, [], ◌∷◌, ◌++◌, length, map, decimal, codes, Option, Some, None, slice_get}
 use Rattle.std.specs.Io.KnownBytes.{Appends}
 use Rattle.std.specs.List.{AllByRecursion}
 use Rattle.ssim_flights.specs.declared.flight.Flight.{Flight as Flown}
@@ -129,8 +129,14 @@ pub record IsSecondBegun (answers : List ℕ → List ℕ → Type 0) (journal_o
 
 -- ---- refusals
 
--- a list of the session has a command for this call
+-- how much these lists have in all
+abbrev pub asked_in : {A : Type 0} → List (List A) → ℕ
+asked_in [] = 0
+asked_in (list ∷ lists) = length list + asked_in lists
+
+-- more is asked than a journal has lines, and a list of the session has a command for this call
 pub record HasCommand (lists : List (List Command)) (session call : ℕ) : Type 0 where
+  pub many : most_lines < asked_in lists
   pub list : List Command
   pub at : slice_get lists (session - 1) ≡ Some list
   pub call_is : (1 ≤ call) × (call ≤ length list)
@@ -145,8 +151,9 @@ abbrev pub run_refusal : RunFault → DeskFault
 run_refusal (run_faults.Book session call Full) = Book session call
 run_refusal (run_faults.Book session call NoRoom) = Memory
 
--- the session's script has a request for this call
+-- more is asked than a journal has lines, and the session's script has a request for this call
 pub record HasCall (scripts : List (List Request)) (session call : ℕ) : Type 0 where
+  pub many : most_lines < asked_in scripts
   pub script : List Request
   pub at : slice_get scripts (session - 1) ≡ Some script
   pub call_is : (1 ≤ call) × (call ≤ length script)
