@@ -10,7 +10,7 @@ use Rattle.seat_nesting.specs.LimitRows.{SpellsRows, rows_in}
 use Rattle.seat_nesting.specs.Nesting.{Legs}
 use Rattle.seat_nesting.specs.declared.limit_fault.LimitFault.{LimitFault}
 use Rattle.seat_nesting.specs.declared.limit_row.LimitRow.{LimitRow}
-use Rattle.seat_nesting.proofs.RowLaws.{done, row_again}
+use Rattle.seat_nesting.proofs.RowLaws.{row_again}
 use Rattle.seat_journal.specs.Text.{IsJournalText}
 use Rattle.seat_journal.specs.declared.entry.Entry.{Entry}
 use Rattle.seat_journal.proofs.TextLaws.{one_text}
@@ -38,7 +38,7 @@ abbrev ok_rows : List LimitRow → Rows
 ok_rows rows = Ok rows
 
 rows_read : (texts : List (List ℕ)) (n : ℕ) (rows : List LimitRow) → SpellsRows texts rows → rows_in n texts ≡ ok_rows rows
-unfolding rows_in done
+unfolding rows_in
 rows_read [] n [] h = refl
 rows_read [] n (row ∷ rows) h = absurd h
 rows_read ([] ∷ texts) n rows h = rows_read texts (n + 1) rows h
