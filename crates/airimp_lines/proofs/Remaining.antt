@@ -23,10 +23,6 @@ Remain today (Some locator) n texts requests = AreLeft today locator (runs_of (e
 
 -- ---- requests of a line
 
-none_asked : (today : ℕ) (locator : List ℕ) (requests : List Request) → AreRequests today locator [] requests → requests ≡ []
-none_asked today locator [] h = refl
-none_asked today locator (r ∷ rs) h = absurd h
-
 -- a segment has one spelling
 pub same_segment : (today : ℕ) (line : List ℕ) (s t : Segment) → SpellsSegment today line s → SpellsSegment today line t → s ≡ t
 same_segment today line s t a b = sym (is_only today line (undated_of b.day b.month t) t.day s (is_read today line t b) b.date a)

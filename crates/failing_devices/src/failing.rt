@@ -1,4 +1,4 @@
-// The reader and the writer, with what a clause reads of them.
+//! The reader and the writer, with what a clause reads of them.
 ghost use Rattle.std.specs.Prelude.{◌≡◌, ◌-◌, ◌≤◌, ℕ, max, IsErr, IfOk, Ok};
 ghost use Rattle.std.specs.Io.{ReadsAtMost, WritesAtMost};
 ghost use Rattle.std.specs.Io.KnownBytes.{Keeps, ReadConsumes, WriteAppends};

@@ -54,8 +54,8 @@ impl Feed {
         Some((feed, viewers))
     }
 
-    #[tactic(auto, using(crate::proofs::Feeding::fed_more))]
     /// Appends the next line. None where there is none, or where no copy of it is made.
+    #[tactic(auto, using(crate::proofs::Feeding::fed_more))]
     pub fn line<R: Abort>(&mut self, rt: &R, alloc: Global) -> Option<()>
         ensures { self.new ≡ self.old }
     {

@@ -1,3 +1,4 @@
+//! What a command's code wants.
 ghost use Rattle.std.specs.Prelude.{◌≡◌};
 ghost use Rattle.seat_core.specs.Codes.{action_of};
 

@@ -1,3 +1,4 @@
+//! A booking of seats on a place.
 ghost use Rattle.std.specs.Prelude.{◌≡◌, if◌then◌else◌};
 ghost use Rattle.seat_core.specs.Bookings.{is_for, is_held, is_waiting};
 

@@ -1,4 +1,4 @@
-// The live bookings, flight by flight.
+//! The live bookings, flight by flight.
 ghost use Rattle.std.specs.Prelude.{◌≡◌, ◌<◌, ◌+◌, [], true, IfNone, IfSome, OnOk, slice_get, vec_len};
 ghost use Rattle.seat_core.specs.Books.{book_at, has_spare, has_spare_in, queue_at, spare_of, IsEntered, IsQueued, SameBooks};
 
@@ -74,8 +74,8 @@ fn reserve_booking(alloc: Global, books: &mut Vec<FlightBook>, flight: u32) -> R
     books[flight as usize].reserve()
 }
 
-#[tactic(auto, using(crate::proofs::Waitlists::Queue::spare_booking, crate::proofs::Waitlists::Queue::spare_waiting))]
 /// Does what an entry tells to the book of its flight, which has room for one more.
+#[tactic(auto, using(crate::proofs::Waitlists::Queue::spare_booking, crate::proofs::Waitlists::Queue::spare_waiting))]
 pub fn enter(books: &mut Vec<FlightBook>, entry: &Entry)
     requires spare { has_spare books.old.items entry.now.command.place ≡ true }
     requires queued { IsQueued books.old.items }

@@ -1,4 +1,4 @@
-// What waits for each place and class: by it a waiting list answers without a walk over its bookings.
+//! What waits for each place and class: by it a waiting list answers without a walk over its bookings.
 ghost use Rattle.std.specs.Prelude.{◌≡◌, ◌≤◌, ◌<◌, ◌+◌, ◌^◌, ◌++◌, ◌∷◌, [], Some, position, vec_len, vec_capacity};
 ghost use Rattle.seat_nesting.specs.Counting.{limits_of, seats_of};
 ghost use Rattle.seat_core.specs.Demands.{is_demand_of, joined, least_with, no_demand_fits, demand_seats, demand_smallest, demand_waits, seats_for, settled, smallest_of};
@@ -39,8 +39,8 @@ pub fn are_too_large(counts: &Counts, demands: &[Demand]) -> bool
         .all(|p| counts.room(p.place, p.class) < p.smallest)
 }
 
-#[tactic(auto, using(crate::proofs::Waitlists::Demands::seats_found, crate::proofs::Waitlists::Demands::joined_found, crate::proofs::Waitlists::Demands::joined_none))]
 /// A booking with so many seats waits from now on.
+#[tactic(auto, using(crate::proofs::Waitlists::Demands::seats_found, crate::proofs::Waitlists::Demands::joined_found, crate::proofs::Waitlists::Demands::joined_none))]
 pub fn join(demands: &mut Vec<Demand>, place: Place, class: Class, seats: u16)
     requires spare { vec_len demands.old < vec_capacity demands.old }
     requires few { demand_seats place class demands.old.items + seats < 2 ^ 64 }

@@ -1,4 +1,4 @@
-// The pass over a flight's waiting list, by counters of held seats.
+//! The pass over a flight's waiting list, by counters of held seats.
 ghost use Rattle.std.specs.Prelude.{◌≡◌, ◌+◌, ◌<◌, ◌≤◌, ◌++◌, ◌∷◌, [], length, vec_len, vec_capacity, IfOk, IfSome};
 ghost use Rattle.seat_nesting.specs.Counting.{limits_of, seats_of};
 ghost use Rattle.seat_nesting.specs.Nesting.{room};
@@ -46,8 +46,8 @@ pub fn advices_after(
     told
 }
 
-#[tactic(auto, using(crate::proofs::Passes::Undone::none_told))]
 /// The advices of the pass over a waiting list. The counters are left as they were.
+#[tactic(auto, using(crate::proofs::Passes::Undone::none_told))]
 fn advices_of(
     alloc: Global,
     counts: &mut Counts,
@@ -63,8 +63,8 @@ fn advices_of(
     advices_by(alloc, counts, queue.as_slice())
 }
 
-#[tactic(auto, using(crate::proofs::Passes::Undone::undone))]
 /// The same, booking by booking.
+#[tactic(auto, using(crate::proofs::Passes::Undone::undone))]
 fn advices_by(alloc: Global, counts: &mut Counts, queue: &[Booking]) -> Result<Vec<Advice>, Memory>
     ensures limits { limits_of counts.new ≡ limits_of counts.old }
     ensures seats { seats_of counts.new ≡ seats_of counts.old }
@@ -93,8 +93,8 @@ fn confirm_each(counts: &mut Counts, queue: &[Booking], advices: &mut Vec<Advice
     }
 }
 
-#[tactic(auto, using(crate::proofs::Passes::Undone::taken_one, crate::proofs::Passes::Undone::told_fits, crate::proofs::Passes::Undone::told_over, crate::proofs::Passes::Undone::told_held))]
 /// Takes the seats of one booking, where it waits and fits, and tells of it.
+#[tactic(auto, using(crate::proofs::Passes::Undone::taken_one, crate::proofs::Passes::Undone::told_fits, crate::proofs::Passes::Undone::told_over, crate::proofs::Passes::Undone::told_held))]
 fn consider(
     counts: &mut Counts,
     booking: &Booking,
@@ -126,8 +126,8 @@ fn consider(
     None
 }
 
-#[tactic(auto, using(crate::proofs::History::Faults::place_same))]
 /// The room of a place, as it is known or else looked up.
+#[tactic(auto, using(crate::proofs::History::Faults::place_same))]
 fn look(counts: &Counts, place: Place, class: Class, known: Option<Known>) -> u16
     requires known { IfSome known (λ k. k.room ≡ room (limits_of counts.now) (seats_of counts.now) k.place k.class) }
     ensures { result ≡ room (limits_of counts.now) (seats_of counts.now) place class }

@@ -1,4 +1,4 @@
-// What a command is answered: the table of replies (AIRIMP codes).
+//! What a command is answered: the table of replies (AIRIMP codes).
 ghost use Rattle.std.specs.Prelude.{◌≡◌, ◌∷◌, ◌≤◌, [], find, position, slice_get, None, Some, IfOk, IfSome, IsTrue, length, codes, if◌then◌else◌};
 ghost use Rattle.ssim_records.specs.Names.{is_code};
 ghost use Rattle.seat_nesting.specs.Counting.{limits_of, seats_of};
@@ -142,8 +142,8 @@ fn book_seats(
     }
 }
 
-#[tactic(auto, using(crate::proofs::Step::Reply::may_wait_is, crate::proofs::Waitlists::Queue::queue_few))]
 /// Whether the seats of a command may wait on its flight's waiting list.
+#[tactic(auto, using(crate::proofs::Step::Reply::may_wait_is, crate::proofs::Waitlists::Queue::queue_few))]
 fn may_queue(limits: &Grid, books: &[FlightBook], command: &Command, place: Place) -> bool
     requires few { length (book_at books.now place.flight) ≤ 999999 }
     requires queue { queue_at books.now place.flight ≡ queue_of (book_at books.now place.flight) }
@@ -214,8 +214,8 @@ fn cancel_seats(
     })
 }
 
-#[tactic(auto, using(crate::proofs::Step::Reply::cancel_held, crate::proofs::Step::Reply::cancel_waiting))]
 /// The advices of the pass that runs once the seats of a command are off its booking.
+#[tactic(auto, using(crate::proofs::Step::Reply::cancel_held, crate::proofs::Step::Reply::cancel_waiting))]
 fn advices_without(
     alloc: Global,
     counts: &mut Counts,

@@ -1,4 +1,4 @@
-// Whether more may wait on a leg.
+//! Whether more may wait on a leg.
 ghost use Rattle.std.specs.Prelude.{◌≡◌, ◌+◌, nat_le};
 ghost use Rattle.seat_core.specs.Demands.{waits_of};
 ghost use Rattle.seat_nesting.specs.Nesting.{may_wait, may_wait_on};

@@ -1,4 +1,4 @@
-// The waiting list of a flight.
+//! The waiting list of a flight.
 ghost use Rattle.std.specs.Prelude.{◌≡◌, ◌<◌, ◌≤◌, ◌++◌, ◌∷◌, [], length, position, remove, true, vec_len, vec_capacity, OnOk, Some};
 ghost use Rattle.seat_nesting.specs.Counting.{limits_of, seats_of};
 ghost use Rattle.seat_nesting.specs.Nesting.{may_wait};
@@ -103,8 +103,8 @@ impl WaitingList {
         }
     }
 
-    #[tactic(auto, using(crate::proofs::Waitlists::Room::may_wait_told))]
     /// Whether so many more seats may wait on a place.
+    #[tactic(auto, using(crate::proofs::Waitlists::Room::may_wait_told))]
     pub fn may_wait(&self, limits: &Grid, place: Place, class: Class, seats: u16) -> bool
         requires { length self.now.bookings ≤ 999999 }
         ensures { result ≡ may_wait limits.now (waiting self.now.bookings) place class seats }

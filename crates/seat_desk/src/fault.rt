@@ -1,3 +1,4 @@
+//! What a command is refused with.
 ghost use Rattle.std.specs.Prelude.{◌≡◌};
 ghost use Rattle.seat_desk.specs.Status.{status_of};
 

@@ -1,4 +1,4 @@
-// The rule of what is shown.
+//! The rule of what is shown.
 ghost use Rattle.std.specs.Prelude.{◌≡◌};
 ghost use Rattle.seat_display.specs.Shown.{apply, one_more, tidied};
 ghost use Rattle.seat_display.specs.declared.table.Op.TheVariants.{Line};

@@ -1,4 +1,4 @@
-// What is shown, and what each side knows of it.
+//! What is shown, and what each side knows of it.
 use crate::book::Trace;
 use seat_journal::Entry;
 use seat_nesting::{Counts, Grid};

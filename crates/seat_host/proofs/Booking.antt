@@ -192,32 +192,6 @@ lawful_push grid cap book n core now books audited more publisher shown opened s
       tied = subst (λ (j : List Entry). IsTied grid cap n more j) (sym a.journal_is) tied;
     }
 
--- and where no line came
-pub lawful_same : (grid : Legs) (cap : ℕ) (book : Book) (n : ℕ) (core now : Inventory) (books : List ℕ) (publisher shown : Published) (opened : ℕ)
-    → LawfulUnderLock grid cap book n core books publisher opened → now.grid ≡ core.grid → now.cap ≡ core.cap → now.journal ≡ core.journal → shown.book ≡ publisher.book → Shows now shown
-    → LawfulUnderLock grid cap book n now books shown opened
-lawful_same grid cap book n core now books publisher shown opened l grid_same cap_same same book_same shows = record {
-  grid_is = grid_same ∙ l.grid_is;
-  cap_is = cap_same ∙ l.cap_is;
-  opened_is = l.opened_is;
-  book_is = book_same ∙ l.book_is;
-  shown = shows;
-  tied = subst (λ (j : List Entry). IsTied grid cap n books j) (sym same) l.tied;
-}
-
--- a look keeps what a session stands for
-pub stands_longer : (grid : Legs) (n : ℕ) (s : Seat) (front : List Entry) → Stands grid n s → Begins s.front front → IsLegal grid front → Stands grid n (record { id = s.id; receipts = s.receipts; front = front })
-stands_longer grid n s front st pre legal = record {
-  number = st.number;
-  legal = legal;
-  own = begins_trans s.receipts (of_session s.id s.front) (of_session s.id front) st.own (own_prefix s.id s.front front pre);
-  few = st.few;
-}
-
--- a session that has done nothing stands
-pub stands_fresh : (grid : Legs) (n id : ℕ) → 0 < id → id ≤ n → n < 9 → Stands grid n (record { id = id; receipts = []; front = [] })
-stands_fresh grid n id some le few = record { number = (some, le, few); legal = legal_nil grid; own = begins_itself []; few = omega arith }
-
 -- a session whose receipts are as they were
 pub waits_same : (old : Seat) (id : ℕ) (receipts items front : List Entry) → (let s : Seat = record { id = id; receipts = receipts; front = front } in s ≡ old) → items ≡ receipts → Waits old (record { id = id; receipts = items; front = front })
 waits_same old id receipts items front is same = record {

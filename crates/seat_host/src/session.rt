@@ -127,7 +127,7 @@ impl<K: Hosting> Session<K> {
     }
 
     /// The seats that are left on a place in a class, after all that is then seen. It takes no lock and waits for
-    /// nobody. None where no reader is let in.
+    /// nobody. None as `Viewer::look` says.
     pub fn look(&mut self, place: Place, class: Class) -> Option<u16>
         ensures room { IfSome result (λ n. n ≡ room_left (replay K.grid self.new.front) place class) }
         ensures front { Begins self.old.front self.new.front }

@@ -13,9 +13,6 @@ use Rattle.seat_nesting.proofs.Rooms.{held_from_rank, within_rank, within_none, 
 
 -- ---- ladders
 
-pub no_ladder : IsLegLadder []
-no_ladder = record { most = omega arith; distinct = tt; not_rising = tt; bounded = tt }
-
 -- ---- no seats
 
 pub count_none : (steps : Steps) (held : List ℕ) (k : ℕ) → list_all (λ n. n == 0) held ≡ true → count_at steps held k ≡ 0

@@ -1,3 +1,4 @@
+//! What is wrong with limit rows.
 ghost use Rattle.std.specs.Prelude.{◌≡◌};
 ghost use Rattle.seat_nesting.specs.declared.limit_fault.LimitKind.TheVariants.{Memory as Wanting};
 

@@ -58,12 +58,6 @@ unfolding flights_on
 flights_are plan first rest chained is e r =
     ap (flights_on plan) e ∙ ap (map (flight_on plan first.leg (first ∷ rest))) (sym (r ∙ ap (rows plan) e)) ∙ ap (λ c. map (flight_on plan first.leg c) is) (sym e)
 
-pub leg_one_yes : (t : Bool) (first : Scheduled) (rest chained : List Scheduled) → chained ≡ first ∷ rest → t ≡ true → leg_one_if t chained ≡ Some first.leg.serial
-leg_one_yes t first rest chained e h = ap (leg_one_if t) e ∙ ap (λ b. leg_one_if b (first ∷ rest)) h
-
-pub leg_one_no : (t : Bool) (first : Scheduled) (rest chained : List Scheduled) → chained ≡ first ∷ rest → t ≡ false → leg_one_if t chained ≡ None
-leg_one_no t first rest chained e h = ap (leg_one_if t) e ∙ ap (λ b. leg_one_if b (first ∷ rest)) h
-
 -- ---- right legs
 
 found_right : (P : Leg → Type 0) (k : ℕ) (legs : List Leg) → All P legs → IfSome (leg_at legs k) P

@@ -198,15 +198,6 @@ flown_none plan flown flights taken = record {
   distinct = IsDistinct-from_apart same_departure [] (λ i j d below inside. absurd (omega arith));
 }
 
-drop_past : {A : Type 0} (xs : List A) (i : ℕ) → length xs ≤ i → drop i xs ≡ []
-drop_past [] zero past = refl
-drop_past [] (suc i) past = refl
-drop_past (x ∷ xs) zero past = absurd (omega arith)
-drop_past (x ∷ xs) (suc i) past = drop_past xs i (omega arith)
-
-pub fault_all : (plan : Plan) (all : List (List Leg)) (i : ℕ) → length all ≤ i → first_fault plan all ≡ fault_after plan (take i all) (drop i all) → first_fault plan all ≡ None
-fault_all plan all i past e = e ∙ ap (fault_after plan (take i all)) (drop_past all i past)
-
 pub flights_all : (plan : Plan) (all : List (List Leg)) (i : ℕ) (flown : Flown) → length all ≤ i → IsFlown plan (take i all) flown → flown.flights.items ≡ dated_flights plan all
 unfolding dated_flights
 flights_all plan all i flown past is = is.flights ∙ ap (flat_map (flights_of plan)) (take_all i all past)

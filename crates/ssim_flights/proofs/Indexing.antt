@@ -22,10 +22,6 @@ lookup-append : {K X : Type 0} (test : K → Bool) (xs ys : List (K × X)) → l
 lookup-append test [] ys = refl
 lookup-append test (e ∷ xs) ys = ap (λ o. cond (test e.0) (Some e.1) o) (lookup-append test xs ys) ∙ sym (option_or-cond (test e.0) e.1 (lookup test xs) (lookup test ys))
 
--- nothing put
-pub puts_none : (index : Index) → Puts index index []
-puts_none index = record { at = λ w. refl }
-
 -- ys, and then xs before them
 pub puts_before : (a b c : Index) (xs ys all : List (Wanted × Place)) → Puts a b ys → Puts b c xs → all ≡ xs ++ ys → Puts a c all
 puts_before a b c xs ys all first then_ e = subst (λ (ps : List (Wanted × Place)). Puts a c ps) (sym e) (record {

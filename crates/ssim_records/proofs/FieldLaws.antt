@@ -209,10 +209,6 @@ days_again text days h =
     let seven : eqb (length (days_text 1 days)) 7 ≡ true = rw (length_days 1 days, h.0) refl in
     ap days_in h.1 ∙ kept (eqb (length (days_text 1 days)) 7) (days_from 1 (days_text 1 days)) seven ∙ days_from_again 1 days
 
-either_is : (a b : Bool) → (a || b) ≡ true → (a ≡ true) ⊎ (b ≡ true)
-either_is true b h = inl refl
-either_is false b h = inr h
-
 rate_of : (a b d : Bool) (c : ℕ) (second : Bool) → eqb c 32 ≡ a → eqb c 49 ≡ b → eqb c 50 ≡ d → cond (a || b) (Some false) (cond d (Some true) None) ≡ Some second → IsRate (c ∷ []) second
 rate_of true b d c second x y z e = subst (IsRate (c ∷ [])) (some_is false second e) (inl (ap (λ (k : ℕ). k ∷ []) (eqb-true c 32 x)))
 rate_of false true d c second x y z e = subst (IsRate (c ∷ [])) (some_is false second e) (inr (ap (λ (k : ℕ). k ∷ []) (eqb-true c 49 y)))

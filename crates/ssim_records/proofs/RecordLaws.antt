@@ -57,14 +57,6 @@ serial_again serial text h = ap (is_number serial) (six_again (field 195 200 tex
 
 -- ---- steps that are taken
 
-pub check_is : {B : Type 0} (kind : SetKind) (b : Bool) (f : Unit {0} → Result B SetKind) → b ≡ true → (check kind b >>= f) ≡ f tt
-check_is kind true f h = refl
-check_is kind false f h = absurd cc
-
-pub want_is : {A B : Type 0} (fault : SetKind) (o : Option A) (x : A) (f : A → Result B SetKind) → o ≡ Some x → (want fault o >>= f) ≡ f x
-want_is fault None x f h = absurd (none_some x h)
-want_is fault (Some y) x f h = ap f (some_is y x h)
-
 -- ---- the carrier's record
 
 pub carrier_takes : (text : List ℕ) (c : Carrier) → IsTyped 50 text → carrier_at text ≡ Ok c → IsCarrier text c

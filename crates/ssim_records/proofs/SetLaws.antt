@@ -47,9 +47,6 @@ pub record Rest (most : ℕ) (c : Carrier) (n : ℕ) (ls : List Leg) (k : ℕ) (
 head_is : (a b : List ℕ) (x y : List (List ℕ)) → a ∷ x ≡ b ∷ y → a ≡ b
 head_is a b x y e = cc
 
-tail_is : (a b : List ℕ) (x y : List (List ℕ)) → a ∷ x ≡ b ∷ y → x ≡ y
-tail_is a b x y e = cc
-
 no_record : (b : List ℕ) (y : List (List ℕ)) → [] ≡ b ∷ y → ⊥
 no_record b y e = cc
 

@@ -1,3 +1,4 @@
+//! A place: a run of legs of one dated flight.
 /// The legs `from` to `to` of a dated flight, both counted from 0 and included.
 #[derive(Clone, Copy, Debug, PartialEq, Eq)]
 pub struct Place {

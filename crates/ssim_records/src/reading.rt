@@ -1,4 +1,4 @@
-// All bytes of a reader, up to a bound.
+//! All bytes of a reader, up to a bound.
 ghost use Rattle.std.specs.Prelude.{◌≡◌, ◌≢◌, ℕ, ◌+◌, ◌<◌, ◌≤◌, List, length, ◌++◌, IfOk, IfErr, OnOk, OnErr, IfSome, true, false};
 ghost use Rattle.std.specs.Io.KnownBytes.{Consumes, IsAtEnd};
 ghost use Rattle.ssim_records.specs.Noting.{noted, GaveMore, Turned};

@@ -1,4 +1,4 @@
-// One record more: what the reader holds after it, or its first fault.
+//! One record more: what the reader holds after it, or its first fault.
 ghost use Rattle.std.specs.Prelude.{◌≡◌, OnOk};
 ghost use Rattle.ssim_records.specs.Bytes.{is_filler};
 ghost use Rattle.ssim_records.specs.SetSteps.{step, within, header_step, carrier_step, leg_step, segment_step, trailer_step, body_step, type_of, IsReady, IsCounted, Takes};
