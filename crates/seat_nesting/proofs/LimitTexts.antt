@@ -158,31 +158,21 @@ pub stop_only : (bytes : List ℕ) (line : ℕ) (rest text after : List ℕ) (ol
 stop_only bytes line rest [] after old rows kind at some cut h is = absurd h
 stop_only bytes line rest (c ∷ text) after old rows kind at some cut h is = stop_kind bytes line rest c text after old rows kind at (split_of rest (c ∷ text) after some cut) h is
 
-right_line : (n : ℕ) (c : ℕ) (text : List ℕ) (old : List LimitRow) (r : Result LimitRow LimitKind) → IsOk r → IsOk (then_rows (ok_rows old) (row_then n r (ok_rows [])))
-right_line n c text old (Ok row) h = refl
-right_line n c text old (Err kind) h = absurd cc
-
-right_after : (n : ℕ) (c : ℕ) (text : List ℕ) (old : List LimitRow) → IsOk (row_at (c ∷ text)) → IsOk (then_rows (ok_rows old) (rows_in n ((c ∷ text) ∷ [])))
-unfolding rows_in
-right_after n c text old h = right_line n c text old (row_at (c ∷ text)) h
-
 memory_stop : (c : ℕ) (text : List ℕ) (kind : LimitKind) → IsStop (c ∷ text) kind → kind ≡ kinds.Memory → IsOk (row_at (c ∷ text))
 memory_stop c text kinds.Memory h e = h
 memory_stop c text kind h e = absurd cc
 
 pub at_memory : (bytes : List ℕ) (line : ℕ) (rest text after : List ℕ) (old : List LimitRow) (kind : LimitKind) → IsAt bytes line rest old → 0 < length rest → ◌≡◌ {A = List ℕ × List ℕ} (text, after) (line_at rest) → IsStop text kind → kind ≡ kinds.Memory → WantsRoom bytes (line + 1)
 at_memory bytes line rest [] after old kind at some cut h is = absurd h
-at_memory bytes line rest (c ∷ text) after old kind at some cut h is =
-    let split = split_of rest (c ∷ text) after some cut in
-    let right = right_after (1 + length at.front) c text old (memory_stop c text kind h is) in
-    let joined = rows_append at.front ((c ∷ text) ∷ []) 1 ∙ ap (λ (r : Rows). then_rows r (rows_in (1 + length at.front) ((c ∷ text) ∷ []))) at.read in
-    record {
-      front = at.front ++ (c ∷ text) ∷ [];
-      behind = lines after;
-      cut = at.cut ∙ ap (λ (x : List (List ℕ)). at.front ++ x) split ∙ sym (append_assoc at.front ((c ∷ text) ∷ []) (lines after));
-      counted = length-append at.front ((c ∷ text) ∷ []) ∙ omega (arith, at.counted);
-      right = rw joined right;
-    }
+at_memory bytes line rest (c ∷ text) after old kind at some cut h is = record {
+  front = at.front;
+  here = c ∷ text;
+  behind = lines after;
+  cut = at.cut ∙ ap (λ (x : List (List ℕ)). at.front ++ x) (split_of rest (c ∷ text) after some cut);
+  counted = ap (λ (n : ℕ). n + 1) at.counted;
+  right = subst (λ (r : Rows). IsOk r) (sym at.read) refl;
+  row = memory_stop c text kind h is;
+}
 
 -- ---- one line
 

@@ -85,13 +85,15 @@ rows_in n [] = Ok []
 rows_in n ([] ∷ texts) = rows_in (n + 1) texts
 rows_in n ((c ∷ text) ∷ texts) = row_then n (row_at (c ∷ text)) (rows_in (n + 1) texts)
 
--- the lines up to this one have no fault
+-- the lines before this one have no fault, and this one spells a row, for which room is wanted
 pub record WantsRoom (bytes : List ℕ) (line : ℕ) : Type 0 where
   pub front : List (List ℕ)
+  pub here : List ℕ
   pub behind : List (List ℕ)
-  pub cut : lines bytes ≡ front ++ behind
-  pub counted : length front ≡ line
+  pub cut : lines bytes ≡ front ++ here ∷ behind
+  pub counted : length front + 1 ≡ line
   pub right : IsOk (rows_in 1 front)
+  pub row : IsOk (row_at here)
 
 -- ---- line by line
 

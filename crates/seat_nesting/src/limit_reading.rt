@@ -21,7 +21,7 @@ pub fn read_limits(alloc: Global, bytes: &[u8]) -> Result<LimitRows, LimitFault>
     ensures only { (rows : List Row) → IsLimitText bytes.now rows → MatchResult result (λ r. r ≡ rows) (λ f. f.kind ≡ Memory) }
     // Which line is refused: the first with a fault, and its first fault.
     ensures fault { IfErr result (λ f. f.kind ≢ Memory → rows_in 1 (lines bytes.now) ≡ Err f) }
-    // Want of memory is met at a line up to which none has a fault.
+    // Want of memory is met at a row, counted from line 1, where no line up to it has a fault.
     ensures memory { IfErr result (λ f. f.kind ≡ Memory → WantsRoom bytes.now f.line) }
 {
     let mut rows = LimitRows::new(alloc);

@@ -25,6 +25,13 @@ pub record TookFront (old new : Option (List ℕ)) (text : List ℕ) : Type 0 wh
 abbrev pub GaveMore : ℕ → ℕ → Option (List ℕ) → Type 0
 GaveMore max held known = IfSome known (λ xs. max < held + length xs)
 
+-- a reader that had read `held` bytes gave one or more for which memory was wanting, and all are at most max
+pub record WantsRoom (max held : ℕ) (old new : Option (List ℕ)) : Type 0 where
+  pub given : List ℕ
+  pub consumed : Consumes old new given
+  pub some : 0 < length given
+  pub within : held + length given ≤ max
+
 -- one turn of reading: bytes came and stand behind those held, at most max in all, or the reader is at its end
 pub record Turned (max : ℕ) (old new : Option (List ℕ)) (held after : List ℕ) (more : Bool) : Type 0 where
   pub got : List ℕ

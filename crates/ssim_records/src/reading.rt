@@ -1,7 +1,7 @@
 //! All bytes of a reader, up to a bound.
 ghost use Rattle.std.specs.Prelude.{◌≡◌, ◌≢◌, ℕ, ◌+◌, ◌<◌, ◌≤◌, List, length, ◌++◌, IfOk, IfErr, OnOk, OnErr, IfSome, true, false};
 ghost use Rattle.std.specs.Io.KnownBytes.{Consumes, IsAtEnd};
-ghost use Rattle.ssim_records.specs.Noting.{noted, GaveMore, Turned};
+ghost use Rattle.ssim_records.specs.Noting.{noted, GaveMore, Turned, WantsRoom};
 
 use super::counted::NotedRead;
 use std::alloc::Global;
@@ -42,6 +42,8 @@ pub fn read_all<R: NotedRead>(alloc: Global, reader: &mut R, max: u64) -> Result
     ensures whole { IfOk result (λ v. IfSome (R.remaining reader.old) (λ xs. v.items ≡ xs)) }
     ensures device { IfErr result (λ f. f ≡ ReadFault.Device → R.failure_count reader.new ≡ noted (R.failure_count reader.old)) }
     ensures large { IfErr result (λ f. f ≡ ReadFault.TooLarge → IfSome (R.remaining reader.old) (λ xs. max < length xs)) }
+    // Want of memory is met at bytes that make no more than `max` with those ahead of them.
+    ensures memory { IfErr result (λ f. f ≡ ReadFault.Memory → WantsRoom max 0 (R.remaining reader.old) (R.remaining reader.new)) }
     ensures counted { OnOk result (R.failure_count reader.new ≡ R.failure_count reader.old) }
     ensures uncounted { IfErr result (λ f. f ≢ ReadFault.Device → R.failure_count reader.new ≡ R.failure_count reader.old) }
 {
@@ -58,6 +60,7 @@ fn take_turn<R: NotedRead>(reader: &mut R, bytes: &mut Vec<u8>, max: u64) -> Res
     ensures device { IfErr result (λ f. f ≡ ReadFault.Device → R.failure_count reader.new ≡ noted (R.failure_count reader.old)) }
     ensures uncounted { IfErr result (λ f. f ≢ ReadFault.Device → R.failure_count reader.new ≡ R.failure_count reader.old) }
     ensures large { IfErr result (λ f. f ≡ ReadFault.TooLarge → GaveMore max (length bytes.old.items) (R.remaining reader.old)) }
+    ensures memory { IfErr result (λ f. f ≡ ReadFault.Memory → WantsRoom max (length bytes.old.items) (R.remaining reader.old) (R.remaining reader.new)) }
 {
     let mut piece = [0u8; 4096];
     match reader.read_noted(&mut piece) {
