@@ -19,25 +19,32 @@ use Rattle.seat_desk.specs.declared.fault.DeskFault.TheVariants.{Limit, Memory}
 use Rattle.seat_desk.specs.declared.fault.DeskFault.{DeskFault}
 use Rattle.seat_desk.specs.Desk.{IsOfInput}
 
-cases : (limits : List ℕ) (kind : LimitKind) (fault : LimitFault) → (kind ≢ limit_kinds.Memory → rows_in 1 (lines limits) ≡ Err fault)
+cases : (limits : List ℕ) (kind : LimitKind) (fault : LimitFault) → length limits ≤ most_limit_bytes → (kind ≢ limit_kinds.Memory → rows_in 1 (lines limits) ≡ Err fault)
     → limit_refusal_of kind fault ≢ Memory → IsUnlimited limits (limit_refusal_of kind fault)
-cases limits limit_kinds.Memory fault first not = absurd (not refl)
-cases limits kind fault first not = first (λ e. cc)
+cases limits limit_kinds.Memory fault within first not = absurd (not refl)
+cases limits kind fault within first not = record { within = within; first = first (λ e. cc) }
 
-pub refused_limits : (limits : List ℕ) (fault : LimitFault) → (fault.kind ≢ limit_kinds.Memory → rows_in 1 (lines limits) ≡ Err fault)
+pub refused_limits : (limits : List ℕ) (fault : LimitFault) → length limits ≤ most_limit_bytes → (fault.kind ≢ limit_kinds.Memory → rows_in 1 (lines limits) ≡ Err fault)
     → limit_refusal fault ≢ Memory → IsUnlimited limits (limit_refusal fault)
 refused_limits limits fault = cases limits fault.kind fault
 
-of_limits : (set limits : List ℕ) (first days : ℕ) (fault : DeskFault) → IsUnlimited limits fault → IsRefusedLoad set limits first days fault
-of_limits set limits first days (Limit fault) wrong = record { refusal = wrong }
-of_limits set limits first days _ wrong = absurd wrong
+of_limits : (set limits : List ℕ) (first days : ℕ) (flights : List Flown) (fault : DeskFault) → length set ≤ most_bytes → IsSchedule set first days flights
+    → IsUnlimited limits fault → IsRefusedLoad set limits first days fault
+of_limits set limits first days flights (Limit fault) within schedule wrong =
+    record { refusal = record { flights = flights; set_within = within; is_schedule = schedule; wrong = wrong } }
+of_limits set limits first days flights _ within schedule wrong = absurd wrong
 
-pub load_refused : (set limits : Option (List ℕ)) (first days : ℕ) (fault : DeskFault) (bytes slice : List ℕ) → slice ≡ bytes → IfSome limits (λ ys. bytes ≡ ys)
-    → (fault ≢ Memory → IsUnlimited slice fault) → IsOfInput fault → IfSome set (λ xs. IfSome limits (λ ys. IsRefusedLoad xs ys first days fault))
-load_refused (Some xs) (Some ys) first days fault bytes slice whole same wrong input =
-    of_limits xs ys first days fault (subst (λ (l : List ℕ). IsUnlimited l fault) (whole ∙ same) (wrong (λ (e : fault ≡ Memory). subst IsOfInput e input)))
-load_refused (Some xs) None first days fault bytes slice whole same wrong input = tt
-load_refused None limits first days fault bytes slice whole same wrong input = tt
+-- what was read of each input is all of it, and the limits are refused
+pub load_refused : (set limits : Option (List ℕ)) (first days : ℕ) (fault : DeskFault) (bytes slice text text_slice : List ℕ) (flights : List Flown)
+    → slice ≡ bytes → IfSome set (λ xs. bytes ≡ xs) → length bytes ≤ most_bytes → IsSchedule slice first days flights
+    → text_slice ≡ text → IfSome limits (λ ys. text ≡ ys)
+    → (fault ≢ Memory → IsUnlimited text_slice fault) → IsOfInput fault → IfSome set (λ xs. IfSome limits (λ ys. IsRefusedLoad xs ys first days fault))
+load_refused (Some xs) (Some ys) first days fault bytes slice text text_slice flights of_set set_is set_fits schedule of_text text_is wrong input =
+    of_limits xs ys first days flights fault (subst (λ (l : List ℕ). length l ≤ most_bytes) set_is set_fits)
+    (subst (λ (l : List ℕ). IsSchedule l first days flights) (of_set ∙ set_is) schedule)
+    (subst (λ (l : List ℕ). IsUnlimited l fault) (of_text ∙ text_is) (wrong (λ (e : fault ≡ Memory). subst IsOfInput e input)))
+load_refused (Some xs) None first days fault bytes slice text text_slice flights of_set set_is set_fits schedule of_text text_is wrong input = tt
+load_refused None limits first days fault bytes slice text text_slice flights of_set set_is set_fits schedule of_text text_is wrong input = tt
 
 -- what was read of each input is all of it
 pub loaded_whole : (set limits : Option (List ℕ)) (first days : ℕ) (bytes slice text text_slice : List ℕ) (flights : List Flown) (rows : List LimitRow) (grid : Legs)

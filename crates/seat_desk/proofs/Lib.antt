@@ -1,5 +1,6 @@
 mod Cuts
 mod Auditing
+mod Inputs
 pub mod Texts
 mod Schedules
 mod Grounds

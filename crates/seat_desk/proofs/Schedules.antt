@@ -1,5 +1,5 @@
 -- A refused expansion says why, and that there are no flights.
-use Rattle.std.proofs.Common.{◌≡◌, ◌≢◌, ℕ, List, Option, Some, None, ⊎_elim, refl, sym, ap, ◌∙◌, subst}
+use Rattle.std.proofs.Common.{◌≡◌, ◌≢◌, ℕ, List, Option, Some, None, ⊎_elim, refl, sym, ap, ◌∙◌, subst, ◌≤◌, length}
 use Rattle.ssim_records.specs.SetText.{IsDataSet}
 use Rattle.ssim_records.specs.declared.set.DataSet.{DataSet}
 use Rattle.ssim_records.proofs.SetLaws.{one_data_set}
@@ -7,7 +7,7 @@ use Rattle.ssim_flights.specs.Flown.{IsRefusal, memory_fault}
 use Rattle.ssim_flights.specs.declared.fault.FlightFault.{FlightFault}
 use Rattle.ssim_flights.specs.declared.fault.FlightKind.{FlightKind}
 use Rattle.ssim_flights.specs.declared.fault.FlightKind.TheVariants as flight_kinds
-use Rattle.seat_desk.specs.CheckDesk.{IsRefusedSet, most_records}
+use Rattle.seat_desk.specs.CheckDesk.{IsRefusedSet, most_bytes, most_records}
 use Rattle.seat_desk.specs.FlightsDesk.{HasNoSchedule, IsUnscheduled, expansion_fault, expansion_fault_of, flights_fault}
 use Rattle.seat_desk.specs.declared.fault.DeskFault.{DeskFault}
 use Rattle.seat_desk.specs.declared.fault.DeskFault.TheVariants.{Memory, Set}
@@ -17,7 +17,7 @@ no_set : (first days : ℕ) (bytes : List ℕ) → ((set : DataSet) → IsDataSe
 no_set first days bytes none flights s = none s.set s.is_set
 
 of_set : (first days : ℕ) (bytes : List ℕ) (fault : DeskFault) → IsRefusedSet fault bytes → IsUnscheduled first days fault bytes
-of_set first days bytes (Set fault) refused = record { refused = refused; none = no_set first days bytes refused.1 }
+of_set first days bytes (Set fault) refused = record { within = refused.within; refused = refused; none = no_set first days bytes refused.none }
 of_set first days bytes _ refused = absurd refused
 
 pub refused_set : (first days : ℕ) (bytes : List ℕ) (fault : DeskFault) → (fault ≢ Memory → IsRefusedSet fault bytes) → fault ≢ Memory → IsUnscheduled first days fault bytes
@@ -37,16 +37,16 @@ found : (fault : FlightFault) (first : Option FlightFault) → fault.kind ≢ fl
 found fault first not refused =
     ⊎_elim (λ (m : fault ≡ memory_fault). absurd (not (ap (λ (f : FlightFault). f.kind) m))) (λ (s : first ≡ Some fault). s) refused
 
-cases : (first days : ℕ) (bytes : List ℕ) (set : DataSet) (kind : FlightKind) (fault : FlightFault) → IsDataSet most_records bytes set
+cases : (first days : ℕ) (bytes : List ℕ) (set : DataSet) (kind : FlightKind) (fault : FlightFault) → length bytes ≤ most_bytes → IsDataSet most_records bytes set
     → (kind ≢ flight_kinds.Memory → flights_fault set first days ≡ Some fault) → expansion_fault_of kind fault ≢ Memory
     → IsUnscheduled first days (expansion_fault_of kind fault) bytes
-cases first days bytes set flight_kinds.Memory fault is first_is not = absurd (not refl)
-cases first days bytes set kind fault is first_is not =
+cases first days bytes set flight_kinds.Memory fault within is first_is not = absurd (not refl)
+cases first days bytes set kind fault within is first_is not =
     let wrong : flights_fault set first days ≡ Some fault = first_is (λ e. cc) in
-    record { refused = record { set = set; is_set = is; wrong = wrong }; none = faulty first days bytes set fault is wrong }
+    record { within = within; refused = record { set = set; is_set = is; wrong = wrong }; none = faulty first days bytes set fault is wrong }
 
-pub refused_expansion : (first days : ℕ) (bytes : List ℕ) (set : DataSet) (fault : FlightFault) → IsDataSet most_records bytes set
+pub refused_expansion : (first days : ℕ) (bytes : List ℕ) (set : DataSet) (fault : FlightFault) → length bytes ≤ most_bytes → IsDataSet most_records bytes set
     → IsRefusal fault (flights_fault set first days) → expansion_fault fault ≢ Memory
     → IsUnscheduled first days (expansion_fault fault) bytes
-refused_expansion first days bytes set fault is refused =
-    cases first days bytes set fault.kind fault is (λ not. found fault (flights_fault set first days) not refused)
+refused_expansion first days bytes set fault within is refused =
+    cases first days bytes set fault.kind fault within is (λ not. found fault (flights_fault set first days) not refused)

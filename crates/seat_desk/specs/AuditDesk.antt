@@ -1,5 +1,5 @@
 -- What `audit` writes: one line that says that a journal is legal, and what it comes to.
-use Rattle.std.specs.Prelude.{◌≡◌, ◌≤◌, ◌<◌, ◌⊎◌, ℕ, List, [], ◌∷◌, ◌++◌, length, decimal, codes, Some}
+use Rattle.std.specs.Prelude.{◌≡◌, ◌≤◌, ◌<◌, ◌⊎◌, ℕ, List, [], ◌∷◌, ◌++◌, length, decimal, codes, Option, Some, IfSome}
 use Rattle.ssim_flights.specs.declared.flight.Flight.{Flight as Flown}
 use Rattle.seat_nesting.specs.Nesting.{Legs}
 use Rattle.seat_journal.specs.Text.{IsJournalText}
@@ -30,6 +30,10 @@ audit_line totals =
 abbrev pub most_lines : ℕ
 most_lines = 999_999
 
+-- 256 MiB
+abbrev pub most_journal_bytes : ℕ
+most_journal_bytes = 268_435_456
+
 -- the bytes are the text of a legal history over these limits, after which no leg holds more than authorised, and the line says what it comes to
 pub record IsAudited (grid : Legs) (bytes line : List ℕ) : Type 0 where
   pub entries : List Entry
@@ -50,7 +54,9 @@ IsRefusedJournal grid _ bytes = ⊥
 abbrev pub IsUnaudited : Legs → List ℕ → Type 0
 IsUnaudited grid bytes = (entries : List Entry) → IsJournalText bytes entries → IsLegal grid entries → length entries ≤ most_lines → ⊥
 
+-- the bytes are not too large, but they are refused
 pub record IsUnlawful (grid : Legs) (fault : DeskFault) (bytes : List ℕ) : Type 0 where
+  pub within : length bytes ≤ most_journal_bytes
   pub refused : IsRefusedJournal grid fault bytes
   pub none : IsUnaudited grid bytes
 
@@ -69,10 +75,6 @@ replay_refusal_of _ fault = Replay fault
 abbrev pub replay_refusal : ReplayFault → DeskFault
 replay_refusal fault = replay_refusal_of fault.kind fault
 
--- 256 MiB
-abbrev pub most_journal_bytes : ℕ
-most_journal_bytes = 268_435_456
-
 -- the line audits the journal, which is not too large, over that grid
 pub record IsAudit (set limits : List ℕ) (first days : ℕ) (journal line : List ℕ) : Type 0 where
   pub flights : List Flown
@@ -80,6 +82,11 @@ pub record IsAudit (set limits : List ℕ) (first days : ℕ) (journal line : Li
   pub is_loaded : IsLoaded set limits first days flights grid
   pub within : length journal ≤ most_journal_bytes
   pub is_audited : IsAudited grid journal line
+
+-- where the bytes of the three inputs are known
+abbrev pub IsAuditOf : Option (List ℕ) → Option (List ℕ) → ℕ → ℕ → Option (List ℕ) → List ℕ → Type 0
+IsAuditOf set limits first days journal line =
+    IfSome set (λ xs. IfSome limits (λ ys. IfSome journal (λ zs. IsAudit xs ys first days zs line)))
 
 -- a journal that is refused over that grid
 pub record IsRefusedOver (set limits : List ℕ) (first days : ℕ) (fault : DeskFault) (journal : List ℕ) : Type 0 where

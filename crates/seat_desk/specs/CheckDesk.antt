@@ -1,9 +1,10 @@
 -- What `check` writes: one line that sums up a data set.
-use Rattle.std.specs.Prelude.{◌≡◌, ℕ, Bool, List, ◌∷◌, [], ◌++◌, length, decimal, codes, Option, Some, None, if◌then◌else◌}
+use Rattle.std.specs.Prelude.{◌≡◌, ◌≤◌, ℕ, Bool, List, ◌∷◌, [], ◌++◌, length, decimal, codes, Option, Some, None, if◌then◌else◌}
 use Rattle.ssim_records.specs.Days.{IsDateText}
 use Rattle.ssim_records.specs.SetFaults.{IsFirstFault}
 use Rattle.ssim_records.specs.SetText.{IsDataSet}
 use Rattle.ssim_records.specs.declared.set.DataSet.{DataSet}
+use Rattle.ssim_records.specs.declared.set_fault.SetFault.{SetFault}
 use Rattle.seat_desk.specs.declared.fault.DeskFault.{DeskFault}
 use Rattle.seat_desk.specs.declared.fault.DeskFault.TheVariants.{Set}
 
@@ -33,14 +34,19 @@ most_bytes = 268_435_456
 abbrev pub most_records : ℕ
 most_records = 999_999
 
--- the line sums up the data set that these bytes are
+-- the bytes are not too large, and the line sums up the data set that they are
 pub record Sums (bytes line : List ℕ) : Type 0 where
+  pub within : length bytes ≤ most_bytes
   pub set : DataSet
   pub is_set : IsDataSet most_records bytes set
   pub is_line : IsCheckLine set line
 
--- the fault is the first of these bytes, which are no data set
+-- the bytes are not too large, but they are no data set, and the fault is their first
+pub record IsNoSet (fault : SetFault) (bytes : List ℕ) : Type 0 where
+  pub within : length bytes ≤ most_bytes
+  pub first : IsFirstFault most_records bytes fault.nth fault.kind
+  pub none : (set : DataSet) → IsDataSet most_records bytes set → ⊥
+
 abbrev pub IsRefusedSet : DeskFault → List ℕ → Type 0
-IsRefusedSet (Set fault) bytes =
-    IsFirstFault most_records bytes fault.nth fault.kind × ((set : DataSet) → IsDataSet most_records bytes set → ⊥)
+IsRefusedSet (Set fault) bytes = IsNoSet fault bytes
 IsRefusedSet _ bytes = ⊥

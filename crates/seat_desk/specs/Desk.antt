@@ -1,21 +1,19 @@
 -- What a command does to its output: it writes a text that answers its inputs, or a beginning of one.
-use Rattle.std.specs.Prelude.{◌≡◌, ◌⊎◌, ℕ, List, Option}
+use Rattle.std.specs.Prelude.{◌≡◌, ℕ, List, Option, IfSome}
 use Rattle.std.specs.Io.KnownBytes.{Appends}
 use Rattle.ssim_records.specs.Noting.{noted, TookFront}
 use Rattle.seat_desk.specs.declared.fault.DeskFault.{DeskFault}
 use Rattle.seat_desk.specs.declared.fault.DeskFault.TheVariants.{TooLarge, Device, Memory}
+
+-- the text answers an input, where the input's bytes are known
+abbrev pub OfInput : (List ℕ → List ℕ → Type 0) → Option (List ℕ) → List ℕ → Type 0
+OfInput answers input text = IfSome input (λ bytes. answers bytes text)
 
 -- a text that answers is written, whole
 pub record IsWritten (answers : List ℕ → Type 0) (old new : Option (List ℕ)) : Type 0 where
   pub text : List ℕ
   pub right : answers text
   pub written : Appends old new text
-
--- a beginning of a text that answers is written
-pub record IsBegun (answers : List ℕ → Type 0) (old new : Option (List ℕ)) : Type 0 where
-  pub text : List ℕ
-  pub right : answers text
-  pub front : TookFront old new text
 
 -- what is wrong is an input itself, and neither its size, nor a device, nor want of memory
 abbrev pub IsOfInput : DeskFault → Type 0
@@ -24,15 +22,18 @@ IsOfInput Device = ⊥
 IsOfInput Memory = ⊥
 IsOfInput _ = Unit {0}
 
--- a device failed: the input, and then nothing is written, or the output, and then a beginning of a text that answers is
-abbrev pub HasFailed : ℕ → ℕ → ℕ → ℕ → Type 0 → Type 0 → Type 0
-HasFailed input_old input_new output_old output_new nothing begun =
-    ((input_new ≡ noted input_old) × nothing) ⊎ ((output_new ≡ noted output_old) × begun)
+-- a failure of the device was counted
+abbrev pub HasFailed : {D : Type 0} → (D → ℕ) → D → D → Type 0
+HasFailed failures old new = failures new ≡ noted (failures old)
 
--- one of three inputs failed
-abbrev pub HasRisen : ℕ → ℕ → ℕ → ℕ → ℕ → ℕ → Type 0
-HasRisen a_old a_new b_old b_new c_old c_new = ((a_new ≡ noted a_old) ⊎ (b_new ≡ noted b_old)) ⊎ (c_new ≡ noted c_old)
+-- an input failed, and nothing was written
+pub record InputFailed {W : Type 0} (failed : Type 0) (out_old out_new : W) : Type 0 where
+  pub counted : failed
+  pub untouched : out_new ≡ out_old
 
--- the same, where an input is one of several
-abbrev pub HasFailedOf : Type 0 → ℕ → ℕ → Type 0 → Type 0 → Type 0
-HasFailedOf failed output_old output_new nothing begun = (failed × nothing) ⊎ ((output_new ≡ noted output_old) × begun)
+-- the output failed, and took a beginning of a text that answers
+pub record OutputFailed {W : Type 0} (failures : W → ℕ) (contents : W → Option (List ℕ)) (out_old out_new : W) (answers : List ℕ → Type 0) : Type 0 where
+  pub counted : HasFailed failures out_old out_new
+  pub text : List ℕ
+  pub right : answers text
+  pub begun : TookFront (contents out_old) (contents out_new) text

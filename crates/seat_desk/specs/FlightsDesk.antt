@@ -1,5 +1,5 @@
 -- What `flights` writes: one line for each dated flight.
-use Rattle.std.specs.Prelude.{◌≡◌, ℕ, ◌+◌, List, [], ◌∷◌, ◌++◌, decimal, codes, Option, Some, None}
+use Rattle.std.specs.Prelude.{◌≡◌, ◌≤◌, ℕ, ◌+◌, List, [], ◌∷◌, ◌++◌, length, decimal, codes, Option, Some, None}
 use Rattle.ssim_records.specs.Days.{IsDateText}
 use Rattle.ssim_records.specs.SetText.{IsDataSet}
 use Rattle.ssim_records.specs.declared.set.DataSet.{DataSet}
@@ -11,7 +11,7 @@ use Rattle.ssim_flights.specs.declared.fault.FlightKind.{FlightKind}
 use Rattle.ssim_flights.specs.declared.fault.FlightKind.TheVariants as flight_kinds
 use Rattle.ssim_flights.specs.declared.flight.DatedLeg.{DatedLeg}
 use Rattle.ssim_flights.specs.declared.flight.Flight.{Flight as Flown}
-use Rattle.seat_desk.specs.CheckDesk.{IsRefusedSet, most_records}
+use Rattle.seat_desk.specs.CheckDesk.{IsRefusedSet, most_bytes, most_records}
 use Rattle.seat_desk.specs.declared.fault.DeskFault.{DeskFault}
 use Rattle.seat_desk.specs.declared.fault.DeskFault.TheVariants.{Set, Flight, Memory}
 
@@ -97,12 +97,15 @@ expansion_fault fault = expansion_fault_of fault.kind fault
 abbrev pub HasNoSchedule : ℕ → ℕ → List ℕ → Type 0
 HasNoSchedule first days bytes = (flights : List Flown) → IsSchedule bytes first days flights → ⊥
 
+-- the bytes are not too large, but they are refused
 pub record IsUnscheduled (first days : ℕ) (fault : DeskFault) (bytes : List ℕ) : Type 0 where
+  pub within : length bytes ≤ most_bytes
   pub refused : IsRefusedSchedule first days fault bytes
   pub none : HasNoSchedule first days bytes
 
--- the text is a line for each of the flights
-pub record IsListing (bytes : List ℕ) (first days : ℕ) (text : List ℕ) : Type 0 where
+-- the bytes are not too large, and the text is a line for each of their flights
+pub record IsListing (first days : ℕ) (bytes text : List ℕ) : Type 0 where
+  pub within : length bytes ≤ most_bytes
   pub flights : List Flown
   pub is_schedule : IsSchedule bytes first days flights
   pub is_text : IsFlightsText flights text

@@ -1,5 +1,5 @@
 -- What `ladder` reads and writes: a ladder and commands, and the replies and the room that is left.
-use Rattle.std.specs.Prelude.{ℕ, ◌+◌, ◌==◌, List, [], ◌∷◌, ◌++◌, length, decimal, codes, Option, Some, None, Result, Ok, Err, if◌then◌else◌}
+use Rattle.std.specs.Prelude.{◌≡◌, ◌≤◌, ℕ, ◌+◌, ◌==◌, List, [], ◌∷◌, ◌++◌, length, decimal, codes, Option, Some, None, Result, Ok, Err, if◌then◌else◌}
 use Rattle.std.specs.List.{flat_map}
 use Rattle.seat_journal.specs.declared.entry.Advice.{Advice}
 use Rattle.seat_journal.specs.declared.entry.Command.{Command}
@@ -90,3 +90,13 @@ ladder_answer bytes = answer_in (lines_of bytes)
 -- 16 MiB
 abbrev pub most_bytes : ℕ
 most_bytes = 16_777_216
+
+-- the input is not too large, and the text answers it
+pub record IsLadderText (bytes text : List ℕ) : Type 0 where
+  pub within : length bytes ≤ most_bytes
+  pub answers : ladder_answer bytes ≡ Ok text
+
+-- the input is not too large, and the fault is its first
+pub record IsRefusedLadder (fault : DeskFault) (bytes : List ℕ) : Type 0 where
+  pub within : length bytes ≤ most_bytes
+  pub first : ladder_answer bytes ≡ Err fault

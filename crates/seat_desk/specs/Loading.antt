@@ -44,16 +44,27 @@ limit_refusal_of _ fault = Limit fault
 abbrev pub limit_refusal : LimitFault → DeskFault
 limit_refusal fault = limit_refusal_of fault.kind fault
 
--- the fault is the first of these limit rows
+-- the limits are not too large, and the fault is the first of their rows
+pub record AreNoRows (limits : List ℕ) (fault : LimitFault) : Type 0 where
+  pub within : length limits ≤ most_limit_bytes
+  pub first : rows_in 1 (lines limits) ≡ Err fault
+
 abbrev pub IsUnlimited : List ℕ → DeskFault → Type 0
-IsUnlimited limits (Limit fault) = rows_in 1 (lines limits) ≡ Err fault
+IsUnlimited limits (Limit fault) = AreNoRows limits fault
 IsUnlimited limits _ = ⊥
 
--- the fault is the first of the set, of its flights, or of the limits
+-- the set is not too large and has flights, but the limits are refused
+pub record IsRefusedLimits (set limits : List ℕ) (first days : ℕ) (fault : LimitFault) : Type 0 where
+  pub flights : List Flown
+  pub set_within : length set ≤ most_bytes
+  pub is_schedule : IsSchedule set first days flights
+  pub wrong : AreNoRows limits fault
+
+-- the fault is the first of the set, of its flights, or of the limits behind a right set
 abbrev pub LoadRefusal : List ℕ → List ℕ → ℕ → ℕ → DeskFault → Type 0
 LoadRefusal set limits first days (Set fault) = IsUnscheduled first days (Set fault) set
 LoadRefusal set limits first days (Flight fault) = IsUnscheduled first days (Flight fault) set
-LoadRefusal set limits first days (Limit fault) = IsUnlimited limits (Limit fault)
+LoadRefusal set limits first days (Limit fault) = IsRefusedLimits set limits first days fault
 LoadRefusal set limits first days _ = ⊥
 
 pub record IsRefusedLoad (set limits : List ℕ) (first days : ℕ) (fault : DeskFault) : Type 0 where

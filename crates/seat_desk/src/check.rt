@@ -1,8 +1,8 @@
 //! `check`: a data set, and one line that sums it up.
-ghost use Rattle.std.specs.Prelude.{◌≡◌, ◌≢◌, ◌<◌, ◌≤◌, IfErr, IfOk, IfSome, OnOk, length};
+ghost use Rattle.std.specs.Prelude.{◌≡◌, ◌≢◌, ◌<◌, ◌≤◌, ◌⊎◌, IfErr, IfOk, IfSome, OnOk, length};
 ghost use Rattle.ssim_records.specs.SetText.{IsDataSet};
 ghost use Rattle.seat_desk.specs.CheckDesk.{IsCheckLine, IsEndText, IsRefusedSet, Sums, mode_text, most_bytes, most_records};
-ghost use Rattle.seat_desk.specs.Desk.{HasFailed, IsBegun, IsOfInput, IsWritten};
+ghost use Rattle.seat_desk.specs.Desk.{HasFailed, InputFailed, IsOfInput, IsWritten, OfInput, OutputFailed};
 
 use crate::fault::DeskFault;
 use crate::streams::read_input;
@@ -22,11 +22,12 @@ pub fn desk_check<R: NotedRead, W: NotedWrite>(
     input: &mut R,
     out: &mut W,
 ) -> Result<(), DeskFault>
-    ensures ok { OnOk result (IfSome (R.remaining input.old) (λ xs. (length xs ≤ most_bytes) × IsWritten (Sums xs) (W.contents out.old) (W.contents out.new))) }
+    ensures ok { OnOk result (IsWritten (OfInput Sums (R.remaining input.old)) (W.contents out.old) (W.contents out.new)) }
     ensures fault { IfErr result (λ f. IsOfInput f → IfSome (R.remaining input.old) (IsRefusedSet f)) }
     ensures large { IfErr result (λ f. f ≡ DeskFault.TooLarge → IfSome (R.remaining input.old) (λ xs. most_bytes < length xs)) }
-    ensures device { IfErr result (λ f. f ≡ DeskFault.Device → HasFailed (R.failure_count input.old) (R.failure_count input.new) (W.failure_count out.old) (W.failure_count out.new)
-        (out.new ≡ out.old) (IfSome (R.remaining input.old) (λ xs. IsBegun (Sums xs) (W.contents out.old) (W.contents out.new)))) }
+    ensures device { IfErr result (λ f. f ≡ DeskFault.Device →
+        InputFailed (HasFailed R.failure_count input.old input.new) out.old out.new
+        ⊎ OutputFailed W.failure_count W.contents out.old out.new (OfInput Sums (R.remaining input.old))) }
     ensures untouched { IfErr result (λ f. f ≢ DeskFault.Device → out.new ≡ out.old) }
 {
     let bytes = read_input(alloc, input, MOST_BYTES)?;

@@ -1,8 +1,8 @@
 //! `flights`: a data set on the dates of a horizon, and one line for each flight.
-ghost use Rattle.std.specs.Prelude.{◌≡◌, ◌≢◌, ◌++◌, ◌<◌, ◌≤◌, ℕ, List, IfErr, IfOk, IfSome, OnOk, length};
+ghost use Rattle.std.specs.Prelude.{◌≡◌, ◌≢◌, ◌++◌, ◌<◌, ◌≤◌, ◌⊎◌, ℕ, List, IfErr, IfOk, IfSome, OnOk, length};
 ghost use Rattle.ssim_flights.specs.Right.{IsOfCentury};
 ghost use Rattle.seat_desk.specs.CheckDesk.{most_bytes};
-ghost use Rattle.seat_desk.specs.Desk.{HasFailed, IsBegun, IsOfInput, IsWritten};
+ghost use Rattle.seat_desk.specs.Desk.{HasFailed, InputFailed, IsOfInput, IsWritten, OfInput, OutputFailed};
 ghost use Rattle.seat_desk.specs.FlightsDesk.{IsFlightsText, IsLegText, IsLinePut, IsListing, IsPut, IsSchedule, IsUnscheduled, expansion_fault, head_text, suffix_text};
 
 use crate::check::{MOST_BYTES, data_set};
@@ -27,11 +27,12 @@ pub fn desk_flights<R: NotedRead, W: NotedWrite>(
 ) -> Result<(), DeskFault>
     requires first { IsOfCentury first }
     requires days { (1 ≤ days) × (days ≤ 366) }
-    ensures ok { OnOk result (IfSome (R.remaining input.old) (λ xs. (length xs ≤ most_bytes) × IsWritten (IsListing xs first days) (W.contents out.old) (W.contents out.new))) }
-    ensures fault { IfErr result (λ f. IsOfInput f → IfSome (R.remaining input.old) (λ xs. IsUnscheduled first days f xs)) }
+    ensures ok { OnOk result (IsWritten (OfInput (IsListing first days) (R.remaining input.old)) (W.contents out.old) (W.contents out.new)) }
+    ensures fault { IfErr result (λ f. IsOfInput f → IfSome (R.remaining input.old) (IsUnscheduled first days f)) }
     ensures large { IfErr result (λ f. f ≡ DeskFault.TooLarge → IfSome (R.remaining input.old) (λ xs. most_bytes < length xs)) }
-    ensures device { IfErr result (λ f. f ≡ DeskFault.Device → HasFailed (R.failure_count input.old) (R.failure_count input.new) (W.failure_count out.old) (W.failure_count out.new)
-        (out.new ≡ out.old) (IfSome (R.remaining input.old) (λ xs. IsBegun (IsListing xs first days) (W.contents out.old) (W.contents out.new)))) }
+    ensures device { IfErr result (λ f. f ≡ DeskFault.Device →
+        InputFailed (HasFailed R.failure_count input.old input.new) out.old out.new
+        ⊎ OutputFailed W.failure_count W.contents out.old out.new (OfInput (IsListing first days) (R.remaining input.old))) }
     ensures untouched { IfErr result (λ f. f ≢ DeskFault.Device → out.new ≡ out.old) }
 {
     let bytes = read_input(alloc, input, MOST_BYTES)?;
@@ -47,7 +48,7 @@ fn listing(alloc: Global, bytes: &[u8], first: Day, days: u16) -> Result<Vec<u8>
     requires size { length bytes.now ≤ most_bytes }
     requires first { IsOfCentury first }
     requires days { (1 ≤ days) × (days ≤ 366) }
-    ensures ok { IfOk result (λ text. IsListing bytes.now first days text.items) }
+    ensures ok { IfOk result (λ text. IsListing first days bytes.now text.items) }
     ensures fault { IfErr result (λ f. f ≢ DeskFault.Memory → IsUnscheduled first days f bytes.now) }
     ensures kind { IfErr result (λ f. (f ≢ DeskFault.Device) × (f ≢ DeskFault.TooLarge)) }
 {

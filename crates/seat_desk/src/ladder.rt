@@ -1,12 +1,12 @@
 //! `ladder`: one leg from the input, and each command on it answered.
-ghost use Rattle.std.specs.Prelude.{◌≡◌, ◌≢◌, ◌+◌, ◌++◌, ◌∷◌, ◌<◌, ◌≤◌, [], IfErr, IfOk, IfSome, OnOk, Ok, Err, codes, length};
+ghost use Rattle.std.specs.Prelude.{◌≡◌, ◌≢◌, ◌+◌, ◌++◌, ◌∷◌, ◌<◌, ◌≤◌, ◌⊎◌, [], IfErr, IfOk, IfSome, OnOk, Ok, Err, codes, length};
 ghost use Rattle.std.specs.Io.KnownBytes.{Appends};
 ghost use Rattle.std.specs.List.{All, flat_map};
 ghost use Rattle.seat_nesting.specs.Nesting.{Fits, ladder_at};
 ghost use Rattle.seat_core.specs.Inventory.{state_now};
 ghost use Rattle.seat_core.specs.Journal.{calls_of, next_line};
-ghost use Rattle.seat_desk.specs.Desk.{HasFailed, IsBegun, IsOfInput, IsWritten};
-ghost use Rattle.seat_desk.specs.LadderDesk.{class_text, entry_text, first_line, ladder_answer, ladder_text, later_lines, lines_after, most_bytes, room_text};
+ghost use Rattle.seat_desk.specs.Desk.{HasFailed, InputFailed, IsOfInput, IsWritten, OfInput, OutputFailed};
+ghost use Rattle.seat_desk.specs.LadderDesk.{IsLadderText, IsRefusedLadder, class_text, entry_text, first_line, ladder_answer, ladder_text, later_lines, lines_after, most_bytes, room_text};
 ghost use Rattle.seat_desk.specs.Lines.{lines_of};
 ghost use Rattle.seat_desk.specs.Orders.{IsOrder, only_leg};
 
@@ -33,11 +33,12 @@ pub fn desk_ladder<R: NotedRead, W: NotedWrite>(
     input: &mut R,
     out: &mut W,
 ) -> Result<(), DeskFault>
-    ensures ok { OnOk result (IfSome (R.remaining input.old) (λ xs. (length xs ≤ most_bytes) × IsWritten (λ text. ladder_answer xs ≡ Ok text) (W.contents out.old) (W.contents out.new))) }
-    ensures fault { IfErr result (λ f. IsOfInput f → IfSome (R.remaining input.old) (λ xs. ladder_answer xs ≡ Err f)) }
+    ensures ok { OnOk result (IsWritten (OfInput IsLadderText (R.remaining input.old)) (W.contents out.old) (W.contents out.new)) }
+    ensures fault { IfErr result (λ f. IsOfInput f → IfSome (R.remaining input.old) (IsRefusedLadder f)) }
     ensures large { IfErr result (λ f. f ≡ DeskFault.TooLarge → IfSome (R.remaining input.old) (λ xs. most_bytes < length xs)) }
-    ensures device { IfErr result (λ f. f ≡ DeskFault.Device → HasFailed (R.failure_count input.old) (R.failure_count input.new) (W.failure_count out.old) (W.failure_count out.new)
-        (out.new ≡ out.old) (IfSome (R.remaining input.old) (λ xs. IsBegun (λ text. ladder_answer xs ≡ Ok text) (W.contents out.old) (W.contents out.new)))) }
+    ensures device { IfErr result (λ f. f ≡ DeskFault.Device →
+        InputFailed (HasFailed R.failure_count input.old input.new) out.old out.new
+        ⊎ OutputFailed W.failure_count W.contents out.old out.new (OfInput IsLadderText (R.remaining input.old))) }
     ensures untouched { IfErr result (λ f. f ≢ DeskFault.Device → out.new ≡ out.old) }
 {
     let bytes = read_input(alloc, input, MOST_BYTES)?;
@@ -50,8 +51,9 @@ pub fn desk_ladder<R: NotedRead, W: NotedWrite>(
 
 /// The text that an input is answered with.
 fn answer(alloc: Global, bytes: &[u8]) -> Result<Vec<u8>, DeskFault>
-    ensures ok { IfOk result (λ text. ladder_answer bytes.now ≡ Ok text.items) }
-    ensures fault { IfErr result (λ f. f ≢ DeskFault.Memory → ladder_answer bytes.now ≡ Err f) }
+    requires size { length bytes.now ≤ most_bytes }
+    ensures ok { IfOk result (λ text. IsLadderText bytes.now text.items) }
+    ensures fault { IfErr result (λ f. f ≢ DeskFault.Memory → IsRefusedLadder f bytes.now) }
     ensures kind { IfErr result (λ f. (f ≢ DeskFault.Device) × (f ≢ DeskFault.TooLarge)) }
 {
     let (first, rest) = cut_first(bytes);

@@ -1,10 +1,9 @@
 //! The flights of a data set, and the grid that limit rows give them on the dates of a horizon.
 ghost use Rattle.std.specs.Prelude.{◌≡◌, ◌≢◌, ◌<◌, ◌≤◌, ◌⊎◌, IfErr, IfOk, IfSome, length};
-ghost use Rattle.ssim_records.specs.Noting.{noted};
 ghost use Rattle.ssim_flights.specs.Right.{IsOfCentury};
 ghost use Rattle.seat_nesting.specs.Authorised.{authorised_grid};
 ghost use Rattle.seat_nesting.specs.LimitRows.{IsLimitText};
-ghost use Rattle.seat_desk.specs.Desk.{IsOfInput};
+ghost use Rattle.seat_desk.specs.Desk.{HasFailed, IsOfInput};
 ghost use Rattle.seat_desk.specs.Loading.{IsGridOf, IsLoaded, IsRefusedLoad, IsTooLargeLoad, IsUnlimited, limit_refusal, most_limit_bytes};
 
 use crate::check::MOST_BYTES;
@@ -41,7 +40,7 @@ pub fn load<S: NotedRead, L: NotedRead>(
     ensures grid { IfOk result (λ loaded. IsGridOf loaded.flights loaded.grid) }
     ensures fault { IfErr result (λ f. IsOfInput f → IfSome (S.remaining set.old) (λ xs. IfSome (L.remaining limits.old) (λ ys. IsRefusedLoad xs ys first days f))) }
     ensures large { IfErr result (λ f. f ≡ DeskFault.TooLarge → IfSome (S.remaining set.old) (λ xs. IfSome (L.remaining limits.old) (λ ys. IsTooLargeLoad xs ys))) }
-    ensures device { IfErr result (λ f. f ≡ DeskFault.Device → (S.failure_count set.new ≡ noted (S.failure_count set.old)) ⊎ (L.failure_count limits.new ≡ noted (L.failure_count limits.old))) }
+    ensures device { IfErr result (λ f. f ≡ DeskFault.Device → HasFailed S.failure_count set.old set.new ⊎ HasFailed L.failure_count limits.old limits.new) }
 {
     let bytes = read_input(alloc, set, MOST_BYTES)?;
     let flights = scheduled(alloc, &bytes, first, days)?;

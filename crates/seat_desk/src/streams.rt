@@ -1,6 +1,6 @@
 //! Inputs of commands.
 ghost use Rattle.std.specs.Prelude.{◌≡◌, ◌⊎◌, ◌<◌, ◌≤◌, IfErr, IfOk, IfSome, length};
-ghost use Rattle.ssim_records.specs.Noting.{noted};
+ghost use Rattle.seat_desk.specs.Desk.{HasFailed};
 
 use crate::fault::DeskFault;
 use ssim_records::{NotedRead, ReadFault, read_all};
@@ -15,7 +15,7 @@ pub fn read_input<R: NotedRead>(
     ensures whole { IfOk result (λ bytes. IfSome (R.remaining input.old) (λ xs. bytes.items ≡ xs)) }
     ensures within { IfOk result (λ bytes. length bytes.items ≤ most) }
     ensures large { IfErr result (λ f. f ≡ DeskFault.TooLarge → IfSome (R.remaining input.old) (λ xs. most < length xs)) }
-    ensures device { IfErr result (λ f. f ≡ DeskFault.Device → R.failure_count input.new ≡ noted (R.failure_count input.old)) }
+    ensures device { IfErr result (λ f. f ≡ DeskFault.Device → HasFailed R.failure_count input.old input.new) }
     ensures kind { IfErr result (λ f. (f ≡ DeskFault.TooLarge) ⊎ ((f ≡ DeskFault.Device) ⊎ (f ≡ DeskFault.Memory))) }
 {
     match read_all(alloc, input, most) {

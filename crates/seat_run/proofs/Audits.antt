@@ -63,7 +63,7 @@ no_limit_fault limits rows fault h e = let read : rows_in 1 (lines limits) ≡ o
 loads : (set limits : List ℕ) (first days : ℕ) (flights : List Flown) (grid : Legs) (fault : DeskFault) → IsLoadedGrid set limits first days flights grid → IsRefusedLoad set limits first days fault → ⊥
 loads set limits first days flights grid (faults.Set fault) loaded refused = refused.refusal.none flights loaded.is_schedule
 loads set limits first days flights grid (faults.Flight fault) loaded refused = refused.refusal.none flights loaded.is_schedule
-loads set limits first days flights grid (faults.Limit fault) loaded refused = no_limit_fault limits loaded.rows fault loaded.are_rows.spelled refused.refusal
+loads set limits first days flights grid (faults.Limit fault) loaded refused = no_limit_fault limits loaded.rows fault loaded.are_rows.spelled refused.refusal.wrong.first
 loads set limits first days flights grid _ loaded refused = refused.refusal
 
 -- ---- a history's text is audited

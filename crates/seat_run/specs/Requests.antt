@@ -62,8 +62,9 @@ pub record AreReadOn (today : ℕ) (texts : List (Option (List ℕ))) (old new :
   pub are_right : AllByRecursion AreRight added
   pub written : new ≡ old ++ added
 
--- the fault is the first of the bytes, which are no script
+-- the bytes are not too large, but they are no script, and the fault is their first
 pub record IsNoScript (today : ℕ) (fault : ScriptFault) (bytes : List ℕ) : Type 0 where
+  pub within : length bytes ≤ most_script_bytes
   pub first : IsFirstFault bytes fault.line fault.kind
   pub none : (requests : List Request) → IsScript today bytes requests → ⊥
 

@@ -1,5 +1,5 @@
 -- What `run` writes: the journal of what the scripts ask, and the replies to each script.
-use Rattle.std.specs.Prelude.{◌≡◌, ◌≤◌, ◌<◌, ◌+◌, ◌-◌, ◌⊎◌, ℕ, List, [], ◌∷◌, ◌++◌, length, map, decimal, codes, Option, Some, None, slice_get}
+use Rattle.std.specs.Prelude.{◌≡◌, ◌≤◌, ◌<◌, ◌+◌, ◌-◌, ◌⊎◌, ℕ, List, [], ◌∷◌, ◌++◌, length, map, decimal, codes, Option, Some, None, IfSome, slice_get}
 use Rattle.std.specs.Io.KnownBytes.{Appends}
 use Rattle.std.specs.List.{AllByRecursion}
 use Rattle.ssim_flights.specs.declared.flight.Flight.{Flight as Flown}
@@ -15,6 +15,7 @@ use Rattle.seat_core.specs.Totals.{totals_of}
 use Rattle.seat_host.specs.Headline.{Headline}
 use Rattle.seat_host.specs.Histories.{by_session}
 use Rattle.seat_desk.specs.AuditDesk.{most_lines}
+use Rattle.seat_desk.specs.Desk.{HasFailed}
 use Rattle.seat_desk.specs.FlightsDesk.{IsText}
 use Rattle.seat_desk.specs.Loading.{IsLoaded, IsRefusedLoad, IsTooLargeLoad}
 use Rattle.seat_run.specs.Requests.{AreScripts, IsRefusedAmong, IsTooLargeAmong, commands_of}
@@ -104,6 +105,11 @@ pub record IsRun (set limits : List ℕ) (first days today : ℕ) (texts : List 
   pub journal_is : journal ≡ journal_text history
   pub are_replies : AreReplies scripts history replies
 
+-- where the bytes of the set and of the limits are known
+abbrev pub IsRunOf : Option (List ℕ) → Option (List ℕ) → ℕ → ℕ → ℕ → List (Option (List ℕ)) → List ℕ → List ℕ → Type 0
+IsRunOf set limits first days today texts journal replies =
+    IfSome set (λ xs. IfSome limits (λ ys. IsRun xs ys first days today texts journal replies))
+
 -- both texts are written, whole
 pub record AreWritten (answers : List ℕ → List ℕ → Type 0) (journal_old journal_new out_old out_new : Option (List ℕ)) : Type 0 where
   pub journal : List ℕ
@@ -112,20 +118,38 @@ pub record AreWritten (answers : List ℕ → List ℕ → Type 0) (journal_old 
   pub first : Appends journal_old journal_new journal
   pub second : Appends out_old out_new replies
 
--- the journal's text is begun
-pub record IsFirstBegun (answers : List ℕ → List ℕ → Type 0) (journal_old journal_new : Option (List ℕ)) : Type 0 where
-  pub journal : List ℕ
-  pub replies : List ℕ
-  pub right : answers journal replies
-  pub front : TookFront journal_old journal_new journal
+-- exactly these two texts
+pub record AreTexts (journal replies first second : List ℕ) : Type 0 where
+  pub first_is : first ≡ journal
+  pub second_is : second ≡ replies
 
--- the journal's text is written, whole, and the replies are begun
-pub record IsSecondBegun (answers : List ℕ → List ℕ → Type 0) (journal_old journal_new out_old out_new : Option (List ℕ)) : Type 0 where
+-- ---- devices that fail
+
+-- an input failed, and nothing was written, neither journal nor reply
+pub record InputFailed {J W : Type 0} (failed : Type 0) (journal_old journal_new : J) (out_old out_new : W) : Type 0 where
+  pub counted : failed
+  pub no_line : journal_new ≡ journal_old
+  pub no_reply : out_new ≡ out_old
+
+-- the journal failed: it took a beginning of the journal of two texts that answer, and no reply was written
+pub record JournalFailed {J W : Type 0} (failures : J → ℕ) (contents : J → Option (List ℕ)) (journal_old journal_new : J) (out_old out_new : W)
+    (answers : List ℕ → List ℕ → Type 0) : Type 0 where
+  pub counted : HasFailed failures journal_old journal_new
   pub journal : List ℕ
   pub replies : List ℕ
   pub right : answers journal replies
-  pub first : Appends journal_old journal_new journal
-  pub front : TookFront out_old out_new replies
+  pub begun : TookFront (contents journal_old) (contents journal_new) journal
+  pub no_reply : out_new ≡ out_old
+
+-- the output of the replies failed: the journal of two texts that answer is whole, and the replies are begun
+pub record RepliesFailed {J W : Type 0} (lines : J → Option (List ℕ)) (journal_old journal_new : J) (failures : W → ℕ) (contents : W → Option (List ℕ)) (out_old out_new : W)
+    (answers : List ℕ → List ℕ → Type 0) : Type 0 where
+  pub counted : HasFailed failures out_old out_new
+  pub journal : List ℕ
+  pub replies : List ℕ
+  pub right : answers journal replies
+  pub whole : Appends (lines journal_old) (lines journal_new) journal
+  pub begun : TookFront (contents out_old) (contents out_new) replies
 
 -- ---- refusals
 
@@ -162,17 +186,27 @@ abbrev pub IsUnbooked : List (List Request) → DeskFault → Type 0
 IsUnbooked scripts (Book session call) = HasCall scripts session call
 IsUnbooked scripts _ = ⊥
 
--- the scripts are read, and one of their requests was not booked
-pub record IsUnbookedOf (today : ℕ) (texts : List (Option (List ℕ))) (fault : DeskFault) : Type 0 where
+-- the set, the limits and the scripts are right, and one of the requests was not booked
+pub record IsUnbookedOf (set limits : List ℕ) (first days today : ℕ) (texts : List (Option (List ℕ))) (fault : DeskFault) : Type 0 where
+  pub flights : List Flown
+  pub grid : Legs
+  pub is_loaded : IsLoaded set limits first days flights grid
   pub scripts : List (List Request)
   pub are_scripts : AreScripts today texts scripts
   pub is_unbooked : IsUnbooked scripts fault
 
+-- the set and the limits are right, and the fault is that of the first script that is none
+pub record IsRefusedOf (set limits : List ℕ) (first days today : ℕ) (texts : List (Option (List ℕ))) (fault : DeskFault) : Type 0 where
+  pub flights : List Flown
+  pub grid : Legs
+  pub is_loaded : IsLoaded set limits first days flights grid
+  pub is_refused : IsRefusedAmong today 1 texts fault
+
 -- a script's fault is the first of the first script that is none. A call's names a request of its session's script, and all
 -- scripts are read. Any other is the first of the set, of its flights or of the limits
 abbrev pub RunRefusal : List ℕ → List ℕ → ℕ → ℕ → ℕ → List (Option (List ℕ)) → DeskFault → Type 0
-RunRefusal set limits first days today texts (Script session fault) = IsRefusedAmong today 1 texts (Script session fault)
-RunRefusal set limits first days today texts (Book session call) = IsUnbookedOf today texts (Book session call)
+RunRefusal set limits first days today texts (Script session fault) = IsRefusedOf set limits first days today texts (Script session fault)
+RunRefusal set limits first days today texts (Book session call) = IsUnbookedOf set limits first days today texts (Book session call)
 RunRefusal set limits first days today texts fault = IsRefusedLoad set limits first days fault
 
 pub record IsRefusedRun (set limits : List ℕ) (first days today : ℕ) (texts : List (Option (List ℕ))) (fault : DeskFault) : Type 0 where
@@ -181,12 +215,3 @@ pub record IsRefusedRun (set limits : List ℕ) (first days today : ℕ) (texts 
 -- the set, the limits or a script is too large
 abbrev pub IsTooLargeRun : List ℕ → List ℕ → List (Option (List ℕ)) → Type 0
 IsTooLargeRun set limits texts = IsTooLargeLoad set limits ⊎ IsTooLargeAmong texts
-
--- a device failed: an input, and then nothing is written; or the journal's, and then its text is begun and no reply is written; or that of the replies, which are then begun behind a whole journal
-abbrev pub HasFailedAt : Type 0 → Type 0 → Type 0 → Type 0 → Type 0 → Type 0 → Type 0 → Type 0
-HasFailedAt input journal out no_line no_reply first second = (input × (no_line × no_reply)) ⊎ ((journal × (no_reply × first)) ⊎ (out × second))
-
--- the first of two writers failed, and then the second is as it was; or the second, behind a whole first text. Each took a beginning of its text
-abbrev pub HasStopped : Type 0 → Type 0 → Type 0 → Option (List ℕ) → Option (List ℕ) → List ℕ → Option (List ℕ) → Option (List ℕ) → List ℕ → Type 0
-HasStopped first second nothing first_old first_new first_text second_old second_new second_text =
-    (first × (nothing × TookFront first_old first_new first_text)) ⊎ (second × (Appends first_old first_new first_text × TookFront second_old second_new second_text))

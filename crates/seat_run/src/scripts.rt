@@ -2,9 +2,8 @@
 ghost use Rattle.std.specs.Prelude.{◌≡◌, ◌≢◌, ◌+◌, ◌++◌, ◌∷◌, ◌<◌, ◌≤◌, [], List, IfErr, IfOk, IfSome, OnOk, length, map};
 ghost use Rattle.std.specs.List.{AllByRecursion};
 ghost use Rattle.ssim_records.specs.Days.{IsCenturyDay};
-ghost use Rattle.ssim_records.specs.Noting.{noted};
 ghost use Rattle.airimp_lines.specs.declared.requests.Request.{Request as Said};
-ghost use Rattle.seat_desk.specs.Desk.{IsOfInput};
+ghost use Rattle.seat_desk.specs.Desk.{HasFailed, IsOfInput};
 ghost use Rattle.seat_run.specs.Requests.{AreReadOn, AreRight, AreScripts, HasRisenAmong, IsOfScript, IsRefusedAmong, IsRefusedScript, IsScriptOf, IsTooLargeAmong, most_script_bytes, script_refusal};
 
 use airimp_lines::{Requests, ScriptFault, ScriptKind, read_script};
@@ -113,7 +112,7 @@ fn read_one<C: NotedRead>(
     ensures fault { IfErr result (λ f. IsOfInput f → IfSome (C.remaining script.old) (IsRefusedScript today session f)) }
     ensures script { IfErr result (λ f. IsOfInput f → IsOfScript f) }
     ensures large { IfErr result (λ f. f ≡ DeskFault.TooLarge → IfSome (C.remaining script.old) (λ bytes. most_script_bytes < length bytes)) }
-    ensures device { IfErr result (λ f. f ≡ DeskFault.Device → C.failure_count script.new ≡ noted (C.failure_count script.old)) }
+    ensures device { IfErr result (λ f. f ≡ DeskFault.Device → HasFailed C.failure_count script.old script.new) }
 {
     let bytes = read_input(alloc, script, MOST_SCRIPT_BYTES)?;
     requests_of(alloc, &bytes, session, today)

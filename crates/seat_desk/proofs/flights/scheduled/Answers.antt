@@ -6,4 +6,4 @@ returns-in-Err-clause-fault c = refused_set c.args.first c.args.days c.args.byte
 
 pub returns-clause-fault : goal.returns-clause-fault
 returns-clause-fault c =
-    rw c.of_expansion.ensures (refused_expansion c.args.first c.args.days c.args.bytes.now c.in-Ok.set c.in-Err-expand.fault c.in-Ok.ensures.ok c.in-Err-expand.ensures.fault)
+    rw c.of_expansion.ensures (refused_expansion c.args.first c.args.days c.args.bytes.now c.in-Ok.set c.in-Err-expand.fault c.requires.size c.in-Ok.ensures.ok c.in-Err-expand.ensures.fault)

@@ -3,7 +3,9 @@ use Rattle.seat_desk.proofs.loading.load.Goals as goal
 
 pub returns-in-Err-clause-fault : goal.returns-in-Err-clause-fault
 returns-in-Err-clause-fault g c =
-    load_refused _ _ c.args.first c.args.days c.in-Err.fault c.in_ok-bytes-2.bytes.items c.deref-2.result.now c.deref-2.ensures.value c.in_ok-bytes-2.ensures.whole c.in-Err.ensures.fault
+    load_refused (g.S.Read.remaining c.args.set.now) (g.L.Read.remaining c.args.limits.now) c.args.first c.args.days c.in-Err.fault c.in_ok-bytes.bytes.items c.deref.result.now c.in_ok-bytes-2.bytes.items c.deref-2.result.now
+    c.in_ok-flights.flights c.deref.ensures.value c.in_ok-bytes.ensures.whole c.in_ok-bytes.ensures.within c.in_ok-flights.ensures.ok
+    c.deref-2.ensures.value c.in_ok-bytes-2.ensures.whole c.in-Err.ensures.fault
 
 pub returns-clause-ok : goal.returns-clause-ok
 returns-clause-ok g c =

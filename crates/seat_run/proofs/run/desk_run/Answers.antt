@@ -14,7 +14,8 @@ returns-clause-ok g c =
     run_written c.args.first c.args.days c.args.today texts c.in_ok-loaded.loaded.flights c.in_ok-loaded.loaded.grid c.as_slice.result.now
     c.in_ok-answer.answer.settled.journal c.in_ok-answer.answer.replies.items
     (record { are_scripts = scripts; is_history = c.in_ok-answer.ensures.ok; are_entries = c.in_ok-answer.ensures.entries; are_replies = c.in_ok-answer.ensures.replies })
-    _ _ _ _ _ _ c.as_slice-2.result.now c.deref.result.now c.write_both.result c.in_ok-loaded.ensures.ok c.as_slice-2.ensures c.deref.ensures.value c.write_both.ensures.ok
+    (g.S.Read.remaining c.args.set.now) (g.L.Read.remaining c.args.limits.now) _ _ _ _ c.as_slice-2.result.now c.deref.result.now c.write_both.result
+    c.in_ok-loaded.ensures.ok c.as_slice-2.ensures c.deref.ensures.value c.write_both.ensures.ok
 
 pub returns-clause-device : goal.returns-clause-device
 returns-clause-device g c =
@@ -23,4 +24,5 @@ returns-clause-device g c =
     run_stopped c.args.first c.args.days c.args.today texts c.in_ok-loaded.loaded.flights c.in_ok-loaded.loaded.grid c.as_slice.result.now
     c.in_ok-answer.answer.settled.journal c.in_ok-answer.answer.replies.items
     (record { are_scripts = scripts; is_history = c.in_ok-answer.ensures.ok; are_entries = c.in_ok-answer.ensures.entries; are_replies = c.in_ok-answer.ensures.replies })
-    _ _ _ _ _ _ _ _ _ _ _ c.as_slice-2.result.now c.deref.result.now c.write_both.result c.in_ok-loaded.ensures.ok c.as_slice-2.ensures c.deref.ensures.value c.write_both.ensures.stopped
+    _ _ _ _ _ _ _ _ _ (g.S.Read.remaining c.args.set.now) (g.L.Read.remaining c.args.limits.now) c.as_slice-2.result.now c.deref.result.now c.write_both.result
+    c.in_ok-loaded.ensures.ok c.as_slice-2.ensures c.deref.ensures.value c.write_both.ensures.stopped
