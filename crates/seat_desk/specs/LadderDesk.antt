@@ -30,6 +30,10 @@ orders_after line before [] = Ok before
 orders_after line before (text ∷ texts) =
     with_order line (order_in text) (λ c. orders_after (line + 1) (before ++ c ∷ []) texts)
 
+-- the same, of the lines behind the ladder and these commands
+abbrev pub orders_behind : List Command → List (List ℕ) → Result (List Command) DeskFault
+orders_behind before texts = orders_after (length before + 2) before texts
+
 -- one flight of one leg
 abbrev pub one_leg : Steps → Legs
 one_leg steps = (steps ∷ []) ∷ []
@@ -54,11 +58,15 @@ class_text state class = codes " " ++ (class ∷ []) ++ decimal (room_left state
 abbrev pub room_text : State → Step → List ℕ
 room_text state step = class_text state step.class
 
--- the replies to the commands, and the room that they leave in each class
+-- the replies of these lines, and the room that is left in each class
+abbrev pub reply_text : List Entry → State → Steps → List ℕ
+reply_text journal state steps = flat_map entry_text journal ++ codes "ROOM" ++ flat_map (room_text state) steps ++ 10 ∷ []
+
+-- the replies to the commands, and the room that they leave
 abbrev pub ladder_text : Steps → List Command → List ℕ
 ladder_text steps commands =
     let journal = lines_after (one_leg steps) [] commands in
-    flat_map entry_text journal ++ codes "ROOM" ++ flat_map (room_text (replay (one_leg steps) journal)) steps ++ 10 ∷ []
+    reply_text journal (replay (one_leg steps) journal) steps
 
 -- the first line, empty where there is none, and those behind it
 abbrev pub first_line : List (List ℕ) → List ℕ

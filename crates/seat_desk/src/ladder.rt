@@ -1,12 +1,11 @@
 //! `ladder`: one leg from the input, and each command on it answered.
-ghost use Rattle.std.specs.Prelude.{◌≡◌, ◌≢◌, ◌+◌, ◌++◌, ◌∷◌, ◌<◌, ◌≤◌, ◌⊎◌, [], IfErr, IfOk, IfSome, OnOk, Ok, Err, codes, length};
-ghost use Rattle.std.specs.Io.KnownBytes.{Appends};
+ghost use Rattle.std.specs.Prelude.{◌≡◌, ◌≢◌, ◌+◌, ◌++◌, ◌∷◌, ◌<◌, ◌≤◌, ◌⊎◌, [], IfErr, IfOk, IfSome, OnOk, Ok, Err, length};
 ghost use Rattle.std.specs.List.{All, flat_map};
 ghost use Rattle.seat_nesting.specs.Nesting.{Fits, ladder_at};
 ghost use Rattle.seat_core.specs.Inventory.{state_now};
 ghost use Rattle.seat_core.specs.Journal.{calls_of, next_line};
 ghost use Rattle.seat_desk.specs.Desk.{HasFailed, InputFailed, IsOfInput, IsWritten, OfInput, OutputFailed};
-ghost use Rattle.seat_desk.specs.LadderDesk.{IsLadderText, IsRefusedLadder, class_text, entry_text, first_line, ladder_answer, ladder_text, later_lines, lines_after, most_bytes, room_text};
+ghost use Rattle.seat_desk.specs.LadderDesk.{IsLadderText, IsRefusedLadder, class_text, first_line, ladder_text, later_lines, lines_after, most_bytes, reply_text, room_text};
 ghost use Rattle.seat_desk.specs.Lines.{lines_of};
 ghost use Rattle.seat_desk.specs.Orders.{IsOrder, only_leg};
 
@@ -101,7 +100,7 @@ fn answer_orders(alloc: Global, ladder: Ladder, orders: &[Command]) -> Result<Ve
 /// The text of the lines so far, and of the room that is left.
 fn text_of(alloc: Global, core: &Core) -> Result<Vec<u8>, AllocError>
     requires { Fits core.now.grid only_leg }
-    ensures { IfOk result (λ text. text.items ≡ flat_map entry_text core.now.journal ++ codes "ROOM" ++ flat_map (room_text (state_now core.now)) (ladder_at core.now.grid 0 0) ++ 10 ∷ []) }
+    ensures { IfOk result (λ text. text.items ≡ reply_text core.now.journal (state_now core.now) (ladder_at core.now.grid 0 0)) }
 {
     let mut text = Vec::new(alloc);
     put_entries(&mut text, core.journal())?;

@@ -1,7 +1,7 @@
 //! The command lines of a ladder's input.
 ghost use Rattle.std.specs.Prelude.{◌≡◌, ◌≢◌, ◌+◌, ◌<◌, ◌≤◌, [], IfSome, IfOk, IfErr, OnOk, Ok, Err, length};
 ghost use Rattle.std.specs.List.{All};
-ghost use Rattle.seat_desk.specs.LadderDesk.{orders_after};
+ghost use Rattle.seat_desk.specs.LadderDesk.{orders_after, orders_behind};
 ghost use Rattle.seat_desk.specs.Lines.{lines_of};
 ghost use Rattle.seat_desk.specs.Orders.{IsOrder, order_in, parts_in, seats_in};
 
@@ -43,8 +43,8 @@ fn take_order<'a>(orders: &mut Vec<Command>, bytes: &'a [u8]) -> Result<&'a [u8]
     requires some { 0 < length bytes.now }
     requires few { length orders.old.items ≤ 999999 }
     requires orders { All IsOrder orders.old.items }
-    ensures ok { IfOk result (λ rest. orders_after (length orders.old.items + 2) orders.old.items (lines_of bytes.now) ≡ orders_after (length orders.new.items + 2) orders.new.items (lines_of rest.now)) }
-    ensures fault { IfErr result (λ f. f ≢ DeskFault.Memory → orders_after (length orders.old.items + 2) orders.old.items (lines_of bytes.now) ≡ Err f) }
+    ensures ok { IfOk result (λ rest. orders_behind orders.old.items (lines_of bytes.now) ≡ orders_behind orders.new.items (lines_of rest.now)) }
+    ensures fault { IfErr result (λ f. f ≢ DeskFault.Memory → orders_behind orders.old.items (lines_of bytes.now) ≡ Err f) }
     ensures kind { IfErr result (λ f. (f ≢ DeskFault.Device) × (f ≢ DeskFault.TooLarge)) }
     ensures shorter { IfOk result (λ rest. length rest.now < length bytes.now) }
     ensures orders { OnOk result (All IsOrder orders.new.items) }

@@ -1,6 +1,5 @@
 -- What a run writes is the text of its history.
 use Rattle.std.proofs.Common.{◌≡◌, ◌≢◌, ◌⊎◌, ℕ, List, Option, Some, None, IfSome, IfErr, OnOk, OnErr, Result, Ok, Err, ⊎_elim, inl, inr, map, refl, sym, ap, ◌∙◌, subst}
-use Rattle.std.specs.Io.KnownBytes.{Appends}
 use Rattle.std.specs.List.{AllByRecursion}
 use Rattle.airimp_lines.specs.declared.requests.Request.{Request}
 use Rattle.ssim_flights.specs.declared.flight.Flight.{Flight as Flown}
@@ -53,14 +52,14 @@ module _ (first days today : ℕ) (texts : List (Option (List ℕ))) (flights : 
   -- whole, where both were written
   pub run_written : (set limits : Option (List ℕ)) (journal_old journal_new out_old out_new : Option (List ℕ)) (slice : List Entry) (text : List ℕ) (r : Result (Unit {0}) DeskFault)
       → IfSome set (λ xs. IfSome limits (λ ys. IsLoaded xs ys first days flights grid)) → slice ≡ history → text ≡ replies
-      → OnOk r (Appends journal_old journal_new (journal_text slice) × Appends out_old out_new text)
+      → OnOk r (AreWritten (AreTexts (journal_text slice) text) journal_old journal_new out_old out_new)
       → OnOk r (AreWritten (IsRunOf set limits first days today texts) journal_old journal_new out_old out_new)
   run_written set limits journal_old journal_new out_old out_new slice text (Ok done) loaded same said both = record {
-    journal = journal_text history;
-    replies = replies;
-    right = is_run_of set limits loaded;
-    first = subst (λ (l : List Entry). Appends journal_old journal_new (journal_text l)) same both.0;
-    second = subst (λ (l : List ℕ). Appends out_old out_new l) said both.1;
+    journal = both.journal;
+    replies = both.replies;
+    right = of_texts set limits slice text both.journal both.replies loaded same said both.right;
+    first = both.first;
+    second = both.second;
   }
   run_written set limits journal_old journal_new out_old out_new slice text (Err fault) loaded same said both = tt
 

@@ -105,3 +105,7 @@ IsTooLargeAmong (text ∷ texts) = IfSome text (λ bytes. most_script_bytes < le
 abbrev pub HasRisenAmong : List ℕ → List ℕ → Type 0
 HasRisenAmong (old ∷ olds) (new ∷ news) = (new ≡ noted old) ⊎ HasRisenAmong olds news
 HasRisenAmong _ _ = ⊥
+
+-- one of these devices has failed
+abbrev pub HasFailedAmong : {D : Type 0} → (D → ℕ) → List D → List D → Type 0
+HasFailedAmong failures olds news = HasRisenAmong (map failures olds) (map failures news)

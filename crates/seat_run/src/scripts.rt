@@ -4,7 +4,7 @@ ghost use Rattle.std.specs.List.{AllByRecursion};
 ghost use Rattle.ssim_records.specs.Days.{IsCenturyDay};
 ghost use Rattle.airimp_lines.specs.declared.requests.Request.{Request as Said};
 ghost use Rattle.seat_desk.specs.Desk.{HasFailed, IsOfInput};
-ghost use Rattle.seat_run.specs.Requests.{AreReadOn, AreRight, AreScripts, HasRisenAmong, IsOfScript, IsRefusedAmong, IsRefusedScript, IsScriptOf, IsTooLargeAmong, most_script_bytes, script_refusal};
+ghost use Rattle.seat_run.specs.Requests.{AreReadOn, AreRight, AreScripts, HasFailedAmong, IsOfScript, IsRefusedAmong, IsRefusedScript, IsScriptOf, IsTooLargeAmong, most_script_bytes, script_refusal};
 
 use airimp_lines::{Requests, ScriptFault, ScriptKind, read_script};
 use seat_desk::{DeskFault, read_input};
@@ -65,7 +65,7 @@ pub fn read_scripts<C: NotedRead>(
     ensures fault { IfErr result (λ f. IsOfInput f → IsRefusedAmong today 1 (map C.remaining scripts.old) f) }
     ensures script { IfErr result (λ f. IsOfInput f → IsOfScript f) }
     ensures large { IfErr result (λ f. f ≡ DeskFault.TooLarge → IsTooLargeAmong (map C.remaining scripts.old)) }
-    ensures device { IfErr result (λ f. f ≡ DeskFault.Device → HasRisenAmong (map C.failure_count scripts.old) (map C.failure_count scripts.new)) }
+    ensures device { IfErr result (λ f. f ≡ DeskFault.Device → HasFailedAmong C.failure_count scripts.old scripts.new) }
 {
     let mut read = Scripts::new(alloc);
     read_from(alloc, scripts, 1, today, &mut read)?;
@@ -87,7 +87,7 @@ fn read_from<C: NotedRead>(
     ensures fault { IfErr result (λ f. IsOfInput f → IsRefusedAmong today session (map C.remaining scripts.old) f) }
     ensures script { IfErr result (λ f. IsOfInput f → IsOfScript f) }
     ensures large { IfErr result (λ f. f ≡ DeskFault.TooLarge → IsTooLargeAmong (map C.remaining scripts.old)) }
-    ensures device { IfErr result (λ f. f ≡ DeskFault.Device → HasRisenAmong (map C.failure_count scripts.old) (map C.failure_count scripts.new)) }
+    ensures device { IfErr result (λ f. f ≡ DeskFault.Device → HasFailedAmong C.failure_count scripts.old scripts.new) }
 {
     let Some((script, later)) = scripts.split_first_mut() else {
         return Ok(());

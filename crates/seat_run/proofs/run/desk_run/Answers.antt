@@ -1,5 +1,6 @@
-use Rattle.std.proofs.Common.{map, subst, sym, length}
-use Rattle.seat_run.specs.Requests.{AreScripts}
+use Rattle.std.proofs.Common.{◌⊎◌, map, subst, sym, length}
+use Rattle.seat_desk.specs.Desk.{HasFailed}
+use Rattle.seat_run.specs.Requests.{AreScripts, HasFailedAmong}
 use Rattle.seat_run.proofs.Reading.{between}
 use Rattle.seat_run.proofs.Written.{run_stopped, run_written}
 use Rattle.seat_run.proofs.run.desk_run.Goals as goal
@@ -14,7 +15,8 @@ returns-clause-ok g c =
     run_written c.args.first c.args.days c.args.today texts c.in_ok-loaded.loaded.flights c.in_ok-loaded.loaded.grid c.as_slice.result.now
     c.in_ok-answer.answer.settled.journal c.in_ok-answer.answer.replies.items
     (record { are_scripts = scripts; is_history = c.in_ok-answer.ensures.ok; are_entries = c.in_ok-answer.ensures.entries; are_replies = c.in_ok-answer.ensures.replies })
-    (g.S.Read.remaining c.args.set.now) (g.L.Read.remaining c.args.limits.now) _ _ _ _ c.as_slice-2.result.now c.deref.result.now c.write_both.result
+    (g.S.Read.remaining c.args.set.now) (g.L.Read.remaining c.args.limits.now) (g.J.Write.contents c.args.journal.now) (g.J.Write.contents c.write_both.new.journal) (g.W.Write.contents c.args.out.now) (g.W.Write.contents c.write_both.new.out)
+    c.as_slice-2.result.now c.deref.result.now c.write_both.result
     c.in_ok-loaded.ensures.ok c.as_slice-2.ensures c.deref.ensures.value c.write_both.ensures.ok
 
 pub returns-clause-device : goal.returns-clause-device
@@ -24,5 +26,8 @@ returns-clause-device g c =
     run_stopped c.args.first c.args.days c.args.today texts c.in_ok-loaded.loaded.flights c.in_ok-loaded.loaded.grid c.as_slice.result.now
     c.in_ok-answer.answer.settled.journal c.in_ok-answer.answer.replies.items
     (record { are_scripts = scripts; is_history = c.in_ok-answer.ensures.ok; are_entries = c.in_ok-answer.ensures.entries; are_replies = c.in_ok-answer.ensures.replies })
-    _ _ _ _ _ _ _ _ _ (g.S.Read.remaining c.args.set.now) (g.L.Read.remaining c.args.limits.now) c.as_slice-2.result.now c.deref.result.now c.write_both.result
+    ((HasFailed g.S.Failures.failure_count c.args.set.now c.load.new.set ⊎ HasFailed g.L.Failures.failure_count c.args.limits.now c.load.new.limits)
+    ⊎ HasFailedAmong g.C.Failures.failure_count c.args.scripts.now c.read_scripts.new.scripts)
+    g.J.Failures.failure_count g.J.Write.contents c.args.journal.now c.write_both.new.journal g.W.Failures.failure_count g.W.Write.contents c.args.out.now c.write_both.new.out
+    (g.S.Read.remaining c.args.set.now) (g.L.Read.remaining c.args.limits.now) c.as_slice-2.result.now c.deref.result.now c.write_both.result
     c.in_ok-loaded.ensures.ok c.as_slice-2.ensures c.deref.ensures.value c.write_both.ensures.stopped
