@@ -178,12 +178,22 @@ fn append_all<R: Wait + Abort>(rt: &R, alloc: Global, scene: &mut Scene) -> Opti
     )
 }
 
-fn open_and_append<R: Wait + Abort>(rt: &R, alloc: Global) -> Option<()> {
+/// Whether one of them was refused.
+fn open_and_append<R: Wait + Abort>(rt: &R, alloc: Global) -> Option<bool> {
     let core = sold_and_cancelled(alloc, b"F010/000", 50)?;
     let (mut scene, _third) = Scene::open(rt, alloc, core)?;
     let ended = append_all(rt, alloc, &mut scene);
+    let refused = scene.refused();
     scene.end(rt);
-    ended
+    ended?;
+    Some(refused)
+}
+
+#[test]
+fn refuses_no_pending_line(rt: HostRuntime) -> Result<(), Fail> {
+    let refused = open_and_append(&rt, rt.alloc()).ok_or("no growth is refused")?;
+    assert!(rt; !refused, "fifty lines are pending, and none came back");
+    Ok(())
 }
 
 #[test]

@@ -16,6 +16,7 @@ pub struct Feed {
     core: Core,
     publisher: Publisher,
     next: usize,
+    refused: bool,
 }
 
 impl Model for Feed {
@@ -50,6 +51,7 @@ impl Feed {
             core,
             publisher,
             next: 0,
+            refused: false,
         };
         Some((feed, viewers))
     }
@@ -63,6 +65,7 @@ impl Feed {
             core,
             publisher,
             next,
+            refused,
         } = self;
         let journal = core.journal();
         if *next >= journal.len() {
@@ -71,9 +74,14 @@ impl Feed {
         let Ok(entry) = journal[*next].copy(alloc) else {
             return None;
         };
-        append_again(rt, publisher, entry);
+        append_again(rt, publisher, entry, refused);
         *next += 1;
         Some(())
+    }
+
+    /// Whether a line came back.
+    pub fn refused(&self) -> bool {
+        self.refused
     }
 
     /// Shows what is pending.
@@ -102,13 +110,15 @@ impl Feed {
             core: _,
             publisher,
             next: _,
+            refused: _,
         } = self;
         publisher.end(rt);
     }
 }
 
 /// Appends a line. Where a growth is refused the line comes back, and is appended once more.
-fn append_again<R: Abort>(rt: &R, publisher: &mut Publisher, entry: Entry)
+/// No more than one growth is refused.
+fn append_again<R: Abort>(rt: &R, publisher: &mut Publisher, entry: Entry, refused: &mut bool)
     requires legal { IsLegal publisher.old.grid ((publisher.old.visible ++ publisher.old.pending) ++ entry ∷ []) }
     requires short { length publisher.old.visible + length publisher.old.pending < 1000000 }
     ensures lines { publisher.new.visible ++ publisher.new.pending ≡ (publisher.old.visible ++ publisher.old.pending) ++ entry ∷ [] }
@@ -120,6 +130,8 @@ fn append_again<R: Abort>(rt: &R, publisher: &mut Publisher, entry: Entry)
     };
     let came_back = entry.number == number && entry.command == command;
     assert!(rt; came_back, "a refused line comes back");
+    assert!(rt; !*refused, "a second line is refused");
+    *refused = true;
     let again = publisher.append(entry);
     assert!(rt; again.is_ok(), "it is appended once more");
 }

@@ -35,6 +35,11 @@ impl Scene {
         self.feed.line(rt, alloc)
     }
 
+    /// Whether a line came back.
+    pub fn refused(&self) -> bool {
+        self.feed.refused()
+    }
+
     pub fn publish<R: Wait>(&mut self, rt: &R) {
         self.feed.publish(rt);
     }
