@@ -101,7 +101,7 @@ impl<K: Hosting> Model for Unsettled<K> {
 }
 
 impl<K: Hosting> Unsettled<K> {
-    /// The host, with these lines.
+    /// The host, with these lines. It owes no clause: a host shows its grid alone, which its type names.
     pub fn into_host(self) -> Host<K> {
         let Unsettled { grid, desk } = self;
         Host::over(grid, desk)

@@ -1,4 +1,5 @@
-//! Turns of workers that would else meet at a lock at each call.
+//! Turns of workers that would else meet at a lock at each call. Nothing that a run promises rests on who has his turn
+//! when, so they owe no clauses.
 use std::sync::Wait;
 use std::sync::atomic::{AtomicU64, Ordering};
 use std::time::Duration;
