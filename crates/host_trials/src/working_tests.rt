@@ -7,7 +7,7 @@ use crate::meeting::{Holds, Meeting};
 use crate::steps::same;
 use seat_core::Command;
 use seat_host::{
-    BookFault, Commands, Gate, Host, Hosting, Parts, Receipt, RunFault, Settled, gather,
+    BookFault, Gate, Host, Hosting, Parts, Receipt, RequestList, RunFault, Settled, gather,
     run_sessions,
 };
 use seat_nesting::Grid;
@@ -116,7 +116,7 @@ fn lists_of(
     alloc: Global,
     grid: &Grid,
     lengths: &[usize],
-) -> Result<Vec<Commands>, Memory>
+) -> Result<Vec<RequestList>, Memory>
     ensures { IfOk result (λ lists. All (λ list. All (λ command. FitsCommand grid.now command) list) lists.items) }
 {
     let mut lists = Vec::new(alloc);
@@ -132,14 +132,14 @@ fn list_of(
     grid: &Grid,
     length: usize,
     initial: u8,
-) -> Result<Commands, Memory>
+) -> Result<RequestList, Memory>
     ensures { IfOk result (λ list. All (λ command. FitsCommand grid.now command) list) }
 {
     let mut items = Vec::new(alloc);
     for nth in 0..length {
         items.push(nth_command(rt, grid, nth, initial)?)?;
     }
-    Ok(Commands::from_vec(items))
+    Ok(RequestList::from_vec(items))
 }
 
 /// Locators differ by a letter and five digits.
@@ -186,7 +186,7 @@ fn run<K: Hosting + Send + Sync, R: Threads + Wait + Sync, G: Gate>(
     rt: &R,
     alloc: Global,
     parts: Parts,
-    lists: &[Commands],
+    lists: &[RequestList],
     gate: &G,
 ) -> Option<(Result<(), RunFault>, Settled)>
     requires parts { (parts.grid ≡ K.grid) × (parts.cap ≡ K.cap) × (parts.book ≡ K.book) × (parts.sessions ≡ K.sessions) × (parts.names ≡ K.names) }
@@ -249,7 +249,7 @@ fn compare_named(rt: &impl Abort, answer: Result<(), RunFault>, row: &Row) {
 }
 
 /// Each session has a receipt for each command of its list, in order, as far as the row says.
-fn compare(rt: &impl Abort, lists: &[Commands], settled: &Settled, row: &Row) -> Option<()> {
+fn compare(rt: &impl Abort, lists: &[RequestList], settled: &Settled, row: &Row) -> Option<()> {
     let lines = settled.journal.as_slice();
     same(rt, lines.len() as u64, row.lines, row.shows);
     if row.holds == Holds::FirstUntilAnswer {

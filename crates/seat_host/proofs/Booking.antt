@@ -64,8 +64,8 @@ no_calls (suc (suc (suc (suc (suc (suc (suc (suc zero)))))))) h = refl
 no_calls (suc (suc (suc (suc (suc (suc (suc (suc (suc n))))))))) h = absurd (omega arith)
 
 -- no lines yet
-pub tied_open : (grid : Legs) (cap n : ℕ) (books : List ℕ) (journal : List Entry) → journal ≡ [] → books ≡ 0 ∷ 0 ∷ 0 ∷ 0 ∷ 0 ∷ 0 ∷ 0 ∷ 0 ∷ 0 ∷ [] → cap ≤ 999999 → n < 9 → IsTied grid cap n books journal
-tied_open grid cap n books journal none zeros small few =
+pub tied_open : (grid : Legs) (cap n : ℕ) (line_counts : List ℕ) (journal : List Entry) → journal ≡ [] → line_counts ≡ 0 ∷ 0 ∷ 0 ∷ 0 ∷ 0 ∷ 0 ∷ 0 ∷ 0 ∷ 0 ∷ [] → cap ≤ 999999 → n < 9 → IsTied grid cap n line_counts journal
+tied_open grid cap n line_counts journal none zeros small few =
     subst (λ (t : List ℕ × List Entry). IsTied grid cap n t.0 t.1) (λ i. (sym zeros i, sym none i)) (record {
       wide = refl;
       few = few;
@@ -77,30 +77,30 @@ tied_open grid cap n books journal none zeros small few =
     })
 
 -- one line more in the journal and in its session's book
-pub tied_push : (grid : Legs) (cap n : ℕ) (books now : List ℕ) (journal : List Entry) (e : Entry) → IsTied grid cap n books journal → IsNext grid journal e → length journal < cap → e.session ≤ n → now ≡ slice_set books e.session (slice_index books e.session + 1) → IsTied grid cap n now (journal ++ e ∷ [])
-tied_push grid cap n books now journal e t next room le is =
+pub tied_push : (grid : Legs) (cap n : ℕ) (line_counts now : List ℕ) (journal : List Entry) (e : Entry) → IsTied grid cap n line_counts journal → IsNext grid journal e → length journal < cap → e.session ≤ n → now ≡ slice_set line_counts e.session (slice_index line_counts e.session + 1) → IsTied grid cap n now (journal ++ e ∷ [])
+tied_push grid cap n line_counts now journal e t next room le is =
     let some : 0 < e.session = omega (arith, next.session.0) in
     let k = e.session in
     let here : (s : ℕ) → e.session ≡ s → of_session s (journal ++ e ∷ []) ≡ of_session s journal ++ e ∷ [] = λ s same. own_append s journal (e ∷ []) ∙ ap (λ l. of_session s journal ++ l) (own_one s e same) in
     let there : (s : ℕ) → e.session ≢ s → of_session s (journal ++ e ∷ []) ≡ of_session s journal = λ s not. own_append s journal (e ∷ []) ∙ ap (λ l. of_session s journal ++ l) (own_other s e not) ∙ append-nil (of_session s journal) in
     record {
-      wide = ap length is ∙ set_length books k _ ∙ t.wide;
+      wide = ap length is ∙ set_length line_counts k _ ∙ t.wide;
       few = t.few;
       legal = legal_push grid journal e t.legal next;
       capped = omega (arith, room, length-append journal (e ∷ []));
       small = t.small;
       counts = λ s low high. ⊎_elim
           (λ (same : e.session ≡ s). subst (λ j. slice_index now j ≡ length (of_session j (journal ++ e ∷ []))) same
-          (ap (λ l. slice_index l k) is ∙ (at_set_here books k _ (omega (arith, t.wide, t.few, le)) ∙ omega (arith, t.counts k some (omega (arith, le, t.few)), ap length (here k refl), length-append (of_session k journal) (e ∷ [])))))
-          (λ (not : e.session ≢ s). ap (λ l. slice_index l s) is ∙ (at_set_else books k s _ (λ q. not (sym q)) ∙ (t.counts s low high ∙ sym (ap length (there s not)))))
+          (ap (λ l. slice_index l k) is ∙ (at_set_here line_counts k _ (omega (arith, t.wide, t.few, le)) ∙ omega (arith, t.counts k some (omega (arith, le, t.few)), ap length (here k refl), length-append (of_session k journal) (e ∷ [])))))
+          (λ (not : e.session ≢ s). ap (λ l. slice_index l s) is ∙ (at_set_else line_counts k s _ (λ q. not (sym q)) ∙ (t.counts s low high ∙ sym (ap length (there s not)))))
           (dec_nat e.session s);
       only = record { none = λ s more. there s (λ q. absurd (omega (arith, q, le, more))) ∙ t.only.none s more };
     }
 
 -- a session whose receipts its book counts, and whose front begins the journal, is confirmed by the journal
-pub confirmed_by : (grid : Legs) (cap n : ℕ) (books : List ℕ) (journal : List Entry) (s : Seat) (stake : Staked) → IsTied grid cap n books journal → Stands grid n s → stake ≡ counted s.id (length s.receipts) → stake.amount ≡ slice_index books stake.number → Begins s.front journal → IsConfirmed n journal s
-confirmed_by grid cap n books journal s stake t stands staked counts pre =
-    let same : length s.receipts ≡ slice_index books s.id = sym (ap (λ (k : Staked). k.amount) staked) ∙ counts ∙ ap (λ (k : Staked). slice_index books k.number) staked in
+pub confirmed_by : (grid : Legs) (cap n : ℕ) (line_counts : List ℕ) (journal : List Entry) (s : Seat) (stake : Staked) → IsTied grid cap n line_counts journal → Stands grid n s → stake ≡ counted s.id (length s.receipts) → stake.amount ≡ slice_index line_counts stake.number → Begins s.front journal → IsConfirmed n journal s
+confirmed_by grid cap n line_counts journal s stake t stands staked counts pre =
+    let same : length s.receipts ≡ slice_index line_counts s.id = sym (ap (λ (k : Staked). k.amount) staked) ∙ counts ∙ ap (λ (k : Staked). slice_index line_counts k.number) staked in
     let number : length s.receipts ≡ length (of_session s.id journal) = same ∙ t.counts s.id stands.number.0 (omega (arith, stands.number.1, stands.number.2)) in
     record {
       number = (stands.number.0, stands.number.1);
@@ -118,10 +118,10 @@ pub record AfterBooking (grid : Legs) (n : ℕ) (journal : List Entry) (command 
   pub booked : Booked grid command s (with_line s kept front)
   pub stands : Stands grid n (with_line s kept front)
 
-pub booking : (grid : Legs) (cap n : ℕ) (core now : Inventory) (books : List ℕ) (s : Seat) (command : Command) (kept front : List Entry)
-    → core.grid ≡ grid → now.grid ≡ core.grid → IsTied grid cap n books core.journal → Stands grid n s → IsConfirmed n core.journal s → AddsLine core now s.id command s.receipts kept
+pub booking : (grid : Legs) (cap n : ℕ) (core now : Inventory) (line_counts : List ℕ) (s : Seat) (command : Command) (kept front : List Entry)
+    → core.grid ≡ grid → now.grid ≡ core.grid → IsTied grid cap n line_counts core.journal → Stands grid n s → IsConfirmed n core.journal s → AddsLine core now s.id command s.receipts kept
     → Begins now.journal front → (front ≡ s.front) ⊎ (front ≡ now.journal) → AfterBooking grid n now.journal command s kept front
-booking grid cap n core now books s command kept front over same t stands c a more longer =
+booking grid cap n core now line_counts s command kept front over same t stands c a more longer =
     let journal = core.journal in
     let e = a.line in
     let next : IsNext grid journal e = subst (λ (h : Legs). IsNext h journal e) over a.next in
@@ -157,12 +157,12 @@ booking grid cap n core now books s command kept front over same t stands c a mo
     }
 
 -- the same of what a call finds and is told
-pub after_call : (grid : Legs) (cap : ℕ) (book : Book) (n : ℕ) (core now : Inventory) (books : List ℕ) (publisher shown : Published) (opened : ℕ) (s old : Seat) (command : Command) (kept front told : List Entry)
-    → LawfulUnderLock grid cap book n core books publisher opened → Stands grid n s → s ≡ old → IsConfirmed n publisher.visible old → AddsLine core now s.id command s.receipts kept → now.grid ≡ core.grid → Shows now shown
+pub after_call : (grid : Legs) (cap : ℕ) (book : Book) (n : ℕ) (core now : Inventory) (line_counts : List ℕ) (publisher shown : Published) (opened : ℕ) (s old : Seat) (command : Command) (kept front told : List Entry)
+    → LawfulUnderLock grid cap book n core line_counts publisher opened → Stands grid n s → s ≡ old → IsConfirmed n publisher.visible old → AddsLine core now s.id command s.receipts kept → now.grid ≡ core.grid → Shows now shown
     → told ≡ shown.visible → Begins told front → (front ≡ s.front) ⊎ (front ≡ told) → AfterBooking grid n now.journal command s kept front
-after_call grid cap book n core now books publisher shown opened s old command kept front told l stands is c a same shows tells more longer =
+after_call grid cap book n core now line_counts publisher shown opened s old command kept front told l stands is c a same shows tells more longer =
     let all : told ≡ now.journal = tells ∙ shows.visible in
-    booking grid cap n core now books s command kept front l.grid_is same l.tied stands
+    booking grid cap n core now line_counts s command kept front l.grid_is same l.tied stands
     (subst (λ (x : List Entry × Seat). IsConfirmed n x.0 x.1) (λ i. (l.shown.visible i, sym is i)) c) a
     (subst (λ (x : List Entry). Begins x front) all more) (⊎_elim (λ b. inl b) (λ b. inr (b ∙ all)) longer)
 
@@ -173,16 +173,16 @@ legal_shown core publisher e shown s is legal next =
     subst (λ (x : Legs × (List Entry × Entry)). IsLegal x.0 (x.1.0 ++ x.1.1 ∷ [])) (λ i. (sym s.grid_is i, (sym all i, sym is i))) (legal_push core.grid core.journal e legal next)
 
 -- what holds under the lock holds with one line more
-pub lawful_push : (grid : Legs) (cap : ℕ) (book : Book) (n : ℕ) (core now : Inventory) (books audited more : List ℕ) (publisher shown : Published) (opened session many : ℕ) (stake : Staked) (command : Command) (receipts kept : List Entry)
-    → LawfulUnderLock grid cap book n core books publisher opened → AddsLine core now session command receipts kept → now.grid ≡ core.grid → now.cap ≡ core.cap → shown.book ≡ publisher.book → Shows now shown
-    → session ≤ n → audited ≡ books → stake ≡ counted session many → more ≡ slice_set audited stake.number (slice_index audited stake.number + 1) → LawfulUnderLock grid cap book n now more shown opened
-lawful_push grid cap book n core now books audited more publisher shown opened session many stake command receipts kept l a grid_same cap_same book_same shows le same staked added =
+pub lawful_push : (grid : Legs) (cap : ℕ) (book : Book) (n : ℕ) (core now : Inventory) (line_counts audited more : List ℕ) (publisher shown : Published) (opened session many : ℕ) (stake : Staked) (command : Command) (receipts kept : List Entry)
+    → LawfulUnderLock grid cap book n core line_counts publisher opened → AddsLine core now session command receipts kept → now.grid ≡ core.grid → now.cap ≡ core.cap → shown.book ≡ publisher.book → Shows now shown
+    → session ≤ n → audited ≡ line_counts → stake ≡ counted session many → more ≡ slice_set audited stake.number (slice_index audited stake.number + 1) → LawfulUnderLock grid cap book n now more shown opened
+lawful_push grid cap book n core now line_counts audited more publisher shown opened session many stake command receipts kept l a grid_same cap_same book_same shows le same staked added =
     let e = a.line in
     let mine : session ≡ e.session = sym (ap (λ (x : Entry). x.session) a.is) in
     let number : stake.number ≡ e.session = ap (λ (k : Staked). k.number) staked ∙ mine in
-    let is : more ≡ slice_set books e.session (slice_index books e.session + 1) = added ∙ (λ i. slice_set (same i) (number i) (slice_index (same i) (number i) + 1)) in
+    let is : more ≡ slice_set line_counts e.session (slice_index line_counts e.session + 1) = added ∙ (λ i. slice_set (same i) (number i) (slice_index (same i) (number i) + 1)) in
     let next : IsNext grid core.journal e = subst (λ (h : Legs). IsNext h core.journal e) l.grid_is a.next in
-    let tied = tied_push grid cap n books more core.journal e l.tied next (omega (arith, a.below, l.cap_is)) (omega (arith, le, mine)) is in
+    let tied = tied_push grid cap n line_counts more core.journal e l.tied next (omega (arith, a.below, l.cap_is)) (omega (arith, le, mine)) is in
     record {
       grid_is = grid_same ∙ l.grid_is;
       cap_is = cap_same ∙ l.cap_is;

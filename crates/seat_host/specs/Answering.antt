@@ -4,8 +4,8 @@ use Rattle.std.specs.Borrow.{Bor}
 use Rattle.seat_nesting.specs.Nesting.{Legs}
 use Rattle.seat_journal.specs.declared.entry.Command.{Command}
 use Rattle.seat_journal.specs.declared.entry.Entry.{Entry}
-use Rattle.seat_host.specs.declared.desk.BookFault.{BookFault}
-use Rattle.seat_host.specs.declared.desk.BookFault.TheVariants.{JournalFull, Memory}
+use Rattle.seat_host.specs.declared.under_lock.BookFault.{BookFault}
+use Rattle.seat_host.specs.declared.under_lock.BookFault.TheVariants.{JournalFull, Memory}
 use Rattle.seat_host.specs.Sessions.{Seat, Booked, Waits, HasLineLeft}
 
 -- the call gave one line more, and this is its receipt

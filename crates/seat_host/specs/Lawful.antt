@@ -1,4 +1,4 @@
--- What holds of the inventory, the books and the publisher whenever the lock is free.
+-- What holds of the inventory, the counts of lines and the publisher whenever the lock is free.
 use Rattle.std.specs.Prelude.{◌≡◌, ℕ, ◌+◌, ◌<◌, ◌≤◌, List, [], ◌∷◌, ◌++◌, length, slice_index}
 use Rattle.logbook.specs.Pages.{Book}
 use Rattle.seat_nesting.specs.Nesting.{Legs}
@@ -9,17 +9,17 @@ use Rattle.seat_core.specs.Journal.{IsLegal, IsNext, calls_of, next_line}
 use Rattle.seat_display.specs.Faces.{Published}
 use Rattle.seat_host.specs.Histories.{of_session, OnlyFirst}
 
--- the journal beside the books of n sessions
-pub record IsTied (grid : Legs) (cap n : ℕ) (books : List ℕ) (journal : List Entry) : Type 0 where
-  -- there are at most 8 sessions, and a book at each number up to 8
-  pub wide : length books ≡ 9
+-- the journal beside the counts of lines of n sessions
+pub record IsTied (grid : Legs) (cap n : ℕ) (line_counts : List ℕ) (journal : List Entry) : Type 0 where
+  -- there are at most 8 sessions, and a count at each number up to 8
+  pub wide : length line_counts ≡ 9
   pub few : n < 9
   -- the journal is a legal history over the limits, of at most cap lines
   pub legal : IsLegal grid journal
   pub capped : length journal ≤ cap
   pub small : cap ≤ 999999
-  -- each book counts its session's lines
-  pub counts : (s : ℕ) → 0 < s → s < 9 → slice_index books s ≡ length (of_session s journal)
+  -- each count is of its session's lines
+  pub counts : (s : ℕ) → 0 < s → s < 9 → slice_index line_counts s ≡ length (of_session s journal)
   -- no session but the first n has any
   pub only : OnlyFirst n journal
 
@@ -29,7 +29,7 @@ pub record Shows (core : Inventory) (publisher : Published) : Type 0 where
   pub visible : publisher.visible ≡ core.journal
   pub pending : publisher.pending ≡ []
 
-pub record LawfulUnderLock (grid : Legs) (cap : ℕ) (book : Book) (n : ℕ) (core : Inventory) (books : List ℕ) (publisher : Published) (opened : ℕ) : Type 0 where
+pub record LawfulUnderLock (grid : Legs) (cap : ℕ) (book : Book) (n : ℕ) (core : Inventory) (line_counts : List ℕ) (publisher : Published) (opened : ℕ) : Type 0 where
   -- the inventory is over the host's limits, and takes cap lines
   pub grid_is : core.grid ≡ grid
   pub cap_is : core.cap ≡ cap
@@ -38,8 +38,8 @@ pub record LawfulUnderLock (grid : Legs) (cap : ℕ) (book : Book) (n : ℕ) (co
   -- the display is the host's, and what it shows is the journal
   pub book_is : publisher.book ≡ book
   pub shown : Shows core publisher
-  -- the journal is legal, and each book counts its session's lines
-  pub tied : IsTied grid cap n books core.journal
+  -- the journal is legal, and each count is of its session's lines
+  pub tied : IsTied grid cap n line_counts core.journal
 
 -- the inventory took one line more, the next one of this session with this command, and its receipt was kept
 pub record AddsLine (old new : Inventory) (session : ℕ) (command : Command) (receipts kept : List Entry) : Type 0 where

@@ -1,4 +1,4 @@
--- What a session and the desk know.
+-- What a session knows, and what its calls leave.
 use Rattle.std.specs.Prelude.{◌≡◌, ℕ, zero, suc, ◌+◌, ◌<◌, ◌≤◌, List, [], ◌∷◌, ◌++◌, length}
 use Rattle.seat_nesting.specs.Nesting.{Legs}
 use Rattle.seat_journal.specs.declared.entry.Command.{Command}

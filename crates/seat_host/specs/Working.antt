@@ -5,8 +5,8 @@ use Rattle.seat_journal.specs.declared.entry.Command.{Command}
 use Rattle.seat_journal.specs.declared.entry.Entry.{Entry}
 use Rattle.seat_core.specs.Prefixes.{Begins}
 use Rattle.seat_host.specs.Sessions.{Seat}
-use Rattle.seat_host.specs.declared.desk.BookFault.{BookFault}
-use Rattle.seat_host.specs.declared.desk.BookFault.TheVariants.{JournalFull}
+use Rattle.seat_host.specs.declared.under_lock.BookFault.{BookFault}
+use Rattle.seat_host.specs.declared.under_lock.BookFault.TheVariants.{JournalFull}
 use Rattle.seat_host.specs.declared.workers.RunFault.{RunFault}
 use Rattle.seat_host.specs.declared.workers.RunFault.TheVariants.{Book}
 

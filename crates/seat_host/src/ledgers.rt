@@ -53,9 +53,9 @@ impl<K: Hosting, const N: u8> Ledger for Numbered<K, N> {
     ghost parts = { 1 };
 }
 
-/// The books of all session numbers. Contracts see the totals, at their numbers.
+/// How many lines each session number has. Contracts see the totals, at their numbers.
 #[derive(Drop)]
-pub struct Books<K: Hosting> {
+pub struct LineCounts<K: Hosting> {
     one: Book<Numbered<K, 1>>,
     two: Book<Numbered<K, 2>>,
     three: Book<Numbered<K, 3>>,
@@ -66,7 +66,7 @@ pub struct Books<K: Hosting> {
     eight: Book<Numbered<K, 8>>,
 }
 
-impl<K: Hosting> Model for Books<K> {
+impl<K: Hosting> Model for LineCounts<K> {
     ghost use Rattle.std.specs.Prelude.{List, ℕ, ◌∷◌, []};
 
     ghost Value = { List ℕ };
@@ -141,7 +141,7 @@ impl<K: Hosting> Model for Stake<K> {
     ghost view = { λ s. staked s.share };
 }
 
-impl<K: Hosting> Books<K> {
+impl<K: Hosting> LineCounts<K> {
     /// Changes nothing: the share has every part, so its amount is the book's total.
     pub fn audit(&mut self, mine: &mut Stake<K>)
         ensures same { (self.new ≡ self.old) × (mine.new ≡ mine.old) }
@@ -247,13 +247,13 @@ impl<K: Hosting> Stakes<K> {
     }
 }
 
-/// The books and the shares of the host that K names.
+/// The counts of lines and the shares of the host that K names.
 pub fn open_ledgers<K: Hosting>(
     alloc: Global,
     blanks: Blanks,
-) -> Result<(Books<K>, Stakes<K>), Memory>
+) -> Result<(LineCounts<K>, Stakes<K>), Memory>
     requires { blanks ≡ K.names }
-    ensures books { IfOk result (λ r. r.0 ≡ 0 ∷ 0 ∷ 0 ∷ 0 ∷ 0 ∷ 0 ∷ 0 ∷ 0 ∷ 0 ∷ []) }
+    ensures line_counts { IfOk result (λ r. r.0 ≡ 0 ∷ 0 ∷ 0 ∷ 0 ∷ 0 ∷ 0 ∷ 0 ∷ 0 ∷ 0 ∷ []) }
     ensures stakes { IfOk result (λ r. r.1 ≡ 1) }
 {
     let Blanks {
@@ -274,7 +274,7 @@ pub fn open_ledgers<K: Hosting>(
     let (six, share_six) = six.open::<Numbered<K, 6>>();
     let (seven, share_seven) = seven.open::<Numbered<K, 7>>();
     let (eight, share_eight) = eight.open::<Numbered<K, 8>>();
-    let books = Books {
+    let line_counts = LineCounts {
         one,
         two,
         three,
@@ -295,7 +295,7 @@ pub fn open_ledgers<K: Hosting>(
         staked(AnyShare::One(Whole::of(share_one))),
     ];
     let rest = Vec::from_array(alloc, stakes)?;
-    Ok((books, Stakes { rest, next: 1 }))
+    Ok((line_counts, Stakes { rest, next: 1 }))
 }
 
 fn staked<K: Hosting>(share: AnyShare<K>) -> Stake<K>

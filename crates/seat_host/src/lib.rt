@@ -2,23 +2,23 @@
 //! It knows receipts, fronts and ledgers, and nothing of scripts, of texts or of where commands come from.
 #![tactic(auto)]
 
-mod commands;
-mod desk;
 mod gate;
 mod host;
 mod ledgers;
 mod parts;
+mod request_list;
 mod session;
 mod settling;
 mod turns;
+mod under_lock;
 mod workers;
 
-pub use commands::Commands;
-pub use desk::BookFault;
 pub use gate::{Gate, NoGate};
 pub use host::Host;
 pub use ledgers::Hosting;
 pub use parts::{HostFault, Parts};
+pub use request_list::RequestList;
 pub use session::{Receipt, Session};
 pub use settling::{AllReceipts, GatherFault, Receipts, Settled, Unsettled, gather};
+pub use under_lock::BookFault;
 pub use workers::{RunFault, run_sessions};

@@ -7,9 +7,9 @@ ghost use Rattle.seat_display.specs.Faces.{opened};
 ghost use Rattle.seat_host.specs.Ledgers.{counted};
 ghost use Rattle.seat_host.specs.Sessions.{fresh};
 
-use crate::desk::BookFault;
 use crate::host::Host;
 use crate::ledgers::{Hosting, Stake};
+use crate::under_lock::BookFault;
 use seat_core::{Command, Entry};
 use seat_display::Viewer;
 use ssim_records::{Class, Place};

@@ -6,10 +6,10 @@ ghost use Rattle.seat_host.specs.Headline.{Headline};
 ghost use Rattle.seat_host.specs.Settling.{has_all, has_id, IsConfirmed};
 ghost use Rattle.seat_host.specs.declared.settling.GatherFault.TheVariants.{Missing};
 
-use crate::desk::Desk;
 use crate::host::Host;
 use crate::ledgers::Hosting;
 use crate::session::{Receipt, Session};
+use crate::under_lock::UnderLock;
 use seat_core::Totals;
 use seat_journal::Entries;
 use seat_nesting::Grid;
@@ -86,7 +86,7 @@ impl Receipts {
 /// A host that was not settled. Contracts see its journal. It is never dropped: `into_host` gives the host again.
 pub struct Unsettled<K: Hosting> {
     grid: Grid,
-    desk: Desk<K>,
+    under_lock: UnderLock<K>,
 }
 
 impl<K: Hosting> Model for Unsettled<K> {
@@ -95,7 +95,7 @@ impl<K: Hosting> Model for Unsettled<K> {
 
     ghost Value = { List Entry };
 
-    ghost view = { λ u. u.desk };
+    ghost view = { λ u. u.under_lock };
 
     ghost invariant = { λ u. u.grid ≡ K.grid };
 }
@@ -103,8 +103,8 @@ impl<K: Hosting> Model for Unsettled<K> {
 impl<K: Hosting> Unsettled<K> {
     /// The host, with these lines. It owes no clause: a host shows its grid alone, which its type names.
     pub fn into_host(self) -> Host<K> {
-        let Unsettled { grid, desk } = self;
-        Host::over(grid, desk)
+        let Unsettled { grid, under_lock } = self;
+        Host::over(grid, under_lock)
     }
 }
 
@@ -123,17 +123,17 @@ pub fn gather<K: Hosting, R: Wait>(
     ensures kept { IfErr result (λ f. AllByRecursion (IsConfirmed K.sessions f.1) sessions.items) }
     ensures same { IfErr result (λ f. f.2.items ≡ sessions.items) }
 {
-    let (grid, mut desk) = host.into_parts();
-    if !are_all(sessions.as_slice(), desk.sessions()) {
-        return Err(refused(rt, GatherFault::Missing, grid, desk, sessions));
+    let (grid, mut under_lock) = host.into_parts();
+    if !are_all(sessions.as_slice(), under_lock.sessions()) {
+        return Err(refused(rt, GatherFault::Missing, grid, under_lock, sessions));
     }
-    let Ok(slots) = empty_lists(alloc, desk.sessions()) else {
-        return Err(refused(rt, GatherFault::Memory, grid, desk, sessions));
+    let Ok(slots) = empty_lists(alloc, under_lock.sessions()) else {
+        return Err(refused(rt, GatherFault::Memory, grid, under_lock, sessions));
     };
-    let totals = desk.totals();
-    let items = settle_all(rt, &mut desk, sessions, slots);
+    let totals = under_lock.totals();
+    let items = settle_all(rt, &mut under_lock, sessions, slots);
     Ok(Settled {
-        journal: desk.end(rt),
+        journal: under_lock.end(rt),
         totals,
         receipts: AllReceipts { items },
     })
@@ -144,7 +144,7 @@ fn refused<K: Hosting, R: Wait>(
     rt: &R,
     fault: GatherFault,
     grid: Grid,
-    desk: Desk<K>,
+    under_lock: UnderLock<K>,
     sessions: Vec<Session<K>>,
 ) -> (GatherFault, Unsettled<K>, Vec<Session<K>>)
     requires { grid ≡ K.grid }
@@ -152,21 +152,25 @@ fn refused<K: Hosting, R: Wait>(
     ensures kept { AllByRecursion (IsConfirmed K.sessions result.1) sessions.items }
     ensures same { result.2.items ≡ sessions.items }
 {
-    let mut desk = desk;
+    let mut under_lock = under_lock;
     let mut sessions = sessions;
-    confirm_all(rt, &mut desk, sessions.as_mut_slice());
-    (fault, Unsettled { grid, desk }, sessions)
+    confirm_all(rt, &mut under_lock, sessions.as_mut_slice());
+    (fault, Unsettled { grid, under_lock }, sessions)
 }
 
-fn confirm_all<K: Hosting, R: Wait>(rt: &R, desk: &mut Desk<K>, sessions: &mut [Session<K>])
-    ensures same { (desk.new ≡ desk.old) × (sessions.new ≡ sessions.old) }
-    ensures each { AllByRecursion (IsConfirmed K.sessions desk.old) sessions.old }
+fn confirm_all<K: Hosting, R: Wait>(
+    rt: &R,
+    under_lock: &mut UnderLock<K>,
+    sessions: &mut [Session<K>],
+)
+    ensures same { (under_lock.new ≡ under_lock.old) × (sessions.new ≡ sessions.old) }
+    ensures each { AllByRecursion (IsConfirmed K.sessions under_lock.old) sessions.old }
 {
     let Some((session, others)) = sessions.split_first_mut() else {
         return;
     };
-    desk.confirm(rt, session);
-    confirm_all(rt, desk, others);
+    under_lock.confirm(rt, session);
+    confirm_all(rt, under_lock, others);
 }
 
 #[tactic(auto, using(crate::proofs::Gathered::up_more))]
@@ -203,15 +207,15 @@ fn empty_lists(alloc: Global, sessions: u8) -> Result<Vec<Receipts>, Memory>
 #[tactic(auto, using(crate::proofs::Gathered::starts, crate::proofs::Gathered::goes_on, crate::proofs::Gathered::ends))]
 fn settle_all<K: Hosting, R: Wait>(
     rt: &R,
-    desk: &mut Desk<K>,
+    under_lock: &mut UnderLock<K>,
     sessions: Vec<Session<K>>,
     slots: Vec<Receipts>,
 ) -> Vec<Receipts>
     requires all { has_all K.sessions sessions.items ≡ true }
     requires slots { length slots.items ≡ K.sessions }
-    ensures same { desk.new ≡ desk.old }
-    ensures receipts { result.items ≡ by_session K.sessions desk.old }
-    ensures each { AllByRecursion (IsConfirmed K.sessions desk.old) sessions.items }
+    ensures same { under_lock.new ≡ under_lock.old }
+    ensures receipts { result.items ≡ by_session K.sessions under_lock.old }
+    ensures each { AllByRecursion (IsConfirmed K.sessions under_lock.old) sessions.items }
 {
     let mut sessions = sessions;
     let mut slots = slots;
@@ -219,24 +223,24 @@ fn settle_all<K: Hosting, R: Wait>(
         let Some(session) = sessions.pop() else {
             unreachable!()
         };
-        settle_one(rt, desk, &mut slots, session);
+        settle_one(rt, under_lock, &mut slots, session);
     }
     slots
 }
 
 fn settle_one<K: Hosting, R: Wait>(
     rt: &R,
-    desk: &mut Desk<K>,
+    under_lock: &mut UnderLock<K>,
     slots: &mut Vec<Receipts>,
     session: Session<K>,
 )
     requires { length slots.old.items ≡ K.sessions }
-    ensures same { desk.new ≡ desk.old }
-    ensures confirmed { IsConfirmed K.sessions desk.old session }
+    ensures same { under_lock.new ≡ under_lock.old }
+    ensures confirmed { IsConfirmed K.sessions under_lock.old session }
     ensures slots { slots.new.items ≡ slice_set slots.old.items (session.id - 1) session.receipts }
 {
     let mut session = session;
-    desk.confirm(rt, &mut session);
+    under_lock.confirm(rt, &mut session);
     let Session {
         id,
         stake: _,

@@ -2,16 +2,16 @@
 ghost use Rattle.std.specs.Prelude.{◌≡◌, ◌+◌, ◌<◌, ◌≤◌, [], ◌∷◌, All, length, IfErr, OnOk};
 ghost use Rattle.std.specs.Thread.{IsSync, IsSend};
 ghost use Rattle.seat_core.specs.Journal.{FitsCommand};
-ghost use Rattle.seat_host.specs.declared.desk.BookFault.TheVariants.{JournalFull};
+ghost use Rattle.seat_host.specs.declared.under_lock.BookFault.TheVariants.{JournalFull};
 ghost use Rattle.seat_host.specs.Working.{HasRun, IsRefused, AllHaveRun, AllHaveBegun, NamesFirst};
 
-use crate::commands::Commands;
-use crate::desk::BookFault;
 use crate::gate::Gate;
 use crate::host::Host;
 use crate::ledgers::Hosting;
+use crate::request_list::RequestList;
 use crate::session::Session;
 use crate::turns::Turns;
+use crate::under_lock::BookFault;
 use seat_core::Command;
 use std::alloc::Global;
 use std::sync::Wait;
@@ -38,7 +38,7 @@ pub fn run_sessions<K: Hosting + Send + Sync, R: Threads + Wait + Sync, G: Gate>
     alloc: Global,
     host: &Host<K>,
     sessions: &mut [Session<K>],
-    lists: &[Commands],
+    lists: &[RequestList],
     gate: &G,
 ) -> Result<(), RunFault>
     requires lists { length lists.now ≡ length sessions.old }
@@ -72,7 +72,7 @@ struct Workplace<'a, K: Hosting, R, G> {
 #[cycle(workers)]
 fn work_all<K: Hosting + Send + Sync, R: Threads + Wait + Sync, G: Gate>(
     place: &Workplace<'_, K, R, G>,
-    lists: &[Commands],
+    lists: &[RequestList],
     sessions: &mut [Session<K>],
 ) -> Result<(), RunFault>
     requires lists { length lists.now ≡ length sessions.old }
@@ -97,7 +97,7 @@ fn side_by_side<K: Hosting + Send + Sync, R: Threads + Wait + Sync, G: Gate>(
     place: &Workplace<'_, K, R, G>,
     list: &[Command],
     session: &mut Session<K>,
-    later: &[Commands],
+    later: &[RequestList],
     others: &mut [Session<K>],
 ) -> Result<(), RunFault>
     requires list { All (λ command. FitsCommand K.grid command) list.now }

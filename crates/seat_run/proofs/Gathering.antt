@@ -18,8 +18,8 @@ use Rattle.seat_host.specs.Headline.{Headline}
 use Rattle.seat_desk.specs.AuditDesk.{most_lines}
 use Rattle.seat_host.specs.Agreement.{receipts_in}
 use Rattle.seat_host.specs.Working.{AllHaveBegun, AllHaveRun, HasBegun, HasRun, IsRefused, NamesFirst}
-use Rattle.seat_host.specs.declared.desk.BookFault.{BookFault}
-use Rattle.seat_host.specs.declared.desk.BookFault.TheVariants.{JournalFull as Full, Memory as NoRoom}
+use Rattle.seat_host.specs.declared.under_lock.BookFault.{BookFault}
+use Rattle.seat_host.specs.declared.under_lock.BookFault.TheVariants.{JournalFull as Full, Memory as NoRoom}
 use Rattle.seat_host.specs.declared.workers.RunFault.{RunFault}
 use Rattle.seat_host.specs.declared.workers.RunFault.TheVariants as run_faults
 use Rattle.airimp_lines.specs.declared.requests.Request.{Request}

@@ -21,7 +21,7 @@ use Rattle.seat_desk.specs.Loading.{IsLoaded, IsRefusedLoad, IsTooLargeLoad}
 use Rattle.seat_run.specs.Requests.{AreScripts, IsRefusedAmong, IsTooLargeAmong, commands_of}
 use Rattle.seat_desk.specs.declared.fault.DeskFault.{DeskFault}
 use Rattle.seat_desk.specs.declared.fault.DeskFault.TheVariants.{Script, Book, Memory}
-use Rattle.seat_host.specs.declared.desk.BookFault.TheVariants.{JournalFull as Full, Memory as NoRoom}
+use Rattle.seat_host.specs.declared.under_lock.BookFault.TheVariants.{JournalFull as Full, Memory as NoRoom}
 use Rattle.seat_host.specs.declared.workers.RunFault.{RunFault}
 use Rattle.seat_host.specs.declared.workers.RunFault.TheVariants as run_faults
 

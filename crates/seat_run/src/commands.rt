@@ -4,7 +4,7 @@ ghost use Rattle.seat_run.specs.Requests.{command_of, commands_of, wanted_of};
 
 use airimp_lines::{Request, Requests, Segment};
 use seat_core::Command;
-use seat_host::Commands;
+use seat_host::RequestList;
 use ssim_flights::{Flights, Wanted};
 use std::alloc::{AllocError, Global};
 
@@ -13,7 +13,7 @@ pub fn command_lists(
     alloc: Global,
     flights: &Flights,
     scripts: &[Requests],
-) -> Result<Vec<Commands>, AllocError>
+) -> Result<Vec<RequestList>, AllocError>
     ensures { IfOk result (λ lists. lists.items ≡ map (commands_of flights.now) scripts.now) }
 {
     let mut lists = Vec::new(alloc);
@@ -24,14 +24,18 @@ pub fn command_lists(
 }
 
 /// A command for each request, on the first place that serves it.
-fn commands(alloc: Global, flights: &Flights, requests: &[Request]) -> Result<Commands, AllocError>
+fn commands(
+    alloc: Global,
+    flights: &Flights,
+    requests: &[Request],
+) -> Result<RequestList, AllocError>
     ensures { IfOk result (λ commands. commands ≡ commands_of flights.now requests.now) }
 {
     let mut commands = Vec::with_capacity(alloc, requests.len())?;
     for request in requests {
         commands.push(command(flights, request))?;
     }
-    Ok(Commands::from_vec(commands))
+    Ok(RequestList::from_vec(commands))
 }
 
 fn command(flights: &Flights, request: &Request) -> Command

@@ -6,11 +6,11 @@ use std::marker::Model;
 
 /// The commands that a session is to book, in order.
 #[derive(Drop)]
-pub struct Commands {
+pub struct RequestList {
     items: Vec<Command>,
 }
 
-impl Model for Commands {
+impl Model for RequestList {
     ghost use Rattle.std.specs.Prelude.{List};
     ghost use Rattle.seat_journal.specs.declared.entry.Command.{Command};
 
@@ -19,11 +19,11 @@ impl Model for Commands {
     ghost view = { λ c. c.items.items };
 }
 
-impl Commands {
+impl RequestList {
     pub fn from_vec(items: Vec<Command>) -> Self
         ensures { result ≡ items.items }
     {
-        Commands { items }
+        RequestList { items }
     }
 
     pub fn as_slice(&self) -> &[Command]
