@@ -1,14 +1,15 @@
 -- What the sessions booked is a history of their lists.
 use Rattle.std.proofs.Common.{◌≡◌, ◌≢◌, ⊎_elim, Option, Some, None, ◌-◌, ℕ, zero, suc, ◌+◌, ◌<◌, ◌≤◌, List, [], ◌∷◌, ◌++◌, length, take, map, refl, sym, ap, ◌∙◌, subst, arith, get_or, length-append}
-use Rattle.std.specs.List.{AllByRecursion}
+use Rattle.std.specs.List.{AllByRecursion, AllZip}
 use Rattle.std.specs.Prelude.{slice_get}
 use Rattle.std.specs.Option.{option_map}
 use Rattle.std.proofs.lemmas.Option.{get_or_from_slice_get, slice_get-map, slice_get_within}
 use Rattle.std.proofs.lemmas.List.Sums.{sum_by-cons}
-use Rattle.std.proofs.lemmas.List.{length-map, take_all, take_more, map_push}
+use Rattle.std.proofs.lemmas.List.{append-nil, length-map, take_all, take-append-le, take_more, map_push}
 use Rattle.seat_journal.specs.declared.entry.Command.{Command}
 use Rattle.seat_journal.specs.declared.entry.Entry.{Entry}
 use Rattle.seat_nesting.specs.Nesting.{Legs}
+use Rattle.seat_core.specs.Prefixes.{Begins}
 use Rattle.seat_core.specs.declared.totals.Totals.{Totals}
 use Rattle.seat_core.specs.Totals.{totals_of}
 use Rattle.seat_host.specs.Histories.{of_session, by_session}
@@ -17,7 +18,7 @@ use Rattle.seat_host.specs.Settling.{IsConfirmed}
 use Rattle.seat_host.specs.Headline.{Headline}
 use Rattle.seat_desk.specs.AuditDesk.{most_lines}
 use Rattle.seat_host.specs.Agreement.{receipts_in}
-use Rattle.seat_host.specs.Working.{AllHaveBegun, AllHaveRun, HasBegun, HasRun, IsRefused, NamesFirst}
+use Rattle.seat_host.specs.Working.{AllHaveBegun, AllHaveRun, HasRun, IsRefused, NamesFirst}
 use Rattle.seat_host.specs.declared.under_lock.BookFault.{BookFault}
 use Rattle.seat_host.specs.declared.under_lock.BookFault.TheVariants.{JournalFull as Full, Memory as NoRoom}
 use Rattle.seat_host.specs.declared.workers.RunFault.{RunFault}
@@ -27,7 +28,7 @@ use Rattle.ssim_flights.specs.declared.flight.Flight.{Flight as Flown}
 use Rattle.seat_desk.specs.declared.fault.DeskFault.{DeskFault}
 use Rattle.seat_desk.specs.declared.fault.DeskFault.TheVariants.{Book, Memory}
 use Rattle.seat_run.specs.Requests.{command_of, commands_of}
-use Rattle.seat_run.specs.RunDesk.{asked_in, HasCall, HasCommand, IsHistoryOf, IsUnbooked, IsUnlisted, commands_in, run_refusal}
+use Rattle.seat_run.specs.RunDesk.{asked_in, HasCall, HasCommand, IsBookedTo, IsFull, IsHistoryOf, IsUnbooked, IsUnlisted, commands_in, run_refusal}
 use Rattle.seat_run.proofs.Histories.{all_of, row_at, row_count}
 
 fresh_count : (n : ℕ) → length (fresh_sessions n) ≡ n
@@ -94,40 +95,97 @@ settled_history grid cap n lists olds news journal receipts totals opened count 
 
 -- ---- refusals
 
--- the beginnings of the lists that were booked, which are so much shorter in all
-record IsTaken (slack : ℕ) (lists : List (List Command)) (olds news : List Seat) : Type 0 where
+-- the beginnings of the lists that were booked
+record IsTaken (lists : List (List Command)) (olds news : List Seat) : Type 0 where
   taken : List (List Command)
   run : AllHaveRun taken olds news
   count : length taken ≡ length lists
-  fewer : asked_in taken + slack ≤ asked_in lists
+  fewer : asked_in taken ≤ asked_in lists
+  each : AllZip Begins taken lists
 
-begun_length : (list : List Command) (s t : Seat) (h : HasBegun list s t) → length h.booked ≤ length list
-begun_length list s t h = omega (arith, ap length h.begins.is, length-append h.booked h.begins.rest)
+begun_length : (front list : List Command) → Begins front list → length front ≤ length list
+begun_length front list b = omega (arith, ap length b.is, length-append front b.rest)
 
-all_taken : (lists : List (List Command)) (olds news : List Seat) → length lists ≡ length olds → AllHaveBegun lists olds news → IsTaken 0 lists olds news
-all_taken [] olds [] same h = record { taken = []; run = h; count = refl; fewer = omega arith }
+all_taken : (lists : List (List Command)) (olds news : List Seat) → length lists ≡ length olds → AllHaveBegun lists olds news → IsTaken lists olds news
+all_taken [] olds [] same h = record { taken = []; run = h; count = refl; fewer = omega arith; each = tt }
 all_taken [] olds (t ∷ news) same h = absurd h
 all_taken (list ∷ lists) [] news same h = absurd (omega (arith, same))
 all_taken (list ∷ lists) (s ∷ olds) [] same h = absurd h
 all_taken (list ∷ lists) (s ∷ olds) (t ∷ news) same h =
     let rest = all_taken lists olds news (omega (arith, same)) h.1 in
-    record { taken = h.0.booked ∷ rest.taken; run = (h.0.run, rest.run); count = ap suc rest.count; fewer = omega (arith, rest.fewer, begun_length list s t h.0) }
+    record {
+      taken = h.0.booked ∷ rest.taken;
+      run = (h.0.run, rest.run);
+      count = ap suc rest.count;
+      fewer = omega (arith, rest.fewer, begun_length h.0.booked list h.0.begins);
+      each = (h.0.begins, rest.each);
+    }
 
-named_taken : (cap : ℕ) (fault : RunFault) (lists : List (List Command)) (olds news : List Seat) → length lists ≡ length olds → AllHaveBegun lists olds news
-    → NamesFirst cap fault lists olds news → IsTaken 1 lists olds news
-named_taken cap fault [] olds news same h named = absurd named
-named_taken cap fault (list ∷ lists) [] news same h named = absurd named
-named_taken cap fault (list ∷ lists) (s ∷ olds) [] same h named = absurd named
-named_taken cap fault (list ∷ lists) (s ∷ olds) (t ∷ news) same h named =
-    ⊎_elim here (λ (later : HasRun list s t × NamesFirst cap fault lists olds news). there (named_taken cap fault lists olds news (omega (arith, same)) h.1 later.1)) named where
-      here : IsRefused cap fault list s t → IsTaken 1 (list ∷ lists) (s ∷ olds) (t ∷ news)
+-- the same, where a call of the session at some place was refused: the lists before its own were booked whole
+record IsStopped (cap : ℕ) (fault : RunFault) (lists : List (List Command)) (olds news : List Seat) : Type 0 where
+  taken : List (List Command)
+  run : AllHaveRun taken olds news
+  count : length taken ≡ length lists
+  fewer : asked_in taken + 1 ≤ asked_in lists
+  each : AllZip Begins taken lists
+  place : ℕ
+  before : take place taken ≡ take place lists
+  list : List Command
+  old : Seat
+  new : Seat
+  of_lists : slice_get lists place ≡ Some list
+  of_olds : slice_get olds place ≡ Some old
+  refused : IsRefused cap fault list old new
+  of_taken : slice_get taken place ≡ Some refused.booked
+
+whole : (list : List Command) → Begins list list
+whole list = record { rest = []; is = sym (append-nil list) }
+
+stopped : (cap : ℕ) (fault : RunFault) (lists : List (List Command)) (olds news : List Seat) → length lists ≡ length olds → AllHaveBegun lists olds news
+    → NamesFirst cap fault lists olds news → IsStopped cap fault lists olds news
+stopped cap fault [] olds news same h named = absurd named
+stopped cap fault (list ∷ lists) [] news same h named = absurd named
+stopped cap fault (list ∷ lists) (s ∷ olds) [] same h named = absurd named
+stopped cap fault (list ∷ lists) (s ∷ olds) (t ∷ news) same h named =
+    ⊎_elim here (λ (later : HasRun list s t × NamesFirst cap fault lists olds news). there later.0 (stopped cap fault lists olds news (omega (arith, same)) h.1 later.1)) named where
+      here : IsRefused cap fault list s t → IsStopped cap fault (list ∷ lists) (s ∷ olds) (t ∷ news)
       here r =
           let rest = all_taken lists olds news (omega (arith, same)) h.1 in
           let long : length list ≡ length r.booked + suc (length r.left) = ap length r.parts ∙ length-append r.booked (r.refused ∷ r.left) in
-          record { taken = r.booked ∷ rest.taken; run = (r.run, rest.run); count = ap suc rest.count; fewer = omega (arith, rest.fewer, long) }
+          record {
+            taken = r.booked ∷ rest.taken;
+            run = (r.run, rest.run);
+            count = ap suc rest.count;
+            fewer = omega (arith, rest.fewer, long);
+            each = (record { rest = r.refused ∷ r.left; is = r.parts }, rest.each);
+            place = 0;
+            before = refl;
+            list = list;
+            old = s;
+            new = t;
+            of_lists = refl;
+            of_olds = refl;
+            refused = r;
+            of_taken = refl;
+          }
 
-      there : IsTaken 1 lists olds news → IsTaken 1 (list ∷ lists) (s ∷ olds) (t ∷ news)
-      there rest = record { taken = h.0.booked ∷ rest.taken; run = (h.0.run, rest.run); count = ap suc rest.count; fewer = omega (arith, rest.fewer, begun_length list s t h.0) }
+      there : HasRun list s t → IsStopped cap fault lists olds news → IsStopped cap fault (list ∷ lists) (s ∷ olds) (t ∷ news)
+      there ran rest = record {
+        taken = list ∷ rest.taken;
+        run = (ran, rest.run);
+        count = ap suc rest.count;
+        fewer = omega (arith, rest.fewer);
+        each = (whole list, rest.each);
+        place = suc rest.place;
+        before = ap (λ (l : List (List Command)). list ∷ l) rest.before;
+        list = rest.list;
+        old = rest.old;
+        new = rest.new;
+        of_lists = rest.of_lists;
+        of_olds = rest.of_olds;
+        refused = rest.refused;
+        of_taken = rest.of_taken;
+      }
 
 full_of : (session call : ℕ) (why : BookFault) → run_refusal (run_faults.Book session call why) ≢ Memory → why ≡ Full
 full_of session call Full not = refl
@@ -155,92 +213,121 @@ receipts_are_asked : (lists : List (List Entry)) → receipts_in lists ≡ asked
 receipts_are_asked [] = refl
 receipts_are_asked (list ∷ lists) = omega (arith, sum_by-cons (λ (receipts : List Entry). length receipts) list lists, receipts_are_asked lists)
 
--- where a call is refused, more is asked than a journal has lines
-too_many : (grid : Legs) (cap n : ℕ) (fault : RunFault) (lists : List (List Command)) (olds news : List Seat) (journal : List Entry) (receipts : List (List Entry)) (totals : Totals)
-    → olds ≡ fresh_sessions n → length lists ≡ n → AllHaveBegun lists olds news → NamesFirst cap fault lists olds news → run_refusal fault ≢ Memory
-    → AllByRecursion (IsConfirmed n journal) news → cap ≡ most_lines → Headline grid cap n journal receipts totals → most_lines < asked_in lists
-too_many grid cap n fault lists olds news journal receipts totals opened count begun named not confirmed most h =
-    let t = named_taken cap fault lists olds news (as_many n lists olds opened count) begun named in
-    let as_all : length t.taken ≡ n = t.count ∙ count in
-    let own : map commands_in (by_session n journal) ≡ t.taken =
-    lists_to n t.taken news journal as_all (subst (λ (l : List Seat). AllHaveRun t.taken l news) opened t.run) confirmed n (omega arith) ∙ take_all n t.taken (omega (arith, as_all)) in
-    let all : asked_in t.taken ≡ length journal =
-    ap asked_in (sym own) ∙ (asked_map (λ (e : Entry). e.command) (by_session n journal) ∙ (sym (receipts_are_asked (by_session n journal)) ∙ (ap receipts_in (sym h.own) ∙ h.lines))) in
-    let full : cap ≤ length journal = is_full cap n fault journal lists olds news not named confirmed in
-    omega (arith, t.fewer, all, full, most)
+refusal_of : (grid : Legs) (lists : List (List Command)) (session call : ℕ) (why : BookFault) → HasCommand grid lists session call
+    → run_refusal (run_faults.Book session call why) ≢ Memory → IsUnlisted grid lists (run_refusal (run_faults.Book session call why))
+refusal_of grid lists session call Full has not = has
+refusal_of grid lists session call NoRoom has not = absurd (not refl)
 
--- the fault is that of the session at some place
-record IsRefusedAt (most : ℕ) (fault : RunFault) (lists : List (List Command)) (olds : List Seat) : Type 0 where
-  place : ℕ
-  list : List Command
-  old : Seat
-  new : Seat
-  of_lists : slice_get lists place ≡ Some list
-  of_olds : slice_get olds place ≡ Some old
-  refused : IsRefused most fault list old new
+-- what stands before the refused command
+front_of : (list booked left : List Command) (refused : Command) → list ≡ booked ++ refused ∷ left → take (length booked) list ≡ booked
+front_of list booked left refused parts =
+    ap (λ (l : List Command). take (length booked) l) parts ∙ (take-append-le (length booked) booked (refused ∷ left) (omega arith) ∙ take_all (length booked) booked (omega arith))
 
-refused_at : (most : ℕ) (fault : RunFault) (lists : List (List Command)) (olds news : List Seat) → NamesFirst most fault lists olds news → IsRefusedAt most fault lists olds
-refused_at most fault [] olds news named = absurd named
-refused_at most fault (list ∷ lists) [] news named = absurd named
-refused_at most fault (list ∷ lists) (s ∷ olds) [] named = absurd named
-refused_at most fault (list ∷ lists) (s ∷ olds) (t ∷ news) named =
-    ⊎_elim here (λ (later : HasRun list s t × NamesFirst most fault lists olds news). there (refused_at most fault lists olds news later.1)) named where
-      here : IsRefused most fault list s t → IsRefusedAt most fault (list ∷ lists) (s ∷ olds)
-      here refused = record { place = 0; list = list; old = s; new = t; of_lists = refl; of_olds = refl; refused = refused }
+module _ (grid : Legs) (cap n : ℕ) (fault : RunFault) (lists : List (List Command)) (olds news : List Seat) (journal : List Entry) (receipts : List (List Entry)) (totals : Totals)
+    (opened : olds ≡ fresh_sessions n) (count : length lists ≡ n) (confirmed : AllByRecursion (IsConfirmed n journal) news) (most : cap ≡ most_lines)
+    (h : Headline grid cap n journal receipts totals) (t : IsStopped cap fault lists olds news) (full : cap ≤ length journal) where
+  own_lists : map commands_in (by_session n journal) ≡ t.taken
+  own_lists =
+      let as_all : length t.taken ≡ n = t.count ∙ count in
+      lists_to n t.taken news journal as_all (subst (λ (l : List Seat). AllHaveRun t.taken l news) opened t.run) confirmed n (omega arith) ∙ take_all n t.taken (omega (arith, as_all))
 
-      there : IsRefusedAt most fault lists olds → IsRefusedAt most fault (list ∷ lists) (s ∷ olds)
-      there at = record { place = suc at.place; list = at.list; old = at.old; new = at.new; of_lists = at.of_lists; of_olds = at.of_olds; refused = at.refused }
+  -- where a call is refused, more is asked than a journal has lines
+  too_many : most_lines < asked_in lists
+  too_many =
+      let all : asked_in t.taken ≡ length journal =
+      ap asked_in (sym own_lists) ∙ (asked_map (λ (e : Entry). e.command) (by_session n journal) ∙ (sym (receipts_are_asked (by_session n journal)) ∙ (ap receipts_in (sym h.own) ∙ h.lines))) in
+      omega (arith, t.fewer, all, full, most)
 
-refusal_of : (lists : List (List Command)) (session call : ℕ) (why : BookFault) → HasCommand lists session call
-    → run_refusal (run_faults.Book session call why) ≢ Memory → IsUnlisted lists (run_refusal (run_faults.Book session call why))
-refusal_of lists session call Full has not = has
-refusal_of lists session call NoRoom has not = absurd (not refl)
+  -- the session at the place of the refusal has the next number, and as many calls as commands were booked
+  place_is : t.new.id ≡ suc t.place
+  place_is =
+      let within : t.place < n = omega (arith, slice_get_within olds t.place t.old t.of_olds, ap (length {A = Seat}) opened, fresh_count n) in
+      let is : t.old ≡ fresh (suc t.place) =
+      sym (get_or_from_slice_get olds t.place t.old (fresh 0) t.of_olds) ∙ (ap (λ (l : List Seat). get_or l t.place (fresh 0)) opened ∙ row_at fresh fresh_sessions refl (λ k. refl) n t.place (fresh 0) within) in
+      t.refused.run.id ∙ ap (λ (s : Seat). s.id) is
 
-unlisted : (most n : ℕ) (fault : RunFault) (lists : List (List Command)) (olds news : List Seat) → (run_refusal fault ≢ Memory → most_lines < asked_in lists) → olds ≡ fresh_sessions n
-    → NamesFirst most fault lists olds news → run_refusal fault ≢ Memory → IsUnlisted lists (run_refusal fault)
-unlisted most n fault lists olds news many opened named not =
-    let at = refused_at most fault lists olds news named in
-    let r = at.refused in
-    let within : at.place < n = omega (arith, slice_get_within olds at.place at.old at.of_olds, ap (length {A = Seat}) opened, fresh_count n) in
-    let is : at.old ≡ fresh (suc at.place) =
-    sym (get_or_from_slice_get olds at.place at.old (fresh 0) at.of_olds) ∙ (ap (λ (l : List Seat). get_or l at.place (fresh 0)) opened ∙ row_at fresh fresh_sessions refl (λ k. refl) n at.place (fresh 0) within) in
-    let id : at.new.id ≡ suc at.place = r.run.id ∙ ap (λ (s : Seat). s.id) is in
-    let lines : at.new.receipts ≡ r.run.lines = r.run.receipts ∙ ap (λ (s : Seat). s.receipts ++ r.run.lines) is in
-    let count : length at.new.receipts ≡ length r.booked = ap length lines ∙ (sym (length-map r.run.lines (λ (e : Entry). e.command)) ∙ ap length r.run.commands) in
-    let long : length at.list ≡ length r.booked + suc (length r.left) = ap length r.parts ∙ length-append r.booked (r.refused ∷ r.left) in
-    let has : HasCommand lists at.new.id (length at.new.receipts + 1) = record {
-      many = many not;
-      list = at.list;
-      at = (let down : at.place ≡ at.new.id - 1 = omega (arith, id) in subst (λ (k : ℕ). slice_get lists k ≡ Some at.list) down at.of_lists);
-      call_is = (omega arith, omega (arith, count, long));
-    } in
-    subst (λ (f : RunFault). run_refusal f ≢ Memory → IsUnlisted lists (run_refusal f)) (sym r.named) (refusal_of lists at.new.id (length at.new.receipts + 1) r.why has) not
+  call_is : length t.new.receipts ≡ length t.refused.booked
+  call_is =
+      let r = t.refused in
+      let within : t.place < n = omega (arith, slice_get_within olds t.place t.old t.of_olds, ap (length {A = Seat}) opened, fresh_count n) in
+      let is : t.old ≡ fresh (suc t.place) =
+      sym (get_or_from_slice_get olds t.place t.old (fresh 0) t.of_olds) ∙ (ap (λ (l : List Seat). get_or l t.place (fresh 0)) opened ∙ row_at fresh fresh_sessions refl (λ k. refl) n t.place (fresh 0) within) in
+      let lines : t.new.receipts ≡ r.run.lines = r.run.receipts ∙ ap (λ (s : Seat). s.receipts ++ r.run.lines) is in
+      ap length lines ∙ (sym (length-map r.run.lines (λ (e : Entry). e.command)) ∙ ap length r.run.commands)
+
+  booked_to : IsBookedTo t.new.id (length t.new.receipts + 1) lists t.taken
+  booked_to =
+      let down : t.new.id - 1 ≡ t.place = omega (arith, place_is) in
+      let fewer : length t.new.receipts + 1 - 1 ≡ length t.refused.booked = omega (arith, call_is) in
+      let front : take (length t.refused.booked) t.list ≡ t.refused.booked = front_of t.list t.refused.booked t.refused.left t.refused.refused t.refused.parts in
+      let own : slice_get t.taken t.place ≡ option_map (take (length t.refused.booked)) (slice_get lists t.place) =
+      t.of_taken ∙ sym (ap (option_map (take (length t.refused.booked))) t.of_lists ∙ ap Some front) in
+      record {
+        before = subst (λ (k : ℕ). take k t.taken ≡ take k lists) (sym down) t.before;
+        own = subst (λ (k : ℕ). slice_get t.taken k ≡ option_map (take (length t.new.receipts + 1 - 1)) (slice_get lists k)) (sym down)
+            (subst (λ (k : ℕ). slice_get t.taken t.place ≡ option_map (take k) (slice_get lists t.place)) (sym fewer) own);
+        each = t.each;
+      }
+
+  is_full_journal : IsFull grid lists t.new.id (length t.new.receipts + 1)
+  is_full_journal = record {
+    history = journal;
+    headline = of_journal grid cap n most_lines (length lists) journal receipts totals most (sym count) h;
+    full = omega (arith, full, most, h.capped);
+    booked = subst (IsBookedTo t.new.id (length t.new.receipts + 1) lists)
+        (sym own_lists ∙ ap (λ (k : ℕ). map commands_in (by_session k journal)) (sym count)) booked_to;
+  }
+
+  has_command : HasCommand grid lists t.new.id (length t.new.receipts + 1)
+  has_command =
+      let long : length t.list ≡ length t.refused.booked + suc (length t.refused.left) = ap length t.refused.parts ∙ length-append t.refused.booked (t.refused.refused ∷ t.refused.left) in
+      let down : t.place ≡ t.new.id - 1 = omega (arith, place_is) in
+      record {
+        many = too_many;
+        session_is = omega (arith, place_is);
+        list = t.list;
+        at = subst (λ (k : ℕ). slice_get lists k ≡ Some t.list) down t.of_lists;
+        call_is = (omega arith, omega (arith, call_is, long));
+        is_full = is_full_journal;
+      }
 
 -- the fault of such a run
 pub refused_run : (grid : Legs) (cap n : ℕ) (fault : RunFault) (lists : List (List Command)) (olds news : List Seat) (journal : List Entry) (receipts : List (List Entry)) (totals : Totals) (f : DeskFault)
     → f ≡ run_refusal fault → olds ≡ fresh_sessions n → length lists ≡ n → AllHaveBegun lists olds news → NamesFirst cap fault lists olds news
-    → AllByRecursion (IsConfirmed n journal) news → cap ≡ most_lines → Headline grid cap n journal receipts totals → f ≢ Memory → IsUnlisted lists f
+    → AllByRecursion (IsConfirmed n journal) news → cap ≡ most_lines → Headline grid cap n journal receipts totals → f ≢ Memory → IsUnlisted grid lists f
 refused_run grid cap n fault lists olds news journal receipts totals f is opened count begun named confirmed most h =
-    let many : run_refusal fault ≢ Memory → most_lines < asked_in lists =
-    λ not. too_many grid cap n fault lists olds news journal receipts totals opened count begun named not confirmed most h in
-    subst (λ (x : DeskFault). x ≢ Memory → IsUnlisted lists x) (sym is) (λ not. unlisted cap n fault lists olds news many opened named not)
+    subst (λ (x : DeskFault). x ≢ Memory → IsUnlisted grid lists x) (sym is) refused where
+      refused : run_refusal fault ≢ Memory → IsUnlisted grid lists (run_refusal fault)
+      refused not =
+          let t = stopped cap fault lists olds news (as_many n lists olds opened count) begun named in
+          let full = is_full cap n fault journal lists olds news not named confirmed in
+          let has = has_command grid cap n fault lists olds news journal receipts totals opened count confirmed most h t full in
+          subst (λ (x : RunFault). run_refusal x ≢ Memory → IsUnlisted grid lists (run_refusal x)) (sym t.refused.named)
+          (refusal_of grid lists t.new.id (length t.new.receipts + 1) t.refused.why has) not
 
 -- a call of a list is that of a request
-pub unbooked : (flights : List Flown) (scripts : List (List Request)) (lists : List (List Command)) (fault : DeskFault) → lists ≡ map (commands_of flights) scripts
-    → IsUnlisted lists fault → IsUnbooked scripts fault
-unbooked flights scripts lists (Book session call) is has = asked_so where
+pub unbooked : (flights : List Flown) (grid : Legs) (scripts : List (List Request)) (lists : List (List Command)) (fault : DeskFault) → lists ≡ map (commands_of flights) scripts
+    → IsUnlisted grid lists fault → IsUnbooked flights grid scripts fault
+unbooked flights grid scripts lists (Book session call) is has = asked_so where
   asked : asked_in lists ≡ asked_in scripts
   asked = ap asked_in is ∙ asked_map (command_of flights) scripts
 
-  of_script : (o : Option (List Request)) → slice_get scripts (session - 1) ≡ o → option_map (commands_of flights) o ≡ Some has.list → HasCall scripts session call
+  of_script : (o : Option (List Request)) → slice_get scripts (session - 1) ≡ o → option_map (commands_of flights) o ≡ Some has.list → HasCall flights grid scripts session call
   of_script None here same = absurd (cc same)
   of_script (Some script) here same =
       let lists_same : commands_of flights script ≡ has.list = cc same in
       let count : length script ≡ length has.list = sym (length-map script (command_of flights)) ∙ ap length lists_same in
-      record { many = omega (arith, has.many, asked); script = script; at = here; call_is = (has.call_is.0, omega (arith, has.call_is.1, count)) }
+      record {
+        many = omega (arith, has.many, asked);
+        session_is = has.session_is;
+        script = script;
+        at = here;
+        call_is = (has.call_is.0, omega (arith, has.call_is.1, count));
+        is_full = subst (λ (l : List (List Command)). IsFull grid l session call) is has.is_full;
+      }
 
-  asked_so : HasCall scripts session call
+  asked_so : HasCall flights grid scripts session call
   asked_so =
       of_script (slice_get scripts (session - 1)) refl
       (sym (slice_get-map (commands_of flights) scripts (session - 1)) ∙ (ap (λ (l : List (List Command)). slice_get l (session - 1)) (sym is) ∙ has.at))
-unbooked flights scripts lists _ is has = absurd has
+unbooked flights grid scripts lists _ is has = absurd has

@@ -110,7 +110,7 @@ run_refused (Some xs) None first days today texts flights grid fault loaded scri
 run_refused None limits first days today texts flights grid fault loaded script refused input = tt
 
 of_calls : (set limits : List ℕ) (first days today : ℕ) (texts : List (Option (List ℕ))) (flights : List Flown) (grid : Legs) (scripts : List (List Request)) (fault : DeskFault)
-    → IsLoaded set limits first days flights grid → AreScripts today texts scripts → IsUnbooked scripts fault → IsRefusedRun set limits first days today texts fault
+    → IsLoaded set limits first days flights grid → AreScripts today texts scripts → IsUnbooked flights grid scripts fault → IsRefusedRun set limits first days today texts fault
 of_calls set limits first days today texts flights grid scripts (Book session call) loaded are unbooked =
     record { refusal = record { flights = flights; grid = grid; is_loaded = loaded; scripts = scripts; are_scripts = are; is_unbooked = unbooked } }
 of_calls set limits first days today texts flights grid scripts _ loaded are unbooked = absurd unbooked
@@ -118,9 +118,9 @@ of_calls set limits first days today texts flights grid scripts _ loaded are unb
 -- and so is a call that was not booked
 pub run_unbooked : (set limits : Option (List ℕ)) (first days today : ℕ) (texts : List (Option (List ℕ))) (flights : List Flown) (grid : Legs) (scripts slice : List (List Request)) (fault : DeskFault)
     → IfSome set (λ xs. IfSome limits (λ ys. IsLoaded xs ys first days flights grid)) → slice ≡ scripts → AreScripts today texts scripts
-    → (fault ≢ Memory → IsUnbooked slice fault) → IsOfInput fault → IfSome set (λ xs. IfSome limits (λ ys. IsRefusedRun xs ys first days today texts fault))
+    → (fault ≢ Memory → IsUnbooked flights grid slice fault) → IsOfInput fault → IfSome set (λ xs. IfSome limits (λ ys. IsRefusedRun xs ys first days today texts fault))
 run_unbooked (Some xs) (Some ys) first days today texts flights grid scripts slice fault loaded same are unbooked input =
     of_calls xs ys first days today texts flights grid scripts fault loaded are
-    (subst (λ (l : List (List Request)). IsUnbooked l fault) same (unbooked (λ (e : fault ≡ Memory). subst IsOfInput e input)))
+    (subst (λ (l : List (List Request)). IsUnbooked flights grid l fault) same (unbooked (λ (e : fault ≡ Memory). subst IsOfInput e input)))
 run_unbooked (Some xs) None first days today texts flights grid scripts slice fault loaded same are unbooked input = tt
 run_unbooked None limits first days today texts flights grid scripts slice fault loaded same are unbooked input = tt

@@ -1,7 +1,8 @@
 -- What `run` writes: the journal of what the scripts ask, and the replies to each script.
-use Rattle.std.specs.Prelude.{◌≡◌, ◌≤◌, ◌<◌, ◌+◌, ◌-◌, ◌⊎◌, ℕ, List, [], ◌∷◌, ◌++◌, length, map, decimal, codes, Option, Some, None, IfSome, slice_get}
+use Rattle.std.specs.Prelude.{◌≡◌, ◌≤◌, ◌<◌, ◌+◌, ◌-◌, ◌⊎◌, ℕ, List, [], ◌∷◌, ◌++◌, length, map, take, decimal, codes, Option, Some, None, IfSome, slice_get}
 use Rattle.std.specs.Io.KnownBytes.{Appends}
-use Rattle.std.specs.List.{AllByRecursion}
+use Rattle.std.specs.List.{AllByRecursion, AllZip}
+use Rattle.std.specs.Option.{option_map}
 use Rattle.ssim_flights.specs.declared.flight.Flight.{Flight as Flown}
 use Rattle.ssim_records.specs.Noting.{TookFront}
 use Rattle.seat_nesting.specs.Nesting.{Legs}
@@ -11,6 +12,7 @@ use Rattle.seat_journal.specs.Text.{IsEntry, journal_text}
 use Rattle.seat_journal.specs.declared.entry.Advice.{Advice}
 use Rattle.seat_journal.specs.declared.entry.Command.{Command}
 use Rattle.seat_journal.specs.declared.entry.Entry.{Entry}
+use Rattle.seat_core.specs.Prefixes.{Begins}
 use Rattle.seat_core.specs.Totals.{totals_of}
 use Rattle.seat_host.specs.Headline.{Headline}
 use Rattle.seat_host.specs.Histories.{by_session}
@@ -158,33 +160,52 @@ abbrev pub asked_in : {A : Type 0} → List (List A) → ℕ
 asked_in [] = 0
 asked_in (list ∷ lists) = length list + asked_in lists
 
--- more is asked than a journal has lines, and a list of the session has a command for this call
-pub record HasCommand (lists : List (List Command)) (session call : ℕ) : Type 0 where
+-- what was booked of lists where a call of a session was refused: the lists of the sessions before it whole, its own list as far
+-- as that call, and of each list a beginning
+pub record IsBookedTo (session call : ℕ) (lists booked : List (List Command)) : Type 0 where
+  pub before : take (session - 1) booked ≡ take (session - 1) lists
+  pub own : slice_get booked (session - 1) ≡ option_map (take (call - 1)) (slice_get lists (session - 1))
+  pub each : AllZip Begins booked lists
+
+-- a history that has as many lines as a journal may, of what was booked of the lists
+pub record IsFull (grid : Legs) (lists : List (List Command)) (session call : ℕ) : Type 0 where
+  pub history : List Entry
+  pub headline : Headline grid most_lines (length lists) history (by_session (length lists) history) (totals_of history)
+  pub full : length history ≡ most_lines
+  pub booked : IsBookedTo session call lists (map commands_in (by_session (length lists) history))
+
+-- more is asked than a journal has lines, and the list of the session has a command for this call, at which the journal was full
+pub record HasCommand (grid : Legs) (lists : List (List Command)) (session call : ℕ) : Type 0 where
   pub many : most_lines < asked_in lists
+  pub session_is : 1 ≤ session
   pub list : List Command
   pub at : slice_get lists (session - 1) ≡ Some list
   pub call_is : (1 ≤ call) × (call ≤ length list)
+  pub is_full : IsFull grid lists session call
 
 -- the fault is that of a call, whose command was not booked
-abbrev pub IsUnlisted : List (List Command) → DeskFault → Type 0
-IsUnlisted lists (Book session call) = HasCommand lists session call
-IsUnlisted lists _ = ⊥
+abbrev pub IsUnlisted : Legs → List (List Command) → DeskFault → Type 0
+IsUnlisted grid lists (Book session call) = HasCommand grid lists session call
+IsUnlisted grid lists _ = ⊥
 
 -- the desk's fault for one of a run
 abbrev pub run_refusal : RunFault → DeskFault
 run_refusal (run_faults.Book session call Full) = Book session call
 run_refusal (run_faults.Book session call NoRoom) = Memory
 
--- more is asked than a journal has lines, and the session's script has a request for this call
-pub record HasCall (scripts : List (List Request)) (session call : ℕ) : Type 0 where
+-- more is asked than a journal has lines, and the session's script has a request for this call, at which the journal was full
+pub record HasCall (flights : List Flown) (grid : Legs) (scripts : List (List Request)) (session call : ℕ) : Type 0 where
   pub many : most_lines < asked_in scripts
+  pub session_is : 1 ≤ session
   pub script : List Request
   pub at : slice_get scripts (session - 1) ≡ Some script
   pub call_is : (1 ≤ call) × (call ≤ length script)
+  pub is_full : IsFull grid (map (commands_of flights) scripts) session call
 
-abbrev pub IsUnbooked : List (List Request) → DeskFault → Type 0
-IsUnbooked scripts (Book session call) = HasCall scripts session call
-IsUnbooked scripts _ = ⊥
+-- the fault is that of the first session whose script was not booked whole, at the call that was refused
+abbrev pub IsUnbooked : List Flown → Legs → List (List Request) → DeskFault → Type 0
+IsUnbooked flights grid scripts (Book session call) = HasCall flights grid scripts session call
+IsUnbooked flights grid scripts _ = ⊥
 
 -- the set, the limits and the scripts are right, and one of the requests was not booked
 pub record IsUnbookedOf (set limits : List ℕ) (first days today : ℕ) (texts : List (Option (List ℕ))) (fault : DeskFault) : Type 0 where
@@ -193,7 +214,7 @@ pub record IsUnbookedOf (set limits : List ℕ) (first days today : ℕ) (texts 
   pub is_loaded : IsLoaded set limits first days flights grid
   pub scripts : List (List Request)
   pub are_scripts : AreScripts today texts scripts
-  pub is_unbooked : IsUnbooked scripts fault
+  pub is_unbooked : IsUnbooked flights grid scripts fault
 
 -- the set and the limits are right, and the fault is that of the first script that is none
 pub record IsRefusedOf (set limits : List ℕ) (first days today : ℕ) (texts : List (Option (List ℕ))) (fault : DeskFault) : Type 0 where
@@ -202,8 +223,8 @@ pub record IsRefusedOf (set limits : List ℕ) (first days today : ℕ) (texts :
   pub is_loaded : IsLoaded set limits first days flights grid
   pub is_refused : IsRefusedAmong today 1 texts fault
 
--- a script's fault is the first of the first script that is none. A call's names a request of its session's script, and all
--- scripts are read. Any other is the first of the set, of its flights or of the limits
+-- a script's fault is the first of the first script that is none. A call's names the first session that was not booked whole, and
+-- all scripts are read. Any other is the first of the set, of its flights or of the limits
 abbrev pub RunRefusal : List ℕ → List ℕ → ℕ → ℕ → ℕ → List (Option (List ℕ)) → DeskFault → Type 0
 RunRefusal set limits first days today texts (Script session fault) = IsRefusedOf set limits first days today texts (Script session fault)
 RunRefusal set limits first days today texts (Book session call) = IsUnbookedOf set limits first days today texts (Book session call)

@@ -1,8 +1,9 @@
-use Rattle.std.proofs.Common.{◌⊎◌, map, subst, sym, length}
+use Rattle.std.proofs.Common.{◌⊎◌, map, subst, sym, refl, length}
+use Rattle.std.proofs.lemmas.Result.{err_from_is_err_and}
 use Rattle.seat_desk.specs.Desk.{HasFailed}
 use Rattle.seat_run.specs.Requests.{AreScripts, HasFailedAmong}
 use Rattle.seat_run.proofs.Reading.{between}
-use Rattle.seat_run.proofs.Written.{run_stopped, run_written}
+use Rattle.seat_run.proofs.Written.{run_stopped, run_unbooked, run_written}
 use Rattle.seat_run.proofs.run.desk_run.Goals as goal
 
 pub answer-requires-clause-count : goal.answer-requires-clause-count
@@ -31,3 +32,12 @@ returns-clause-device g c =
     g.J.Failures.failure_count g.J.Write.contents c.args.journal.now c.write_both.new.journal g.W.Failures.failure_count g.W.Write.contents c.args.out.now c.write_both.new.out
     (g.S.Read.remaining c.args.set.now) (g.L.Read.remaining c.args.limits.now) c.as_slice-2.result.now c.deref.result.now c.write_both.result
     c.in_ok-loaded.ensures.ok c.as_slice-2.ensures c.deref.ensures.value c.write_both.ensures.stopped
+
+pub returns-in_err-answer-clause-fault : goal.returns-in_err-answer-clause-fault
+returns-in_err-answer-clause-fault g c =
+    let texts = map g.C.Read.remaining c.args.scripts.now in
+    let scripts = subst (AreScripts c.args.today texts) (sym c.as_slice.ensures) c.in-Ok.ensures.ok in
+    let p = err_from_is_err_and c.from_residual-in_err-answer.result c.from_residual-in_err-answer.ensures.1 in
+    rw (p.1, p.2) (run_unbooked (g.S.Read.remaining c.args.set.now) (g.L.Read.remaining c.args.limits.now) c.args.first c.args.days c.args.today texts
+    c.in_ok-loaded.loaded.flights c.in_ok-loaded.loaded.grid c.as_slice.result.now c.as_slice.result.now c.in_err-answer.field-0.0
+    c.in_ok-loaded.ensures.ok refl scripts c.in_err-answer.ensures.fault)
