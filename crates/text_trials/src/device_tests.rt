@@ -1,4 +1,5 @@
 //! Reading and writing over devices that fail, stop early or take little at a time.
+use crate::worked_sets::no_legs;
 use failing_devices::{FailingReader, FailingWriter, Stop};
 use ssim_records::{Counted, Failures, ReadFault, put_all, read_all};
 use std::alloc::Global;
@@ -48,6 +49,16 @@ fn reads_more_than_a_piece(rt: HostRuntime) {
     assert!(rt; read_all(rt.alloc(), &mut input, 9_999) == Err(ReadFault::TooLarge));
     let mut input = Counted::new(long.as_slice());
     assert!(rt; read_all(rt.alloc(), &mut input, 10_000).map(|bytes| bytes.len()) == Ok(10_000));
+}
+
+#[test]
+fn reads_a_data_set_of_600_bytes(rt: HostRuntime) -> Result<(), Fail> {
+    let set = no_legs(rt.alloc())?;
+    let mut input = Counted::new(set.as_slice());
+    assert!(rt; read_all(rt.alloc(), &mut input, 599) == Err(ReadFault::TooLarge));
+    let mut input = Counted::new(set.as_slice());
+    assert!(rt; read_all(rt.alloc(), &mut input, 600).map(|bytes| bytes.len()) == Ok(600));
+    Ok(())
 }
 
 /// Writes the text byte by byte to a device that stops after so many writes, and looks at what it took.
