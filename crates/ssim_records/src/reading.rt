@@ -7,6 +7,9 @@ use super::counted::NotedRead;
 use std::alloc::Global;
 use std::fmt;
 
+// The most that one read takes. It lies on the stack, once for a reader.
+const PIECE: usize = 64 * 1024;
+
 /// Why the bytes of a reader are not all there.
 #[derive(Clone, Copy, Debug, PartialEq, Eq)]
 pub enum ReadFault {
@@ -48,12 +51,18 @@ pub fn read_all<R: NotedRead>(alloc: Global, reader: &mut R, max: u64) -> Result
     ensures uncounted { IfErr result (λ f. f ≢ ReadFault.Device → R.failure_count reader.new ≡ R.failure_count reader.old) }
 {
     let mut bytes = Vec::new(alloc);
-    while take_turn(reader, &mut bytes, max)? {}
+    let mut piece = [0u8; PIECE];
+    while take_turn(reader, &mut bytes, &mut piece, max)? {}
     Ok(bytes)
 }
 
-// One read. The answer says whether it gave a byte.
-fn take_turn<R: NotedRead>(reader: &mut R, bytes: &mut Vec<u8>, max: u64) -> Result<bool, ReadFault>
+// One read, at most the length of `piece`. The answer says whether it gave a byte.
+fn take_turn<R: NotedRead>(
+    reader: &mut R,
+    bytes: &mut Vec<u8>,
+    piece: &mut [u8; PIECE],
+    max: u64,
+) -> Result<bool, ReadFault>
     requires room { length bytes.old.items ≤ max }
     ensures turned { IfOk result (Turned max (R.remaining reader.old) (R.remaining reader.new) bytes.old.items bytes.new.items) }
     ensures counted { OnOk result (R.failure_count reader.new ≡ R.failure_count reader.old) }
@@ -62,8 +71,7 @@ fn take_turn<R: NotedRead>(reader: &mut R, bytes: &mut Vec<u8>, max: u64) -> Res
     ensures large { IfErr result (λ f. f ≡ ReadFault.TooLarge → GaveMore max (length bytes.old.items) (R.remaining reader.old)) }
     ensures memory { IfErr result (λ f. f ≡ ReadFault.Memory → WantsRoom max (length bytes.old.items) (R.remaining reader.old) (R.remaining reader.new)) }
 {
-    let mut piece = [0u8; 4096];
-    match reader.read_noted(&mut piece) {
+    match reader.read_noted(piece) {
         Ok(0) => Ok(false),
         Ok(n) => {
             if max - (bytes.len() as u64) < n as u64 {
