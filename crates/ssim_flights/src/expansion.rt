@@ -53,8 +53,7 @@ pub fn expand(
         flights,
         taken: _taken,
     } = flown;
-    let flights = Flights::of(alloc, flights)?;
-    Ok(flights)
+    Ok(Flights::of(flights))
 }
 
 #[tactic(auto, unfolding(crate::specs::Schedules::plan_of))]

@@ -1,5 +1,5 @@
 //! A flight on its dates, and what a passenger asks for.
-ghost use Rattle.std.specs.Prelude.{◌≡◌, ◌++◌, ◌∷◌, ◌<◌, ℕ, List, [], OnOk, OnErr, length, slice_get, Some};
+ghost use Rattle.std.specs.Prelude.{◌≡◌, ◌++◌, ◌∷◌, ◌<◌, ℕ, List, [], IfOk, OnOk, OnErr, length, slice_get, Some};
 ghost use Rattle.ssim_flights.specs.declared.flight.DatedLeg.{DatedLeg as Dated};
 
 use ssim_records::{Airline, Day, Memory, Station};
@@ -40,12 +40,12 @@ impl DatedLegs {
         self.items.len()
     }
 
-    pub(crate) fn new(alloc: Global) -> Self
-        ensures { result ≡ [] }
+    /// No legs, and room for `count`.
+    pub(crate) fn with_room(alloc: Global, count: usize) -> Result<Self, Memory>
+        ensures { IfOk result (λ legs. legs ≡ []) }
     {
-        DatedLegs {
-            items: Vec::new(alloc),
-        }
+        let items = Vec::with_capacity(alloc, count)?;
+        Ok(DatedLegs { items })
     }
 
     /// Adds a leg at the end.

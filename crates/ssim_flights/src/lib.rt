@@ -16,9 +16,11 @@ mod leg_list;
 mod plan;
 mod rows;
 mod schedule;
+mod served;
 
 pub use days::{Days, operating_days};
 pub use expansion::expand;
 pub use fault::{FlightFault, FlightKind};
 pub use flight::{DatedLeg, DatedLegs, Flight, Wanted};
 pub use flights::Flights;
+pub use served::Served;

@@ -97,7 +97,7 @@ pub(crate) fn flight_on(
     requires { Reaches legs.now i }
     ensures { IfOk result (λ flight. flight ≡ flight_on plan.now first.now legs.now i) }
 {
-    let mut dated = DatedLegs::new(alloc);
+    let mut dated = DatedLegs::with_room(alloc, legs.len())?;
     for leg in legs {
         dated.push(DatedLeg {
             board: leg.leg.board,

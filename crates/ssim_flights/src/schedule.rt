@@ -45,12 +45,12 @@ impl Operations {
         self.items.as_slice()
     }
 
-    fn new(alloc: Global) -> Self
-        ensures { result ≡ [] }
+    /// No operations, and room for `count`.
+    fn with_room(alloc: Global, count: usize) -> Result<Self, Memory>
+        ensures { IfOk result (λ operations. operations ≡ []) }
     {
-        Operations {
-            items: Vec::new(alloc),
-        }
+        let items = Vec::with_capacity(alloc, count)?;
+        Ok(Operations { items })
     }
 
     fn push(&mut self, operation: Operation) -> Result<(), Memory>
@@ -112,7 +112,7 @@ fn schedule_leg(alloc: Global, plan: &Plan, leg: &Leg) -> Result<Scheduled, Memo
     ensures { IfOk result (λ s. s ≡ scheduled plan.now leg.now) }
 {
     let days = operating_days(alloc, leg, plan.end)?;
-    let mut operations = Operations::new(alloc);
+    let mut operations = Operations::with_room(alloc, days.len())?;
     for day in days.as_slice() {
         let local = local_day(plan.local, leg, *day);
         operations.push(Operation { day: *day, local })?;

@@ -62,7 +62,7 @@ of-requires-clause-few c =
 pub returns-clause-flights : goal.returns-clause-flights
 returns-clause-flights c =
     let items : c.as_slice-legs-items.result.now ≡ itineraries c.args.set.now.legs = c.as_slice-legs-items.ensures ∙ c.in_ok-all.ensures ∙ ap itineraries c.as_slice.ensures in
-    c.in_ok-flights.ensures ∙ flights_all c.plan_of-plan.result c.as_slice-legs-items.result.now c.loop-legs.legs-index c.loop-legs.flown (omega arith) c.loop-legs.invariant.0
+    c.of.ensures ∙ flights_all c.plan_of-plan.result c.as_slice-legs-items.result.now c.loop-legs.legs-index c.loop-legs.flown (omega arith) c.loop-legs.invariant.0
     ∙ ap (λ (p : Plan). dated_flights p c.as_slice-legs-items.result.now) c.plan_of-plan.ensures ∙ ap (dated_flights _) items
 
 pub returns-clause-apart : goal.returns-clause-apart
