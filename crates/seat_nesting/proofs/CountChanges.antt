@@ -9,6 +9,7 @@ use Rattle.seat_nesting.specs.Nesting.{Steps, Legs, steps_of, ladder_at, room, r
 use Rattle.ssim_records.specs.declared.place.Place.{Place}
 use Rattle.seat_nesting.proofs.Rooms.{least_le, room_same}
 use Rattle.seat_nesting.specs.Counting.{LegSeats, Counted, seats_on, leg_in, legs_in, leg_at, limits_of, seats_of, no_leg, IsKept, IsFresh, IsWithinLimits, LegChanges, FlightChanges, OneLegChanges, Changes, plus, less, leg_holds, holds}
+use Rattle.seat_nesting.specs.Changing.{with_limit, leg_with, limits_with, LegSets, FlightSets, Sets}
 
 -- the place that was written, and the others
 at_set : {X : Type 0} (xs : List X) (i j : ℕ) (x d : X) → i < length xs → unwrap_or (slice_get (set xs i x) j) d ≡ (if j == i then x else unwrap_or (slice_get xs j) d)
@@ -221,3 +222,65 @@ flights_push xs x grid i legs h lt e is =
 
 pub fresh_push : (xs : Counted) (x : List LegSeats) → ((f at : ℕ) → IsFresh (leg_at xs f at)) → ((at : ℕ) → IsFresh (leg_in x at)) → (f at : ℕ) → IsFresh (leg_at (xs ++ x ∷ []) f at)
 fresh_push xs x all here = each_push xs x [] (λ (legs : List LegSeats). (at : ℕ) → IsFresh (leg_in legs at)) all here
+
+-- ---- a limit that is set
+
+map_leg_set : (items : List LegSeats) (leg : ℕ) (x : LegSeats) (class limit wait : ℕ) → leg < length items → x.steps ≡ with_limit (leg_in items leg).steps class limit wait → map steps_in (set items leg x) ≡ leg_with (map steps_in items) leg class limit wait
+map_leg_set [] leg x class limit wait inside h = absurd (omega arith)
+map_leg_set (l ∷ items) zero x class limit wait inside h = ap (λ (s : Steps). s ∷ map steps_in items) h
+map_leg_set (l ∷ items) (suc leg) x class limit wait inside h = ap (λ (s : List Steps). l.steps ∷ s) (map_leg_set items leg x class limit wait (omega arith) h)
+
+map_flight_set : (items : Counted) (flight : ℕ) (xs : List LegSeats) (leg class limit wait : ℕ) → flight < length items → map steps_in xs ≡ leg_with (map steps_in (legs_in items flight)) leg class limit wait → limits_of (set items flight xs) ≡ limits_with (limits_of items) flight leg class limit wait
+map_flight_set [] flight xs leg class limit wait inside h = absurd (omega arith)
+map_flight_set (l ∷ items) zero xs leg class limit wait inside h = ap (λ (s : List Steps). s ∷ limits_of items) h
+map_flight_set (l ∷ items) (suc flight) xs leg class limit wait inside h = ap (λ (s : Legs). map steps_in l ∷ s) (map_flight_set items flight xs leg class limit wait (omega arith) h)
+
+leg_sets_at : (items : List LegSeats) (leg : ℕ) (x : LegSeats) (class limit wait : ℕ) → leg < length items → LegSets (leg_in items leg) x class limit wait → FlightSets items (set items leg x) leg class limit wait
+leg_sets_at items leg x class limit wait inside h = record {
+  limits = map_leg_set items leg x class limit wait inside h.steps;
+  seats = λ at k. ap (λ (l : LegSeats). seats_on l k) (at_set items leg at x no_leg inside) ∙ seats_case at k (at == leg) refl;
+  kept = λ all at. let P : LegSeats → Type 0 = λ l. IsKept l in subst P (sym (at_set items leg at x no_leg inside)) (kept_case all at (at == leg));
+}
+  where
+    seats_case : (at k : ℕ) (b : Bool) → (at == leg) ≡ b → seats_on (cond b x (leg_in items at)) k ≡ seats_on (leg_in items at) k
+    seats_case at k true e = h.seats k ∙ ap (λ (i : ℕ). seats_on (leg_in items i) k) (sym (eqb-true at leg e))
+    seats_case at k false e = refl
+
+    kept_case : ((i : ℕ) → IsKept (leg_in items i)) → (at : ℕ) (b : Bool) → IsKept (cond b x (leg_in items at))
+    kept_case all at true = h.kept
+    kept_case all at false = all at
+
+pub flight_sets : (items now : List LegSeats) (leg : ℕ) (old new : LegSeats) (class limit wait : ℕ) → items ≡ now → leg < length items → old ≡ get_or items leg no_leg → LegSets old new class limit wait → FlightSets now (set items leg new) leg class limit wait
+flight_sets items now leg old new class limit wait same inside is h =
+    let here : LegSets (leg_in items leg) new class limit wait = let P : LegSeats → Type 0 = λ x. LegSets x new class limit wait in subst P (is ∙ sym (unwrap_or-slice_get items leg no_leg)) h in
+    let P : List LegSeats → Type 0 = λ x. FlightSets x (set items leg new) leg class limit wait in
+    subst P same (leg_sets_at items leg new class limit wait inside here)
+
+sets_here : (items : Counted) (flight : ℕ) (old new : List LegSeats) (leg class limit wait : ℕ) → old ≡ get_or items flight [] → FlightSets old new leg class limit wait → FlightSets (legs_in items flight) new leg class limit wait
+sets_here items flight old new leg class limit wait is h =
+    let P : List LegSeats → Type 0 = λ x. FlightSets x new leg class limit wait in
+    subst P (is ∙ sym (unwrap_or-slice_get items flight [])) h
+
+flight_sets_at : (items : Counted) (flight : ℕ) (new : List LegSeats) (leg class limit wait : ℕ) → flight < length items → FlightSets (legs_in items flight) new leg class limit wait → Sets items (set items flight new) flight leg class limit wait
+flight_sets_at items flight new leg class limit wait inside h = record {
+  limits = map_flight_set items flight new leg class limit wait inside h.limits;
+  seats = λ f at k. ap (λ (l : List LegSeats). seats_on (leg_in l at) k) (at_set items flight f new [] inside) ∙ seats_case f at k (f == flight) refl;
+}
+  where
+    seats_case : (f at k : ℕ) (b : Bool) → (f == flight) ≡ b → seats_on (leg_in (cond b new (legs_in items f)) at) k ≡ seats_of items f at k
+    seats_case f at k true e = h.seats at k ∙ ap (λ (i : ℕ). seats_of items i at k) (sym (eqb-true f flight e))
+    seats_case f at k false e = refl
+
+pub all_sets : (items now : Counted) (flight : ℕ) (old new : List LegSeats) (leg class limit wait : ℕ) → items ≡ now → flight < length items → old ≡ get_or items flight [] → FlightSets old new leg class limit wait → Sets now (set items flight new) flight leg class limit wait
+all_sets items now flight old new leg class limit wait same inside is h =
+    let P : Counted → Type 0 = λ x. Sets x (set items flight new) flight leg class limit wait in
+    subst P same (flight_sets_at items flight new leg class limit wait inside (sets_here items flight old new leg class limit wait is h))
+
+pub within_sets : (items : Counted) (flight : ℕ) (old new : List LegSeats) (leg class limit wait : ℕ) → flight < length items → old ≡ get_or items flight [] → FlightSets old new leg class limit wait → IsWithinLimits items → IsWithinLimits (set items flight new)
+within_sets items flight old new leg class limit wait inside is h w = record {
+  leg_kept = λ f at. let P : List LegSeats → Type 0 = λ l. IsKept (leg_in l at) in subst P (sym (at_set items flight f new [] inside)) (kept_case f at (f == flight));
+}
+  where
+    kept_case : (f at : ℕ) (b : Bool) → IsKept (leg_in (cond b new (legs_in items f)) at)
+    kept_case f at true = (sets_here items flight old new leg class limit wait is h).kept (λ i. w.leg_kept flight i) at
+    kept_case f at false = w.leg_kept f at

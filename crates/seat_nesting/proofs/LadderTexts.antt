@@ -1,8 +1,8 @@
 -- Reading the entries of a ladder's text one by one.
-use Rattle.std.proofs.Common.{◌≡◌, ℕ, suc, ◌+◌, ◌<◌, Bool, true, false, if◌then◌else◌, ◌==◌, cond, List, [], ◌∷◌, ◌++◌, length, Option, Some, None, is_some, option_map, append_assoc, refl, sym, ap, ◌∙◌, arith}
+use Rattle.std.proofs.Common.{◌≡◌, ℕ, suc, ◌+◌, ◌<◌, ◌≤◌, Bool, true, false, if◌then◌else◌, ◌==◌, cond, List, [], ◌∷◌, ◌++◌, length, Option, Some, None, is_some, option_map, append_assoc, refl, sym, ap, ◌∙◌, arith}
 use Rattle.seat_nesting.specs.Nesting.{Steps}
 use Rattle.ssim_records.specs.Fields.{byte_at}
-use Rattle.seat_nesting.specs.LadderText.{entry_in, entry_at, with_entry, steps_in}
+use Rattle.seat_nesting.specs.LadderText.{entry_in, mark_at, entry_at, with_entry, steps_in}
 use Rattle.seat_nesting.specs.declared.ladder.Step.{Step}
 
 -- what follows an entry: the end, or a blank and more entries
@@ -18,6 +18,41 @@ from_entry : (e : Option Step) (rest : List ℕ) → with_entry e (steps_after r
 from_entry None rest = refl
 from_entry (Some s) rest = refl
 
+none_after : (e : Option Step) → with_entry e None ≡ None
+none_after None = refl
+none_after (Some s) = refl
+
+abbrev marked : (Bool → Option Step) → List ℕ → Option (Step × List ℕ)
+marked entry rest = option_map (λ (s : Step). (s, (mark_at rest).1)) (entry (mark_at rest).0)
+
+-- what a test says of the mark
+abbrev pub mark_by : Bool → ℕ → List ℕ → Bool × List ℕ
+mark_by b c rest = if b then (true, rest) else (false, c ∷ rest)
+
+-- one byte behind an entry: the mark, or none that may follow an entry
+one_byte : (entry : Bool → Option Step) (i : ℕ) → with_entry (entry true) (if i == 78 then Some [] else None) ≡ steps_from (marked entry (i ∷ []))
+unfolding steps_in
+one_byte entry i = of (i == 78)
+  where
+    no_more : with_entry (entry false) (steps_after (i ∷ [])) ≡ None
+    no_more = blank (i == 32) where
+      blank : (b : Bool) → with_entry (entry false) (cond b (steps_in []) None) ≡ None
+      blank true = none_after (entry false)
+      blank false = none_after (entry false)
+
+    of : (b : Bool) → with_entry (entry true) (cond b (Some []) None) ≡ steps_from (option_map (λ (s : Step). (s, (mark_by b i []).1)) (entry (mark_by b i []).0))
+    of true = from_entry (entry true) []
+    of false = none_after (entry true) ∙ sym no_more ∙ from_entry (entry false) (i ∷ [])
+
+-- more bytes behind an entry
+more_bytes : (entry : Bool → Option Step) (i : ℕ) (rest : List ℕ) → cond (i == 78) (with_entry (entry true) (steps_after rest)) (with_entry (entry false) (steps_after (i ∷ rest))) ≡ steps_from (marked entry (i ∷ rest))
+more_bytes entry i rest = of (i == 78)
+  where
+    of : (b : Bool) → cond b (with_entry (entry true) (steps_after rest)) (with_entry (entry false) (steps_after (i ∷ rest)))
+        ≡ steps_from (option_map (λ (s : Step). (s, (mark_by b i rest).1)) (entry (mark_by b i rest).0))
+    of true = from_entry (entry true) rest
+    of false = from_entry (entry false) (i ∷ rest)
+
 -- the steps of a text are those of its first entry and of what follows it
 pub steps_split : (text : List ℕ) → steps_in text ≡ steps_from (entry_at text)
 unfolding steps_in
@@ -29,8 +64,9 @@ steps_split (a ∷ b ∷ c ∷ d ∷ []) = refl
 steps_split (a ∷ b ∷ c ∷ d ∷ e ∷ []) = refl
 steps_split (a ∷ b ∷ c ∷ d ∷ e ∷ f ∷ []) = refl
 steps_split (a ∷ b ∷ c ∷ d ∷ e ∷ f ∷ g ∷ []) = refl
-steps_split (a ∷ b ∷ c ∷ d ∷ e ∷ f ∷ g ∷ h ∷ []) = from_entry (entry_in a b c d e f g h) []
-steps_split (a ∷ b ∷ c ∷ d ∷ e ∷ f ∷ g ∷ h ∷ i ∷ rest) = from_entry (entry_in a b c d e f g h) (i ∷ rest)
+steps_split (a ∷ b ∷ c ∷ d ∷ e ∷ f ∷ g ∷ h ∷ []) = from_entry (entry_in a b c d e f g h false) []
+steps_split (a ∷ b ∷ c ∷ d ∷ e ∷ f ∷ g ∷ h ∷ i ∷ []) = one_byte (entry_in a b c d e f g h) i
+steps_split (a ∷ b ∷ c ∷ d ∷ e ∷ f ∷ g ∷ h ∷ i ∷ j ∷ rest) = more_bytes (entry_in a b c d e f g h) i (j ∷ rest)
 
 pub no_entry : (text : List ℕ) → entry_at text ≡ None → steps_in text ≡ None
 no_entry text h = steps_split text ∙ ap steps_from h
@@ -64,11 +100,20 @@ front_length (Some t) rest after s h =
     let same : behind rest t ≡ behind after s = cc in
     ap (λ (p : Step × List ℕ). p.1) same
 
--- an entry is eight bytes long
-pub entry_length : (text : List ℕ) (s : Step) (after : List ℕ) → entry_at text ≡ Some (s, after) → length text ≡ 8 + length after
+mark_length : (rest : List ℕ) → length (mark_at rest).1 ≤ length rest
+mark_length [] = omega arith
+mark_length (c ∷ rest) = of (c == 78)
+  where
+    of : (b : Bool) → length (mark_by b c rest).1 ≤ suc (length rest)
+    of true = omega arith
+    of false = omega arith
+
+-- an entry is eight bytes long, or nine
+pub entry_length : (text : List ℕ) (s : Step) (after : List ℕ) → entry_at text ≡ Some (s, after) → 8 + length after ≤ length text
 entry_length (a ∷ b ∷ c ∷ d ∷ e ∷ f ∷ g ∷ h ∷ rest) s after is =
-    let same = front_length (entry_in a b c d e f g h) rest after s is in
-    rw same (omega arith)
+    let same = front_length (entry_in a b c d e f g h (mark_at rest).0) (mark_at rest).1 after s is in
+    let short = mark_length rest in
+    omega (arith, short, ap length same)
 entry_length _ s after is = absurd cc
 
 pub blank_length : (text next : List ℕ) → byte_at 32 text ≡ Some next → length text ≡ 1 + length next

@@ -52,7 +52,7 @@ no_rank steps class h = any_place (λ s. class == s.class) steps ∙ of (nat_lt 
 
 pub is_rank : (steps : Steps) (class rank : ℕ) → position (λ s. class == s.class) steps ≡ Some rank → IsRank steps class rank
 is_rank steps class rank h = record {
-  inside = (position-Some (λ (s : Step). class == s.class) steps rank (record { class = 0; limit = 0; wait = 0 }) h).0;
+  inside = (position-Some (λ (s : Step). class == s.class) steps rank (record { class = 0; limit = 0; wait = 0; listed = false }) h).0;
   class_is = λ d. sym (eqb-true class (get_or steps rank d).class (position-Some (λ (s : Step). class == s.class) steps rank d h).1);
   there = any_place (λ s. class == s.class) steps ∙ of (nat_lt (position_or_len (λ s. class == s.class) steps) (length steps)) h;
 }
@@ -104,7 +104,7 @@ count_less true old x n k class e h = let same : (class == k) ≡ true = eq-eqb 
 count_less false old x n k class e h = let other : (class == k) ≡ false = ne_eqb class k (λ is. eqb-false k class e (sym is)) in rw other (omega arith)
 
 abbrev no_step : Step
-no_step = record { class = 0; limit = 0; wait = 0 }
+no_step = record { class = 0; limit = 0; wait = 0; listed = false }
 
 count_class : (steps : Steps) (held : List ℕ) (class rank : ℕ) → IsDistinct steps → IsRank steps class rank → rank < length held → count_at steps held class ≡ get_or held rank 0
 count_class steps held class rank distinct is inside = ap (count_at steps held) (sym (is.class_is no_step)) ∙ count_rank steps held rank no_step distinct is.inside inside
@@ -269,6 +269,13 @@ held_seen leg now i j x e =
     let P : LegSeats → Type 0 = λ y. IsKept y → j ≡ i + 1 → i < length y.steps → x ≡ get_or y.steps i x
     → (held_from (seats_on y) (drop i y.steps) ≡ held_from (seats_on y) (drop j y.steps) + get_or leg.held i 0) × (held_from (seats_on y) (drop i y.steps) ≤ x.limit) × (x.limit ≤ 999) in
     subst P e (held_at leg i j x)
+
+pub held_more_seen : (leg now : LegSeats) (i j : ℕ) → leg ≡ now → IsKept now → j ≡ i + 1 → i < length now.steps
+    → (held_from (seats_on now) (drop i now.steps) ≡ held_from (seats_on now) (drop j now.steps) + get_or leg.held i 0) × (held_from (seats_on now) (drop i now.steps) ≤ 999)
+held_more_seen leg now i j e kept next inside =
+    let x = get_or now.steps i no_step in
+    let h = held_seen leg now i j x e kept next inside (get_or_any now.steps i no_step x inside) in
+    (h.0, omega (arith, h))
 
 abbrev pub leg_of : Steps → List ℕ → LegSeats
 leg_of steps held = record { steps = steps; held = held }

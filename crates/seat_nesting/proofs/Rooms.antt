@@ -19,6 +19,10 @@ pub room_same : (steps : Steps) (new old : ℕ → ℕ) (class : ℕ) → ((k : 
 room_same [] new old class h = refl
 room_same (s ∷ lower) new old class h = rw (held_same (s ∷ lower) new old h, room_same lower new old class h) refl
 
+pub within_same : (steps : Steps) (new old : ℕ → ℕ) → ((k : ℕ) → new k ≡ old k) → IsWithin steps old → IsWithin steps new
+within_same [] new old h w = tt
+within_same (s ∷ lower) new old h w = (omega (arith, held_same (s ∷ lower) new old h, w.0), within_same lower new old h w.1)
+
 -- ---- fewer seats
 
 pub held_less : (steps : Steps) (new old : ℕ → ℕ) → ((k : ℕ) → new k ≤ old k) → held_from new steps ≤ held_from old steps

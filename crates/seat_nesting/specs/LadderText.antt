@@ -1,5 +1,5 @@
--- The text of a ladder: entries as F010/000, with single blanks between them.
-use Rattle.std.specs.Prelude.{◌≡◌, ℕ, ◌+◌, ◌*◌, ◌-◌, ◌/◌, ◌%◌, ◌<◌, ◌≤◌, ◌==◌, ◌&&◌, IsTrue, if◌then◌else◌, Option, Some, None, option_map, Result, Ok, Err, List, [], ◌∷◌, ◌++◌, length}
+-- The text of a ladder: entries as F010/000, or F010/000N with the mark, with single blanks between them.
+use Rattle.std.specs.Prelude.{◌≡◌, ℕ, ◌+◌, ◌*◌, ◌-◌, ◌/◌, ◌%◌, ◌<◌, ◌≤◌, ◌==◌, ◌&&◌, IsTrue, Bool, true, false, if◌then◌else◌, Option, Some, None, option_map, Result, Ok, Err, List, [], ◌∷◌, ◌++◌, length}
 use Rattle.std.specs.Char.{is_ascii_uppercase, is_ascii_digit}
 use Rattle.std.specs.List.{AllByRecursion}
 use Rattle.seat_nesting.specs.Nesting.{Steps}
@@ -15,9 +15,14 @@ use Rattle.seat_nesting.specs.declared.limit_fault.LimitKind.TheVariants.{Entry,
 abbrev pub three_digits : ℕ → List ℕ
 three_digits n = (48 + n / 100) ∷ (48 + n / 10 % 10) ∷ (48 + n % 10) ∷ []
 
--- a class letter, three digits of limit, a stroke, three digits of wait
+-- N where a need is listed
+abbrev pub mark_text : Bool → List ℕ
+mark_text true = 78 ∷ []
+mark_text false = []
+
+-- a class letter, three digits of limit, a stroke, three digits of wait, and the mark
 abbrev pub entry_text : Step → List ℕ
-entry_text s = s.class ∷ (three_digits s.limit ++ 47 ∷ three_digits s.wait)
+entry_text s = s.class ∷ (three_digits s.limit ++ 47 ∷ (three_digits s.wait ++ mark_text s.listed))
 
 -- the entries with single blanks between them
 abbrev pub ladder_text : Steps → List ℕ
@@ -50,19 +55,24 @@ abbrev pub three_in : ℕ → ℕ → ℕ → Option ℕ
 three_in a b c =
     if is_ascii_digit a && is_ascii_digit b && is_ascii_digit c then Some ((a - 48) * 100 + (b - 48) * 10 + (c - 48)) else None
 
-abbrev pub step_in : ℕ → Option ℕ → Option ℕ → Option Step
-step_in class None wait = None
-step_in class (Some limit) None = None
-step_in class (Some limit) (Some wait) =
-    if is_ascii_uppercase class then Some (record { class = class; limit = limit; wait = wait }) else None
+abbrev pub step_in : ℕ → Option ℕ → Option ℕ → Bool → Option Step
+step_in class None wait listed = None
+step_in class (Some limit) None listed = None
+step_in class (Some limit) (Some wait) listed =
+    if is_ascii_uppercase class then Some (record { class = class; limit = limit; wait = wait; listed = listed }) else None
 
--- the step that eight bytes write
-abbrev pub entry_in : ℕ → ℕ → ℕ → ℕ → ℕ → ℕ → ℕ → ℕ → Option Step
-entry_in class a b c stroke d e f = if stroke == 47 then step_in class (three_in a b c) (three_in d e f) else None
+-- the step that eight bytes write, with the mark or without it
+abbrev pub entry_in : ℕ → ℕ → ℕ → ℕ → ℕ → ℕ → ℕ → ℕ → Bool → Option Step
+entry_in class a b c stroke d e f listed = if stroke == 47 then step_in class (three_in a b c) (three_in d e f) listed else None
+
+-- whether the mark stands at the front, and what follows it
+abbrev pub mark_at : List ℕ → Bool × List ℕ
+mark_at [] = (false, [])
+mark_at (c ∷ rest) = if c == 78 then (true, rest) else (false, c ∷ rest)
 
 -- a step at the front, and what follows it
 abbrev pub entry_at : List ℕ → Option (Step × List ℕ)
-entry_at (a ∷ b ∷ c ∷ d ∷ e ∷ f ∷ g ∷ h ∷ rest) = option_map (λ s. (s, rest)) (entry_in a b c d e f g h)
+entry_at (a ∷ b ∷ c ∷ d ∷ e ∷ f ∷ g ∷ h ∷ rest) = option_map (λ s. (s, (mark_at rest).1)) (entry_in a b c d e f g h (mark_at rest).0)
 entry_at _ = None
 
 abbrev pub with_entry : Option Step → Option Steps → Option Steps
@@ -72,8 +82,12 @@ with_entry (Some s) (Some lower) = Some (s ∷ lower)
 
 -- the steps of one entry or more
 unfoldable pub steps_in : List ℕ → Option Steps
-steps_in (a ∷ b ∷ c ∷ d ∷ e ∷ f ∷ g ∷ h ∷ []) = with_entry (entry_in a b c d e f g h) (Some [])
-steps_in (a ∷ b ∷ c ∷ d ∷ e ∷ f ∷ g ∷ h ∷ i ∷ rest) = with_entry (entry_in a b c d e f g h) (if i == 32 then steps_in rest else None)
+steps_in (a ∷ b ∷ c ∷ d ∷ e ∷ f ∷ g ∷ h ∷ []) = with_entry (entry_in a b c d e f g h false) (Some [])
+steps_in (a ∷ b ∷ c ∷ d ∷ e ∷ f ∷ g ∷ h ∷ i ∷ []) = with_entry (entry_in a b c d e f g h true) (if i == 78 then Some [] else None)
+steps_in (a ∷ b ∷ c ∷ d ∷ e ∷ f ∷ g ∷ h ∷ i ∷ j ∷ rest) =
+    if i == 78
+    then with_entry (entry_in a b c d e f g h true) (if j == 32 then steps_in rest else None)
+    else with_entry (entry_in a b c d e f g h false) (if i == 32 then steps_in (j ∷ rest) else None)
 steps_in _ = None
 
 abbrev pub ladder_or : Steps → Option LadderFault → Result Steps LimitKind

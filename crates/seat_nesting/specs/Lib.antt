@@ -1,4 +1,6 @@
 pub mod Authorised
+pub mod ChangeRows
+pub mod Changing
 pub mod Counting
 pub mod FaultText
 pub mod LadderText
@@ -6,3 +8,4 @@ pub mod Ladders
 pub mod LimitRows
 pub mod Nesting
 pub mod RowFields
+pub mod RowTexts

@@ -1,5 +1,5 @@
 -- Limit rows: their grammar, and their reading with the first fault.
-use Rattle.std.specs.Prelude.{◌≡◌, ℕ, ◌+◌, ◌≤◌, nat_le, IsTrue, List, [], ◌∷◌, ◌++◌, length, IfSome, Result, Ok, Err, IsOk, codes}
+use Rattle.std.specs.Prelude.{◌≡◌, ℕ, ◌≤◌, nat_le, IsTrue, List, [], ◌∷◌, ◌++◌, IfSome, Result, Ok, codes}
 use Rattle.std.specs.Char.{is_ascii_uppercase}
 use Rattle.std.specs.Str.Lines.{lines}
 use Rattle.ssim_records.specs.Names.{is_airline, is_station}
@@ -9,6 +9,7 @@ use Rattle.ssim_records.specs.Chains.{◌>>=◌, want, check}
 use Rattle.ssim_records.specs.Fields.{byte_at, word_at, fixed_at, numeral_at, IsNumberText, suffix_text}
 use Rattle.seat_nesting.specs.LadderText.{SpellsSteps, ladder_in}
 use Rattle.seat_nesting.specs.RowFields.{suffix_at, date_at}
+use Rattle.seat_nesting.specs.RowTexts.{Reading, each_row, WantsRowRoom}
 use Rattle.seat_nesting.specs.declared.limit_row.LimitRow.{LimitRow}
 use Rattle.seat_nesting.specs.declared.limit_fault.LimitFault.{LimitFault}
 use Rattle.seat_nesting.specs.declared.limit_fault.LimitKind.{LimitKind}
@@ -74,42 +75,14 @@ row_at line = do
     ladder = ladder;
   })
 
-abbrev pub row_then : ℕ → Result LimitRow LimitKind → Result (List LimitRow) LimitFault → Result (List LimitRow) LimitFault
-row_then n (Err kind) rest = Err (record { line = n; kind = kind })
-row_then n (Ok row) (Err fault) = Err fault
-row_then n (Ok row) (Ok rows) = Ok (row ∷ rows)
+-- a row says nothing of its line's number
+abbrev pub numbered : Reading LimitRow
+numbered n = row_at
 
 -- the rows of the lines, which are counted from n, or the first line with a fault and its first fault
 unfoldable pub rows_in : ℕ → List (List ℕ) → Result (List LimitRow) LimitFault
-rows_in n [] = Ok []
-rows_in n ([] ∷ texts) = rows_in (n + 1) texts
-rows_in n ((c ∷ text) ∷ texts) = row_then n (row_at (c ∷ text)) (rows_in (n + 1) texts)
+rows_in n texts = each_row numbered n texts
 
 -- the lines before this one have no fault, and this one spells a row, for which room is wanted
-pub record WantsRoom (bytes : List ℕ) (line : ℕ) : Type 0 where
-  pub front : List (List ℕ)
-  pub here : List ℕ
-  pub behind : List (List ℕ)
-  pub cut : lines bytes ≡ front ++ here ∷ behind
-  pub counted : length front + 1 ≡ line
-  pub right : IsOk (rows_in 1 front)
-  pub row : IsOk (row_at here)
-
--- ---- line by line
-
--- a row more
-pub record AddsRow (text : List ℕ) (old new : List LimitRow) : Type 0 where
-  pub row : LimitRow
-  pub read : row_at text ≡ Ok row
-  pub added : new ≡ old ++ row ∷ []
-
--- an empty line adds nothing, every other one its row
-abbrev pub TakesLine : List ℕ → List LimitRow → List LimitRow → Type 0
-TakesLine [] old new = new ≡ old
-TakesLine (c ∷ text) old new = AddsRow (c ∷ text) old new
-
--- why a line is not taken: its first fault, or want of memory for its row
-abbrev pub IsStop : List ℕ → LimitKind → Type 0
-IsStop [] kind = ⊥
-IsStop (c ∷ text) kinds.Memory = IsOk (row_at (c ∷ text))
-IsStop (c ∷ text) kind = row_at (c ∷ text) ≡ Err kind
+abbrev pub WantsRoom : List ℕ → ℕ → Type 0
+WantsRoom bytes line = WantsRowRoom numbered bytes line

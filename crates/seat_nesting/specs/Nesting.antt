@@ -127,8 +127,17 @@ abbrev pub each_leg : (ℕ → Bool) → ℕ → ℕ → Bool
 each_leg p from zero = p from
 each_leg p from (suc n) = each_leg p from n && p (from + suc n)
 
+-- the class stands on a leg with the mark
+abbrev pub is_listed_on : Steps → ℕ → Bool
+is_listed_on [] class = false
+is_listed_on (s ∷ lower) class = (if s.class == class then s.listed else is_listed_on lower class)
+
 -- n seats more may wait on each leg of the place
 abbrev pub may_wait : Legs → Table → Place → ℕ → ℕ → Bool
 may_wait grid waiting place class n =
     nat_le place.from place.to
     && each_leg (λ leg. may_wait_on (ladder_at grid place.flight leg) (waiting place.flight leg) class n) place.from (place.to - place.from)
+
+-- each leg of the place has the class with the mark
+abbrev pub is_listed : Legs → Place → ℕ → Bool
+is_listed grid place class = nat_le place.from place.to && each_leg (λ leg. is_listed_on (ladder_at grid place.flight leg) class) place.from (place.to - place.from)

@@ -1,4 +1,4 @@
--- The fields that limit rows alone have.
+-- The fields that limit rows and change rows alone have.
 use Rattle.std.specs.Prelude.{ℕ, if◌then◌else◌, List, [], ◌∷◌, take, drop, Option, Some, None, option_map}
 use Rattle.std.specs.Char.{is_ascii_uppercase}
 use Rattle.ssim_records.specs.Days.{date_in}

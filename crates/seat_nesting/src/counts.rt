@@ -1,9 +1,11 @@
 //! The seats that are held on each leg of a grid, by rank: what a step and a look need of the bookings.
-ghost use Rattle.std.specs.Prelude.{◌≡◌, ◌≤◌, ℕ, IfOk, IfSome, IfNone, IsTrue, map};
-ghost use Rattle.seat_nesting.specs.Nesting.{ladder_at, room, room_on};
+ghost use Rattle.std.specs.Prelude.{◌≡◌, ◌≤◌, ◌↔◌, ℕ, [], length, IfOk, IfSome, IfNone, IsTrue, map};
+ghost use Rattle.seat_nesting.specs.Nesting.{Fits, ladder_at, room, room_on};
 ghost use Rattle.seat_nesting.specs.Counting.{limits_of, seats_of, holds, leg_holds, Takes, Gives, OneLegChanges, FlightChanges, plus, less, IsWithinLimits, IsFresh, leg_in, leg_at, no_leg, seats_on};
+ghost use Rattle.seat_nesting.specs.Changing.{can_set, may_have, step_of, Sets, FlightSets};
 
 use crate::grid::{FlightLegs, Grid, copy_of};
+use crate::ladder::{Ladder, Step};
 use crate::leg_counts::LegCounts;
 use ssim_records::{Class, Memory, Place};
 use std::alloc::Global;
@@ -52,6 +54,16 @@ impl Counts {
             flights.push(FlightCounts::new(alloc, legs)?)?;
         }
         Ok(Counts { flights })
+    }
+
+    /// Whether the flight and both legs are there, the second not before the first.
+    pub fn fits(&self, place: Place) -> bool
+        ensures { IsTrue result ↔ Fits (limits_of self.now) place }
+    {
+        match self.flights.get(place.flight as usize) {
+            Some(legs) => { place.from <= place.to && usize::from(place.to) < legs.len() }
+            None => false,
+        }
     }
 
     /// The seats that are left on a place in a class; 0 where the place does not fit, or a leg lacks the class.
@@ -109,6 +121,40 @@ impl Counts {
         }
     }
 
+    /// The limits of a leg now, where it has any.
+    pub fn ladder(&self, flight: u32, leg: u8) -> Option<&Ladder>
+        ensures found { IfSome result (λ l. l.now ≡ ladder_at (limits_of self.now) flight leg) }
+        ensures none { IfNone result (ladder_at (limits_of self.now) flight leg ≡ []) }
+    {
+        self.leg(flight, leg)?.ladder()
+    }
+
+    /// The limit and the wait of a class on a leg now, where the leg has the class.
+    pub fn step(&self, flight: u32, leg: u8, class: Class) -> Option<Step>
+        ensures { result ≡ step_of (ladder_at (limits_of self.now) flight leg) class }
+    {
+        self.leg(flight, leg)?.step(class)
+    }
+
+    /// Whether a class of a leg may have this limit and wait: each is at most 999, the leg has the
+    /// class, the limits stay in order, and no more seats are held in the class and below.
+    pub fn can_set(&self, flight: u32, leg: u8, class: Class, limit: u16, wait: u16) -> bool
+        ensures { result ≡ can_set (limits_of self.now) (seats_of self.now) flight leg class limit wait }
+    {
+        wait <= 999 && self.may_have(flight, leg, class, limit)
+    }
+
+    /// A class of a leg has this limit and wait from now on.
+    pub fn set(&mut self, flight: u32, leg: u8, class: Class, limit: u16, wait: u16)
+        requires { IsTrue (can_set (limits_of self.old) (seats_of self.old) flight leg class limit wait) }
+        ensures { Sets self.old self.new flight leg class limit wait }
+    {
+        let Some(counts) = self.flights.get_mut(flight as usize) else {
+            return;
+        };
+        counts.set(usize::from(leg), class, limit, wait);
+    }
+
     /// No leg holds more than a limit.
     pub fn limits_are_kept(&self)
         ensures { IsWithinLimits self.now }
@@ -140,6 +186,15 @@ impl Counts {
     {
         match self.leg(flight, leg) {
             Some(counts) => counts.holds(class, seats),
+            None => false,
+        }
+    }
+
+    fn may_have(&self, flight: u32, leg: u8, class: Class, limit: u16) -> bool
+        ensures { result ≡ may_have (ladder_at (limits_of self.now) flight leg) (seats_of self.now flight leg) class limit }
+    {
+        match self.leg(flight, leg) {
+            Some(counts) => counts.may_have(class, limit),
             None => false,
         }
     }
@@ -177,6 +232,12 @@ impl FlightCounts {
         Ok(FlightCounts { legs: counts })
     }
 
+    fn len(&self) -> usize
+        ensures { result ≡ length self.now }
+    {
+        self.legs.len()
+    }
+
     fn take(&mut self, leg: usize, class: Class, seats: u16)
         requires { seats ≤ room_on (leg_in self.old leg).steps (seats_on (leg_in self.old leg)) class }
         ensures { FlightChanges plus self.old self.new leg class seats }
@@ -195,5 +256,16 @@ impl FlightCounts {
             return;
         };
         counts.give(class, seats);
+    }
+
+    fn set(&mut self, leg: usize, class: Class, limit: u16, wait: u16)
+        requires may { IsTrue (may_have (leg_in self.old leg).steps (seats_on (leg_in self.old leg)) class limit) }
+        requires wait { wait ≤ 999 }
+        ensures { FlightSets self.old self.new leg class limit wait }
+    {
+        let Some(counts) = self.legs.get_mut(leg) else {
+            return;
+        };
+        counts.set(class, limit, wait);
     }
 }

@@ -1,6 +1,7 @@
 //! The ladder of each leg of each dated flight.
 ghost use Rattle.std.specs.Prelude.{◌≡◌, ◌≤◌, ℕ, length, [], ◌∷◌, IfOk, IfSome, IfNone, IsTrue, map, option_map, ◌↔◌};
 ghost use Rattle.seat_nesting.specs.Nesting.{Fits, ladder_at, IsDistinct, HasLadders, steps_at, steps_of};
+ghost use Rattle.seat_nesting.specs.Changing.{FitsLimit};
 ghost use Rattle.seat_nesting.specs.Authorised.{authorised_grid, authorised_legs, IsRowIndex};
 
 use crate::ladder::{Ladder, Step};
@@ -98,6 +99,16 @@ impl Grid {
     {
         match self.flights.get(place.flight as usize) {
             Some(legs) => { place.from <= place.to && usize::from(place.to) < legs.len() }
+            None => false,
+        }
+    }
+
+    /// Whether the flight and the leg are there, and limit and wait are at most 999.
+    pub fn fits_limit(&self, flight: u32, leg: u8, limit: u16, wait: u16) -> bool
+        ensures { IsTrue result ↔ FitsLimit self.now flight leg limit wait }
+    {
+        match self.flights.get(flight as usize) {
+            Some(legs) => usize::from(leg) < legs.len() && limit <= 999 && wait <= 999,
             None => false,
         }
     }

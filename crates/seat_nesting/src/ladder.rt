@@ -1,21 +1,25 @@
 //! Ladders of nested booking limits.
-ghost use Rattle.std.specs.Prelude.{◌≡◌, ◌≤◌, ◌↔◌, IfNone, IfOk, IsOk, length};
+ghost use Rattle.std.specs.Prelude.{◌≡◌, ◌≤◌, ◌==◌, ◌↔◌, IfNone, IfOk, IsOk, length};
 ghost use Rattle.std.specs.Bool.{OnFalse};
+ghost use Rattle.std.specs.List.{position};
 ghost use Rattle.std.specs.Result.{result_err};
 ghost use Rattle.seat_nesting.specs.Nesting.{IsLadder, HasLetters, has_class};
 ghost use Rattle.seat_nesting.specs.Ladders.{ladder_fault, repeats_class, is_below_next, is_rising, is_too_large};
+ghost use Rattle.seat_nesting.specs.Changing.{with_limit};
 
 use arrayvec::ArrayVec;
 use ssim_records::Class;
 use std::fmt;
 use std::marker::Model;
 
-/// A class, how many seats may be held in it and below, and how many may wait in it.
+/// A class, how many seats may be held in it and below, how many may wait in it, and whether a
+/// need that finds no room is listed.
 #[derive(Clone, Copy, Debug, PartialEq, Eq)]
 pub struct Step {
     pub class: Class,
     pub limit: u16,
     pub wait: u16,
+    pub listed: bool,
 }
 
 impl Default for Step {
@@ -24,6 +28,7 @@ impl Default for Step {
             class: Class::new(b'A').unwrap(),
             limit: 0,
             wait: 0,
+            listed: false,
         }
     }
 }
@@ -100,6 +105,22 @@ impl Ladder {
         ensures ladder { IsLadder self.now }
     {
         self.steps.as_slice()
+    }
+
+    /// The class has this limit and wait from now on, and keeps its mark.
+    pub(crate) fn set(&mut self, class: Class, limit: u16, wait: u16)
+        requires { IsLadder (with_limit self.old class limit wait) }
+        ensures { self.new ≡ with_limit self.old class limit wait }
+    {
+        if let Some(rank) = rank_of(self.steps.as_slice(), class) {
+            let listed = self.steps[rank].listed;
+            self.steps[rank] = Step {
+                class,
+                limit,
+                wait,
+                listed,
+            };
+        }
     }
 
     /// The same ladder once more.
@@ -188,6 +209,13 @@ fn is_below_next(limit: u16, lower: &[Step]) -> bool
         [next, ..] => limit < next.limit,
         [] => false,
     }
+}
+
+/// The rank of a class, counted from 0.
+pub(crate) fn rank_of(steps: &[Step], class: Class) -> Option<usize>
+    ensures { result ≡ position (λ s. class == s.class) steps.now }
+{
+    steps.iter().position(|step| class == step.class)
 }
 
 fn is_too_large(steps: &[Step]) -> bool

@@ -1,7 +1,7 @@
-//! Ladders as text: entries as `F010/000`, with single blanks between them.
-ghost use Rattle.std.specs.Prelude.{◌≡◌, ◌≤◌, ◌+◌, ◌*◌, ◌<◌, IfErr, IfOk, IfSome, IsTrue, is_some, length, option_map, Ok, Err};
+//! Ladders as text: entries as `F010/000`, or `F010/000N` with the mark, with single blanks between them.
+ghost use Rattle.std.specs.Prelude.{◌≡◌, ◌≤◌, ◌+◌, ◌*◌, ◌<◌, ℕ, Bool, List, IfErr, IfOk, IfSome, IsTrue, is_some, length, option_map, Ok, Err};
 ghost use Rattle.seat_nesting.specs.Nesting.{Steps, IsLadder};
-ghost use Rattle.seat_nesting.specs.LadderText.{SpellsSteps, IsLadderRefusal, three_in, entry_at, steps_in, ladder_in};
+ghost use Rattle.seat_nesting.specs.LadderText.{SpellsSteps, IsLadderRefusal, three_in, mark_at, entry_at, steps_in, ladder_in};
 
 use crate::ladder::{Ladder, LadderFault, Step};
 use crate::limit_fault::LimitKind;
@@ -9,10 +9,10 @@ use arrayvec::ArrayVec;
 use ssim_records::Class;
 use ssim_records::fields::byte_of;
 
-/// 26 entries of eight bytes, and the 25 blanks between them.
-const LONGEST: usize = 233;
+/// 26 entries of nine bytes, and the 25 blanks between them.
+const LONGEST: usize = 259;
 
-/// The ladder that a text spells, as `F112/004 Y100/010`: [`LimitKind::Entry`] where it is no
+/// The ladder that a text spells, as `F112/004 Y100/010N`: [`LimitKind::Entry`] where it is no
 /// list of entries, and else [`LimitKind::Ladder`] with the first fault of its steps.
 pub fn read_ladder(text: &[u8]) -> Result<Ladder, LimitKind>
     // What is read is spelled so.
@@ -45,7 +45,7 @@ pub(crate) fn ladder_of(text: &[u8]) -> Result<Ladder, LimitKind>
 /// Why a text that is longer than a ladder's is none: more than 26 entries repeat a class.
 #[tactic(auto, using(crate::proofs::LadderLaws::long_text))]
 fn fault_of_long(text: &[u8]) -> LimitKind
-    requires { 233 < length text.now }
+    requires { 259 < length text.now }
     ensures { ladder_in text.now ≡ Err result }
 {
     if are_entries(text) {
@@ -73,10 +73,10 @@ fn are_entries(text: &[u8]) -> bool
     false
 }
 
-/// The steps of a text of at most 26 entries.
+/// The steps of a text that is no longer than 26 entries with the mark: at most 28.
 #[tactic(auto, using(crate::proofs::LadderTexts::one_entry, crate::proofs::LadderTexts::last_entry, crate::proofs::LadderTexts::bad_entry, crate::proofs::LadderTexts::no_entry, crate::proofs::LadderTexts::entry_length, crate::proofs::LadderTexts::blank_length))]
-fn steps_of(text: &[u8]) -> Option<ArrayVec<Step, 26>>
-    requires { length text.now ≤ 233 }
+fn steps_of(text: &[u8]) -> Option<ArrayVec<Step, 28>>
+    requires { length text.now ≤ 259 }
     ensures { option_map (λ v. v.items) result ≡ steps_in text.now }
 {
     let mut steps = ArrayVec::new();
@@ -94,8 +94,8 @@ fn steps_of(text: &[u8]) -> Option<ArrayVec<Step, 26>>
     None
 }
 
-/// The step that the first eight bytes write, and what follows them.
-fn entry_of(bytes: &[u8]) -> Option<(Step, &[u8])>
+/// The step that the first eight bytes write, or nine with the mark, and what follows them.
+pub(crate) fn entry_of(bytes: &[u8]) -> Option<(Step, &[u8])>
     ensures { option_map (λ x. (x.0, x.1.now)) result ≡ entry_at bytes.now }
 {
     match bytes {
@@ -103,9 +103,26 @@ fn entry_of(bytes: &[u8]) -> Option<(Step, &[u8])>
             let limit = three_of(*a, *b, *c)?;
             let wait = three_of(*d, *e, *f)?;
             let class = Class::new(*class)?;
-            Some((Step { class, limit, wait }, rest))
+            let (listed, rest) = mark_of(rest);
+            let step = Step {
+                class,
+                limit,
+                wait,
+                listed,
+            };
+            Some((step, rest))
         }
         _ => None,
+    }
+}
+
+/// Whether the mark stands at the front, and what follows it.
+fn mark_of(bytes: &[u8]) -> (bool, &[u8])
+    ensures { ◌≡◌ {A = Bool × List ℕ} (result.0, result.1.now) (mark_at bytes.now) }
+{
+    match bytes {
+        [b'N', rest @ ..] => (true, rest),
+        _ => (false, bytes),
     }
 }
 

@@ -1,10 +1,10 @@
 //! The seats that are held on one leg, by rank.
-ghost use Rattle.std.specs.Prelude.{◌≡◌, ◌≤◌, ◌<◌, ◌==◌, ℕ, false, length, IfSome, IfNone};
-ghost use Rattle.std.specs.List.{position};
-ghost use Rattle.seat_nesting.specs.Nesting.{room_on, steps_of, has_class, IsLegLadder};
+ghost use Rattle.std.specs.Prelude.{◌≡◌, ◌≤◌, ◌<◌, ◌+◌, ◌&&◌, nat_le, ℕ, false, IsTrue, [], length, drop, IfSome, IfNone};
+ghost use Rattle.seat_nesting.specs.Nesting.{room_on, held_from, steps_of, has_class, IsLegLadder};
 ghost use Rattle.seat_nesting.specs.Counting.{IsKept, IsRank, LegChanges, plus, less, leg_holds, seats_on};
+ghost use Rattle.seat_nesting.specs.Changing.{LegSets, limit_above, may_have, step_of, top_of};
 
-use crate::ladder::{Ladder, Step};
+use crate::ladder::{Ladder, Step, rank_of};
 use ssim_records::Class;
 use std::marker::Model;
 
@@ -100,13 +100,67 @@ impl LegCounts {
         }
     }
 
+    /// The ladder of the leg, where it has one.
+    pub fn ladder(&self) -> Option<&Ladder>
+        ensures found { IfSome result (λ l. l.now ≡ self.now.steps) }
+        ensures none { IfNone result (self.now.steps ≡ []) }
+    {
+        self.ladder.as_ref()
+    }
+
+    /// The limit and the wait of a class, where the leg has it.
+    pub fn step(&self, class: Class) -> Option<Step>
+        ensures { result ≡ step_of self.now.steps class }
+    {
+        let rank = self.rank_of(class)?;
+        Some(self.steps()[rank])
+    }
+
+    /// Whether the leg has the class, and its limit may be this one: in order among the ranks, and
+    /// not below the seats that are held.
+    pub fn may_have(&self, class: Class, limit: u16) -> bool
+        ensures { result ≡ may_have self.now.steps (seats_on self.now) class limit }
+    {
+        match self.rank_of(class) {
+            Some(rank) => is_between(self.steps(), rank, limit) && self.held_from(rank) <= limit,
+            None => false,
+        }
+    }
+
+    /// The class has this limit and wait from now on.
+    pub fn set(&mut self, class: Class, limit: u16, wait: u16)
+        requires may { IsTrue (may_have self.old.steps (seats_on self.old) class limit) }
+        requires wait { wait ≤ 999 }
+        ensures { LegSets self.old self.new class limit wait }
+    {
+        let Some(ladder) = &mut self.ladder else {
+            return;
+        };
+        ladder.set(class, limit, wait);
+    }
+
+    /// The seats that are held in a rank and below.
+    fn held_from(&self, rank: usize) -> u16
+        requires { rank < length self.now.steps }
+        ensures { result ≡ held_from (seats_on self.now) (drop rank self.now.steps) }
+    {
+        let steps = self.steps();
+        let mut held = 0u16;
+        let mut at = steps.len();
+        while at > rank {
+            at -= 1;
+            held += self.held[at];
+        }
+        held
+    }
+
     /// The rank of a class, counted from 0.
     fn rank_of(&self, class: Class) -> Option<usize>
         ensures found { IfSome result (IsRank self.now.steps class) }
         ensures none { IfNone result (has_class self.now.steps class ≡ false) }
         ensures kept { IsKept self.now }
     {
-        position_of(self.steps(), class)
+        rank_of(self.steps(), class)
     }
 }
 
@@ -121,8 +175,32 @@ fn steps_of(ladder: &Option<Ladder>) -> &[Step]
     }
 }
 
-fn position_of(steps: &[Step], class: Class) -> Option<usize>
-    ensures { result ≡ position (λ s. class == s.class) steps.now }
+/// Whether a limit at this rank is in order: no higher than that of the next higher rank, and no
+/// lower than that of the next lower one.
+fn is_between(steps: &[Step], rank: usize, limit: u16) -> bool
+    requires { rank < length steps.now }
+    ensures { result ≡ (nat_le limit (limit_above 999 steps.now rank) && nat_le (top_of (drop (rank + 1) steps.now)) limit) }
 {
-    steps.iter().position(|step| class == step.class)
+    limit <= limit_above(steps, rank) && top_of(&steps[rank + 1..]) <= limit
+}
+
+/// The limit of the next higher rank; 999 for the highest.
+fn limit_above(steps: &[Step], rank: usize) -> u16
+    requires { rank < length steps.now }
+    ensures { result ≡ limit_above 999 steps.now rank }
+{
+    if rank == 0 {
+        return 999;
+    }
+    steps[rank - 1].limit
+}
+
+/// The highest limit of these steps; 0 where there is none.
+fn top_of(steps: &[Step]) -> u16
+    ensures { result ≡ top_of steps.now }
+{
+    match steps {
+        [step, ..] => step.limit,
+        [] => 0,
+    }
 }

@@ -2,6 +2,8 @@
 //! It knows how many seats a table of held seats leaves, and nothing of bookings or of who holds them.
 #![tactic(auto)]
 
+mod change_reading;
+mod change_row;
 mod counts;
 mod grid;
 mod ladder;
@@ -14,6 +16,8 @@ mod row_fields;
 mod row_index;
 mod row_reading;
 
+pub use change_reading::read_changes;
+pub use change_row::{ChangeRow, ChangeRows};
 pub use counts::Counts;
 pub use grid::Grid;
 pub use ladder::{Ladder, LadderFault, Step};

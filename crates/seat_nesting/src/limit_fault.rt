@@ -1,4 +1,4 @@
-//! What is wrong with limit rows.
+//! What is wrong with limit rows and change rows.
 ghost use Rattle.std.specs.Prelude.{◌≡◌};
 ghost use Rattle.seat_nesting.specs.declared.limit_fault.LimitKind.TheVariants.{Memory as Wanting};
 
@@ -6,18 +6,19 @@ use crate::ladder::LadderFault;
 use ssim_records::Memory;
 use std::fmt;
 
-/// Why a line is no limit row, or a text no ladder: the first fault from left to right.
+/// Why a line is no limit row or no change row, or a text no ladder: the first fault from left to right.
 #[derive(Clone, Copy, Debug, PartialEq, Eq)]
 pub enum LimitKind {
     /// The line does not begin with `AU` and a blank.
     Head,
     /// An airline, a flight number, at most one letter and a blank do not follow.
     Flight,
-    /// Two dates, the second not before the first, each with a blank behind it, do not follow.
+    /// The dates do not follow, each with a blank behind it: two of a limit row, the second not before
+    /// the first, and one of a change row.
     Period,
     /// Six letters do not follow.
     Pair,
-    /// The entries of a ladder do not follow, or one of them is malformed.
+    /// The entries of a ladder, or the one entry of a change row, do not follow, or one of them is malformed.
     Entry,
     /// The entries are no ladder.
     Ladder(LadderFault),

@@ -2,7 +2,8 @@
 ghost use Rattle.std.specs.Prelude.{◌≡◌, ◌≢◌, ◌<◌, ◌^◌, List, length, IfOk, IfErr, Err};
 ghost use Rattle.std.specs.Result.{MatchResult};
 ghost use Rattle.std.specs.Str.Lines.{lines};
-ghost use Rattle.seat_nesting.specs.LimitRows.{IsLimitText, WantsRoom, TakesLine, IsStop, rows_in};
+ghost use Rattle.seat_nesting.specs.RowTexts.{TakesLine, IsStop};
+ghost use Rattle.seat_nesting.specs.LimitRows.{IsLimitText, WantsRoom, row_at, rows_in};
 ghost use Rattle.seat_nesting.specs.declared.limit_row.LimitRow.{LimitRow as Row};
 ghost use Rattle.seat_nesting.specs.declared.limit_fault.LimitKind.TheVariants.{Memory};
 
@@ -40,8 +41,8 @@ pub fn read_limits(alloc: Global, bytes: &[u8]) -> Result<LimitRows, LimitFault>
 
 /// Adds the row of a line, if it is not empty.
 fn take_line(rows: &mut LimitRows, text: &[u8]) -> Result<(), LimitKind>
-    ensures taken { IfOk result (λ _. TakesLine text.now rows.old rows.new) }
-    ensures fault { IfErr result (IsStop text.now) }
+    ensures taken { IfOk result (λ _. TakesLine row_at text.now rows.old rows.new) }
+    ensures fault { IfErr result (IsStop row_at text.now) }
 {
     if text.is_empty() {
         return Ok(());

@@ -1,10 +1,11 @@
 use Rattle.std.proofs.Common.{◌+◌, ◌≤◌, length}
-use Rattle.seat_nesting.proofs.LimitTexts.{IsAt}
+use Rattle.seat_nesting.proofs.RowTexts.{IsAt}
+use Rattle.seat_nesting.specs.LimitRows.{numbered}
 use Rattle.seat_nesting.proofs.limit_reading.read_limits.Given as goal
 
 abbrev pub invariant-loop-rest : goal.invariant-loop-rest
 invariant-loop-rest l = record {
-  at : IsAt l.bytes l.line l.rest l.rows;
+  at : IsAt numbered l.bytes l.line l.rest l.rows;
   counted : l.line + length l.rest ≤ length l.bytes;
 }
 
