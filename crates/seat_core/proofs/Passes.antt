@@ -3,3 +3,4 @@ pub mod Quiet
 pub mod Weights
 pub mod ByTable
 pub mod Undone
+pub mod Changed

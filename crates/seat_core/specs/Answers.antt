@@ -1,5 +1,5 @@
 -- What a line is answered from, and what its answer has of an outcome.
-use Rattle.std.specs.Prelude.{◌≡◌, ℕ, ◌-◌, ◌≤◌, nat_le, List, [], ◌∷◌, length, false, if◌then◌else◌}
+use Rattle.std.specs.Prelude.{◌≡◌, ℕ, ◌-◌, ◌≤◌, nat_le, List, [], ◌∷◌, length, false, IfSome, if◌then◌else◌}
 use Rattle.std.specs.List.{AllByRecursion}
 use Rattle.seat_nesting.specs.Nesting.{Legs, has_class, ladder_at}
 use Rattle.seat_nesting.specs.Counting.{Counted, limits_of, seats_of}
@@ -7,6 +7,9 @@ use Rattle.seat_core.specs.declared.booking.Booking.{Booking}
 use Rattle.seat_core.specs.declared.books.FlightBook.{FlightBook}
 use Rattle.seat_core.specs.declared.reply.Answer.{Answer}
 use Rattle.seat_journal.specs.declared.entry.Advice.{Advice}
+use Rattle.seat_journal.specs.declared.entry.Command.{Command}
+use Rattle.seat_journal.specs.declared.entry.Work.{Work}
+use Rattle.seat_journal.specs.declared.entry.Work.TheVariants.{Seats, Limit}
 use Rattle.seat_core.specs.Bookings.{held}
 use Rattle.seat_core.specs.Books.{book_at, queue_at}
 use Rattle.seat_core.specs.Queues.{queue_of}
@@ -24,6 +27,17 @@ pub record IsFlight (counts : Counted) (books : List FlightBook) (flight : ℕ) 
   pub seats : (leg class : ℕ) → seats_of counts flight leg class ≡ held (book_at books flight) flight leg class
   pub lacks : Lacks (limits_of counts) (book_at books flight)
   pub there : AllByRecursion (λ b. b.place.flight ≡ flight) (book_at books flight)
+
+-- a command may be answered: its flight is as the counters say, its legs stand in order, and it has a seat
+pub record CanAnswer (counts : Counted) (books : List FlightBook) (c : Command) : Type 0 where
+  pub flight : IfSome c.place (λ p. IsFlight counts books p.flight)
+  pub order : IfSome c.place (λ p. p.from ≤ p.to)
+  pub some : 1 ≤ c.seats
+
+-- what a line asks for may be answered
+abbrev pub IsAsked : Counted → List FlightBook → Work → Type 0
+IsAsked counts books (Seats c) = CanAnswer counts books c
+IsAsked counts books (Limit c) = IsFlight counts books c.flight
 
 -- this reply alone
 pub record IsReply (code : List ℕ) (answer : Answer) : Type 0 where

@@ -4,6 +4,8 @@ use Rattle.ssim_records.specs.declared.place.Place.{Place}
 use Rattle.seat_nesting.specs.Nesting.{Legs}
 use Rattle.seat_nesting.specs.Counting.{Counted, limits_of, seats_of}
 use Rattle.seat_journal.specs.declared.entry.Entry.{Entry}
+use Rattle.seat_journal.specs.declared.entry.Work.{Work}
+use Rattle.seat_journal.specs.declared.entry.Work.TheVariants.{Seats, Limit}
 use Rattle.seat_core.specs.declared.booking.Booking.{Booking}
 use Rattle.seat_core.specs.declared.books.FlightBook.{FlightBook}
 use Rattle.seat_core.specs.Bookings.{held}
@@ -34,6 +36,11 @@ abbrev pub book_for : List FlightBook → Option Place → List Booking
 book_for books None = []
 book_for books (Some place) = book_at books place.flight
 
+-- those of a line's flight
+abbrev pub book_of : List FlightBook → Work → List Booking
+book_of books (Seats c) = book_for books c.place
+book_of books (Limit c) = book_at books c.flight
+
 -- there is memory for one more booking in it, held or waiting
 abbrev pub spare_of : FlightBook → Bool
 spare_of book = nat_lt (vec_len book.bookings) (vec_capacity book.bookings) && book.queue.spare
@@ -58,13 +65,12 @@ pub record IsQueued (books : List FlightBook) : Type 0 where
 
 -- the entry was applied to the book of its flight, and to no other
 pub record IsEntered (old new : List FlightBook) (e : Entry) : Type 0 where
-  pub each : (flight : ℕ) → book_at new flight ≡ (if is_on flight e.command.place then applied (book_at old flight) e else book_at old flight)
+  pub each : (flight : ℕ) → book_at new flight ≡ (if is_on flight e.work then applied (book_at old flight) e else book_at old flight)
 
--- the books and the waiting lists are those of the replay, flight by flight; each session's calls are counted, sessions 1 to 8; and each counter, over the limits now, is what the replay holds
-pub record IsKept (opening now : Legs) (cap : ℕ) (journal : List Entry) (books : List FlightBook) (calls : List ℕ) (counts : Counted) : Type 0 where
-  pub lawful : IsLawful opening now cap journal (replay opening journal).bookings
+-- the books and the waiting lists are those of the replay, flight by flight; each session's calls are counted, sessions 1 to 8; and the counters, which know the limits now, hold what the replay holds
+pub record IsKept (opening : Legs) (cap : ℕ) (journal : List Entry) (books : List FlightBook) (calls : List ℕ) (counts : Counted) : Type 0 where
+  pub lawful : IsLawful opening (limits_of counts) cap journal (replay opening journal).bookings
   pub by_flight : (flight : ℕ) → book_at books flight ≡ bookings_on flight (replay opening journal).bookings
   pub by_queue : (flight : ℕ) → queue_at books flight ≡ queue_on flight (replay opening journal).bookings
   pub by_session : (session : ℕ) → session ≤ 8 → slice_index calls session ≡ calls_of journal session
-  pub limits : limits_of counts ≡ now
   pub seats : (flight leg class : ℕ) → seats_of counts flight leg class ≡ held (replay opening journal).bookings flight leg class

@@ -1,11 +1,13 @@
 -- One flight alone: its bookings, the pass over its waiting list, and its part of a journal.
-use Rattle.std.specs.Prelude.{◌≡◌, ◌==◌, ◌&&◌, ℕ, ◌+◌, Bool, true, false, List, [], ◌∷◌, ◌++◌, length, map, take, Option, Some, None, count_by, if◌then◌else◌}
+use Rattle.std.specs.Prelude.{◌≡◌, ◌==◌, ◌&&◌, ℕ, ◌+◌, Bool, true, false, List, [], ◌∷◌, ◌++◌, length, map, take, Option, Some, None, option_map, count_by, if◌then◌else◌}
 use Rattle.std.specs.List.{AllByRecursion}
 use Rattle.ssim_records.specs.declared.place.Place.{Place}
 use Rattle.seat_nesting.specs.Nesting.{Legs, legs_of, room}
 use Rattle.seat_core.specs.declared.booking.Booking.{Booking}
 use Rattle.seat_journal.specs.declared.entry.Advice.{Advice}
 use Rattle.seat_journal.specs.declared.entry.Entry.{Entry}
+use Rattle.seat_journal.specs.declared.entry.Work.{Work}
+use Rattle.seat_journal.specs.declared.entry.Work.TheVariants.{Seats, Limit}
 use Rattle.seat_core.specs.Bookings.{is_waiting, held}
 use Rattle.seat_core.specs.Sequential.{Passed, pass, may_confirm, confirmed, advice_of, room_left}
 use Rattle.seat_core.specs.Journal.{replay, calls_of, next_line, IsLegal}
@@ -41,14 +43,27 @@ abbrev pub RoomOfFlight : Type 0
 RoomOfFlight = (g h : Legs) (bookings : List Booking) (place : Place) (class : ℕ) → AgreeOn place.flight g h
     → room g (held bookings) place class ≡ room h (held (bookings_on place.flight bookings)) place class
 
--- the place is there, and on the flight
-abbrev pub is_on : ℕ → Option Place → Bool
-is_on flight None = false
-is_on flight (Some place) = place.flight == flight
+-- the place that a line asks for, if it asks for one
+abbrev pub place_of : Work → Option Place
+place_of (Seats c) = c.place
+place_of (Limit c) = None
 
--- the lines whose place is on the flight
+-- the flight of a line: that of its place, or of the leg whose limit it changes
+abbrev pub flight_of : Work → Option ℕ
+flight_of (Seats c) = option_map (λ p. p.flight) c.place
+flight_of (Limit c) = Some c.flight
+
+abbrev pub is_flight : ℕ → Option ℕ → Bool
+is_flight flight None = false
+is_flight flight (Some f) = f == flight
+
+-- the line is on the flight
+abbrev pub is_on : ℕ → Work → Bool
+is_on flight work = is_flight flight (flight_of work)
+
+-- the lines on the flight
 abbrev pub lines_on : ℕ → List Entry → ℕ
-lines_on flight lines = count_by (λ e. is_on flight e.command.place) lines
+lines_on flight lines = count_by (λ e. is_on flight e.work) lines
 
 -- the number of line n of the journal among those of the flight
 abbrev pub number_on : ℕ → List Entry → ℕ → ℕ
@@ -71,11 +86,11 @@ line_anew anew past e = record e {
 abbrev pub part_after : (ℕ → ℕ) → ℕ → List Entry → List Entry → List Entry
 part_after anew flight part [] = part
 part_after anew flight part (e ∷ es) =
-    (if is_on flight e.command.place
+    (if is_on flight e.work
     then part_after anew flight (part ++ line_anew anew part e ∷ []) es
     else part_after anew flight part es)
 
--- the lines whose place is on the flight, in order, with line numbers, calls and booking numbers counted anew from 1
+-- the lines on the flight, changes of its limits among them, in order, with line numbers, calls and booking numbers counted anew from 1
 abbrev pub part_of : ℕ → List Entry → List Entry
 part_of flight journal = part_after (number_on flight journal) flight [] journal
 
@@ -85,33 +100,38 @@ PartIsLegal = (g h : Legs) (journal : List Entry) (flight : ℕ) → AgreeOn fli
 
 -- a line on the flight is answered by the part as by the whole
 abbrev pub LineOfPart : Type 0
-LineOfPart = (g h : Legs) (past : List Entry) (e : Entry) (flight : ℕ) → AgreeOn flight g h → IsLegal g (past ++ e ∷ []) → is_on flight e.command.place ≡ true →
+LineOfPart = (g h : Legs) (past : List Entry) (e : Entry) (flight : ℕ) → AgreeOn flight g h → IsLegal g (past ++ e ∷ []) → is_on flight e.work ≡ true →
     let part = part_of flight past in
-    let line = next_line h part e.session (calls_of part e.session + 1) e.command in
+    let line = next_line h part e.session (calls_of part e.session + 1) e.work in
     (line.reply ≡ e.reply) × (line.released ≡ e.released) × (line.advices ≡ advices_anew (number_on flight (past ++ e ∷ [])) e.advices)
 
--- these lines of the part, and after them the one that this line's command makes, if it is on the flight
+-- these lines of the part, and after them the one that this line's work makes, if it is on the flight
 abbrev pub followed : Legs → ℕ → List Entry → Entry → List Entry
-followed grid flight part e = (if is_on flight e.command.place then part ++ next_line grid part e.session (calls_of part e.session + 1) e.command ∷ [] else part)
+followed grid flight part e = (if is_on flight e.work then part ++ next_line grid part e.session (calls_of part e.session + 1) e.work ∷ [] else part)
 
--- these lines of the part, and after them those that the flight's commands make when they are carried out alone
+-- these lines of the part, and after them those that the flight's lines make when they are carried out alone
 abbrev pub alone : Legs → ℕ → List Entry → List Entry → List Entry
 alone grid flight part [] = part
 alone grid flight part (e ∷ es) =
-    (if is_on flight e.command.place
-    then alone grid flight (part ++ next_line grid part e.session (calls_of part e.session + 1) e.command ∷ []) es
+    (if is_on flight e.work
+    then alone grid flight (part ++ next_line grid part e.session (calls_of part e.session + 1) e.work ∷ []) es
     else alone grid flight part es)
 
--- the part is had by carrying out the flight's commands alone
+-- the part is had by carrying out the flight's lines alone
 abbrev pub PartIsAlone : Type 0
 PartIsAlone = (g h : Legs) (journal : List Entry) (flight : ℕ) → AgreeOn flight g h → IsLegal g journal → part_of flight journal ≡ alone h flight [] journal
 
--- and grows with the journal, by the lines that its own commands make
+-- and grows with the journal, by the lines that its own lines make
 abbrev pub PartGrows : Type 0
 PartGrows = (g h : Legs) (past more : List Entry) (flight : ℕ) → AgreeOn flight g h → IsLegal g (past ++ more)
     → part_of flight (past ++ more) ≡ alone h flight (part_of flight past) more
 
--- and it leaves each place on the flight the room that the whole leaves
+-- and it leaves the flight's limits as the whole leaves them
+abbrev pub PartLeavesLimits : Type 0
+PartLeavesLimits = (g h : Legs) (journal : List Entry) (flight : ℕ) → AgreeOn flight g h → IsLegal g journal
+    → AgreeOn flight (replay g journal).grid (replay h (part_of flight journal)).grid
+
+-- and leaves each place on the flight the room that the whole leaves
 abbrev pub PartLeavesRoom : Type 0
 PartLeavesRoom = (g h : Legs) (journal : List Entry) (place : Place) (class : ℕ) → AgreeOn place.flight g h → IsLegal g journal
     → room_left (replay h (part_of place.flight journal)) place class ≡ room_left (replay g journal) place class

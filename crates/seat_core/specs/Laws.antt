@@ -6,7 +6,7 @@ use Rattle.seat_nesting.specs.Nesting.{Legs, HasLadders, ladder_at, held_from}
 use Rattle.seat_core.specs.declared.booking.Booking.{Booking}
 use Rattle.seat_core.specs.Bookings.{IsSameBooking, held, seats_among}
 use Rattle.seat_core.specs.Totals.{totals_of, seats_held}
-use Rattle.seat_journal.specs.declared.entry.Command.{Command}
+use Rattle.seat_journal.specs.declared.entry.Work.{Work}
 use Rattle.seat_journal.specs.declared.entry.Entry.{Entry}
 use Rattle.seat_core.specs.Sequential.{answer, pass, NoneFits}
 use Rattle.seat_core.specs.Journal.{replay, after, next_line, IsLegal, IsLegalAfter}
@@ -19,8 +19,8 @@ LegalByRecursion = (grid : Legs) (journal : List Entry) → IsLegal grid journal
 
 -- after any step from any replay no waiting booking fits
 abbrev pub NoneFitsAfterAStep : Type 0
-NoneFitsAfterAStep = (grid : Legs) (past : List Entry) (number : ℕ) (command : Command) →
-    let left = (answer (replay grid past) number command).state in
+NoneFitsAfterAStep = (grid : Legs) (past : List Entry) (number : ℕ) (work : Work) →
+    let left = (answer (replay grid past) number work).state in
     NoneFits left.grid left.bookings
 
 -- no replay holds more seats in a rank, counted from 0, and below it than that rank's limit
@@ -51,8 +51,8 @@ ReplayIsNumbered = (grid : Legs) (journal : List Entry) → IsLegal grid journal
 
 -- applying the next line to the bookings is the step
 abbrev pub ApplyingIsTheStep : Type 0
-ApplyingIsTheStep = (grid : Legs) (past : List Entry) (session call : ℕ) (command : Command) → IsLegal grid past →
-    let line = next_line grid past session call command in
+ApplyingIsTheStep = (grid : Legs) (past : List Entry) (session call : ℕ) (work : Work) → IsLegal grid past →
+    let line = next_line grid past session call work in
     applied (replay grid past).bookings line ≡ (after (replay grid past) line).bookings
 
 -- the table of held seats and the bookings in order give the advices of a pass

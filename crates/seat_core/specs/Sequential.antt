@@ -1,21 +1,25 @@
--- The sequential inventory: what a command answers, and the state that it leaves.
+-- The sequential inventory: what a line answers, and the state that it leaves.
 use Rattle.std.specs.Prelude.{◌≡◌, ℕ, ◌-◌, Bool, true, false, ◌&&◌, nat_le, List, [], ◌∷◌, ◌++◌, Option, None, Some, find, codes, if◌then◌else◌}
 use Rattle.std.specs.List.{AllByRecursion}
 use Rattle.ssim_records.specs.declared.place.Place.{Place}
-use Rattle.seat_nesting.specs.Nesting.{Legs, room, may_wait}
+use Rattle.seat_nesting.specs.Nesting.{Legs, room, may_wait, is_listed}
+use Rattle.seat_nesting.specs.Changing.{can_set, limits_with}
 use Rattle.seat_core.specs.declared.booking.Booking.{Booking}
 use Rattle.seat_core.specs.declared.booking.Status.{Status}
 use Rattle.seat_core.specs.declared.booking.Status.TheVariants.{Held, Waiting}
 use Rattle.seat_journal.specs.declared.entry.Advice.{Advice}
+use Rattle.seat_journal.specs.declared.entry.Change.{Change}
 use Rattle.seat_journal.specs.declared.entry.Command.{Command}
+use Rattle.seat_journal.specs.declared.entry.Work.{Work}
+use Rattle.seat_journal.specs.declared.entry.Work.TheVariants.{Seats, Limit}
 use Rattle.seat_core.specs.declared.action.Action.{Action}
-use Rattle.seat_core.specs.declared.action.Action.TheVariants.{Seats, Cancel, Other}
+use Rattle.seat_core.specs.declared.action.Action.TheVariants.{Want, Cancel, Other}
 use Rattle.seat_core.specs.declared.action.Wish.{Wish}
 use Rattle.seat_core.specs.declared.action.Wish.TheVariants.{Need, Sell, Waitlist}
 use Rattle.seat_core.specs.Codes.{action_of}
 use Rattle.seat_core.specs.Bookings.{is_for, is_held, is_waiting, held, waiting}
 
--- what a journal leaves: the limits, and the live bookings in order of number
+-- what a journal leaves: the limits now, and the live bookings in order of number
 pub record State : Type 0 where
   pub grid : Legs
   pub bookings : List Booking
@@ -24,7 +28,7 @@ pub record State : Type 0 where
 abbrev pub state_of : Legs → List Booking → State
 state_of grid bookings = record { grid = grid; bookings = bookings }
 
--- what one command answers
+-- what one line answers
 pub record Outcome : Type 0 where
   pub state : State
   pub reply : List ℕ
@@ -92,15 +96,17 @@ passed grid bookings reply released =
     let after = pass grid [] [] bookings in
     record { state = state_of grid after.bookings; reply = reply; released = released; advices = after.advices }
 
--- NN, SS or LL without such a booking, by whether its seats fit and whether they may wait
-abbrev pub want_new : Wish → State → ℕ → Command → Place → Bool → Bool → Outcome
-want_new Need s number c place true wait = booked s (booking_of number c place Held) (codes "KK")
-want_new Need s number c place false wait = refused s (codes "UC")
-want_new Sell s number c place true wait = booked s (booking_of number c place Held) (codes "KK")
-want_new Sell s number c place false true = booked s (booking_of number c place Waiting) (codes "US")
-want_new Sell s number c place false false = refused s (codes "UC")
-want_new Waitlist s number c place fits true = passed s.grid (s.bookings ++ booking_of number c place Waiting ∷ []) (codes "HL") 0
-want_new Waitlist s number c place fits false = refused s (codes "UC")
+-- NN, SS or LL without such a booking, by whether its seats fit, whether its class has the mark and whether they may wait
+abbrev pub want_new : Wish → State → ℕ → Command → Place → Bool → Bool → Bool → Outcome
+want_new Need s number c place true listed wait = booked s (booking_of number c place Held) (codes "KK")
+want_new Need s number c place false true true = booked s (booking_of number c place Waiting) (codes "UU")
+want_new Need s number c place false true false = refused s (codes "UC")
+want_new Need s number c place false false wait = refused s (codes "UC")
+want_new Sell s number c place true listed wait = booked s (booking_of number c place Held) (codes "KK")
+want_new Sell s number c place false listed true = booked s (booking_of number c place Waiting) (codes "US")
+want_new Sell s number c place false listed false = refused s (codes "UC")
+want_new Waitlist s number c place fits listed true = passed s.grid (s.bookings ++ booking_of number c place Waiting ∷ []) (codes "HL") 0
+want_new Waitlist s number c place fits listed false = refused s (codes "UC")
 
 -- NN, SS or LL, given the live booking of the same locator, place and class
 abbrev pub want : Wish → State → ℕ → Command → Place → Option Booking → Outcome
@@ -108,6 +114,7 @@ want wish s number c place (Some b) = refused s (codes "NO")
 want wish s number c place None =
     want_new wish s number c place
     (nat_le c.seats (room_left s place c.class))
+    (is_listed s.grid place c.class)
     (may_wait s.grid (waiting s.bookings) place c.class c.seats)
 
 -- XX, given that booking
@@ -124,11 +131,24 @@ booking_for s c place = find (is_for c.locator place c.class) s.bookings
 
 abbrev pub answer_to : Action → Option Place → State → ℕ → Command → Outcome
 answer_to Other place s number c = refused s (codes "NO")
-answer_to (Seats wish) None s number c = refused s (codes "UN")
-answer_to (Seats wish) (Some place) s number c = want wish s number c place (booking_for s c place)
+answer_to (Want wish) None s number c = refused s (codes "UN")
+answer_to (Want wish) (Some place) s number c = want wish s number c place (booking_for s c place)
 answer_to Cancel None s number c = refused s (codes "UN")
 answer_to Cancel (Some place) s number c = cancel s c place (booking_for s c place)
 
--- the sequential step: the answer to a command as line `number`
-abbrev pub answer : State → ℕ → Command → Outcome
-answer s number c = answer_to (action_of c.code) c.place s number c
+-- the limits with a change
+abbrev pub changed_by : Legs → Change → Legs
+changed_by grid c = limits_with grid c.flight c.leg c.class c.limit c.wait
+
+-- a change may be made: the leg has the class, and the limit stays in order and is not below what is held
+abbrev pub may_change : State → Change → Bool
+may_change s c = can_set s.grid (held s.bookings) c.flight c.leg c.class c.limit c.wait
+
+-- AU: the limit is set, and a pass follows; or it stays as it is
+abbrev pub set : State → Change → Outcome
+set s c = (if may_change s c then passed (changed_by s.grid c) s.bookings (codes "OK") 0 else refused s (codes "NO"))
+
+-- the sequential step: the answer to what a line asks for, as line `number`
+abbrev pub answer : State → ℕ → Work → Outcome
+answer s number (Seats c) = answer_to (action_of c.code) c.place s number c
+answer s number (Limit c) = set s c

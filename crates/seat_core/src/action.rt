@@ -15,7 +15,7 @@ pub enum Wish {
 /// What the code of a command asks for.
 #[derive(Clone, Copy)]
 pub enum Action {
-    Seats(Wish),
+    Want(Wish),
     Cancel,
     Other,
 }
@@ -25,9 +25,9 @@ pub fn action_of(code: Code) -> Action
     ensures { result ≡ action_of code }
 {
     match code.letters() {
-        [b'N', b'N'] => Action::Seats(Wish::Need),
-        [b'S', b'S'] => Action::Seats(Wish::Sell),
-        [b'L', b'L'] => Action::Seats(Wish::Waitlist),
+        [b'N', b'N'] => Action::Want(Wish::Need),
+        [b'S', b'S'] => Action::Want(Wish::Sell),
+        [b'L', b'L'] => Action::Want(Wish::Waitlist),
         [b'X', b'X'] => Action::Cancel,
         _ => Action::Other,
     }

@@ -1,11 +1,13 @@
 //! The live bookings, flight by flight.
 ghost use Rattle.std.specs.Prelude.{◌≡◌, ◌<◌, ◌+◌, [], true, IfNone, IfSome, OnOk, slice_get, vec_len};
+ghost use Rattle.seat_journal.specs.declared.entry.Work.TheVariants.{Seats, Limit};
+ghost use Rattle.seat_core.specs.Flights.{place_of};
 ghost use Rattle.seat_core.specs.Books.{book_at, has_spare, has_spare_in, queue_at, spare_of, IsEntered, IsQueued, SameBooks};
 
 use crate::booking::Booking;
-use crate::effect::apply;
+use crate::effect::{apply, confirm_all};
 use crate::waiting_list::WaitingList;
-use seat_journal::Entry;
+use seat_journal::{Change, Command, Entry, Work};
 use ssim_records::{Memory, Place};
 use std::alloc::Global;
 
@@ -74,19 +76,52 @@ fn reserve_booking(alloc: Global, books: &mut Vec<FlightBook>, flight: u32) -> R
     books[flight as usize].reserve()
 }
 
-/// Does what an entry tells to the book of its flight, which has room for one more.
-#[tactic(auto, using(crate::proofs::Waitlists::Queue::spare_booking, crate::proofs::Waitlists::Queue::spare_waiting))]
+/// Does what an entry tells to the book of its flight, which has room for one more where it asks for a place.
 pub fn enter(books: &mut Vec<FlightBook>, entry: &Entry)
-    requires spare { has_spare books.old.items entry.now.command.place ≡ true }
+    requires spare { has_spare books.old.items (place_of entry.now.work) ≡ true }
     requires queued { IsQueued books.old.items }
     ensures entered { IsEntered books.old.items books.new.items entry.now }
     ensures queued { IsQueued books.new.items }
 {
-    let Some(place) = entry.command.place else {
+    match entry.work {
+        Work::Seats(command) => enter_command(books, entry, &command),
+        Work::Limit(change) => enter_change(books, entry, change),
+    }
+}
+
+// Does what the entry of a command tells.
+#[tactic(auto, using(crate::proofs::Waitlists::Queue::spare_booking, crate::proofs::Waitlists::Queue::spare_waiting))]
+fn enter_command(books: &mut Vec<FlightBook>, entry: &Entry, command: &Command)
+    requires command { entry.now.work ≡ Seats command.now }
+    requires spare { has_spare books.old.items command.now.place ≡ true }
+    requires queued { IsQueued books.old.items }
+    ensures entered { IsEntered books.old.items books.new.items entry.now }
+    ensures queued { IsQueued books.new.items }
+{
+    let Some(place) = command.place else {
         return;
     };
     let book = &mut books[place.flight as usize];
-    apply(&mut book.bookings, &mut book.queue, entry);
+    apply(&mut book.bookings, &mut book.queue, entry, command);
+}
+
+// Does what the entry of a change tells: its advices alone, where the flight has a book.
+fn enter_change(books: &mut Vec<FlightBook>, entry: &Entry, change: Change)
+    requires change { entry.now.work ≡ Limit change }
+    requires queued { IsQueued books.old.items }
+    ensures entered { IsEntered books.old.items books.new.items entry.now }
+    ensures queued { IsQueued books.new.items }
+{
+    let flight = change.flight as usize;
+    if flight >= books.len() {
+        return;
+    }
+    let book = &mut books[flight];
+    confirm_all(
+        &mut book.bookings,
+        &mut book.queue,
+        entry.advices.as_slice(),
+    );
 }
 
 // Sees to it that a flight has a book.

@@ -1,4 +1,4 @@
-//! The sequential inventory: one journal, the bookings that it leaves, and what each next command is answered.
+//! The sequential inventory: one journal, the bookings that it leaves, and what each next line is answered.
 //! It knows bookings, waiting lists and legal histories, and nothing of threads, of texts or of where commands come from.
 #![tactic(auto)]
 
@@ -6,6 +6,7 @@ mod action;
 mod booking;
 mod bookings;
 mod books;
+mod changes;
 mod demands;
 mod effect;
 mod fault;
@@ -31,10 +32,10 @@ pub use laws::{
     replay_is_numbered, replay_keeps_limits, shown_is_held,
 };
 pub use one_flight::{
-    line_of_part, part_grows, part_is_alone, part_is_legal, part_leaves_bookings, part_leaves_room,
-    pass_of_flight, room_of_flight,
+    line_of_part, part_grows, part_is_alone, part_is_legal, part_leaves_bookings,
+    part_leaves_limits, part_leaves_room, pass_of_flight, room_of_flight,
 };
 pub use replaying::replay;
-pub use seat_journal::{Advice, Advices, Command, Entry};
+pub use seat_journal::{Advice, Advices, Change, Command, Entry, Work};
 pub use showing::show;
 pub use totals::Totals;

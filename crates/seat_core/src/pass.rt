@@ -48,7 +48,7 @@ pub fn advices_after(
 
 /// The advices of the pass over a waiting list. The counters are left as they were.
 #[tactic(auto, using(crate::proofs::Passes::Undone::none_told))]
-fn advices_of(
+pub fn advices_of(
     alloc: Global,
     counts: &mut Counts,
     queue: &WaitingList,

@@ -1,28 +1,30 @@
-//! What a command is answered: the table of replies (AIRIMP codes).
-ghost use Rattle.std.specs.Prelude.{◌≡◌, ◌∷◌, ◌≤◌, [], find, position, slice_get, None, Some, IfOk, IfSome, IsTrue, length, codes, if◌then◌else◌};
+//! What a line is answered: the table of replies to a command (AIRIMP codes).
+ghost use Rattle.std.specs.Prelude.{◌≡◌, ◌∷◌, ◌≤◌, ◌&&◌, [], find, position, slice_get, None, Some, IfOk, IfSome, IsTrue, length, codes, if◌then◌else◌};
 ghost use Rattle.ssim_records.specs.Names.{is_code};
+ghost use Rattle.seat_journal.specs.declared.entry.Work.TheVariants.{Seats};
 ghost use Rattle.seat_nesting.specs.Counting.{limits_of, seats_of};
-ghost use Rattle.seat_nesting.specs.Nesting.{may_wait};
+ghost use Rattle.seat_nesting.specs.Nesting.{is_listed, may_wait};
 ghost use Rattle.seat_core.specs.Bookings.{is_for, waiting};
-ghost use Rattle.seat_core.specs.Books.{book_at, book_for, queue_at};
+ghost use Rattle.seat_core.specs.Books.{book_at, book_for, book_of, queue_at};
 ghost use Rattle.seat_core.specs.Queues.{queue_of};
 ghost use Rattle.seat_core.specs.Sequential.{advice_of, answer, booking_of, cancel, pass, reduced, state_of, want};
 ghost use Rattle.seat_core.specs.declared.booking.Status.TheVariants.{Waiting};
 ghost use Rattle.seat_core.specs.Journal.{line_of};
-ghost use Rattle.seat_core.specs.Answers.{IsFlight, IsReply, Says};
+ghost use Rattle.seat_core.specs.Answers.{IsAsked, IsFlight, IsReply, Says};
 
 use crate::action::{Action, Wish, action_of};
 use crate::booking::Booking;
 use crate::bookings::find_booking;
 use crate::books::{FlightBook, book_at, queue_at};
+use crate::changes::answer_change;
 use crate::pass::{advices_after, advices_of_rest};
-use crate::rooms::may_wait_at;
-use seat_journal::{Advice, Advices, Command, Entry};
-use seat_nesting::{Counts, Grid};
+use crate::rooms::{is_listed_at, may_wait_at};
+use seat_journal::{Advice, Advices, Command, Entry, Work};
+use seat_nesting::Counts;
 use ssim_records::{Code, Memory, Place};
 use std::alloc::Global;
 
-/// What a command was answered.
+/// What a line was answered.
 #[derive(Drop)]
 pub struct Answer {
     pub reply: Code,
@@ -30,52 +32,65 @@ pub struct Answer {
     pub advices: Vec<Advice>,
 }
 
-/// The line that a command makes, answered from the counters and the bookings of its flight. The counters are left as
-/// they were.
+/// The line that a session's work makes, answered from the counters and the bookings of its flight. The counters are
+/// left as they were.
 pub fn make_line(
     alloc: Global,
-    limits: &Grid,
     counts: &mut Counts,
     books: &[FlightBook],
     number: u32,
     session: u8,
     call: u32,
-    command: Command,
+    work: Work,
 ) -> Result<Entry, Memory>
-    requires limits { limits.now ≡ limits_of counts.old }
-    requires flight { IfSome command.place (λ p. IsFlight counts.old books.now p.flight) }
-    requires order { IfSome command.place (λ p. p.from ≤ p.to) }
-    requires some { 1 ≤ command.seats }
-    ensures line { IfOk result (λ line. line ≡ line_of (answer (state_of (limits_of counts.old) (book_for books.now command.place)) number command) number session call command) }
+    requires asked { IsAsked counts.old books.now work }
+    ensures line { IfOk result (λ line. line ≡ line_of (answer (state_of (limits_of counts.old) (book_of books.now work)) number work) number session call work) }
     ensures limits { limits_of counts.new ≡ limits_of counts.old }
     ensures seats { seats_of counts.new ≡ seats_of counts.old }
 {
-    let answer = answer_command(alloc, limits, counts, books, number, &command)?;
+    let answer = answer_work(alloc, counts, books, number, &work)?;
     Ok(Entry {
         number,
         session,
         call,
-        command,
+        work,
         reply: answer.reply,
         released: answer.released,
         advices: Advices::from_vec(answer.advices),
     })
 }
 
+// Answers what line `number` asks for.
+fn answer_work(
+    alloc: Global,
+    counts: &mut Counts,
+    books: &[FlightBook],
+    number: u32,
+    work: &Work,
+) -> Result<Answer, Memory>
+    requires asked { IsAsked counts.old books.now work.now }
+    ensures says { IfOk result (λ a. Says (answer (state_of (limits_of counts.old) (book_of books.now work.now)) number work.now) a) }
+    ensures limits { limits_of counts.new ≡ limits_of counts.old }
+    ensures seats { seats_of counts.new ≡ seats_of counts.old }
+{
+    match work {
+        Work::Seats(command) => answer_command(alloc, counts, books, number, command),
+        Work::Limit(change) => answer_change(alloc, counts, books, change),
+    }
+}
+
 // Answers a command as line `number`.
 fn answer_command(
     alloc: Global,
-    limits: &Grid,
     counts: &mut Counts,
     books: &[FlightBook],
     number: u32,
     command: &Command,
 ) -> Result<Answer, Memory>
-    requires limits { limits.now ≡ limits_of counts.old }
     requires flight { IfSome command.now.place (λ p. IsFlight counts.old books.now p.flight) }
     requires order { IfSome command.now.place (λ p. p.from ≤ p.to) }
     requires some { 1 ≤ command.now.seats }
-    ensures says { IfOk result (λ a. Says (answer (state_of (limits_of counts.old) (book_for books.now command.now.place)) number command.now) a) }
+    ensures says { IfOk result (λ a. Says (answer (state_of (limits_of counts.old) (book_for books.now command.now.place)) number (Seats command.now)) a) }
     ensures limits { limits_of counts.new ≡ limits_of counts.old }
     ensures seats { seats_of counts.new ≡ seats_of counts.old }
 {
@@ -88,8 +103,8 @@ fn answer_command(
     };
     let found = find_booking(book_at(books, place.flight), command, place);
     match action {
-        Action::Seats(wish) => match found {
-            None => book_seats(alloc, limits, counts, books, number, command, place, wish),
+        Action::Want(wish) => match found {
+            None => book_seats(alloc, counts, books, number, command, place, wish),
             Some(_) => Ok(reply(alloc, *b"NO")),
         },
         Action::Cancel => match found {
@@ -103,7 +118,6 @@ fn answer_command(
 /// Answers NN, SS or LL, where there is no booking of the same locator, place and class.
 fn book_seats(
     alloc: Global,
-    limits: &Grid,
     counts: &Counts,
     books: &[FlightBook],
     number: u32,
@@ -111,7 +125,6 @@ fn book_seats(
     place: Place,
     wish: Wish,
 ) -> Result<Answer, Memory>
-    requires limits { limits.now ≡ limits_of counts.now }
     requires flight { IsFlight counts.now books.now place.flight }
     ensures { IfOk result (λ a. Says (want wish (state_of (limits_of counts.now) (book_at books.now place.flight)) number command.now place None) a) }
 {
@@ -121,19 +134,22 @@ fn book_seats(
             if fits {
                 return Ok(reply(alloc, *b"KK"));
             }
+            if may_list(counts, books, command, place) {
+                return Ok(reply(alloc, *b"UU"));
+            }
             Ok(reply(alloc, *b"UC"))
         }
         Wish::Sell => {
             if fits {
                 return Ok(reply(alloc, *b"KK"));
             }
-            if may_queue(limits, books, command, place) {
+            if may_queue(counts, books, command, place) {
                 return Ok(reply(alloc, *b"US"));
             }
             Ok(reply(alloc, *b"UC"))
         }
         Wish::Waitlist => {
-            if !may_queue(limits, books, command, place) {
+            if !may_queue(counts, books, command, place) {
                 return Ok(reply(alloc, *b"UC"));
             }
             let answer = queued(alloc, number, command, place, fits)?;
@@ -142,17 +158,29 @@ fn book_seats(
     }
 }
 
-/// Whether the seats of a command may wait on its flight's waiting list.
-#[tactic(auto, using(crate::proofs::Step::Reply::may_wait_is, crate::proofs::Waitlists::Queue::queue_few))]
-fn may_queue(limits: &Grid, books: &[FlightBook], command: &Command, place: Place) -> bool
+/// Whether a need that finds no room is listed: each leg has the class with the mark, and its seats may wait.
+fn may_list(counts: &Counts, books: &[FlightBook], command: &Command, place: Place) -> bool
     requires few { length (book_at books.now place.flight) ≤ 999999 }
     requires queue { queue_at books.now place.flight ≡ queue_of (book_at books.now place.flight) }
-    ensures { result ≡ may_wait limits.now (waiting (book_at books.now place.flight)) place command.now.class command.now.seats }
+    ensures { result ≡ (is_listed (limits_of counts.now) place command.now.class && may_wait (limits_of counts.now) (waiting (book_at books.now place.flight)) place command.now.class command.now.seats) }
+{
+    if !is_listed_at(counts, place, command.class) {
+        return false;
+    }
+    may_queue(counts, books, command, place)
+}
+
+/// Whether the seats of a command may wait on its flight's waiting list.
+#[tactic(auto, using(crate::proofs::Step::Reply::may_wait_is, crate::proofs::Waitlists::Queue::queue_few))]
+fn may_queue(counts: &Counts, books: &[FlightBook], command: &Command, place: Place) -> bool
+    requires few { length (book_at books.now place.flight) ≤ 999999 }
+    requires queue { queue_at books.now place.flight ≡ queue_of (book_at books.now place.flight) }
+    ensures { result ≡ may_wait (limits_of counts.now) (waiting (book_at books.now place.flight)) place command.now.class command.now.seats }
 {
     let (class, seats) = (command.class, command.seats);
     match queue_at(books, place.flight) {
-        Some(queue) => queue.may_wait(limits, place, class, seats),
-        None => may_wait_at(limits, &[], place, class, seats),
+        Some(queue) => queue.may_wait(counts, place, class, seats),
+        None => may_wait_at(counts, &[], place, class, seats),
     }
 }
 
@@ -243,7 +271,7 @@ fn advices_without(
 }
 
 /// A reply that releases nothing and confirms no waiting booking.
-fn reply(alloc: Global, letters: [u8; 2]) -> Answer
+pub fn reply(alloc: Global, letters: [u8; 2]) -> Answer
     requires { IsTrue (is_code letters) }
     ensures { IsReply letters result }
 {

@@ -1,10 +1,11 @@
-//! Whether more may wait on a leg.
+//! Whether more may wait on a leg, and whether its class has the mark by which a need is listed.
 ghost use Rattle.std.specs.Prelude.{◌≡◌, ◌+◌, nat_le};
+ghost use Rattle.seat_nesting.specs.Counting.{limits_of};
 ghost use Rattle.seat_core.specs.Demands.{waits_of};
-ghost use Rattle.seat_nesting.specs.Nesting.{may_wait, may_wait_on};
+ghost use Rattle.seat_nesting.specs.Nesting.{ladder_at, is_listed, is_listed_on, may_wait, may_wait_on};
 
 use crate::demands::Demand;
-use seat_nesting::{Grid, Step};
+use seat_nesting::{Counts, Step};
 use ssim_records::{Class, Place};
 
 /// Whether so many seats, with those that wait in this class on this leg, are at most `most`.
@@ -50,20 +51,66 @@ pub fn may_wait_on_leg(
 }
 
 /// Whether so many more seats may wait on a place.
-pub fn may_wait_at(grid: &Grid, demands: &[Demand], place: Place, class: Class, seats: u16) -> bool
-    ensures { result ≡ may_wait grid.now (waits_of demands.now) place class seats }
+pub fn may_wait_at(
+    counts: &Counts,
+    demands: &[Demand],
+    place: Place,
+    class: Class,
+    seats: u16,
+) -> bool
+    ensures { result ≡ may_wait (limits_of counts.now) (waits_of demands.now) place class seats }
 {
     let flight = place.flight;
     if place.from > place.to {
         return false;
     }
-    let first = grid.steps(flight, place.from);
+    let first = steps_at(counts, flight, place.from);
     let mut may = may_wait_on_leg(first, demands, flight, place.from, class, seats);
     for leg in place.from..place.to {
         let next = leg + 1;
-        let steps = grid.steps(flight, next);
+        let steps = steps_at(counts, flight, next);
         let here = may_wait_on_leg(steps, demands, flight, next, class, seats);
         may = may && here;
     }
     may
+}
+
+/// Whether the class has the mark on one leg, whose ladder this is.
+fn is_listed_on_leg(steps: &[Step], class: Class) -> bool
+    ensures { result ≡ is_listed_on steps.now class }
+{
+    for step in steps {
+        if step.class == class {
+            return step.listed;
+        }
+    }
+    false
+}
+
+/// Whether each leg of a place has the class with the mark.
+pub fn is_listed_at(counts: &Counts, place: Place, class: Class) -> bool
+    ensures { result ≡ is_listed (limits_of counts.now) place class }
+{
+    let flight = place.flight;
+    if place.from > place.to {
+        return false;
+    }
+    let first = steps_at(counts, flight, place.from);
+    let mut listed = is_listed_on_leg(first, class);
+    for leg in place.from..place.to {
+        let steps = steps_at(counts, flight, leg + 1);
+        let here = is_listed_on_leg(steps, class);
+        listed = listed && here;
+    }
+    listed
+}
+
+/// The limits of a leg now; no step where it has none.
+pub fn steps_at(counts: &Counts, flight: u32, leg: u8) -> &[Step]
+    ensures { result.now ≡ ladder_at (limits_of counts.now) flight leg }
+{
+    match counts.ladder(flight, leg) {
+        Some(ladder) => ladder.steps(),
+        None => &[],
+    }
 }

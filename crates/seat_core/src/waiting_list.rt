@@ -13,7 +13,7 @@ use crate::bookings::{add, find_booking, find_number, take_off};
 use crate::demands::{Demand, are_too_large, join, leave, lessen};
 use crate::rooms::may_wait_at;
 use seat_journal::Command;
-use seat_nesting::{Counts, Grid};
+use seat_nesting::Counts;
 use ssim_records::{Class, Memory, Place};
 use std::alloc::Global;
 use std::marker::Model;
@@ -105,11 +105,11 @@ impl WaitingList {
 
     /// Whether so many more seats may wait on a place.
     #[tactic(auto, using(crate::proofs::Waitlists::Room::may_wait_told))]
-    pub fn may_wait(&self, limits: &Grid, place: Place, class: Class, seats: u16) -> bool
+    pub fn may_wait(&self, counts: &Counts, place: Place, class: Class, seats: u16) -> bool
         requires { length self.now.bookings ≤ 999999 }
-        ensures { result ≡ may_wait limits.now (waiting self.now.bookings) place class seats }
+        ensures { result ≡ may_wait (limits_of counts.now) (waiting self.now.bookings) place class seats }
     {
-        may_wait_at(limits, &self.demands, place, class, seats)
+        may_wait_at(counts, &self.demands, place, class, seats)
     }
 
     /// Whether each has more seats than the counters leave room for.

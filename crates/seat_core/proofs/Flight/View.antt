@@ -3,7 +3,7 @@ use Rattle.std.proofs.Common.{◌≡◌, ◌==◌, ◌&&◌, ℕ, zero, suc, ◌
 use Rattle.std.proofs.lemmas.Bool.Decides.{nat_tests}
 use Rattle.std.proofs.lemmas.List.Sums.{sum_by-cons}
 use Rattle.ssim_records.specs.declared.place.Place.{Place}
-use Rattle.seat_nesting.specs.Nesting.{Legs, Steps, Table, legs_of, room_on, room, least, ladder_at, steps_at, may_wait, may_wait_on, each_leg}
+use Rattle.seat_nesting.specs.Nesting.{Legs, Steps, Table, legs_of, room_on, room, least, ladder_at, steps_at, may_wait, may_wait_on, is_listed, is_listed_on, each_leg}
 use Rattle.seat_core.specs.declared.booking.Booking.{Booking}
 use Rattle.seat_core.specs.declared.booking.Status.{Status}
 use Rattle.seat_core.specs.declared.booking.Status.TheVariants.{Held, Waiting}
@@ -63,6 +63,9 @@ room_agree g h f t p class a e =
 may_wait_agree : (g h : Legs) (f : ℕ) (t : Table) (p : Place) (class n : ℕ) → AgreeOn f g h → p.flight ≡ f → may_wait g t p class n ≡ may_wait h t p class n
 may_wait_agree g h f t p class n a e =
     ap (λ (legs : List Steps). nat_le p.from p.to && each_leg (λ leg. may_wait_on (steps_at legs leg) (t p.flight leg) class n) p.from (p.to - p.from)) (legs_agree g h f p.flight a e)
+
+pub listed_agree : (g h : Legs) (f : ℕ) (p : Place) (class : ℕ) → AgreeOn f g h → p.flight ≡ f → is_listed g p class ≡ is_listed h p class
+listed_agree g h f p class a e = ap (λ (legs : List Steps). nat_le p.from p.to && each_leg (λ leg. is_listed_on (steps_at legs leg) class) p.from (p.to - p.from)) (legs_agree g h f p.flight a e)
 
 -- one booking more, on the flight or not
 pub view_here : (anew : ℕ → ℕ) (f : ℕ) (b : Booking) (bs : List Booking) → (b.place.flight == f) ≡ true → view anew f (b ∷ bs) ≡ renumbered anew b ∷ view anew f bs
@@ -184,7 +187,7 @@ pass_of f grid done told (b ∷ bs) a =
     cases false false e may rest = rw (may, e) (rest b told (let P : List Booking → Type 0 = λ l. NoneElseFits f grid l bs in subst P (sym (append_assoc done (b ∷ []) bs)) a.1))
 
 -- whether a booking on the flight fits is the same over both grids
-may_confirm_agree : (g h : Legs) (f : ℕ) (book : List Booking) (b : Booking) → AgreeOn f g h → (b.place.flight == f) ≡ true → may_confirm g book b ≡ may_confirm h book b
+pub may_confirm_agree : (g h : Legs) (f : ℕ) (book : List Booking) (b : Booking) → AgreeOn f g h → (b.place.flight == f) ≡ true → may_confirm g book b ≡ may_confirm h book b
 may_confirm_agree g h f book b a e =
     let q : b.place.flight ≡ f = grind (arith, nat_tests) in
     ap (λ r. is_waiting b.status && nat_le b.seats r) (room_agree g h f (held book) b.place b.class a q)

@@ -1,19 +1,23 @@
 -- The seats held are those confirmed less those released.
 use Rattle.std.proofs.Common.{◌≡◌, ℕ, ◌+◌, ◌-◌, ◌≤◌, Bool, true, false, List, [], ◌∷◌, ◌++◌, length, Some, find, if◌then◌else◌, arith, refl, ap, sym, subst}
 use Rattle.std.proofs.lemmas.List.Sums.{sum_by_push}
+use Rattle.ssim_records.specs.declared.place.Place.{Place}
 use Rattle.seat_nesting.specs.Nesting.{Legs}
 use Rattle.seat_core.specs.declared.booking.Booking.{Booking}
 use Rattle.seat_core.specs.declared.booking.Status.{Status}
 use Rattle.seat_core.specs.declared.booking.Status.TheVariants.{Held, Waiting}
 use Rattle.seat_journal.specs.declared.entry.Command.{Command}
+use Rattle.seat_journal.specs.declared.entry.Work.{Work}
+use Rattle.seat_journal.specs.declared.entry.Work.TheVariants.{Seats}
 use Rattle.seat_journal.specs.declared.entry.Entry.{Entry}
 use Rattle.seat_core.specs.Bookings.{is_for, is_held, is_waiting}
-use Rattle.seat_core.specs.Sequential.{State, Outcome, answer, pass, reduced, booking_of, refused}
+use Rattle.seat_core.specs.Sequential.{State, Outcome, answer, changed_by, pass, reduced, booking_of, refused, booked}
 use Rattle.seat_core.specs.Journal.{replay, next_line}
-use Rattle.seat_core.specs.Totals.{is_confirmation, advised, confirmed_by, released_by, totals_of, held_by, seats_held}
+use Rattle.seat_core.specs.Totals.{is_confirmation, advised, seats_asked, confirmed_by, released_by, totals_of, held_by, seats_held}
 use Rattle.seat_core.specs.Laws.{HeldSeatsAreTheTotals}
-use Rattle.seat_core.proofs.Step.Outcomes.{each_outcome, Refusal, code_of}
+use Rattle.seat_core.proofs.Step.Outcomes.{each_outcome, Refusal, Listing, code_of, listing_code}
 use Rattle.seat_core.proofs.Step.Outcomes.Refusal.{No, Unable, Closed}
+use Rattle.seat_core.proofs.Step.Outcomes.Listing.{Needed, Sold}
 use Rattle.seat_core.proofs.History.Lines.{replay_next}
 use Rattle.seat_core.proofs.History.Legal.{each_legal}
 use Rattle.seat_core.proofs.Passes.Weights.{pass_weighs, reduced_weighs}
@@ -41,37 +45,42 @@ reduced_sums test n xs b found le =
     xs b found le
 
 -- one step
-abbrev pub Balances : State → Command → Outcome → Type 0
-Balances s c o = seats_held o.state.bookings + o.released ≡ seats_held s.bookings + ((if is_confirmation o.reply then c.seats else 0) + advised o.advices)
+abbrev pub Balances : State → Work → Outcome → Type 0
+Balances s w o = seats_held o.state.bookings + o.released ≡ seats_held s.bookings + ((if is_confirmation o.reply then seats_asked w else 0) + advised o.advices)
 
-pub answer_balances : (s : State) (number : ℕ) (c : Command) → Balances s c (answer s number c)
-answer_balances s number c =
-    each_outcome (Balances s c) s number c refuses
-    (λ place at none fits. omega (arith, sum_by_push held_by s.bookings (booking_of number c place Held)))
-    (λ place at none over. omega (arith, sum_by_push held_by s.bookings (booking_of number c place Waiting)))
-    (λ place at none. omega (arith, sum_by_push held_by s.bookings (booking_of number c place Waiting), pass_sums s.grid (s.bookings ++ booking_of number c place Waiting ∷ [])))
-    (λ place b at found le. omega (
+pub answer_balances : (s : State) (number : ℕ) (w : Work) → Balances s w (answer s number w)
+answer_balances s number =
+    each_outcome (Balances s) s number refuses
+    (λ c place at none fits. omega (arith, sum_by_push held_by s.bookings (booking_of number c place Held)))
+    (λ c place at none over why. waits c place why)
+    (λ c place at none. omega (arith, sum_by_push held_by s.bookings (booking_of number c place Waiting), pass_sums s.grid (s.bookings ++ booking_of number c place Waiting ∷ [])))
+    (λ c place b at found le. omega (
       arith,
       reduced_sums (is_for c.locator place c.class) c.seats s.bookings b found le,
       pass_sums s.grid (reduced (is_for c.locator place c.class) c.seats s.bookings),
     ))
+    (λ c may. omega (arith, pass_sums (changed_by s.grid c) s.bookings))
   where
-    refuses : (r : Refusal) → Balances s c (refused s (code_of r))
-    refuses No = omega arith
-    refuses Unable = omega arith
-    refuses Closed = omega arith
+    waits : (c : Command) (place : Place) (why : Listing) → Balances s (Seats c) (booked s (booking_of number c place Waiting) (listing_code why))
+    waits c place Needed = omega (arith, sum_by_push held_by s.bookings (booking_of number c place Waiting))
+    waits c place Sold = omega (arith, sum_by_push held_by s.bookings (booking_of number c place Waiting))
+
+    refuses : (w : Work) (r : Refusal) → Balances s w (refused s (code_of r))
+    refuses w No = omega arith
+    refuses w Unable = omega arith
+    refuses w Closed = omega arith
 
 abbrev pub IsBalanced : Legs → List Entry → Type 0
 IsBalanced grid journal = seats_held (replay grid journal).bookings + (totals_of journal).released ≡ (totals_of journal).confirmed
 
-balanced_next : (grid : Legs) (past : List Entry) (session call : ℕ) (c : Command) → IsBalanced grid past → IsBalanced grid (past ++ next_line grid past session call c ∷ [])
-balanced_next grid past session call c h =
-    let e : Entry = next_line grid past session call c in
-    let one = answer_balances (replay grid past) (length past + 1) c in
+balanced_next : (grid : Legs) (past : List Entry) (session call : ℕ) (w : Work) → IsBalanced grid past → IsBalanced grid (past ++ next_line grid past session call w ∷ [])
+balanced_next grid past session call w h =
+    let e : Entry = next_line grid past session call w in
+    let one = answer_balances (replay grid past) (length past + 1) w in
     omega (arith, h, one, ap (λ (s : State). seats_held s.bookings) (replay_next grid past e), sum_by_push confirmed_by past e, sum_by_push released_by past e)
 
 pub held_seats_are_the_totals : HeldSeatsAreTheTotals
 held_seats_are_the_totals grid journal legal =
     each_legal grid (IsBalanced grid)
-    (λ past e l next h. let P : Entry → Type 0 = λ x. IsBalanced grid (past ++ x ∷ []) in subst P (sym next.line) (balanced_next grid past e.session e.call e.command h))
+    (λ past e l next h. let P : Entry → Type 0 = λ x. IsBalanced grid (past ++ x ∷ []) in subst P (sym next.line) (balanced_next grid past e.session e.call e.work h))
     [] journal refl legal

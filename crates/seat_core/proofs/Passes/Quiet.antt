@@ -11,8 +11,8 @@ use Rattle.seat_core.specs.declared.booking.Status.{Status}
 use Rattle.seat_core.specs.declared.booking.Status.TheVariants.{Held, Waiting}
 use Rattle.seat_journal.specs.declared.entry.Advice.{Advice}
 use Rattle.seat_core.specs.Bookings.{is_for, is_waiting, seats_on, held}
-use Rattle.seat_journal.specs.declared.entry.Command.{Command}
-use Rattle.seat_core.specs.Sequential.{State, pass, may_confirm, confirmed, advice_of, NoneFits, NoneFitsAmong, booking_of, reduced, answer}
+use Rattle.seat_journal.specs.declared.entry.Work.{Work}
+use Rattle.seat_core.specs.Sequential.{State, pass, may_confirm, confirmed, advice_of, NoneFits, NoneFitsAmong, booking_of, reduced, changed_by, answer}
 use Rattle.seat_core.proofs.Step.Outcomes.{each_outcome}
 use Rattle.seat_core.proofs.Counters.Limits.{held_less}
 
@@ -114,11 +114,13 @@ over_push grid xs b over =
     and_false false = refl
 
 -- no answer lets a waiting booking fit
-pub quiet_answer : (s : State) (number : ℕ) (c : Command) → NoneFits s.grid s.bookings → NoneFits (answer s number c).state.grid (answer s number c).state.bookings
-quiet_answer s number c q =
-    each_outcome (λ o. NoneFits o.state.grid o.state.bookings) s number c
-    (λ r. q)
-    (λ place at none fits. quiet_push s.grid s.bookings (booking_of number c place Held) q refl)
-    (λ place at none over. quiet_push s.grid s.bookings (booking_of number c place Waiting) q (over_push s.grid s.bookings (booking_of number c place Waiting) over))
-    (λ place at none. quiet_passed s.grid (s.bookings ++ booking_of number c place Waiting ∷ []))
-    (λ place b at found le. quiet_passed s.grid (reduced (is_for c.locator place c.class) c.seats s.bookings))
+pub quiet_answer : (s : State) (number : ℕ) (w : Work) → NoneFits s.grid s.bookings → NoneFits (answer s number w).state.grid (answer s number w).state.bookings
+quiet_answer s number w q =
+    each_outcome (λ v o. NoneFits o.state.grid o.state.bookings) s number
+    (λ v r. q)
+    (λ c place at none fits. quiet_push s.grid s.bookings (booking_of number c place Held) q refl)
+    (λ c place at none over why. quiet_push s.grid s.bookings (booking_of number c place Waiting) q (over_push s.grid s.bookings (booking_of number c place Waiting) over))
+    (λ c place at none. quiet_passed s.grid (s.bookings ++ booking_of number c place Waiting ∷ []))
+    (λ c place b at found le. quiet_passed s.grid (reduced (is_for c.locator place c.class) c.seats s.bookings))
+    (λ c may. quiet_passed (changed_by s.grid c) s.bookings)
+    w

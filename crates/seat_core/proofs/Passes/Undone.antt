@@ -70,7 +70,7 @@ leg_steps [] leg = refl
 leg_steps (l ∷ legs) zero = refl
 leg_steps (l ∷ legs) (suc leg) = leg_steps legs leg
 
-ladder_is : (counts : Counted) (flight leg : ℕ) → ladder_at (limits_of counts) flight leg ≡ (leg_at counts flight leg).steps
+pub ladder_is : (counts : Counted) (flight leg : ℕ) → ladder_at (limits_of counts) flight leg ≡ (leg_at counts flight leg).steps
 ladder_is [] flight leg = refl
 ladder_is (legs ∷ counts) zero leg = leg_steps legs leg
 ladder_is (legs ∷ counts) (suc flight) leg = ladder_is counts flight leg

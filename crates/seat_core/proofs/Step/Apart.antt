@@ -5,13 +5,15 @@ use Rattle.std.specs.Cmp.Lexicographic.{pointwise}
 use Rattle.std.proofs.lemmas.Bool.Decides.{nat_tests}
 use Rattle.std.proofs.lemmas.List.Elements.{All-from_recursion}
 use Rattle.ssim_records.specs.declared.place.Place.{Place}
+use Rattle.seat_nesting.specs.Nesting.{Legs}
 use Rattle.seat_core.specs.declared.booking.Booking.{Booking}
 use Rattle.seat_core.specs.declared.booking.Status.TheVariants.{Held, Waiting}
 use Rattle.seat_journal.specs.declared.entry.Command.{Command}
+use Rattle.seat_journal.specs.declared.entry.Work.{Work}
 use Rattle.seat_core.specs.Bookings.{is_for, IsSameBooking}
 use Rattle.seat_core.specs.Journal.{replay}
 use Rattle.seat_core.specs.declared.booking.Status.{Status}
-use Rattle.seat_core.specs.Sequential.{State, state_of, answer, pass, reduced, confirmed, booking_of, booking_for}
+use Rattle.seat_core.specs.Sequential.{State, state_of, answer, changed_by, pass, reduced, confirmed, booking_of, booking_for}
 use Rattle.seat_core.specs.Laws.{LiveBookingsDiffer}
 use Rattle.seat_core.proofs.Step.Outcomes.{each_outcome}
 use Rattle.seat_core.proofs.Step.Limits.{each_pass}
@@ -63,20 +65,22 @@ apart_confirmed : (xs : List Booking) (b : Booking) (bs : List Booking) → IsAp
 apart_confirmed [] b bs h = h
 apart_confirmed (x ∷ xs) b bs h = (all_confirmed (Differs x) xs b bs (λ d. d) h.0, apart_confirmed xs b bs h.1)
 
-pub apart_answer : (s : State) (number : ℕ) (c : Command) → IsApart s.bookings → IsApart (answer s number c).state.bookings
-apart_answer s number c h =
-    each_outcome (λ o. IsApart o.state.bookings) s number c
-    (λ r. h)
-    (λ place at none fits. more place Held none)
-    (λ place at none over. more place Waiting none)
-    (λ place at none. pass_all (s.bookings ++ booking_of number c place Waiting ∷ []) (more place Waiting none))
-    (λ place b at found le. pass_all (reduced (is_for c.locator place c.class) c.seats s.bookings) (apart_reduced (is_for c.locator place c.class) c.seats s.bookings h))
+pub apart_answer : (s : State) (number : ℕ) (w : Work) → IsApart s.bookings → IsApart (answer s number w).state.bookings
+apart_answer s number w h =
+    each_outcome (λ v o. IsApart o.state.bookings) s number
+    (λ v r. h)
+    (λ c place at none fits. more c place Held none)
+    (λ c place at none over why. more c place Waiting none)
+    (λ c place at none. pass_all s.grid (s.bookings ++ booking_of number c place Waiting ∷ []) (more c place Waiting none))
+    (λ c place b at found le. pass_all s.grid (reduced (is_for c.locator place c.class) c.seats s.bookings) (apart_reduced (is_for c.locator place c.class) c.seats s.bookings h))
+    (λ c may. pass_all (changed_by s.grid c) s.bookings h)
+    w
   where
-    more : (place : Place) (status : Status) → booking_for s c place ≡ None → IsApart (s.bookings ++ booking_of number c place status ∷ [])
-    more place status none = apart_more s.bookings (booking_of number c place status) h (find_none_all (is_for c.locator place c.class) s.bookings none)
+    more : (c : Command) (place : Place) (status : Status) → booking_for s c place ≡ None → IsApart (s.bookings ++ booking_of number c place status ∷ [])
+    more c place status none = apart_more s.bookings (booking_of number c place status) h (find_none_all (is_for c.locator place c.class) s.bookings none)
 
-    pass_all : (xs : List Booking) → IsApart xs → IsApart (pass s.grid [] [] xs).bookings
-    pass_all xs a = each_pass IsApart s.grid (λ done b bs d may. apart_confirmed done b bs d) [] xs [] a
+    pass_all : (grid : Legs) (xs : List Booking) → IsApart xs → IsApart (pass grid [] [] xs).bookings
+    pass_all grid xs a = each_pass IsApart grid (λ done b bs d may. apart_confirmed done b bs d) [] xs [] a
 
 letters_same : (xs : List ℕ) → pointwise nat_eq xs xs ≡ true
 letters_same [] = refl

@@ -7,7 +7,8 @@ use Rattle.std.proofs.lemmas.Bool.Decides.{nat_tests}
 use Rattle.ssim_records.specs.declared.place.Place.{Place}
 use Rattle.seat_core.specs.declared.booking.Booking.{Booking}
 use Rattle.seat_journal.specs.declared.entry.Command.{Command}
-use Rattle.seat_core.specs.declared.action.Action.TheVariants.{Seats, Cancel}
+use Rattle.seat_journal.specs.declared.entry.Work.TheVariants.{Seats}
+use Rattle.seat_core.specs.declared.action.Action.TheVariants.{Want, Cancel}
 use Rattle.seat_core.specs.declared.action.Wish.{Wish}
 use Rattle.seat_core.specs.Codes.{action_of}
 use Rattle.seat_core.specs.Bookings.{is_for}
@@ -58,26 +59,26 @@ pub found_at : (test : Booking → Bool) (xs ys : List Booking) (i : ℕ) (b : B
 found_at test xs ys i b same found is = stands xs i b (position-Some test xs i b found).0 (is ∙ ap (λ (l : List Booking). get_or l i b) same)
 
 -- below, `xs` is the list of bookings in which the code looked
-pub answers_want : (w : Wish) (s : State) (n : ℕ) (c : Command) (p : Place) (xs : List Booking) → xs ≡ s.bookings → Seats w ≡ action_of c.code → c.place ≡ Some p → None ≡ position (is_for c.locator p c.class) xs
-    → answer s n c ≡ want w s n c p None
+pub answers_want : (w : Wish) (s : State) (n : ℕ) (c : Command) (p : Place) (xs : List Booking) → xs ≡ s.bookings → Want w ≡ action_of c.code → c.place ≡ Some p → None ≡ position (is_for c.locator p c.class) xs
+    → answer s n (Seats c) ≡ want w s n c p None
 answers_want w s n c p xs same r at found =
     let none : position (is_for c.locator p c.class) s.bookings ≡ None = rw (← same) (sym found) in
     rw (← r, at, find_none (is_for c.locator p c.class) s.bookings none) refl
 
-pub answers_taken : (w : Wish) (s : State) (n : ℕ) (c : Command) (p : Place) (i : ℕ) (xs : List Booking) → xs ≡ s.bookings → Seats w ≡ action_of c.code → c.place ≡ Some p → Some i ≡ position (is_for c.locator p c.class) xs
-    → answer s n c ≡ refused s (codes "NO")
+pub answers_taken : (w : Wish) (s : State) (n : ℕ) (c : Command) (p : Place) (i : ℕ) (xs : List Booking) → xs ≡ s.bookings → Want w ≡ action_of c.code → c.place ≡ Some p → Some i ≡ position (is_for c.locator p c.class) xs
+    → answer s n (Seats c) ≡ refused s (codes "NO")
 answers_taken w s n c p i xs same r at found =
     let some : position (is_for c.locator p c.class) s.bookings ≡ Some i = rw (← same) (sym found) in
     rw (← r, at, (find_some (is_for c.locator p c.class) s.bookings i some).1) refl
 
 pub answers_cancel : (s : State) (n : ℕ) (c : Command) (p : Place) (i : ℕ) (xs : List Booking) → xs ≡ s.bookings → Cancel ≡ action_of c.code → c.place ≡ Some p → Some i ≡ position (is_for c.locator p c.class) xs
-    → answer s n c ≡ cancel s c p (slice_get s.bookings i)
+    → answer s n (Seats c) ≡ cancel s c p (slice_get s.bookings i)
 answers_cancel s n c p i xs same r at found =
     let some : position (is_for c.locator p c.class) s.bookings ≡ Some i = rw (← same) (sym found) in
     rw (← r, at, find_found (is_for c.locator p c.class) s.bookings i some) refl
 
 pub answers_missing : (s : State) (n : ℕ) (c : Command) (p : Place) (xs : List Booking) → xs ≡ s.bookings → Cancel ≡ action_of c.code → c.place ≡ Some p → None ≡ position (is_for c.locator p c.class) xs
-    → answer s n c ≡ refused s (codes "NO")
+    → answer s n (Seats c) ≡ refused s (codes "NO")
 answers_missing s n c p xs same r at found =
     let none : position (is_for c.locator p c.class) s.bookings ≡ None = rw (← same) (sym found) in
     rw (← r, at, find_none (is_for c.locator p c.class) s.bookings none) refl

@@ -6,15 +6,18 @@ use Rattle.ssim_records.specs.declared.place.Place.{Place}
 use Rattle.seat_nesting.specs.Nesting.{Legs, ladder_at, room_on, room, IsWithin, HasLadders, covers}
 use Rattle.seat_core.specs.declared.booking.Booking.{Booking}
 use Rattle.seat_core.specs.declared.booking.Status.TheVariants.{Held, Waiting}
+use Rattle.seat_journal.specs.declared.entry.Change.{Change}
 use Rattle.seat_journal.specs.declared.entry.Command.{Command}
+use Rattle.seat_journal.specs.declared.entry.Work.{Work}
 use Rattle.seat_core.specs.declared.booking.Status.{Status}
 use Rattle.seat_journal.specs.declared.entry.Advice.{Advice}
-use Rattle.seat_core.proofs.Step.Outcomes.{each_outcome}
+use Rattle.seat_nesting.proofs.LimitChanges.{has_ladders_with, length_legs, within_set}
+use Rattle.seat_core.proofs.Step.Outcomes.{each_grid, each_outcome}
 use Rattle.seat_core.proofs.Step.Reduced.{length_reduced}
 use Rattle.std.proofs.lemmas.List.{append-nil}
 use Rattle.seat_core.specs.Bookings.{is_for, is_held, is_waiting, seats_on, held}
-use Rattle.seat_core.specs.Sequential.{state_of, room_left, reduced, booking_of, answer, pass, may_confirm, confirmed, advice_of}
-use Rattle.seat_core.specs.Inventory.{KeepsLimits}
+use Rattle.seat_core.specs.Sequential.{State, state_of, room_left, reduced, booking_of, answer, changed_by, may_change, pass, may_confirm, confirmed, advice_of}
+use Rattle.seat_core.specs.Inventory.{HasSameLegs, KeepsLimits}
 use Rattle.seat_core.proofs.Counters.Limits.{within_less, within_more, least_le}
 
 -- what holds of the bookings after a pass
@@ -32,18 +35,19 @@ each_pass P grid confirm done (b ∷ bs) told h =
     cases true e rest = rw e (rest (confirmed b) (told ++ advice_of b ∷ []) (rw append_assoc (confirm done b bs h e)))
     cases false e rest = rw e (rest b told (rw append_assoc h))
 
-pub few_answer : (grid : Legs) (bookings : List Booking) (number : ℕ) (c : Command) → length (answer (state_of grid bookings) number c).state.bookings ≤ length bookings + 1
-few_answer grid bookings number c =
-    each_outcome (λ o. length o.state.bookings ≤ length bookings + 1) (state_of grid bookings) number c
-    (λ r. omega arith)
-    (λ place at none fits. omega (arith, length-append bookings (booking_of number c place Held ∷ [])))
-    (λ place at none over. omega (arith, length-append bookings (booking_of number c place Waiting ∷ [])))
-    (λ place at none. after_pass (bookings ++ booking_of number c place Waiting ∷ []) (omega (arith, length-append bookings (booking_of number c place Waiting ∷ []))))
-    (λ place b at found le. after_pass (reduced (is_for c.locator place c.class) c.seats bookings) (omega (arith, length_reduced (is_for c.locator place c.class) c.seats bookings)))
+pub few_answer : (s : State) (number : ℕ) (w : Work) → length (answer s number w).state.bookings ≤ length s.bookings + 1
+few_answer s number =
+    each_outcome (λ w o. length o.state.bookings ≤ length s.bookings + 1) s number
+    (λ w r. omega arith)
+    (λ c place at none fits. omega (arith, length-append s.bookings (booking_of number c place Held ∷ [])))
+    (λ c place at none over why. omega (arith, length-append s.bookings (booking_of number c place Waiting ∷ [])))
+    (λ c place at none. after_pass s.grid (s.bookings ++ booking_of number c place Waiting ∷ []) (omega (arith, length-append s.bookings (booking_of number c place Waiting ∷ []))))
+    (λ c place b at found le. after_pass s.grid (reduced (is_for c.locator place c.class) c.seats s.bookings) (omega (arith, length_reduced (is_for c.locator place c.class) c.seats s.bookings)))
+    (λ c may. after_pass (changed_by s.grid c) s.bookings (omega arith))
   where
-    after_pass : (xs : List Booking) → length xs ≤ length bookings + 1 → length (pass grid [] [] xs).bookings ≤ length bookings + 1
-    after_pass xs h =
-        each_pass (λ l. length l ≤ length bookings + 1) grid (λ done b bs h e. omega (arith, h, length-append done (b ∷ bs), length-append done (confirmed b ∷ bs))) [] xs [] h
+    after_pass : (grid : Legs) (xs : List Booking) → length xs ≤ length s.bookings + 1 → length (pass grid [] [] xs).bookings ≤ length s.bookings + 1
+    after_pass grid xs h =
+        each_pass (λ l. length l ≤ length s.bookings + 1) grid (λ done b bs h e. omega (arith, h, length-append done (b ∷ bs), length-append done (confirmed b ∷ bs))) [] xs [] h
 
 -- a place that covers a leg
 covers_facts : (flight leg : ℕ) (p : Place) → covers flight leg p ≡ true → (p.flight ≡ flight) × (p.from ≤ leg) × (leg ≤ p.to)
@@ -168,25 +172,39 @@ keeps_confirm grid done b bs ladders keeps may flight leg = cases (covers flight
       within_less (ladder_at grid flight leg) new old
       (λ k. omega (arith, held_at done b bs flight leg k, held_at done (confirmed b) bs flight leg k, gone k, away k e)) (keeps flight leg)
 
-pub keeps_answer : (grid : Legs) (bookings : List Booking) (number : ℕ) (c : Command) → HasLadders grid → KeepsLimits grid bookings
-    → KeepsLimits grid (answer (state_of grid bookings) number c).state.bookings
-keeps_answer grid bookings number c ladders keeps =
-    each_outcome (λ o. KeepsLimits grid o.state.bookings) (state_of grid bookings) number c
-    (λ r. keeps)
-    (λ place at none fits. keeps_more grid bookings number c place ladders keeps fits)
-    (λ place at none over. waits place)
-    (λ place at none. after_pass (bookings ++ booking_of number c place Waiting ∷ []) (waits place))
-    (λ place b at found le. after_pass (reduced (is_for c.locator place c.class) c.seats bookings) (less (is_for c.locator place c.class)))
+-- a change leaves the legs that there are, and their classes
+pub legs_answer : (s : State) (number : ℕ) (w : Work) → HasSameLegs s.grid (answer s number w).state.grid
+legs_answer s number w =
+    each_grid (HasSameLegs s.grid) s number w (λ flight. refl) (λ c is may flight. length_legs s.grid c.flight c.leg c.class c.limit c.wait flight)
+
+pub ladders_answer : (s : State) (number : ℕ) (w : Work) → HasLadders s.grid → HasLadders (answer s number w).state.grid
+ladders_answer s number w h = each_grid HasLadders s number w h (λ c is may. has_ladders_with s.grid c.flight c.leg c.class c.limit c.wait h)
+
+-- a limit that is changed is not below what is held
+keeps_changed : (s : State) (c : Change) → may_change s c ≡ true → KeepsLimits s.grid s.bookings → KeepsLimits (changed_by s.grid c) s.bookings
+keeps_changed s c may keeps = within_set s.grid (held s.bookings) c.flight c.leg c.class c.limit c.wait may keeps
+
+pub keeps_answer : (s : State) (number : ℕ) (w : Work) → HasLadders s.grid → KeepsLimits s.grid s.bookings
+    → KeepsLimits (answer s number w).state.grid (answer s number w).state.bookings
+keeps_answer s number w ladders keeps =
+    each_outcome (λ v o. KeepsLimits o.state.grid o.state.bookings) s number
+    (λ v r. keeps)
+    (λ c place at none fits. keeps_more s.grid s.bookings number c place ladders keeps fits)
+    (λ c place at none over why. waits c place)
+    (λ c place at none. after_pass s.grid ladders (s.bookings ++ booking_of number c place Waiting ∷ []) (waits c place))
+    (λ c place b at found le. after_pass s.grid ladders (reduced (is_for c.locator place c.class) c.seats s.bookings) (less (is_for c.locator place c.class) c.seats))
+    (λ c may. after_pass (changed_by s.grid c) (has_ladders_with s.grid c.flight c.leg c.class c.limit c.wait ladders) s.bookings (keeps_changed s c may keeps))
+    w
   where
-    waits : (place : Place) → KeepsLimits grid (bookings ++ booking_of number c place Waiting ∷ [])
-    waits place flight leg =
-        within_less (ladder_at grid flight leg) (held (bookings ++ booking_of number c place Waiting ∷ []) flight leg) (held bookings flight leg)
-        (λ k. omega (arith, held_push bookings (booking_of number c place Waiting) flight leg k)) (keeps flight leg)
+    waits : (c : Command) (place : Place) → KeepsLimits s.grid (s.bookings ++ booking_of number c place Waiting ∷ [])
+    waits c place flight leg =
+        within_less (ladder_at s.grid flight leg) (held (s.bookings ++ booking_of number c place Waiting ∷ []) flight leg) (held s.bookings flight leg)
+        (λ k. omega (arith, held_push s.bookings (booking_of number c place Waiting) flight leg k)) (keeps flight leg)
 
-    less : (test : Booking → Bool) → KeepsLimits grid (reduced test c.seats bookings)
-    less test flight leg =
-        within_less (ladder_at grid flight leg) (held (reduced test c.seats bookings) flight leg) (held bookings flight leg)
-        (λ k. held_reduced test c.seats bookings flight leg k) (keeps flight leg)
+    less : (test : Booking → Bool) (n : ℕ) → KeepsLimits s.grid (reduced test n s.bookings)
+    less test n flight leg =
+        within_less (ladder_at s.grid flight leg) (held (reduced test n s.bookings) flight leg) (held s.bookings flight leg)
+        (λ k. held_reduced test n s.bookings flight leg k) (keeps flight leg)
 
-    after_pass : (xs : List Booking) → KeepsLimits grid xs → KeepsLimits grid (pass grid [] [] xs).bookings
-    after_pass xs h = each_pass (KeepsLimits grid) grid (λ done b bs h e. keeps_confirm grid done b bs ladders h e) [] xs [] h
+    after_pass : (grid : Legs) → HasLadders grid → (xs : List Booking) → KeepsLimits grid xs → KeepsLimits grid (pass grid [] [] xs).bookings
+    after_pass grid h xs k = each_pass (KeepsLimits grid) grid (λ done b bs k e. keeps_confirm grid done b bs h k e) [] xs [] k

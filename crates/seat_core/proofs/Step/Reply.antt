@@ -1,24 +1,29 @@
 -- What a line is answered from.
-use Rattle.std.proofs.Common.{◌≡◌, ◌==◌, ◌&&◌, ℕ, zero, suc, ◌+◌, ◌-◌, ◌<◌, ◌≤◌, Bool, true, false, nat_le, List, [], ◌∷◌, ◌++◌, length, find, Option, Some, None, IfSome, if◌then◌else◌, arith, refl, ap, sym, subst, ◌∙◌}
+use Rattle.std.proofs.Common.{◌≡◌, ◌==◌, ◌&&◌, ℕ, zero, suc, ◌+◌, ◌-◌, ◌<◌, ◌≤◌, Bool, true, false, nat_le, List, [], ◌∷◌, ◌++◌, find, Option, Some, None, IfSome, codes, if◌then◌else◌, arith, refl, ap, sym, subst, ◌∙◌}
 use Rattle.std.specs.List.{AllByRecursion}
 use Rattle.std.proofs.lemmas.List.Sums.{sum_by-cons}
 use Rattle.std.proofs.lemmas.Bool.Decides.{nat_tests}
 use Rattle.ssim_records.specs.declared.place.Place.{Place}
-use Rattle.seat_nesting.specs.Nesting.{Legs, Table, Fits, room, may_wait, ladder_at, each_leg, seats_at}
+use Rattle.seat_nesting.specs.Nesting.{Legs, Table, ByClass, Fits, room, may_wait, ladder_at, each_leg, seats_at}
 use Rattle.seat_nesting.specs.Counting.{Counted, limits_of, seats_of, holds, leg_holds}
+use Rattle.seat_nesting.specs.Changing.{can_set, may_have}
+use Rattle.seat_core.specs.declared.action.Wish.TheVariants.{Need}
 use Rattle.seat_core.specs.declared.booking.Booking.{Booking}
 use Rattle.seat_core.specs.declared.booking.Status.TheVariants.{Held, Waiting}
 use Rattle.seat_core.specs.declared.books.FlightBook.{FlightBook}
 use Rattle.seat_journal.specs.declared.entry.Advice.{Advice}
+use Rattle.seat_journal.specs.declared.entry.Change.{Change}
 use Rattle.seat_journal.specs.declared.entry.Command.{Command}
+use Rattle.seat_journal.specs.declared.entry.Work.{Work}
+use Rattle.seat_journal.specs.declared.entry.Work.TheVariants.{Seats, Limit}
 use Rattle.seat_journal.specs.declared.entry.Entry.{Entry}
-use Rattle.seat_core.specs.Answers.{IsFlight, Lacks, rest_advised}
+use Rattle.seat_core.specs.Answers.{IsAsked, IsFlight, Lacks, rest_advised}
 use Rattle.seat_core.specs.Bookings.{is_for, is_held, is_waiting, held, waiting, seats_on}
 use Rattle.seat_core.specs.Books.{book_at, queue_at, IsKept}
 use Rattle.seat_core.specs.Flights.{bookings_on}
-use Rattle.seat_core.specs.Journal.{replay}
+use Rattle.seat_core.specs.Journal.{replay, FitsWork}
 use Rattle.seat_core.specs.Queues.{queue_of, first_waits}
-use Rattle.seat_core.specs.Sequential.{State, pass, reduced, advice_of, booking_of, may_confirm, NoneFits, NoneFitsAmong}
+use Rattle.seat_core.specs.Sequential.{State, state_of, want_new, refused, may_change, pass, reduced, advice_of, booking_of, may_confirm, NoneFits, NoneFitsAmong}
 use Rattle.seat_core.specs.Showing.{given_back}
 use Rattle.seat_core.specs.Tables.{advices_by, with_advice}
 use Rattle.seat_core.proofs.Flight.View.{room_same, may_wait_same, room_of_flight, held_view, bookings_view}
@@ -66,6 +71,12 @@ pub queued_is : (grid : Legs) (bs : List Booking) (n : ℕ) (c : Command) (p : P
 queued_is grid bs n c p quiet =
     pass_is_by_table grid (bs ++ booking_of n c p Waiting ∷ [])
     ∙ (ap (λ (t : Table). advices_by grid t (bs ++ booking_of n c p Waiting ∷ [])) (held_waits bs n c p) ∙ by_quiet grid bs bs (booking_of n c p Waiting ∷ []) quiet)
+
+-- a need that does not fit, and that is not listed, is closed
+pub need_closed : (s : State) (n : ℕ) (c : Command) (p : Place) (listed may : Bool) → (listed && may) ≡ false → want_new Need s n c p false listed may ≡ refused s (codes "UC")
+need_closed s n c p true true e = absurd cc
+need_closed s n c p true false e = refl
+need_closed s n c p false may e = refl
 
 -- ---- seats that are given back
 
@@ -242,6 +253,27 @@ cancel_waiting counts books c p b h found order some le waits =
       is Held g = absurd cc
       is Waiting g = g
 
+-- ---- another limit
+
+-- whether a change may be made, by the counters
+pub may_is : (counts : Counted) (books : List FlightBook) (c : Change) → IsFlight counts books c.flight
+    → may_change (state_of (limits_of counts) (book_at books c.flight)) c ≡ can_set (limits_of counts) (seats_of counts) c.flight c.leg c.class c.limit c.wait
+may_is counts books c h =
+    let same : seats_of counts c.flight c.leg ≡ held (book_at books c.flight) c.flight c.leg = (λ i k. h.seats c.leg k i) in
+    ap (λ (t : ByClass). nat_le c.wait 999 && may_have (ladder_at (limits_of counts) c.flight c.leg) t c.class c.limit) (sym same)
+
+-- the pass under the new limits runs over the waiting list
+pub changed_told : (grid : Legs) (counts : Counted) (books : List FlightBook) (f : ℕ) → IsFlight counts books f
+    → (pass grid [] [] (book_at books f)).advices ≡ advices_by grid (seats_of counts) (queue_at books f)
+changed_told grid counts books f h =
+    let bs : List Booking = book_at books f in
+    let on : AllByRecursion (λ x. x.place.flight ≡ f) (queue_at books f) =
+    (let P : List Booking → Type 0 = λ l. AllByRecursion (λ x. x.place.flight ≡ f) l in subst P (sym h.queue) (all_queue (λ x. x.place.flight ≡ f) bs h.there)) in
+    pass_is_by_table grid bs
+    ∙ (advices_queue grid (held bs) bs
+    ∙ (ap (λ (l : List Booking). advices_by grid (held bs) l) (sym h.queue)
+    ∙ advices_same grid f (held bs) (seats_of counts) (queue_at books f) on (λ l k. sym (h.seats l k))))
+
 -- ---- the flight of a place, in an inventory that is kept
 
 quiet_on : (grid : Legs) (f : ℕ) (bs among : List Booking) → NoneFitsAmong grid bs among → NoneFitsAmong grid (bookings_on f bs) (bookings_on f among)
@@ -272,29 +304,37 @@ held_on_le f (b ∷ bs) x l k = cases (b.place.flight == f) refl (held_on_le f b
   cases true e rest = rw e (omega (arith, rest, sum_by-cons (seats_on x l k) b (bookings_on f bs), sum_by-cons (seats_on x l k) b bs))
   cases false e rest = rw e (omega (arith, rest, sum_by-cons (seats_on x l k) b bs))
 
-pub flight_kept : (opening now : Legs) (cap : ℕ) (journal : List Entry) (books : List FlightBook) (calls : List ℕ) (counts : Counted) (f : ℕ) (p : Place) → p.flight ≡ f → IsKept opening now cap journal books calls counts → IsFlight counts books f
-flight_kept opening now cap journal books calls counts f p at k =
+pub flight_kept : (opening : Legs) (cap : ℕ) (journal : List Entry) (books : List FlightBook) (calls : List ℕ) (counts : Counted) (f : ℕ) → IsKept opening cap journal books calls counts → IsFlight counts books f
+flight_kept opening cap journal books calls counts f k =
+    let now : Legs = limits_of counts in
     let bs : List Booking = (replay opening journal).bookings in
     let book : bookings_on f bs ≡ book_at books f = sym (k.by_flight f) in
     let lacks : Lacks now bs = (let P : Legs → Type 0 = λ g. Lacks g bs in subst P (ap (λ (s : State). s.grid) k.lawful.left) (lacks_replay opening journal)) in
-    let few : length (book_at books f) ≤ 999999 = (let P : ℕ → Type 0 = λ x. length (book_at books x) ≤ 999999 in subst P at (few_in_book opening now cap journal books calls counts (Some p) k)) in
     record {
-      few = few;
-      quiet = (let P : Legs → Type 0 = λ g. NoneFits g (book_at books f) in subst P (sym k.limits) (subst (NoneFits now) book (quiet_on now f bs bs k.lawful.quiet)));
-      queue = (kept_queued opening now cap journal books calls counts k).each f;
+      few = few_in_book opening cap journal books calls counts f k;
+      quiet = subst (NoneFits now) book (quiet_on now f bs bs k.lawful.quiet);
+      queue = (kept_queued opening cap journal books calls counts k).each f;
       seats = λ l c. k.seats f l c
           ∙ (sym (held_view (λ n. n) f bs l c) ∙ ap (λ (x : List Booking). held x f l c) (bookings_view f bs ∙ book));
-      lacks = (let P : Legs → Type 0 = λ g. Lacks g (book_at books f) in subst P (sym k.limits)
-          (let Q : List Booking → Type 0 = λ l. Lacks now l in subst Q book (λ x l c missing. omega (arith, lacks x l c missing, held_on_le f bs x l c))));
+      lacks = (let Q : List Booking → Type 0 = λ l. Lacks now l in subst Q book (λ x l c missing. omega (arith, lacks x l c missing, held_on_le f bs x l c)));
       there = (let P : List Booking → Type 0 = λ l. AllByRecursion (λ b. b.place.flight ≡ f) l in subst P book (all_there f bs));
     }
 
-pub kept_flight : (opening now : Legs) (cap : ℕ) (journal : List Entry) (books : List FlightBook) (calls : List ℕ) (counts : Counted) (o : Option Place) → IsKept opening now cap journal books calls counts
+kept_flight : (opening : Legs) (cap : ℕ) (journal : List Entry) (books : List FlightBook) (calls : List ℕ) (counts : Counted) (o : Option Place) → IsKept opening cap journal books calls counts
     → IfSome o (λ p. IsFlight counts books p.flight)
-kept_flight opening now cap journal books calls counts None k = tt
-kept_flight opening now cap journal books calls counts (Some p) k = flight_kept opening now cap journal books calls counts p.flight p refl k
+kept_flight opening cap journal books calls counts None k = tt
+kept_flight opening cap journal books calls counts (Some p) k = flight_kept opening cap journal books calls counts p.flight k
 
 -- its legs stand in order
-pub in_order : (grid : Legs) (o : Option Place) → IfSome o (Fits grid) → IfSome o (λ p. p.from ≤ p.to)
+in_order : (grid : Legs) (o : Option Place) → IfSome o (Fits grid) → IfSome o (λ p. p.from ≤ p.to)
 in_order grid None h = tt
 in_order grid (Some p) h = h.0
+
+-- what fits may be answered
+pub asked_kept : (opening : Legs) (cap : ℕ) (journal : List Entry) (books : List FlightBook) (calls : List ℕ) (counts : Counted) (w : Work) → IsKept opening cap journal books calls counts → FitsWork opening w → IsAsked counts books w
+asked_kept opening cap journal books calls counts (Seats c) k fits = record {
+  flight = kept_flight opening cap journal books calls counts c.place k;
+  order = in_order opening c.place fits.2;
+  some = fits.0;
+}
+asked_kept opening cap journal books calls counts (Limit c) k fits = flight_kept opening cap journal books calls counts c.flight k

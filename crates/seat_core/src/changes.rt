@@ -1,0 +1,95 @@
+//! What a change of a limit is answered (AU): the pass under the new limit, or NO.
+ghost use Rattle.std.specs.Prelude.{◌≡◌, ◌==◌, true, IfNone, IfOk, IfSome, None, Some};
+ghost use Rattle.seat_nesting.specs.Changing.{can_set, step_of};
+ghost use Rattle.seat_nesting.specs.Counting.{limits_of, seats_of};
+ghost use Rattle.seat_core.specs.Answers.{IsFlight, Says};
+ghost use Rattle.seat_core.specs.Books.{book_at, queue_at};
+ghost use Rattle.seat_core.specs.Sequential.{changed_by, set, state_of};
+ghost use Rattle.seat_core.specs.Tables.{advices_by};
+
+use crate::books::{FlightBook, queue_at};
+use crate::pass::advices_of;
+use crate::reply::{Answer, reply};
+use crate::rooms::steps_at;
+use crate::waiting_list::WaitingList;
+use seat_journal::{Advice, Change};
+use seat_nesting::{Counts, Step};
+use ssim_records::{Class, Code, Memory};
+use std::alloc::Global;
+
+/// Answers a change of a limit, from the counters and the bookings of its flight. The counters are left as they were.
+pub fn answer_change(
+    alloc: Global,
+    counts: &mut Counts,
+    books: &[FlightBook],
+    change: &Change,
+) -> Result<Answer, Memory>
+    requires flight { IsFlight counts.old books.now change.now.flight }
+    ensures says { IfOk result (λ a. Says (set (state_of (limits_of counts.old) (book_at books.now change.now.flight)) change.now) a) }
+    ensures limits { limits_of counts.new ≡ limits_of counts.old }
+    ensures seats { seats_of counts.new ≡ seats_of counts.old }
+{
+    let (flight, leg, class) = (change.flight, change.leg, change.class);
+    if !counts.can_set(flight, leg, class, change.limit, change.wait) {
+        return Ok(reply(alloc, *b"NO"));
+    }
+    let advices = advices_under(alloc, counts, books, change)?;
+    Ok(Answer {
+        reply: Code::of(*b"OK"),
+        released: 0,
+        advices,
+    })
+}
+
+/// The advices of the pass over the waiting list of a change's flight, under the limits with that change.
+fn advices_under(
+    alloc: Global,
+    counts: &mut Counts,
+    books: &[FlightBook],
+    change: &Change,
+) -> Result<Vec<Advice>, Memory>
+    requires may { can_set (limits_of counts.old) (seats_of counts.old) change.now.flight change.now.leg change.now.class change.now.limit change.now.wait ≡ true }
+    ensures limits { limits_of counts.new ≡ limits_of counts.old }
+    ensures seats { seats_of counts.new ≡ seats_of counts.old }
+    ensures told { IfOk result (λ told. told.items ≡ advices_by (changed_by (limits_of counts.old) change.now) (seats_of counts.old) (queue_at books.now change.now.flight)) }
+{
+    match queue_at(books, change.flight) {
+        Some(queue) => advices_with(alloc, counts, queue, change),
+        None => Ok(Vec::new(alloc)),
+    }
+}
+
+/// The same of this waiting list: the change is made, and made undone.
+fn advices_with(
+    alloc: Global,
+    counts: &mut Counts,
+    queue: &WaitingList,
+    change: &Change,
+) -> Result<Vec<Advice>, Memory>
+    requires may { can_set (limits_of counts.old) (seats_of counts.old) change.now.flight change.now.leg change.now.class change.now.limit change.now.wait ≡ true }
+    ensures limits { limits_of counts.new ≡ limits_of counts.old }
+    ensures seats { seats_of counts.new ≡ seats_of counts.old }
+    ensures told { IfOk result (λ told. told.items ≡ advices_by (changed_by (limits_of counts.old) change.now) (seats_of counts.old) queue.now.bookings) }
+{
+    counts.limits_are_kept();
+    let (flight, leg, class) = (change.flight, change.leg, change.class);
+    let Some(before) = step_of(steps_at(counts, flight, leg), class) else {
+        return Ok(Vec::new(alloc));
+    };
+    counts.set(flight, leg, class, change.limit, change.wait);
+    let told = advices_of(alloc, counts, queue);
+    counts.set(flight, leg, class, before.limit, before.wait);
+    told
+}
+
+/// The step of a class, where it is there.
+fn step_of(steps: &[Step], class: Class) -> Option<Step>
+    ensures { result ≡ step_of steps.now class }
+{
+    for step in steps {
+        if step.class == class {
+            return Some(*step);
+        }
+    }
+    None
+}
