@@ -185,7 +185,12 @@ fn code_of(steps: &[Step]) -> u8 {
 
 fn code_of_one(letter: u8, limit: u16, wait: u16) -> u8 {
     match Class::new(letter) {
-        Some(class) => code_of(&[Step { class, limit, wait }]),
+        Some(class) => code_of(&[Step {
+            class,
+            limit,
+            wait,
+            listed: false,
+        }]),
         None => 9,
     }
 }

@@ -1,6 +1,6 @@
 //! Want of memory: a call that is refused changes nothing that a call shows, and is answered when it comes again.
 //! Each of these tests passes with any one growth refused.
-use crate::texts::{lines_of_flight_1, no_lines, same_ladders, six_lines};
+use crate::texts::{lines_of_flight_1, no_lines, same_ladders, seven_lines};
 use crate::trial::{Trial, Why, are_same, entries, is_memory, is_same, is_text, place_of};
 use crate::worked_set::{grid, two_legs};
 use seat_core::Entry;
@@ -10,7 +10,7 @@ use std::alloc::Global;
 use std::test::Fail;
 
 fn open(alloc: Global) -> Result<Trial, Why> {
-    Trial::of_two_legs(alloc, same_ladders(), 6)
+    Trial::of_two_legs(alloc, same_ladders(), 7)
 }
 
 fn open_grid(alloc: Global) -> Result<Grid, Why> {
@@ -27,8 +27,8 @@ enum Way {
 /// Adds a line; false where that was refused.
 fn add(trial: &mut Trial, way: Way, line: &Entry) -> Result<bool, Why> {
     let answer = match way {
-        Way::Steps => trial.step(line.session, line.command),
-        Way::Prepares => trial.prepare(line.session, line.command),
+        Way::Steps => trial.step(line.session, line.work),
+        Way::Prepares => trial.prepare(line.session, line.work),
     };
     match answer {
         Ok(entry) => {
@@ -59,12 +59,12 @@ fn fill(trial: &mut Trial, way: Way, lines: &[Entry]) -> Result<(), Why> {
     for line in lines {
         add_again(trial, way, line)?;
     }
-    trial.has_text(six_lines())
+    trial.has_text(seven_lines())
 }
 
-/// An inventory with the six lines.
+/// An inventory with the seven lines, the last of which is a change.
 fn filled(alloc: Global, way: Way) -> Result<Trial, Why> {
-    let lines = entries(alloc, six_lines())?;
+    let lines = entries(alloc, seven_lines())?;
     let mut trial = open(alloc)?;
     fill(&mut trial, way, lines.as_slice())?;
     Ok(trial)
@@ -126,7 +126,7 @@ fn parts_again(rt: HostRuntime) -> Result<(), Fail> {
 
 fn try_replay(alloc: Global, trial: &Trial) -> Result<Trial, Why> {
     match grid(alloc, two_legs(), same_ladders()) {
-        Some(grid) => trial.again(grid, 6),
+        Some(grid) => trial.again(grid, 7),
         None => Err("a grid"),
     }
 }
@@ -180,9 +180,9 @@ fn copy_all(alloc: Global, all: &[Entry]) -> Result<(), Why> {
 }
 
 fn copy_lines(alloc: Global) -> Result<(), Why> {
-    let lines = entries(alloc, six_lines())?;
+    let lines = entries(alloc, seven_lines())?;
     copy_all(alloc, lines.as_slice())?;
-    if is_text(lines.as_slice(), six_lines()) {
+    if is_text(lines.as_slice(), seven_lines()) {
         Ok(())
     } else {
         Err("other lines")

@@ -36,7 +36,7 @@ fn rooms_of_waiting() -> &'static [(Legs, [u32; 4])] {
 /// Steps the commands of these lines, and compares each answer with its line.
 fn follow(trial: &mut Trial, lines: &[Entry]) -> Result<(), Why> {
     for line in lines {
-        let entry = trial.step(line.session, line.command)?;
+        let entry = trial.step(line.session, line.work)?;
         if !are_same(entry, line) {
             return Err("another line");
         }
@@ -130,7 +130,7 @@ fn compare_part_of_part(part: &Trial) -> Result<(), Why> {
 }
 
 fn is_full(trial: &mut Trial, line: &Entry) -> bool {
-    match trial.step(line.session, line.command) {
+    match trial.step(line.session, line.work) {
         Ok(_) => false,
         Err(why) => why == "the journal is full",
     }

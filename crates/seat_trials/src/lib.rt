@@ -3,6 +3,10 @@
 #![tactic(auto)]
 
 #[cfg(test)]
+mod change_row_tests;
+#[cfg(test)]
+mod change_tests;
+#[cfg(test)]
 mod count_tests;
 #[cfg(test)]
 mod growth_tests;
@@ -10,6 +14,10 @@ mod growth_tests;
 mod journal_tests;
 #[cfg(test)]
 mod leg_tests;
+#[cfg(test)]
+mod limit_tests;
+#[cfg(test)]
+mod listed_tests;
 #[cfg(test)]
 mod lots;
 #[cfg(test)]

@@ -1,8 +1,8 @@
-//! Commands on four flights, two of two legs and two of three, drawn by lot.
+//! Commands and changes on four flights, two of two legs and two of three, drawn by lot.
 ghost use Rattle.std.specs.Prelude.{◌<◌, ◌≤◌};
 
 use crate::plain::Live;
-use seat_journal::Command;
+use seat_journal::{Change, Command, Work};
 use ssim_records::{Class, Code, Locator, Place};
 
 /// Numbers that are the same for the same seed (Knuth's linear congruential generator).
@@ -108,12 +108,38 @@ impl Lots {
     }
 
     /// The next command: one of six cancels a booking, while there is one.
-    pub fn command(&mut self, bookings: &[Live]) -> Option<Command> {
+    fn command(&mut self, bookings: &[Live]) -> Option<Command> {
         if self.below(6) == 0 {
             if let Some(command) = self.cancellation(bookings) {
                 return Some(command);
             }
         }
         self.request()
+    }
+
+    /// Another limit of a class on a leg: mostly near what it may be, now and then the most or the least.
+    fn change(&mut self) -> Option<Change> {
+        let flight = self.below(4);
+        let legs: u32 = if flight < 2 { 2 } else { 3 };
+        let limit = match self.below(20) {
+            0 => 999,
+            1 => 0,
+            _ => self.below(16) as u16,
+        };
+        Some(Change {
+            flight,
+            leg: self.below(legs) as u8,
+            class: Class::new(self.pick(b"FYYMMQ")?)?,
+            limit,
+            wait: self.below(26) as u16,
+        })
+    }
+
+    /// The next line: one of eight changes a limit, for session 0.
+    pub fn work(&mut self, bookings: &[Live]) -> Option<Work> {
+        if self.below(8) == 0 {
+            return Some(Work::Limit(self.change()?));
+        }
+        Some(Work::Seats(self.command(bookings)?))
     }
 }

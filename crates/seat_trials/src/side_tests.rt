@@ -1,10 +1,10 @@
-//! The product and the plain rules side by side, on commands that are drawn by lot.
+//! The product and the plain rules side by side, on commands and changes that are drawn by lot.
 use crate::lots::Lots;
 use crate::plain::{Answer, Limit, Plain};
 use crate::trial::{Legs, Trial, Why, is_same, place_of};
 use crate::worked_set::{grid, three_legs};
-use seat_core::{Command, Entry};
-use std::alloc::Global;
+use seat_core::{Entry, Work};
+use std::alloc::{AllocError, Global};
 use std::test::Fail;
 
 /// The limits of four flights: ladders that differ from leg to leg, a class that is missing on a leg,
@@ -22,29 +22,64 @@ AU XX124 16JUN24 16JUN24 LAXSFO Y009/020
 "
 }
 
-/// The same limits by flight, leg and class.
+/// The same limits by flight, leg and class, without a mark.
 fn same_limits() -> &'static [Limit] {
     &[
-        (0, 0, b'F', 12, 9),
-        (0, 0, b'Y', 9, 12),
-        (0, 0, b'M', 4, 10),
-        (0, 1, b'F', 8, 10),
-        (0, 1, b'Y', 8, 12),
-        (0, 1, b'M', 5, 11),
-        (1, 0, b'F', 6, 0),
-        (1, 0, b'Y', 4, 20),
-        (2, 0, b'F', 14, 12),
-        (2, 0, b'M', 10, 16),
-        (2, 0, b'Y', 5, 12),
-        (2, 1, b'F', 9, 12),
-        (2, 1, b'Y', 9, 15),
-        (2, 1, b'M', 4, 12),
-        (2, 2, b'F', 13, 12),
-        (2, 2, b'M', 8, 14),
-        (3, 0, b'Y', 9, 20),
-        (3, 1, b'Y', 8, 25),
-        (3, 2, b'Y', 9, 20),
+        (0, 0, b'F', 12, 9, false),
+        (0, 0, b'Y', 9, 12, false),
+        (0, 0, b'M', 4, 10, false),
+        (0, 1, b'F', 8, 10, false),
+        (0, 1, b'Y', 8, 12, false),
+        (0, 1, b'M', 5, 11, false),
+        (1, 0, b'F', 6, 0, false),
+        (1, 0, b'Y', 4, 20, false),
+        (2, 0, b'F', 14, 12, false),
+        (2, 0, b'M', 10, 16, false),
+        (2, 0, b'Y', 5, 12, false),
+        (2, 1, b'F', 9, 12, false),
+        (2, 1, b'Y', 9, 15, false),
+        (2, 1, b'M', 4, 12, false),
+        (2, 2, b'F', 13, 12, false),
+        (2, 2, b'M', 8, 14, false),
+        (3, 0, b'Y', 9, 20, false),
+        (3, 1, b'Y', 8, 25, false),
+        (3, 2, b'Y', 9, 20, false),
     ]
+}
+
+/// The limits with marks, and the same by flight, leg and class.
+#[derive(Drop)]
+struct Marked {
+    text: Vec<u8>,
+    rows: Vec<Limit>,
+}
+
+/// The limits, in which three of four entries have the mark, drawn by lot.
+fn limits_with_marks(alloc: Global) -> Result<Marked, AllocError> {
+    let mut lots = Lots::new(14);
+    let mut text = Vec::new(alloc);
+    let mut rows: Vec<Limit> = Vec::from_slice(alloc, same_limits())?;
+    let mut row = 0usize;
+    let mut digits = 0u8;
+    for byte in limits() {
+        text.push(*byte)?;
+        if *byte == b'/' {
+            digits = 3;
+        } else if digits > 0 {
+            digits -= 1;
+            if digits == 0 {
+                let listed = lots.below(4) > 0;
+                if listed {
+                    text.push(b'N')?;
+                }
+                if let Some(limit) = rows.get_mut(row) {
+                    limit.5 = listed;
+                }
+                row = row.saturating_add(1);
+            }
+        }
+    }
+    Ok(Marked { text, rows })
 }
 
 /// Each place of the four flights: flight, first leg and last leg.
@@ -74,7 +109,7 @@ fn places() -> &'static [Legs] {
 /// How often each reply came, in the order of `reply_at`, and how many lines told one advice or several.
 #[derive(Drop)]
 struct Tally {
-    replies: [u32; 7],
+    replies: [u32; 9],
     one: u32,
     several: u32,
 }
@@ -87,7 +122,9 @@ fn reply_at(reply: [u8; 2]) -> usize {
         [b'H', b'L'] => 3,
         [b'H', b'X'] => 4,
         [b'N', b'O'] => 5,
-        _ => 6,
+        [b'O', b'K'] => 6,
+        [b'U', b'U'] => 7,
+        _ => 8,
     }
 }
 
@@ -105,7 +142,7 @@ impl Tally {
 
     /// Each of them came often.
     fn has_all(&self) -> bool {
-        self.replies.iter().all(|times| *times >= 50) && self.one >= 100 && self.several >= 10
+        self.replies.iter().all(|times| *times >= 20) && self.one >= 100 && self.several >= 10
     }
 }
 
@@ -118,16 +155,19 @@ struct Beside {
 }
 
 impl Beside {
-    fn new(alloc: Global) -> Beside {
-        Beside {
-            plain: Plain::new(alloc, same_limits()),
+    fn new(alloc: Global, limits: &[Limit]) -> Result<Beside, Why> {
+        let Ok(plain) = Plain::new(alloc, limits) else {
+            return Err("memory");
+        };
+        Ok(Beside {
+            plain,
             calls: [0; 9],
             tally: Tally {
-                replies: [0; 7],
+                replies: [0; 9],
                 one: 0,
                 several: 0,
             },
-        }
+        })
     }
 
     fn next_call(&mut self, session: u8) -> Option<u32> {
@@ -136,18 +176,18 @@ impl Beside {
         Some(*call)
     }
 
-    /// Answers the command of an entry by the plain rules, and compares it whole.
-    fn compare(&mut self, entry: &Entry, session: u8, command: &Command) -> Result<(), Why> {
+    /// Answers what an entry asks by the plain rules, and compares it whole.
+    fn compare(&mut self, entry: &Entry, session: u8, work: &Work) -> Result<(), Why> {
         let call = self.next_call(session).ok_or("a session")?;
-        let Ok(want) = self.plain.answer(command) else {
+        let Ok(want) = self.plain.answer(work) else {
             return Err("memory");
         };
         self.tally.count(want.reply, want.advices.len());
         if entry.number != self.plain.lines() || entry.session != session || entry.call != call {
             return Err("number, session or call");
         }
-        if entry.command != *command {
-            return Err("a command");
+        if entry.work != *work {
+            return Err("what was asked");
         }
         compare_answer(entry, &want)
     }
@@ -180,13 +220,16 @@ fn compare_rooms(trial: &Trial, plain: &Plain) -> Result<(), Why> {
 }
 
 fn step_both(trial: &mut Trial, beside: &mut Beside, lots: &mut Lots) -> Result<(), Why> {
-    let session = lots.below(8) as u8 + 1;
-    let command = lots.command(beside.plain.bookings()).ok_or("a command")?;
-    let entry = trial.step(session, command)?;
-    beside.compare(entry, session, &command)
+    let work = lots.work(beside.plain.bookings()).ok_or("a line")?;
+    let session = match work {
+        Work::Seats(_) => lots.below(8) as u8 + 1,
+        Work::Limit(_) => 0,
+    };
+    let entry = trial.step(session, work)?;
+    beside.compare(entry, session, &work)
 }
 
-/// Steps commands drawn by lot in both, and compares the rooms from time to time.
+/// Steps what is drawn by lot in both, and compares the rooms from time to time.
 fn run_both(trial: &mut Trial, beside: &mut Beside) -> Result<(), Why> {
     let mut lots = Lots::new(20_240_601);
     for n in 0..3000u32 {
@@ -203,37 +246,40 @@ fn run_both(trial: &mut Trial, beside: &mut Beside) -> Result<(), Why> {
     }
 }
 
-/// Answers the commands of a flight's part by the plain rules alone.
-fn compare_part(alloc: Global, trial: &Trial, flight: u32) -> Result<(), Why> {
+/// Answers the lines of a flight's part by the plain rules alone.
+fn compare_part(alloc: Global, trial: &Trial, flight: u32, limits: &[Limit]) -> Result<(), Why> {
     let part = trial.part(flight)?;
-    let mut beside = Beside::new(alloc);
+    let mut beside = Beside::new(alloc, limits)?;
     for entry in part.journal() {
-        beside.compare(entry, entry.session, &entry.command)?;
+        beside.compare(entry, entry.session, &entry.work)?;
     }
     Ok(())
 }
 
 /// The journal is replayed, and is the same again.
-fn compare_replay(alloc: Global, trial: &Trial) -> Result<(), Why> {
-    let grid = grid(alloc, three_legs(), limits()).ok_or("a grid")?;
+fn compare_replay(alloc: Global, trial: &Trial, limits: &[u8]) -> Result<(), Why> {
+    let grid = grid(alloc, three_legs(), limits).ok_or("a grid")?;
     let again = trial.again(grid, 3000)?;
     is_same(&again, trial.shown())
 }
 
-fn run_and_compare(alloc: Global, trial: &mut Trial) -> Result<(), Why> {
-    let mut beside = Beside::new(alloc);
+fn run_and_compare(alloc: Global, trial: &mut Trial, marked: &Marked) -> Result<(), Why> {
+    let mut beside = Beside::new(alloc, &marked.rows)?;
     compare_rooms(trial, &beside.plain)?;
     run_both(trial, &mut beside)?;
     for flight in 0..4u32 {
-        compare_part(alloc, trial, flight)?;
+        compare_part(alloc, trial, flight, &marked.rows)?;
     }
-    compare_replay(alloc, trial)
+    compare_replay(alloc, trial, &marked.text)
 }
 
 fn answer_as_the_rules_do(alloc: Global) -> Result<(), Why> {
-    let grid = grid(alloc, three_legs(), limits()).ok_or("a grid")?;
+    let Ok(marked) = limits_with_marks(alloc) else {
+        return Err("memory");
+    };
+    let grid = grid(alloc, three_legs(), &marked.text).ok_or("a grid")?;
     let mut trial = Trial::new(alloc, grid, 3000)?;
-    run_and_compare(alloc, &mut trial)
+    run_and_compare(alloc, &mut trial, &marked)
 }
 
 #[test]

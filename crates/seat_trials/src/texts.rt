@@ -8,6 +8,19 @@ AU XX123 15JUN24 16JUN24 JFKLAX F010/000 Y008/000 M005/004"
 
 /// Two sessions on flights 0 and 1.
 pub fn six_lines() -> &'static [u8] {
+    b"SEATJOURNAL 2
+1 1 1 A00001 0.0.1 Y NN 2 KK 0
+2 1 2 A00001 1.0.0 F NN 1 KK 0
+3 1 3 A00001 0.0.1 Y XX 1 HX 1
+4 2 1 B00001 0.0.0 M NN 1 KK 0
+5 2 2 B00001 1.1.1 M LL 2 HL 0 KL:5:1.1.1:M:2
+6 2 3 B00001 0.0.0 Q NN 1 UC 0
+END 6
+"
+}
+
+/// The same lines as version 1 writes them.
+pub fn old_six_lines() -> &'static [u8] {
     b"SEATJOURNAL 1
 1 1 1 A00001 0.0.1 Y NN 2 KK 0
 2 1 2 A00001 1.0.0 F NN 1 KK 0
@@ -19,9 +32,71 @@ END 6
 "
 }
 
-/// Those of them that are on flight 1: lines, calls and bookings are counted anew.
+/// The six lines, and a limit that the manager lowers: one seat of Y and one of M are held on flight 0, leg 0.
+pub fn seven_lines() -> &'static [u8] {
+    b"SEATJOURNAL 2
+1 1 1 A00001 0.0.1 Y NN 2 KK 0
+2 1 2 A00001 1.0.0 F NN 1 KK 0
+3 1 3 A00001 0.0.1 Y XX 1 HX 1
+4 2 1 B00001 0.0.0 M NN 1 KK 0
+5 2 2 B00001 1.1.1 M LL 2 HL 0 KL:5:1.1.1:M:2
+6 2 3 B00001 0.0.0 Q NN 1 UC 0
+7 0 1 AU 0.0 M 4 4 OK 0
+END 7
+"
+}
+
+/// Limits that are raised and that are not: seats of M wait until Y's limit leaves them room.
+/// Room of M: the least of 10 less 6, 8 less 6 and 5; with 7 in place of 5 as before; with 9 in place of 8 it is 3.
+pub fn lines_of_changes() -> &'static [u8] {
+    b"SEATJOURNAL 2
+1 1 1 A00001 0.0.0 Y NN 6 KK 0
+2 1 2 A00002 0.0.0 M SS 3 US 0
+3 0 1 AU 0.0 M 7 4 OK 0
+4 0 2 AU 0.0 Y 9 0 OK 0 KL:2:0.0.0:M:3
+5 0 3 AU 0.0 Y 8 0 NO 0
+6 0 4 AU 0.0 M 10 0 NO 0
+7 0 5 AU 0.0 Q 1 0 NO 0
+END 7
+"
+}
+
+/// Each refusal, and limits at its bounds: no class, above the higher rank's 10, below the lower rank's 8, below the 6
+/// that are held; on another leg and flight nothing is held.
+pub fn refused_changes() -> &'static [u8] {
+    b"SEATJOURNAL 2
+1 1 1 A00001 0.0.0 Y NN 6 KK 0
+2 0 1 AU 0.0 Q 0 0 NO 0
+3 0 2 AU 0.0 Y 11 0 NO 0
+4 0 3 AU 0.0 F 7 0 NO 0
+5 0 4 AU 0.0 Y 5 0 NO 0
+6 0 5 AU 0.0 Y 6 0 OK 0
+7 0 6 AU 0.0 F 999 9 OK 0
+8 0 7 AU 0.0 F 6 0 OK 0
+9 0 8 AU 0.0 F 5 0 NO 0
+10 0 9 AU 0.1 Y 10 0 OK 0
+11 0 10 AU 1.0 M 0 0 OK 0
+12 1 2 A00002 1.0.0 M NN 1 UC 0
+END 12
+"
+}
+
+/// Three seats wait in M when its wait falls to 0: they stay, and are confirmed once the limit leaves them room.
+pub fn lines_after_a_wait_falls() -> &'static [u8] {
+    b"SEATJOURNAL 2
+1 1 1 A00001 0.0.0 M NN 5 KK 0
+2 1 2 A00002 0.0.0 M SS 3 US 0
+3 0 1 AU 0.0 M 5 0 OK 0
+4 1 3 A00003 0.0.0 M SS 1 UC 0
+5 0 2 AU 0.0 M 8 4 OK 0 KL:2:0.0.0:M:3
+6 1 4 A00003 0.0.0 M SS 1 US 0
+END 6
+"
+}
+
+/// Those of the six lines that are on flight 1: lines, calls and bookings are counted anew.
 pub fn lines_of_flight_1() -> &'static [u8] {
-    b"SEATJOURNAL 1
+    b"SEATJOURNAL 2
 1 1 1 A00001 1.0.0 F NN 1 KK 0
 2 2 1 B00001 1.1.1 M LL 2 HL 0 KL:2:1.1.1:M:2
 END 2
@@ -31,7 +106,7 @@ END 2
 /// What waits on one leg is confirmed by a cancellation on both, and a part takes its lines alone.
 /// Room of M is in the end 4 on both legs: three of them for booking 3 on the second, one for booking 4.
 pub fn waiting_lines() -> &'static [u8] {
-    b"SEATJOURNAL 1
+    b"SEATJOURNAL 2
 1 1 1 A00001 0.0.1 M NN 5 KK 0
 2 1 2 A00002 1.0.1 M SS 2 KK 0
 3 2 1 A00003 0.1.1 M SS 3 US 0
@@ -43,7 +118,7 @@ END 5
 
 /// Commands on no place.
 pub fn lines_without_place() -> &'static [u8] {
-    b"SEATJOURNAL 1
+    b"SEATJOURNAL 2
 1 1 1 A00001 - F NN 1 UN 0
 2 8 1 A00001 - F ZZ 1 NO 0
 END 2
@@ -51,25 +126,35 @@ END 2
 }
 
 pub fn no_lines() -> &'static [u8] {
-    b"SEATJOURNAL 1
+    b"SEATJOURNAL 2
 END 0
 "
 }
 
 /// A line of which no two numbers are the same.
 pub fn one_line() -> &'static [u8] {
-    b"SEATJOURNAL 1
+    b"SEATJOURNAL 2
 7 8 10 ABC123 3.1.2 B NN 5 NO 11 KL:9:4.0.3:C:6
+END 1
+"
+}
+
+/// A change of which no two numbers are the same.
+pub fn one_change() -> &'static [u8] {
+    b"SEATJOURNAL 2
+7 8 10 AU 3.1 B 5 2 NO 11 KL:9:4.0.12:C:6
 END 1
 "
 }
 
 /// The least and the greatest values, no place, and two advices.
 pub fn least_and_greatest() -> &'static [u8] {
-    b"SEATJOURNAL 1
+    b"SEATJOURNAL 2
 0 0 0 000000 0.0.0 A AA 0 AA 0
 4294967295 255 4294967295 ZZZZZ9 4294967295.255.255 Z ZZ 65535 ZZ 65535
 7 8 10 ABC123 - B NN 3 NO 4 KL:0:0.0.0:A:0 KL:4294967295:4294967295.255.255:Z:65535
-END 3
+0 0 0 AU 0.0 A 0 0 AA 0 KL:0:0.0.0:A:0
+4294967295 255 4294967295 AU 4294967295.255 Z 65535 65535 ZZ 65535
+END 5
 "
 }
