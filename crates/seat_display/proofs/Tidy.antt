@@ -1,18 +1,14 @@
 -- Counters written from limits and seats.
-use Rattle.std.proofs.Common.{◌≡◌, ◌==◌, ◌||◌, ℕ, zero, suc, ◌+◌, ◌-◌, ◌≤◌, Bool, true, false, ◌&&◌, nat_le, cond, List, [], ◌∷◌, map, Option, Some, None, refl, ap, sym, ◌∙◌, arith}
+use Rattle.std.proofs.Common.{◌≡◌, ◌==◌, ◌||◌, ℕ, zero, suc, Bool, true, false, cond, List, [], ◌∷◌, map, refl, ap, sym, ◌∙◌, arith}
 use Rattle.std.specs.Prelude.{if◌then◌else◌}
 use Rattle.std.proofs.lemmas.Bool.Decides.{nat_tests}
-use Rattle.seat_nesting.specs.Nesting.{Legs, Steps, ByClass, Table as HeldSeats, ladder_at, legs_of, steps_at, has_class, room, room_on, covers, seats_at}
-use Rattle.seat_nesting.specs.Counting.{LegSeats, Counted, count_at, seats_on, leg_in, legs_in, leg_at, limits_of, seats_of, holds}
-use Rattle.seat_nesting.proofs.CountChanges.{fits_each}
-use Rattle.seat_journal.specs.declared.entry.Advice.{Advice}
+use Rattle.seat_nesting.specs.Nesting.{Legs, Steps, ByClass, Table as HeldSeats, ladder_at, legs_of, steps_at, has_class}
+use Rattle.seat_nesting.specs.Counting.{LegSeats, Counted, count_at, seats_on, leg_in, legs_in, leg_at, limits_of, seats_of}
 use Rattle.seat_journal.specs.declared.entry.Entry.{Entry}
-use Rattle.ssim_records.specs.declared.place.Place.{Place}
-use Rattle.seat_core.specs.Totals.{is_confirmation}
-use Rattle.seat_core.specs.Showing.{given_back, taken_up, confirmed_at_once, shown_reply, shown_advices, shown}
+use Rattle.seat_core.specs.Showing.{Standing, shown, standing_of}
 use Rattle.seat_display.specs.declared.table.Table.{Table}
 use Rattle.seat_display.specs.declared.table.Op.TheVariants.{Line}
-use Rattle.seat_display.specs.Shown.{flight_seats, all_seats, tidied, apply, one_more}
+use Rattle.seat_display.specs.Shown.{flight_seats, all_seats, counters_of, counts_after, tidied, apply, ShowsEntry}
 
 -- the limits of one leg
 abbrev steps_in : LegSeats → Steps
@@ -42,7 +38,7 @@ leg_limits : (legs : List Steps) (seats : ℕ → ByClass) → map (λ (l : LegS
 leg_limits [] seats = refl
 leg_limits (steps ∷ legs) seats = ap (λ (l : List Steps). steps ∷ l) (leg_limits legs (λ leg. seats (suc leg)))
 
-pub limits_written : (grid : Legs) (seats : HeldSeats) → limits_of (all_seats grid seats) ≡ grid
+limits_written : (grid : Legs) (seats : HeldSeats) → limits_of (all_seats grid seats) ≡ grid
 limits_written [] seats = refl
 limits_written (legs ∷ flights) seats =
     λ i. leg_limits legs (seats 0) i ∷ limits_written flights (λ flight. seats (suc flight)) i
@@ -82,7 +78,7 @@ if_on true n h = refl
 if_on false n h = sym (h refl)
 
 -- seats that stand at the classes of their legs are those that were written
-pub seats_written : (grid : Legs) (seats : HeldSeats) → IsOnLadders grid seats → (flight leg class : ℕ) → seats_of (all_seats grid seats) flight leg class ≡ seats flight leg class
+seats_written : (grid : Legs) (seats : HeldSeats) → IsOnLadders grid seats → (flight leg class : ℕ) → seats_of (all_seats grid seats) flight leg class ≡ seats flight leg class
 seats_written grid seats on flight leg class =
     flight_written grid seats flight leg class
     ∙ ap (λ (s : Steps). if has_class s class then seats flight leg class else 0) (ladder_written grid seats flight leg)
@@ -99,84 +95,24 @@ count_lacking (s ∷ lower) (n ∷ more) class h = cases (class == s.class) h (c
     cases true e below = absurd cc
     cases false e below = below e
 
-pub own_on_ladders : (counts : Counted) → IsOnLadders (limits_of counts) (seats_of counts)
+own_on_ladders : (counts : Counted) → IsOnLadders (limits_of counts) (seats_of counts)
 own_on_ladders counts = record {
   none = λ flight leg class h. count_lacking (leg_at counts flight leg).steps (leg_at counts flight leg).held class
       (ap (λ (s : Steps). has_class s class) (sym (limits_at counts flight leg)) ∙ h);
 }
 
-pub own_seats : (counts : Counted) (flight leg class : ℕ) → seats_of (all_seats (limits_of counts) (seats_of counts)) flight leg class ≡ seats_of counts flight leg class
-own_seats counts = seats_written (limits_of counts) (seats_of counts) (own_on_ladders counts)
+-- limits and seats that stand on them are those that were written
+pub written : (s : Standing) → IsOnLadders s.limits s.seats → standing_of (counters_of s) ≡ s
+written s on = λ i. record { limits = limits_written s.limits s.seats i; seats = λ f l k. seats_written s.limits s.seats on f l k i }
+
+-- and so are those of counters
+pub own : (counts : Counted) → standing_of (counters_of (standing_of counts)) ≡ standing_of counts
+own counts = written (standing_of counts) (own_on_ladders counts)
 
 -- ---- one entry more
 
-pub absorbed : (old new : Table) (e : Entry) → limits_of new.counts ≡ limits_of old.counts
-    → seats_of new.counts ≡ shown (limits_of old.counts) (seats_of old.counts) e
-    → new.lines ≡ one_more old.lines → new.seen ≡ old.seen → tidied new ≡ apply (tidied old) (Line e)
-absorbed old new e limits seats lines seen =
-    let grid = limits_of old.counts in
-    let was = seats_of old.counts in
-    let own : seats_of (all_seats grid was) ≡ was = λ i f l k. own_seats old.counts f l k i in
-    let limits' : limits_of (all_seats grid was) ≡ grid = limits_written grid was in
-    let counts : all_seats (limits_of new.counts) (seats_of new.counts) ≡ all_seats (limits_of (all_seats grid was)) (shown (limits_of (all_seats grid was)) (seats_of (all_seats grid was)) e) =
-    (λ i. all_seats (limits i) (seats i)) ∙ (λ i. all_seats (sym limits' i) (shown (sym limits' i) (sym own i) e)) in
-    λ i. record { counts = counts i; lines = lines i; seen = seen i }
-
--- ---- what entries take stands at the classes of its legs
-
-room_lacking : (steps : Steps) (seats : ByClass) (class : ℕ) → has_class steps class ≡ false → room_on steps seats class ≡ 0
-room_lacking [] seats class h = refl
-room_lacking (s ∷ lower) seats class h = grind (arith, nat_tests, h, room_lacking lower seats class)
-
-seats_covered : (place : Place) (class n f l k : ℕ) → (covers f l place ≡ true → class ≡ k → n ≡ 0) → seats_at place class n f l k ≡ 0
-seats_covered place class n f l k h = of (covers f l place) (class == k) refl refl
-  where
-    of : (b c : Bool) → covers f l place ≡ b → (class == k) ≡ c → (if b && c then n else 0) ≡ 0
-    of true true e g = h e (other_class class k g)
-    of true false e g = refl
-    of false c e g = refl
-
-taken_on : (grid : Legs) (seats : HeldSeats) (place : Place) (class n : ℕ) → IsOnLadders grid seats → IsOnLadders grid (taken_up grid seats place class n)
-taken_on grid seats place class n on = of (nat_le n (room grid seats place class)) refl
-  where
-    more : nat_le n (room grid seats place class) ≡ true → (f l k : ℕ) → has_class (ladder_at grid f l) k ≡ false → seats f l k + seats_at place class n f l k ≡ 0
-    more e f l k h =
-        let fits : n ≤ room grid seats place class = grind (arith, nat_tests, e) in
-        let none : seats_at place class n f l k ≡ 0 = seats_covered place class n f l k (λ there same.
-        let flight : place.flight ≡ f = grind (arith, nat_tests, there) in
-        let low : place.from ≤ l = grind (arith, nat_tests, there) in
-        let high : l ≤ place.to = grind (arith, nat_tests, there) in
-        let each = fits_each grid seats place class n l fits low high in
-        let zero : room_on (ladder_at grid place.flight l) (seats place.flight l) class ≡ 0 =
-        room_lacking (ladder_at grid place.flight l) (seats place.flight l) class ((λ i. has_class (ladder_at grid (flight i) l) (same i)) ∙ h) in
-        omega (arith, each, zero)) in
-        omega (arith, on.none f l k h, none)
-
-    of : (b : Bool) → nat_le n (room grid seats place class) ≡ b → IsOnLadders grid (if b then (λ f l k. seats f l k + seats_at place class n f l k) else seats)
-    of false e = on
-    of true e = record { none = more e }
-
-given_on : (grid : Legs) (seats : HeldSeats) (place : Place) (class n : ℕ) → IsOnLadders grid seats → IsOnLadders grid (given_back grid seats place class n)
-given_on grid seats place class n on = of (holds grid seats place class n)
-  where
-    of : (b : Bool) → IsOnLadders grid (if b then (λ f l k. seats f l k - seats_at place class n f l k) else seats)
-    of false = on
-    of true = record { none = λ f l k h. omega (arith, on.none f l k h) }
-
-at_once_on : (grid : Legs) (seats : HeldSeats) (place : Place) (e : Entry) → IsOnLadders grid seats → IsOnLadders grid (confirmed_at_once grid seats place e)
-at_once_on grid seats place e on = of (is_confirmation e.reply)
-  where
-    of : (b : Bool) → IsOnLadders grid (if b then taken_up grid seats place e.command.class e.command.seats else seats)
-    of true = taken_on grid seats place e.command.class e.command.seats on
-    of false = on
-
-reply_on : (grid : Legs) (seats : HeldSeats) (e : Entry) (place : Option Place) → IsOnLadders grid seats → IsOnLadders grid (shown_reply grid seats e place)
-reply_on grid seats e None on = on
-reply_on grid seats e (Some place) on = at_once_on grid (given_back grid seats place e.command.class e.released) place e (given_on grid seats place e.command.class e.released on)
-
-advices_on : (grid : Legs) (seats : HeldSeats) (advices : List Advice) → IsOnLadders grid seats → IsOnLadders grid (shown_advices grid seats advices)
-advices_on grid seats [] on = on
-advices_on grid seats (a ∷ advices) on = advices_on grid (taken_up grid seats a.place a.class a.seats) advices (taken_on grid seats a.place a.class a.seats on)
-
-pub shown_on : (grid : Legs) (seats : HeldSeats) (e : Entry) → IsOnLadders grid seats → IsOnLadders grid (shown grid seats e)
-shown_on grid seats e on = advices_on grid (shown_reply grid seats e e.command.place) e.advices (reply_on grid seats e e.command.place on)
+pub absorbed : (old new : Table) (e : Entry) → ShowsEntry old new e → tidied new ≡ apply (tidied old) (Line e)
+absorbed old new e h =
+    let counts : counters_of (standing_of new.counts) ≡ counts_after (tidied old).counts e =
+    ap counters_of h.standing ∙ ap (λ (s : Standing). counters_of (shown s e)) (sym (own old.counts)) in
+    λ i. record { counts = counts i; lines = h.lines i; seen = h.seen i }

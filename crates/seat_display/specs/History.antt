@@ -1,7 +1,8 @@
 -- The rule of the history, and what each of its steps tells.
-use Rattle.std.specs.Prelude.{ℕ, ◌≡◌, ◌==◌, true, None, List, [], ◌∷◌, ◌++◌, length, MatchBool}
+use Rattle.std.specs.Prelude.{ℕ, ◌≡◌, ◌==◌, true, List, [], ◌∷◌, ◌++◌, length, MatchBool}
 use Rattle.logbook.specs.Pages.{Cell, Step, View, Book, Named}
 use Rattle.seat_journal.specs.declared.entry.Entry.{Entry}
+use Rattle.seat_journal.specs.declared.entry.Work.TheVariants.{Limit}
 
 -- the first word is the length of the history
 pub record IsCounted (cells : List Cell) (log : List Entry) : Type 0 where
@@ -17,7 +18,7 @@ blank = record {
   number = 0;
   session = 0;
   call = 0;
-  command = record { locator = []; place = None; class = 0; code = []; seats = 0 };
+  work = Limit (record { flight = 0; leg = 0; class = 0; limit = 0; wait = 0 });
   reply = [];
   released = 0;
   advices = [];

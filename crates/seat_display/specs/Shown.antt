@@ -4,11 +4,10 @@ use mathlib.Core.Option.{some}
 use lib.ListN.{get_elem?}
 use Rattle.logbook.specs.Pages.{Book}
 use Rattle.seat_nesting.specs.Nesting.{Legs, Steps, ByClass, Table as HeldSeats}
-use Rattle.seat_nesting.specs.Counting.{LegSeats, Counted, limits_of, seats_of}
+use Rattle.seat_nesting.specs.Counting.{LegSeats, Counted, limits_of}
 use Rattle.seat_journal.specs.declared.entry.Entry.{Entry}
-use Rattle.seat_core.specs.Bookings.{held}
 use Rattle.seat_core.specs.Journal.{IsLegal, replay}
-use Rattle.seat_core.specs.Showing.{shown}
+use Rattle.seat_core.specs.Showing.{Standing, shown, standing_left, standing_of}
 use Rattle.seat_display.specs.declared.table.Table.{Table}
 use Rattle.seat_display.specs.declared.table.Op.{Op}
 use Rattle.seat_display.specs.declared.table.Op.TheVariants.{Line, Mark}
@@ -27,21 +26,30 @@ abbrev pub all_seats : Legs → HeldSeats → Counted
 all_seats [] seats = []
 all_seats (legs ∷ flights) seats = flight_seats legs (seats 0) ∷ all_seats flights (λ flight. seats (suc flight))
 
+abbrev pub counters_of : Standing → Counted
+counters_of s = all_seats s.limits s.seats
+
 -- the same counters, so written
 abbrev pub tidied : Table → Table
-tidied t = record { counts = all_seats (limits_of t.counts) (seats_of t.counts); lines = t.lines; seen = t.seen }
+tidied t = record { counts = counters_of (standing_of t.counts); lines = t.lines; seen = t.seen }
 
 -- ---- one entry more
 
--- the seats that a history leaves
-abbrev pub left_by : Legs → List Entry → HeldSeats
-left_by grid journal = held (replay grid journal).bookings
+-- the limits and the seats that a history leaves
+abbrev pub left_by : Legs → List Entry → Standing
+left_by grid journal = standing_left (replay grid journal)
 
 abbrev pub counts_after : Counted → Entry → Counted
-counts_after counts e = all_seats (limits_of counts) (shown (limits_of counts) (seats_of counts) e)
+counts_after counts e = counters_of (shown (standing_of counts) e)
 
 abbrev pub one_more : ℕ → ℕ
 one_more n = (if nat_lt (n + 1) (2 ^ 32) then n + 1 else n)
+
+-- an entry was shown to the counters, and counted
+pub record ShowsEntry (old new : Table) (e : Entry) : Type 0 where
+  pub standing : standing_of new.counts ≡ shown (standing_of old.counts) e
+  pub lines : new.lines ≡ one_more old.lines
+  pub seen : new.seen ≡ old.seen
 
 -- the table after an operation, where its counters are so written
 abbrev pub apply : Table → Op → Table
@@ -56,10 +64,10 @@ entries_of (Mark s ∷ ops) = entries_of ops
 
 -- ---- the rule
 
--- the counters are those that the seen history leaves, which is legal
-pub record Leaves (x : Table) : Type 0 where
-  pub legal : IsLegal (limits_of x.counts) x.seen.log
-  pub seats : (flight leg class : ℕ) → seats_of x.counts flight leg class ≡ left_by (limits_of x.counts) x.seen.log flight leg class
+-- the counters know the limits and the seats that the seen history leaves, which is legal over this opening grid
+pub record Leaves (grid : Legs) (x : Table) : Type 0 where
+  pub legal : IsLegal grid x.seen.log
+  pub standing : standing_of x.counts ≡ left_by grid x.seen.log
   pub lines : x.lines ≡ length x.seen.log
 
 -- a table with no line, over this grid
@@ -67,21 +75,28 @@ pub record IsEmptyTable (x : Table) (grid : Legs) (book : Book) : Type 0 where
   pub limits : limits_of x.counts ≡ grid
   pub book_is : x.seen.book ≡ book
   pub none : x.seen.log ≡ []
-  pub leaves : Leaves x
+  pub leaves : Leaves grid x
 
--- who knows its grid and its history is right
-abbrev pub Fits : Table → View → Type 0
-Fits x v = v.knows ≡ true → (v.grid ≡ limits_of x.counts) × (v.seen.book ≡ x.seen.book)
+-- who knows its opening grid and its history is right
+abbrev pub KnowsRight : Legs → Table → View → Type 0
+KnowsRight grid x v = v.knows ≡ true → (v.grid ≡ grid) × (v.seen.book ≡ x.seen.book)
 
+-- all speak of one opening grid, which no code keeps
 pub record Kept (x : Table) (views : List View) : Type 0 where
-  pub leaves : Leaves x
-  pub each : (seat : ℕ) (v : View) → get_elem? views seat ≡ some v → Fits x v
+  pub grid : Legs
+  pub leaves : Leaves grid x
+  pub each : (seat : ℕ) (v : View) → get_elem? views seat ≡ some v → KnowsRight grid x v
 
--- the table y is right, and who knew its grid and its history was right
+-- over each opening grid that this view may know, y is right where x is, and y has the same history
+pub record Follows (v : View) (x y : Table) : Type 0 where
+  pub leaves : (grid : Legs) → (v.knows ≡ true → v.grid ≡ grid) → Leaves grid x → Leaves grid y
+  pub book : y.seen.book ≡ x.seen.book
+
+-- the table y is right, and who knew its opening grid and its history was right
 pub record Sees (v : View) (x y : Table) (w : View) : Type 0 where
-  pub leaves : Leaves y
-  pub known : (w.knows ≡ true) × (w.grid ≡ limits_of y.counts) × (w.seen.book ≡ y.seen.book)
-  pub before : v.knows ≡ true → (v.grid ≡ limits_of y.counts) × (v.seen.book ≡ y.seen.book)
+  pub leaves : Leaves w.grid y
+  pub known : (w.knows ≡ true) × (w.seen.book ≡ y.seen.book)
+  pub before : v.knows ≡ true → (v.grid ≡ w.grid) × (v.seen.book ≡ y.seen.book)
 
 -- a view that knows nothing
 abbrev pub nobody : View
@@ -95,11 +110,11 @@ abbrev pub informed : View → View → View
 informed v w = w
 
 -- what holds of the publisher between two calls: of the table shown, the history seen, and the operations that are not shown yet
-pub record Ready (shown : Table) (log : List Entry) (ops : List Op) (n k : ℕ) : Type 0 where
-  pub leaves : Leaves shown
+pub record Ready (grid : Legs) (shown : Table) (log : List Entry) (ops : List Op) (n k : ℕ) : Type 0 where
+  pub leaves : Leaves grid shown
   pub whole : shown.seen.log ≡ log
   pub plain : ops ≡ map Line (entries_of ops)
-  pub legal : IsLegal (limits_of shown.counts) (log ++ entries_of ops)
+  pub legal : IsLegal grid (log ++ entries_of ops)
   pub lines : n ≡ length log
   pub more : k ≡ length (entries_of ops)
   pub short : n + k < 2 ^ 32

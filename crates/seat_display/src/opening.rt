@@ -17,7 +17,7 @@ use ssim_records::Memory;
 use std::alloc::Global;
 use std::sync::Wait;
 
-/// A display with nothing visible, and so many viewers, 1 to 9.
+/// A display over these opening limits with nothing visible, and so many viewers, 1 to 9.
 pub fn open<R: Wait>(
     rt: &R,
     alloc: Global,
@@ -69,6 +69,7 @@ fn fill<R: Wait>(
     requires plain { drop writer.old.behind writer.old.log.items ≡ [] }
     ensures shown { OnOk result (IsEmptyTable writer.new.desk.shown.value (limits_of writer.old.desk.shown.value.counts) seen.now.book) }
     ensures plain { OnOk result (drop writer.new.behind writer.new.log.items ≡ []) }
+    ensures knows { OnOk result (((view writer.new.desk.place).knows ≡ true) × ((view writer.new.desk.place).grid ≡ limits_of writer.old.desk.shown.value.counts)) }
     ensures viewers { IfOk result (λ v. (vec_len v ≡ places) × All (λ w. w ≡ opened seen.now.book (limits_of writer.old.desk.shown.value.counts)) v.items) }
 {
     warm(rt, writer, seen)?;
@@ -109,7 +110,7 @@ fn hand_out(
 ) -> Result<Vec<Viewer>, Memory>
     requires knows { ((view writer.old.desk.place).knows ≡ true) × ((view writer.old.desk.place).seen.book ≡ seen.now.book) }
     requires empty { seen.now.log ≡ [] }
-    ensures kept { (writer.new.desk.shown ≡ writer.old.desk.shown) × (drop writer.new.behind writer.new.log.items ≡ drop writer.old.behind writer.old.log.items) }
+    ensures kept { (writer.new.desk.shown ≡ writer.old.desk.shown) × (drop writer.new.behind writer.new.log.items ≡ drop writer.old.behind writer.old.log.items) × (view writer.new.desk.place ≡ view writer.old.desk.place) }
     ensures viewers { IfOk result (λ v. (vec_len v ≡ places) × All (λ w. w ≡ opened seen.now.book (view writer.old.desk.place).grid) v.items) }
 {
     let mut viewers = Vec::new(alloc);

@@ -1,10 +1,9 @@
 //! The one publisher.
 ghost use Rattle.std.specs.Prelude.{◌≡◌, ◌+◌, ◌<◌, ◌≤◌, ◌^◌, ◌++◌, [], ◌∷◌, length, drop, fold, IfOk, MatchResult, true};
 ghost use Rattle.left_right.specs.Sides.{view};
-ghost use Rattle.seat_nesting.specs.Counting.{limits_of};
 ghost use Rattle.seat_core.specs.Prefixes.{Begins};
 ghost use Rattle.seat_core.specs.Journal.{IsLegal};
-ghost use Rattle.seat_display.specs.Shown.{IsEmptyTable, Leaves, apply, entries_of, tidied};
+ghost use Rattle.seat_display.specs.Shown.{Follows, IsEmptyTable, Sees, apply, entries_of, tidied};
 ghost use Rattle.seat_display.specs.History.{head_of};
 ghost use Rattle.seat_display.specs.declared.table.Op.TheVariants.{Mark};
 
@@ -28,17 +27,17 @@ pub struct Publisher {
 }
 
 impl Model for Publisher {
-    ghost use Rattle.std.specs.Prelude.{◌≡◌, drop};
-    ghost use Rattle.seat_nesting.specs.Counting.{limits_of};
+    ghost use Rattle.std.specs.Prelude.{◌≡◌, drop, true};
+    ghost use Rattle.left_right.specs.Sides.{view as known};
     ghost use Rattle.seat_display.specs.Faces.{Published};
     ghost use Rattle.seat_display.specs.History.{head_of};
     ghost use Rattle.seat_display.specs.Shown.{Ready, entries_of};
 
     ghost Value = { Published };
 
-    ghost view = { λ s. record { book = s.seen.book; grid = limits_of s.writer.desk.shown.value.counts; visible = s.seen.log; pending = entries_of (drop s.writer.behind s.writer.log.items) } };
+    ghost view = { λ s. record { book = s.seen.book; grid = (known s.writer.desk.place).grid; visible = s.seen.log; pending = entries_of (drop s.writer.behind s.writer.log.items) } };
 
-    ghost invariant = { λ s. (s.head ≡ head_of s.seen.book) × (s.writer.desk.shown.value.seen.book ≡ s.seen.book) × Ready s.writer.desk.shown.value s.seen.log (drop s.writer.behind s.writer.log.items) s.lines s.more };
+    ghost invariant = { λ s. (s.head ≡ head_of s.seen.book) × (s.writer.desk.shown.value.seen.book ≡ s.seen.book) × ((known s.writer.desk.place).knows ≡ true) × Ready (known s.writer.desk.place).grid s.writer.desk.shown.value s.seen.log (drop s.writer.behind s.writer.log.items) s.lines s.more };
 }
 
 /// What was visible at some moment. It holds no table.
@@ -69,7 +68,7 @@ impl Told {
 }
 
 impl Publisher {
-    /// Adds an entry to what is pending. It is not visible yet.
+    /// Adds an entry, a command's or a change's, to what is pending. It is not visible yet.
     pub fn append(&mut self, entry: Entry) -> Result<(), (Entry, Memory)>
         requires legal { IsLegal self.old.grid ((self.old.visible ++ self.old.pending) ++ entry ∷ []) }
         requires short { length self.old.visible + length self.old.pending < 1000000 }
@@ -147,9 +146,10 @@ impl Publisher {
     /// A publisher with nothing visible.
     pub(crate) fn over(writer: TableWriter, head: Head, seen: Trace) -> Publisher
         requires head { head ≡ head_of seen.book }
-        requires shown { IsEmptyTable writer.desk.shown.value (limits_of writer.desk.shown.value.counts) seen.book }
+        requires knows { (view writer.desk.place).knows ≡ true }
+        requires shown { IsEmptyTable writer.desk.shown.value (view writer.desk.place).grid seen.book }
         requires empty { (drop writer.behind writer.log.items ≡ []) × (seen.log ≡ []) }
-        ensures { (result.book ≡ seen.book) × (result.grid ≡ limits_of writer.desk.shown.value.counts) × (result.visible ≡ []) × (result.pending ≡ []) }
+        ensures { (result.book ≡ seen.book) × (result.grid ≡ (view writer.desk.place).grid) × (result.visible ≡ []) × (result.pending ≡ []) }
     {
         Publisher {
             writer,
@@ -199,34 +199,25 @@ fn marked<R: Wait>(rt: &R, writer: &mut TableWriter, next: &Trace)
 
 // Shows all that is pending.
 pub(crate) fn turn<R: Wait>(rt: &R, writer: &mut TableWriter)
-    requires leaves { Leaves writer.old.desk.shown.value → Leaves (fold apply (tidied writer.old.desk.shown.value) (drop writer.old.behind writer.old.log.items)) }
-    requires grid { limits_of (fold apply (tidied writer.old.desk.shown.value) (drop writer.old.behind writer.old.log.items)).counts ≡ limits_of writer.old.desk.shown.value.counts }
-    requires book { (fold apply (tidied writer.old.desk.shown.value) (drop writer.old.behind writer.old.log.items)).seen.book ≡ writer.old.desk.shown.value.seen.book }
+    requires { Follows (view writer.old.desk.place) writer.old.desk.shown.value (fold apply (tidied writer.old.desk.shown.value) (drop writer.old.behind writer.old.log.items)) }
     ensures values { (tidied writer.new.desk.shown.value ≡ fold apply (tidied writer.old.desk.shown.value) (drop writer.old.behind writer.old.log.items)) × (drop writer.new.behind writer.new.log.items ≡ []) }
-    ensures view { ((view writer.new.desk.place).knows ≡ true) × ((view writer.new.desk.place).grid ≡ limits_of writer.new.desk.shown.value.counts) × ((view writer.new.desk.place).seen.book ≡ writer.new.desk.shown.value.seen.book) }
-    ensures leaves { Leaves writer.new.desk.shown.value }
+    ensures sees { Sees (view writer.old.desk.place) writer.old.desk.shown.value writer.new.desk.shown.value (view writer.new.desk.place) }
 {
     replace_with(
         writer,
         rt,
         |writer: TableWriter, rt: &R| -> (TableWriter, ())
-            requires leaves { Leaves writer.desk.shown.value → Leaves (fold apply (tidied writer.desk.shown.value) (drop writer.behind writer.log.items)) }
-            requires grid { limits_of (fold apply (tidied writer.desk.shown.value) (drop writer.behind writer.log.items)).counts ≡ limits_of writer.desk.shown.value.counts }
-            requires book { (fold apply (tidied writer.desk.shown.value) (drop writer.behind writer.log.items)).seen.book ≡ writer.desk.shown.value.seen.book }
+            requires { Follows (view writer.desk.place) writer.desk.shown.value (fold apply (tidied writer.desk.shown.value) (drop writer.behind writer.log.items)) }
             ensures values { (tidied result.0.desk.shown.value ≡ fold apply (tidied writer.desk.shown.value) (drop writer.behind writer.log.items)) × (drop result.0.behind result.0.log.items ≡ []) }
-            ensures view { ((view result.0.desk.place).knows ≡ true) × ((view result.0.desk.place).grid ≡ limits_of result.0.desk.shown.value.counts) × ((view result.0.desk.place).seen.book ≡ result.0.desk.shown.value.seen.book) }
-            ensures leaves { Leaves result.0.desk.shown.value }
+            ensures sees { Sees (view writer.desk.place) writer.desk.shown.value result.0.desk.shown.value (view result.0.desk.place) }
         { (turned(rt, writer), ()) },
     )
 }
 
 fn turned<R: Wait>(rt: &R, writer: TableWriter) -> TableWriter
-    requires leaves { Leaves writer.desk.shown.value → Leaves (fold apply (tidied writer.desk.shown.value) (drop writer.behind writer.log.items)) }
-    requires grid { limits_of (fold apply (tidied writer.desk.shown.value) (drop writer.behind writer.log.items)).counts ≡ limits_of writer.desk.shown.value.counts }
-    requires book { (fold apply (tidied writer.desk.shown.value) (drop writer.behind writer.log.items)).seen.book ≡ writer.desk.shown.value.seen.book }
+    requires { Follows (view writer.desk.place) writer.desk.shown.value (fold apply (tidied writer.desk.shown.value) (drop writer.behind writer.log.items)) }
     ensures values { (tidied result.desk.shown.value ≡ fold apply (tidied writer.desk.shown.value) (drop writer.behind writer.log.items)) × (drop result.behind result.log.items ≡ []) }
-    ensures view { ((view result.desk.place).knows ≡ true) × ((view result.desk.place).grid ≡ limits_of result.desk.shown.value.counts) × ((view result.desk.place).seen.book ≡ result.desk.shown.value.seen.book) }
-    ensures leaves { Leaves result.desk.shown.value }
+    ensures sees { Sees (view writer.desk.place) writer.desk.shown.value result.desk.shown.value (view result.desk.place) }
 {
     match writer.publish_as::<Looks, R>(rt) {
         (writer, Ok(())) => writer,

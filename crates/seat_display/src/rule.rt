@@ -1,7 +1,6 @@
 //! The rule of what is shown.
 ghost use Rattle.std.specs.Prelude.{◌≡◌};
-ghost use Rattle.seat_display.specs.Shown.{apply, one_more, tidied};
-ghost use Rattle.seat_display.specs.declared.table.Op.TheVariants.{Line};
+ghost use Rattle.seat_display.specs.Shown.{ShowsEntry, apply, one_more, tidied};
 
 use crate::table::{Op, Table, View};
 use atomic_table::{Join, Split};
@@ -14,9 +13,8 @@ use seat_journal::Entry;
 use std::alloc::AllocError;
 
 impl Table {
-    #[tactic(auto, using(crate::proofs::Tidy::absorbed))]
     fn show(&mut self, entry: &Entry)
-        ensures { tidied self.new ≡ apply (tidied self.old) (Line entry.now) }
+        ensures { ShowsEntry self.old self.new entry.now }
     {
         show(entry, &mut self.counts);
         self.lines = one_more(self.lines);
@@ -38,6 +36,7 @@ impl Absorb<Op> for Table {
 
     ghost never_fails = { Unit {0} };
 
+    #[tactic(auto, using(crate::proofs::Tidy::absorbed))]
     fn absorb_first(&mut self, operation: &Op, _other: &Table) -> Result<(), AllocError> {
         match operation {
             Op::Line(entry) => self.show(entry),

@@ -3,7 +3,7 @@ use crate::book::Trace;
 use seat_journal::Entry;
 use seat_nesting::{Counts, Grid};
 
-/// The counters that are shown, their number of lines, and the history that they stand for, which has no bytes.
+/// The counters that are shown, which know the limits of then, their number of lines, and the history that they stand for, which has no bytes.
 #[derive(Drop)]
 pub struct Table {
     pub counts: Counts,
@@ -18,7 +18,7 @@ pub enum Op {
     Mark(Trace),
 }
 
-/// What a seat at the table knows. No value of it is made.
+/// What a seat at the table knows: the opening grid, and a beginning of the history. No value of it is made.
 pub struct View {
     pub knows: bool,
     pub grid: Grid,

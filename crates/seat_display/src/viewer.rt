@@ -43,8 +43,8 @@ struct Glance {
 }
 
 impl Viewer {
-    /// The seats that are left on a place in a class, after all that is then seen. It waits for nobody. None where no
-    /// reader is let in, and where the table has fewer lines than this viewer has learnt of. The second does not come:
+    /// The seats that are left on a place in a class, after all that is then seen and under the limits after it. It waits
+    /// for nobody. None where no reader is let in, and where the table has fewer lines than this viewer has learnt of. The second does not come:
     /// lines are told of once they are published; but no clause says so.
     pub fn look(&mut self, place: Place, class: Class) -> Option<u16>
         ensures room { IfSome result (λ n. n ≡ room_left (replay self.new.grid self.new.front) place class) }
