@@ -100,7 +100,7 @@ own_here front rest e =
 
 -- ---- the lists by session
 
-by_length : (n : ℕ) (journal : List Entry) → length (by_session n journal) ≡ n
+by_length : (n : ℕ) (journal : List Entry) → length (by_session n journal) ≡ suc n
 by_length zero journal = refl
 by_length (suc n) journal = omega (arith, length-append (by_session n journal) (of_session (suc n) journal ∷ []), by_length n journal)
 
@@ -120,23 +120,19 @@ index_past [] i h = refl
 index_past (y ∷ ys) zero h = absurd (omega arith)
 index_past (y ∷ ys) (suc i) h = index_past ys i (omega arith)
 
-by_at : (n : ℕ) (journal : List Entry) (i : ℕ) → i < n → slice_index_or (by_session n journal) i [] ≡ of_session (suc i) journal
-by_at zero journal i h = absurd (omega arith)
-by_at (suc n) journal i h = ⊎_elim
-    (λ (is : i ≡ n). index_last (by_session n journal) (of_session (suc n) journal) i (omega (arith, is, by_length n journal)) ∙ ap (λ (k : ℕ). of_session (suc k) journal) (sym is))
-    (λ (not : i ≢ n). index_left (by_session n journal) (of_session (suc n) journal) i (omega (arith, by_length n journal, less i n h not)) ∙ by_at n journal i (less i n h not))
-    (dec_nat i n)
+by_of : (n : ℕ) (journal : List Entry) (s : ℕ) → s ≤ n → receipts_of (by_session n journal) s ≡ of_session s journal
+by_of zero journal zero le = refl
+by_of zero journal (suc s) le = absurd (omega (arith, le))
+by_of (suc n) journal s le = ⊎_elim
+    (λ (is : s ≡ suc n). index_last (by_session n journal) (of_session (suc n) journal) s (omega (arith, is, by_length n journal)) ∙ ap (λ (k : ℕ). of_session k journal) (sym is))
+    (λ (not : s ≢ suc n). index_left (by_session n journal) (of_session (suc n) journal) s (omega (arith, by_length n journal, less s n le not)) ∙ by_of n journal s (less s n le not))
+    (dec_nat s (suc n))
   where
-    less : (i n : ℕ) → i < suc n → i ≢ n → i < n
-    less i n h not = omega (arith, h, not)
-
-by_of : (n : ℕ) (journal : List Entry) (s : ℕ) → 0 < s → s ≤ n → receipts_of (by_session n journal) s ≡ of_session s journal
-by_of n journal zero some le = absurd (omega arith)
-by_of n journal (suc i) some le = by_at n journal i (omega arith)
+    less : (s n : ℕ) → s ≤ suc n → s ≢ suc n → s ≤ n
+    less s n le not = omega (arith, le, not)
 
 by_past : (n : ℕ) (journal : List Entry) (s : ℕ) → n < s → receipts_of (by_session n journal) s ≡ []
-by_past n journal zero more = refl
-by_past n journal (suc i) more = index_past (by_session n journal) i (omega (arith, by_length n journal))
+by_past n journal s more = index_past (by_session n journal) s (omega (arith, more, by_length n journal))
 
 -- ---- each line a receipt, each receipt a line
 
@@ -158,7 +154,7 @@ agrees grid n journal legal only = record {
         let x = there journal i (omega arith) in
         let c = cut journal i x.0 x.1 in
         let next = legal_at grid journal c.front c.rest x.0 legal c.is in
-        let own : receipts_of (by_session n journal) x.0.session ≡ of_session x.0.session journal = by_of n journal x.0.session (omega (arith, next.session.0)) (few n journal c.front c.rest x.0 only c.is) in
+        let own : receipts_of (by_session n journal) x.0.session ≡ of_session x.0.session journal = by_of n journal x.0.session (few n journal c.front c.rest x.0 only c.is) in
         record {
           line = x.0;
           is = x.1;
@@ -166,8 +162,8 @@ agrees grid n journal legal only = record {
           receipt = ap (λ (l : List Entry). nth l x.0.call) own ∙ ap (λ (l : List Entry). nth (of_session x.0.session l) x.0.call) c.is ∙ ap (nth (of_session x.0.session (c.front ++ x.0 ∷ c.rest))) (call_own grid c.front x.0 next) ∙ own_here c.front c.rest x.0;
         }
 
-    found : (s i : ℕ) (e : Entry) → 0 < s → slice_get (of_session s journal) i ≡ Some e → HasLine journal s (suc i) e
-    found s i e some at =
+    found : (s i : ℕ) (e : Entry) → slice_get (of_session s journal) i ≡ Some e → HasLine journal s (suc i) e
+    found s i e at =
         let c = own_cut s journal i e at in
         let next = legal_at grid journal c.front c.rest e legal c.is in
         record {
@@ -178,23 +174,22 @@ agrees grid n journal legal only = record {
 
     receipt : (session call : ℕ) (e : Entry) → receipt_of (by_session n journal) session call ≡ Some e → HasLine journal session call e
     receipt session zero e at = absurd (cc at)
-    receipt zero (suc i) e at = absurd (cc at)
-    receipt (suc s) (suc i) e at = ⊎_elim
-        (λ (more : n < suc s). absurd (cc (sym at ∙ ap (λ (l : List Entry). slice_get l i) (by_past n journal (suc s) more))))
-        (λ (le : suc s ≤ n). found (suc s) i e (omega arith) (ap (λ (l : List Entry). slice_get l i) (sym (by_of n journal (suc s) (omega arith) le)) ∙ at))
-        (cases_lt n (suc s))
+    receipt s (suc i) e at = ⊎_elim
+        (λ (more : n < s). absurd (cc (sym at ∙ ap (λ (l : List Entry). slice_get l i) (by_past n journal s more))))
+        (λ (le : s ≤ n). found s i e (ap (λ (l : List Entry). slice_get l i) (sym (by_of n journal s le)) ∙ at))
+        (cases_lt n s)
 
 -- ---- sums over the lists by session
 
--- each entry is of a session from 1 to n
+-- each entry is of a session up to n
 abbrev AllOf : ℕ → List Entry → Type 0
-AllOf n journal = AllByRecursion (λ (e : Entry). (0 < e.session) × (e.session ≤ n)) journal
+AllOf n journal = AllByRecursion (λ (e : Entry). e.session ≤ n) journal
 
-sessions_are : (grid : Legs) (n : ℕ) (journal front rest : List Entry) → IsLegal grid journal → OnlyFirst n journal → journal ≡ front ++ rest → AllOf n rest
-sessions_are grid n journal front [] legal only is = tt
-sessions_are grid n journal front (e ∷ rest) legal only is = (
-  (omega (arith, (legal_at grid journal front rest e legal is).session.0), few n journal front rest e only is),
-  sessions_are grid n journal (front ++ e ∷ []) rest legal only (is ∙ sym (append_assoc front (e ∷ []) rest)),
+sessions_are : (n : ℕ) (journal front rest : List Entry) → OnlyFirst n journal → journal ≡ front ++ rest → AllOf n rest
+sessions_are n journal front [] only is = tt
+sessions_are n journal front (e ∷ rest) only is = (
+  few n journal front rest e only is,
+  sessions_are n journal (front ++ e ∷ []) rest only (is ∙ sym (append_assoc front (e ∷ []) rest)),
 )
 
 module _ (f : Entry → ℕ) (g : List Entry → ℕ) (none : g [] ≡ 0) (more : (e : Entry) (xs : List Entry) → g (e ∷ xs) ≡ f e + g xs) where
@@ -207,20 +202,25 @@ module _ (f : Entry → ℕ) (g : List Entry → ℕ) (none : g [] ≡ 0) (more 
   over_up : (n : ℕ) (xs : List Entry) → sum_by g (by_session (suc n) xs) ≡ sum_by g (by_session n xs) + g (of_session (suc n) xs)
   over_up n xs = sum_by_push g (by_session n xs) (of_session (suc n) xs)
 
+  over_zero : (xs : List Entry) → sum_by g (by_session 0 xs) ≡ g (of_session 0 xs)
+  over_zero xs =
+      let pushed : sum_by g (by_session 0 xs) ≡ 0 + g (of_session 0 xs) = sum_by_push g [] (of_session 0 xs) in
+      omega (arith, pushed)
+
   over_none : (n : ℕ) → sum_by g (by_session n []) ≡ 0
-  over_none zero = refl
+  over_none zero = over_zero [] ∙ none
   over_none (suc n) = omega (arith, over_up n [], over_none n, none)
 
   over_out : (n : ℕ) (e : Entry) (xs : List Entry) → n < e.session → sum_by g (by_session n (e ∷ xs)) ≡ sum_by g (by_session n xs)
-  over_out zero e xs h = refl
+  over_out zero e xs h = over_zero (e ∷ xs) ∙ own_out 0 e xs (λ q. absurd (omega (arith, q, h))) ∙ sym (over_zero xs)
   over_out (suc n) e xs h =
       omega (arith, over_up n (e ∷ xs), over_up n xs, over_out n e xs (omega (arith, h)), own_out (suc n) e xs (λ q. absurd (omega (arith, q, h))))
 
-  over_in : (n : ℕ) (e : Entry) (xs : List Entry) → 0 < e.session → e.session ≤ n → sum_by g (by_session n (e ∷ xs)) ≡ f e + sum_by g (by_session n xs)
-  over_in zero e xs some le = absurd (omega (arith, some, le))
-  over_in (suc n) e xs some le = ⊎_elim
+  over_in : (n : ℕ) (e : Entry) (xs : List Entry) → e.session ≤ n → sum_by g (by_session n (e ∷ xs)) ≡ f e + sum_by g (by_session n xs)
+  over_in zero e xs le = omega (arith, over_zero (e ∷ xs), over_zero xs, own_in 0 e xs (omega (arith, le)))
+  over_in (suc n) e xs le = ⊎_elim
       (λ (is : e.session ≡ suc n). omega (arith, over_up n (e ∷ xs), over_up n xs, over_out n e xs (omega (arith, is)), own_in (suc n) e xs is))
-      (λ (not : e.session ≢ suc n). omega (arith, over_up n (e ∷ xs), over_up n xs, over_in n e xs some (less e.session n le not), own_out (suc n) e xs not))
+      (λ (not : e.session ≢ suc n). omega (arith, over_up n (e ∷ xs), over_up n xs, over_in n e xs (less e.session n le not), own_out (suc n) e xs not))
       (dec_nat e.session (suc n))
     where
       less : (s n : ℕ) → s ≤ suc n → s ≢ suc n → s ≤ n
@@ -228,7 +228,7 @@ module _ (f : Entry → ℕ) (g : List Entry → ℕ) (none : g [] ≡ 0) (more 
 
   over_all : (n : ℕ) (xs : List Entry) → AllOf n xs → sum_by g (by_session n xs) ≡ g xs
   over_all n [] h = over_none n ∙ sym none
-  over_all n (e ∷ xs) h = over_in n e xs h.0.0 h.0.1 ∙ ap (λ (k : ℕ). f e + k) (over_all n xs h.1) ∙ sym (more e xs)
+  over_all n (e ∷ xs) h = over_in n e xs h.0 ∙ ap (λ (k : ℕ). f e + k) (over_all n xs h.1) ∙ sym (more e xs)
 
 sums : (n : ℕ) (journal : List Entry) → AllOf n journal → totals_of journal ≡ totals_in (by_session n journal)
 sums n journal all = λ i. record {
@@ -244,7 +244,7 @@ lists_agree grid n journal lists legal only is = subst (λ (l : List (List Entry
 
 pub lists_sum : (grid : Legs) (n : ℕ) (journal : List Entry) (lists : List (List Entry)) (totals : Totals) → IsLegal grid journal → OnlyFirst n journal → lists ≡ by_session n journal → totals ≡ totals_of journal → totals ≡ totals_in lists
 lists_sum grid n journal lists totals legal only is are =
-    are ∙ sums n journal (sessions_are grid n journal [] journal legal only refl) ∙ ap totals_in (sym is)
+    are ∙ sums n journal (sessions_are n journal [] journal only refl) ∙ ap totals_in (sym is)
 
 pub lists_count : (grid : Legs) (n : ℕ) (journal : List Entry) (lists : List (List Entry)) → IsLegal grid journal → OnlyFirst n journal → lists ≡ by_session n journal → receipts_in lists ≡ length journal
 lists_count grid n journal lists legal only is =

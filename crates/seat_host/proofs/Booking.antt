@@ -5,7 +5,7 @@ use Rattle.std.proofs.lemmas.List.{append-nil}
 use mathlib.Core.Logic.{dite}
 use native.Mathlib.Decide.{ℕ_discrete}
 use Rattle.seat_nesting.specs.Nesting.{Legs}
-use Rattle.seat_journal.specs.declared.entry.Command.{Command}
+use Rattle.seat_journal.specs.declared.entry.Work.{Work}
 use Rattle.seat_journal.specs.declared.entry.Entry.{Entry}
 use Rattle.logbook.specs.Pages.{Book}
 use Rattle.seat_core.specs.Inventory.{Inventory, HoldsWithinLimits}
@@ -72,14 +72,13 @@ tied_open grid cap n line_counts journal none zeros small few =
       legal = legal_nil grid;
       capped = omega arith;
       small = small;
-      counts = λ s low high. no_calls s high;
+      counts = λ s high. no_calls s high;
       only = record { none = λ s more. refl };
     })
 
 -- one line more in the journal and in its session's book
 pub tied_push : (grid : Legs) (cap n : ℕ) (line_counts now : List ℕ) (journal : List Entry) (e : Entry) → IsTied grid cap n line_counts journal → IsNext grid journal e → length journal < cap → e.session ≤ n → now ≡ slice_set line_counts e.session (slice_index line_counts e.session + 1) → IsTied grid cap n now (journal ++ e ∷ [])
 tied_push grid cap n line_counts now journal e t next room le is =
-    let some : 0 < e.session = omega (arith, next.session.0) in
     let k = e.session in
     let here : (s : ℕ) → e.session ≡ s → of_session s (journal ++ e ∷ []) ≡ of_session s journal ++ e ∷ [] = λ s same. own_append s journal (e ∷ []) ∙ ap (λ l. of_session s journal ++ l) (own_one s e same) in
     let there : (s : ℕ) → e.session ≢ s → of_session s (journal ++ e ∷ []) ≡ of_session s journal = λ s not. own_append s journal (e ∷ []) ∙ ap (λ l. of_session s journal ++ l) (own_other s e not) ∙ append-nil (of_session s journal) in
@@ -89,10 +88,10 @@ tied_push grid cap n line_counts now journal e t next room le is =
       legal = legal_push grid journal e t.legal next;
       capped = omega (arith, room, length-append journal (e ∷ []));
       small = t.small;
-      counts = λ s low high. ⊎_elim
+      counts = λ s high. ⊎_elim
           (λ (same : e.session ≡ s). subst (λ j. slice_index now j ≡ length (of_session j (journal ++ e ∷ []))) same
-          (ap (λ l. slice_index l k) is ∙ (at_set_here line_counts k _ (omega (arith, t.wide, t.few, le)) ∙ omega (arith, t.counts k some (omega (arith, le, t.few)), ap length (here k refl), length-append (of_session k journal) (e ∷ [])))))
-          (λ (not : e.session ≢ s). ap (λ l. slice_index l s) is ∙ (at_set_else line_counts k s _ (λ q. not (sym q)) ∙ (t.counts s low high ∙ sym (ap length (there s not)))))
+          (ap (λ l. slice_index l k) is ∙ (at_set_here line_counts k _ (omega (arith, t.wide, t.few, le)) ∙ omega (arith, t.counts k (omega (arith, le, t.few)), ap length (here k refl), length-append (of_session k journal) (e ∷ [])))))
+          (λ (not : e.session ≢ s). ap (λ l. slice_index l s) is ∙ (at_set_else line_counts k s _ (λ q. not (sym q)) ∙ (t.counts s high ∙ sym (ap length (there s not)))))
           (dec_nat e.session s);
       only = record { none = λ s more. there s (λ q. absurd (omega (arith, q, le, more))) ∙ t.only.none s more };
     }
@@ -101,9 +100,9 @@ tied_push grid cap n line_counts now journal e t next room le is =
 pub confirmed_by : (grid : Legs) (cap n : ℕ) (line_counts : List ℕ) (journal : List Entry) (s : Seat) (stake : Staked) → IsTied grid cap n line_counts journal → Stands grid n s → stake ≡ counted s.id (length s.receipts) → stake.amount ≡ slice_index line_counts stake.number → Begins s.front journal → IsConfirmed n journal s
 confirmed_by grid cap n line_counts journal s stake t stands staked counts pre =
     let same : length s.receipts ≡ slice_index line_counts s.id = sym (ap (λ (k : Staked). k.amount) staked) ∙ counts ∙ ap (λ (k : Staked). slice_index line_counts k.number) staked in
-    let number : length s.receipts ≡ length (of_session s.id journal) = same ∙ t.counts s.id stands.number.0 (omega (arith, stands.number.1, stands.number.2)) in
+    let number : length s.receipts ≡ length (of_session s.id journal) = same ∙ t.counts s.id (omega (arith, stands.number.0, stands.number.1)) in
     record {
-      number = (stands.number.0, stands.number.1);
+      number = stands.number.0;
       lines = own_all s.id s.receipts s.front journal stands.own pre number;
       front = pre;
     }
@@ -112,16 +111,16 @@ abbrev pub with_line : Seat → List Entry → List Entry → Seat
 with_line s kept front = record { id = s.id; receipts = kept; front = front }
 
 -- what a booking leaves a session with
-pub record AfterBooking (grid : Legs) (n : ℕ) (journal : List Entry) (command : Command) (s : Seat) (kept front : List Entry) : Type 0 where
+pub record AfterBooking (grid : Legs) (n : ℕ) (journal : List Entry) (work : Work) (s : Seat) (kept front : List Entry) : Type 0 where
   pub is : front ≡ journal
   pub len : length kept ≡ length s.receipts + 1
-  pub booked : Booked grid command s (with_line s kept front)
+  pub booked : Booked grid work s (with_line s kept front)
   pub stands : Stands grid n (with_line s kept front)
 
-pub booking : (grid : Legs) (cap n : ℕ) (core now : Inventory) (line_counts : List ℕ) (s : Seat) (command : Command) (kept front : List Entry)
-    → core.grid ≡ grid → now.grid ≡ core.grid → IsTied grid cap n line_counts core.journal → Stands grid n s → IsConfirmed n core.journal s → AddsLine core now s.id command s.receipts kept
-    → Begins now.journal front → (front ≡ s.front) ⊎ (front ≡ now.journal) → AfterBooking grid n now.journal command s kept front
-booking grid cap n core now line_counts s command kept front over same t stands c a more longer =
+pub booking : (grid : Legs) (cap n : ℕ) (core now : Inventory) (line_counts : List ℕ) (s : Seat) (work : Work) (kept front : List Entry)
+    → core.grid ≡ grid → now.grid ≡ core.grid → IsTied grid cap n line_counts core.journal → Stands grid n s → IsConfirmed n core.journal s → AddsLine core now s.id work s.receipts kept
+    → Begins now.journal front → (front ≡ s.front) ⊎ (front ≡ now.journal) → AfterBooking grid n now.journal work s kept front
+booking grid cap n core now line_counts s work kept front over same t stands c a more longer =
     let journal = core.journal in
     let e = a.line in
     let next : IsNext grid journal e = subst (λ (h : Legs). IsNext h journal e) over a.next in
@@ -143,7 +142,7 @@ booking grid cap n core now line_counts s command kept front over same t stands 
         line = e;
         session = session;
         call = ap (λ (x : Entry). x.call) a.is ∙ omega (arith, calls_own journal s.id, ap length c.lines);
-        command_is = ap (λ (x : Entry). x.command) a.is;
+        work_is = ap (λ (x : Entry). x.work) a.is;
         id = refl;
         receipts = a.kept_is;
         before = before;
@@ -157,12 +156,12 @@ booking grid cap n core now line_counts s command kept front over same t stands 
     }
 
 -- the same of what a call finds and is told
-pub after_call : (grid : Legs) (cap : ℕ) (book : Book) (n : ℕ) (core now : Inventory) (line_counts : List ℕ) (publisher shown : Published) (opened : ℕ) (s old : Seat) (command : Command) (kept front told : List Entry)
-    → LawfulUnderLock grid cap book n core line_counts publisher opened → Stands grid n s → s ≡ old → IsConfirmed n publisher.visible old → AddsLine core now s.id command s.receipts kept → now.grid ≡ core.grid → Shows now shown
-    → told ≡ shown.visible → Begins told front → (front ≡ s.front) ⊎ (front ≡ told) → AfterBooking grid n now.journal command s kept front
-after_call grid cap book n core now line_counts publisher shown opened s old command kept front told l stands is c a same shows tells more longer =
+pub after_call : (grid : Legs) (cap : ℕ) (book : Book) (n : ℕ) (core now : Inventory) (line_counts : List ℕ) (publisher shown : Published) (opened : ℕ) (s old : Seat) (work : Work) (kept front told : List Entry)
+    → LawfulUnderLock grid cap book n core line_counts publisher opened → Stands grid n s → s ≡ old → IsConfirmed n publisher.visible old → AddsLine core now s.id work s.receipts kept → now.grid ≡ core.grid → Shows now shown
+    → told ≡ shown.visible → Begins told front → (front ≡ s.front) ⊎ (front ≡ told) → AfterBooking grid n now.journal work s kept front
+after_call grid cap book n core now line_counts publisher shown opened s old work kept front told l stands is c a same shows tells more longer =
     let all : told ≡ now.journal = tells ∙ shows.visible in
-    booking grid cap n core now line_counts s command kept front l.grid_is same l.tied stands
+    booking grid cap n core now line_counts s work kept front l.grid_is same l.tied stands
     (subst (λ (x : List Entry × Seat). IsConfirmed n x.0 x.1) (λ i. (l.shown.visible i, sym is i)) c) a
     (subst (λ (x : List Entry). Begins x front) all more) (⊎_elim (λ b. inl b) (λ b. inr (b ∙ all)) longer)
 
@@ -173,10 +172,10 @@ legal_shown core publisher e shown s is legal next =
     subst (λ (x : Legs × (List Entry × Entry)). IsLegal x.0 (x.1.0 ++ x.1.1 ∷ [])) (λ i. (sym s.grid_is i, (sym all i, sym is i))) (legal_push core.grid core.journal e legal next)
 
 -- what holds under the lock holds with one line more
-pub lawful_push : (grid : Legs) (cap : ℕ) (book : Book) (n : ℕ) (core now : Inventory) (line_counts audited more : List ℕ) (publisher shown : Published) (opened session many : ℕ) (stake : Staked) (command : Command) (receipts kept : List Entry)
-    → LawfulUnderLock grid cap book n core line_counts publisher opened → AddsLine core now session command receipts kept → now.grid ≡ core.grid → now.cap ≡ core.cap → shown.book ≡ publisher.book → Shows now shown
+pub lawful_push : (grid : Legs) (cap : ℕ) (book : Book) (n : ℕ) (core now : Inventory) (line_counts audited more : List ℕ) (publisher shown : Published) (opened session many : ℕ) (stake : Staked) (work : Work) (receipts kept : List Entry)
+    → LawfulUnderLock grid cap book n core line_counts publisher opened → AddsLine core now session work receipts kept → now.grid ≡ core.grid → now.cap ≡ core.cap → shown.book ≡ publisher.book → Shows now shown
     → session ≤ n → audited ≡ line_counts → stake ≡ counted session many → more ≡ slice_set audited stake.number (slice_index audited stake.number + 1) → LawfulUnderLock grid cap book n now more shown opened
-lawful_push grid cap book n core now line_counts audited more publisher shown opened session many stake command receipts kept l a grid_same cap_same book_same shows le same staked added =
+lawful_push grid cap book n core now line_counts audited more publisher shown opened session many stake work receipts kept l a grid_same cap_same book_same shows le same staked added =
     let e = a.line in
     let mine : session ≡ e.session = sym (ap (λ (x : Entry). x.session) a.is) in
     let number : stake.number ≡ e.session = ap (λ (k : Staked). k.number) staked ∙ mine in

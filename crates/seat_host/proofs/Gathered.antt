@@ -33,9 +33,6 @@ up_each (suc n) sessions e s some le =
 
 -- ---- the lists of receipts, filled session by session
 
-at : List (List Entry) → ℕ → List Entry
-at slots i = slice_index_or slots i []
-
 at_set_here : (xs : List (List Entry)) (i : ℕ) (v : List Entry) → i < length xs → slice_index_or (slice_set xs i v) i [] ≡ v
 at_set_here [] i v h = absurd (omega arith)
 at_set_here (x ∷ xs) zero v h = refl
@@ -58,17 +55,28 @@ pub record Gathering (all : List Seat) (n : ℕ) (journal : List Entry) (rest : 
   pub gone : List Seat
   pub is : all ≡ rest ++ gone
   pub confirmed : AllByRecursion (IsConfirmed n journal) gone
-  pub wide : length slots ≡ n
-  pub each : (s : ℕ) → 0 < s → s ≤ n → (has_id s rest ≡ true) ⊎ (slice_index_or slots (s - 1) [] ≡ of_session s journal)
+  pub wide : length slots ≡ n + 1
+  pub each : (s : ℕ) → s ≤ n → (has_id s rest ≡ true) ⊎ (slice_index_or slots s [] ≡ of_session s journal)
 
-pub starts : (all : List Seat) (n : ℕ) (journal : List Entry) (slots : List (List Entry)) → has_all n all ≡ true → length slots ≡ n → Gathering all n journal all slots
-starts all n journal slots h wide = record {
+-- none of them is gone yet, and the list of session 0 is filled
+pub starts : (all : List Seat) (n : ℕ) (journal : List Entry) (manager : Seat) (slots now : List (List Entry)) → has_all n all ≡ true → length slots ≡ n + 1 → manager.id ≡ 0 → IsConfirmed n journal manager
+    → now ≡ slice_set slots manager.id manager.receipts → Gathering all n journal all now
+starts all n journal manager slots now h wide zeroth c set = record {
   gone = [];
   is = sym (append-nil all);
   confirmed = tt;
-  wide = wide;
-  each = λ s some le. inl (up_each n all (both (length all == n) (has_up_to n all) h).1 s some le);
+  wide = ap length set ∙ set_length slots manager.id manager.receipts ∙ wide;
+  each = each;
 }
+  where
+    first : slice_index_or now 0 [] ≡ of_session 0 journal
+    first =
+        ap (λ (l : List (List Entry)). slice_index_or l 0 []) set ∙ ap (λ (k : ℕ). slice_index_or (slice_set slots k manager.receipts) 0 []) zeroth
+        ∙ at_set_here slots 0 manager.receipts (omega (arith, wide)) ∙ c.lines ∙ ap (λ (k : ℕ). of_session k journal) zeroth
+
+    each : (s : ℕ) → s ≤ n → (has_id s all ≡ true) ⊎ (slice_index_or now s [] ≡ of_session s journal)
+    each zero le = inr first
+    each (suc s) le = inl (up_each n all (both (length all == n) (has_up_to n all) h).1 (suc s) (omega arith) le)
 
 id_push : (s : ℕ) (rest : List Seat) (x : Seat) → has_id s (rest ++ x ∷ []) ≡ true → (has_id s rest ≡ true) ⊎ (x.id ≡ s)
 id_push s [] x h = last (x.id == s) refl h
@@ -82,27 +90,24 @@ id_push s (y ∷ rest) x h = first (y.id == s) h (id_push s rest x)
     first true h below = inl refl
     first false h below = below h
 
-pub goes_on : (all : List Seat) (n : ℕ) (journal : List Entry) (was rest : List Seat) (x : Seat) (slots now : List (List Entry)) → Gathering all n journal was slots → was ≡ rest ++ x ∷ [] → IsConfirmed n journal x → now ≡ slice_set slots (x.id - 1) x.receipts → Gathering all n journal rest now
+pub goes_on : (all : List Seat) (n : ℕ) (journal : List Entry) (was rest : List Seat) (x : Seat) (slots now : List (List Entry)) → Gathering all n journal was slots → was ≡ rest ++ x ∷ [] → IsConfirmed n journal x → now ≡ slice_set slots x.id x.receipts → Gathering all n journal rest now
 goes_on all n journal was rest x slots now g split h set = record {
   gone = x ∷ g.gone;
   is = g.is ∙ ap (λ (l : List Seat). l ++ g.gone) split ∙ append_assoc rest (x ∷ []) g.gone;
   confirmed = (h, g.confirmed);
-  wide = ap length set ∙ set_length slots (x.id - 1) x.receipts ∙ g.wide;
-  each = λ s some le. ⊎_elim
+  wide = ap length set ∙ set_length slots x.id x.receipts ∙ g.wide;
+  each = λ s le. ⊎_elim
       (λ (is : s ≡ x.id).
-      let inside : x.id - 1 < length slots = omega (arith, g.wide, h.number.0, h.number.1) in
-      inr (ap (λ (l : List (List Entry)). slice_index_or l (s - 1) []) set ∙ ap (λ (k : ℕ). slice_index_or (slice_set slots (x.id - 1) x.receipts) (k - 1) []) is
-      ∙ at_set_here slots (x.id - 1) x.receipts inside ∙ h.lines ∙ ap (λ (k : ℕ). of_session k journal) (sym is)))
+      let inside : x.id < length slots = omega (arith, g.wide, h.number) in
+      inr (ap (λ (l : List (List Entry)). slice_index_or l s []) set ∙ ap (λ (k : ℕ). slice_index_or (slice_set slots x.id x.receipts) k []) is
+      ∙ at_set_here slots x.id x.receipts inside ∙ h.lines ∙ ap (λ (k : ℕ). of_session k journal) (sym is)))
       (λ (not : s ≢ x.id). ⊎_elim
       (λ (there : has_id s was ≡ true). ⊎_elim (λ left. inl left) (λ (is : x.id ≡ s). absurd (not (sym is))) (id_push s rest x (ap (has_id s) (sym split) ∙ there)))
-      (λ (done : slice_index_or slots (s - 1) [] ≡ of_session s journal).
-      inr (ap (λ (l : List (List Entry)). slice_index_or l (s - 1) []) set ∙ at_set_else slots (x.id - 1) (s - 1) x.receipts (apart s x.id some h.number.0 not) ∙ done))
-      (g.each s some le))
+      (λ (done : slice_index_or slots s [] ≡ of_session s journal).
+      inr (ap (λ (l : List (List Entry)). slice_index_or l s []) set ∙ at_set_else slots x.id s x.receipts not ∙ done))
+      (g.each s le))
       (dec_nat s x.id);
 }
-  where
-    apart : (a b : ℕ) → 0 < a → 0 < b → a ≢ b → a - 1 ≢ b - 1
-    apart a b c d not e = not (omega (arith, c, d, e))
 
 -- lists that are the lines of each session are those by session
 list_last : (xs : List (List Entry)) (n : ℕ) → length xs ≡ suc n → (front : List (List Entry)) × ((length front ≡ n) × ((xs ≡ front ++ slice_index_or xs n [] ∷ []) × ((i : ℕ) → i < n → slice_index_or front i [] ≡ slice_index_or xs i [])))
@@ -117,19 +122,17 @@ list_last (x ∷ xs) (suc n) e =
     index front same zero h = refl
     index front same (suc i) h = same i (omega arith)
 
-filled : (n : ℕ) (journal : List Entry) (slots : List (List Entry)) → length slots ≡ n → ((i : ℕ) → i < n → slice_index_or slots i [] ≡ of_session (suc i) journal) → slots ≡ by_session n journal
-filled zero journal [] wide each = refl
-filled zero journal (x ∷ xs) wide each = absurd (omega (arith, wide))
+filled : (n : ℕ) (journal : List Entry) (slots : List (List Entry)) → length slots ≡ suc n → ((i : ℕ) → i ≤ n → slice_index_or slots i [] ≡ of_session i journal) → slots ≡ by_session n journal
+filled zero journal [] wide each = absurd (omega (arith, wide))
+filled zero journal (x ∷ []) wide each = ap (λ (l : List Entry). l ∷ []) (each 0 (omega arith))
+filled zero journal (x ∷ y ∷ xs) wide each = absurd (omega (arith, wide))
 filled (suc n) journal slots wide each =
-    let l = list_last slots n wide in
-    l.1.1.0 ∙ (λ k. filled n journal l.0 l.1.0 (λ i h. l.1.1.1 i h ∙ each i (omega arith)) k ++ each n (omega arith) k ∷ [])
+    let l = list_last slots (suc n) wide in
+    l.1.1.0 ∙ (λ k. filled n journal l.0 l.1.0 (λ i h. l.1.1.1 i (omega (arith, h)) ∙ each i (omega (arith, h))) k ++ each (suc n) (omega arith) k ∷ [])
 
 pub ends : (all : List Seat) (n : ℕ) (journal : List Entry) (rest : List Seat) (slots : List (List Entry)) → Gathering all n journal rest slots → length rest ≡ 0 → (slots ≡ by_session n journal) × AllByRecursion (IsConfirmed n journal) all
-ends all n journal [] slots g none = (filled n journal slots g.wide each, subst (AllByRecursion (IsConfirmed n journal)) (sym g.is) g.confirmed)
+ends all n journal [] slots g none = (filled n journal slots (omega (arith, g.wide)) each, subst (AllByRecursion (IsConfirmed n journal)) (sym g.is) g.confirmed)
   where
-    before : (i : ℕ) → i ≡ suc i - 1
-    before i = omega arith
-
-    each : (i : ℕ) → i < n → slice_index_or slots i [] ≡ of_session (suc i) journal
-    each i h = ⊎_elim (λ (no : false ≡ true). absurd (cc no)) (λ e. ap (λ (k : ℕ). slice_index_or slots k []) (before i) ∙ e) (g.each (suc i) (omega arith) (omega arith))
+    each : (i : ℕ) → i ≤ n → slice_index_or slots i [] ≡ of_session i journal
+    each i h = ⊎_elim (λ (no : false ≡ true). absurd (cc no)) (λ e. e) (g.each i h)
 ends all n journal (x ∷ rest) slots g none = absurd (omega (arith, none))

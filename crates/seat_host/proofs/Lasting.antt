@@ -2,7 +2,7 @@
 use Rattle.std.proofs.Common.{◌≡◌, ℕ, zero, suc, ◌-◌, ◌<◌, Some, List, [], ◌∷◌, ◌++◌, length, refl, ap, sym, ◌∙◌, arith, length-append}
 use Rattle.std.specs.Prelude.{slice_get}
 use Rattle.seat_nesting.specs.Nesting.{Legs}
-use Rattle.seat_journal.specs.declared.entry.Command.{Command}
+use Rattle.seat_journal.specs.declared.entry.Work.{Work}
 use Rattle.seat_journal.specs.declared.entry.Entry.{Entry}
 use Rattle.seat_host.specs.Sessions.{Seat, Booked}
 use Rattle.seat_host.specs.Answering.{Answers}
@@ -17,12 +17,12 @@ some_same : (x y : Entry) → Some x ≡ Some y → x ≡ y
 some_same x y e = cc e
 
 -- a session that a call gave a line has a receipt
-pub some_receipt : (grid : Legs) (command : Command) (s t : Seat) → Booked grid command s t → 0 < length t.receipts
-some_receipt grid command s t b = omega (arith, ap length b.receipts, length-append s.receipts (b.line ∷ []))
+pub some_receipt : (grid : Legs) (work : Work) (s t : Seat) → Booked grid work s t → 0 < length t.receipts
+some_receipt grid work s t b = omega (arith, ap length b.receipts, length-append s.receipts (b.line ∷ []))
 
 -- its last receipt is the one that the call added
-pub last_answers : (grid : Legs) (command : Command) (s t : Seat) (x : Entry) → Booked grid command s t → slice_get t.receipts (length t.receipts - 1) ≡ Some x → Answers grid command s t x
-last_answers grid command s t x b at =
+pub last_answers : (grid : Legs) (work : Work) (s t : Seat) (x : Entry) → Booked grid work s t → slice_get t.receipts (length t.receipts - 1) ≡ Some x → Answers grid work s t x
+last_answers grid work s t x b at =
     let here : length t.receipts - 1 ≡ length s.receipts = omega (arith, ap length b.receipts, length-append s.receipts (b.line ∷ [])) in
     let is : Some b.line ≡ Some x = sym (last_get s.receipts b.line (length t.receipts - 1) here) ∙ ap (λ (l : List Entry). slice_get l (length t.receipts - 1)) (sym b.receipts) ∙ at in
     record { booked = b; last = b.receipts ∙ ap (λ (e : Entry). s.receipts ++ e ∷ []) (some_same b.line x is) }

@@ -10,10 +10,9 @@ abbrev pub nth : List Entry → ℕ → Option Entry
 nth entries zero = None
 nth entries (suc n) = slice_get entries n
 
--- the receipts of session n, from 1
+-- the receipts of a session, which are the manager's at 0
 abbrev pub receipts_of : List (List Entry) → ℕ → List Entry
-receipts_of lists zero = []
-receipts_of lists (suc n) = slice_index_or lists n []
+receipts_of lists session = slice_index_or lists session []
 
 -- the receipt of a session's call
 abbrev pub receipt_of : List (List Entry) → ℕ → ℕ → Option Entry

@@ -1,4 +1,4 @@
--- The headline: what a host and all its sessions come to, once they are gathered.
+-- The headline: what a host, its manager and all its sessions come to, once they are gathered.
 use Rattle.std.specs.Prelude.{◌≡◌, ℕ, ◌≤◌, List, length}
 use Rattle.seat_nesting.specs.Nesting.{Legs}
 use Rattle.seat_journal.specs.declared.entry.Entry.{Entry}
@@ -19,7 +19,7 @@ pub record Headline (grid : Legs) (cap n : ℕ) (journal : List Entry) (receipts
   pub each : Agrees receipts journal
   -- none is left out
   pub lines : receipts_in receipts ≡ length journal
-  -- the receipts of a session are its lines, in order, and no session but the first n has any
+  -- the receipts of a session are its lines, in order, and no session but the manager and the first n has any
   pub own : receipts ≡ by_session n journal
   pub only : OnlyFirst n journal
   -- the totals are those of the journal, and the seats of the receipts sum to them

@@ -2,7 +2,7 @@
 use Rattle.std.specs.Prelude.{◌≡◌, ℕ, ◌+◌, ◌<◌, ◌≤◌, List, [], ◌∷◌, ◌++◌, length, slice_index}
 use Rattle.logbook.specs.Pages.{Book}
 use Rattle.seat_nesting.specs.Nesting.{Legs}
-use Rattle.seat_journal.specs.declared.entry.Command.{Command}
+use Rattle.seat_journal.specs.declared.entry.Work.{Work}
 use Rattle.seat_journal.specs.declared.entry.Entry.{Entry}
 use Rattle.seat_core.specs.Inventory.{Inventory, HoldsWithinLimits}
 use Rattle.seat_core.specs.Journal.{IsLegal, IsNext, calls_of, next_line}
@@ -11,7 +11,7 @@ use Rattle.seat_host.specs.Histories.{of_session, OnlyFirst}
 
 -- the journal beside the counts of lines of n sessions
 pub record IsTied (grid : Legs) (cap n : ℕ) (line_counts : List ℕ) (journal : List Entry) : Type 0 where
-  -- there are at most 8 sessions, and a count at each number up to 8
+  -- there are at most 8 sessions beside the manager, which is number 0, and a count at each number up to 8
   pub wide : length line_counts ≡ 9
   pub few : n < 9
   -- the journal is a legal history over the limits, of at most cap lines
@@ -19,7 +19,7 @@ pub record IsTied (grid : Legs) (cap n : ℕ) (line_counts : List ℕ) (journal 
   pub capped : length journal ≤ cap
   pub small : cap ≤ 999999
   -- each count is of its session's lines
-  pub counts : (s : ℕ) → 0 < s → s < 9 → slice_index line_counts s ≡ length (of_session s journal)
+  pub counts : (s : ℕ) → s < 9 → slice_index line_counts s ≡ length (of_session s journal)
   -- no session but the first n has any
   pub only : OnlyFirst n journal
 
@@ -41,10 +41,10 @@ pub record LawfulUnderLock (grid : Legs) (cap : ℕ) (book : Book) (n : ℕ) (co
   -- the journal is legal, and each count is of its session's lines
   pub tied : IsTied grid cap n line_counts core.journal
 
--- the inventory took one line more, the next one of this session with this command, and its receipt was kept
-pub record AddsLine (old new : Inventory) (session : ℕ) (command : Command) (receipts kept : List Entry) : Type 0 where
+-- the inventory took one line more, the next one of this session with this work, and its receipt was kept
+pub record AddsLine (old new : Inventory) (session : ℕ) (work : Work) (receipts kept : List Entry) : Type 0 where
   pub line : Entry
-  pub is : line ≡ next_line old.grid old.journal session (calls_of old.journal session + 1) command
+  pub is : line ≡ next_line old.grid old.journal session (calls_of old.journal session + 1) work
   pub next : IsNext old.grid old.journal line
   pub below : length old.journal < old.cap
   pub journal_is : new.journal ≡ old.journal ++ line ∷ []

@@ -1,14 +1,14 @@
 -- What a session knows, and what its calls leave.
 use Rattle.std.specs.Prelude.{◌≡◌, ℕ, zero, suc, ◌+◌, ◌<◌, ◌≤◌, List, [], ◌∷◌, ◌++◌, length}
 use Rattle.seat_nesting.specs.Nesting.{Legs}
-use Rattle.seat_journal.specs.declared.entry.Command.{Command}
+use Rattle.seat_journal.specs.declared.entry.Work.{Work}
 use Rattle.seat_journal.specs.declared.entry.Entry.{Entry}
 use Rattle.seat_core.specs.Prefixes.{Begins}
 use Rattle.seat_core.specs.Inventory.{HoldsWithinLimits}
 use Rattle.seat_core.specs.Journal.{IsLegal}
 use Rattle.seat_host.specs.Histories.{of_session}
 
--- what contracts see of a session: its number, the lines that it was given, and what it has seen
+-- what contracts see of a session: its number, which is 0 for the manager, the lines that it was given, and what it has seen
 pub record Seat : Type 0 where
   pub id : ℕ
   pub receipts : List Entry
@@ -25,17 +25,17 @@ fresh_sessions (suc n) = fresh_sessions n ++ fresh (suc n) ∷ []
 
 -- what holds of a session at any time, among n. Its receipts begin its own entries in its front
 pub record Stands (grid : Legs) (n : ℕ) (s : Seat) : Type 0 where
-  pub number : (0 < s.id) × (s.id ≤ n) × (n < 9)
+  pub number : (s.id ≤ n) × (n < 9)
   pub legal : IsLegal grid s.front
   pub own : Begins s.receipts (of_session s.id s.front)
   pub few : length s.receipts ≤ 1000000
 
--- the call gave one line more, of this session, its next call and this command. The session has then seen all lines so far, of which its receipts are its own, in order, and after which no leg holds more than authorised
-pub record Booked (grid : Legs) (command : Command) (s t : Seat) : Type 0 where
+-- the call gave one line more, of this session, its next call and this work. The session has then seen all lines so far, of which its receipts are its own, in order, and after which no leg holds more than authorised
+pub record Booked (grid : Legs) (work : Work) (s t : Seat) : Type 0 where
   pub line : Entry
   pub session : line.session ≡ s.id
   pub call : line.call ≡ length s.receipts + 1
-  pub command_is : line.command ≡ command
+  pub work_is : line.work ≡ work
   pub id : t.id ≡ s.id
   pub receipts : t.receipts ≡ s.receipts ++ line ∷ []
   pub before : Begins s.front t.front

@@ -1,5 +1,5 @@
 -- The sessions that are handed in, and what a settled host gives.
-use Rattle.std.specs.Prelude.{◌≡◌, ℕ, zero, suc, ◌==◌, ◌&&◌, ◌<◌, ◌≤◌, Bool, true, List, length}
+use Rattle.std.specs.Prelude.{◌≡◌, ℕ, zero, suc, ◌==◌, ◌&&◌, ◌≤◌, Bool, true, List, length}
 use Rattle.std.specs.List.{list_any}
 use Rattle.seat_journal.specs.declared.entry.Entry.{Entry}
 use Rattle.seat_core.specs.Prefixes.{Begins}
@@ -21,6 +21,6 @@ has_all n sessions = (length sessions == n) && has_up_to n sessions
 
 -- the receipts of a session are its lines in the journal, in order, and its front is a beginning of the journal
 pub record IsConfirmed (n : ℕ) (journal : List Entry) (s : Seat) : Type 0 where
-  pub number : (0 < s.id) × (s.id ≤ n)
+  pub number : s.id ≤ n
   pub lines : s.receipts ≡ of_session s.id journal
   pub front : Begins s.front journal

@@ -1,4 +1,4 @@
-//! One ledger for each session number, all named by one parameter.
+//! One ledger for each session number, 0 for the manager, all named by one parameter.
 ghost use Rattle.std.specs.Prelude.{◌≡◌, ◌+◌, ◌-◌, ◌<◌, ◌≤◌, [], ◌∷◌, slice_index, slice_set, IfOk, IfSome, IsSome};
 ghost use Rattle.seat_host.specs.Ledgers.{counted};
 ghost use Rattle.seat_host.specs.Shares.{staked};
@@ -56,6 +56,7 @@ impl<K: Hosting, const N: u8> Ledger for Numbered<K, N> {
 /// How many lines each session number has. Contracts see the totals, at their numbers.
 #[derive(Drop)]
 pub struct LineCounts<K: Hosting> {
+    zero: Book<Numbered<K, 0>>,
     one: Book<Numbered<K, 1>>,
     two: Book<Numbered<K, 2>>,
     three: Book<Numbered<K, 3>>,
@@ -71,7 +72,7 @@ impl<K: Hosting> Model for LineCounts<K> {
 
     ghost Value = { List ℕ };
 
-    ghost view = { λ b. 0 ∷ b.one.total ∷ b.two.total ∷ b.three.total ∷ b.four.total ∷ b.five.total ∷ b.six.total ∷ b.seven.total ∷ b.eight.total ∷ [] };
+    ghost view = { λ b. b.zero.total ∷ b.one.total ∷ b.two.total ∷ b.three.total ∷ b.four.total ∷ b.five.total ∷ b.six.total ∷ b.seven.total ∷ b.eight.total ∷ [] };
 }
 
 /// A session's share of its ledger, which has every part of it. Contracts see its amount.
@@ -116,6 +117,7 @@ impl<K: Hosting, const N: u8> Whole<K, N> {
 
 #[derive(Drop)]
 pub enum AnyShare<K: Hosting> {
+    Zero(Whole<K, 0>),
     One(Whole<K, 1>),
     Two(Whole<K, 2>),
     Three(Whole<K, 3>),
@@ -148,6 +150,7 @@ impl<K: Hosting> LineCounts<K> {
         ensures whole { mine.old.amount ≡ slice_index self.old mine.old.number }
     {
         match &mut mine.share {
+            AnyShare::Zero(share) => share.audit(&mut self.zero),
             AnyShare::One(share) => share.audit(&mut self.one),
             AnyShare::Two(share) => share.audit(&mut self.two),
             AnyShare::Three(share) => share.audit(&mut self.three),
@@ -165,6 +168,7 @@ impl<K: Hosting> LineCounts<K> {
         ensures total { self.new ≡ slice_set self.old mine.old.number (slice_index self.old mine.old.number + 1) }
     {
         match &mut mine.share {
+            AnyShare::Zero(share) => share.add(&mut self.zero),
             AnyShare::One(share) => share.add(&mut self.one),
             AnyShare::Two(share) => share.add(&mut self.two),
             AnyShare::Three(share) => share.add(&mut self.three),
@@ -177,9 +181,10 @@ impl<K: Hosting> LineCounts<K> {
     }
 }
 
-/// Eight ledgers that no type stands for yet. Contracts see their names, at the session numbers.
+/// Nine ledgers that no type stands for yet. Contracts see their names, at the session numbers.
 #[derive(Drop)]
 pub struct Blanks {
+    zero: Blank,
     one: Blank,
     two: Blank,
     three: Blank,
@@ -195,14 +200,15 @@ impl Model for Blanks {
 
     ghost Value = { List ℕ };
 
-    ghost view = { λ b. 0 ∷ b.one.name ∷ b.two.name ∷ b.three.name ∷ b.four.name ∷ b.five.name ∷ b.six.name ∷ b.seven.name ∷ b.eight.name ∷ [] };
+    ghost view = { λ b. b.zero.name ∷ b.one.name ∷ b.two.name ∷ b.three.name ∷ b.four.name ∷ b.five.name ∷ b.six.name ∷ b.seven.name ∷ b.eight.name ∷ [] };
 
-    ghost invariant = { λ b. (b.one.parts ≡ 1) × (b.two.parts ≡ 1) × (b.three.parts ≡ 1) × (b.four.parts ≡ 1) × (b.five.parts ≡ 1) × (b.six.parts ≡ 1) × (b.seven.parts ≡ 1) × (b.eight.parts ≡ 1) };
+    ghost invariant = { λ b. (b.zero.parts ≡ 1) × (b.one.parts ≡ 1) × (b.two.parts ≡ 1) × (b.three.parts ≡ 1) × (b.four.parts ≡ 1) × (b.five.parts ≡ 1) × (b.six.parts ≡ 1) × (b.seven.parts ≡ 1) × (b.eight.parts ≡ 1) };
 }
 
 impl Blanks {
     pub fn new() -> Blanks {
         Blanks {
+            zero: Blank::new(1),
             one: Blank::new(1),
             two: Blank::new(1),
             three: Blank::new(1),
@@ -236,7 +242,7 @@ impl<K: Hosting> Model for Stakes<K> {
 impl<K: Hosting> Stakes<K> {
     /// The share of the next session number.
     pub fn take(&mut self) -> Option<Stake<K>>
-        requires { (1 ≤ self.old) × (self.old ≤ 8) }
+        requires { self.old ≤ 8 }
         ensures stake { IfSome result (λ s. s ≡ counted self.old 0) }
         ensures some { IsSome result }
         ensures next { self.new ≡ self.old + 1 }
@@ -254,9 +260,10 @@ pub fn open_ledgers<K: Hosting>(
 ) -> Result<(LineCounts<K>, Stakes<K>), Memory>
     requires { blanks ≡ K.names }
     ensures line_counts { IfOk result (λ r. r.0 ≡ 0 ∷ 0 ∷ 0 ∷ 0 ∷ 0 ∷ 0 ∷ 0 ∷ 0 ∷ 0 ∷ []) }
-    ensures stakes { IfOk result (λ r. r.1 ≡ 1) }
+    ensures stakes { IfOk result (λ r. r.1 ≡ 0) }
 {
     let Blanks {
+        zero,
         one,
         two,
         three,
@@ -266,6 +273,7 @@ pub fn open_ledgers<K: Hosting>(
         seven,
         eight,
     } = blanks;
+    let (zero, share_zero) = zero.open::<Numbered<K, 0>>();
     let (one, share_one) = one.open::<Numbered<K, 1>>();
     let (two, share_two) = two.open::<Numbered<K, 2>>();
     let (three, share_three) = three.open::<Numbered<K, 3>>();
@@ -275,6 +283,7 @@ pub fn open_ledgers<K: Hosting>(
     let (seven, share_seven) = seven.open::<Numbered<K, 7>>();
     let (eight, share_eight) = eight.open::<Numbered<K, 8>>();
     let line_counts = LineCounts {
+        zero,
         one,
         two,
         three,
@@ -293,9 +302,10 @@ pub fn open_ledgers<K: Hosting>(
         staked(AnyShare::Three(Whole::of(share_three))),
         staked(AnyShare::Two(Whole::of(share_two))),
         staked(AnyShare::One(Whole::of(share_one))),
+        staked(AnyShare::Zero(Whole::of(share_zero))),
     ];
     let rest = Vec::from_array(alloc, stakes)?;
-    Ok((line_counts, Stakes { rest, next: 1 }))
+    Ok((line_counts, Stakes { rest, next: 0 }))
 }
 
 fn staked<K: Hosting>(share: AnyShare<K>) -> Stake<K>

@@ -4,8 +4,12 @@
 
 mod gate;
 mod host;
+mod job;
 mod ledgers;
+mod manager;
 mod parts;
+mod party;
+mod receipt;
 mod request_list;
 mod session;
 mod settling;
@@ -16,9 +20,11 @@ mod workers;
 pub use gate::{Gate, NoGate};
 pub use host::Host;
 pub use ledgers::Hosting;
+pub use manager::Manager;
 pub use parts::{HostFault, Parts};
+pub use receipt::Receipt;
 pub use request_list::RequestList;
-pub use session::{Receipt, Session};
+pub use session::Session;
 pub use settling::{AllReceipts, GatherFault, Receipts, Settled, Unsettled, gather};
 pub use under_lock::BookFault;
 pub use workers::{RunFault, run_sessions};

@@ -30,7 +30,7 @@ pub struct Parts {
 }
 
 impl Model for Parts {
-    ghost use Rattle.std.specs.Prelude.{◌≡◌, ◌<◌, ◌≤◌, [], All, vec_len};
+    ghost use Rattle.std.specs.Prelude.{◌≡◌, ◌+◌, ◌<◌, ◌≤◌, [], All, vec_len};
     ghost use Rattle.seat_display.specs.Faces.{opened};
     ghost use Rattle.seat_host.specs.Named.{Named};
 
@@ -38,11 +38,11 @@ impl Model for Parts {
 
     ghost view = { λ p. record { grid = p.core.grid; cap = p.core.cap; book = p.publisher.book; sessions = p.sessions; names = p.blanks } };
 
-    ghost invariant = { λ p. (p.core.journal ≡ []) × (p.core.cap ≤ 999999) × (p.grid ≡ p.core.grid) × (p.publisher.grid ≡ p.core.grid) × (p.publisher.visible ≡ []) × (p.publisher.pending ≡ []) × (0 < p.sessions) × (p.sessions < 9) × (vec_len p.viewers ≡ p.sessions) × All (λ v. v ≡ opened p.publisher.book p.core.grid) p.viewers.items };
+    ghost invariant = { λ p. (p.core.journal ≡ []) × (p.core.cap ≤ 999999) × (p.grid ≡ p.core.grid) × (p.publisher.grid ≡ p.core.grid) × (p.publisher.visible ≡ []) × (p.publisher.pending ≡ []) × (0 < p.sessions) × (p.sessions < 9) × (vec_len p.viewers ≡ p.sessions + 1) × All (λ v. v ≡ opened p.publisher.book p.core.grid) p.viewers.items };
 }
 
 impl Parts {
-    /// The parts of a host for so many sessions, 1 to 8, over a grid. Its journal takes `cap` lines, 1 to 999,999.
+    /// The parts of a host for a manager and so many sessions, 1 to 8, over a grid. Its journal takes `cap` lines, 1 to 999,999.
     pub fn new<R: Wait>(
         rt: &R,
         alloc: Global,
@@ -65,7 +65,7 @@ impl Parts {
         let Ok(core) = Core::new(alloc, grid, cap) else {
             return Err(HostFault::Memory);
         };
-        let Ok((publisher, viewers)) = open_display(rt, alloc, &kept, sessions) else {
+        let Ok((publisher, viewers)) = open_display(rt, alloc, &kept, sessions + 1) else {
             return Err(HostFault::Memory);
         };
         Ok(Parts {

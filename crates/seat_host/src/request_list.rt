@@ -1,7 +1,7 @@
 //! A session's list.
 ghost use Rattle.std.specs.Prelude.{◌≡◌};
 
-use seat_core::Command;
+use seat_journal::Command;
 use std::marker::Model;
 
 /// The commands that a session is to book, in order.

@@ -1,5 +1,5 @@
-//! Gathering: what a host and all its sessions come to.
-ghost use Rattle.std.specs.Prelude.{◌≡◌, ◌↔◌, ◌≤◌, ◌<◌, ◌-◌, ℕ, [], length, false, true, slice_set, IfOk, IfErr, OnOk};
+//! Gathering: what a host, its manager and all its sessions come to.
+ghost use Rattle.std.specs.Prelude.{◌≡◌, ◌+◌, ◌↔◌, ◌≤◌, ◌<◌, ℕ, [], ◌∷◌, length, false, true, slice_set, IfOk, IfErr, OnOk};
 ghost use Rattle.std.specs.List.{AllByRecursion};
 ghost use Rattle.seat_host.specs.Histories.{by_session};
 ghost use Rattle.seat_host.specs.Headline.{Headline};
@@ -8,7 +8,10 @@ ghost use Rattle.seat_host.specs.declared.settling.GatherFault.TheVariants.{Miss
 
 use crate::host::Host;
 use crate::ledgers::Hosting;
-use crate::session::{Receipt, Session};
+use crate::manager::Manager;
+use crate::party::Party;
+use crate::receipt::Receipt;
+use crate::session::Session;
 use crate::under_lock::UnderLock;
 use seat_core::Totals;
 use seat_journal::Entries;
@@ -50,7 +53,7 @@ pub struct Settled {
     pub receipts: AllReceipts,
 }
 
-/// The receipts of session 1, of session 2, and so on.
+/// The receipts of the manager, of session 1, of session 2, and so on.
 #[derive(Drop)]
 pub struct AllReceipts {
     items: Vec<Receipts>,
@@ -108,30 +111,40 @@ impl<K: Hosting> Unsettled<K> {
     }
 }
 
-/// Settles a host with all its sessions: each receipt is the journal's line of its call, and no line is left out.
-/// Where it refuses, all comes back as it was: the sessions, and a host whose journal confirms each of them.
+/// Settles a host with its manager and all its sessions: each receipt is the journal's line of its call, and no line is
+/// left out. Where it refuses, all comes back as it was: the manager, the sessions, and a host whose journal confirms each
+/// of them.
 pub fn gather<K: Hosting, R: Wait>(
     rt: &R,
     alloc: Global,
     host: Host<K>,
+    manager: Manager<K>,
     sessions: Vec<Session<K>>,
-) -> Result<Settled, (GatherFault, Unsettled<K>, Vec<Session<K>>)>
+) -> Result<Settled, (GatherFault, Unsettled<K>, Manager<K>, Vec<Session<K>>)>
     ensures headline { IfOk result (λ r. Headline K.grid K.cap K.sessions r.journal r.receipts r.totals) }
-    ensures handed { IfOk result (λ r. AllByRecursion (IsConfirmed K.sessions r.journal) sessions.items) }
+    ensures handed { IfOk result (λ r. AllByRecursion (IsConfirmed K.sessions r.journal) (manager ∷ sessions.items)) }
+    ensures manager { manager.id ≡ 0 }
     ensures all { OnOk result (has_all K.sessions sessions.items ≡ true) }
     ensures missing { IfErr result (λ f. (f.0 ≡ Missing) ↔ (has_all K.sessions sessions.items ≡ false)) }
-    ensures kept { IfErr result (λ f. AllByRecursion (IsConfirmed K.sessions f.1) sessions.items) }
-    ensures same { IfErr result (λ f. f.2.items ≡ sessions.items) }
+    ensures kept { IfErr result (λ f. AllByRecursion (IsConfirmed K.sessions f.1) (manager ∷ sessions.items)) }
+    ensures same { IfErr result (λ f. (f.2 ≡ manager) × (f.3.items ≡ sessions.items)) }
 {
     let (grid, mut under_lock) = host.into_parts();
     if !are_all(sessions.as_slice(), under_lock.sessions()) {
-        return Err(refused(rt, GatherFault::Missing, grid, under_lock, sessions));
+        return Err(refused(
+            rt,
+            GatherFault::Missing,
+            grid,
+            under_lock,
+            manager,
+            sessions,
+        ));
     }
     let Ok(slots) = empty_lists(alloc, under_lock.sessions()) else {
-        return Err(refused(rt, GatherFault::Memory, grid, under_lock, sessions));
+        return Err(refused(rt, GatherFault::Memory, grid, under_lock, manager, sessions));
     };
     let totals = under_lock.totals();
-    let items = settle_all(rt, &mut under_lock, sessions, slots);
+    let items = settle_all(rt, &mut under_lock, manager, sessions, slots);
     Ok(Settled {
         journal: under_lock.end(rt),
         totals,
@@ -139,23 +152,26 @@ pub fn gather<K: Hosting, R: Wait>(
     })
 }
 
-// Hands all back, after the host has confirmed each session.
+// Hands all back, after the host has confirmed the manager and each session.
 fn refused<K: Hosting, R: Wait>(
     rt: &R,
     fault: GatherFault,
     grid: Grid,
     under_lock: UnderLock<K>,
+    manager: Manager<K>,
     sessions: Vec<Session<K>>,
-) -> (GatherFault, Unsettled<K>, Vec<Session<K>>)
+) -> (GatherFault, Unsettled<K>, Manager<K>, Vec<Session<K>>)
     requires { grid ≡ K.grid }
     ensures fault { result.0 ≡ fault }
-    ensures kept { AllByRecursion (IsConfirmed K.sessions result.1) sessions.items }
-    ensures same { result.2.items ≡ sessions.items }
+    ensures kept { AllByRecursion (IsConfirmed K.sessions result.1) (manager ∷ sessions.items) }
+    ensures same { (result.2 ≡ manager) × (result.3.items ≡ sessions.items) }
 {
     let mut under_lock = under_lock;
+    let mut manager = manager;
     let mut sessions = sessions;
+    under_lock.confirm(rt, &mut manager.party);
     confirm_all(rt, &mut under_lock, sessions.as_mut_slice());
-    (fault, Unsettled { grid, under_lock }, sessions)
+    (fault, Unsettled { grid, under_lock }, manager, sessions)
 }
 
 fn confirm_all<K: Hosting, R: Wait>(
@@ -169,7 +185,7 @@ fn confirm_all<K: Hosting, R: Wait>(
     let Some((session, others)) = sessions.split_first_mut() else {
         return;
     };
-    under_lock.confirm(rt, session);
+    under_lock.confirm(rt, &mut session.party);
     confirm_all(rt, under_lock, others);
 }
 
@@ -191,12 +207,12 @@ fn has_number<K: Hosting>(sessions: &[Session<K>], number: u8) -> bool
     sessions.iter().any(|s| s.id() == number)
 }
 
-// An empty list for each session.
+// An empty list for the manager, and one for each session.
 fn empty_lists(alloc: Global, sessions: u8) -> Result<Vec<Receipts>, Memory>
-    ensures { IfOk result (λ r. length r.items ≡ sessions) }
+    ensures { IfOk result (λ r. length r.items ≡ sessions + 1) }
 {
     let mut lists = Vec::new(alloc);
-    for _number in 0..sessions {
+    for _number in 0..usize::from(sessions) + 1 {
         lists.push(Receipts {
             items: Vec::new(alloc),
         })?;
@@ -208,22 +224,27 @@ fn empty_lists(alloc: Global, sessions: u8) -> Result<Vec<Receipts>, Memory>
 fn settle_all<K: Hosting, R: Wait>(
     rt: &R,
     under_lock: &mut UnderLock<K>,
+    manager: Manager<K>,
     sessions: Vec<Session<K>>,
     slots: Vec<Receipts>,
 ) -> Vec<Receipts>
     requires all { has_all K.sessions sessions.items ≡ true }
-    requires slots { length slots.items ≡ K.sessions }
+    requires slots { length slots.items ≡ K.sessions + 1 }
     ensures same { under_lock.new ≡ under_lock.old }
     ensures receipts { result.items ≡ by_session K.sessions under_lock.old }
-    ensures each { AllByRecursion (IsConfirmed K.sessions under_lock.old) sessions.items }
+    ensures each { AllByRecursion (IsConfirmed K.sessions under_lock.old) (manager ∷ sessions.items) }
+    ensures number { manager.id ≡ 0 }
 {
+    let Manager { party: managing } = manager;
     let mut sessions = sessions;
     let mut slots = slots;
+    settle_one(rt, under_lock, &mut slots, managing);
     for _done in 0..sessions.len() {
         let Some(session) = sessions.pop() else {
             unreachable!()
         };
-        settle_one(rt, under_lock, &mut slots, session);
+        let Session { party } = session;
+        settle_one(rt, under_lock, &mut slots, party);
     }
     slots
 }
@@ -232,20 +253,20 @@ fn settle_one<K: Hosting, R: Wait>(
     rt: &R,
     under_lock: &mut UnderLock<K>,
     slots: &mut Vec<Receipts>,
-    session: Session<K>,
+    party: Party<K>,
 )
-    requires { length slots.old.items ≡ K.sessions }
+    requires { length slots.old.items ≡ K.sessions + 1 }
     ensures same { under_lock.new ≡ under_lock.old }
-    ensures confirmed { IsConfirmed K.sessions under_lock.old session }
-    ensures slots { slots.new.items ≡ slice_set slots.old.items (session.id - 1) session.receipts }
+    ensures confirmed { IsConfirmed K.sessions under_lock.old party }
+    ensures slots { slots.new.items ≡ slice_set slots.old.items party.id party.receipts }
 {
-    let mut session = session;
-    under_lock.confirm(rt, &mut session);
-    let Session {
+    let mut party = party;
+    under_lock.confirm(rt, &mut party);
+    let Party {
         id,
         stake: _,
         viewer: _,
         receipts,
-    } = session;
-    slots[usize::from(id) - 1] = Receipts { items: receipts };
+    } = party;
+    slots[usize::from(id)] = Receipts { items: receipts };
 }

@@ -1,12 +1,13 @@
 use Rattle.std.proofs.Common.{All, length}
-use Rattle.seat_core.specs.Journal.{FitsCommand}
+use Rattle.std.specs.Prelude.{map}
+use Rattle.seat_host.specs.Working.{Asks}
 use Rattle.seat_host.proofs.Working.{IsAt}
 use Rattle.seat_host.proofs.workers.Workplace.book_by_turns.Given as goal
 
 abbrev pub invariant-loop-left : goal.invariant-loop-left
 invariant-loop-left g l = record {
-  at : IsAt l.list l.left l.initial.session l.session;
-  fits : All (λ command. FitsCommand g.K.Hosting.grid command) l.left;
+  at : IsAt (map g.J.Job.asks l.list) (map g.J.Job.asks l.left) l.initial.party l.party;
+  asks : All (Asks g.K.Hosting.grid l.party.id) (map g.J.Job.asks l.left);
 }
 
 abbrev pub decreases-loop-left : goal.decreases-loop-left

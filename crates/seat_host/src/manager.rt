@@ -1,0 +1,90 @@
+//! The manager of the limits.
+ghost use Rattle.std.specs.Prelude.{◌≡◌, ◌+◌, ◌<◌, length, IfSome, IfNone};
+ghost use Rattle.seat_core.specs.Prefixes.{Begins};
+ghost use Rattle.seat_core.specs.Sequential.{room_left};
+ghost use Rattle.seat_core.specs.Journal.{FitsChange, IsLegal, replay};
+ghost use Rattle.seat_journal.specs.declared.entry.Work.TheVariants.{Limit};
+
+use crate::host::Host;
+use crate::ledgers::Hosting;
+use crate::party::Party;
+use crate::receipt::Receipt;
+use crate::under_lock::BookFault;
+use seat_journal::Change;
+use ssim_records::{Class, Place};
+use std::alloc::Global;
+use std::marker::Model;
+use std::sync::Wait;
+
+/// Session 0, which changes limits. It keeps its own lines as receipts, and looks without the lock.
+#[derive(Drop)]
+pub struct Manager<K: Hosting> {
+    pub(crate) party: Party<K>,
+}
+
+impl<K: Hosting> Model for Manager<K> {
+    ghost use Rattle.std.specs.Prelude.{◌≡◌};
+    ghost use Rattle.seat_host.specs.Sessions.{Seat};
+
+    ghost Value = { Seat };
+
+    ghost view = { λ m. m.party };
+
+    ghost invariant = { λ m. m.party.id ≡ 0 };
+}
+
+impl<K: Hosting> Manager<K> {
+    ghost use Rattle.std.specs.Prelude.{⊤};
+    ghost use Rattle.std.specs.Borrow.{sem, follows_so};
+    ghost use mathlib.Core.Option.{none};
+    ghost use Rattle.seat_host.specs.Answering.{Leaves};
+    ghost use Rattle.seat_host.specs.contracts.manager.Manager.{the_row};
+
+    /// The lines of its calls, in order.
+    pub fn receipts(&self) -> &[Receipt]
+        ensures { result.now ≡ self.now.receipts }
+    {
+        self.party.receipts()
+    }
+
+    /// The number of its next call.
+    pub fn next_call(&self) -> u32
+        ensures { result ≡ length self.now.receipts + 1 }
+    {
+        self.party.next_call()
+    }
+
+    /// Changes a limit by its host, as `Host::set_limit` does, and shows the receipt.
+    #[tactic(auto, using(crate::proofs::Lasting::some_receipt, crate::proofs::Lasting::last_answers))]
+    pub fn set_limit<R: Wait>(
+        &mut self,
+        host: &Host<K>,
+        rt: &R,
+        alloc: Global,
+        change: Change,
+    ) -> Result<&Receipt, BookFault>
+        requires { FitsChange K.grid change }
+        ensures* leaves { sem 𝓛 (follows_so (the_row K.row K.Hosting) (the_row K.row K.Hosting) self.entry.ghost_name none (λ _ _. ⊤) (λ n. Leaves K.grid K.cap (Limit change) self.old result n)) }
+    {
+        host.set_limit(rt, alloc, self, change)?;
+        Ok(self.party.last())
+    }
+
+    /// How many lines it has seen.
+    pub fn front_len(&self) -> u32
+        ensures { result ≡ length self.now.front }
+    {
+        self.party.front_len()
+    }
+
+    /// The seats that are left on a place in a class, as `Session::look` says.
+    pub fn look(&mut self, place: Place, class: Class) -> Option<u16>
+        ensures room { IfSome result (λ n. n ≡ room_left (replay K.grid self.new.front) place class) }
+        ensures front { Begins self.old.front self.new.front }
+        ensures legal { IsLegal K.grid self.new.front }
+        ensures none { IfNone result (self.new ≡ self.old) }
+        ensures same { (self.new.id ≡ self.old.id) × (self.new.receipts ≡ self.old.receipts) }
+    {
+        self.party.look(place, class)
+    }
+}

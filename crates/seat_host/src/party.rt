@@ -1,0 +1,100 @@
+//! What a session and the manager are: a number, and what its calls have left.
+ghost use Rattle.std.specs.Prelude.{◌≡◌, ◌+◌, ◌-◌, ◌<◌, ◌≤◌, length, Some, IfSome, IfNone, [], slice_get};
+ghost use Rattle.seat_core.specs.Prefixes.{Begins};
+ghost use Rattle.seat_core.specs.Sequential.{room_left};
+ghost use Rattle.seat_core.specs.Journal.{IsLegal, replay};
+ghost use Rattle.seat_display.specs.Faces.{opened};
+ghost use Rattle.seat_host.specs.Ledgers.{counted};
+ghost use Rattle.seat_host.specs.Sessions.{fresh};
+
+use crate::ledgers::{Hosting, Stake};
+use crate::receipt::Receipt;
+use seat_display::Viewer;
+use ssim_records::{Class, Place};
+use std::alloc::Global;
+use std::marker::Model;
+
+/// It keeps its own lines as receipts, the one share of its ledger, and a viewer.
+#[derive(Drop)]
+pub struct Party<K: Hosting> {
+    pub(crate) id: u8,
+    pub(crate) stake: Stake<K>,
+    pub(crate) viewer: Viewer,
+    pub(crate) receipts: Vec<Receipt>,
+}
+
+impl<K: Hosting> Model for Party<K> {
+    ghost use Rattle.std.specs.Prelude.{◌≡◌, length};
+    ghost use Rattle.seat_host.specs.Ledgers.{counted};
+    ghost use Rattle.seat_host.specs.Sessions.{Seat, Stands};
+
+    ghost Value = { Seat };
+
+    ghost view = { λ p. record { id = p.id; receipts = p.receipts.items; front = p.viewer.front } };
+
+    ghost invariant = { λ p. (p.viewer.book ≡ K.book) × (p.viewer.grid ≡ K.grid) × (p.stake ≡ counted p.id (length p.receipts.items)) × Stands K.grid K.sessions (record { id = p.id; receipts = p.receipts.items; front = p.viewer.front }) };
+}
+
+impl<K: Hosting> Party<K> {
+    /// Its number.
+    pub fn id(&self) -> u8
+        ensures { result ≡ self.now.id }
+    {
+        self.id
+    }
+
+    /// The lines of its calls, in order.
+    pub fn receipts(&self) -> &[Receipt]
+        ensures { result.now ≡ self.now.receipts }
+    {
+        self.receipts.as_slice()
+    }
+
+    /// The number of its next call.
+    pub fn next_call(&self) -> u32
+        ensures { result ≡ length self.now.receipts + 1 }
+    {
+        self.receipts.len() as u32 + 1
+    }
+
+    /// The line of its last call.
+    pub fn last(&self) -> &Receipt
+        requires { 0 < length self.now.receipts }
+        ensures { slice_get self.now.receipts (length self.now.receipts - 1) ≡ Some result.now }
+    {
+        &self.receipts[self.receipts.len() - 1]
+    }
+
+    /// How many lines it has seen.
+    pub fn front_len(&self) -> u32
+        ensures { result ≡ length self.now.front }
+    {
+        self.viewer.seen()
+    }
+
+    /// The seats that are left on a place in a class, after all that is then seen. None as `Viewer::look` says.
+    pub fn look(&mut self, place: Place, class: Class) -> Option<u16>
+        ensures room { IfSome result (λ n. n ≡ room_left (replay K.grid self.new.front) place class) }
+        ensures front { Begins self.old.front self.new.front }
+        ensures legal { IsLegal K.grid self.new.front }
+        ensures none { IfNone result (self.new ≡ self.old) }
+        ensures same { (self.new.id ≡ self.old.id) × (self.new.receipts ≡ self.old.receipts) }
+    {
+        self.viewer.look(place, class)
+    }
+
+    /// One that has done nothing.
+    pub fn seated(alloc: Global, id: u8, stake: Stake<K>, viewer: Viewer) -> Party<K>
+        requires number { (id ≤ K.sessions) × (K.sessions < 9) }
+        requires stake { stake ≡ counted id 0 }
+        requires viewer { viewer ≡ opened K.book K.grid }
+        ensures { result ≡ fresh id }
+    {
+        Party {
+            id,
+            stake,
+            viewer,
+            receipts: Vec::new(alloc),
+        }
+    }
+}
