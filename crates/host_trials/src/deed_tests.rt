@@ -1,13 +1,14 @@
-//! Sessions of a host, one call after the other, and what gathering gives.
+//! The manager and the sessions of a host, one call after the other, and what gathering gives.
 ghost use Rattle.std.specs.Prelude.{◌≡◌, ◌↔◌, IsTrue};
 ghost use Rattle.seat_core.specs.Journal.{FitsCommand};
 
 use crate::inventories::{LEG, grid_of};
 use crate::steps::{Row, STEP, Step, lines_of, same, same_line, step_of};
-use seat_core::{Command, Entry};
 use seat_host::{
-    BookFault, GatherFault, Host, HostFault, Hosting, Parts, Session, Settled, gather,
+    BookFault, GatherFault, Host, HostFault, Hosting, Manager, Parts, Receipt, Session, Settled,
+    gather,
 };
+use seat_journal::{Change, Command, Entry, Work};
 use ssim_records::Class;
 use std::alloc::Global;
 use std::marker::Brand;
@@ -25,7 +26,7 @@ struct Deeds {
     released: u64,
 }
 
-const ROWS: [Deeds; 3] = [
+const ROWS: [Deeds; 5] = [
     Deeds {
         row: Row {
             shows: "a session sees what it booked, and the other at its first look",
@@ -100,6 +101,73 @@ new line
         confirmed: 6,
         released: 1,
     },
+    // The limit of Y may rise to 9, since F has 10, and 3 seats are confirmed. It may not fall below the 9 that are then
+    // held, M may not rise above it, and the leg has no class Q.
+    Deeds {
+        row: Row {
+            shows: "a session books, and the manager changes limits",
+            lines: b"SEATJOURNAL 2
+1 1 1 A00001 0.0.0 Y NN 6 KK 0
+2 1 2 A00002 0.0.0 M SS 3 US 0
+3 0 1 AU 0.0 M 7 4 OK 0
+4 0 2 AU 0.0 Y 9 0 OK 0 KL:2:0.0.0:M:3
+5 0 3 AU 0.0 Y 8 0 NO 0
+6 0 4 AU 0.0 M 10 0 NO 0
+7 0 5 AU 0.0 Q 1 0 NO 0
+END 7
+",
+            steps: b"new line
+new line
+0 saw  0
+0 M 02 2
+new line
+0 saw  3
+0 M 02 3
+new line
+0 F 01 4
+0 Y 00 4
+1 saw  2
+1 M 00 4
+new line
+new line
+new line
+0 F 01 7
+1 saw  4
+1 F 01 7
+",
+        },
+        sessions: 1,
+        cap: 999_999,
+        lines: 7,
+        confirmed: 9,
+        released: 0,
+    },
+    Deeds {
+        row: Row {
+            shows: "the manager finds a full journal",
+            lines: b"SEATJOURNAL 2
+1 0 1 AU 0.0 Y 4 0 NO 0
+2 2 1 A00001 0.0.0 Y NN 2 KK 0
+3 0 2 AU 0.0 Y 9 0 OK 0
+END 3
+",
+            steps: b"0 Y 08 0
+new line
+0 saw  1
+new line
+0 saw  1
+too many
+0 saw  2
+0 Y 06 2
+1 Y 06 2
+",
+        },
+        sessions: 2,
+        cap: 2,
+        lines: 2,
+        confirmed: 2,
+        released: 0,
+    },
 ];
 
 fn fits<K: Hosting>(host: &Host<K>, command: &Command) -> bool
@@ -115,17 +183,16 @@ fn fits<K: Hosting>(host: &Host<K>, command: &Command) -> bool
     }
 }
 
-/// Has the host answer the command of a line.
+/// Has the host answer a command.
 fn book_once<K: Hosting, R: Wait + Abort>(
     rt: &R,
     alloc: Global,
     host: &Host<K>,
     session: &mut Session<K>,
-    line: &Entry,
+    command: &Command,
 ) -> Result<(), BookFault> {
-    let command = line.command;
-    assert!(rt; fits(host, &command), "the command fits");
-    host.book(rt, alloc, session, command)
+    assert!(rt; fits(host, command), "the command fits");
+    host.book(rt, alloc, session, *command)
 }
 
 /// Has the session answer it, which shows the receipt. Whether that is the line.
@@ -134,11 +201,11 @@ fn book_again<K: Hosting, R: Wait + Abort>(
     alloc: Global,
     host: &Host<K>,
     session: &mut Session<K>,
+    command: &Command,
     line: &Entry,
 ) -> bool {
-    let command = line.command;
-    assert!(rt; fits(host, &command), "the command fits");
-    match session.book(host, rt, alloc, command) {
+    assert!(rt; fits(host, command), "the command fits");
+    match session.book(host, rt, alloc, *command) {
         Ok(receipt) => same_line(receipt.entry(), line),
         Err(_) => false,
     }
@@ -150,55 +217,150 @@ fn stand<K: Hosting>(session: &mut Session<K>, class: Class) -> (Option<u16>, us
     (room, session.receipts().len(), session.front_len())
 }
 
-/// Books a line. Where a growth is refused nothing may have changed, and it is booked again.
+/// Books a command. Where a growth is refused nothing may have changed, and it is booked again.
 fn book<K: Hosting, R: Wait + Abort>(
     rt: &R,
     alloc: Global,
     host: &Host<K>,
     session: &mut Session<K>,
+    command: &Command,
     line: &Entry,
 ) -> Result<(), BookFault> {
-    let before = stand(session, line.command.class);
-    match book_once(rt, alloc, host, session, line) {
+    let before = stand(session, command.class);
+    match book_once(rt, alloc, host, session, command) {
         Err(BookFault::Memory) => {}
         answer => return answer,
     }
-    let after = stand(session, line.command.class);
+    let after = stand(session, command.class);
     assert!(rt; before == after, "a refusal changes nothing");
     assert!(rt;
-        book_again(rt, alloc, host, session, line),
+        book_again(rt, alloc, host, session, command, line),
         "the second call is answered"
     );
     Ok(())
 }
 
-/// Whether a session's last receipt is this line.
-fn has_last<K: Hosting>(session: &Session<K>, line: &Entry) -> bool {
-    match session.receipts().last() {
+/// Has the host answer a change.
+fn set_once<K: Hosting, R: Wait + Abort>(
+    rt: &R,
+    alloc: Global,
+    host: &Host<K>,
+    manager: &mut Manager<K>,
+    change: &Change,
+) -> Result<(), BookFault> {
+    assert!(rt; host.fits_change(change), "the change fits");
+    host.set_limit(rt, alloc, manager, *change)
+}
+
+/// Has the manager make it, which shows the receipt. Whether that is the line.
+fn set_again<K: Hosting, R: Wait + Abort>(
+    rt: &R,
+    alloc: Global,
+    host: &Host<K>,
+    manager: &mut Manager<K>,
+    change: &Change,
+    line: &Entry,
+) -> bool {
+    assert!(rt; host.fits_change(change), "the change fits");
+    match manager.set_limit(host, rt, alloc, *change) {
+        Ok(receipt) => same_line(receipt.entry(), line),
+        Err(_) => false,
+    }
+}
+
+/// What the manager finds in a class, his receipts and the lines that he has seen.
+fn stand_of_manager<K: Hosting>(
+    manager: &mut Manager<K>,
+    class: Class,
+) -> (Option<u16>, usize, u32) {
+    let room = manager.look(LEG, class);
+    (room, manager.receipts().len(), manager.front_len())
+}
+
+/// Makes a change. Where a growth is refused nothing may have changed, and it is made again.
+fn set<K: Hosting, R: Wait + Abort>(
+    rt: &R,
+    alloc: Global,
+    host: &Host<K>,
+    manager: &mut Manager<K>,
+    change: &Change,
+    line: &Entry,
+) -> Result<(), BookFault> {
+    let before = stand_of_manager(manager, change.class);
+    match set_once(rt, alloc, host, manager, change) {
+        Err(BookFault::Memory) => {}
+        answer => return answer,
+    }
+    let after = stand_of_manager(manager, change.class);
+    assert!(rt; before == after, "a refusal changes nothing");
+    assert!(rt;
+        set_again(rt, alloc, host, manager, change, line),
+        "the second call is answered"
+    );
+    Ok(())
+}
+
+/// Whether the last of these receipts is this line.
+fn has_last(receipts: &[Receipt], line: &Entry) -> bool {
+    match receipts.last() {
         Some(receipt) => same_line(receipt.entry(), line),
         None => false,
     }
 }
 
-/// Books a line by its session; true where the journal is full.
-fn book_line<K: Hosting, R: Wait + Abort>(
+/// Asks for a line, and looks at its receipt; true where the journal is full.
+fn ask_line<K: Hosting, R: Wait + Abort>(
     rt: &R,
     alloc: Global,
     host: &Host<K>,
+    manager: &mut Manager<K>,
     sessions: &mut Vec<Session<K>>,
     line: &Entry,
 ) -> Option<bool> {
-    let session = session_of(sessions, line.session)?;
-    match book(rt, alloc, host, session, line) {
+    let (answer, is_last) = match &line.work {
+        Work::Seats(command) => {
+            let session = session_of(sessions, line.session)?;
+            let answer = book(rt, alloc, host, session, command, line);
+            (answer, has_last(session.receipts(), line))
+        }
+        Work::Limit(change) => {
+            let answer = set(rt, alloc, host, manager, change, line);
+            (answer, has_last(manager.receipts(), line))
+        }
+    };
+    match answer {
         Ok(()) => {
-            assert!(rt;
-                has_last(session, line),
-                "the receipt of line {}",
-                line.number
-            );
+            assert!(rt; is_last, "the receipt of line {}", line.number);
             Some(false)
         }
         Err(fault) => Some(fault == BookFault::JournalFull),
+    }
+}
+
+/// How many lines the manager or a session has seen.
+fn seen_by<K: Hosting>(
+    manager: &Manager<K>,
+    sessions: &mut Vec<Session<K>>,
+    who: u8,
+) -> Option<u32> {
+    if who == 0 {
+        Some(manager.front_len())
+    } else {
+        Some(session_of(sessions, who)?.front_len())
+    }
+}
+
+/// What the manager or a session finds.
+fn look_by<K: Hosting>(
+    manager: &mut Manager<K>,
+    sessions: &mut Vec<Session<K>>,
+    who: u8,
+    class: Class,
+) -> Option<u16> {
+    if who == 0 {
+        manager.look(LEG, class)
+    } else {
+        session_of(sessions, who)?.look(LEG, class)
     }
 }
 
@@ -206,9 +368,9 @@ fn session_of<K: Hosting>(sessions: &mut Vec<Session<K>>, number: u8) -> Option<
     sessions.get_mut(usize::from(number).wrapping_sub(1))
 }
 
-/// How many lines are booked.
-fn booked<K: Hosting>(sessions: &Vec<Session<K>>) -> usize {
-    let mut lines = 0usize;
+/// How many lines there are.
+fn asked<K: Hosting>(manager: &Manager<K>, sessions: &Vec<Session<K>>) -> usize {
+    let mut lines = manager.receipts().len();
     for session in sessions {
         lines = lines.saturating_add(session.receipts().len());
     }
@@ -219,35 +381,31 @@ fn act<K: Hosting, R: Wait + Abort>(
     rt: &R,
     alloc: Global,
     host: &Host<K>,
+    manager: &mut Manager<K>,
     sessions: &mut Vec<Session<K>>,
     lines: &[Entry],
     step: Step,
     shows: &str,
 ) -> Option<()> {
-    let next = lines.get(booked(sessions));
+    let next = lines.get(asked(manager, sessions));
     match step {
         Step::Line => {
-            let is_full = book_line(rt, alloc, host, sessions, next?)?;
+            let is_full = ask_line(rt, alloc, host, manager, sessions, next?)?;
             assert!(rt; !is_full, "{shows}: the journal is full");
         }
         Step::Full => {
-            let is_full = book_line(rt, alloc, host, sessions, next?)?;
+            let is_full = ask_line(rt, alloc, host, manager, sessions, next?)?;
             assert!(rt; is_full, "{shows}: the journal is not full");
         }
         Step::Saw(who, seen) => {
-            let session = session_of(sessions, who)?;
-            same(rt, u64::from(session.id()), u64::from(who), shows);
-            same(rt, u64::from(session.front_len()), u64::from(seen), shows);
+            let found = seen_by(manager, sessions, who)?;
+            same(rt, u64::from(found), u64::from(seen), shows);
         }
         Step::Look(who, class, room, seen) => {
-            let session = session_of(sessions, who)?;
-            same(
-                rt,
-                u64::from(session.look(LEG, class)?),
-                u64::from(room),
-                shows,
-            );
-            same(rt, u64::from(session.front_len()), u64::from(seen), shows);
+            let found = look_by(manager, sessions, who, class)?;
+            same(rt, u64::from(found), u64::from(room), shows);
+            let found = seen_by(manager, sessions, who)?;
+            same(rt, u64::from(found), u64::from(seen), shows);
         }
         Step::Publish | Step::Learn(_) => return None,
     }
@@ -258,32 +416,35 @@ fn act_all<K: Hosting, R: Wait + Abort>(
     rt: &R,
     alloc: Global,
     host: &Host<K>,
+    manager: &mut Manager<K>,
     sessions: &mut Vec<Session<K>>,
     lines: &[Entry],
     row: &Row,
 ) -> Option<()> {
     for word in row.steps.chunks(STEP) {
-        act(rt, alloc, host, sessions, lines, step_of(word)?, row.shows)?;
+        let step = step_of(word)?;
+        act(rt, alloc, host, manager, sessions, lines, step, row.shows)?;
     }
     Some(())
 }
 
-/// Gathers without the last session: it is missed, and the host and the others come back.
+/// Gathers without the last session: it is missed, and the host, the manager and the others come back.
 fn gather_without_last<K: Hosting, R: Wait + Abort>(
     rt: &R,
     alloc: Global,
     host: Host<K>,
+    manager: Manager<K>,
     sessions: Vec<Session<K>>,
-) -> Option<(Host<K>, Vec<Session<K>>)> {
+) -> Option<(Host<K>, Manager<K>, Vec<Session<K>>)> {
     let mut sessions = sessions;
     let opened = sessions.len();
     let Some(last) = sessions.pop() else {
         host.end(rt);
         return None;
     };
-    match gather(rt, alloc, host, sessions) {
+    match gather(rt, alloc, host, manager, sessions) {
         Ok(_) => None,
-        Err((fault, unsettled, mut others)) => {
+        Err((fault, unsettled, manager, mut others)) => {
             assert!(rt; fault == GatherFault::Missing, "a session is missing");
             assert!(rt; others.push(last).is_ok(), "there was room for it");
             same(
@@ -292,7 +453,7 @@ fn gather_without_last<K: Hosting, R: Wait + Abort>(
                 opened as u64,
                 "the others come back",
             );
-            Some((unsettled.into_host(), others))
+            Some((unsettled.into_host(), manager, others))
         }
     }
 }
@@ -302,17 +463,18 @@ fn gather_all<K: Hosting, R: Wait>(
     rt: &R,
     alloc: Global,
     host: Host<K>,
+    manager: Manager<K>,
     sessions: Vec<Session<K>>,
 ) -> Option<Settled> {
-    let answer = match gather(rt, alloc, host, sessions) {
-        Err((GatherFault::Memory, unsettled, sessions)) => {
-            gather(rt, alloc, unsettled.into_host(), sessions)
+    let answer = match gather(rt, alloc, host, manager, sessions) {
+        Err((GatherFault::Memory, unsettled, manager, sessions)) => {
+            gather(rt, alloc, unsettled.into_host(), manager, sessions)
         }
         answer => answer,
     };
     match answer {
         Ok(settled) => Some(settled),
-        Err((_, unsettled, _)) => {
+        Err((_, unsettled, _, _)) => {
             unsettled.into_host().end(rt);
             None
         }
@@ -322,7 +484,7 @@ fn gather_all<K: Hosting, R: Wait>(
 /// Whether a line is the receipt of its session and call.
 fn is_receipt(settled: &Settled, line: &Entry) -> Option<bool> {
     let lists = settled.receipts.as_slice();
-    let list = lists.get(usize::from(line.session).wrapping_sub(1))?;
+    let list = lists.get(usize::from(line.session))?;
     let receipt = list.as_slice().get((line.call as usize).wrapping_sub(1))?;
     Some(same_line(receipt.entry(), line))
 }
@@ -343,7 +505,7 @@ fn compare<R: Abort>(
     same(
         rt,
         settled.receipts.as_slice().len() as u64,
-        u64::from(sessions),
+        u64::from(sessions) + 1,
         shows,
     );
     for (line, want) in settled.journal.as_slice().iter().zip(lines.iter()) {
@@ -357,7 +519,7 @@ fn compare<R: Abort>(
     Some(())
 }
 
-/// Has the sessions of a host do their deeds, and gathers. False where it was not opened for want of memory.
+/// Has the manager and the sessions of a host do their deeds, and gathers. False where it was not opened for want of memory.
 fn play<K: Hosting, R: Wait + Abort>(
     rt: &R,
     alloc: Global,
@@ -368,10 +530,10 @@ fn play<K: Hosting, R: Wait + Abort>(
 ) -> bool
     requires { (parts.grid ≡ K.grid) × (parts.cap ≡ K.cap) × (parts.book ≡ K.book) × (parts.sessions ≡ K.sessions) × (parts.names ≡ K.names) }
 {
-    let Ok((host, seats)) = Host::<K>::open(rt, alloc, parts) else {
+    let Ok((host, manager, seats)) = Host::<K>::open(rt, alloc, parts) else {
         return false;
     };
-    let ended = act_and_gather(rt, alloc, host, seats, lines, row, sessions);
+    let ended = act_and_gather(rt, alloc, host, manager, seats, lines, row, sessions);
     assert!(rt; ended.is_some(), "{}: to the end", row.row.shows);
     true
 }
@@ -380,14 +542,15 @@ fn act_and_gather<K: Hosting, R: Wait + Abort>(
     rt: &R,
     alloc: Global,
     host: Host<K>,
+    manager: Manager<K>,
     seats: Vec<Session<K>>,
     lines: &[Entry],
     row: &Deeds,
     sessions: u8,
 ) -> Option<()> {
-    let (host, mut seats) = gather_without_last(rt, alloc, host, seats)?;
-    let acted = act_all(rt, alloc, &host, &mut seats, lines, &row.row);
-    let settled = gather_all(rt, alloc, host, seats)?;
+    let (host, mut manager, mut seats) = gather_without_last(rt, alloc, host, manager, seats)?;
+    let acted = act_all(rt, alloc, &host, &mut manager, &mut seats, lines, &row.row);
+    let settled = gather_all(rt, alloc, host, manager, seats)?;
     acted?;
     compare(rt, &settled, lines, row, sessions)
 }

@@ -12,7 +12,7 @@ use std::process::Abort;
 use std::sync::Wait;
 use std::test::Fail;
 
-const ROWS: [Row; 4] = [
+const ROWS: [Row; 5] = [
     Row {
         shows: "a line is found once it is published",
         lines: b"SEATJOURNAL 1
@@ -66,6 +66,30 @@ is shown
 2 saw  1
 2 F 09 2
 1 F 09 2
+",
+    },
+    Row {
+        shows: "a change of a limit is found with the line that it confirms, and one that is refused changes nothing",
+        lines: b"SEATJOURNAL 2
+1 1 1 A00001 0.0.0 Y NN 6 KK 0
+2 1 2 A00002 0.0.0 M SS 3 US 0
+3 0 1 AU 0.0 Y 9 0 OK 0 KL:2:0.0.0:M:3
+4 0 2 AU 0.0 Y 8 0 NO 0
+END 4
+",
+        steps: b"new line
+new line
+is shown
+1 Y 02 2
+new line
+1 Y 02 2
+is shown
+1 F 01 3
+1 Y 00 3
+new line
+is shown
+1 F 01 4
+1 Y 00 4
 ",
     },
     Row {

@@ -124,11 +124,11 @@ fn append_again<R: Abort>(rt: &R, publisher: &mut Publisher, entry: Entry, refus
     ensures lines { publisher.new.visible ++ publisher.new.pending ≡ (publisher.old.visible ++ publisher.old.pending) ++ entry ∷ [] }
     ensures same { (publisher.new.book ≡ publisher.old.book) × (publisher.new.grid ≡ publisher.old.grid) }
 {
-    let (number, command) = (entry.number, entry.command);
+    let (number, work) = (entry.number, entry.work);
     let Err((entry, Memory)) = publisher.append(entry) else {
         return;
     };
-    let came_back = entry.number == number && entry.command == command;
+    let came_back = entry.number == number && entry.work == work;
     assert!(rt; came_back, "a refused line comes back");
     assert!(rt; !*refused, "a second line is refused");
     *refused = true;

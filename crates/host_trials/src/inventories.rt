@@ -1,6 +1,7 @@
 //! Inventories of one leg, whose lines a display shows.
 use crate::steps::lines_of;
-use seat_core::{Advices, Command, Core, Entry, replay};
+use seat_core::{Core, Entry, replay};
+use seat_journal::{Advices, Change, Command, Work};
 use seat_nesting::{Grid, read_ladder};
 use ssim_records::{Class, Code, Locator, Place};
 use std::alloc::Global;
@@ -44,10 +45,21 @@ fn entry(alloc: Global, line: u32, command: Command, reply: &[u8], released: u16
         number: line,
         session: 1,
         call: line,
-        command,
+        work: Work::Seats(command),
         reply: Code::new(reply)?,
         released,
         advices: Advices::new(alloc),
+    })
+}
+
+/// A change of the limit of class F.
+pub fn change(limit: u16) -> Option<Change> {
+    Some(Change {
+        flight: 0,
+        leg: 0,
+        class: Class::new(b'F')?,
+        limit,
+        wait: 0,
     })
 }
 

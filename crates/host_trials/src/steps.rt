@@ -12,10 +12,10 @@ pub struct Row {
     pub steps: &'static [u8],
 }
 
-/// A viewer or a session goes by its number.
+/// A viewer or a session goes by its number, the manager by 0.
 #[derive(Clone, Copy)]
 pub enum Step {
-    /// `new line`: the next line of the row's journal is appended, or booked by its session.
+    /// `new line`: the next line of the row's journal is appended, or asked for by its session.
     Line,
     /// `is shown`: what is pending is published.
     Publish,
@@ -71,7 +71,7 @@ pub fn same_line(one: &Entry, other: &Entry) -> bool {
     one.number == other.number
         && one.session == other.session
         && one.call == other.call
-        && one.command == other.command
+        && one.work == other.work
         && one.reply == other.reply
         && one.released == other.released
         && one.advices.as_slice() == other.advices.as_slice()

@@ -1,17 +1,17 @@
-//! Sessions side by side, each with a list of its own.
+//! The manager and the sessions side by side, each with a list of its own.
 ghost use Rattle.std.specs.Prelude.{◌≡◌, ◌≤◌, All, IfOk, IsTrue};
-ghost use Rattle.seat_core.specs.Journal.{FitsCommand};
+ghost use Rattle.seat_core.specs.Journal.{FitsChange, FitsCommand};
 
-use crate::inventories::{command, grid_of};
+use crate::inventories::{change, command, grid_of};
 use crate::meeting::{Holds, Meeting};
 use crate::steps::same;
-use seat_core::Command;
 use seat_host::{
     BookFault, Gate, Host, Hosting, Parts, Receipt, RequestList, RunFault, Settled, gather,
     run_sessions,
 };
+use seat_journal::{Change, Command, Work};
 use seat_nesting::Grid;
-use ssim_records::Memory;
+use ssim_records::{Memory, Place};
 use std::alloc::Global;
 use std::marker::Brand;
 use std::process::Abort;
@@ -20,14 +20,17 @@ use std::test::Fail;
 use std::thread::Threads;
 use std::time::Clock;
 
-/// How many commands each list has, the most lines of the journal, and what comes of the run: the session and call
-/// that it names, or 0 and 0, the receipts of each session and the lines of the journal.
+/// How many changes the manager makes, how many commands each list has, the most lines of the journal, and what comes of
+/// the run: the session and call that it names, or 0 and 0, the receipts of the manager and of each session, and the lines
+/// of the journal.
 struct Row {
     shows: &'static str,
+    changes: usize,
     lists: &'static [usize],
     cap: u32,
     holds: Holds,
     named: (u8, u32),
+    managed: usize,
     receipts: &'static [usize],
     lines: u64,
 }
@@ -35,76 +38,114 @@ struct Row {
 const OVERLAPS: [Row; 3] = [
     Row {
         shows: "session 1 waits for the answer of session 2",
+        changes: 0,
         lists: &[1, 1],
         cap: 9,
         holds: Holds::FirstUntilAnswer,
         named: (0, 0),
+        managed: 0,
         receipts: &[1, 1],
         lines: 2,
     },
     Row {
         shows: "sessions 1 and 2 wait for each other",
+        changes: 0,
         lists: &[1, 1],
         cap: 9,
         holds: Holds::EachUntilOther,
         named: (0, 0),
+        managed: 0,
         receipts: &[1, 1],
         lines: 2,
     },
     Row {
         shows: "the journal is full once session 2 was answered",
+        changes: 0,
         lists: &[1, 1],
         cap: 1,
         holds: Holds::FirstUntilAnswer,
         named: (1, 1),
+        managed: 0,
         receipts: &[0, 1],
         lines: 1,
     },
 ];
 
-const LISTS: [Row; 5] = [
+const LISTS: [Row; 7] = [
     Row {
         shows: "eight sessions of a thousand calls",
+        changes: 0,
         lists: &[1000, 1000, 1000, 1000, 1000, 1000, 1000, 1000],
         cap: 8000,
         holds: Holds::Nobody,
         named: (0, 0),
+        managed: 0,
         receipts: &[1000, 1000, 1000, 1000, 1000, 1000, 1000, 1000],
         lines: 8000,
     },
     Row {
+        shows: "the manager beside two sessions",
+        changes: 1000,
+        lists: &[1000, 1000],
+        cap: 3000,
+        holds: Holds::Nobody,
+        named: (0, 0),
+        managed: 1000,
+        receipts: &[1000, 1000],
+        lines: 3000,
+    },
+    Row {
+        shows: "the manager's third change finds a full journal",
+        changes: 5,
+        lists: &[0],
+        cap: 2,
+        holds: Holds::Nobody,
+        named: (0, 3),
+        managed: 2,
+        receipts: &[0],
+        lines: 2,
+    },
+    Row {
         shows: "one session, no list",
+        changes: 0,
         lists: &[0],
         cap: 1,
         holds: Holds::Nobody,
         named: (0, 0),
+        managed: 0,
         receipts: &[0],
         lines: 0,
     },
     Row {
         shows: "the third call finds a full journal",
+        changes: 0,
         lists: &[5],
         cap: 2,
         holds: Holds::Nobody,
         named: (1, 3),
+        managed: 0,
         receipts: &[2],
         lines: 2,
     },
     Row {
         shows: "session 2 is refused, and the others are not",
+        changes: 0,
         lists: &[0, 2, 0],
         cap: 1,
         holds: Holds::Nobody,
         named: (2, 2),
+        managed: 0,
         receipts: &[0, 1, 0],
         lines: 1,
     },
     Row {
         shows: "a refusal after several turns",
+        changes: 0,
         lists: &[3000],
         cap: 2500,
         holds: Holds::Nobody,
         named: (1, 2501),
+        managed: 0,
         receipts: &[2500],
         lines: 2500,
     },
@@ -181,26 +222,74 @@ fn digit(number: usize) -> u8 {
     b'0' + (number % 10) as u8
 }
 
-/// Opens a host, runs its sessions and gathers it.
+/// So many changes of a limit, up and down.
+fn changes_of(
+    rt: &impl Abort,
+    alloc: Global,
+    grid: &Grid,
+    length: usize,
+) -> Result<Vec<Change>, Memory>
+    ensures { IfOk result (λ list. All (λ change. FitsChange grid.now change) list.items) }
+{
+    let mut items = Vec::new(alloc);
+    for nth in 0..length {
+        items.push(nth_change(rt, grid, nth)?)?;
+    }
+    Ok(items)
+}
+
+fn nth_change(rt: &impl Abort, grid: &Grid, nth: usize) -> Result<Change, Memory>
+    ensures { IfOk result (λ change. FitsChange grid.now change) }
+{
+    let Some(change) = change(if nth % 2 == 0 { 9 } else { 10 }) else {
+        return Err(Memory);
+    };
+    assert!(rt; fits_change(grid, &change), "the change fits");
+    Ok(change)
+}
+
+fn fits_change(grid: &Grid, change: &Change) -> bool
+    ensures { IsTrue result → FitsChange grid.now change.now }
+{
+    let leg = Place {
+        flight: change.flight,
+        from: change.leg,
+        to: change.leg,
+    };
+    grid.fits(leg) && change.limit <= 999 && change.wait <= 999
+}
+
+/// Opens a host, runs its manager and its sessions, and gathers it.
 fn run<K: Hosting + Send + Sync, R: Threads + Wait + Sync, G: Gate>(
     rt: &R,
     alloc: Global,
     parts: Parts,
+    changes: &[Change],
     lists: &[RequestList],
     gate: &G,
 ) -> Option<(Result<(), RunFault>, Settled)>
     requires parts { (parts.grid ≡ K.grid) × (parts.cap ≡ K.cap) × (parts.book ≡ K.book) × (parts.sessions ≡ K.sessions) × (parts.names ≡ K.names) }
+    requires changes { All (λ change. FitsChange parts.grid change) changes.now }
     requires lists { All (λ list. All (λ command. FitsCommand parts.grid command) list) lists.now }
 {
-    let (host, mut sessions) = Host::<K>::open(rt, alloc, parts).ok()?;
+    let (host, mut manager, mut sessions) = Host::<K>::open(rt, alloc, parts).ok()?;
     if sessions.len() != lists.len() {
         host.end(rt);
         return None;
     }
-    let answer = run_sessions(rt, alloc, &host, sessions.as_mut_slice(), lists, gate);
-    match gather(rt, alloc, host, sessions) {
+    let answer = run_sessions(
+        rt,
+        alloc,
+        &host,
+        &mut manager,
+        changes,
+        sessions.as_mut_slice(),
+        lists,
+        gate,
+    );
+    match gather(rt, alloc, host, manager, sessions) {
         Ok(settled) => Some((answer, settled)),
-        Err((_, unsettled, _)) => {
+        Err((_, unsettled, _, _)) => {
             unsettled.into_host().end(rt);
             None
         }
@@ -217,10 +306,15 @@ fn follow<R: Threads + Wait + Clock + Abort + Sync>(
     let Ok(lists) = lists_of(rt, alloc, &grid, row.lists) else {
         return None;
     };
+    let Ok(changes) = changes_of(rt, alloc, &grid, row.changes) else {
+        return None;
+    };
     let sessions = u8::try_from(row.lists.len()).ok()?;
     let parts = Parts::new(rt, alloc, grid, sessions, row.cap.clamp(1, 999_999)).ok()?;
     let meeting = Meeting::new(rt, row.holds);
-    let (answer, settled) = run::<Brand, R, Meeting<'_, R>>(rt, alloc, parts, &lists, &meeting)?;
+    let (answer, settled) = run::<Brand, R, Meeting<'_, R>>(
+        rt, alloc, parts, &changes, &lists, &meeting,
+    )?;
     assert!(rt;
         !meeting.held_too_long(),
         "{}: a session was held for too long",
@@ -255,7 +349,13 @@ fn compare(rt: &impl Abort, lists: &[RequestList], settled: &Settled, row: &Row)
     if row.holds == Holds::FirstUntilAnswer {
         same(rt, u64::from(lines.first()?.session), 2, row.shows);
     }
-    let receipts = settled.receipts.as_slice();
+    let (managed, receipts) = settled.receipts.as_slice().split_first()?;
+    same(
+        rt,
+        managed.as_slice().len() as u64,
+        row.managed as u64,
+        row.shows,
+    );
     same(
         rt,
         receipts.len() as u64,
@@ -277,7 +377,7 @@ fn compare(rt: &impl Abort, lists: &[RequestList], settled: &Settled, row: &Row)
 /// Whether these receipts are of the first of these commands, in order.
 fn are_answered(receipts: &[Receipt], commands: &[Command]) -> bool {
     for (receipt, asked) in receipts.iter().zip(commands.iter()) {
-        if receipt.entry().command != *asked {
+        if receipt.entry().work != Work::Seats(*asked) {
             return false;
         }
     }
