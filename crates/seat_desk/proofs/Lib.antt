@@ -1,6 +1,7 @@
+mod Answering
 mod Cuts
 mod Auditing
-mod Inputs
+mod ReadWhole
 pub mod Texts
 mod Schedules
 mod Grounds

@@ -18,7 +18,8 @@ use Rattle.seat_core.specs.Totals.{totals_of}
 use Rattle.seat_core.specs.declared.totals.Totals.{Totals}
 use Rattle.seat_desk.specs.declared.fault.DeskFault.{DeskFault}
 use Rattle.seat_desk.specs.declared.fault.DeskFault.TheVariants.{Journal, Replay, Memory}
-use Rattle.seat_desk.specs.Loading.{IsLoaded, IsRefusedLoad, IsTooLargeLoad}
+use Rattle.seat_desk.specs.declared.inputs.Inputs.{Inputs}
+use Rattle.seat_desk.specs.Loading.{Bytes, IsLoaded, IsRefusedLoad, IsTooLargeLoad}
 
 -- LEGAL lines N confirmed N released N
 abbrev pub audit_line : Totals → List ℕ
@@ -34,7 +35,7 @@ most_lines = 999_999
 abbrev pub most_journal_bytes : ℕ
 most_journal_bytes = 268_435_456
 
--- the bytes are the text of a legal history over these limits, after which no leg holds more than authorised, and the line says what it comes to
+-- the bytes are the text of a legal history over these limits, after which no leg holds more than the limits that it leaves, and the line says what it comes to
 pub record IsAudited (grid : Legs) (bytes line : List ℕ) : Type 0 where
   pub entries : List Entry
   pub is_text : IsJournalText bytes entries
@@ -84,9 +85,9 @@ pub record IsAudit (set limits : List ℕ) (first days : ℕ) (journal line : Li
   pub is_audited : IsAudited grid journal line
 
 -- where the bytes of the three inputs are known
-abbrev pub IsAuditOf : Option (List ℕ) → Option (List ℕ) → ℕ → ℕ → Option (List ℕ) → List ℕ → Type 0
-IsAuditOf set limits first days journal line =
-    IfSome set (λ xs. IfSome limits (λ ys. IfSome journal (λ zs. IsAudit xs ys first days zs line)))
+abbrev pub IsAuditOf : {S L : Type 0} → Bytes S → Bytes L → Inputs S L → Option (List ℕ) → List ℕ → Type 0
+IsAuditOf set limits inputs journal line =
+    IfSome (set inputs.set) (λ xs. IfSome (limits inputs.limits) (λ ys. IfSome journal (λ zs. IsAudit xs ys inputs.first inputs.days zs line)))
 
 -- a journal that is refused over that grid
 pub record IsRefusedOver (set limits : List ℕ) (first days : ℕ) (fault : DeskFault) (journal : List ℕ) : Type 0 where
@@ -107,3 +108,12 @@ pub record IsRefusedAudit (set limits : List ℕ) (first days : ℕ) (journal : 
 -- the set, the limits or the journal is too large
 abbrev pub IsTooLarge : List ℕ → List ℕ → List ℕ → Type 0
 IsTooLarge set limits journal = IsTooLargeLoad set limits ⊎ (most_journal_bytes < length journal)
+
+-- where the bytes of the three inputs are known
+abbrev pub IsRefusedAuditOf : {S L : Type 0} → Bytes S → Bytes L → Inputs S L → Option (List ℕ) → DeskFault → Type 0
+IsRefusedAuditOf set limits inputs journal fault =
+    IfSome (set inputs.set) (λ xs. IfSome (limits inputs.limits) (λ ys. IfSome journal (λ zs. IsRefusedAudit xs ys inputs.first inputs.days zs fault)))
+
+abbrev pub IsTooLargeOf : {S L : Type 0} → Bytes S → Bytes L → Inputs S L → Option (List ℕ) → Type 0
+IsTooLargeOf set limits inputs journal =
+    IfSome (set inputs.set) (λ xs. IfSome (limits inputs.limits) (λ ys. IfSome journal (λ zs. IsTooLarge xs ys zs)))

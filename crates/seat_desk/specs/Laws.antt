@@ -11,7 +11,7 @@ abbrev pub LoadedLaddersDiffer : Type 0
 LoadedLaddersDiffer = (set limits : List ℕ) (first days : ℕ) (flights : List Flown) (grid : Legs) →
     IsLoaded set limits first days flights grid → HasLadders grid
 
--- over a loaded grid no replay holds more seats in a class of a leg and those below it than authorised
+-- from a loaded grid no replay holds more seats in a class of a leg and those below it than the limit that it leaves
 abbrev pub LoadedReplaysKeepLimits : Type 0
 LoadedReplaysKeepLimits = (set limits : List ℕ) (first days : ℕ) (flights : List Flown) (grid : Legs) (journal : List Entry) →
     IsLoaded set limits first days flights grid → HoldsWithinLimits grid journal

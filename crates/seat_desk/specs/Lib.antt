@@ -1,6 +1,7 @@
 pub mod AuditDesk
 pub mod CheckDesk
 pub mod Desk
+pub mod FaultText
 pub mod LadderDesk
 pub mod FlightsDesk
 pub mod Laws

@@ -1,5 +1,5 @@
 -- The flights of a data set, and the grid that limit rows give them.
-use Rattle.std.specs.Prelude.{◌≡◌, ◌≤◌, ◌<◌, ◌⊎◌, ℕ, List, length, Err}
+use Rattle.std.specs.Prelude.{◌≡◌, ◌≤◌, ◌<◌, ◌⊎◌, ℕ, List, length, Option, IfSome, Err}
 use Rattle.std.specs.Str.Lines.{lines}
 use Rattle.ssim_flights.specs.declared.flight.Flight.{Flight as Flown}
 use Rattle.seat_nesting.specs.Authorised.{authorised_grid}
@@ -11,6 +11,8 @@ use Rattle.seat_nesting.specs.declared.limit_fault.LimitKind.TheVariants as limi
 use Rattle.seat_nesting.specs.declared.limit_row.LimitRow.{LimitRow}
 use Rattle.seat_desk.specs.CheckDesk.{most_bytes}
 use Rattle.seat_desk.specs.FlightsDesk.{IsSchedule, IsUnscheduled}
+use Rattle.seat_desk.specs.Desk.{HasFailed}
+use Rattle.seat_desk.specs.declared.inputs.Inputs.{Inputs}
 use Rattle.seat_desk.specs.declared.fault.DeskFault.{DeskFault}
 use Rattle.seat_desk.specs.declared.fault.DeskFault.TheVariants.{Set, Flight, Limit, Memory}
 
@@ -35,6 +37,15 @@ pub record IsLoaded (set limits : List ℕ) (first days : ℕ) (flights : List F
   pub set_within : length set ≤ most_bytes
   pub limits_within : length limits ≤ most_limit_bytes
   pub loaded : IsLoadedGrid set limits first days flights grid
+
+-- what is known of a reader's bytes
+abbrev pub Bytes : Type 0 → Type 0
+Bytes D = D → Option (List ℕ)
+
+-- where the bytes of both are known
+abbrev pub IsLoadedOf : {S L : Type 0} → Bytes S → Bytes L → Inputs S L → List Flown → Legs → Type 0
+IsLoadedOf set limits inputs flights grid =
+    IfSome (set inputs.set) (λ xs. IfSome (limits inputs.limits) (λ ys. IsLoaded xs ys inputs.first inputs.days flights grid))
 
 -- the desk's fault for one of limit rows
 abbrev pub limit_refusal_of : LimitKind → LimitFault → DeskFault
@@ -73,3 +84,15 @@ pub record IsRefusedLoad (set limits : List ℕ) (first days : ℕ) (fault : Des
 -- the set or the limits are too large
 abbrev pub IsTooLargeLoad : List ℕ → List ℕ → Type 0
 IsTooLargeLoad set limits = (most_bytes < length set) ⊎ (most_limit_bytes < length limits)
+
+-- where the bytes of both are known
+abbrev pub IsRefusedLoadOf : {S L : Type 0} → Bytes S → Bytes L → Inputs S L → DeskFault → Type 0
+IsRefusedLoadOf set limits inputs fault =
+    IfSome (set inputs.set) (λ xs. IfSome (limits inputs.limits) (λ ys. IsRefusedLoad xs ys inputs.first inputs.days fault))
+
+abbrev pub IsTooLargeLoadOf : {S L : Type 0} → Bytes S → Bytes L → Inputs S L → Type 0
+IsTooLargeLoadOf set limits inputs = IfSome (set inputs.set) (λ xs. IfSome (limits inputs.limits) (λ ys. IsTooLargeLoad xs ys))
+
+-- one of the two has failed
+abbrev pub HaveFailed : {S L : Type 0} → (S → ℕ) → (L → ℕ) → Inputs S L → Inputs S L → Type 0
+HaveFailed of_set of_limits old new = HasFailed of_set old.set new.set ⊎ HasFailed of_limits old.limits new.limits

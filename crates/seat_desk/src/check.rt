@@ -11,7 +11,7 @@ use ssim_records::{DataSet, Day, NotedRead, NotedWrite, SetKind, put_all, read_s
 use std::alloc::{AllocError, Global};
 
 /// 256 MiB, the most bytes of a data set.
-pub const MOST_BYTES: u64 = 268_435_456;
+pub const MOST_SET_BYTES: u64 = 268_435_456;
 
 /// The most numbered records, as many as six digits count.
 const MOST_RECORDS: u32 = 999_999;
@@ -30,7 +30,7 @@ pub fn desk_check<R: NotedRead, W: NotedWrite>(
         ⊎ OutputFailed W.failure_count W.contents out.old out.new (OfInput Sums (R.remaining input.old))) }
     ensures untouched { IfErr result (λ f. f ≢ DeskFault.Device → out.new ≡ out.old) }
 {
-    let bytes = read_input(alloc, input, MOST_BYTES)?;
+    let bytes = read_input(alloc, input, MOST_SET_BYTES)?;
     let text = summary(alloc, &bytes)?;
     match put_all(out, &text) {
         Ok(()) => Ok(()),

@@ -19,6 +19,10 @@ pub enum DeskFault {
     Flight(FlightFault),
     /// A ladder or a limit row is malformed.
     Limit(LimitFault),
+    /// A change row is malformed.
+    Change(LimitFault),
+    /// A change row names no leg: no flight has its cities on its day, or they are further apart than one leg.
+    NoLeg { line: u32 },
     /// A line is no command.
     Command { line: u32 },
     /// A command beyond those that a journal has room for.
@@ -50,17 +54,28 @@ pub enum DeskFault {
 }
 
 impl fmt::Display for DeskFault {
+    ghost use Rattle.std.specs.Prelude.{Some};
+    ghost use Rattle.seat_desk.specs.FaultText.{fault_text};
+
+    ghost output = { λ fault. Some (fault_text fault) };
+
     /// The code, and where the fault stands.
     fn fmt<W: fmt::Write>(&self, f: &mut fmt::Formatter<W>) -> fmt::Result {
         match self {
             DeskFault::Set(fault) => fault.fmt(f),
             DeskFault::Flight(fault) => fault.fmt(f),
             DeskFault::Limit(fault) => fault.fmt(f),
+            DeskFault::Change(fault) => fault.fmt(f),
+            DeskFault::NoLeg { line } => write!(f, "U1 {line}"),
             DeskFault::Journal(fault) => fault.fmt(f),
             DeskFault::Replay(fault) => fault.fmt(f),
             DeskFault::Command { line } => write!(f, "E1 {line}"),
             DeskFault::Full { line } => write!(f, "C1 {line}"),
-            DeskFault::Script { session, fault } => put_script_fault(f, *session, fault),
+            DeskFault::Script { session, fault } => {
+                let kind = fault.kind;
+                let line = fault.line;
+                write!(f, "{kind} {session} {line}")
+            }
             DeskFault::Book { session, call } => write!(f, "B1 {session} {call}"),
             DeskFault::BadFirst => f.write_str("E2 first"),
             DeskFault::BadDays => f.write_str("E2 days"),
@@ -72,17 +87,6 @@ impl fmt::Display for DeskFault {
             DeskFault::Memory => f.write_str("MEMORY"),
         }
     }
-}
-
-/// The code of a script's fault, the session, and the line.
-fn put_script_fault<W: fmt::Write>(
-    f: &mut fmt::Formatter<W>,
-    session: u8,
-    fault: &ScriptFault,
-) -> fmt::Result {
-    let kind = fault.kind;
-    let line = fault.line;
-    write!(f, "{kind} {session} {line}")
 }
 
 impl DeskFault {

@@ -5,7 +5,7 @@ ghost use Rattle.seat_desk.specs.CheckDesk.{most_bytes};
 ghost use Rattle.seat_desk.specs.Desk.{HasFailed, InputFailed, IsOfInput, IsWritten, OfInput, OutputFailed};
 ghost use Rattle.seat_desk.specs.FlightsDesk.{IsFlightsText, IsLegText, IsLinePut, IsListing, IsPut, IsSchedule, IsUnscheduled, expansion_fault, head_text, suffix_text};
 
-use crate::check::{MOST_BYTES, data_set};
+use crate::check::{MOST_SET_BYTES, data_set};
 use crate::fault::DeskFault;
 use crate::streams::read_input;
 use crate::text::{put, put_number};
@@ -35,7 +35,7 @@ pub fn desk_flights<R: NotedRead, W: NotedWrite>(
         ⊎ OutputFailed W.failure_count W.contents out.old out.new (OfInput (IsListing first days) (R.remaining input.old))) }
     ensures untouched { IfErr result (λ f. f ≢ DeskFault.Device → out.new ≡ out.old) }
 {
-    let bytes = read_input(alloc, input, MOST_BYTES)?;
+    let bytes = read_input(alloc, input, MOST_SET_BYTES)?;
     let text = listing(alloc, &bytes, first, days)?;
     match put_all(out, &text) {
         Ok(()) => Ok(()),

@@ -1,31 +1,30 @@
-//! `ladder`: one leg from the input, and each command on it answered.
+//! `ladder`: one leg from the input, and each command on it and each change of its limits answered.
 ghost use Rattle.std.specs.Prelude.{◌≡◌, ◌≢◌, ◌+◌, ◌++◌, ◌∷◌, ◌<◌, ◌≤◌, ◌⊎◌, [], IfErr, IfOk, IfSome, OnOk, Ok, Err, length};
 ghost use Rattle.std.specs.List.{All, flat_map};
 ghost use Rattle.seat_nesting.specs.Nesting.{Fits, ladder_at};
 ghost use Rattle.seat_core.specs.Inventory.{state_now};
-ghost use Rattle.seat_core.specs.Journal.{calls_of, next_line};
 ghost use Rattle.seat_desk.specs.Desk.{HasFailed, InputFailed, IsOfInput, IsWritten, OfInput, OutputFailed};
-ghost use Rattle.seat_desk.specs.LadderDesk.{IsLadderText, IsRefusedLadder, class_text, first_line, ladder_text, later_lines, lines_after, most_bytes, reply_text, room_text};
+ghost use Rattle.seat_desk.specs.LadderDesk.{IsLadderText, IsRefusedLadder, class_text, first_line, ladder_text, later_lines, line_for, lines_after, most_bytes, reply_text, room_text};
 ghost use Rattle.seat_desk.specs.Lines.{lines_of};
 ghost use Rattle.seat_desk.specs.Orders.{IsOrder, only_leg};
 
 use crate::fault::DeskFault;
-use crate::lines::cut_line;
+use crate::lines::cut_at_feed;
 use crate::orders::{ONLY_LEG, read_orders};
 use crate::streams::read_input;
 use crate::text::{put, put_entries, put_number};
-use seat_core::{Command, Core};
+use seat_core::{Core, Work};
 use seat_nesting::{Grid, Ladder, LimitFault, Step, read_ladder};
 use ssim_records::{Class, NotedRead, NotedWrite, put_all};
 use std::alloc::{AllocError, Global};
 
-/// The most commands, as many as a journal has lines.
-const MOST_COMMANDS: u32 = 999_999;
+/// The most lines of a journal.
+const MOST_LINES: u32 = 999_999;
 
 /// 16 MiB.
-const MOST_BYTES: u64 = 16_777_216;
+const MOST_LADDER_BYTES: u64 = 16_777_216;
 
-/// Reads a ladder and the commands on its leg, and writes the reply to each and the room that is left.
+/// Reads a ladder, commands on its leg and changes of its limits, and writes the reply to each and the room that is left.
 /// Nothing is written before all is read and right. An input has at most 16 MiB.
 pub fn desk_ladder<R: NotedRead, W: NotedWrite>(
     alloc: Global,
@@ -40,7 +39,7 @@ pub fn desk_ladder<R: NotedRead, W: NotedWrite>(
         ⊎ OutputFailed W.failure_count W.contents out.old out.new (OfInput IsLadderText (R.remaining input.old))) }
     ensures untouched { IfErr result (λ f. f ≢ DeskFault.Device → out.new ≡ out.old) }
 {
-    let bytes = read_input(alloc, input, MOST_BYTES)?;
+    let bytes = read_input(alloc, input, MOST_LADDER_BYTES)?;
     let text = answer(alloc, &bytes)?;
     match put_all(out, &text) {
         Ok(()) => Ok(()),
@@ -72,11 +71,11 @@ fn cut_first(bytes: &[u8]) -> (&[u8], &[u8])
     if bytes.is_empty() {
         return (bytes, bytes);
     }
-    cut_line(bytes)
+    cut_at_feed(bytes)
 }
 
-/// The replies to the commands, and the room that they leave.
-fn answer_orders(alloc: Global, ladder: Ladder, orders: &[Command]) -> Result<Vec<u8>, DeskFault>
+/// The replies to the orders, and the room that they leave.
+fn answer_orders(alloc: Global, ladder: Ladder, orders: &[Work]) -> Result<Vec<u8>, DeskFault>
     requires orders { All IsOrder orders.now }
     requires few { length orders.now ≤ 999999 }
     ensures ok { IfOk result (λ text. text.items ≡ ladder_text ladder orders.now) }
@@ -86,7 +85,7 @@ fn answer_orders(alloc: Global, ladder: Ladder, orders: &[Command]) -> Result<Ve
         Ok(grid) => grid,
         Err(_) => return Err(DeskFault::Memory),
     };
-    let mut core = match Core::new(alloc, grid, MOST_COMMANDS) {
+    let mut core = match Core::new(alloc, grid, MOST_LINES) {
         Ok(core) => core,
         Err(_) => return Err(DeskFault::Memory),
     };
@@ -130,13 +129,12 @@ fn put_room(text: &mut Vec<u8>, core: &Core, class: Class) -> Result<(), AllocEr
     put_number(text, u64::from(core.room(ONLY_LEG, class)))
 }
 
-/// Answers each command as session 1's next call.
-fn answer_all(alloc: Global, core: &mut Core, orders: &[Command]) -> Result<(), DeskFault>
+/// Answers each order as the next line.
+fn answer_all(alloc: Global, core: &mut Core, orders: &[Work]) -> Result<(), DeskFault>
     requires fits { Fits core.old.grid only_leg }
     requires orders { All IsOrder orders.now }
     requires new { core.old.journal ≡ [] }
     requires few { length orders.now ≤ core.old.cap }
-    requires small { core.old.cap ≤ 999999 }
     ensures ok { OnOk result (core.new.journal ≡ lines_after core.old.grid [] orders.now) }
     ensures grid { core.new.grid ≡ core.old.grid }
     ensures memory { IfErr result (λ f. f ≡ DeskFault.Memory) }
@@ -147,21 +145,30 @@ fn answer_all(alloc: Global, core: &mut Core, orders: &[Command]) -> Result<(), 
     Ok(())
 }
 
-fn answer_next(alloc: Global, core: &mut Core, order: Command) -> Result<(), DeskFault>
+/// Answers seats as session 1's next call, and a change of a limit as the manager's.
+fn answer_next(alloc: Global, core: &mut Core, order: Work) -> Result<(), DeskFault>
     requires fits { Fits core.old.grid only_leg }
     requires order { IsOrder order }
-    requires alone { calls_of core.old.journal 1 ≡ length core.old.journal }
     requires below { length core.old.journal < core.old.cap }
-    requires small { core.old.cap ≤ 999999 }
-    ensures line { OnOk result (core.new.journal ≡ core.old.journal ++ next_line core.old.grid core.old.journal 1 (length core.old.journal + 1) order ∷ []) }
-    ensures alone { OnOk result (calls_of core.new.journal 1 ≡ length core.new.journal) }
+    ensures line { OnOk result (core.new.journal ≡ core.old.journal ++ line_for core.old.grid core.old.journal order ∷ []) }
     ensures grid { core.new.grid ≡ core.old.grid }
     ensures cap { core.new.cap ≡ core.old.cap }
     ensures memory { IfErr result (λ f. f ≡ DeskFault.Memory) }
 {
-    let call = core.journal().len() as u32 + 1;
-    match core.step(alloc, 1, call, order) {
-        Ok(_) => Ok(()),
-        Err(_) => Err(DeskFault::Memory),
+    match order {
+        Work::Seats(command) => {
+            let call = core.calls_of(1) + 1;
+            match core.step(alloc, 1, call, command) {
+                Ok(_) => Ok(()),
+                Err(_) => Err(DeskFault::Memory),
+            }
+        }
+        Work::Limit(change) => {
+            let call = core.calls_of(0) + 1;
+            match core.change(alloc, call, change) {
+                Ok(_) => Ok(()),
+                Err(_) => Err(DeskFault::Memory),
+            }
+        }
     }
 }

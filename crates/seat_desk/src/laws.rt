@@ -6,7 +6,8 @@ pub fn loaded_ladders_differ()
     ensures { LoadedLaddersDiffer }
 {}
 
-/// Over a loaded grid no replay holds more seats in a class of a leg and those below it than authorised.
+/// From a loaded grid no replay, with its changes of limits, holds more seats in a class of a leg and those below it than the
+/// limit that it leaves.
 pub fn loaded_replays_keep_limits()
     ensures { LoadedReplaysKeepLimits }
 {}

@@ -1,18 +1,19 @@
 //! The flights of a data set, and the grid that limit rows give them on the dates of a horizon.
-ghost use Rattle.std.specs.Prelude.{◌≡◌, ◌≢◌, ◌<◌, ◌≤◌, ◌⊎◌, IfErr, IfOk, IfSome, length};
+ghost use Rattle.std.specs.Prelude.{◌≡◌, ◌≢◌, ◌<◌, ◌≤◌, IfErr, IfOk, length};
 ghost use Rattle.ssim_flights.specs.Right.{IsOfCentury};
 ghost use Rattle.seat_nesting.specs.Authorised.{authorised_grid};
 ghost use Rattle.seat_nesting.specs.LimitRows.{IsLimitText};
-ghost use Rattle.seat_desk.specs.Desk.{HasFailed, IsOfInput};
-ghost use Rattle.seat_desk.specs.Loading.{IsGridOf, IsLoaded, IsRefusedLoad, IsTooLargeLoad, IsUnlimited, limit_refusal, most_limit_bytes};
+ghost use Rattle.seat_desk.specs.Desk.{IsOfInput};
+ghost use Rattle.seat_desk.specs.Loading.{HaveFailed, IsGridOf, IsLoadedOf, IsRefusedLoadOf, IsTooLargeLoadOf, IsUnlimited, limit_refusal, most_limit_bytes};
 
-use crate::check::MOST_BYTES;
+use crate::check::MOST_SET_BYTES;
 use crate::fault::DeskFault;
 use crate::flights::scheduled;
+use crate::inputs::Inputs;
 use crate::streams::read_input;
 use seat_nesting::{Grid, LimitFault, LimitKind, LimitRows, read_limits};
 use ssim_flights::Flights;
-use ssim_records::{Day, NotedRead};
+use ssim_records::NotedRead;
 use std::alloc::Global;
 
 /// 16 MiB, the most bytes of limit rows.
@@ -29,22 +30,19 @@ pub struct Loaded {
 /// No leg of that grid has a class twice: [`loaded_ladders_differ`](crate::loaded_ladders_differ).
 pub fn load<S: NotedRead, L: NotedRead>(
     alloc: Global,
-    set: &mut S,
-    limits: &mut L,
-    first: Day,
-    days: u16,
+    inputs: &mut Inputs<S, L>,
 ) -> Result<Loaded, DeskFault>
-    requires first { IsOfCentury first }
-    requires days { (1 ≤ days) × (days ≤ 366) }
-    ensures ok { IfOk result (λ loaded. IfSome (S.remaining set.old) (λ xs. IfSome (L.remaining limits.old) (λ ys. IsLoaded xs ys first days loaded.flights loaded.grid))) }
+    requires first { IsOfCentury inputs.old.first }
+    requires days { (1 ≤ inputs.old.days) × (inputs.old.days ≤ 366) }
+    ensures ok { IfOk result (λ loaded. IsLoadedOf S.remaining L.remaining inputs.old loaded.flights loaded.grid) }
     ensures grid { IfOk result (λ loaded. IsGridOf loaded.flights loaded.grid) }
-    ensures fault { IfErr result (λ f. IsOfInput f → IfSome (S.remaining set.old) (λ xs. IfSome (L.remaining limits.old) (λ ys. IsRefusedLoad xs ys first days f))) }
-    ensures large { IfErr result (λ f. f ≡ DeskFault.TooLarge → IfSome (S.remaining set.old) (λ xs. IfSome (L.remaining limits.old) (λ ys. IsTooLargeLoad xs ys))) }
-    ensures device { IfErr result (λ f. f ≡ DeskFault.Device → HasFailed S.failure_count set.old set.new ⊎ HasFailed L.failure_count limits.old limits.new) }
+    ensures fault { IfErr result (λ f. IsOfInput f → IsRefusedLoadOf S.remaining L.remaining inputs.old f) }
+    ensures large { IfErr result (λ f. f ≡ DeskFault.TooLarge → IsTooLargeLoadOf S.remaining L.remaining inputs.old) }
+    ensures device { IfErr result (λ f. f ≡ DeskFault.Device → HaveFailed S.failure_count L.failure_count inputs.old inputs.new) }
 {
-    let bytes = read_input(alloc, set, MOST_BYTES)?;
-    let flights = scheduled(alloc, &bytes, first, days)?;
-    let bytes = read_input(alloc, limits, MOST_LIMIT_BYTES)?;
+    let bytes = read_input(alloc, &mut inputs.set, MOST_SET_BYTES)?;
+    let flights = scheduled(alloc, &bytes, inputs.first, inputs.days)?;
+    let bytes = read_input(alloc, &mut inputs.limits, MOST_LIMIT_BYTES)?;
     let rows = match limit_rows(alloc, &bytes) {
         Ok(rows) => rows,
         Err(fault) => return Err(fault),

@@ -1,14 +1,15 @@
-//! The command lines of a ladder's input.
+//! The lines of a ladder's input that follow the ladder: commands, and changes of its limits.
 ghost use Rattle.std.specs.Prelude.{◌≡◌, ◌≢◌, ◌+◌, ◌<◌, ◌≤◌, [], IfSome, IfOk, IfErr, OnOk, Ok, Err, length};
 ghost use Rattle.std.specs.List.{All};
 ghost use Rattle.seat_desk.specs.LadderDesk.{orders_after, orders_behind};
 ghost use Rattle.seat_desk.specs.Lines.{lines_of};
-ghost use Rattle.seat_desk.specs.Orders.{IsOrder, order_in, parts_in, seats_in};
+ghost use Rattle.seat_desk.specs.Orders.{IsChangeHere, IsOrder, change_in, change_to, command_in, order_in, parts_in, seats_in};
 
 use crate::fault::DeskFault;
-use crate::lines::cut_line;
-use seat_journal::Command;
-use ssim_records::fields::{are_digits, value_of};
+use crate::lines::cut_at_feed;
+use seat_journal::{Change, Command, Work};
+use seat_nesting::{Step, read_ladder};
+use ssim_records::fields::{are_digits, value_of, word_of};
 use ssim_records::{Class, Code, Locator, Place};
 use std::alloc::Global;
 
@@ -19,11 +20,11 @@ pub const ONLY_LEG: Place = Place {
     to: 0,
 };
 
-/// A ladder, and as many commands as a journal has lines.
+/// A ladder, and as many more as a journal has lines.
 const MOST_LINES: u32 = 1_000_000;
 
-/// The commands of the lines that follow the ladder.
-pub fn read_orders(alloc: Global, bytes: &[u8]) -> Result<Vec<Command>, DeskFault>
+/// What the lines that follow the ladder ask for.
+pub fn read_orders(alloc: Global, bytes: &[u8]) -> Result<Vec<Work>, DeskFault>
     ensures ok { IfOk result (λ orders. orders_after 2 [] (lines_of bytes.now) ≡ Ok orders.items) }
     ensures fault { IfErr result (λ f. f ≢ DeskFault.Memory → orders_after 2 [] (lines_of bytes.now) ≡ Err f) }
     ensures kind { IfErr result (λ f. (f ≢ DeskFault.Device) × (f ≢ DeskFault.TooLarge)) }
@@ -39,7 +40,7 @@ pub fn read_orders(alloc: Global, bytes: &[u8]) -> Result<Vec<Command>, DeskFaul
 }
 
 /// Reads the next line, and answers the bytes behind it.
-fn take_order<'a>(orders: &mut Vec<Command>, bytes: &'a [u8]) -> Result<&'a [u8], DeskFault>
+fn take_order<'a>(orders: &mut Vec<Work>, bytes: &'a [u8]) -> Result<&'a [u8], DeskFault>
     requires some { 0 < length bytes.now }
     requires few { length orders.old.items ≤ 999999 }
     requires orders { All IsOrder orders.old.items }
@@ -50,7 +51,7 @@ fn take_order<'a>(orders: &mut Vec<Command>, bytes: &'a [u8]) -> Result<&'a [u8]
     ensures orders { OnOk result (All IsOrder orders.new.items) }
     ensures few { OnOk result (length orders.new.items ≤ 999999) }
 {
-    let (text, rest) = cut_line(bytes);
+    let (text, rest) = cut_at_feed(bytes);
     let line = orders.len() as u32 + 2;
     let Some(order) = order_of(text) else {
         return Err(DeskFault::Command { line });
@@ -64,10 +65,50 @@ fn take_order<'a>(orders: &mut Vec<Command>, bytes: &'a [u8]) -> Result<&'a [u8]
     Ok(rest)
 }
 
-/// The command that a line `LOCATOR CLASS CODE SEATS` spells, on the only leg there is.
-#[tactic(auto, unfolding(crate::specs::Orders::order_in))]
-pub fn order_of(line: &[u8]) -> Option<Command>
+/// What a line asks for: `AU ENTRY` for another limit, `LOCATOR CLASS CODE SEATS` for seats, on the only leg there is.
+pub fn order_of(line: &[u8]) -> Option<Work>
     ensures value { result ≡ order_in line.now }
+    ensures order { IfSome result IsOrder }
+{
+    match word_of(b"AU ", line) {
+        Some(entry) => change_of(entry),
+        None => command_of(line),
+    }
+}
+
+/// The change that a ladder entry writes.
+fn change_of(entry: &[u8]) -> Option<Work>
+    ensures value { result ≡ change_in entry.now }
+    ensures order { IfSome result IsOrder }
+{
+    let Ok(ladder) = read_ladder(entry) else {
+        return None;
+    };
+    match ladder.steps() {
+        [step] if !step.listed => Some(Work::Limit(change_to(step))),
+        _ => None,
+    }
+}
+
+fn change_to(step: &Step) -> Change
+    requires limit { step.now.limit ≤ 999 }
+    requires wait { step.now.wait ≤ 999 }
+    ensures value { result ≡ change_to step.now }
+    ensures here { IsChangeHere result }
+{
+    Change {
+        flight: ONLY_LEG.flight,
+        leg: ONLY_LEG.from,
+        class: step.class,
+        limit: step.limit,
+        wait: step.wait,
+    }
+}
+
+/// The command that a line `LOCATOR CLASS CODE SEATS` spells.
+#[tactic(auto, unfolding(crate::specs::Orders::command_in))]
+fn command_of(line: &[u8]) -> Option<Work>
+    ensures value { result ≡ command_in line.now }
     ensures order { IfSome result IsOrder }
 {
     if line.len() < 13 || line[6] != b' ' || line[8] != b' ' || line[11] != b' ' {
@@ -77,7 +118,7 @@ pub fn order_of(line: &[u8]) -> Option<Command>
 }
 
 #[tactic(auto, unfolding(crate::specs::Orders::parts_in))]
-fn parts_of(line: &[u8]) -> Option<Command>
+fn parts_of(line: &[u8]) -> Option<Work>
     requires { 13 ≤ length line.now }
     ensures value { result ≡ parts_in line.now }
     ensures order { IfSome result IsOrder }
@@ -86,13 +127,13 @@ fn parts_of(line: &[u8]) -> Option<Command>
     let class = Class::new(line[7])?;
     let code = Code::new(&line[9..11])?;
     let seats = seats_of(&line[12..])?;
-    Some(Command {
+    Some(Work::Seats(Command {
         locator,
         place: Some(ONLY_LEG),
         class,
         code,
         seats,
-    })
+    }))
 }
 
 #[tactic(auto, unfolding(crate::specs::Orders::seats_in))]

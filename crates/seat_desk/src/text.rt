@@ -1,10 +1,10 @@
 //! Pieces of the texts that commands write.
 ghost use Rattle.std.specs.Prelude.{◌≡◌, ◌++◌, ◌∷◌, [], decimal, OnOk, codes};
 ghost use Rattle.std.specs.List.{flat_map};
-ghost use Rattle.seat_desk.specs.LadderDesk.{advice_text, entry_text};
+ghost use Rattle.seat_desk.specs.LadderDesk.{advice_text, asked_text, entry_text};
 
 use itoa::Buffer;
-use seat_journal::{Advice, Entry};
+use seat_journal::{Advice, Entry, Work};
 use std::alloc::AllocError;
 
 /// Adds bytes as they are.
@@ -40,14 +40,24 @@ fn put_advices(text: &mut Vec<u8>, advices: &[Advice]) -> Result<(), AllocError>
     Ok(())
 }
 
-/// Adds the line of an entry: its number, the reply with its seats, and its advices.
+/// Adds the seats that were asked; a change of a limit asks for none.
+fn put_asked(text: &mut Vec<u8>, work: &Work) -> Result<(), AllocError>
+    ensures { OnOk result (text.new.items ≡ text.old.items ++ asked_text work.now) }
+{
+    match work {
+        Work::Seats(command) => put_number(text, u64::from(command.seats)),
+        Work::Limit(_) => Ok(()),
+    }
+}
+
+/// Adds the line of an entry: its number, the reply with the seats asked, and its advices.
 pub fn put_entry(text: &mut Vec<u8>, entry: &Entry) -> Result<(), AllocError>
     ensures { OnOk result (text.new.items ≡ text.old.items ++ entry_text entry.now) }
 {
     put_number(text, u64::from(entry.number))?;
     put(text, b" ")?;
     put(text, &entry.reply.letters())?;
-    put_number(text, u64::from(entry.command.seats))?;
+    put_asked(text, &entry.work)?;
     put_advices(text, entry.advices.as_slice())?;
     put(text, b"\n")
 }
