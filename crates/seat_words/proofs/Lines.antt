@@ -13,6 +13,10 @@ use Rattle.seat_words.specs.Jobs.{is_answerable}
 pub some_text : (f : Found) (id t : Text) → Some t ≡ first_value f id → first_of id (rows_of f) ≡ Some t
 some_text f id t e = sym (e ∙ first_value-rows f id)
 
+-- and so where there may be none
+pub may_text : (f : Found) (id : Text) (found : Option Text) → found ≡ first_value f id → first_of id (rows_of f) ≡ found
+may_text f id found e = sym (e ∙ first_value-rows f id)
+
 -- a value that is in the rows is got
 pub no_text : (f : Found) (id : Text) → None ≡ first_value f id → is_some (first_of id (rows_of f)) ≡ true → ⊥
 no_text f id e h = let bad : false ≡ true = ap is_some (e ∙ first_value-rows f id) ∙ h in cc

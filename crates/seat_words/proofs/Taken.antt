@@ -68,7 +68,7 @@ run_line = leaf_line is_complete (built_leaf run_app.top) (
         set_keeps _ refl refl,
         (
           set_keeps _ refl refl,
-          (set_keeps _ refl refl, (append_keeps _ refl refl, (help_keeps _ refl, tt))),
+          (set_keeps _ refl refl, (set_keeps _ refl refl, (append_keeps _ refl refl, (help_keeps _ refl, tt)))),
         ),
       ),
     ),

@@ -10,6 +10,10 @@ use Rattle.clap.specs.declared.builder.command.Command.TheViews.{out-Command as 
 abbrev pub required_option : Text → Rule
 required_option id = record (new_rule id) { long = Some id; required = true; value_names = 1 }
 
+-- an option with a value, which may be left out
+abbrev pub optional : Text → Rule
+optional id = record (new_rule id) { long = Some id; value_names = 1 }
+
 -- a value by its place, which must be there
 abbrev pub required_value : Text → Rule
 required_value id = record (new_rule id) { required = true; value_names = 1 }
@@ -42,9 +46,10 @@ unfoldable pub audit_app : App
 audit_app = with_rule (horizon_app (codes "audit")) (required_value (codes "journal"))
 
 unfoldable pub run_app : App
-run_app = with_rule (with_rule (with_rule (horizon_app (codes "run"))
+run_app = with_rule (with_rule (with_rule (with_rule (horizon_app (codes "run"))
     (required_option (codes "today")))
     (required_option (codes "journal")))
+    (optional (codes "changes")))
     (required_values (codes "scripts"))
 
 -- the program before its commands

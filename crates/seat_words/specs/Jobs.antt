@@ -2,7 +2,7 @@
 use Rattle.std.specs.Prelude.{◌≡◌, Bool, List, [], ◌∷◌, Option, Some, codes, find, is_some, false}
 use Rattle.std.specs.Str.{bytes_eq}
 use Rattle.std.specs.List.{list_all}
-use Rattle.std.specs.Option.{option_map_or}
+use Rattle.std.specs.Option.{option_map, option_map_or}
 use Rattle.clap.specs.Words.{Row, Text, all_of, first_of}
 use Rattle.seat_words.specs.declared.job.Job.{Job}
 use Rattle.seat_words.specs.declared.job.Job.TheVariants.{Ladder, Check, Flights, Audit, Run}
@@ -14,6 +14,10 @@ Line = Text × List Row
 -- clap found this value of an option, or by its place
 abbrev pub Has : Line → Text → Text → Type 0
 Has line id text = first_of id line.1 ≡ Some text
+
+-- clap found this value of an option, or none where there is none
+abbrev pub MayHave : Line → Text → Option Text → Type 0
+MayHave line id text = first_of id line.1 ≡ text
 
 -- the job is the command that was named, with the values that clap found
 abbrev pub Asks : Job → Line → Type 0
@@ -29,13 +33,14 @@ Asks (Audit set limits first days journal) line = (line.0 ≡ codes "audit")
     × Has line (codes "first") first.now
     × Has line (codes "days") days.now
     × Has line (codes "journal") journal.now
-Asks (Run set limits first days today journal scripts) line = (line.0 ≡ codes "run")
+Asks (Run set limits first days today journal changes scripts) line = (line.0 ≡ codes "run")
     × Has line (codes "set") set.now
     × Has line (codes "limits") limits.now
     × Has line (codes "first") first.now
     × Has line (codes "days") days.now
     × Has line (codes "today") today.now
     × Has line (codes "journal") journal.now
+    × MayHave line (codes "changes") (option_map (λ text. text.now) changes)
     × (all_of (codes "scripts") line.1 ≡ Some scripts)
 
 -- ---- what the reading itself needs

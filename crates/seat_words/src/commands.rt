@@ -1,7 +1,7 @@
 //! The commands, as clap reads them and as their help shows them.
 ghost use Rattle.std.specs.Prelude.{IfOk, IsOkAnd, codes};
 ghost use Rattle.clap.specs.Words.{AddsArg, AddsSubcommand, new_app};
-ghost use Rattle.seat_words.specs.CommandLine.{IsBuiltAs, IsReadAlike, IsReadAs, audit_app, bare_app, check_app, flights_app, horizon_app, ladder_app, required_option, required_value, required_values, run_app, seatdesk_app};
+ghost use Rattle.seat_words.specs.CommandLine.{IsBuiltAs, IsReadAlike, IsReadAs, audit_app, bare_app, check_app, flights_app, horizon_app, ladder_app, optional, required_option, required_value, required_values, run_app, seatdesk_app};
 
 use clap::{Arg, ArgAction, Command};
 use std::alloc::{AllocError, Global};
@@ -20,6 +20,9 @@ const TODAY_HELP: &str =
 const OUT_HELP: &str = "The file that the journal is written to";
 
 const JOURNAL_HELP: &str = "The journal to replay: a file that run wrote";
+
+const CHANGES_HELP: &str =
+    "Changes of the limits, made beside the sessions (a file); without it no limit changes";
 
 const SCRIPTS_HELP: &str = "The scripts of the sessions, 1 to 8 files of AIRIMP messages";
 
@@ -123,10 +126,11 @@ fn run_command<'a>(alloc: Global) -> Result<Command<'a>, AllocError>
         alloc,
         "run",
         "Books the requests of scripts, one session on a thread for each script, and writes the replies",
-        "OUT is created, empty, after the inputs open and before they are read; a refused run leaves it empty.\n\nExample: seatdesk run --set examples/summer.ssim --limits examples/limits.txt --first 2024-07-01 --days 31 --today 2024-06-20 --journal journal.txt examples/london.txt examples/lisbon.txt",
+        "OUT is created, empty, after the inputs open and before they are read; a refused run leaves it empty.\n\nExample: seatdesk run --set examples/summer.ssim --limits examples/limits.txt --first 2024-07-01 --days 31 --today 2024-06-20 --journal journal.txt examples/london.txt examples/lisbon.txt\n\nWith changes of the limits: seatdesk run --set examples/summer.ssim --limits examples/limits.txt --first 2024-07-01 --days 31 --today 2024-06-20 --journal journal.txt --changes examples/changes.txt examples/london.txt examples/lisbon.txt",
     );
     let run = with_argument(run, wanted_option(alloc, "today", "DATE", TODAY_HELP));
     let run = with_argument(run, wanted_option(alloc, "journal", "OUT", OUT_HELP));
+    let run = with_argument(run, optional_option(alloc, "changes", "FILE", CHANGES_HELP));
     with_argument(run, wanted_values(alloc, "scripts", "SCRIPT", SCRIPTS_HELP))
 }
 
@@ -202,6 +206,13 @@ fn wanted_option<'a>(alloc: Global, id: &'a str, value: &'a str, help: &'a str) 
     ensures { IsReadAs (required_option id.entry.now) result }
 {
     wanted_value(alloc, id, value, help).long(id)
+}
+
+// An option whose value may be left out.
+fn optional_option<'a>(alloc: Global, id: &'a str, value: &'a str, help: &'a str) -> Arg<'a>
+    ensures { IsReadAs (optional id.entry.now) result }
+{
+    Arg::new(alloc, id).value_name(value).help(help).long(id)
 }
 
 // A value by its place, of which there may be more.

@@ -34,7 +34,7 @@ pub enum Job<'a> {
         days: &'a str,
         journal: &'a str,
     },
-    /// `seatdesk run --set SET --limits LIMITS --first DATE --days N --today DATE --journal OUT SCRIPT...`
+    /// `seatdesk run --set SET --limits LIMITS --first DATE --days N --today DATE --journal OUT [--changes FILE] SCRIPT...`
     Run {
         set: &'a str,
         limits: &'a str,
@@ -42,6 +42,7 @@ pub enum Job<'a> {
         days: &'a str,
         today: &'a str,
         journal: &'a str,
+        changes: Option<&'a str>,
         /// One or more.
         scripts: Scripts<'a>,
     },
@@ -73,6 +74,7 @@ fn job_of<'a>(alloc: Global, matches: &ArgMatches<'a>) -> Result<Job<'a>, AllocE
     job_named(alloc, name, inner)
 }
 
+#[tactic(auto, using(crate::proofs::Lines::may_text))]
 fn job_named<'a>(alloc: Global, name: &str, matches: &ArgMatches<'a>) -> Result<Job<'a>, AllocError>
     requires { is_complete (name.now, rows_of (found_of matches.now)) ≡ true }
     ensures { IfOk result (λ job. Asks job (name.now, rows_of (found_of matches.now))) }
@@ -101,6 +103,7 @@ fn job_named<'a>(alloc: Global, name: &str, matches: &ArgMatches<'a>) -> Result<
             days: value_of(matches, "days"),
             today: value_of(matches, "today"),
             journal: value_of(matches, "journal"),
+            changes: matches.get_str("changes"),
             scripts: values_of(alloc, matches, "scripts")?,
         },
         _ => unreachable!(),

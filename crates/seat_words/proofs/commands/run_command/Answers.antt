@@ -7,4 +7,5 @@ unfolding run_app
 returns c =
     let today = argued _ _ c.horizon_command-run.result c.with_argument-run.result c.wanted_option.result c.horizon_command-run.ensures c.wanted_option.ensures c.with_argument-run.ensures in
     let journal = argued _ _ c.with_argument-run.result c.with_argument-run-2.result c.wanted_option-2.result today c.wanted_option-2.ensures c.with_argument-run-2.ensures in
-    argued _ _ c.with_argument-run-2.result c.with_argument.result c.wanted_values.result journal c.wanted_values.ensures c.with_argument.ensures
+    let changes = argued _ _ c.with_argument-run-2.result c.with_argument-run-3.result c.optional_option.result journal c.optional_option.ensures c.with_argument-run-3.ensures in
+    argued _ _ c.with_argument-run-3.result c.with_argument.result c.wanted_values.result changes c.wanted_values.ensures c.with_argument.ensures

@@ -22,3 +22,7 @@ returns-clause-audit c = record { taken = refl; found = refl }
 pub returns-clause-run : goal.returns-clause-run
 unfolding seatdesk_app bare_app ladder_app check_app flights_app audit_app run_app horizon_app clap_on_literals
 returns-clause-run c = record { taken = refl; found = refl }
+
+pub returns-clause-changes : goal.returns-clause-changes
+unfolding seatdesk_app bare_app ladder_app check_app flights_app audit_app run_app horizon_app clap_on_literals
+returns-clause-changes c = record { taken = refl; found = refl }
