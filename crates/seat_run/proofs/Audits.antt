@@ -1,5 +1,5 @@
 -- What `run` writes, `audit` accepts.
-use Rattle.std.proofs.Common.{◌≡◌, ◌⊎◌, ⊎_elim, ℕ, suc, ◌+◌, ◌<◌, ◌≤◌, List, [], ◌∷◌, length, map, refl, sym, ap, ◌∙◌, subst, arith, Option, Result, Ok, Err}
+use Rattle.std.proofs.Common.{◌≡◌, ◌⊎◌, ⊎_elim, inl, ℕ, suc, ◌+◌, ◌<◌, ◌≤◌, List, [], ◌∷◌, length, map, refl, sym, ap, ◌∙◌, subst, arith, Option, Result, Ok, Err}
 use Rattle.std.specs.Str.Lines.{lines}
 use Rattle.std.proofs.lemmas.List.{length-map}
 use Rattle.ssim_records.specs.declared.set.DataSet.{DataSet}
@@ -112,9 +112,9 @@ as_many today (text ∷ texts) [] all = absurd all
 as_many today (text ∷ texts) (script ∷ scripts) all = ap suc (as_many today texts scripts all.1)
 
 pub runs_are_audited : RunsAreAudited
-runs_are_audited set limits first days today texts journal replies run =
+runs_are_audited set limits first days today texts changing journal replies run =
     let h = run.is_history in
-    let text : IsJournalText journal run.history = record { each = run.are_entries; text = run.journal_is } in
+    let text : IsJournalText journal run.history = record { each = run.are_entries; text = inl run.journal_is } in
     let few : length journal ≤ most_journal_bytes = subst (λ (bytes : List ℕ). length bytes ≤ most_journal_bytes) (sym run.journal_is) (text_short run.grid run.history h.headline.legal run.are_entries h.headline.capped) in
     let audited : IsAudited run.grid journal (audit_line (totals_of run.history)) =
     record { entries = run.history; is_text = text; legal = h.headline.legal; few = h.headline.capped; within = h.headline.within; sums = refl } in

@@ -6,8 +6,11 @@ use Rattle.std.specs.Option.{option_map}
 use Rattle.std.proofs.lemmas.Option.{get_or_from_slice_get, slice_get-map, slice_get_within}
 use Rattle.std.proofs.lemmas.List.Sums.{sum_by-cons}
 use Rattle.std.proofs.lemmas.List.{append-nil, length-map, take_all, take-append-le, take_more, map_push}
+use Rattle.seat_journal.specs.declared.entry.Change.{Change}
 use Rattle.seat_journal.specs.declared.entry.Command.{Command}
 use Rattle.seat_journal.specs.declared.entry.Entry.{Entry}
+use Rattle.seat_journal.specs.declared.entry.Work.{Work}
+use Rattle.seat_journal.specs.declared.entry.Work.TheVariants.{Seats}
 use Rattle.seat_nesting.specs.Nesting.{Legs}
 use Rattle.seat_core.specs.Prefixes.{Begins}
 use Rattle.seat_core.specs.declared.totals.Totals.{Totals}
@@ -18,7 +21,7 @@ use Rattle.seat_host.specs.Settling.{IsConfirmed}
 use Rattle.seat_host.specs.Headline.{Headline}
 use Rattle.seat_desk.specs.AuditDesk.{most_lines}
 use Rattle.seat_host.specs.Agreement.{receipts_in}
-use Rattle.seat_host.specs.Working.{AllHaveBegun, AllHaveRun, HasRun, IsRefused, NamesFirst}
+use Rattle.seat_host.specs.Working.{AllHaveBegun, AllHaveRun, HasRun, IsRefused, NamesFirst, works_of}
 use Rattle.seat_host.specs.declared.under_lock.BookFault.{BookFault}
 use Rattle.seat_host.specs.declared.under_lock.BookFault.TheVariants.{JournalFull as Full, Memory as NoRoom}
 use Rattle.seat_host.specs.declared.workers.RunFault.{RunFault}
@@ -27,17 +30,21 @@ use Rattle.airimp_lines.specs.declared.requests.Request.{Request}
 use Rattle.ssim_flights.specs.declared.flight.Flight.{Flight as Flown}
 use Rattle.seat_desk.specs.declared.fault.DeskFault.{DeskFault}
 use Rattle.seat_desk.specs.declared.fault.DeskFault.TheVariants.{Book, Memory}
-use Rattle.seat_run.specs.Requests.{command_of, commands_of}
-use Rattle.seat_run.specs.RunDesk.{asked_in, HasCall, HasCommand, IsBookedTo, IsFull, IsHistoryOf, IsUnbooked, IsUnlisted, commands_in, run_refusal}
+use Rattle.seat_run.specs.Requests.{commands_of}
+use Rattle.seat_run.specs.RunDesk.{asked_in, IsBookedTo, IsFull, IsHistoryOf, IsUnbooked, run_refusal, works_in}
 use Rattle.seat_run.proofs.Histories.{all_of, row_at, row_count}
 
-fresh_count : (n : ℕ) → length (fresh_sessions n) ≡ n
-fresh_count n = row_count fresh fresh_sessions refl (λ k. refl) n
+-- the manager and n sessions that have done nothing
+abbrev all_fresh : ℕ → List Seat
+all_fresh n = fresh 0 ∷ fresh_sessions n
+
+fresh_count : (n : ℕ) → length (all_fresh n) ≡ suc n
+fresh_count n = row_count fresh all_fresh refl (λ k. refl) n
 
 pub as_many : (n : ℕ) (lists : List (List Command)) (sessions : List Seat) → sessions ≡ fresh_sessions n → length lists ≡ n → length lists ≡ length sessions
-as_many n lists sessions opened count = count ∙ (sym (fresh_count n) ∙ ap length (sym opened))
+as_many n lists sessions opened count = let fewer : length (fresh_sessions n) ≡ n = omega (arith, fresh_count n) in count ∙ (sym fewer ∙ ap length (sym opened))
 
-run_at : (lists : List (List Command)) (olds news : List Seat) (i : ℕ) (d e : Seat) → AllHaveRun lists olds news → length lists ≡ length olds → i < length lists
+run_at : (lists : List (List Work)) (olds news : List Seat) (i : ℕ) (d e : Seat) → AllHaveRun lists olds news → length lists ≡ length olds → i < length lists
     → HasRun (get_or lists i []) (get_or olds i d) (get_or news i e) × (i < length news)
 run_at [] olds news i d e run same lt = absurd (omega (arith, lt))
 run_at (l ∷ lists) [] news i d e run same lt = absurd (omega (arith, same))
@@ -47,30 +54,34 @@ run_at (l ∷ lists) (s ∷ olds) (t ∷ news) (suc i) d e run same lt =
     let below = run_at lists olds news i d e run.1 (omega (arith, same)) (omega (arith, lt)) in (below.0, omega (arith, below.1))
 
 -- a session that ran from nothing has its list in the journal
-own_list : (n i : ℕ) (journal : List Entry) (list : List Command) (t : Seat) → HasRun list (fresh (suc i)) t → IsConfirmed n journal t → commands_in (of_session (suc i) journal) ≡ list
+own_list : (n i : ℕ) (journal : List Entry) (list : List Work) (t : Seat) → HasRun list (fresh i) t → IsConfirmed n journal t → works_in (of_session i journal) ≡ list
 own_list n i journal list t run confirmed =
-    let lines : run.lines ≡ of_session (suc i) journal = sym run.receipts ∙ (confirmed.lines ∙ ap (λ (k : ℕ). of_session k journal) run.id) in
-    ap commands_in (sym lines) ∙ run.commands
+    let lines : run.lines ≡ of_session i journal = sym run.receipts ∙ (confirmed.lines ∙ ap (λ (k : ℕ). of_session k journal) run.id) in
+    ap works_in (sym lines) ∙ run.works
 
-module _ (n : ℕ) (lists : List (List Command)) (news : List Seat) (journal : List Entry) (count : length lists ≡ n)
-    (run : AllHaveRun lists (fresh_sessions n) news) (confirmed : AllByRecursion (IsConfirmed n journal) news) where
-  list_at : (i : ℕ) → i < n → commands_in (of_session (suc i) journal) ≡ get_or lists i []
+module _ (n : ℕ) (lists : List (List Work)) (news : List Seat) (journal : List Entry) (count : length lists ≡ suc n)
+    (run : AllHaveRun lists (all_fresh n) news) (confirmed : AllByRecursion (IsConfirmed n journal) news) where
+  list_at : (i : ℕ) → i < suc n → works_in (of_session i journal) ≡ get_or lists i []
   list_at i lt =
       let nobody = fresh 0 in
-      let here = run_at lists (fresh_sessions n) news i nobody nobody run (count ∙ sym (fresh_count n)) (omega (arith, lt, count)) in
-      let from : get_or (fresh_sessions n) i nobody ≡ fresh (suc i) = row_at fresh fresh_sessions refl (λ k. refl) n i nobody lt in
+      let here = run_at lists (all_fresh n) news i nobody nobody run (count ∙ sym (fresh_count n)) (omega (arith, lt, count)) in
+      let from : get_or (all_fresh n) i nobody ≡ fresh i = row_at fresh all_fresh refl (λ k. refl) n i nobody lt in
       own_list n i journal (get_or lists i []) (get_or news i nobody)
       (subst (λ (s : Seat). HasRun (get_or lists i []) s (get_or news i nobody)) from here.0)
       (all_of (IsConfirmed n journal) news confirmed i nobody here.1)
 
-  lists_to : (k : ℕ) → k ≤ n → map commands_in (by_session k journal) ≡ take k lists
-  lists_to zero le = refl
+  one_more : (k : ℕ) → k < suc n → take (suc k) lists ≡ take k lists ++ get_or lists k [] ∷ []
+  one_more k lt =
+      let within : k < length lists = omega (arith, lt, count) in
+      let up : k + 1 ≡ suc k = omega arith in
+      subst (λ (j : ℕ). take j lists ≡ take k lists ++ get_or lists k [] ∷ []) up (take_more lists k [] within)
+
+  lists_to : (k : ℕ) → k ≤ n → map works_in (by_session k journal) ≡ take (suc k) lists
+  lists_to zero le = ap (λ (x : List Work). x ∷ []) (list_at 0 (omega arith)) ∙ sym (one_more 0 (omega arith))
   lists_to (suc k) le =
-      let lt : k < length lists = omega (arith, le, count) in
-      let more : take (suc k) lists ≡ take k lists ++ get_or lists k [] ∷ [] = (let up : k + 1 ≡ suc k = omega arith in subst (λ (j : ℕ). take j lists ≡ take k lists ++ get_or lists k [] ∷ []) up (take_more lists k [] lt)) in
-      map_push commands_in (by_session k journal) (of_session (suc k) journal)
-      ∙ (ap (λ (l : List (List Command)). l ++ commands_in (of_session (suc k) journal) ∷ []) (lists_to k (omega (arith, le)))
-      ∙ (ap (λ (x : List Command). take k lists ++ x ∷ []) (list_at k (omega (arith, le))) ∙ sym more))
+      map_push works_in (by_session k journal) (of_session (suc k) journal)
+      ∙ (ap (λ (l : List (List Work)). l ++ works_in (of_session (suc k) journal) ∷ []) (lists_to k (omega (arith, le)))
+      ∙ (ap (λ (x : List Work). take (suc k) lists ++ x ∷ []) (list_at (suc k) (omega (arith, le))) ∙ sym (one_more (suc k) (omega (arith, le)))))
 
 -- the headline, said of a journal alone
 of_journal : (grid : Legs) (cap n most count : ℕ) (journal : List Entry) (receipts : List (List Entry)) (totals : Totals) → cap ≡ most → n ≡ count
@@ -84,29 +95,39 @@ of_journal grid cap n most count journal receipts totals cap_is count_is h =
 pub own_receipts : (grid : Legs) (cap n : ℕ) (journal : List Entry) (receipts : List (List Entry)) (totals : Totals) → Headline grid cap n journal receipts totals → receipts ≡ by_session n journal
 own_receipts grid cap n journal receipts totals h = h.own
 
-pub settled_history : (grid : Legs) (cap n : ℕ) (lists : List (List Command)) (olds news : List Seat) (journal : List Entry) (receipts : List (List Entry)) (totals : Totals)
-    → olds ≡ fresh_sessions n → length lists ≡ n → AllHaveRun lists olds news → AllByRecursion (IsConfirmed n journal) news
-    → cap ≡ most_lines → Headline grid cap n journal receipts totals → IsHistoryOf grid lists journal
-settled_history grid cap n lists olds news journal receipts totals opened count run confirmed most h = record {
-  headline = of_journal grid cap n most_lines (length lists) journal receipts totals most (sym count) h;
-  asked = subst (λ (k : ℕ). map commands_in (by_session k journal) ≡ lists) (sym count)
-      (lists_to n lists news journal count (subst (λ (l : List Seat). AllHaveRun lists l news) opened run) confirmed n (omega arith) ∙ take_all n lists (omega (arith, count)));
-}
+works_count : (changes : List Change) (lists : List (List Command)) → length (works_of changes lists) ≡ suc (length lists)
+works_count changes lists = ap suc (length-map lists (λ (list : List Command). map Seats list))
+
+both_fresh : (n : ℕ) (manager : Seat) (sessions : List Seat) → manager ≡ fresh 0 → sessions ≡ fresh_sessions n → manager ∷ sessions ≡ all_fresh n
+both_fresh n manager sessions one others = ap (λ (m : Seat). m ∷ sessions) one ∙ ap (λ (l : List Seat). fresh 0 ∷ l) others
+
+pub settled_history : (grid : Legs) (cap n : ℕ) (changes : List Change) (lists : List (List Command)) (manager : Seat) (sessions news : List Seat) (journal : List Entry) (receipts : List (List Entry)) (totals : Totals)
+    → manager ≡ fresh 0 → sessions ≡ fresh_sessions n → length lists ≡ n → AllHaveRun (works_of changes lists) (manager ∷ sessions) news → AllByRecursion (IsConfirmed n journal) news
+    → cap ≡ most_lines → Headline grid cap n journal receipts totals → IsHistoryOf grid changes lists journal
+settled_history grid cap n changes lists manager sessions news journal receipts totals begun opened count run confirmed most h =
+    let works = works_of changes lists in
+    let all : length works ≡ suc n = works_count changes lists ∙ ap suc count in
+    let from = subst (λ (l : List Seat). AllHaveRun works l news) (both_fresh n manager sessions begun opened) run in
+    record {
+      headline = of_journal grid cap n most_lines (length lists) journal receipts totals most (sym count) h;
+      asked = subst (λ (k : ℕ). map works_in (by_session k journal) ≡ works) (sym count)
+          (lists_to n works news journal all from confirmed n (omega arith) ∙ take_all (suc n) works (omega (arith, all)));
+    }
 
 -- ---- refusals
 
 -- the beginnings of the lists that were booked
-record IsTaken (lists : List (List Command)) (olds news : List Seat) : Type 0 where
-  taken : List (List Command)
+record IsTaken (lists : List (List Work)) (olds news : List Seat) : Type 0 where
+  taken : List (List Work)
   run : AllHaveRun taken olds news
   count : length taken ≡ length lists
   fewer : asked_in taken ≤ asked_in lists
   each : AllZip Begins taken lists
 
-begun_length : (front list : List Command) → Begins front list → length front ≤ length list
+begun_length : (front list : List Work) → Begins front list → length front ≤ length list
 begun_length front list b = omega (arith, ap length b.is, length-append front b.rest)
 
-all_taken : (lists : List (List Command)) (olds news : List Seat) → length lists ≡ length olds → AllHaveBegun lists olds news → IsTaken lists olds news
+all_taken : (lists : List (List Work)) (olds news : List Seat) → length lists ≡ length olds → AllHaveBegun lists olds news → IsTaken lists olds news
 all_taken [] olds [] same h = record { taken = []; run = h; count = refl; fewer = omega arith; each = tt }
 all_taken [] olds (t ∷ news) same h = absurd h
 all_taken (list ∷ lists) [] news same h = absurd (omega (arith, same))
@@ -122,15 +143,15 @@ all_taken (list ∷ lists) (s ∷ olds) (t ∷ news) same h =
     }
 
 -- the same, where a call of the session at some place was refused: the lists before its own were booked whole
-record IsStopped (cap : ℕ) (fault : RunFault) (lists : List (List Command)) (olds news : List Seat) : Type 0 where
-  taken : List (List Command)
+record IsStopped (cap : ℕ) (fault : RunFault) (lists : List (List Work)) (olds news : List Seat) : Type 0 where
+  taken : List (List Work)
   run : AllHaveRun taken olds news
   count : length taken ≡ length lists
   fewer : asked_in taken + 1 ≤ asked_in lists
   each : AllZip Begins taken lists
   place : ℕ
   before : take place taken ≡ take place lists
-  list : List Command
+  list : List Work
   old : Seat
   new : Seat
   of_lists : slice_get lists place ≡ Some list
@@ -138,10 +159,10 @@ record IsStopped (cap : ℕ) (fault : RunFault) (lists : List (List Command)) (o
   refused : IsRefused cap fault list old new
   of_taken : slice_get taken place ≡ Some refused.booked
 
-whole : (list : List Command) → Begins list list
+whole : (list : List Work) → Begins list list
 whole list = record { rest = []; is = sym (append-nil list) }
 
-stopped : (cap : ℕ) (fault : RunFault) (lists : List (List Command)) (olds news : List Seat) → length lists ≡ length olds → AllHaveBegun lists olds news
+stopped : (cap : ℕ) (fault : RunFault) (lists : List (List Work)) (olds news : List Seat) → length lists ≡ length olds → AllHaveBegun lists olds news
     → NamesFirst cap fault lists olds news → IsStopped cap fault lists olds news
 stopped cap fault [] olds news same h named = absurd named
 stopped cap fault (list ∷ lists) [] news same h named = absurd named
@@ -177,7 +198,7 @@ stopped cap fault (list ∷ lists) (s ∷ olds) (t ∷ news) same h named =
         fewer = omega (arith, rest.fewer);
         each = (whole list, rest.each);
         place = suc rest.place;
-        before = ap (λ (l : List (List Command)). list ∷ l) rest.before;
+        before = ap (λ (l : List (List Work)). list ∷ l) rest.before;
         list = rest.list;
         old = rest.old;
         new = rest.new;
@@ -192,7 +213,7 @@ full_of session call Full not = refl
 full_of session call NoRoom not = absurd (not refl)
 
 -- the journal in which a call was refused is full
-is_full : (cap n : ℕ) (fault : RunFault) (journal : List Entry) (lists : List (List Command)) (olds news : List Seat) → run_refusal fault ≢ Memory → NamesFirst cap fault lists olds news
+is_full : (cap n : ℕ) (fault : RunFault) (journal : List Entry) (lists : List (List Work)) (olds news : List Seat) → run_refusal fault ≢ Memory → NamesFirst cap fault lists olds news
     → AllByRecursion (IsConfirmed n journal) news → cap ≤ length journal
 is_full cap n fault journal [] olds news not named confirmed = absurd named
 is_full cap n fault journal (list ∷ lists) [] news not named confirmed = absurd named
@@ -213,121 +234,95 @@ receipts_are_asked : (lists : List (List Entry)) → receipts_in lists ≡ asked
 receipts_are_asked [] = refl
 receipts_are_asked (list ∷ lists) = omega (arith, sum_by-cons (λ (receipts : List Entry). length receipts) list lists, receipts_are_asked lists)
 
-refusal_of : (grid : Legs) (lists : List (List Command)) (session call : ℕ) (why : BookFault) → HasCommand grid lists session call
-    → run_refusal (run_faults.Book session call why) ≢ Memory → IsUnlisted grid lists (run_refusal (run_faults.Book session call why))
-refusal_of grid lists session call Full has not = has
-refusal_of grid lists session call NoRoom has not = absurd (not refl)
+refusal_of : (grid : Legs) (changes : List Change) (lists : List (List Command)) (session call : ℕ) (why : BookFault) → IsFull grid changes lists session call
+    → run_refusal (run_faults.Book session call why) ≢ Memory → IsUnbooked grid changes lists (run_refusal (run_faults.Book session call why))
+refusal_of grid changes lists session call Full is not = is
+refusal_of grid changes lists session call NoRoom is not = absurd (not refl)
 
--- what stands before the refused command
-front_of : (list booked left : List Command) (refused : Command) → list ≡ booked ++ refused ∷ left → take (length booked) list ≡ booked
+-- what stands before the work that was refused
+front_of : (list booked left : List Work) (refused : Work) → list ≡ booked ++ refused ∷ left → take (length booked) list ≡ booked
 front_of list booked left refused parts =
-    ap (λ (l : List Command). take (length booked) l) parts ∙ (take-append-le (length booked) booked (refused ∷ left) (omega arith) ∙ take_all (length booked) booked (omega arith))
+    ap (λ (l : List Work). take (length booked) l) parts ∙ (take-append-le (length booked) booked (refused ∷ left) (omega arith) ∙ take_all (length booked) booked (omega arith))
 
-module _ (grid : Legs) (cap n : ℕ) (fault : RunFault) (lists : List (List Command)) (olds news : List Seat) (journal : List Entry) (receipts : List (List Entry)) (totals : Totals)
-    (opened : olds ≡ fresh_sessions n) (count : length lists ≡ n) (confirmed : AllByRecursion (IsConfirmed n journal) news) (most : cap ≡ most_lines)
-    (h : Headline grid cap n journal receipts totals) (t : IsStopped cap fault lists olds news) (full : cap ≤ length journal) where
-  own_lists : map commands_in (by_session n journal) ≡ t.taken
+module _ (grid : Legs) (cap n : ℕ) (fault : RunFault) (changes : List Change) (lists : List (List Command)) (olds news : List Seat) (journal : List Entry) (receipts : List (List Entry)) (totals : Totals)
+    (opened : olds ≡ all_fresh n) (count : length lists ≡ n) (confirmed : AllByRecursion (IsConfirmed n journal) news) (most : cap ≡ most_lines)
+    (h : Headline grid cap n journal receipts totals) (t : IsStopped cap fault (works_of changes lists) olds news) (full : cap ≤ length journal) where
+  own_lists : map works_in (by_session n journal) ≡ t.taken
   own_lists =
-      let as_all : length t.taken ≡ n = t.count ∙ count in
-      lists_to n t.taken news journal as_all (subst (λ (l : List Seat). AllHaveRun t.taken l news) opened t.run) confirmed n (omega arith) ∙ take_all n t.taken (omega (arith, as_all))
+      let as_all : length t.taken ≡ suc n = t.count ∙ (works_count changes lists ∙ ap suc count) in
+      lists_to n t.taken news journal as_all (subst (λ (l : List Seat). AllHaveRun t.taken l news) opened t.run) confirmed n (omega arith) ∙ take_all (suc n) t.taken (omega (arith, as_all))
 
   -- where a call is refused, more is asked than a journal has lines
-  too_many : most_lines < asked_in lists
+  too_many : most_lines < asked_in (works_of changes lists)
   too_many =
       let all : asked_in t.taken ≡ length journal =
-      ap asked_in (sym own_lists) ∙ (asked_map (λ (e : Entry). e.command) (by_session n journal) ∙ (sym (receipts_are_asked (by_session n journal)) ∙ (ap receipts_in (sym h.own) ∙ h.lines))) in
+      ap asked_in (sym own_lists) ∙ (asked_map (λ (e : Entry). e.work) (by_session n journal) ∙ (sym (receipts_are_asked (by_session n journal)) ∙ (ap receipts_in (sym h.own) ∙ h.lines))) in
       omega (arith, t.fewer, all, full, most)
 
-  -- the session at the place of the refusal has the next number, and as many calls as commands were booked
-  place_is : t.new.id ≡ suc t.place
-  place_is =
-      let within : t.place < n = omega (arith, slice_get_within olds t.place t.old t.of_olds, ap (length {A = Seat}) opened, fresh_count n) in
-      let is : t.old ≡ fresh (suc t.place) =
-      sym (get_or_from_slice_get olds t.place t.old (fresh 0) t.of_olds) ∙ (ap (λ (l : List Seat). get_or l t.place (fresh 0)) opened ∙ row_at fresh fresh_sessions refl (λ k. refl) n t.place (fresh 0) within) in
-      t.refused.run.id ∙ ap (λ (s : Seat). s.id) is
+  -- the session at the place of the refusal has that number, and as many calls as were booked
+  from_fresh : t.old ≡ fresh t.place
+  from_fresh =
+      let within : t.place < suc n = omega (arith, slice_get_within olds t.place t.old t.of_olds, ap (length {A = Seat}) opened, fresh_count n) in
+      sym (get_or_from_slice_get olds t.place t.old (fresh 0) t.of_olds) ∙ (ap (λ (l : List Seat). get_or l t.place (fresh 0)) opened ∙ row_at fresh all_fresh refl (λ k. refl) n t.place (fresh 0) within)
+
+  place_is : t.new.id ≡ t.place
+  place_is = t.refused.run.id ∙ ap (λ (s : Seat). s.id) from_fresh
 
   call_is : length t.new.receipts ≡ length t.refused.booked
   call_is =
       let r = t.refused in
-      let within : t.place < n = omega (arith, slice_get_within olds t.place t.old t.of_olds, ap (length {A = Seat}) opened, fresh_count n) in
-      let is : t.old ≡ fresh (suc t.place) =
-      sym (get_or_from_slice_get olds t.place t.old (fresh 0) t.of_olds) ∙ (ap (λ (l : List Seat). get_or l t.place (fresh 0)) opened ∙ row_at fresh fresh_sessions refl (λ k. refl) n t.place (fresh 0) within) in
-      let lines : t.new.receipts ≡ r.run.lines = r.run.receipts ∙ ap (λ (s : Seat). s.receipts ++ r.run.lines) is in
-      ap length lines ∙ (sym (length-map r.run.lines (λ (e : Entry). e.command)) ∙ ap length r.run.commands)
+      let lines : t.new.receipts ≡ r.run.lines = r.run.receipts ∙ ap (λ (s : Seat). s.receipts ++ r.run.lines) from_fresh in
+      ap length lines ∙ (sym (length-map r.run.lines (λ (e : Entry). e.work)) ∙ ap length r.run.works)
 
-  booked_to : IsBookedTo t.new.id (length t.new.receipts + 1) lists t.taken
+  booked_to : IsBookedTo t.new.id (length t.new.receipts + 1) (works_of changes lists) t.taken
   booked_to =
-      let down : t.new.id - 1 ≡ t.place = omega (arith, place_is) in
       let fewer : length t.new.receipts + 1 - 1 ≡ length t.refused.booked = omega (arith, call_is) in
       let front : take (length t.refused.booked) t.list ≡ t.refused.booked = front_of t.list t.refused.booked t.refused.left t.refused.refused t.refused.parts in
-      let own : slice_get t.taken t.place ≡ option_map (take (length t.refused.booked)) (slice_get lists t.place) =
+      let own : slice_get t.taken t.place ≡ option_map (take (length t.refused.booked)) (slice_get (works_of changes lists) t.place) =
       t.of_taken ∙ sym (ap (option_map (take (length t.refused.booked))) t.of_lists ∙ ap Some front) in
       record {
-        before = subst (λ (k : ℕ). take k t.taken ≡ take k lists) (sym down) t.before;
-        own = subst (λ (k : ℕ). slice_get t.taken k ≡ option_map (take (length t.new.receipts + 1 - 1)) (slice_get lists k)) (sym down)
-            (subst (λ (k : ℕ). slice_get t.taken t.place ≡ option_map (take k) (slice_get lists t.place)) (sym fewer) own);
+        before = subst (λ (k : ℕ). take k t.taken ≡ take k (works_of changes lists)) (sym place_is) t.before;
+        own = subst (λ (k : ℕ). slice_get t.taken k ≡ option_map (take (length t.new.receipts + 1 - 1)) (slice_get (works_of changes lists) k)) (sym place_is)
+            (subst (λ (k : ℕ). slice_get t.taken t.place ≡ option_map (take k) (slice_get (works_of changes lists) t.place)) (sym fewer) own);
         each = t.each;
       }
 
-  is_full_journal : IsFull grid lists t.new.id (length t.new.receipts + 1)
-  is_full_journal = record {
-    history = journal;
-    headline = of_journal grid cap n most_lines (length lists) journal receipts totals most (sym count) h;
-    full = omega (arith, full, most, h.capped);
-    booked = subst (IsBookedTo t.new.id (length t.new.receipts + 1) lists)
-        (sym own_lists ∙ ap (λ (k : ℕ). map commands_in (by_session k journal)) (sym count)) booked_to;
-  }
-
-  has_command : HasCommand grid lists t.new.id (length t.new.receipts + 1)
-  has_command =
+  is_full_journal : IsFull grid changes lists t.new.id (length t.new.receipts + 1)
+  is_full_journal =
       let long : length t.list ≡ length t.refused.booked + suc (length t.refused.left) = ap length t.refused.parts ∙ length-append t.refused.booked (t.refused.refused ∷ t.refused.left) in
-      let down : t.place ≡ t.new.id - 1 = omega (arith, place_is) in
       record {
         many = too_many;
-        session_is = omega (arith, place_is);
         list = t.list;
-        at = subst (λ (k : ℕ). slice_get lists k ≡ Some t.list) down t.of_lists;
+        at = subst (λ (k : ℕ). slice_get (works_of changes lists) k ≡ Some t.list) (sym place_is) t.of_lists;
         call_is = (omega arith, omega (arith, call_is, long));
-        is_full = is_full_journal;
+        history = journal;
+        headline = of_journal grid cap n most_lines (length lists) journal receipts totals most (sym count) h;
+        full = omega (arith, full, most, h.capped);
+        booked = subst (IsBookedTo t.new.id (length t.new.receipts + 1) (works_of changes lists))
+            (sym own_lists ∙ ap (λ (k : ℕ). map works_in (by_session k journal)) (sym count)) booked_to;
       }
 
 -- the fault of such a run
-pub refused_run : (grid : Legs) (cap n : ℕ) (fault : RunFault) (lists : List (List Command)) (olds news : List Seat) (journal : List Entry) (receipts : List (List Entry)) (totals : Totals) (f : DeskFault)
-    → f ≡ run_refusal fault → olds ≡ fresh_sessions n → length lists ≡ n → AllHaveBegun lists olds news → NamesFirst cap fault lists olds news
-    → AllByRecursion (IsConfirmed n journal) news → cap ≡ most_lines → Headline grid cap n journal receipts totals → f ≢ Memory → IsUnlisted grid lists f
-refused_run grid cap n fault lists olds news journal receipts totals f is opened count begun named confirmed most h =
-    subst (λ (x : DeskFault). x ≢ Memory → IsUnlisted grid lists x) (sym is) refused where
-      refused : run_refusal fault ≢ Memory → IsUnlisted grid lists (run_refusal fault)
+pub refused_run : (grid : Legs) (cap n : ℕ) (fault : RunFault) (changes : List Change) (lists : List (List Command)) (manager : Seat) (sessions news : List Seat) (journal : List Entry) (receipts : List (List Entry)) (totals : Totals) (f : DeskFault)
+    → f ≡ run_refusal fault → manager ≡ fresh 0 → sessions ≡ fresh_sessions n → length lists ≡ n
+    → AllHaveBegun (works_of changes lists) (manager ∷ sessions) news → NamesFirst cap fault (works_of changes lists) (manager ∷ sessions) news
+    → AllByRecursion (IsConfirmed n journal) news → cap ≡ most_lines → Headline grid cap n journal receipts totals → f ≢ Memory → IsUnbooked grid changes lists f
+refused_run grid cap n fault changes lists manager sessions news journal receipts totals f is one others count begun named confirmed most h =
+    subst (λ (x : DeskFault). x ≢ Memory → IsUnbooked grid changes lists x) (sym is) refused where
+      opened : manager ∷ sessions ≡ all_fresh n
+      opened = both_fresh n manager sessions one others
+
+      refused : run_refusal fault ≢ Memory → IsUnbooked grid changes lists (run_refusal fault)
       refused not =
-          let t = stopped cap fault lists olds news (as_many n lists olds opened count) begun named in
-          let full = is_full cap n fault journal lists olds news not named confirmed in
-          let has = has_command grid cap n fault lists olds news journal receipts totals opened count confirmed most h t full in
-          subst (λ (x : RunFault). run_refusal x ≢ Memory → IsUnlisted grid lists (run_refusal x)) (sym t.refused.named)
-          (refusal_of grid lists t.new.id (length t.new.receipts + 1) t.refused.why has) not
+          let works = works_of changes lists in
+          let same : length works ≡ length (manager ∷ sessions) = works_count changes lists ∙ (ap suc count ∙ (sym (fresh_count n) ∙ ap length (sym opened))) in
+          let t = stopped cap fault works (manager ∷ sessions) news same begun named in
+          let full = is_full cap n fault journal works (manager ∷ sessions) news not named confirmed in
+          let all = is_full_journal grid cap n fault changes lists (manager ∷ sessions) news journal receipts totals opened count confirmed most h t full in
+          subst (λ (x : RunFault). run_refusal x ≢ Memory → IsUnbooked grid changes lists (run_refusal x)) (sym t.refused.named)
+          (refusal_of grid changes lists t.new.id (length t.new.receipts + 1) t.refused.why all) not
 
--- a call of a list is that of a request
-pub unbooked : (flights : List Flown) (grid : Legs) (scripts : List (List Request)) (lists : List (List Command)) (fault : DeskFault) → lists ≡ map (commands_of flights) scripts
-    → IsUnlisted grid lists fault → IsUnbooked flights grid scripts fault
-unbooked flights grid scripts lists (Book session call) is has = asked_so where
-  asked : asked_in lists ≡ asked_in scripts
-  asked = ap asked_in is ∙ asked_map (command_of flights) scripts
-
-  of_script : (o : Option (List Request)) → slice_get scripts (session - 1) ≡ o → option_map (commands_of flights) o ≡ Some has.list → HasCall flights grid scripts session call
-  of_script None here same = absurd (cc same)
-  of_script (Some script) here same =
-      let lists_same : commands_of flights script ≡ has.list = cc same in
-      let count : length script ≡ length has.list = sym (length-map script (command_of flights)) ∙ ap length lists_same in
-      record {
-        many = omega (arith, has.many, asked);
-        session_is = has.session_is;
-        script = script;
-        at = here;
-        call_is = (has.call_is.0, omega (arith, has.call_is.1, count));
-        is_full = subst (λ (l : List (List Command)). IsFull grid l session call) is has.is_full;
-      }
-
-  asked_so : HasCall flights grid scripts session call
-  asked_so =
-      of_script (slice_get scripts (session - 1)) refl
-      (sym (slice_get-map (commands_of flights) scripts (session - 1)) ∙ (ap (λ (l : List (List Command)). slice_get l (session - 1)) (sym is) ∙ has.at))
-unbooked flights grid scripts lists _ is has = absurd has
+-- the same of the commands that scripts ask
+pub unbooked : (flights : List Flown) (grid : Legs) (changes : List Change) (scripts : List (List Request)) (lists : List (List Command)) (fault : DeskFault) → lists ≡ map (commands_of flights) scripts
+    → IsUnbooked grid changes lists fault → IsUnbooked grid changes (map (commands_of flights) scripts) fault
+unbooked flights grid changes scripts lists fault is has = subst (λ (l : List (List Command)). IsUnbooked grid changes l fault) is has

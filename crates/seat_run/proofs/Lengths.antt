@@ -5,15 +5,18 @@ use Rattle.std.proofs.lemmas.Fmt.{length-decimal-le}
 use Rattle.ssim_records.specs.Names.{is_code, is_locator}
 use Rattle.ssim_records.specs.declared.place.Place.{Place}
 use Rattle.seat_nesting.specs.Nesting.{Legs}
-use Rattle.seat_journal.specs.Text.{IsAdvice, IsCommand, IsEntry, IsPlace, IsStem, advice_text, blank, colon, dot, newline, command_text, end_text, entry_text, head_text, journal_text, place_text, stem_text, wanted_text}
+use Rattle.seat_journal.specs.Text.{IsAdvice, IsChange, IsCommand, IsEntry, IsPlace, IsStem, IsWork, advice_text, blank, change_text, colon, dot, newline, command_text, end_text, entry_text, head_text, journal_text, place_text, stem_text, wanted_text, work_text}
 use Rattle.seat_journal.specs.declared.entry.Advice.{Advice}
+use Rattle.seat_journal.specs.declared.entry.Change.{Change}
 use Rattle.seat_journal.specs.declared.entry.Command.{Command}
 use Rattle.seat_journal.specs.declared.entry.Entry.{Entry}
+use Rattle.seat_journal.specs.declared.entry.Work.{Work}
+use Rattle.seat_journal.specs.declared.entry.Work.TheVariants.{Seats, Limit}
 use Rattle.seat_core.specs.declared.booking.Booking.{Booking}
 use Rattle.seat_core.specs.declared.booking.Status.{Status}
 use Rattle.seat_core.specs.declared.booking.Status.TheVariants.{Held, Waiting}
 use Rattle.seat_core.specs.Bookings.{is_for, is_waiting}
-use Rattle.seat_core.specs.Sequential.{State, Outcome, answer, pass, may_confirm, confirmed, advice_of, reduced, booking_of}
+use Rattle.seat_core.specs.Sequential.{State, Outcome, answer, pass, may_confirm, confirmed, advice_of, reduced, booking_of, changed_by}
 use Rattle.seat_core.specs.Journal.{replay, IsLegal, IsNext}
 use Rattle.seat_desk.specs.AuditDesk.{most_journal_bytes, most_lines}
 use Rattle.seat_core.proofs.History.Lines.{replay_next}
@@ -76,14 +79,16 @@ reduced_waits test n (b ∷ bs) = cases (test b) (nat_le b.seats n) refl refl (r
 record IsWithinOne (before : ℕ) (o : Outcome) : Type 0 where
   few : waits o.state.bookings + length o.advices ≤ before + 1
 
-answer_waits : (s : State) (number : ℕ) (c : Command) → IsWithinOne (waits s.bookings) (answer s number c)
-answer_waits s number c =
-    each_outcome (IsWithinOne (waits s.bookings)) s number c
-    (λ r. record { few = omega arith })
-    (λ place at none fits. record { few = omega (arith, waits_append s.bookings (booking_of number c place Held ∷ [])) })
-    (λ place at none over. record { few = omega (arith, waits_append s.bookings (booking_of number c place Waiting ∷ [])) })
-    (λ place at none. record { few = omega (arith, waits_append s.bookings (booking_of number c place Waiting ∷ []), pass_waits s.grid [] [] (s.bookings ++ booking_of number c place Waiting ∷ [])) })
-    (λ place b at found le. record { few = omega (arith, reduced_waits (is_for c.locator place c.class) c.seats s.bookings, pass_waits s.grid [] [] (reduced (is_for c.locator place c.class) c.seats s.bookings)) })
+answer_waits : (s : State) (number : ℕ) (w : Work) → IsWithinOne (waits s.bookings) (answer s number w)
+answer_waits s number w =
+    each_outcome (λ v o. IsWithinOne (waits s.bookings) o) s number
+    (λ v r. record { few = omega arith })
+    (λ c place at none fits. record { few = omega (arith, waits_append s.bookings (booking_of number c place Held ∷ [])) })
+    (λ c place at none over why. record { few = omega (arith, waits_append s.bookings (booking_of number c place Waiting ∷ [])) })
+    (λ c place at none. record { few = omega (arith, waits_append s.bookings (booking_of number c place Waiting ∷ []), pass_waits s.grid [] [] (s.bookings ++ booking_of number c place Waiting ∷ [])) })
+    (λ c place b at found le. record { few = omega (arith, reduced_waits (is_for c.locator place c.class) c.seats s.bookings, pass_waits s.grid [] [] (reduced (is_for c.locator place c.class) c.seats s.bookings)) })
+    (λ c may. record { few = omega (arith, pass_waits (changed_by s.grid c) [] [] s.bookings) })
+    w
 
 -- how many advices lines have
 abbrev advices_in : List Entry → ℕ
@@ -99,12 +104,12 @@ record IsFew (grid : Legs) (history : List Entry) : Type 0 where
 
 few_next : (grid : Legs) (past : List Entry) (e : Entry) → IsLegal grid past → IsNext grid past e → IsFew grid past → IsFew grid (past ++ e ∷ [])
 few_next grid past e legal next before =
-    let o : Outcome = answer (replay grid past) e.number e.command in
+    let o : Outcome = answer (replay grid past) e.number e.work in
     let number : e.number ≡ length past + 1 = ap (λ (x : Entry). x.number) next.line in
-    let told : e.advices ≡ (answer (replay grid past) (length past + 1) e.command).advices = ap (λ (x : Entry). x.advices) next.line in
-    let same : length e.advices ≡ length o.advices = ap length told ∙ ap (λ (k : ℕ). length (answer (replay grid past) k e.command).advices) (sym number) in
+    let told : e.advices ≡ (answer (replay grid past) (length past + 1) e.work).advices = ap (λ (x : Entry). x.advices) next.line in
+    let same : length e.advices ≡ length o.advices = ap length told ∙ ap (λ (k : ℕ). length (answer (replay grid past) k e.work).advices) (sym number) in
     let left : waits (replay grid (past ++ e ∷ [])).bookings ≡ waits o.state.bookings = ap (λ (s : State). waits s.bookings) (replay_next grid past e) in
-    let step = (answer_waits (replay grid past) e.number e.command).few in
+    let step = (answer_waits (replay grid past) e.number e.work).few in
     record { few = omega (arith, before.few, step, same, left, advices_append past (e ∷ []), length-append past (e ∷ [])) }
 
 few_advices : (grid : Legs) (history : List Entry) → IsLegal grid history → advices_in history ≤ length history
@@ -181,22 +186,44 @@ command_short c is =
       five c.seats is.seats,
     )
 
+change_short : (c : Change) → IsChange c → length (change_text c) ≤ 36
+unfolding change_text
+change_short c is =
+    let wait = decimal c.wait in
+    let limit = decimal c.limit ++ (blank ∷ wait) in
+    let leg = decimal c.leg ++ (blank ∷ (c.class ∷ (blank ∷ limit))) in
+    omega (
+      arith,
+      length-append (codes "AU ") (decimal c.flight ++ (dot ∷ leg)),
+      between (decimal c.flight) dot leg,
+      between (decimal c.leg) blank (c.class ∷ (blank ∷ limit)),
+      between (decimal c.limit) blank wait,
+      ten c.flight is.flight,
+      three c.leg is.leg,
+      five c.limit is.limit,
+      five c.wait is.wait,
+    )
+
+work_short : (w : Work) → IsWork w → length (work_text w) ≤ 36
+work_short (Seats c) is = command_short c is
+work_short (Limit c) is = change_short c is
+
 stem_short : (e : Entry) → IsStem e → length (stem_text e) ≤ 71
 unfolding stem_text
 stem_short e is =
     let behind = e.reply ++ (blank ∷ decimal e.released) in
-    let asked = command_text e.command ++ (blank ∷ behind) in
+    let asked = work_text e.work ++ (blank ∷ behind) in
     omega (
       arith,
       between (decimal e.number) blank (decimal e.session ++ (blank ∷ (decimal e.call ++ (blank ∷ asked)))),
       between (decimal e.session) blank (decimal e.call ++ (blank ∷ asked)),
       between (decimal e.call) blank asked,
-      between (command_text e.command) blank behind,
+      between (work_text e.work) blank behind,
       between e.reply blank (decimal e.released),
       ten e.number is.number,
       three e.session is.session,
       ten e.call is.call,
-      command_short e.command is.command,
+      work_short e.work is.work,
       code_two e.reply is.reply,
       five e.released is.released,
     )

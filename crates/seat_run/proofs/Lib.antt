@@ -1,6 +1,7 @@
 mod Advised
 mod Parts
 mod Histories
+mod Changing
 mod Serving
 mod Reading
 mod Gathering

@@ -6,10 +6,12 @@ use Rattle.airimp_lines.specs.Grammar.{IsPlainLine, reply_of}
 use Rattle.airimp_lines.specs.declared.requests.Request.{Request}
 use Rattle.airimp_lines.specs.declared.segment.Segment.{Segment}
 use Rattle.seat_journal.specs.declared.entry.Advice.{Advice}
+use Rattle.seat_journal.specs.declared.entry.Change.{Change}
 use Rattle.seat_journal.specs.declared.entry.Entry.{Entry}
+use Rattle.seat_journal.specs.declared.entry.Work.TheVariants.{Seats, Limit}
 use Rattle.seat_desk.specs.FlightsDesk.{IsPut}
-use Rattle.seat_run.specs.Answering.{AreAllAnswerable, AreAnswerable, HasRequest, IsAdvisable, IsAnswerable, IsBehind}
-use Rattle.seat_run.specs.RunDesk.{AreAnswers, IsAdviceLine, IsAnswer, IsReply, at_any, reply_head, booked_by, request_of, requested, requested_by}
+use Rattle.seat_run.specs.Answering.{AreAllAnswerable, AreAnswerable, AsksForSeats, HasRequest, IsAdvisable, IsAnswerable, IsAsked, IsBehind}
+use Rattle.seat_run.specs.RunDesk.{AreAnswers, IsAdviceLine, IsAnswer, IsLineReply, IsReply, IsSeatsReply, at_any, booked_by, change_reply, reply_head, request_of, requested, requested_by}
 use Rattle.seat_desk.proofs.Texts.{put_more}
 
 -- ---- what can be answered
@@ -23,8 +25,8 @@ pub line_answerable : (scripts : List (List Request)) (history lines : List Entr
 line_answerable scripts history lines i e all in_range here = subst (IsAnswerable scripts history) (sym here) (all.each i e in_range)
 
 pub advice_advisable : (scripts : List (List Request)) (history : List Entry) (e : Entry) (i : ℕ) (a : Advice)
-    → IsAnswerable scripts history e → i < length e.advices → a ≡ get_or e.advices i a → IsAdvisable (length history) a
-advice_advisable scripts history e i a line in_range here = subst (IsAdvisable (length history)) (sym here) (line.advised i a in_range)
+    → IsAnswerable scripts history e → i < length e.advices → a ≡ get_or e.advices i a → IsAdvisable history a
+advice_advisable scripts history e i a line in_range here = subst (IsAdvisable history) (sym here) (line.advised i a in_range)
 
 -- ---- requests
 
@@ -40,15 +42,22 @@ asked scripts e script request has of_session of_call =
     let here : slice_get script (e.call - 1) ≡ Some request = slice_get_read script (length script) (e.call - 1) request refl in_script of_call in
     ap (λ (o : Option (List Request)). requested o e.call) there ∙ here
 
-pub line_asked : (scripts : List (List Request)) (history lines : List Entry) (i : ℕ) (e : Entry)
-    → AreAnswerable scripts history lines → i < length lines → e ≡ get_or lines i e → HasRequest scripts e
-line_asked scripts history lines i e all in_range here = (line_answerable scripts history lines i e all in_range here).asked
+-- the line of a booking has a request
+pub line_asked : (scripts : List (List Request)) (history : List Entry) (number i : ℕ) (line : Entry)
+    → AreAnswerable scripts history history → AsksForSeats history number → i ≡ number - 1 → line ≡ get_or history i line → HasRequest scripts line
+line_asked scripts history number i line all asks is here =
+    let in_range : number - 1 < length history = omega (arith, asks.within.0, asks.within.1) in
+    let at : slice_get history (number - 1) ≡ Some line = slice_get_read history (length history) (number - 1) line refl in_range (subst (λ (k : ℕ). line ≡ get_or history k line) is here) in
+    let same : asks.line ≡ line = cc (at, asks.at) in
+    let work : line.work ≡ Seats asks.command = ap (λ (e : Entry). e.work) (sym same) ∙ asks.work_is in
+    let within : i < length history = omega (arith, is, in_range) in
+    subst (IsAsked scripts line) work (line_answerable scripts history history i line all within here).asked
 
 -- the request of the booking's line
-pub booked : (scripts : List (List Request)) (history : List Entry) (number i : ℕ) (line : Entry) (request : Request) → i ≡ number - 1 → 1 ≤ number → number ≤ length history
+pub booked : (scripts : List (List Request)) (history : List Entry) (number i : ℕ) (line : Entry) (request : Request) → i ≡ number - 1 → AsksForSeats history number
     → line ≡ get_or history i line → request_of scripts line ≡ Some request → booked_by scripts history number ≡ Some request
-booked scripts history number i line request is low high here requested =
-    let in_range : number - 1 < length history = omega (arith, low, high) in
+booked scripts history number i line request is asks here requested =
+    let in_range : number - 1 < length history = omega (arith, asks.within.0, asks.within.1) in
     let at : slice_get history (number - 1) ≡ Some line = slice_get_read history (length history) (number - 1) line refl in_range (subst (λ (k : ℕ). line ≡ get_or history k line) is here) in
     ap (requested_by scripts) at ∙ requested
 
@@ -87,15 +96,26 @@ pub sessions_more : (scripts : List (List Request)) (history : List Entry) (i : 
 sessions_more scripts history i xs lines old mid new put in_range here behind =
     put_more (at_any (AreAnswers scripts history)) 0 i xs lines old mid new behind.part put in_range here behind.is_text behind.written
 
+-- the reply to a request, and to a change
+pub seats_put : (scripts : List (List Request)) (e : Entry) (request : Request) (old new : List ℕ)
+    → request_of scripts e ≡ Some request → IsBehind (IsReply e request e.reply request.segment.seats) old new → IsBehind (IsSeatsReply scripts e) old new
+seats_put scripts e request old new requested reply = record {
+  part = reply.part;
+  is_part = record { request = request; requested = requested; is_reply = reply.is_part };
+  written = reply.written;
+}
+
+pub change_put : (scripts : List (List Request)) (e : Entry) (change : Change) (old new : List ℕ)
+    → new ≡ old ++ change_reply e change → IsBehind (IsLineReply scripts e (Limit change)) old new
+change_put scripts e change old new written = record { part = change_reply e change; is_part = refl; written = written }
+
 -- a reply and its advices
-pub answer_put : (scripts : List (List Request)) (history : List Entry) (e : Entry) (request : Request) (old mid new : List ℕ)
-    → request_of scripts e ≡ Some request → IsBehind (IsReply e request e.reply request.segment.seats) old mid
+pub answer_put : (scripts : List (List Request)) (history : List Entry) (e : Entry) (old mid new : List ℕ)
+    → IsBehind (IsLineReply scripts e e.work) old mid
     → IsPut (at_any (IsAdviceLine scripts history e)) 0 e.advices mid new → IsBehind (IsAnswer scripts history e) old new
-answer_put scripts history e request old mid new requested reply put = record {
+answer_put scripts history e old mid new reply put = record {
   part = reply.part ++ put.part;
   is_part = record {
-    request = request;
-    requested = requested;
     line = reply.part;
     advices = put.part;
     is_reply = reply.is_part;

@@ -16,10 +16,12 @@ use Rattle.std.specs.Map.{lookup}
 use Rattle.std.specs.Option.{option_map}
 use Rattle.airimp_lines.specs.Grammar.{IsRightSegment}
 use Rattle.airimp_lines.specs.declared.requests.Request.{Request}
+use Rattle.seat_journal.specs.declared.entry.Change.{Change}
 use Rattle.seat_journal.specs.declared.entry.Command.{Command}
-use Rattle.seat_core.specs.Journal.{FitsCommand}
+use Rattle.seat_core.specs.Journal.{FitsChange, FitsCommand}
 use Rattle.seat_nesting.specs.Nesting.{Steps}
 use Rattle.seat_desk.specs.Loading.{IsGridOf}
+use Rattle.seat_run.specs.Changes.{IsOnLeg}
 use Rattle.seat_run.specs.Requests.{AreRight, command_of, commands_of, wanted_of}
 use Rattle.seat_run.proofs.Histories.{all_of}
 
@@ -104,3 +106,26 @@ pub all_fit_grid : (flights : List Flown) (grid : Legs) (scripts : List (List Re
 all_fit_grid flights grid scripts lists g right is =
     subst (λ (l : List (List Command)). All (λ (list : List Command). All (λ (c : Command). FitsCommand grid c) list) l) (sym is)
     (all_of (λ (list : List Command). All (λ (c : Command). FitsCommand grid c) list) (map (commands_of flights) scripts) (lists_fit flights grid scripts g right))
+
+-- ---- changes
+
+change_fits : (flights : List Flown) (grid : Legs) (c : Change) → IsGridOf flights grid → IsOnLeg flights c → FitsChange grid c
+change_fits flights grid c g on =
+    let fits : Fits (authorised_grid g.rows flights) on.place = subst (λ (o : Option Place). IfSome o (Fits (authorised_grid g.rows flights))) on.serves (served g.rows flights on.wanted) in
+    let there : on.place.to < length (legs_of grid on.place.flight) = subst (λ (l : Legs). on.place.to < length (legs_of l on.place.flight)) (sym g.is) fits.1 in
+    let same : c.leg ≡ on.place.to = on.leg_is ∙ on.one_leg in
+    record {
+      there = subst (λ (f : ℕ). c.leg < length (legs_of grid f)) (sym on.flight_is) (subst (λ (k : ℕ). k < length (legs_of grid on.place.flight)) (sym same) there);
+      limit_most = on.limit_most;
+      wait_most = on.wait_most;
+    }
+
+each_fits : (flights : List Flown) (grid : Legs) (changes : List Change) → IsGridOf flights grid → AllByRecursion (IsOnLeg flights) changes
+    → AllByRecursion (λ (c : Change). FitsChange grid c) changes
+each_fits flights grid [] g on = tt
+each_fits flights grid (c ∷ changes) g on = (change_fits flights grid c g on.0, each_fits flights grid changes g on.1)
+
+-- what is on legs of the flights fits the grid
+pub changes_fit : (flights : List Flown) (grid : Legs) (changes : List Change) → IsGridOf flights grid → AllByRecursion (IsOnLeg flights) changes
+    → All (λ (c : Change). FitsChange grid c) changes
+changes_fit flights grid changes g on = all_of (λ (c : Change). FitsChange grid c) changes (each_fits flights grid changes g on)

@@ -28,7 +28,7 @@ pub record IsAccountedFor (set limits : List ℕ) (first days sessions : ℕ) (j
   pub sums : totals ≡ totals_in receipts
   pub is_accepted : IsAccepted set limits first days journal totals
 
--- so it is with every journal that a run of these scripts writes
+-- so it is with every journal that a run of these scripts and changes writes
 abbrev pub RunsAreAudited : Type 0
-RunsAreAudited = (set limits : List ℕ) (first days today : ℕ) (texts : List (Option (List ℕ))) (journal replies : List ℕ) →
-    IsRun set limits first days today texts journal replies → IsAccountedFor set limits first days (length texts) journal
+RunsAreAudited = (set limits : List ℕ) (first days today : ℕ) (texts : List (Option (List ℕ))) (changing : Option (List ℕ)) (journal replies : List ℕ) →
+    IsRun set limits first days today texts changing journal replies → IsAccountedFor set limits first days (length texts) journal

@@ -1,4 +1,5 @@
 pub mod Answering
 pub mod Audits
+pub mod Changes
 pub mod Requests
 pub mod RunDesk

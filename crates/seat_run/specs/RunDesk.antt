@@ -10,31 +10,37 @@ use Rattle.airimp_lines.specs.Grammar.{IsPlainLine, reply_of}
 use Rattle.airimp_lines.specs.declared.requests.Request.{Request}
 use Rattle.seat_journal.specs.Text.{IsEntry, journal_text}
 use Rattle.seat_journal.specs.declared.entry.Advice.{Advice}
+use Rattle.seat_journal.specs.declared.entry.Change.{Change}
 use Rattle.seat_journal.specs.declared.entry.Command.{Command}
 use Rattle.seat_journal.specs.declared.entry.Entry.{Entry}
+use Rattle.seat_journal.specs.declared.entry.Work.{Work}
+use Rattle.seat_journal.specs.declared.entry.Work.TheVariants.{Seats, Limit}
 use Rattle.seat_core.specs.Prefixes.{Begins}
 use Rattle.seat_core.specs.Totals.{totals_of}
 use Rattle.seat_host.specs.Headline.{Headline}
 use Rattle.seat_host.specs.Histories.{by_session}
+use Rattle.seat_host.specs.Working.{works_of}
 use Rattle.seat_desk.specs.AuditDesk.{most_lines}
 use Rattle.seat_desk.specs.Desk.{HasFailed}
 use Rattle.seat_desk.specs.FlightsDesk.{IsText}
-use Rattle.seat_desk.specs.Loading.{IsLoaded, IsRefusedLoad, IsTooLargeLoad}
+use Rattle.seat_desk.specs.Loading.{Bytes, IsLoaded, IsRefusedLoad, IsTooLargeLoad}
+use Rattle.seat_desk.specs.declared.inputs.Inputs.{Inputs}
+use Rattle.seat_run.specs.Changes.{AreChanges, IsUnchanged, most_change_bytes}
 use Rattle.seat_run.specs.Requests.{AreScripts, IsRefusedAmong, IsTooLargeAmong, commands_of}
 use Rattle.seat_desk.specs.declared.fault.DeskFault.{DeskFault}
-use Rattle.seat_desk.specs.declared.fault.DeskFault.TheVariants.{Script, Book, Memory}
+use Rattle.seat_desk.specs.declared.fault.DeskFault.TheVariants.{Change as BadChange, NoLeg, Script, Book, Memory}
 use Rattle.seat_host.specs.declared.under_lock.BookFault.TheVariants.{JournalFull as Full, Memory as NoRoom}
 use Rattle.seat_host.specs.declared.workers.RunFault.{RunFault}
 use Rattle.seat_host.specs.declared.workers.RunFault.TheVariants as run_faults
 
--- the commands of these lines, in order
-abbrev pub commands_in : List Entry → List Command
-commands_in lines = map (λ (e : Entry). e.command) lines
+-- what these lines ask for, in order
+abbrev pub works_in : List Entry → List Work
+works_in lines = map (λ (e : Entry). e.work) lines
 
--- a history of lists of commands: the headline holds of it, with its lines by session as receipts, and the lines of session 1 are the first list, in order, and so on
-pub record IsHistoryOf (grid : Legs) (lists : List (List Command)) (history : List Entry) : Type 0 where
+-- a history of changes and of lists of commands: the headline holds of it, with its lines by session as receipts, and the lines of session 0 are the changes, in order, those of session 1 the first list, and so on
+pub record IsHistoryOf (grid : Legs) (changes : List Change) (lists : List (List Command)) (history : List Entry) : Type 0 where
   pub headline : Headline grid most_lines (length lists) history (by_session (length lists) history) (totals_of history)
-  pub asked : map commands_in (by_session (length lists) history) ≡ lists
+  pub asked : map works_in (by_session (length lists) history) ≡ works_of changes lists
 
 -- ---- the replies
 
@@ -42,15 +48,35 @@ pub record IsHistoryOf (grid : Legs) (lists : List (List Command)) (history : Li
 abbrev pub at_any : {A : Type 0} → (A → List ℕ → Type 0) → ℕ → A → List ℕ → Type 0
 at_any IsPart n x text = IsPart x text
 
--- SESSION NUMBER LOCATOR
+-- SESSION NUMBER
+abbrev pub line_head : Entry → List ℕ
+line_head e = decimal e.session ++ codes " " ++ decimal e.number ++ codes " "
+
+-- and LOCATOR
 abbrev pub reply_head : Entry → Request → List ℕ
-reply_head e request = decimal e.session ++ codes " " ++ decimal e.number ++ codes " " ++ request.locator ++ codes " "
+reply_head e request = line_head e ++ request.locator ++ codes " "
 
 -- and the segment with this code and these seats
 pub record IsReply (e : Entry) (request : Request) (code : List ℕ) (seats : ℕ) (line : List ℕ) : Type 0 where
   pub text : List ℕ
   pub is_text : IsPlainLine (reply_of request.segment code seats) text
   pub written : line ≡ reply_head e request ++ text ++ 10 ∷ []
+
+-- FLIGHT.LEG
+abbrev pub leg_text : Change → List ℕ
+leg_text c = decimal c.flight ++ codes "." ++ decimal c.leg
+
+-- CLASSLIMIT/WAIT
+abbrev pub limit_text : Change → List ℕ
+limit_text c = (c.class ∷ []) ++ decimal c.limit ++ codes "/" ++ decimal c.wait
+
+-- SESSION NUMBER FLIGHT.LEG CLASSLIMIT/WAIT
+abbrev pub change_head : Entry → Change → List ℕ
+change_head e c = line_head e ++ leg_text c ++ codes " " ++ limit_text c
+
+-- and REPLY
+abbrev pub change_reply : Entry → Change → List ℕ
+change_reply e c = change_head e c ++ codes " " ++ e.reply ++ 10 ∷ []
 
 -- the request that a line answers: its call's, in its session's script
 abbrev pub requested : Option (List Request) → ℕ → Option Request
@@ -74,13 +100,22 @@ pub record IsAdviceLine (scripts : List (List Request)) (history : List Entry) (
   pub booked : booked_by scripts history a.number ≡ Some request
   pub is_reply : IsReply e request (codes "KL") a.seats line
 
--- the reply to a line's request with the seats asked, and then its advices
-pub record IsAnswer (scripts : List (List Request)) (history : List Entry) (e : Entry) (text : List ℕ) : Type 0 where
+-- the reply to a line's request, with the seats asked
+pub record IsSeatsReply (scripts : List (List Request)) (e : Entry) (line : List ℕ) : Type 0 where
   pub request : Request
   pub requested : request_of scripts e ≡ Some request
+  pub is_reply : IsReply e request e.reply request.segment.seats line
+
+-- the reply to what a line asks for
+abbrev pub IsLineReply : List (List Request) → Entry → Work → List ℕ → Type 0
+IsLineReply scripts e (Seats command) line = IsSeatsReply scripts e line
+IsLineReply scripts e (Limit change) line = line ≡ change_reply e change
+
+-- and then its advices
+pub record IsAnswer (scripts : List (List Request)) (history : List Entry) (e : Entry) (text : List ℕ) : Type 0 where
   pub line : List ℕ
   pub advices : List ℕ
-  pub is_reply : IsReply e request e.reply request.segment.seats line
+  pub is_reply : IsLineReply scripts e e.work line
   pub are_advices : IsText (at_any (IsAdviceLine scripts history e)) 0 e.advices advices
   pub written : text ≡ line ++ advices
 
@@ -88,29 +123,31 @@ pub record IsAnswer (scripts : List (List Request)) (history : List Entry) (e : 
 abbrev pub AreAnswers : List (List Request) → List Entry → List Entry → List ℕ → Type 0
 AreAnswers scripts history lines text = IsText (at_any (IsAnswer scripts history)) 0 lines text
 
--- those of session 1, then those of session 2, and so on
+-- those of session 0, the manager, then those of session 1, and so on
 abbrev pub AreReplies : List (List Request) → List Entry → List ℕ → Type 0
 AreReplies scripts history text = IsText (at_any (AreAnswers scripts history)) 0 (by_session (length scripts) history) text
 
 -- ---- the whole
 
--- the texts of one history of what the scripts ask, over the grid of the set and the limits
-pub record IsRun (set limits : List ℕ) (first days today : ℕ) (texts : List (Option (List ℕ))) (journal replies : List ℕ) : Type 0 where
+-- the texts of one history of what the scripts and the changes ask, over the grid of the set and the limits
+pub record IsRun (set limits : List ℕ) (first days today : ℕ) (texts : List (Option (List ℕ))) (changing : Option (List ℕ)) (journal replies : List ℕ) : Type 0 where
   pub flights : List Flown
   pub grid : Legs
   pub scripts : List (List Request)
+  pub changes : List Change
   pub history : List Entry
   pub is_loaded : IsLoaded set limits first days flights grid
   pub are_scripts : AreScripts today texts scripts
-  pub is_history : IsHistoryOf grid (map (commands_of flights) scripts) history
+  pub are_changes : IfSome changing (AreChanges flights changes)
+  pub is_history : IsHistoryOf grid changes (map (commands_of flights) scripts) history
   pub are_entries : AllByRecursion IsEntry history
   pub journal_is : journal ≡ journal_text history
   pub are_replies : AreReplies scripts history replies
 
 -- where the bytes of the set and of the limits are known
-abbrev pub IsRunOf : Option (List ℕ) → Option (List ℕ) → ℕ → ℕ → ℕ → List (Option (List ℕ)) → List ℕ → List ℕ → Type 0
-IsRunOf set limits first days today texts journal replies =
-    IfSome set (λ xs. IfSome limits (λ ys. IsRun xs ys first days today texts journal replies))
+abbrev pub IsRunOf : {S L : Type 0} → Bytes S → Bytes L → Inputs S L → ℕ → List (Option (List ℕ)) → Option (List ℕ) → List ℕ → List ℕ → Type 0
+IsRunOf set limits inputs today texts changing journal replies =
+    IfSome (set inputs.set) (λ xs. IfSome (limits inputs.limits) (λ ys. IsRun xs ys inputs.first inputs.days today texts changing journal replies))
 
 -- both texts are written, whole
 pub record AreWritten (answers : List ℕ → List ℕ → Type 0) (journal_old journal_new out_old out_new : Option (List ℕ)) : Type 0 where
@@ -160,61 +197,54 @@ abbrev pub asked_in : {A : Type 0} → List (List A) → ℕ
 asked_in [] = 0
 asked_in (list ∷ lists) = length list + asked_in lists
 
--- what was booked of lists where a call of a session was refused: the lists of the sessions before it whole, its own list as far
--- as that call, and of each list a beginning
-pub record IsBookedTo (session call : ℕ) (lists booked : List (List Command)) : Type 0 where
-  pub before : take (session - 1) booked ≡ take (session - 1) lists
-  pub own : slice_get booked (session - 1) ≡ option_map (take (call - 1)) (slice_get lists (session - 1))
+-- what was booked of lists, by session, where a call was refused: the lists of the sessions before its own whole, its own as far as
+-- that call, and of each list a beginning
+pub record IsBookedTo (session call : ℕ) (lists booked : List (List Work)) : Type 0 where
+  pub before : take session booked ≡ take session lists
+  pub own : slice_get booked session ≡ option_map (take (call - 1)) (slice_get lists session)
   pub each : AllZip Begins booked lists
 
--- a history that has as many lines as a journal may, of what was booked of the lists
-pub record IsFull (grid : Legs) (lists : List (List Command)) (session call : ℕ) : Type 0 where
+-- more is asked than a journal has lines, and a call of a session was refused: a history that has as many lines as a journal may is
+-- what was booked of all that was asked
+pub record IsFull (grid : Legs) (changes : List Change) (lists : List (List Command)) (session call : ℕ) : Type 0 where
+  pub many : most_lines < asked_in (works_of changes lists)
+  pub list : List Work
+  pub at : slice_get (works_of changes lists) session ≡ Some list
+  pub call_is : (1 ≤ call) × (call ≤ length list)
   pub history : List Entry
   pub headline : Headline grid most_lines (length lists) history (by_session (length lists) history) (totals_of history)
   pub full : length history ≡ most_lines
-  pub booked : IsBookedTo session call lists (map commands_in (by_session (length lists) history))
+  pub booked : IsBookedTo session call (works_of changes lists) (map works_in (by_session (length lists) history))
 
--- more is asked than a journal has lines, and the list of the session has a command for this call, at which the journal was full
-pub record HasCommand (grid : Legs) (lists : List (List Command)) (session call : ℕ) : Type 0 where
-  pub many : most_lines < asked_in lists
-  pub session_is : 1 ≤ session
-  pub list : List Command
-  pub at : slice_get lists (session - 1) ≡ Some list
-  pub call_is : (1 ≤ call) × (call ≤ length list)
-  pub is_full : IsFull grid lists session call
-
--- the fault is that of a call, whose command was not booked
-abbrev pub IsUnlisted : Legs → List (List Command) → DeskFault → Type 0
-IsUnlisted grid lists (Book session call) = HasCommand grid lists session call
-IsUnlisted grid lists _ = ⊥
+-- the fault is that of the first session that was not booked whole, at the call that was refused
+abbrev pub IsUnbooked : Legs → List Change → List (List Command) → DeskFault → Type 0
+IsUnbooked grid changes lists (Book session call) = IsFull grid changes lists session call
+IsUnbooked grid changes lists _ = ⊥
 
 -- the desk's fault for one of a run
 abbrev pub run_refusal : RunFault → DeskFault
 run_refusal (run_faults.Book session call Full) = Book session call
 run_refusal (run_faults.Book session call NoRoom) = Memory
 
--- more is asked than a journal has lines, and the session's script has a request for this call, at which the journal was full
-pub record HasCall (flights : List Flown) (grid : Legs) (scripts : List (List Request)) (session call : ℕ) : Type 0 where
-  pub many : most_lines < asked_in scripts
-  pub session_is : 1 ≤ session
-  pub script : List Request
-  pub at : slice_get scripts (session - 1) ≡ Some script
-  pub call_is : (1 ≤ call) × (call ≤ length script)
-  pub is_full : IsFull grid (map (commands_of flights) scripts) session call
-
--- the fault is that of the first session whose script was not booked whole, at the call that was refused
-abbrev pub IsUnbooked : List Flown → Legs → List (List Request) → DeskFault → Type 0
-IsUnbooked flights grid scripts (Book session call) = HasCall flights grid scripts session call
-IsUnbooked flights grid scripts _ = ⊥
-
--- the set, the limits and the scripts are right, and one of the requests was not booked
-pub record IsUnbookedOf (set limits : List ℕ) (first days today : ℕ) (texts : List (Option (List ℕ))) (fault : DeskFault) : Type 0 where
+-- the set, the limits, the scripts and the changes are right, and something that they ask was not booked
+pub record IsUnbookedOf (set limits : List ℕ) (first days today : ℕ) (texts : List (Option (List ℕ))) (changing : Option (List ℕ)) (fault : DeskFault) : Type 0 where
   pub flights : List Flown
   pub grid : Legs
   pub is_loaded : IsLoaded set limits first days flights grid
   pub scripts : List (List Request)
   pub are_scripts : AreScripts today texts scripts
-  pub is_unbooked : IsUnbooked flights grid scripts fault
+  pub changes : List Change
+  pub are_changes : IfSome changing (AreChanges flights changes)
+  pub is_unbooked : IsUnbooked grid changes (map (commands_of flights) scripts) fault
+
+-- the set, the limits and the scripts are right, and the fault is that of the changes
+pub record IsUnchangedOf (set limits : List ℕ) (first days today : ℕ) (texts : List (Option (List ℕ))) (changing : Option (List ℕ)) (fault : DeskFault) : Type 0 where
+  pub flights : List Flown
+  pub grid : Legs
+  pub is_loaded : IsLoaded set limits first days flights grid
+  pub scripts : List (List Request)
+  pub are_scripts : AreScripts today texts scripts
+  pub is_refused : IfSome changing (IsUnchanged flights fault)
 
 -- the set and the limits are right, and the fault is that of the first script that is none
 pub record IsRefusedOf (set limits : List ℕ) (first days today : ℕ) (texts : List (Option (List ℕ))) (fault : DeskFault) : Type 0 where
@@ -223,16 +253,29 @@ pub record IsRefusedOf (set limits : List ℕ) (first days today : ℕ) (texts :
   pub is_loaded : IsLoaded set limits first days flights grid
   pub is_refused : IsRefusedAmong today 1 texts fault
 
--- a script's fault is the first of the first script that is none. A call's names the first session that was not booked whole, and
--- all scripts are read. Any other is the first of the set, of its flights or of the limits
-abbrev pub RunRefusal : List ℕ → List ℕ → ℕ → ℕ → ℕ → List (Option (List ℕ)) → DeskFault → Type 0
-RunRefusal set limits first days today texts (Script session fault) = IsRefusedOf set limits first days today texts (Script session fault)
-RunRefusal set limits first days today texts (Book session call) = IsUnbookedOf set limits first days today texts (Book session call)
-RunRefusal set limits first days today texts fault = IsRefusedLoad set limits first days fault
+-- a script's fault is the first of the first script that is none. A fault of the changes is the first of their rows, or, where these
+-- are right, names the first that not one leg serves, and all scripts are read. A call's names the first session that was not
+-- booked whole, and all is read. Any other is the first of the set, of its flights or of the limits
+abbrev pub RunRefusal : List ℕ → List ℕ → ℕ → ℕ → ℕ → List (Option (List ℕ)) → Option (List ℕ) → DeskFault → Type 0
+RunRefusal set limits first days today texts changing (Script session fault) = IsRefusedOf set limits first days today texts (Script session fault)
+RunRefusal set limits first days today texts changing (BadChange fault) = IsUnchangedOf set limits first days today texts changing (BadChange fault)
+RunRefusal set limits first days today texts changing (NoLeg line) = IsUnchangedOf set limits first days today texts changing (NoLeg line)
+RunRefusal set limits first days today texts changing (Book session call) = IsUnbookedOf set limits first days today texts changing (Book session call)
+RunRefusal set limits first days today texts changing fault = IsRefusedLoad set limits first days fault
 
-pub record IsRefusedRun (set limits : List ℕ) (first days today : ℕ) (texts : List (Option (List ℕ))) (fault : DeskFault) : Type 0 where
-  pub refusal : RunRefusal set limits first days today texts fault
+pub record IsRefusedRun (set limits : List ℕ) (first days today : ℕ) (texts : List (Option (List ℕ))) (changing : Option (List ℕ)) (fault : DeskFault) : Type 0 where
+  pub refusal : RunRefusal set limits first days today texts changing fault
 
--- the set, the limits or a script is too large
-abbrev pub IsTooLargeRun : List ℕ → List ℕ → List (Option (List ℕ)) → Type 0
-IsTooLargeRun set limits texts = IsTooLargeLoad set limits ⊎ IsTooLargeAmong texts
+-- the set, the limits, a script or the changes are too large
+abbrev pub IsTooLargeRun : List ℕ → List ℕ → List (Option (List ℕ)) → Option (List ℕ) → Type 0
+IsTooLargeRun set limits texts changing =
+    IsTooLargeLoad set limits ⊎ (IsTooLargeAmong texts ⊎ IfSome changing (λ bytes. most_change_bytes < length bytes))
+
+-- where the bytes of the set and of the limits are known
+abbrev pub IsRefusedRunOf : {S L : Type 0} → Bytes S → Bytes L → Inputs S L → ℕ → List (Option (List ℕ)) → Option (List ℕ) → DeskFault → Type 0
+IsRefusedRunOf set limits inputs today texts changing fault =
+    IfSome (set inputs.set) (λ xs. IfSome (limits inputs.limits) (λ ys. IsRefusedRun xs ys inputs.first inputs.days today texts changing fault))
+
+abbrev pub IsTooLargeRunOf : {S L : Type 0} → Bytes S → Bytes L → Inputs S L → List (Option (List ℕ)) → Option (List ℕ) → Type 0
+IsTooLargeRunOf set limits inputs texts changing =
+    IfSome (set inputs.set) (λ xs. IfSome (limits inputs.limits) (λ ys. IsTooLargeRun xs ys texts changing))

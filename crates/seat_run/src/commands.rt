@@ -5,7 +5,7 @@ ghost use Rattle.seat_run.specs.Requests.{command_of, commands_of, wanted_of};
 use airimp_lines::{Request, Requests, Segment};
 use seat_core::Command;
 use seat_host::RequestList;
-use ssim_flights::{Flights, Wanted};
+use ssim_flights::{Flights, Served, Wanted};
 use std::alloc::{AllocError, Global};
 
 /// The commands of each script, in the order of the scripts.
@@ -16,9 +16,12 @@ pub fn command_lists(
 ) -> Result<Vec<RequestList>, AllocError>
     ensures { IfOk result (λ lists. lists.items ≡ map (commands_of flights.now) scripts.now) }
 {
+    let Ok(served) = Served::new(alloc, flights) else {
+        return Err(AllocError);
+    };
     let mut lists = Vec::new(alloc);
     for script in scripts {
-        lists.push(commands(alloc, flights, script.as_slice())?)?;
+        lists.push(commands(alloc, &served, script.as_slice())?)?;
     }
     Ok(lists)
 }
@@ -26,25 +29,25 @@ pub fn command_lists(
 /// A command for each request, on the first place that serves it.
 fn commands(
     alloc: Global,
-    flights: &Flights,
+    served: &Served<'_>,
     requests: &[Request],
 ) -> Result<RequestList, AllocError>
-    ensures { IfOk result (λ commands. commands ≡ commands_of flights.now requests.now) }
+    ensures { IfOk result (λ commands. commands ≡ commands_of served.now requests.now) }
 {
     let mut commands = Vec::with_capacity(alloc, requests.len())?;
     for request in requests {
-        commands.push(command(flights, request))?;
+        commands.push(command(served, request))?;
     }
     Ok(RequestList::from_vec(commands))
 }
 
-fn command(flights: &Flights, request: &Request) -> Command
-    ensures { result ≡ command_of flights.now request.now }
+fn command(served: &Served<'_>, request: &Request) -> Command
+    ensures { result ≡ command_of served.now request.now }
 {
     let segment = &request.segment;
     Command {
         locator: request.locator,
-        place: flights.find(&wanted(segment)),
+        place: served.find(&wanted(segment)),
         class: segment.class,
         code: segment.code,
         seats: segment.seats,

@@ -1,8 +1,8 @@
 //! The lines of a run as entries that can be written and read again, each field with a value of its type.
 ghost use Rattle.std.specs.List.{AllByRecursion};
-ghost use Rattle.seat_journal.specs.Text.{IsAdvice, IsCommand, IsEntry, IsPlace, IsStem};
+ghost use Rattle.seat_journal.specs.Text.{IsAdvice, IsChange, IsCommand, IsEntry, IsPlace, IsStem, IsWork};
 
-use seat_journal::{Advice, Command, Entry};
+use seat_journal::{Advice, Change, Command, Entry, Work};
 use ssim_records::Place;
 
 /// Each line is an entry, whose text can be read again. It only reads them: their types say it, before anything is written.
@@ -29,7 +29,23 @@ fn prove_stem(line: &Entry)
     let _call = line.call;
     let _released = line.released;
     let _reply = line.reply.letters();
-    prove_command(line.command);
+    prove_work(line.work);
+}
+
+fn prove_work(work: Work)
+    ensures { IsWork work }
+{
+    match work {
+        Work::Seats(command) => prove_command(command),
+        Work::Limit(change) => prove_change(change),
+    }
+}
+
+fn prove_change(change: Change)
+    ensures { IsChange change }
+{
+    let _flight = change.flight;
+    let _class = change.class.letter();
 }
 
 fn prove_command(command: Command)

@@ -1,18 +1,18 @@
-//! The replies to scripts, as segment lines.
-ghost use Rattle.std.specs.Prelude.{◌≡◌, ◌++◌, ◌<◌, ◌≤◌, Some, IfOk, OnOk, length};
+//! The replies to changes and to scripts, whose requests are answered by segment lines.
+ghost use Rattle.std.specs.Prelude.{◌≡◌, ◌++◌, ◌<◌, Some, IfOk, OnOk};
 ghost use Rattle.airimp_lines.specs.Grammar.{IsPlainLine, IsRightSegment, IsWritable, reply_of};
 ghost use Rattle.seat_desk.specs.FlightsDesk.{IsPut, IsText};
-ghost use Rattle.seat_run.specs.Answering.{AreAllAnswerable, AreAnswerable, HasRequest, IsAdvisable, IsAnswerable, IsBehind};
-ghost use Rattle.seat_run.specs.RunDesk.{AreAnswers, IsAdviceLine, IsAnswer, IsReply, at_any, booked_by, reply_head, request_of};
+ghost use Rattle.seat_run.specs.Answering.{AreAllAnswerable, AreAnswerable, AsksForSeats, HasRequest, IsAdvisable, IsAnswerable, IsAsked, IsBehind};
+ghost use Rattle.seat_run.specs.RunDesk.{AreAnswers, IsAdviceLine, IsAnswer, IsLineReply, IsReply, IsSeatsReply, at_any, booked_by, change_head, change_reply, leg_text, limit_text, line_head, reply_head, request_of};
 
 use airimp_lines::{Request, Requests, Segment, reply_text};
 use seat_desk::{put, put_number};
 use seat_host::{Receipt, Receipts};
-use seat_journal::{Advice, Entry};
+use seat_journal::{Advice, Change, Entry, Work};
 use ssim_records::Code;
 use std::alloc::{AllocError, Global};
 
-/// The replies to the lines of session 1, then of session 2, and so on, each with the advices of its line.
+/// The replies to the lines of session 0, the manager, then of session 1, and so on, each with the advices of its line.
 #[tactic(auto, using(seat_desk::proofs::Texts::put_none, crate::proofs::Parts::sessions_more))]
 pub fn replies(
     alloc: Global,
@@ -62,7 +62,7 @@ fn put_answers(
     Ok(())
 }
 
-/// Adds the reply to a line's request, and its advices.
+/// Adds the reply to what a line asks for, and its advices.
 #[tactic(auto, using(crate::proofs::Parts::answer_put))]
 fn put_answer(
     text: &mut Vec<u8>,
@@ -74,10 +74,77 @@ fn put_answer(
     requires line { IsAnswerable scripts.now journal.now entry.now }
     ensures { OnOk result (IsBehind (IsAnswer scripts.now journal.now entry.now) text.old.items text.new.items) }
 {
-    let request = request_of(scripts, entry);
-    put_reply(text, entry, request, entry.reply, request.segment.seats)?;
+    put_line_reply(text, scripts, entry, entry.work)?;
     put_advices(text, scripts, journal, entry)?;
     Ok(())
+}
+
+/// Adds the reply to what a line asks for.
+#[tactic(auto, using(crate::proofs::Parts::change_put))]
+fn put_line_reply(
+    text: &mut Vec<u8>,
+    scripts: &[Requests],
+    entry: &Entry,
+    work: Work,
+) -> Result<(), AllocError>
+    requires { IsAsked scripts.now entry.now work }
+    ensures { OnOk result (IsBehind (IsLineReply scripts.now entry.now work) text.old.items text.new.items) }
+{
+    match work {
+        Work::Seats(_) => put_seats_reply(text, scripts, entry),
+        Work::Limit(change) => put_change_reply(text, entry, &change),
+    }
+}
+
+/// Adds the reply to a line's request.
+#[tactic(auto, using(crate::proofs::Parts::seats_put))]
+fn put_seats_reply(
+    text: &mut Vec<u8>,
+    scripts: &[Requests],
+    entry: &Entry,
+) -> Result<(), AllocError>
+    requires { HasRequest scripts.now entry.now }
+    ensures { OnOk result (IsBehind (IsSeatsReply scripts.now entry.now) text.old.items text.new.items) }
+{
+    let request = request_of(scripts, entry);
+    put_reply(text, entry, request, entry.reply, request.segment.seats)?;
+    Ok(())
+}
+
+/// Adds the reply to a change.
+fn put_change_reply(text: &mut Vec<u8>, entry: &Entry, change: &Change) -> Result<(), AllocError>
+    ensures { OnOk result (text.new.items ≡ text.old.items ++ change_reply entry.now change.now) }
+{
+    put_change_head(text, entry, change)?;
+    put(text, b" ")?;
+    put(text, &entry.reply.letters())?;
+    put(text, b"\n")
+}
+
+fn put_change_head(text: &mut Vec<u8>, entry: &Entry, change: &Change) -> Result<(), AllocError>
+    ensures { OnOk result (text.new.items ≡ text.old.items ++ change_head entry.now change.now) }
+{
+    put_line_head(text, entry)?;
+    put_leg(text, change)?;
+    put(text, b" ")?;
+    put_limit(text, change)
+}
+
+fn put_leg(text: &mut Vec<u8>, change: &Change) -> Result<(), AllocError>
+    ensures { OnOk result (text.new.items ≡ text.old.items ++ leg_text change.now) }
+{
+    put_number(text, u64::from(change.flight))?;
+    put(text, b".")?;
+    put_number(text, u64::from(change.leg))
+}
+
+fn put_limit(text: &mut Vec<u8>, change: &Change) -> Result<(), AllocError>
+    ensures { OnOk result (text.new.items ≡ text.old.items ++ limit_text change.now) }
+{
+    put(text, &[change.class.letter()])?;
+    put_number(text, u64::from(change.limit))?;
+    put(text, b"/")?;
+    put_number(text, u64::from(change.wait))
 }
 
 #[tactic(auto, using(seat_desk::proofs::Texts::put_none, crate::proofs::Parts::advices_more, crate::proofs::Parts::advice_advisable))]
@@ -107,7 +174,7 @@ fn put_advice(
     advice: &Advice,
 ) -> Result<(), AllocError>
     requires whole { AreAnswerable scripts.now journal.now journal.now }
-    requires advice { IsAdvisable (length journal.now) advice.now }
+    requires advice { IsAdvisable journal.now advice.now }
     ensures { OnOk result (IsBehind (IsAdviceLine scripts.now journal.now entry.now advice.now) text.old.items text.new.items) }
 {
     let request = booked_by(scripts, journal, advice.number);
@@ -137,11 +204,17 @@ fn put_reply(
 fn put_head(text: &mut Vec<u8>, entry: &Entry, request: &Request) -> Result<(), AllocError>
     ensures { OnOk result (text.new.items ≡ text.old.items ++ reply_head entry.now request.now) }
 {
+    put_line_head(text, entry)?;
+    put(text, &request.locator.characters())?;
+    put(text, b" ")
+}
+
+fn put_line_head(text: &mut Vec<u8>, entry: &Entry) -> Result<(), AllocError>
+    ensures { OnOk result (text.new.items ≡ text.old.items ++ line_head entry.now) }
+{
     put_number(text, u64::from(entry.session))?;
     put(text, b" ")?;
     put_number(text, u64::from(entry.number))?;
-    put(text, b" ")?;
-    put(text, &request.locator.characters())?;
     put(text, b" ")
 }
 
@@ -156,7 +229,7 @@ fn put_segment(
     requires seats { (0 < seats) × (seats < 1000) }
     ensures { OnOk result (IsBehind (IsPlainLine (reply_of segment.now code seats)) text.old.items text.new.items) }
 {
-    put(text, reply_text(segment, code, seats).as_bytes())?;
+    put(text, reply_text(segment, code, seats).as_slice())?;
     Ok(())
 }
 
@@ -176,7 +249,7 @@ fn request_of<'a>(scripts: &'a [Requests], entry: &Entry) -> &'a Request
 #[tactic(auto, using(crate::proofs::Parts::booked, crate::proofs::Parts::line_asked))]
 fn booked_by<'a>(scripts: &'a [Requests], journal: &[Entry], number: u32) -> &'a Request
     requires whole { AreAnswerable scripts.now journal.now journal.now }
-    requires number { (1 ≤ number) × (number ≤ length journal.now) }
+    requires seats { AsksForSeats journal.now number }
     ensures request { booked_by scripts.now journal.now number ≡ Some result.now }
     ensures right { IsRightSegment result.now.segment }
 {

@@ -4,4 +4,4 @@ use Rattle.seat_run.specs.Requests.{command_of}
 use Rattle.seat_run.proofs.commands.commands.Given as goal
 
 abbrev pub invariant-loop-request : goal.invariant-loop-request
-invariant-loop-request l = l.commands.items ≡ map (command_of l.flights) (take l.request-index l.requests)
+invariant-loop-request l = l.commands.items ≡ map (command_of l.served) (take l.request-index l.requests)
