@@ -7,7 +7,7 @@ ghost use Rattle.ssim_records.specs.Days.{IsCenturyDay};
 ghost use Rattle.ssim_flights.specs.Right.{IsOfCentury};
 
 use clap::error::ErrorKind;
-use seat_desk::{DeskFault, desk_audit, desk_check, desk_flights, desk_ladder};
+use seat_desk::{DeskFault, Inputs, desk_audit, desk_check, desk_flights, desk_ladder};
 use seat_host::NoGate;
 use seat_run::desk_run;
 use seat_words::{Job, Scripts, date_word, days_word, read_words};
@@ -73,9 +73,10 @@ fn carry_out<T: Threads + Wait + Sync>(
             days,
             today,
             journal,
+            changes,
             scripts,
         } => run(
-            rt, threads, set, limits, first, days, today, journal, scripts,
+            rt, threads, set, limits, first, days, today, journal, *changes, scripts,
         ),
     }
 }
@@ -107,23 +108,14 @@ fn audit(
     days: &str,
     journal: &str,
 ) -> Result<(), DeskFault> {
-    let (first, days) = horizon(first, days)?;
-    let mut set = opened(rt, set)?;
-    let mut limits = opened(rt, limits)?;
+    let mut inputs = inputs(rt, set, limits, horizon(first, days)?)?;
     let mut journal = opened(rt, journal)?;
     let mut out = Counted::new(rt.stdout());
-    desk_audit(
-        rt.alloc(),
-        &mut set,
-        &mut limits,
-        first,
-        days,
-        &mut journal,
-        &mut out,
-    )
+    desk_audit(rt.alloc(), &mut inputs, &mut journal, &mut out)
 }
 
-/// OUT, the file of the journal, is made once each input is open, and before the first is read.
+/// OUT, the file of the journal, is made once each input is open, and before the first is read. Without a file of changes
+/// there are none.
 fn run<T: Threads + Wait + Sync>(
     rt: &HostRuntime,
     threads: &T,
@@ -133,31 +125,69 @@ fn run<T: Threads + Wait + Sync>(
     days: &str,
     today: &str,
     journal: &str,
+    changes: Option<&str>,
     scripts: &Scripts<'_>,
 ) -> Result<(), DeskFault> {
-    let (first, days) = horizon(first, days)?;
+    let horizon = horizon(first, days)?;
     let today = day_of_run(today)?;
     if scripts.is_empty() || scripts.len() > MOST_SCRIPTS {
         return Err(DeskFault::TooManyScripts);
     }
-    let mut set = opened(rt, set)?;
-    let mut limits = opened(rt, limits)?;
+    let mut inputs = inputs(rt, set, limits, horizon)?;
     let mut scripts = all_opened(rt, scripts.as_slice())?;
-    let mut journal = made(rt, journal)?;
     let mut out = Counted::new(rt.stdout());
-    desk_run(
-        threads,
-        rt.alloc(),
-        &mut set,
-        &mut limits,
-        scripts.as_mut_slice(),
+    match changes {
+        Some(changes) => {
+            let mut changes = opened(rt, changes)?;
+            let mut journal = made(rt, journal)?;
+            desk_run(
+                threads,
+                rt.alloc(),
+                &mut inputs,
+                scripts.as_mut_slice(),
+                &mut changes,
+                today,
+                &NoGate,
+                &mut journal,
+                &mut out,
+            )
+        }
+        None => {
+            let mut none = Counted::new(io::empty());
+            let mut journal = made(rt, journal)?;
+            desk_run(
+                threads,
+                rt.alloc(),
+                &mut inputs,
+                scripts.as_mut_slice(),
+                &mut none,
+                today,
+                &NoGate,
+                &mut journal,
+                &mut out,
+            )
+        }
+    }
+}
+
+/// The data set and the limit rows, opened, with the dates.
+fn inputs(
+    rt: &HostRuntime,
+    set: &str,
+    limits: &str,
+    horizon: (Day, u16),
+) -> Result<Inputs<Counted<File>, Counted<File>>, DeskFault>
+    ensures { IfOk result (λ i. (i.first ≡ horizon.0) × (i.days ≡ horizon.1)) }
+{
+    let (first, days) = horizon;
+    let set = opened(rt, set)?;
+    let limits = opened(rt, limits)?;
+    Ok(Inputs {
+        set,
+        limits,
         first,
         days,
-        today,
-        &NoGate,
-        &mut journal,
-        &mut out,
-    )
+    })
 }
 
 /// The first day and the number of days.
