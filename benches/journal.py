@@ -40,7 +40,7 @@ def main():
     bookings = []
     calls = [0] * 9
     with open(journal, "w") as out:
-        out.write("SEATJOURNAL 1\n")
+        out.write("SEATJOURNAL 2\n")
         for line in range(1, lines + 1):
             session = 1 + (line - 1) % 8
             calls[session] += 1

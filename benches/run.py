@@ -1,7 +1,8 @@
 #!/usr/bin/env python3
 """Runs scripts of one set of lines in several sessions, and prints wall time, processor time and peak memory of each run.
 
-    benches/run.py FOLDER [--lines N] [--flights N] [--scripts N,N,..] [--times N] [--seed N] [--program FILE]
+    benches/run.py FOLDER [--lines N] [--flights N] [--scripts N,N,..] [--changes N] [--times N] [--seed N]
+                         [--program FILE]
 
 FOLDER gets the inputs, the same for the same seed: a season of benches/season.py with so many dated flights (93,000),
 limits on all legs, and eight parts of messages with N request lines in all (900,000). A run with 1, 2, 4 or 8 scripts
@@ -10,6 +11,8 @@ limits on all legs, and eight parts of messages with N request lines in all (900
 
 A part has messages of one to six lines. Of ten lines about six need seats, two are sales that may wait, one is a listing, and
 one cancels seats that an earlier message of the part asked for. A tenth of the lines are for 50 popular flights.
+
+With --changes N a manager makes N changes of limits beside the scripts (0): a tenth of them on popular flights.
 """
 import argparse
 import datetime
@@ -81,8 +84,8 @@ def part(chance, chains, popular, lines, names):
     return "\n".join(messages) + "\n"
 
 
-def write_inputs(folder, lines, flights, counts, seed):
-    """Season, limits, and the scripts of each number of sessions."""
+def write_inputs(folder, lines, flights, counts, changes, seed):
+    """Season, limits, changes of them, and the scripts of each number of sessions."""
     with open(f"{folder}/season.ssim", "wb") as to:
         subprocess.run([f"{ROOT}/benches/season.py", str(flights), str(seed)], stdout=to, check=True)
     chains = chains_of(f"{folder}/season.ssim")
@@ -95,6 +98,19 @@ def write_inputs(folder, lines, flights, counts, seed):
         for k in range(count):
             with open(script(folder, count, k), "w", encoding="ascii") as out:
                 out.write("\n".join(parts[PARTS // count * k : PARTS // count * (k + 1)]))
+    write_changes(f"{folder}/changes.txt", chains, popular, changes, chance)
+
+
+def write_changes(path, chains, popular, count, chance):
+    """Rows that change the limit of a class on one leg: a little up or down, now and then closed."""
+    with open(path, "w", encoding="ascii") as out:
+        for _ in range(count):
+            number, day = chance.choice(popular) if chance.random() < 0.1 else (1 + chance.randrange(len(chains)), chance.randrange(DAYS))
+            stations, day = chains[number], FIRST + datetime.timedelta(day)
+            leg = chance.randrange(len(stations) - 1)
+            entry = chance.choice(("Y028/010", "Y024/008", "M020/008", "M016/004", "M000/000", "F032/004"))
+            month = MONTHS[day.month - 1]
+            out.write(f"AU XX{number} {day.day:02}{month}{day:%y} {stations[leg]}{stations[leg + 1]} {entry}\n")
 
 
 def script(folder, count, k):
@@ -119,28 +135,31 @@ def main():
     words.add_argument("--lines", type=int, default=900_000)
     words.add_argument("--flights", type=int, default=93_000)
     words.add_argument("--scripts", default="8,4,2")
+    words.add_argument("--changes", type=int, default=0)
     words.add_argument("--times", type=int, default=3)
     words.add_argument("--seed", type=int, default=1)
     words.add_argument("--program", default=f"{ROOT}/crates/seatdesk/out/seatdesk")
     given = words.parse_args()
     counts = [int(it) for it in given.scripts.split(",")]
-    if not 1 <= given.lines <= 999_999 or any(it not in (1, 2, 4, 8) for it in counts):
-        words.error("1 to 999999 lines, in 1, 2, 4 or 8 scripts")
+    if not 1 <= given.lines <= 999_999 - given.changes or given.changes < 0 or any(it not in (1, 2, 4, 8) for it in counts):
+        words.error("1 to 999999 lines with the changes, in 1, 2, 4 or 8 scripts")
     os.makedirs(given.folder, exist_ok=True)
     # (in a process of its own: what it holds would count in the peaks)
-    maker = multiprocessing.Process(target=write_inputs, args=(given.folder, given.lines, given.flights, counts, given.seed))
+    maker = multiprocessing.Process(target=write_inputs, args=(given.folder, given.lines, given.flights, counts, given.changes, given.seed))
     maker.start()
     maker.join()
     if maker.exitcode:
         sys.exit(1)
     season, limits, journal, replies = (f"{given.folder}/{it}" for it in ("season.ssim", "limits.txt", "journal.txt", "replies.txt"))
     horizon = ["--set", season, "--limits", limits, "--first", str(FIRST), "--days", str(DAYS)]
-    print(f"{given.lines} lines over {given.flights} dated flights", flush=True)
+    beside = ["--changes", f"{given.folder}/changes.txt"] if given.changes else []
+    total = given.lines + given.changes
+    print(f"{given.lines} lines and {given.changes} changes over {given.flights} dated flights", flush=True)
     for count in counts:
         scripts = [script(given.folder, count, k) for k in range(count)]
-        line = [given.program, "run", *horizon, "--today", str(FIRST), "--journal", journal, *scripts]
+        line = [given.program, "run", *horizon, "--today", str(FIRST), *beside, "--journal", journal, *scripts]
         wall, used, peak = min(run(line, replies) for _ in range(given.times))
-        print(f"{count} scripts: {wall:.2f} s wall, {used:.2f} s processor, {peak:.0f} MB peak, {wall / given.lines * 1e6:.2f} microseconds a line")
+        print(f"{count} scripts: {wall:.2f} s wall, {used:.2f} s processor, {peak:.0f} MB peak, {wall / total * 1e6:.2f} microseconds a line")
         wall, used, peak = run([given.program, "audit", *horizon, journal], replies)
         with open(replies, encoding="ascii") as said:
             print(f"    audit: {said.read().strip()}, {wall:.2f} s wall, {used:.2f} s processor, {peak:.0f} MB peak", flush=True)
