@@ -1,0 +1,70 @@
+# shellcheck shell=bash
+# Completions of seatdesk for bash, made by completions/write from the program's help.
+
+_seatdesk() {
+    local current=${COMP_WORDS[COMP_CWORD]} before=${COMP_WORDS[COMP_CWORD - 1]} command='' words files values place i
+    # (--first=2024-07-01 is three words here)
+    [ "$current" != = ] || current=
+    [ "$before" != = ] || before=${COMP_WORDS[COMP_CWORD - 2]}
+    for ((i = 1; i < COMP_CWORD; i++)); do
+        case ${COMP_WORDS[i]} in
+        ladder | check | flights | audit | run)
+            command=${COMP_WORDS[i]}
+            break
+            ;;
+        esac
+    done
+    case $command in
+    '')
+        words='ladder check flights audit run -h --help -V --version'
+        files=''
+        values=''
+        place=''
+        ;;
+    ladder)
+        words='-h --help'
+        files=''
+        values=''
+        place=''
+        ;;
+    check)
+        words='-h --help'
+        files=''
+        values=''
+        place='files'
+        ;;
+    flights)
+        words='--first --days -h --help'
+        files=''
+        values='--first --days'
+        place='files'
+        ;;
+    audit)
+        words='--set --limits --first --days -h --help'
+        files='--set --limits'
+        values='--first --days'
+        place='files'
+        ;;
+    run)
+        words='--set --limits --first --days --today --journal --changes -h --help'
+        files='--set --limits --journal --changes'
+        values='--first --days --today'
+        place='files'
+        ;;
+    esac
+    COMPREPLY=()
+    case " $values " in
+    *" $before "*) return ;;
+    esac
+    case " $files " in
+    *" $before "*) place=files ;;
+    esac
+    if [ "$place" = files ] && [[ $current != -* ]]; then
+        compopt -o filenames 2>/dev/null
+        mapfile -t COMPREPLY < <(compgen -f -- "$current")
+    else
+        mapfile -t COMPREPLY < <(compgen -W "$words" -- "$current")
+    fi
+}
+
+complete -F _seatdesk seatdesk
