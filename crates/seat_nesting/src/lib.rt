@@ -25,3 +25,4 @@ pub use ladder_text::read_ladder;
 pub use limit_fault::{LimitFault, LimitKind};
 pub use limit_reading::read_limits;
 pub use limit_row::{LimitRow, LimitRows};
+pub use row_index::{Pair, RowIndex, leg_pair_of};
