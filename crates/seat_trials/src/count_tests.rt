@@ -1,175 +1,298 @@
-//! Counters of held seats by themselves, and ladders of given steps.
+//! Counters by themselves: seats that are taken and given back, limits that are set under them; ladders of given steps.
 use crate::trial::{Legs, Why, place_of};
 use crate::worked_set::{grid, two_legs};
 use seat_nesting::{Counts, Ladder, LadderFault, Step};
-use ssim_records::Class;
+use ssim_records::{Class, Place};
 use std::alloc::Global;
 use std::test::Fail;
 
-/// Counters whose calls have no clause, and what was first found wrong.
-#[derive(Drop)]
-struct Counters {
-    counts: Counts,
-    fault: Option<Why>,
+/// What is done with counters, or asked of them.
+#[derive(Clone, Copy)]
+enum Verb {
+    /// Whether the room is this number.
+    Room,
+    /// Whether so many seats are held.
+    Holds,
+    /// Takes so many seats, where they fit.
+    Takes,
+    /// Gives so many seats back, where they are held.
+    Gives,
+    /// Sets this limit and wait on the first leg, where they may be set.
+    Sets,
+    /// Whether these are the limit and wait of the first leg.
+    Limit,
+    /// Whether the first leg has the class.
+    HasClass,
+    /// Whether it has so many classes: none where there is no leg.
+    Classes,
+    /// Whether the place is there.
+    Fits,
 }
 
-impl Counters {
-    /// Over flights of two legs, of which the second lacks M.
-    fn new(alloc: Global) -> Result<Counters, Why> {
-        let limits = b"AU XX123 15JUN24 16JUN24 LHRJFK F010/000 Y008/000 M005/004
+use Verb::{Classes, Fits, Gives, HasClass, Holds, Limit, Room, Sets, Takes};
+
+/// A verb, a place and a class; seats, or a limit, and a wait; whether it is so, and why.
+type Row = (Verb, Legs, u8, u16, u16, bool, Why);
+
+/// Six seats of Y are taken, and two given back.
+fn on_one_leg() -> &'static [Row] {
+    &[
+        (Room, (0, 0, 0), b'F', 10, 0, true, "the limit of F"),
+        (Room, (0, 0, 0), b'Y', 8, 0, true, "the limit of Y"),
+        (Room, (0, 0, 0), b'M', 5, 0, true, "the limit of M"),
+        (Takes, (0, 0, 0), b'Y', 6, 0, true, "six of eight"),
+        (Room, (0, 0, 0), b'F', 4, 0, true, "ten less six"),
+        (Room, (0, 0, 0), b'Y', 2, 0, true, "eight less six"),
+        (Room, (0, 0, 0), b'M', 2, 0, true, "the least of 4, 2 and 5"),
+        (Holds, (0, 0, 0), b'Y', 6, 0, true, "six in Y"),
+        (Holds, (0, 0, 0), b'Y', 7, 0, false, "and no more"),
+        (Gives, (0, 0, 0), b'Y', 2, 0, true, "two of six"),
+        (Room, (0, 0, 0), b'F', 6, 0, true, "ten less four"),
+        (Room, (0, 0, 0), b'Y', 4, 0, true, "eight less four"),
+        (Room, (0, 0, 0), b'M', 4, 0, true, "the least of 6, 4 and 5"),
+        (Takes, (0, 0, 0), b'Y', 5, 0, false, "five of four"),
+        (Gives, (0, 0, 0), b'Y', 5, 0, false, "five of four"),
+        (Room, (0, 0, 0), b'F', 6, 0, true, "F as before"),
+        (Room, (0, 0, 0), b'Y', 4, 0, true, "Y as before"),
+        (Room, (0, 0, 0), b'M', 4, 0, true, "M as before"),
+    ]
+}
+
+/// Places and classes that are not there have no room.
+fn on_nothing() -> &'static [Row] {
+    &[
+        (Holds, (0, 0, 0), b'Q', 0, 0, false, "no class Q"),
+        (Room, (0, 0, 0), b'Q', 0, 0, true, "no class Q"),
+        (Room, (0, 0, 2), b'F', 0, 0, true, "no third leg"),
+        (Room, (0, 0, 2), b'Y', 0, 0, true, "no third leg"),
+        (Room, (0, 0, 2), b'M', 0, 0, true, "no third leg"),
+        (Room, (0, 1, 0), b'F', 0, 0, true, "no leg from 1 to 0"),
+        (Room, (0, 1, 0), b'Y', 0, 0, true, "no leg from 1 to 0"),
+        (Room, (0, 1, 0), b'M', 0, 0, true, "no leg from 1 to 0"),
+        (Room, (2, 0, 0), b'F', 0, 0, true, "no third flight"),
+        (Room, (2, 0, 0), b'Y', 0, 0, true, "no third flight"),
+        (Room, (2, 0, 0), b'M', 0, 0, true, "no third flight"),
+    ]
+}
+
+/// The second leg lacks M, and the other flight stays as it was.
+fn on_two_legs() -> &'static [Row] {
+    &[
+        (Room, (0, 0, 1), b'F', 10, 0, true, "F of both legs"),
+        (Room, (0, 0, 1), b'Y', 7, 0, true, "the least of 8 and 7"),
+        (Room, (0, 0, 1), b'M', 0, 0, true, "the second leg lacks M"),
+        (Takes, (0, 0, 1), b'Y', 6, 0, true, "six of seven"),
+        (Room, (0, 0, 0), b'F', 4, 0, true, "ten less six"),
+        (Room, (0, 0, 0), b'Y', 2, 0, true, "eight less six"),
+        (Room, (0, 0, 0), b'M', 2, 0, true, "the least of 4, 2 and 5"),
+        (Room, (0, 1, 1), b'F', 4, 0, true, "ten less six"),
+        (Room, (0, 1, 1), b'Y', 1, 0, true, "seven less six"),
+        (Room, (0, 1, 1), b'M', 0, 0, true, "the second leg lacks M"),
+        (Holds, (0, 0, 1), b'Y', 6, 0, true, "six on both legs"),
+        (Holds, (0, 0, 1), b'Y', 7, 0, false, "and no more"),
+        (Holds, (0, 1, 1), b'Y', 6, 0, true, "six on the second leg"),
+        (Holds, (0, 1, 1), b'Y', 7, 0, false, "and no more"),
+        (Gives, (0, 0, 1), b'F', 1, 0, false, "none is held in F"),
+        (Gives, (0, 0, 1), b'M', 0, 0, false, "no M on that leg"),
+        (Gives, (0, 1, 1), b'Y', 2, 0, true, "two of six"),
+        (Room, (0, 0, 0), b'F', 4, 0, true, "F as before"),
+        (Room, (0, 0, 0), b'Y', 2, 0, true, "Y as before"),
+        (Room, (0, 0, 0), b'M', 2, 0, true, "M as before"),
+        (Room, (0, 1, 1), b'F', 6, 0, true, "ten less four"),
+        (Room, (0, 1, 1), b'Y', 3, 0, true, "seven less four"),
+        (Room, (0, 1, 1), b'M', 0, 0, true, "the second leg lacks M"),
+        (Holds, (0, 0, 1), b'Y', 4, 0, true, "four on both legs"),
+        (Holds, (0, 0, 1), b'Y', 5, 0, false, "and no more"),
+        (Room, (1, 0, 1), b'F', 10, 0, true, "F of the other flight"),
+        (Room, (1, 0, 1), b'Y', 7, 0, true, "Y of the other flight"),
+        (Room, (1, 0, 1), b'M', 0, 0, true, "M of the other flight"),
+    ]
+}
+
+/// Six seats are held in Y.
+fn limits_that_are_set() -> &'static [Row] {
+    &[
+        (Takes, (0, 0, 0), b'Y', 6, 0, true, "six of eight"),
+        (Room, (0, 0, 0), b'F', 4, 0, true, "ten less six"),
+        (Room, (0, 0, 0), b'Y', 2, 0, true, "eight less six"),
+        (Room, (0, 0, 0), b'M', 2, 0, true, "the least of 4, 2 and 5"),
+        (Sets, (0, 0, 0), b'M', 7, 4, true, "7 is below Y's 8"),
+        (Room, (0, 0, 0), b'F', 4, 0, true, "ten less six"),
+        (Room, (0, 0, 0), b'Y', 2, 0, true, "eight less six"),
+        (Room, (0, 0, 0), b'M', 2, 0, true, "the least of 4, 2 and 7"),
+        (Sets, (0, 0, 0), b'Y', 9, 0, true, "9 lies between 10 and 7"),
+        (Room, (0, 0, 0), b'F', 4, 0, true, "ten less six"),
+        (Room, (0, 0, 0), b'Y', 3, 0, true, "nine less six"),
+        (Room, (0, 0, 0), b'M', 3, 0, true, "the least of 4, 3 and 7"),
+        (Sets, (0, 0, 0), b'M', 2, 5, true, "no seat is held in M"),
+        (Room, (0, 0, 0), b'F', 4, 0, true, "ten less six"),
+        (Room, (0, 0, 0), b'Y', 3, 0, true, "nine less six"),
+        (Room, (0, 0, 0), b'M', 2, 0, true, "the least of 4, 3 and 2"),
+        (Sets, (0, 0, 0), b'Y', 6, 0, true, "six seats are held in Y"),
+        (Room, (0, 0, 0), b'F', 4, 0, true, "ten less six"),
+        (Room, (0, 0, 0), b'Y', 0, 0, true, "six less six"),
+        (Room, (0, 0, 0), b'M', 0, 0, true, "the least of 4, 0 and 2"),
+        (Sets, (0, 0, 0), b'F', 999, 999, true, "999 and 999"),
+        (Room, (0, 0, 0), b'F', 993, 0, true, "999 less six"),
+        (Room, (0, 0, 0), b'Y', 0, 0, true, "six less six"),
+        (Room, (0, 0, 0), b'M', 0, 0, true, "none is left in Y"),
+        (Limit, (0, 0, 0), b'F', 999, 999, true, "the limit of F"),
+        (Limit, (0, 0, 0), b'Y', 6, 0, true, "the limit of Y"),
+        (Limit, (0, 0, 0), b'M', 2, 5, true, "the limit of M"),
+        (Limit, (0, 1, 1), b'F', 10, 0, true, "the limit of F there"),
+        (Limit, (0, 1, 1), b'Y', 7, 0, true, "the limit of Y there"),
+    ]
+}
+
+/// Six seats are held in Y, and no limit changes.
+fn limits_that_may_not_be_set() -> &'static [Row] {
+    &[
+        (Takes, (0, 0, 0), b'Y', 6, 0, true, "six of eight"),
+        (Sets, (0, 0, 0), b'M', 9, 4, false, "9 is above Y's 8"),
+        (Sets, (0, 0, 0), b'Y', 11, 0, false, "11 is above F's 10"),
+        (Sets, (0, 0, 0), b'Y', 4, 0, false, "4 is below M's 5"),
+        (Sets, (0, 0, 0), b'F', 7, 0, false, "7 is below Y's 8"),
+        (Sets, (0, 0, 0), b'Y', 5, 0, false, "six are held in Y"),
+        (Sets, (0, 0, 0), b'F', 1000, 0, false, "a limit of 1000"),
+        (Sets, (0, 0, 0), b'M', 5, 1000, false, "a wait of 1000"),
+        (Sets, (0, 0, 0), b'Q', 1, 0, false, "no class Q"),
+        (Sets, (0, 1, 1), b'M', 1, 0, false, "no M on the second leg"),
+        (Sets, (0, 2, 2), b'F', 1, 0, false, "no third leg"),
+        (Sets, (2, 0, 0), b'F', 1, 0, false, "no third flight"),
+        (Room, (0, 0, 0), b'F', 4, 0, true, "ten less six"),
+        (Room, (0, 0, 0), b'Y', 2, 0, true, "eight less six"),
+        (Room, (0, 0, 0), b'M', 2, 0, true, "the least of 4, 2 and 5"),
+        (Limit, (0, 0, 0), b'F', 10, 0, true, "the limit of F"),
+        (Limit, (0, 0, 0), b'Y', 8, 0, true, "the limit of Y"),
+        (Limit, (0, 0, 0), b'M', 5, 4, true, "the limit of M"),
+    ]
+}
+
+/// A limit that was lowered may be set to what it was.
+fn a_limit_that_is_set_back() -> &'static [Row] {
+    &[
+        (Takes, (0, 0, 0), b'M', 3, 0, true, "three of five"),
+        (Room, (0, 0, 0), b'F', 7, 0, true, "ten less three"),
+        (Room, (0, 0, 0), b'Y', 5, 0, true, "eight less three"),
+        (Room, (0, 0, 0), b'M', 2, 0, true, "five less three"),
+        (Sets, (0, 0, 0), b'M', 3, 0, true, "three are held in M"),
+        (Room, (0, 0, 0), b'F', 7, 0, true, "ten less three"),
+        (Room, (0, 0, 0), b'Y', 5, 0, true, "eight less three"),
+        (Room, (0, 0, 0), b'M', 0, 0, true, "three less three"),
+        (Sets, (0, 0, 0), b'M', 5, 4, true, "what it was"),
+        (Room, (0, 0, 0), b'F', 7, 0, true, "ten less three"),
+        (Room, (0, 0, 0), b'Y', 5, 0, true, "eight less three"),
+        (Room, (0, 0, 0), b'M', 2, 0, true, "five less three"),
+        (Limit, (0, 0, 0), b'M', 5, 4, true, "the limit of M"),
+    ]
+}
+
+/// Legs, classes and places.
+fn what_is_there() -> &'static [Row] {
+    &[
+        (Classes, (0, 1, 1), b'F', 2, 0, true, "F and Y"),
+        (Classes, (0, 2, 2), b'F', 0, 0, true, "no third leg"),
+        (Classes, (2, 0, 0), b'F', 0, 0, true, "no third flight"),
+        (HasClass, (0, 1, 1), b'M', 0, 0, false, "no M there"),
+        (Fits, (1, 0, 1), b'F', 0, 0, true, "both legs of flight 1"),
+        (Fits, (1, 0, 2), b'F', 0, 0, false, "no third leg"),
+    ]
+}
+
+/// Over flights of two legs, of which the second lacks M.
+fn counts(alloc: Global) -> Option<Counts> {
+    let limits = b"AU XX123 15JUN24 16JUN24 LHRJFK F010/000 Y008/000 M005/004
 AU XX123 15JUN24 16JUN24 JFKLAX F010/000 Y007/000";
-        let grid = grid(alloc, two_legs(), limits).ok_or("a grid")?;
-        match Counts::new(alloc, &grid) {
-            Ok(counts) => Ok(Counters {
-                counts,
-                fault: None,
-            }),
-            Err(_) => Err("memory"),
-        }
-    }
+    let grid = grid(alloc, two_legs(), limits)?;
+    Counts::new(alloc, &grid).ok()
+}
 
-    /// Takes seats; false where they don't fit.
-    fn take(&mut self, legs: Legs, letter: u8, seats: u16) -> bool {
-        let Some(class) = Class::new(letter) else {
-            return false;
-        };
-        let place = place_of(legs);
-        if seats <= self.counts.room(place, class) {
-            self.counts.take(place, class, seats);
-            true
-        } else {
-            false
-        }
+fn take(counts: &mut Counts, place: Place, class: Class, seats: u16) -> bool {
+    let fits = seats <= counts.room(place, class);
+    if fits {
+        counts.take(place, class, seats);
     }
+    fits
+}
 
-    /// Gives seats back; false where so many are not held.
-    fn give(&mut self, legs: Legs, letter: u8, seats: u16) -> bool {
-        let Some(class) = Class::new(letter) else {
-            return false;
-        };
-        let place = place_of(legs);
-        if self.counts.holds(place, class, seats) {
-            self.counts.give(place, class, seats);
-            true
-        } else {
-            false
-        }
+fn give(counts: &mut Counts, place: Place, class: Class, seats: u16) -> bool {
+    let are_held = counts.holds(place, class, seats);
+    if are_held {
+        counts.give(place, class, seats);
     }
+    are_held
+}
 
-    fn holds(&self, legs: Legs, letter: u8, seats: u16) -> bool {
-        match Class::new(letter) {
-            Some(class) => self.counts.holds(place_of(legs), class, seats),
-            None => false,
-        }
+fn set(counts: &mut Counts, place: Place, class: Class, limit: u16, wait: u16) -> bool {
+    let may = counts.can_set(place.flight, place.from, class, limit, wait);
+    if may {
+        counts.set(place.flight, place.from, class, limit, wait);
     }
+    may
+}
 
-    fn room(&self, legs: Legs, letter: u8) -> u16 {
-        match Class::new(letter) {
-            Some(class) => self.counts.room(place_of(legs), class),
-            None => 9999,
-        }
-    }
-
-    fn is(&mut self, holds: bool, why: Why) {
-        if !holds && self.fault.is_none() {
-            self.fault = Some(why);
-        }
-    }
-
-    /// Compares the rooms in F, Y and M.
-    fn has_rooms(&mut self, legs: Legs, rooms: [u16; 3]) {
-        let [f, y, m] = rooms;
-        let is_right = self.room(legs, b'F') == f
-            && self.room(legs, b'Y') == y
-            && self.room(legs, b'M') == m;
-        self.is(is_right, "a room");
-    }
-
-    /// Compares how many seats are held in a class: so many and no more.
-    fn has_held(&mut self, legs: Legs, letter: u8, seats: u16) {
-        let is_right = self.holds(legs, letter, seats)
-            && !self.holds(legs, letter, seats.saturating_add(1));
-        self.is(is_right, "seats that are held");
-    }
-
-    fn takes(&mut self, legs: Legs, letter: u8, seats: u16, fits: bool) {
-        let taken = self.take(legs, letter, seats);
-        self.is(taken == fits, "seats to take");
-    }
-
-    fn gives(&mut self, legs: Legs, letter: u8, seats: u16, fits: bool) {
-        let given = self.give(legs, letter, seats);
-        self.is(given == fits, "seats to give back");
-    }
-
-    fn end(self) -> Result<(), Why> {
-        match self.fault {
-            Some(why) => Err(why),
-            None => Ok(()),
-        }
+fn is_limit(step: Option<Step>, limit: u16, wait: u16) -> bool {
+    match step {
+        Some(step) => step.limit == limit && step.wait == wait,
+        None => false,
     }
 }
 
-/// Ten less six, eight less six, and the least of those and five; then of four.
-fn follow_the_seats(counters: &mut Counters) {
-    let leg = (0, 0, 0);
-    counters.has_rooms(leg, [10, 8, 5]);
-    counters.takes(leg, b'Y', 6, true);
-    counters.has_rooms(leg, [4, 2, 2]);
-    counters.has_held(leg, b'Y', 6);
-    counters.gives(leg, b'Y', 2, true);
-    counters.has_rooms(leg, [6, 4, 4]);
-    counters.takes(leg, b'Y', 5, false);
-    counters.gives(leg, b'Y', 5, false);
-    counters.has_rooms(leg, [6, 4, 4]);
+fn has_classes(ladder: Option<&Ladder>, number: u16) -> bool {
+    match ladder {
+        Some(ladder) => number > 0 && ladder.steps().len() == usize::from(number),
+        None => number == 0,
+    }
 }
 
-fn look_for_nothing(counters: &mut Counters) {
-    let holds = counters.holds((0, 0, 0), b'Q', 0);
-    counters.is(!holds, "a missing class holds nothing");
-    let room = counters.room((0, 0, 0), b'Q');
-    counters.is(room == 0, "a missing class has no room");
-    counters.has_rooms((0, 0, 2), [0, 0, 0]);
-    counters.has_rooms((0, 1, 0), [0, 0, 0]);
-    counters.has_rooms((2, 0, 0), [0, 0, 0]);
+/// Does what a row says, and answers whether it is so.
+fn answer(counts: &mut Counts, row: &Row, class: Class) -> bool {
+    let place = place_of(row.1);
+    let (flight, leg) = (place.flight, place.from);
+    match row.0 {
+        Room => counts.room(place, class) == row.3,
+        Holds => counts.holds(place, class, row.3),
+        Takes => take(counts, place, class, row.3),
+        Gives => give(counts, place, class, row.3),
+        Sets => set(counts, place, class, row.3, row.4),
+        Limit => is_limit(counts.step(flight, leg, class), row.3, row.4),
+        HasClass => counts.step(flight, leg, class).is_some(),
+        Classes => has_classes(counts.ladder(flight, leg), row.3),
+        Fits => counts.fits(place),
+    }
 }
 
-/// The least of eight and seven; the second leg lacks M, and the other flight stays as it was.
-fn follow_both_legs(counters: &mut Counters) {
-    counters.has_rooms((0, 0, 1), [10, 7, 0]);
-    counters.takes((0, 0, 1), b'Y', 6, true);
-    counters.has_rooms((0, 0, 0), [4, 2, 2]);
-    counters.has_rooms((0, 1, 1), [4, 1, 0]);
-    counters.has_held((0, 0, 1), b'Y', 6);
-    counters.has_held((0, 1, 1), b'Y', 6);
-    counters.gives((0, 0, 1), b'F', 1, false);
-    counters.gives((0, 0, 1), b'M', 0, false);
-    counters.gives((0, 1, 1), b'Y', 2, true);
-    counters.has_rooms((0, 0, 0), [4, 2, 2]);
-    counters.has_rooms((0, 1, 1), [6, 3, 0]);
-    counters.has_held((0, 0, 1), b'Y', 4);
-    counters.has_rooms((1, 0, 1), [10, 7, 0]);
+fn is_so(counts: &mut Counts, row: &Row) -> bool {
+    match Class::new(row.2) {
+        Some(class) => answer(counts, row, class) == row.5,
+        None => false,
+    }
+}
+
+/// Goes through the rows with counters of their own.
+fn follow(alloc: Global, rows: &[Row]) -> Result<(), Why> {
+    let mut counts = counts(alloc).ok_or("counters")?;
+    for row in rows {
+        if !is_so(&mut counts, row) {
+            return Err(row.6);
+        }
+    }
+    Ok(())
 }
 
 #[test]
 fn rooms_follow_the_seats(rt: HostRuntime) -> Result<(), Fail> {
-    let mut counters = Counters::new(rt.alloc())?;
-    follow_the_seats(&mut counters);
-    Ok(counters.end()?)
+    follow(rt.alloc(), on_one_leg())?;
+    follow(rt.alloc(), on_nothing())?;
+    Ok(follow(rt.alloc(), on_two_legs())?)
 }
 
 #[test]
-fn what_is_not_there_has_no_room(rt: HostRuntime) -> Result<(), Fail> {
-    let mut counters = Counters::new(rt.alloc())?;
-    look_for_nothing(&mut counters);
-    Ok(counters.end()?)
-}
-
-#[test]
-fn places_of_two_legs(rt: HostRuntime) -> Result<(), Fail> {
-    let mut counters = Counters::new(rt.alloc())?;
-    follow_both_legs(&mut counters);
-    Ok(counters.end()?)
+fn limits_are_set_between_their_neighbours(rt: HostRuntime) -> Result<(), Fail> {
+    follow(rt.alloc(), limits_that_are_set())?;
+    follow(rt.alloc(), limits_that_may_not_be_set())?;
+    follow(rt.alloc(), a_limit_that_is_set_back())?;
+    Ok(follow(rt.alloc(), what_is_there())?)
 }
 
 /// The code of what is wrong with steps, 0 where they are a ladder.
@@ -196,18 +319,15 @@ fn code_of_one(letter: u8, limit: u16, wait: u16) -> u8 {
 }
 
 /// What no text can spell: no step, and more than three digits.
-fn codes() -> [u8; 4] {
-    [
+#[test]
+fn steps_without_a_text(_rt: HostRuntime) -> Result<(), Fail> {
+    let codes = [
         code_of(&[]),
         code_of_one(b'F', 1000, 0),
         code_of_one(b'F', 1, 1000),
         code_of_one(b'F', 999, 999),
-    ]
-}
-
-#[test]
-fn steps_without_a_text(_rt: HostRuntime) -> Result<(), Fail> {
-    if codes() != [1, 4, 4, 0] {
+    ];
+    if codes != [1, 4, 4, 0] {
         Err("L1, L4, L4 and a ladder")?;
     }
     Ok(())

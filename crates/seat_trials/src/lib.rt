@@ -3,21 +3,13 @@
 #![tactic(auto)]
 
 #[cfg(test)]
-mod change_row_tests;
-#[cfg(test)]
-mod change_tests;
-#[cfg(test)]
 mod count_tests;
 #[cfg(test)]
 mod growth_tests;
 #[cfg(test)]
 mod journal_tests;
 #[cfg(test)]
-mod leg_tests;
-#[cfg(test)]
-mod limit_tests;
-#[cfg(test)]
-mod listed_tests;
+mod left_tests;
 #[cfg(test)]
 mod lots;
 #[cfg(test)]
