@@ -1,7 +1,7 @@
 mod Answering
 mod Cuts
-mod Auditing
+pub mod Auditing
 mod ReadWhole
 pub mod Texts
-mod Schedules
-mod Grounds
+pub mod Schedules
+pub mod Grounds

@@ -11,7 +11,7 @@ use Rattle.seat_journal.specs.declared.fault.JournalKind.TheVariants as journal_
 use Rattle.seat_core.specs.declared.fault.ReplayFault.{ReplayFault}
 use Rattle.seat_core.specs.declared.fault.ReplayKind.{ReplayKind}
 use Rattle.seat_core.specs.declared.fault.ReplayKind.TheVariants as replay_kinds
-use Rattle.seat_core.specs.Inventory.{HoldsWithinLimits}
+use Rattle.seat_core.specs.Inventory.{Inventory, HoldsWithinLimits}
 use Rattle.seat_core.specs.Journal.{IsLegal}
 use Rattle.seat_core.specs.Replaying.{replay_fault}
 use Rattle.seat_core.specs.Totals.{totals_of}
@@ -43,6 +43,14 @@ pub record IsAudited (grid : Legs) (bytes line : List ℕ) : Type 0 where
   pub few : length entries ≤ most_lines
   pub within : HoldsWithinLimits grid entries
   pub sums : line ≡ audit_line (totals_of entries)
+
+-- the bytes are the text of a legal history over these limits, and the inventory is what it comes to, after which no leg holds more than the limits that it leaves
+pub record IsReplayOf (grid : Legs) (bytes : List ℕ) (core : Inventory) : Type 0 where
+  pub grid_is : core.grid ≡ grid
+  pub is_text : IsJournalText bytes core.journal
+  pub legal : IsLegal grid core.journal
+  pub few : length core.journal ≤ most_lines
+  pub within : HoldsWithinLimits grid core.journal
 
 -- the fault is the first of the text, or that of the entries that it is the text of
 abbrev pub IsRefusedJournal : Legs → DeskFault → List ℕ → Type 0

@@ -33,6 +33,8 @@ pub enum DeskFault {
     Replay(ReplayFault),
     /// A line of a script is no request. The scripts' sessions count from 1.
     Script { session: u8, fault: ScriptFault },
+    /// A line of the journal is not what its session's script asks at that call, or the script asks more or less.
+    Unasked { session: u8, call: u32 },
     /// A call of a session, to which a full journal gave no line.
     Book { session: u8, call: u32 },
     /// The first day is no day of 2000 to 2099.
@@ -43,6 +45,16 @@ pub enum DeskFault {
     BadToday,
     /// There are more scripts than sessions.
     TooManyScripts,
+    /// The day of departure is no day of 2000 to 2099.
+    BadDay,
+    /// The pair is not two stations of three letters each.
+    BadPair,
+    /// The locator is not six letters and digits.
+    BadLocator,
+    /// The journal has no line of this number.
+    BadLine,
+    /// The file of the journal is an input, or may not be overwritten.
+    BadJournal,
     /// A word of the command line is not UTF-8.
     BadWords,
     /// An input has more bytes than it may have.
@@ -76,11 +88,17 @@ impl fmt::Display for DeskFault {
                 let line = fault.line;
                 write!(f, "{kind} {session} {line}")
             }
+            DeskFault::Unasked { session, call } => write!(f, "P8 {session} {call}"),
             DeskFault::Book { session, call } => write!(f, "B1 {session} {call}"),
             DeskFault::BadFirst => f.write_str("E2 first"),
             DeskFault::BadDays => f.write_str("E2 days"),
             DeskFault::BadToday => f.write_str("E2 today"),
             DeskFault::TooManyScripts => f.write_str("E2 script"),
+            DeskFault::BadDay => f.write_str("E2 day"),
+            DeskFault::BadPair => f.write_str("E2 pair"),
+            DeskFault::BadLocator => f.write_str("E2 locator"),
+            DeskFault::BadLine => f.write_str("E2 line"),
+            DeskFault::BadJournal => f.write_str("E2 journal"),
             DeskFault::BadWords => f.write_str("E2 words"),
             DeskFault::TooLarge => f.write_str("R2"),
             DeskFault::Device => f.write_str("DEVICE"),
@@ -99,6 +117,11 @@ impl DeskFault {
             | DeskFault::BadDays
             | DeskFault::BadToday
             | DeskFault::TooManyScripts
+            | DeskFault::BadDay
+            | DeskFault::BadPair
+            | DeskFault::BadLocator
+            | DeskFault::BadLine
+            | DeskFault::BadJournal
             | DeskFault::BadWords => 2,
             DeskFault::Device | DeskFault::Memory => 3,
             _ => 1,

@@ -15,13 +15,13 @@ mod orders;
 mod streams;
 mod text;
 
-pub use audit::desk_audit;
-pub use check::desk_check;
+pub use audit::{MOST_JOURNAL_BYTES, audit_line, desk_audit, replayed};
+pub use check::{MOST_SET_BYTES, desk_check};
 pub use fault::DeskFault;
-pub use flights::desk_flights;
+pub use flights::{desk_flights, scheduled};
 pub use inputs::Inputs;
 pub use ladder::desk_ladder;
 pub use laws::{loaded_ladders_differ, loaded_replays_keep_limits};
-pub use loading::{Loaded, load};
+pub use loading::{Loaded, MOST_LIMIT_BYTES, limit_rows, load};
 pub use streams::read_input;
 pub use text::{put, put_number};
