@@ -1,0 +1,9 @@
+mod Covers
+mod Grounds
+mod RoomGrounds
+mod RoomTexts
+pub mod Making
+pub mod Picking
+pub mod LiveTexts
+mod Reasons
+mod Standings

@@ -1,0 +1,32 @@
+use Rattle.std.proofs.Common.{ap, subst, sym, ◌∙◌}
+use Rattle.seat_core.specs.Applying.{IsOrdered}
+use Rattle.seat_core.specs.Inventory.{state_now}
+use Rattle.seat_questions.specs.LiveBookings.{numbered, own}
+use Rattle.seat_questions.proofs.Picking.{in_order, made_asked, made_fits, made_found, made_none, made_unasked}
+use Rattle.seat_questions.proofs.bookings.made_by.Goals as goal
+
+pub with_number-requires : goal.with_number-requires
+with_number-requires c = subst IsOrdered (sym c.bookings_on.ensures) (in_order c.args.core.now.grid c.args.core.now.journal c.in-Some.place.flight c.requires.legal)
+
+pub returns-in-Some-clause-found : goal.returns-in-Some-clause-found
+returns-in-Some-clause-found c =
+    made_found c.with_number.result (own c.args.locator c.args.line.now.number (state_now c.args.core.now).bookings) (numbered c.args.line.now.number c.bookings_on.result.now)
+    (made_asked c.args.core.now.grid c.args.core.now.journal c.args.line.now c.args.locator c.in-Some.place c.requires.legal c.requires.line (sym c.asked_under.ensures ∙ c.in-Some.is)
+    ∙ ap (numbered c.args.line.now.number) (sym c.bookings_on.ensures)) c.with_number.ensures.found
+
+pub returns-in-Some-clause-fits : goal.returns-in-Some-clause-fits
+returns-in-Some-clause-fits c =
+    made_fits c.with_number.result c.args.core.now.grid c.args.core.now.journal c.args.locator c.args.line.now.number c.requires.legal
+    (made_found c.with_number.result (own c.args.locator c.args.line.now.number (state_now c.args.core.now).bookings) (numbered c.args.line.now.number c.bookings_on.result.now)
+    (made_asked c.args.core.now.grid c.args.core.now.journal c.args.line.now c.args.locator c.in-Some.place c.requires.legal c.requires.line (sym c.asked_under.ensures ∙ c.in-Some.is)
+    ∙ ap (numbered c.args.line.now.number) (sym c.bookings_on.ensures)) c.with_number.ensures.found)
+
+pub returns-in-Some-clause-none : goal.returns-in-Some-clause-none
+returns-in-Some-clause-none c =
+    made_none c.with_number.result (own c.args.locator c.args.line.now.number (state_now c.args.core.now).bookings) (numbered c.args.line.now.number c.bookings_on.result.now)
+    (made_asked c.args.core.now.grid c.args.core.now.journal c.args.line.now c.args.locator c.in-Some.place c.requires.legal c.requires.line (sym c.asked_under.ensures ∙ c.in-Some.is)
+    ∙ ap (numbered c.args.line.now.number) (sym c.bookings_on.ensures)) c.with_number.ensures.none
+
+pub returns-in-None-clause-none : goal.returns-in-None-clause-none
+returns-in-None-clause-none c =
+    made_unasked c.args.core.now.grid c.args.core.now.journal c.args.line.now c.args.locator c.requires.legal c.requires.line (sym c.asked_under.ensures ∙ c.in-None.is)

@@ -1,0 +1,15 @@
+use Rattle.seat_desk.proofs.Grounds.{load_refused}
+use Rattle.seat_questions.proofs.Grounds.{ground_whole}
+use Rattle.seat_questions.proofs.ground.load_rows.Goals as goal
+
+pub returns-in-Err-clause-fault : goal.returns-in-Err-clause-fault
+returns-in-Err-clause-fault g c =
+    load_refused (g.S.Read.remaining c.args.inputs.now.set) (g.L.Read.remaining c.args.inputs.now.limits) c.args.inputs.now.first c.args.inputs.now.days c.in-Err.fault c.in_ok-bytes.bytes.items c.deref.result.now c.in_ok-bytes-2.bytes.items c.deref-2.result.now
+    c.in_ok-flights.flights c.deref.ensures.value c.in_ok-bytes.ensures.whole c.in_ok-bytes.ensures.within c.in_ok-flights.ensures.ok
+    c.deref-2.ensures.value c.in_ok-bytes-2.ensures.whole c.in-Err.ensures.fault
+
+pub returns-clause-ok : goal.returns-clause-ok
+returns-clause-ok g c =
+    ground_whole (g.S.Read.remaining c.args.inputs.now.set) (g.L.Read.remaining c.args.inputs.now.limits) c.args.inputs.now.first c.args.inputs.now.days c.in_ok-bytes.bytes.items c.deref.result.now c.in_ok-bytes-2.bytes.items c.deref-2.result.now
+    c.in_ok-flights.flights c.in-Ok.rows c.deref.ensures.value c.in_ok-bytes.ensures.whole c.in_ok-bytes.ensures.within c.in_ok-flights.ensures.ok
+    c.deref-2.ensures.value c.in_ok-bytes-2.ensures.whole c.in_ok-bytes-2.ensures.within c.in-Ok.ensures.ok

@@ -1,0 +1,11 @@
+-- The classes so far are written, and those that are left make the text whole.
+use Rattle.std.proofs.Common.{◌≡◌, ◌++◌, drop}
+use Rattle.seat_core.specs.Bookings.{held}
+use Rattle.seat_core.specs.Inventory.{state_now}
+use Rattle.seat_questions.specs.Why.{held_texts}
+use Rattle.seat_questions.proofs.legs.put_each_held.Given as goal
+
+abbrev pub invariant-loop-i : goal.invariant-loop-i
+invariant-loop-i l =
+    l.text.items ++ held_texts (held (state_now l.core).bookings l.flight l.leg) (drop l.i l.steps)
+    ≡ l.initial.text.items ++ held_texts (held (state_now l.core).bookings l.flight l.leg) l.steps

@@ -1,0 +1,9 @@
+-- The rooms so far are written.
+use Rattle.std.proofs.Common.{◌≡◌, ◌++◌, take}
+use Rattle.std.specs.List.{flat_map}
+use Rattle.seat_core.specs.Inventory.{state_now}
+use Rattle.seat_questions.specs.Why.{room_text}
+use Rattle.seat_questions.proofs.legs.put_each_room.Given as goal
+
+abbrev pub invariant-loop-step : goal.invariant-loop-step
+invariant-loop-step l = l.text.items ≡ l.initial.text.items ++ flat_map (room_text (state_now l.core) l.flight l.leg) (take l.step-index l.steps)

@@ -1,0 +1,107 @@
+-- What `cover` writes: the limit rows that are for no leg, the legs without a row, and how many there are of both.
+use Rattle.std.specs.Prelude.{◌≡◌, ℕ, Bool, true, false, List, [], ◌∷◌, ◌++◌, length, count_by, decimal, codes, IfSome}
+use Rattle.std.specs.List.{list_any, sum_by}
+use Rattle.ssim_flights.specs.declared.flight.DatedLeg.{DatedLeg}
+use Rattle.ssim_flights.specs.declared.flight.Flight.{Flight as Flown}
+use Rattle.seat_nesting.specs.Authorised.{is_for, leg_pair}
+use Rattle.seat_nesting.specs.declared.limit_row.LimitRow.{LimitRow}
+use Rattle.seat_desk.specs.FlightsDesk.{IsLegText, IsText, suffix_text}
+use Rattle.seat_desk.specs.Loading.{Bytes}
+use Rattle.seat_desk.specs.declared.inputs.Inputs.{Inputs}
+use Rattle.seat_questions.specs.Ground.{IsGround}
+
+-- the row is for the leg, as authorised seats have it
+abbrev pub is_row_of : LimitRow → Flown → DatedLeg → Bool
+is_row_of row flight leg = is_for (leg_pair flight leg) leg.day row
+
+-- some row is for the leg
+abbrev pub has_row : List LimitRow → Flown → DatedLeg → Bool
+has_row rows flight leg = list_any (λ row. is_row_of row flight leg) rows
+
+-- the row is for some leg: of the flight, of any flight
+abbrev pub is_on : LimitRow → Flown → Bool
+is_on row flight = list_any (λ (leg : DatedLeg). is_row_of row flight leg) flight.legs
+
+abbrev pub has_leg : List Flown → LimitRow → Bool
+has_leg flights row = list_any (λ flight. is_on row flight) flights
+
+-- ROW N NO LEG, where it is for none
+abbrev pub row_text : ℕ → Bool → List ℕ
+row_text n true = []
+row_text n false = codes "ROW " ++ decimal n ++ codes " NO LEG" ++ 10 ∷ []
+
+abbrev pub IsRowPart : List Flown → ℕ → LimitRow → List ℕ → Type 0
+IsRowPart flights n row text = text ≡ row_text n (has_leg flights row)
+
+abbrev pub designator_text : Flown → List ℕ
+designator_text flight = flight.airline ++ decimal flight.number ++ suffix_text flight.suffix
+
+-- LEG I.J DESIGNATOR
+abbrev pub bare_head : ℕ → Flown → ℕ → List ℕ
+bare_head i flight j = codes "LEG " ++ decimal i ++ codes "." ++ decimal j ++ codes " " ++ designator_text flight
+
+-- LEG I.J DESIGNATOR BOARD/DAY/OFF NO ROW
+abbrev pub IsBareText : ℕ → Flown → ℕ → DatedLeg → List ℕ → Type 0
+IsBareText i flight j leg text = (way : List ℕ) × IsLegText 0 leg way × (text ≡ bare_head i flight j ++ way ++ codes " NO ROW" ++ 10 ∷ [])
+
+-- where it has no row
+abbrev pub IsLegTextBy : Bool → ℕ → Flown → ℕ → DatedLeg → List ℕ → Type 0
+IsLegTextBy true i flight j leg text = text ≡ []
+IsLegTextBy false i flight j leg text = IsBareText i flight j leg text
+
+abbrev pub IsLegPart : List LimitRow → ℕ → Flown → ℕ → DatedLeg → List ℕ → Type 0
+IsLegPart rows i flight j leg text = IsLegTextBy (has_row rows flight leg) i flight j leg text
+
+-- such a line is written behind what was there
+pub record IsBarePut (i : ℕ) (flight : Flown) (j : ℕ) (leg : DatedLeg) (old new : List ℕ) : Type 0 where
+  pub line : List ℕ
+  pub is_line : IsBareText i flight j leg line
+  pub written : new ≡ old ++ line
+
+-- such a part is
+pub record IsLegPut (rows : List LimitRow) (i : ℕ) (flight : Flown) (j : ℕ) (leg : DatedLeg) (old new : List ℕ) : Type 0 where
+  pub part : List ℕ
+  pub is_part : IsLegPart rows i flight j leg part
+  pub written : new ≡ old ++ part
+
+abbrev pub IsFlightPart : List LimitRow → ℕ → Flown → List ℕ → Type 0
+IsFlightPart rows i flight text = IsText (IsLegPart rows i flight) 0 flight.legs text
+
+-- the legs of a flight, and those of them that have a row
+abbrev pub leg_count : Flown → ℕ
+leg_count flight = length flight.legs
+
+abbrev pub covered_legs : List LimitRow → Flown → ℕ
+covered_legs rows flight = count_by (has_row rows flight) flight.legs
+
+-- A of B
+abbrev pub share_text : ℕ → ℕ → List ℕ
+share_text a b = decimal a ++ codes " of " ++ decimal b
+
+-- COVERED legs A of B rows C of D
+abbrev pub sums_text : ℕ → ℕ → ℕ → ℕ → List ℕ
+sums_text a b c d = codes "COVERED legs " ++ share_text a b ++ codes " rows " ++ share_text c d ++ 10 ∷ []
+
+abbrev pub covered_line : List LimitRow → List Flown → List ℕ
+covered_line rows flights =
+    sums_text (sum_by (covered_legs rows) flights) (sum_by leg_count flights) (count_by (has_leg flights) rows) (length rows)
+
+-- the rows, counted from 1; the legs, flights and legs counted from 0; and the sums
+pub record IsCoverText (rows : List LimitRow) (flights : List Flown) (text : List ℕ) : Type 0 where
+  pub of_rows : List ℕ
+  pub of_legs : List ℕ
+  pub are_rows : IsText (IsRowPart flights) 1 rows of_rows
+  pub are_legs : IsText (IsFlightPart rows) 0 flights of_legs
+  pub written : text ≡ of_rows ++ of_legs ++ covered_line rows flights
+
+-- the text is that of the rows and flights of these inputs
+pub record IsCover (set limits : List ℕ) (first days : ℕ) (text : List ℕ) : Type 0 where
+  pub flights : List Flown
+  pub rows : List LimitRow
+  pub is_ground : IsGround set limits first days flights rows
+  pub is_text : IsCoverText rows flights text
+
+-- where the bytes of both are known
+abbrev pub IsCoverOf : {S L : Type 0} → Bytes S → Bytes L → Inputs S L → List ℕ → Type 0
+IsCoverOf set limits inputs text =
+    IfSome (set inputs.set) (λ xs. IfSome (limits inputs.limits) (λ ys. IsCover xs ys inputs.first inputs.days text))

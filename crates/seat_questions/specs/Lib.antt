@@ -1,0 +1,5 @@
+pub mod Cover
+pub mod Ground
+pub mod Rooms
+pub mod LiveBookings
+pub mod Why

@@ -1,0 +1,179 @@
+-- What `rooms` writes: one line for each place of a flight, with the seats that are left on it in each class.
+use Rattle.std.specs.Prelude.{◌≡◌, ◌≤◌, ℕ, zero, suc, ◌-◌, ◌*◌, ◌/◌, ◌==◌, ◌&&◌, nat_eq, Bool, true, false, if◌then◌else◌, List, [], ◌∷◌, ◌++◌, length, drop, decimal, codes, Option, Some, None, IfSome}
+use Rattle.std.specs.List.{flat_map}
+use Rattle.std.specs.Cmp.Lexicographic.{pointwise}
+use Rattle.ssim_records.specs.declared.place.Place.{Place}
+use Rattle.ssim_flights.specs.declared.flight.DatedLeg.{DatedLeg}
+use Rattle.ssim_flights.specs.declared.flight.Flight.{Flight as Flown}
+use Rattle.seat_nesting.specs.Nesting.{ByClass, Legs, Steps, held_from, ladder_at}
+use Rattle.seat_nesting.specs.declared.ladder.Step.{Step}
+use Rattle.seat_journal.specs.Text.{IsJournalText}
+use Rattle.seat_journal.specs.declared.entry.Entry.{Entry}
+use Rattle.seat_core.specs.Bookings.{held}
+use Rattle.seat_core.specs.Journal.{IsLegal, replay}
+use Rattle.seat_core.specs.Sequential.{State, room_left}
+use Rattle.seat_desk.specs.AuditDesk.{most_journal_bytes, most_lines}
+use Rattle.seat_desk.specs.FlightsDesk.{IsLegText, IsText, head_text}
+use Rattle.seat_desk.specs.Loading.{Bytes, IsLoaded}
+use Rattle.seat_desk.specs.declared.inputs.Inputs.{Inputs}
+use Rattle.seat_questions.specs.declared.rooms.Asked.{Asked}
+use Rattle.seat_questions.specs.declared.rooms.Bars.{Bars}
+use Rattle.seat_questions.specs.declared.rooms.Bars.TheVariants.{Plain, Blocks}
+use Rattle.seat_questions.specs.declared.rooms.CityPair.{CityPair}
+
+-- ---- places
+
+-- the legs `from` to `to` of flight i
+abbrev pub place_of : ℕ → ℕ → ℕ → Place
+place_of i from to = record { flight = i; from = from; to = to }
+
+-- a run of legs as one leg: the board point and the day of the first, the off point of the last
+abbrev pub run_of : DatedLeg → DatedLeg → DatedLeg
+run_of first last = record { board = first.board; off = last.off; day = first.day }
+
+-- each day is kept, or the one that is asked for
+abbrev pub keeps_day : Option ℕ → ℕ → Bool
+keeps_day None day = true
+keeps_day (Some asked) day = day == asked
+
+-- each city pair is kept, or the one that is asked for
+abbrev pub keeps_pair : Option CityPair → DatedLeg → Bool
+keeps_pair None run = true
+keeps_pair (Some pair) run = pointwise nat_eq run.board pair.board && pointwise nat_eq run.off pair.off
+
+abbrev pub keeps : Asked → DatedLeg → Bool
+keeps asked run = keeps_day asked.day run.day && keeps_pair asked.pair run
+
+-- ---- rooms
+
+-- a blank, the class and its room on the place
+abbrev pub room_text : State → Place → Step → List ℕ
+room_text state place step = codes " " ++ (step.class ∷ []) ++ decimal (room_left state place step.class)
+
+-- the room of each class that the place's first leg has, in the order of its ladder
+abbrev pub rooms_text : State → Place → List ℕ
+rooms_text state place = flat_map (room_text state place) (ladder_at state.grid place.flight place.from)
+
+-- ROOM, and these
+abbrev pub rooms_part : State → Place → List ℕ
+rooms_part state place = codes " ROOM" ++ rooms_text state place
+
+-- ---- bars
+
+-- how many of the 20 characters of a bar stand for held seats
+abbrev pub filled : ℕ → ℕ → ℕ
+filled held limit = (if limit == 0 then 0 else held * 20 / limit)
+
+-- the same bytes n times
+abbrev pub times : ℕ → List ℕ → List ℕ
+times zero bytes = []
+times (suc n) bytes = bytes ++ times n bytes
+
+-- `#` and `.`, or U+2588 and U+00B7 in UTF-8
+abbrev pub full_mark : Bars → List ℕ
+full_mark Plain = codes "#"
+full_mark Blocks = 226 ∷ 150 ∷ 136 ∷ []
+
+abbrev pub empty_mark : Bars → List ℕ
+empty_mark Plain = codes "."
+empty_mark Blocks = 194 ∷ 183 ∷ []
+
+abbrev pub bar : Bars → ℕ → List ℕ
+bar bars n = times n (full_mark bars) ++ times (20 - n) (empty_mark bars)
+
+-- HELD/LIMIT behind a blank, and the end of the line
+abbrev pub bar_share : ℕ → ℕ → List ℕ
+bar_share held limit = codes " " ++ decimal held ++ codes "/" ++ decimal limit ++ 10 ∷ []
+
+-- the class, its bar, and the seats that are held in it and those below it, of its limit
+abbrev pub bar_line : Bars → ℕ → ℕ → ℕ → List ℕ
+bar_line bars class held limit = (class ∷ []) ++ codes " " ++ bar bars (filled held limit) ++ bar_share held limit
+
+-- such a line for each of these ranks, from the highest down
+abbrev pub bar_lines : Bars → ByClass → Steps → List ℕ
+bar_lines bars seats [] = []
+bar_lines bars seats (s ∷ lower) = bar_line bars s.class (held_from seats (s ∷ lower)) s.limit ++ bar_lines bars seats lower
+
+-- those of one leg
+abbrev pub leg_bars : Bars → State → ℕ → ℕ → List ℕ
+leg_bars bars state i leg = bar_lines bars (held state.bookings i leg) (ladder_at state.grid i leg)
+
+-- those of a place, where it is one leg
+abbrev pub place_bars : Bars → State → Place → List ℕ
+place_bars bars state place = (if place.from == place.to then leg_bars bars state place.flight place.from else [])
+
+-- and where they are asked for
+abbrev pub bars_text : Option Bars → State → Place → List ℕ
+bars_text None state place = []
+bars_text (Some bars) state place = place_bars bars state place
+
+-- ---- lines
+
+-- INDEX DESIGNATOR BOARD/DAY/OFF ROOM and the rooms, and the bars below
+abbrev pub IsPlaceText : Option Bars → State → Flown → Place → DatedLeg → List ℕ → Type 0
+IsPlaceText bars state flight place run text = (way : List ℕ) × IsLegText 0 run way
+    × (text ≡ (head_text place.flight flight ++ way ++ rooms_part state place ++ 10 ∷ []) ++ bars_text bars state place)
+
+-- where the place is kept
+abbrev pub IsPlaceTextBy : Bool → Option Bars → State → Flown → Place → DatedLeg → List ℕ → Type 0
+IsPlaceTextBy true bars state flight place run text = IsPlaceText bars state flight place run text
+IsPlaceTextBy false bars state flight place run text = text ≡ []
+
+abbrev pub IsRunText : Asked → State → Flown → Place → DatedLeg → List ℕ → Type 0
+IsRunText asked state flight place run text = IsPlaceTextBy (keeps asked run) asked.bars state flight place run text
+
+-- the place that ends with this leg
+abbrev pub IsLastPart : Asked → State → ℕ → Flown → ℕ → DatedLeg → ℕ → DatedLeg → List ℕ → Type 0
+IsLastPart asked state i flight from first to last text = IsRunText asked state flight (place_of i from to) (run_of first last) text
+
+-- the places that begin with this leg
+abbrev pub IsFirstPart : Asked → State → ℕ → Flown → ℕ → DatedLeg → List ℕ → Type 0
+IsFirstPart asked state i flight from first text = IsText (IsLastPart asked state i flight from first) from (drop from flight.legs) text
+
+-- the places of a flight, by first leg and then by last leg
+abbrev pub IsFlightPart : Asked → State → ℕ → Flown → List ℕ → Type 0
+IsFlightPart asked state i flight text = IsText (IsFirstPart asked state i flight) 0 flight.legs text
+
+-- those of all flights, flights and legs counted from 0
+abbrev pub IsRoomsText : Asked → State → List Flown → List ℕ → Type 0
+IsRoomsText asked state flights text = IsText (IsFlightPart asked state) 0 flights text
+
+-- a text with such a property is written behind what was there
+pub record IsAdded (IsPart : List ℕ → Type 0) (old new : List ℕ) : Type 0 where
+  pub part : List ℕ
+  pub is_part : IsPart part
+  pub written : new ≡ old ++ part
+
+-- ---- the answer
+
+-- the bytes are the text of a legal history over these limits, and the text lists the rooms that it leaves
+pub record AreRoomsAfter (asked : Asked) (flights : List Flown) (grid : Legs) (journal text : List ℕ) : Type 0 where
+  pub entries : List Entry
+  pub is_text : IsJournalText journal entries
+  pub legal : IsLegal grid entries
+  pub few : length entries ≤ most_lines
+  pub listed : IsRoomsText asked (replay grid entries) flights text
+
+-- the text lists the rooms that the journal, which is not too large, leaves over the limits of these inputs
+pub record AreRooms (asked : Asked) (set limits : List ℕ) (first days : ℕ) (journal text : List ℕ) : Type 0 where
+  pub flights : List Flown
+  pub grid : Legs
+  pub is_loaded : IsLoaded set limits first days flights grid
+  pub within : length journal ≤ most_journal_bytes
+  pub are_rooms : AreRoomsAfter asked flights grid journal text
+
+-- the text lists the rooms of the limits of these inputs before any line
+pub record AreOpeningRooms (asked : Asked) (set limits : List ℕ) (first days : ℕ) (text : List ℕ) : Type 0 where
+  pub flights : List Flown
+  pub grid : Legs
+  pub is_loaded : IsLoaded set limits first days flights grid
+  pub listed : IsRoomsText asked (replay grid []) flights text
+
+-- where the bytes of the inputs are known
+abbrev pub AreRoomsOf : {S L : Type 0} → Bytes S → Bytes L → Inputs S L → Asked → Option (List ℕ) → List ℕ → Type 0
+AreRoomsOf set limits inputs asked journal text =
+    IfSome (set inputs.set) (λ xs. IfSome (limits inputs.limits) (λ ys. IfSome journal (λ zs. AreRooms asked xs ys inputs.first inputs.days zs text)))
+
+abbrev pub AreOpeningRoomsOf : {S L : Type 0} → Bytes S → Bytes L → Inputs S L → Asked → List ℕ → Type 0
+AreOpeningRoomsOf set limits inputs asked text =
+    IfSome (set inputs.set) (λ xs. IfSome (limits inputs.limits) (λ ys. AreOpeningRooms asked xs ys inputs.first inputs.days text))

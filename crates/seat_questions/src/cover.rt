@@ -1,0 +1,286 @@
+//! `cover`: the limit rows that are for no leg, and the legs that have no row.
+ghost use Rattle.std.specs.Prelude.{if◌then◌else◌, ◌≡◌, ℕ, List, ◌≢◌, ◌++◌, ◌*◌, ◌+◌, ◌<◌, ◌≤◌, ◌⊎◌, IfErr, IfOk, OnOk, decimal, codes, length, count_by};
+ghost use Rattle.std.specs.List.{list_any, sum_by};
+ghost use Rattle.ssim_flights.specs.Right.{IsOfCentury};
+ghost use Rattle.seat_nesting.specs.Authorised.{holds_day, is_for, leg_pair, row_pair, same_pair};
+ghost use Rattle.seat_desk.specs.Desk.{InputFailed, IsOfInput, IsWritten, OutputFailed};
+ghost use Rattle.seat_desk.specs.FlightsDesk.{IsLegText, IsPut, suffix_text};
+ghost use Rattle.seat_desk.specs.Loading.{HaveFailed, IsRefusedLoadOf, IsTooLargeLoadOf};
+ghost use Rattle.seat_questions.specs.Cover.{IsBarePut, IsCoverOf, IsCoverText, IsFlightPart, IsLegPart, IsLegPut, IsRowPart, bare_head, covered_legs, sums_text, designator_text, has_leg, has_row, is_on, is_row_of, leg_count, row_text, share_text};
+
+use crate::ground::load_rows;
+use seat_desk::{DeskFault, Inputs, put, put_number};
+use seat_nesting::LimitRow;
+use ssim_flights::{DatedLeg, Flight, Flights};
+use ssim_records::{NotedRead, NotedWrite, put_all};
+use std::alloc::{AllocError, Global};
+
+/// Writes a line for each limit row that is for no leg, one for each dated leg without a row, and last how many
+/// legs have a row and how many rows a leg. Each input is read and checked before the next is read.
+/// The first day is in 2000 to 2099, `days` is 1 to 366; a set has at most 256 MiB, limit rows at most 16 MiB.
+pub fn desk_cover<S: NotedRead, L: NotedRead, W: NotedWrite>(
+    alloc: Global,
+    inputs: &mut Inputs<S, L>,
+    out: &mut W,
+) -> Result<(), DeskFault>
+    requires first { IsOfCentury inputs.old.first }
+    requires days { (1 ≤ inputs.old.days) × (inputs.old.days ≤ 366) }
+    ensures ok { OnOk result (IsWritten (IsCoverOf S.remaining L.remaining inputs.old) (W.contents out.old) (W.contents out.new)) }
+    ensures fault { IfErr result (λ f. IsOfInput f → IsRefusedLoadOf S.remaining L.remaining inputs.old f) }
+    ensures large { IfErr result (λ f. f ≡ DeskFault.TooLarge → IsTooLargeLoadOf S.remaining L.remaining inputs.old) }
+    ensures device { IfErr result (λ f. f ≡ DeskFault.Device →
+        InputFailed (HaveFailed S.failure_count L.failure_count inputs.old inputs.new) out.old out.new
+        ⊎ OutputFailed W.failure_count W.contents out.old out.new (IsCoverOf S.remaining L.remaining inputs.old)) }
+    ensures untouched { IfErr result (λ f. f ≢ DeskFault.Device → out.new ≡ out.old) }
+{
+    let ground = load_rows(alloc, inputs)?;
+    let text = covered(alloc, &ground.flights, ground.rows.as_slice())?;
+    match put_all(out, &text) {
+        Ok(()) => Ok(()),
+        Err(_) => Err(DeskFault::Device),
+    }
+}
+
+/// What rows and legs miss of each other.
+fn covered(alloc: Global, flights: &Flights, rows: &[LimitRow]) -> Result<Vec<u8>, DeskFault>
+    ensures ok { IfOk result (λ text. IsCoverText rows.now flights.now text.items) }
+    ensures memory { IfErr result (λ f. f ≡ DeskFault.Memory) }
+{
+    match text_of(alloc, flights, rows) {
+        Ok(text) => Ok(text),
+        Err(_) => Err(DeskFault::Memory),
+    }
+}
+
+fn text_of(alloc: Global, flights: &Flights, rows: &[LimitRow]) -> Result<Vec<u8>, AllocError>
+    ensures { IfOk result (λ text. IsCoverText rows.now flights.now text.items) }
+{
+    let mut text = Vec::new(alloc);
+    let found = put_rows(&mut text, flights, rows)?;
+    let covered = put_flights(&mut text, flights, rows)?;
+    put_sums(
+        &mut text,
+        covered,
+        legs_of(flights),
+        found,
+        rows.len() as u64,
+    )?;
+    Ok(text)
+}
+
+/// Adds the last line.
+fn put_sums(text: &mut Vec<u8>, a: u64, b: u64, c: u64, d: u64) -> Result<(), AllocError>
+    ensures { OnOk result (text.new.items ≡ text.old.items ++ sums_text a b c d) }
+{
+    put(text, b"COVERED legs ")?;
+    put_share(text, a, b)?;
+    put(text, b" rows ")?;
+    put_share(text, c, d)?;
+    put(text, b"\n")?;
+    Ok(())
+}
+
+fn put_share(text: &mut Vec<u8>, a: u64, b: u64) -> Result<(), AllocError>
+    ensures { OnOk result (text.new.items ≡ text.old.items ++ share_text a b) }
+{
+    put_number(text, a)?;
+    put(text, b" of ")?;
+    put_number(text, b)
+}
+
+/// Adds a line for each row that is for no leg, and answers how many are for one.
+fn put_rows(text: &mut Vec<u8>, flights: &Flights, rows: &[LimitRow]) -> Result<u64, AllocError>
+    ensures put { OnOk result (IsPut (IsRowPart flights.now) 1 rows.now text.old.items text.new.items) }
+    ensures count { IfOk result (λ n. n ≡ count_by (has_leg flights.now) rows.now) }
+{
+    let mut count = 0u64;
+    for i in 0..rows.len() {
+        count += put_row(text, i as u64 + 1, flights, &rows[i])?;
+    }
+    Ok(count)
+}
+
+/// Adds the line of a row, if it is for no leg. Else it counts 1.
+fn put_row(text: &mut Vec<u8>, n: u64, flights: &Flights, row: &LimitRow) -> Result<u64, AllocError>
+    ensures put { OnOk result (text.new.items ≡ text.old.items ++ row_text n (has_leg flights.now row.now)) }
+    ensures count { IfOk result (λ c. c ≡ (if has_leg flights.now row.now then 1 else 0)) }
+{
+    if has_leg(row, flights) {
+        return Ok(1);
+    }
+    put(text, b"ROW ")?;
+    put_number(text, n)?;
+    put(text, b" NO LEG\n")?;
+    Ok(0)
+}
+
+/// Whether a row is for some leg.
+fn has_leg(row: &LimitRow, flights: &Flights) -> bool
+    ensures { result ≡ has_leg flights.now row.now }
+{
+    for i in 0..flights.len() {
+        if is_on(row, flights.flight(i)) {
+            return true;
+        }
+    }
+    false
+}
+
+/// Whether a row is for some leg of a flight.
+fn is_on(row: &LimitRow, flight: &Flight) -> bool
+    ensures { result ≡ is_on row.now flight.now }
+{
+    flight
+        .legs
+        .as_slice()
+        .iter()
+        .any(|leg| is_row_of(row, flight, leg))
+}
+
+/// Whether some row is for a leg.
+fn has_row(rows: &[LimitRow], flight: &Flight, leg: &DatedLeg) -> bool
+    ensures { result ≡ has_row rows.now flight.now leg.now }
+{
+    rows.iter().any(|row| is_row_of(row, flight, leg))
+}
+
+/// Whether a row is for a leg: it has its airline, number, suffix and city pair, and its period holds its day.
+fn is_row_of(row: &LimitRow, flight: &Flight, leg: &DatedLeg) -> bool
+    ensures { result ≡ is_row_of row.now flight.now leg.now }
+{
+    is_of_pair(row, flight, leg) && holds_day(row, leg)
+}
+
+fn is_of_pair(row: &LimitRow, flight: &Flight, leg: &DatedLeg) -> bool
+    ensures { result ≡ same_pair (row_pair row.now) (leg_pair flight.now leg.now) }
+{
+    row.airline == flight.airline
+        && (row.number == flight.number
+            && (row.suffix == flight.suffix && (row.board == leg.board && row.off == leg.off)))
+}
+
+fn holds_day(row: &LimitRow, leg: &DatedLeg) -> bool
+    ensures { result ≡ holds_day row.now leg.now.day }
+{
+    row.from.number() <= leg.day.number() && leg.day.number() <= row.to.number()
+}
+
+/// How many legs there are.
+fn legs_of(flights: &Flights) -> u64
+    ensures { result ≡ sum_by leg_count flights.now }
+{
+    let mut count = 0u64;
+    for i in 0..flights.len() {
+        count += flights.flight(i).legs.len() as u64;
+    }
+    count
+}
+
+/// Adds a line for each leg without a row, and answers how many have one.
+fn put_flights(text: &mut Vec<u8>, flights: &Flights, rows: &[LimitRow]) -> Result<u64, AllocError>
+    ensures put { OnOk result (IsPut (IsFlightPart rows.now) 0 flights.now text.old.items text.new.items) }
+    ensures count { IfOk result (λ n. n ≡ sum_by (covered_legs rows.now) flights.now) }
+{
+    let mut count = 0u64;
+    for i in 0..flights.len() {
+        count += put_legs(text, i, flights.flight(i), rows)?;
+    }
+    Ok(count)
+}
+
+/// The same for one flight.
+fn put_legs(
+    text: &mut Vec<u8>,
+    index: u32,
+    flight: &Flight,
+    rows: &[LimitRow],
+) -> Result<u64, AllocError>
+    requires { length flight.now.legs ≤ 8 }
+    ensures put { OnOk result (IsPut (IsLegPart rows.now index flight.now) 0 flight.now.legs text.old.items text.new.items) }
+    ensures count { IfOk result (λ n. n ≡ covered_legs rows.now flight.now) }
+    ensures few { IfOk result (λ n. n ≤ 8) }
+{
+    let legs = flight.legs.as_slice();
+    let mut count = 0u64;
+    for j in 0..legs.len() {
+        count += put_leg(text, index, j as u64, flight, &legs[j], rows)?;
+    }
+    Ok(count)
+}
+
+/// Adds the line of a leg, if it has no row. Else it counts 1.
+#[tactic(auto, using(crate::proofs::Covers::leg_covered, crate::proofs::Covers::leg_bare))]
+fn put_leg(
+    text: &mut Vec<u8>,
+    index: u32,
+    j: u64,
+    flight: &Flight,
+    leg: &DatedLeg,
+    rows: &[LimitRow],
+) -> Result<u64, AllocError>
+    ensures put { OnOk result (IsLegPut rows.now index flight.now j leg.now text.old.items text.new.items) }
+    ensures count { IfOk result (λ n. n ≡ (if has_row rows.now flight.now leg.now then 1 else 0)) }
+{
+    if has_row(rows, flight, leg) {
+        return Ok(1);
+    }
+    put_bare(text, index, j, flight, leg)?;
+    Ok(0)
+}
+
+/// Adds the line of a leg without a row.
+#[tactic(auto, using(crate::proofs::Covers::leg_line))]
+fn put_bare(
+    text: &mut Vec<u8>,
+    index: u32,
+    j: u64,
+    flight: &Flight,
+    leg: &DatedLeg,
+) -> Result<(), AllocError>
+    ensures { OnOk result (IsBarePut index flight.now j leg.now text.old.items text.new.items) }
+{
+    put_head(text, index, j, flight)?;
+    put_way(text, leg)?;
+    put(text, b" NO ROW\n")?;
+    Ok(())
+}
+
+fn put_head(text: &mut Vec<u8>, index: u32, j: u64, flight: &Flight) -> Result<(), AllocError>
+    ensures { OnOk result (text.new.items ≡ text.old.items ++ bare_head index flight.now j) }
+{
+    put(text, b"LEG ")?;
+    put_number(text, u64::from(index))?;
+    put(text, b".")?;
+    put_number(text, j)?;
+    put(text, b" ")?;
+    put_designator(text, flight)
+}
+
+pub(crate) fn put_way(text: &mut Vec<u8>, leg: &DatedLeg) -> Result<(), AllocError>
+    ensures { OnOk result ((part : List ℕ) × IsLegText 0 leg.now part × (text.new.items ≡ text.old.items ++ part)) }
+{
+    put(text, b" ")?;
+    put(text, &leg.board.letters())?;
+    put(text, b"/")?;
+    put(text, &leg.day.bytes())?;
+    put(text, b"/")?;
+    put(text, &leg.off.letters())
+}
+
+/// Adds the airline, the number without leading zeros, and the suffix of a flight.
+pub(crate) fn put_designator(text: &mut Vec<u8>, flight: &Flight) -> Result<(), AllocError>
+    ensures { OnOk result (text.new.items ≡ text.old.items ++ designator_text flight.now) }
+{
+    put(text, &flight.airline.characters())?;
+    put_number(text, u64::from(flight.number))?;
+    put_suffix(text, flight.suffix)
+}
+
+fn put_suffix(text: &mut Vec<u8>, suffix: Option<u8>) -> Result<(), AllocError>
+    ensures { OnOk result (text.new.items ≡ text.old.items ++ suffix_text suffix) }
+{
+    match suffix {
+        Some(letter) => put(text, &[letter]),
+        None => put(text, &[]),
+    }
+}

@@ -1,0 +1,379 @@
+//! The legs of a place as they stand after the lines so far.
+ghost use Rattle.std.specs.Prelude.{◌≡◌, ◌++◌, ◌*◌, ◌≤◌, ◌<◌, List, ℕ, IfSome, OnOk, length};
+ghost use Rattle.std.specs.List.{flat_map};
+ghost use Rattle.seat_nesting.specs.Nesting.{Fits, held_from, ladder_at};
+ghost use Rattle.seat_core.specs.Bookings.{held, seats_of, seats_on, waiting, waits_on};
+ghost use Rattle.seat_core.specs.Inventory.{state_now};
+ghost use Rattle.seat_desk.specs.AuditDesk.{most_lines};
+ghost use Rattle.seat_desk.specs.FlightsDesk.{IsLegText, IsPut};
+ghost use Rattle.seat_questions.specs.Why.{IsLegPart, IsLegPut, IsPlacePut, IsStandingPut, class_text, dated_legs, has_leg, held_line, held_texts, limit_line, limit_text, one_leg, room_line, room_text, standing_text, wait_line, wait_text};
+
+use seat_core::{Booking, Core, Status};
+use seat_desk::{put, put_number};
+use seat_nesting::Step;
+use ssim_flights::{DatedLeg, Flights};
+use ssim_records::{Class, Place};
+use std::alloc::AllocError;
+
+/// Adds the lines of each leg of a place; no place has none.
+#[tactic(auto, using(crate::proofs::Standings::place_none, crate::proofs::Standings::place_some))]
+pub fn put_place(
+    text: &mut Vec<u8>,
+    flights: &Flights,
+    core: &Core,
+    place: Option<Place>,
+) -> Result<(), AllocError>
+    requires capped { core.now.cap ≤ most_lines }
+    requires fits { IfSome place (Fits core.now.grid) }
+    ensures { OnOk result (IsPlacePut flights.now (state_now core.now) place text.old.items text.new.items) }
+{
+    match place {
+        Some(place) => put_flight(text, flights, core, place),
+        None => Ok(()),
+    }
+}
+
+#[tactic(auto, using(crate::proofs::Standings::no_flight, crate::proofs::Standings::flight_there))]
+fn put_flight(
+    text: &mut Vec<u8>,
+    flights: &Flights,
+    core: &Core,
+    place: Place,
+) -> Result<(), AllocError>
+    requires capped { core.now.cap ≤ most_lines }
+    requires fits { Fits core.now.grid place }
+    ensures { OnOk result (IsPut (IsLegPart (state_now core.now) place) 0 (dated_legs flights.now place.flight) text.old.items text.new.items) }
+{
+    if place.flight >= flights.len() {
+        return Ok(());
+    }
+    let flight = flights.flight(place.flight);
+    put_legs(text, core, place, flight.legs.as_slice())
+}
+
+fn put_legs(
+    text: &mut Vec<u8>,
+    core: &Core,
+    place: Place,
+    legs: &[DatedLeg],
+) -> Result<(), AllocError>
+    requires capped { core.now.cap ≤ most_lines }
+    requires fits { Fits core.now.grid place }
+    requires few { length legs.now ≤ 8 }
+    ensures { OnOk result (IsPut (IsLegPart (state_now core.now) place) 0 legs.now text.old.items text.new.items) }
+{
+    for j in 0..legs.len() {
+        put_leg(text, core, place, j as u8, &legs[j])?;
+    }
+    Ok(())
+}
+
+/// Adds the lines of a leg, if the place covers it.
+#[tactic(auto, using(crate::proofs::Standings::leg_away, crate::proofs::Standings::leg_there, crate::proofs::Standings::leg_fits))]
+fn put_leg(
+    text: &mut Vec<u8>,
+    core: &Core,
+    place: Place,
+    leg: u8,
+    dated: &DatedLeg,
+) -> Result<(), AllocError>
+    requires capped { core.now.cap ≤ most_lines }
+    requires fits { Fits core.now.grid place }
+    ensures { OnOk result (IsLegPut (state_now core.now) place leg dated.now text.old.items text.new.items) }
+{
+    if !has_leg(place, leg) {
+        return Ok(());
+    }
+    put_covered(text, core, place.flight, leg, dated)
+}
+
+fn has_leg(place: Place, leg: u8) -> bool
+    ensures { result ≡ has_leg place leg }
+{
+    place.from <= leg && leg <= place.to
+}
+
+/// Adds the five lines of a leg.
+#[tactic(auto, using(crate::proofs::Standings::standing_put))]
+fn put_covered(
+    text: &mut Vec<u8>,
+    core: &Core,
+    flight: u32,
+    leg: u8,
+    dated: &DatedLeg,
+) -> Result<(), AllocError>
+    requires capped { core.now.cap ≤ most_lines }
+    requires fits { Fits core.now.grid (one_leg flight leg) }
+    ensures { OnOk result (IsStandingPut (state_now core.now) flight leg dated.now text.old.items text.new.items) }
+{
+    put(text, b"LEG")?;
+    put_way(text, dated)?;
+    put(text, b"\n")?;
+    put_standing(text, core, flight, leg)
+}
+
+/// Adds BOARD/DAY/OFF behind a blank.
+fn put_way(text: &mut Vec<u8>, leg: &DatedLeg) -> Result<(), AllocError>
+    ensures { OnOk result ((part : List ℕ) × IsLegText 0 leg.now part × (text.new.items ≡ text.old.items ++ part)) }
+{
+    put(text, b" ")?;
+    put(text, &leg.board.letters())?;
+    put(text, b"/")?;
+    put(text, &leg.day.bytes())?;
+    put(text, b"/")?;
+    put(text, &leg.off.letters())
+}
+
+/// Adds the limits, the seats held, the room and the seats that wait.
+fn put_standing(text: &mut Vec<u8>, core: &Core, flight: u32, leg: u8) -> Result<(), AllocError>
+    requires capped { core.now.cap ≤ most_lines }
+    requires fits { Fits core.now.grid (one_leg flight leg) }
+    ensures { OnOk result (text.new.items ≡ text.old.items ++ standing_text (state_now core.now) flight leg) }
+{
+    let steps = steps_of(core, flight, leg);
+    put_limits(text, steps)?;
+    put_held(text, core, flight, leg, steps)?;
+    put_rooms(text, core, flight, leg, steps)?;
+    put_waits(text, core, flight, leg, steps)
+}
+
+/// The limits of a leg; no step where it has none.
+fn steps_of(core: &Core, flight: u32, leg: u8) -> &[Step]
+    ensures value { result.now ≡ ladder_at (state_now core.now).grid flight leg }
+    ensures short { length result.now ≤ 26 }
+{
+    match core.ladder(flight, leg) {
+        Some(ladder) => ladder.steps(),
+        None => &[],
+    }
+}
+
+/// Adds a class and a number behind a blank.
+fn put_class(text: &mut Vec<u8>, class: Class, number: u64) -> Result<(), AllocError>
+    ensures { OnOk result (text.new.items ≡ text.old.items ++ class_text class number) }
+{
+    put(text, &[b' ', class.letter()])?;
+    put_number(text, number)
+}
+
+fn put_limits(text: &mut Vec<u8>, steps: &[Step]) -> Result<(), AllocError>
+    ensures { OnOk result (text.new.items ≡ text.old.items ++ limit_line steps.now) }
+{
+    put(text, b"LIMIT")?;
+    put_each_limit(text, steps)?;
+    put(text, b"\n")
+}
+
+fn put_each_limit(text: &mut Vec<u8>, steps: &[Step]) -> Result<(), AllocError>
+    ensures { OnOk result (text.new.items ≡ text.old.items ++ flat_map limit_text steps.now) }
+{
+    for step in steps {
+        put_class(text, step.class, u64::from(step.limit))?;
+    }
+    Ok(())
+}
+
+fn put_held(
+    text: &mut Vec<u8>,
+    core: &Core,
+    flight: u32,
+    leg: u8,
+    steps: &[Step],
+) -> Result<(), AllocError>
+    requires capped { core.now.cap ≤ most_lines }
+    requires short { length steps.now ≤ 26 }
+    ensures { OnOk result (text.new.items ≡ text.old.items ++ held_line (held (state_now core.now).bookings flight leg) steps.now) }
+{
+    put(text, b"HELD")?;
+    put_each_held(text, core, flight, leg, steps)?;
+    put(text, b"\n")
+}
+
+/// Adds the seats held in each class and those below it.
+fn put_each_held(
+    text: &mut Vec<u8>,
+    core: &Core,
+    flight: u32,
+    leg: u8,
+    steps: &[Step],
+) -> Result<(), AllocError>
+    requires capped { core.now.cap ≤ most_lines }
+    requires short { length steps.now ≤ 26 }
+    ensures { OnOk result (text.new.items ≡ text.old.items ++ held_texts (held (state_now core.now).bookings flight leg) steps.now) }
+{
+    for i in 0..steps.len() {
+        let lower = &steps[i..];
+        put_class(text, steps[i].class, held_from(core, flight, leg, lower))?;
+    }
+    Ok(())
+}
+
+/// The seats held on a leg in these classes.
+fn held_from(core: &Core, flight: u32, leg: u8, lower: &[Step]) -> u64
+    requires capped { core.now.cap ≤ most_lines }
+    requires short { length lower.now ≤ 26 }
+    ensures { result ≡ held_from (held (state_now core.now).bookings flight leg) lower.now }
+{
+    let mut count = 0u64;
+    for step in lower {
+        count += held(core, flight, leg, step.class);
+    }
+    count
+}
+
+/// The seats held on a leg in a class.
+#[tactic(auto, using(crate::proofs::Standings::held_there, crate::proofs::Standings::few_bookings))]
+fn held(core: &Core, flight: u32, leg: u8, class: Class) -> u64
+    requires capped { core.now.cap ≤ most_lines }
+    ensures value { result ≡ held (state_now core.now).bookings flight leg class }
+    ensures small { result ≤ 999999 * 65535 }
+{
+    let _ = core.journal();
+    held_by(core.bookings_on(flight), flight, leg, class)
+}
+
+fn held_by(bookings: &[Booking], flight: u32, leg: u8, class: Class) -> u64
+    requires few { length bookings.now ≤ 999999 }
+    ensures value { result ≡ held bookings.now flight leg class }
+    ensures small { result ≤ 999999 * 65535 }
+{
+    let mut count = 0u64;
+    for booking in bookings {
+        count += u64::from(seats_on(booking, flight, leg, class));
+    }
+    count
+}
+
+/// The seats that wait on a leg in a class.
+#[tactic(auto, using(crate::proofs::Standings::waiting_there, crate::proofs::Standings::few_bookings))]
+fn waiting(core: &Core, flight: u32, leg: u8, class: Class) -> u64
+    requires capped { core.now.cap ≤ most_lines }
+    ensures { result ≡ waiting (state_now core.now).bookings flight leg class }
+{
+    let _ = core.journal();
+    waiting_by(core.bookings_on(flight), flight, leg, class)
+}
+
+fn waiting_by(bookings: &[Booking], flight: u32, leg: u8, class: Class) -> u64
+    requires few { length bookings.now ≤ 999999 }
+    ensures { result ≡ waiting bookings.now flight leg class }
+{
+    let mut count = 0u64;
+    for booking in bookings {
+        count += u64::from(waits_on(booking, flight, leg, class));
+    }
+    count
+}
+
+/// The seats that a booking holds on a leg in a class.
+fn seats_on(booking: &Booking, flight: u32, leg: u8, class: Class) -> u16
+    ensures { result ≡ seats_on flight leg class booking.now }
+{
+    match booking.status {
+        Status::Held => seats_of(booking, flight, leg, class),
+        Status::Waiting => 0,
+    }
+}
+
+/// Those that it waits for.
+fn waits_on(booking: &Booking, flight: u32, leg: u8, class: Class) -> u16
+    ensures { result ≡ waits_on flight leg class booking.now }
+{
+    match booking.status {
+        Status::Held => 0,
+        Status::Waiting => seats_of(booking, flight, leg, class),
+    }
+}
+
+fn seats_of(booking: &Booking, flight: u32, leg: u8, class: Class) -> u16
+    ensures { result ≡ seats_of flight leg class booking.now }
+{
+    if booking.place.flight == flight && has_leg(booking.place, leg) && booking.class == class {
+        booking.seats
+    } else {
+        0
+    }
+}
+
+fn put_rooms(
+    text: &mut Vec<u8>,
+    core: &Core,
+    flight: u32,
+    leg: u8,
+    steps: &[Step],
+) -> Result<(), AllocError>
+    requires fits { Fits core.now.grid (one_leg flight leg) }
+    ensures { OnOk result (text.new.items ≡ text.old.items ++ room_line (state_now core.now) flight leg steps.now) }
+{
+    put(text, b"ROOM")?;
+    put_each_room(text, core, flight, leg, steps)?;
+    put(text, b"\n")
+}
+
+fn put_each_room(
+    text: &mut Vec<u8>,
+    core: &Core,
+    flight: u32,
+    leg: u8,
+    steps: &[Step],
+) -> Result<(), AllocError>
+    requires fits { Fits core.now.grid (one_leg flight leg) }
+    ensures { OnOk result (text.new.items ≡ text.old.items ++ flat_map (room_text (state_now core.now) flight leg) steps.now) }
+{
+    let place = Place {
+        flight,
+        from: leg,
+        to: leg,
+    };
+    for step in steps {
+        put_class(text, step.class, u64::from(core.room(place, step.class)))?;
+    }
+    Ok(())
+}
+
+fn put_waits(
+    text: &mut Vec<u8>,
+    core: &Core,
+    flight: u32,
+    leg: u8,
+    steps: &[Step],
+) -> Result<(), AllocError>
+    requires capped { core.now.cap ≤ most_lines }
+    ensures { OnOk result (text.new.items ≡ text.old.items ++ wait_line (waiting (state_now core.now).bookings flight leg) steps.now) }
+{
+    put(text, b"WAIT")?;
+    put_each_wait(text, core, flight, leg, steps)?;
+    put(text, b"\n")
+}
+
+fn put_each_wait(
+    text: &mut Vec<u8>,
+    core: &Core,
+    flight: u32,
+    leg: u8,
+    steps: &[Step],
+) -> Result<(), AllocError>
+    requires capped { core.now.cap ≤ most_lines }
+    ensures { OnOk result (text.new.items ≡ text.old.items ++ flat_map (wait_text (waiting (state_now core.now).bookings flight leg)) steps.now) }
+{
+    for step in steps {
+        put_wait(text, core, flight, leg, step)?;
+    }
+    Ok(())
+}
+
+/// Adds the seats that wait in a class, of the most that may.
+fn put_wait(
+    text: &mut Vec<u8>,
+    core: &Core,
+    flight: u32,
+    leg: u8,
+    step: &Step,
+) -> Result<(), AllocError>
+    requires capped { core.now.cap ≤ most_lines }
+    ensures { OnOk result (text.new.items ≡ text.old.items ++ wait_text (waiting (state_now core.now).bookings flight leg) step.now) }
+{
+    put_class(text, step.class, waiting(core, flight, leg, step.class))?;
+    put(text, b"/")?;
+    put_number(text, u64::from(step.wait))
+}

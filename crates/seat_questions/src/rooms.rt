@@ -1,0 +1,562 @@
+//! `rooms`: the seats that are left on each place of a flight, after a journal or before any line.
+ghost use Rattle.std.specs.Prelude.{◌≡◌, ◌≢◌, ◌++◌, ◌-◌, ◌<◌, ◌≤◌, ◌⊎◌, [], IfErr, IfOk, OnOk, drop, length};
+ghost use Rattle.ssim_flights.specs.Right.{IsOfCentury};
+ghost use Rattle.seat_nesting.specs.Nesting.{Fits, IsWithin, covers, held_from, ladder_at, legs_of};
+ghost use Rattle.seat_core.specs.Bookings.{held, seats_of, seats_on};
+ghost use Rattle.seat_core.specs.Inventory.{state_now};
+ghost use Rattle.seat_core.specs.Journal.{replay};
+ghost use Rattle.seat_desk.specs.AuditDesk.{IsRefusedAuditOf, IsTooLargeOf, IsUnlawful, most_journal_bytes};
+ghost use Rattle.seat_desk.specs.Desk.{HasFailed, InputFailed, IsOfInput, IsWritten, OutputFailed};
+ghost use Rattle.seat_desk.specs.FlightsDesk.{IsPut, head_text};
+ghost use Rattle.seat_desk.specs.Loading.{HaveFailed, IsGridOf, IsRefusedLoadOf, IsTooLargeLoadOf};
+ghost use Rattle.seat_questions.specs.Rooms.{AreOpeningRoomsOf, AreRoomsAfter, AreRoomsOf, IsAdded, IsFirstPart, IsLastPart, IsPlaceText, IsRoomsText, IsRunText, bar, bar_line, bar_lines, bar_share, bars_text, filled, keeps, keeps_day, keeps_pair, leg_bars, place_bars, room_text, rooms_part, rooms_text, run_of, times};
+
+use crate::cover::{put_designator, put_way};
+use seat_core::{Booking, Core, Status};
+use seat_desk::{
+    DeskFault, Inputs, Loaded, MOST_JOURNAL_BYTES, load, put, put_number, read_input, replayed,
+};
+use seat_nesting::{Grid, Step};
+use ssim_flights::{DatedLeg, Flight, Flights};
+use ssim_records::{Class, Day, NotedRead, NotedWrite, Place, Station, put_all};
+use std::alloc::{AllocError, Global};
+
+/// The most lines of a journal.
+const MOST_LINES: u32 = 999_999;
+
+/// Two stations: a board point and an off point.
+#[derive(Clone, Copy)]
+pub struct CityPair {
+    pub board: Station,
+    pub off: Station,
+}
+
+/// In which characters a bar is written.
+#[derive(Clone, Copy)]
+pub enum Bars {
+    /// `#` for a full one and `.` for an empty one.
+    Plain,
+    /// U+2588 for a full one and U+00B7 for an empty one, in UTF-8.
+    Blocks,
+}
+
+/// Which places are asked for, and in which form.
+#[derive(Clone, Copy)]
+pub struct Asked {
+    /// Those that depart on this local day of their first leg; else on each.
+    pub day: Option<Day>,
+    /// Those that run between these stations; else between any.
+    pub pair: Option<CityPair>,
+    /// Below each line of a place that is one leg, a bar for each class; else none.
+    pub bars: Option<Bars>,
+}
+
+/// Writes a line for each place of a flight, by flight, first leg and last leg, with the seats that are left on it after
+/// the journal in each class of its first leg. Each input is read and checked before the next is read, and refused as
+/// [`desk_audit`](seat_desk::desk_audit) refuses it. The first day is in 2000 to 2099, `days` is 1 to 366; a set and a
+/// journal have at most 256 MiB, limit rows at most 16 MiB.
+pub fn desk_rooms<S: NotedRead, L: NotedRead, J: NotedRead, W: NotedWrite>(
+    alloc: Global,
+    inputs: &mut Inputs<S, L>,
+    journal: &mut J,
+    asked: &Asked,
+    out: &mut W,
+) -> Result<(), DeskFault>
+    requires first { IsOfCentury inputs.old.first }
+    requires days { (1 ≤ inputs.old.days) × (inputs.old.days ≤ 366) }
+    ensures ok { OnOk result (IsWritten
+        (AreRoomsOf S.remaining L.remaining inputs.old asked.now (J.remaining journal.old)) (W.contents out.old) (W.contents out.new)) }
+    ensures fault { IfErr result (λ f. IsOfInput f → IsRefusedAuditOf S.remaining L.remaining inputs.old (J.remaining journal.old) f) }
+    ensures large { IfErr result (λ f. f ≡ DeskFault.TooLarge → IsTooLargeOf S.remaining L.remaining inputs.old (J.remaining journal.old)) }
+    ensures device { IfErr result (λ f. f ≡ DeskFault.Device →
+        InputFailed (HaveFailed S.failure_count L.failure_count inputs.old inputs.new ⊎ HasFailed J.failure_count journal.old journal.new) out.old out.new
+        ⊎ OutputFailed W.failure_count W.contents out.old out.new (AreRoomsOf S.remaining L.remaining inputs.old asked.now (J.remaining journal.old))) }
+    ensures untouched { IfErr result (λ f. f ≢ DeskFault.Device → out.new ≡ out.old) }
+{
+    let Loaded { flights, grid } = load(alloc, inputs)?;
+    let bytes = read_input(alloc, journal, MOST_JOURNAL_BYTES)?;
+    let text = rooms_after(alloc, &flights, grid, &bytes, asked)?;
+    match put_all(out, &text) {
+        Ok(()) => Ok(()),
+        Err(_) => Err(DeskFault::Device),
+    }
+}
+
+/// The same before any line: the rooms of the limits themselves.
+pub fn desk_opening_rooms<S: NotedRead, L: NotedRead, W: NotedWrite>(
+    alloc: Global,
+    inputs: &mut Inputs<S, L>,
+    asked: &Asked,
+    out: &mut W,
+) -> Result<(), DeskFault>
+    requires first { IsOfCentury inputs.old.first }
+    requires days { (1 ≤ inputs.old.days) × (inputs.old.days ≤ 366) }
+    ensures ok { OnOk result (IsWritten
+        (AreOpeningRoomsOf S.remaining L.remaining inputs.old asked.now) (W.contents out.old) (W.contents out.new)) }
+    ensures fault { IfErr result (λ f. IsOfInput f → IsRefusedLoadOf S.remaining L.remaining inputs.old f) }
+    ensures large { IfErr result (λ f. f ≡ DeskFault.TooLarge → IsTooLargeLoadOf S.remaining L.remaining inputs.old) }
+    ensures device { IfErr result (λ f. f ≡ DeskFault.Device →
+        InputFailed (HaveFailed S.failure_count L.failure_count inputs.old inputs.new) out.old out.new
+        ⊎ OutputFailed W.failure_count W.contents out.old out.new (AreOpeningRoomsOf S.remaining L.remaining inputs.old asked.now)) }
+    ensures untouched { IfErr result (λ f. f ≢ DeskFault.Device → out.new ≡ out.old) }
+{
+    let Loaded { flights, grid } = load(alloc, inputs)?;
+    let text = opening_rooms(alloc, &flights, grid, asked)?;
+    match put_all(out, &text) {
+        Ok(()) => Ok(()),
+        Err(_) => Err(DeskFault::Device),
+    }
+}
+
+/// The rooms that a journal's text leaves, if it is that of a legal history over these limits.
+#[tactic(auto, using(crate::proofs::RoomTexts::grid_kept, crate::proofs::RoomTexts::rooms_of_replay))]
+fn rooms_after(
+    alloc: Global,
+    flights: &Flights,
+    grid: Grid,
+    bytes: &[u8],
+    asked: &Asked,
+) -> Result<Vec<u8>, DeskFault>
+    requires size { length bytes.now ≤ most_journal_bytes }
+    requires grid { IsGridOf flights.now grid }
+    ensures ok { IfOk result (λ text. AreRoomsAfter asked.now flights.now grid bytes.now text.items) }
+    ensures fault { IfErr result (λ f. f ≢ DeskFault.Memory → IsUnlawful grid f bytes.now) }
+    ensures kind { IfErr result (λ f. (f ≢ DeskFault.Device) × (f ≢ DeskFault.TooLarge)) }
+{
+    let core = replayed(alloc, grid, bytes)?;
+    listed(alloc, flights, &core, asked)
+}
+
+/// The rooms of the limits before any line.
+#[tactic(auto, using(crate::proofs::RoomTexts::grid_kept, crate::proofs::RoomTexts::rooms_of_opening))]
+fn opening_rooms(
+    alloc: Global,
+    flights: &Flights,
+    grid: Grid,
+    asked: &Asked,
+) -> Result<Vec<u8>, DeskFault>
+    requires grid { IsGridOf flights.now grid }
+    ensures ok { IfOk result (λ text. IsRoomsText asked.now (replay grid []) flights.now text.items) }
+    ensures memory { IfErr result (λ f. f ≡ DeskFault.Memory) }
+{
+    let core = match Core::new(alloc, grid, MOST_LINES) {
+        Ok(core) => core,
+        Err(_) => return Err(DeskFault::Memory),
+    };
+    listed(alloc, flights, &core, asked)
+}
+
+/// The rooms after the lines so far.
+fn listed(
+    alloc: Global,
+    flights: &Flights,
+    core: &Core,
+    asked: &Asked,
+) -> Result<Vec<u8>, DeskFault>
+    requires grid { IsGridOf flights.now core.now.grid }
+    ensures ok { IfOk result (λ text. IsRoomsText asked.now (state_now core.now) flights.now text.items) }
+    ensures memory { IfErr result (λ f. f ≡ DeskFault.Memory) }
+{
+    match text_of(alloc, flights, core, asked) {
+        Ok(text) => Ok(text),
+        Err(_) => Err(DeskFault::Memory),
+    }
+}
+
+#[tactic(auto, using(crate::proofs::RoomTexts::legs_alike))]
+fn text_of(
+    alloc: Global,
+    flights: &Flights,
+    core: &Core,
+    asked: &Asked,
+) -> Result<Vec<u8>, AllocError>
+    requires grid { IsGridOf flights.now core.now.grid }
+    ensures { IfOk result (λ text. IsRoomsText asked.now (state_now core.now) flights.now text.items) }
+{
+    let mut text = Vec::new(alloc);
+    for index in 0..flights.len() {
+        put_flight(&mut text, core, asked, index, flights.flight(index))?;
+    }
+    Ok(text)
+}
+
+/// Adds the lines of the places of a flight.
+fn put_flight(
+    text: &mut Vec<u8>,
+    core: &Core,
+    asked: &Asked,
+    index: u32,
+    flight: &Flight,
+) -> Result<(), AllocError>
+    requires few { length flight.now.legs ≤ 8 }
+    requires legs { length (legs_of core.now.grid index) ≡ length flight.now.legs }
+    ensures { OnOk result (IsPut (IsFirstPart asked.now (state_now core.now) index flight.now) 0 flight.now.legs text.old.items text.new.items) }
+{
+    let legs = flight.legs.as_slice();
+    for from in 0..legs.len() {
+        let start = from as u8;
+        let place = Place {
+            flight: index,
+            from: start,
+            to: start,
+        };
+        put_runs(text, core, asked, flight, place, &legs[from])?;
+    }
+    Ok(())
+}
+
+/// Adds the lines of the places that begin with a leg.
+fn put_runs(
+    text: &mut Vec<u8>,
+    core: &Core,
+    asked: &Asked,
+    flight: &Flight,
+    start: Place,
+    first: &DatedLeg,
+) -> Result<(), AllocError>
+    requires few { length flight.now.legs ≤ 8 }
+    requires legs { length (legs_of core.now.grid start.flight) ≡ length flight.now.legs }
+    requires start { start.from < length flight.now.legs }
+    ensures { OnOk result (IsPut (IsLastPart asked.now (state_now core.now) start.flight flight.now start.from first.now)
+        start.from (drop start.from flight.now.legs) text.old.items text.new.items) }
+{
+    let legs = flight.legs.as_slice();
+    let rest = &legs[usize::from(start.from)..];
+    for k in 0..rest.len() {
+        let place = Place {
+            flight: start.flight,
+            from: start.from,
+            to: start.from + k as u8,
+        };
+        let run = run_of(first, &rest[k]);
+        put_run(text, core, asked, flight, place, &run)?;
+    }
+    Ok(())
+}
+
+/// A run of legs as one leg.
+fn run_of(first: &DatedLeg, last: &DatedLeg) -> DatedLeg
+    ensures { result ≡ run_of first.now last.now }
+{
+    DatedLeg {
+        board: first.board,
+        off: last.off,
+        day: first.day,
+    }
+}
+
+/// Adds the lines of a place, if it is kept.
+#[tactic(auto, using(crate::proofs::RoomTexts::run_left, crate::proofs::RoomTexts::run_kept))]
+fn put_run(
+    text: &mut Vec<u8>,
+    core: &Core,
+    asked: &Asked,
+    flight: &Flight,
+    place: Place,
+    run: &DatedLeg,
+) -> Result<(), AllocError>
+    requires { Fits core.now.grid place }
+    ensures { OnOk result (IsAdded (IsRunText asked.now (state_now core.now) flight.now place run.now) text.old.items text.new.items) }
+{
+    if !keeps(asked, run) {
+        return Ok(());
+    }
+    put_place(text, core, asked.bars, flight, place, run)
+}
+
+/// Whether a run of legs is asked for.
+fn keeps(asked: &Asked, run: &DatedLeg) -> bool
+    ensures { result ≡ keeps asked.now run.now }
+{
+    keeps_day(asked.day, run.day) && keeps_pair(asked.pair, run)
+}
+
+fn keeps_day(asked: Option<Day>, day: Day) -> bool
+    ensures { result ≡ keeps_day asked day }
+{
+    match asked {
+        Some(asked) => day == asked,
+        None => true,
+    }
+}
+
+fn keeps_pair(asked: Option<CityPair>, run: &DatedLeg) -> bool
+    ensures { result ≡ keeps_pair asked run.now }
+{
+    match asked {
+        Some(pair) => run.board == pair.board && run.off == pair.off,
+        None => true,
+    }
+}
+
+/// Adds the line of a place, and the bars below it.
+#[tactic(auto, using(crate::proofs::RoomTexts::place_added))]
+fn put_place(
+    text: &mut Vec<u8>,
+    core: &Core,
+    bars: Option<Bars>,
+    flight: &Flight,
+    place: Place,
+    run: &DatedLeg,
+) -> Result<(), AllocError>
+    requires { Fits core.now.grid place }
+    ensures { OnOk result (IsAdded (IsPlaceText bars (state_now core.now) flight.now place run.now) text.old.items text.new.items) }
+{
+    put_head(text, place.flight, flight)?;
+    put_way(text, run)?;
+    put_room_list(text, core, place)?;
+    put(text, b"\n")?;
+    put_bars(text, core, bars, place)
+}
+
+/// Adds INDEX DESIGNATOR.
+fn put_head(text: &mut Vec<u8>, index: u32, flight: &Flight) -> Result<(), AllocError>
+    ensures { OnOk result (text.new.items ≡ text.old.items ++ head_text index flight.now) }
+{
+    put_number(text, u64::from(index))?;
+    put(text, b" ")?;
+    put_designator(text, flight)
+}
+
+/// Adds ROOM and the rooms.
+fn put_room_list(text: &mut Vec<u8>, core: &Core, place: Place) -> Result<(), AllocError>
+    requires { Fits core.now.grid place }
+    ensures { OnOk result (text.new.items ≡ text.old.items ++ rooms_part (state_now core.now) place) }
+{
+    put(text, b" ROOM")?;
+    put_rooms(text, core, place)
+}
+
+/// Adds the room of each class of the place's first leg.
+fn put_rooms(text: &mut Vec<u8>, core: &Core, place: Place) -> Result<(), AllocError>
+    requires { Fits core.now.grid place }
+    ensures { OnOk result (text.new.items ≡ text.old.items ++ rooms_text (state_now core.now) place) }
+{
+    let steps = steps_now(core, place.flight, place.from);
+    for step in steps {
+        put_room(text, core, place, step)?;
+    }
+    Ok(())
+}
+
+fn put_room(text: &mut Vec<u8>, core: &Core, place: Place, step: &Step) -> Result<(), AllocError>
+    requires { Fits core.now.grid place }
+    ensures { OnOk result (text.new.items ≡ text.old.items ++ room_text (state_now core.now) place step.now) }
+{
+    put(text, b" ")?;
+    put(text, &[step.class.letter()])?;
+    put_number(text, u64::from(core.room(place, step.class)))
+}
+
+/// The limits of a leg; no step where it has none.
+fn steps_now(core: &Core, flight: u32, leg: u8) -> &[Step]
+    ensures { result.now ≡ ladder_at (state_now core.now).grid flight leg }
+{
+    match core.ladder(flight, leg) {
+        Some(ladder) => ladder.steps(),
+        None => &[],
+    }
+}
+
+/// Adds the bars of a place, where it is one leg and they are asked for.
+fn put_bars(
+    text: &mut Vec<u8>,
+    core: &Core,
+    bars: Option<Bars>,
+    place: Place,
+) -> Result<(), AllocError>
+    ensures { OnOk result (text.new.items ≡ text.old.items ++ bars_text bars (state_now core.now) place) }
+{
+    match bars {
+        Some(bars) => put_bars_at(text, core, bars, place),
+        None => put(text, &[]),
+    }
+}
+
+fn put_bars_at(text: &mut Vec<u8>, core: &Core, bars: Bars, place: Place) -> Result<(), AllocError>
+    ensures { OnOk result (text.new.items ≡ text.old.items ++ place_bars bars (state_now core.now) place) }
+{
+    if place.from == place.to {
+        put_leg_bars(text, core, bars, place.flight, place.from)
+    } else {
+        put(text, &[])
+    }
+}
+
+/// Adds the bars of a leg.
+#[tactic(auto, using(crate::proofs::RoomTexts::leg_within, crate::proofs::RoomTexts::leg_bars_put))]
+fn put_leg_bars(
+    text: &mut Vec<u8>,
+    core: &Core,
+    bars: Bars,
+    flight: u32,
+    leg: u8,
+) -> Result<(), AllocError>
+    ensures { OnOk result (text.new.items ≡ text.old.items ++ leg_bars bars (state_now core.now) flight leg) }
+{
+    let _ = core.journal();
+    let steps = steps_now(core, flight, leg);
+    put_ranks(text, bars, core.bookings_on(flight), flight, leg, steps)
+}
+
+/// Adds the bar of each rank, from the highest down.
+#[tactic(auto, using(crate::proofs::RoomTexts::rank_put))]
+fn put_ranks(
+    text: &mut Vec<u8>,
+    bars: Bars,
+    bookings: &[Booking],
+    flight: u32,
+    leg: u8,
+    steps: &[Step],
+) -> Result<(), AllocError>
+    requires { IsWithin steps.now (held bookings.now flight leg) }
+    ensures { OnOk result (text.new.items ≡ text.old.items ++ bar_lines bars (held bookings.now flight leg) steps.now) }
+{
+    let mut rest = steps;
+    while let [step, lower @ ..] = rest {
+        put_rank(
+            text, bars, bookings, flight, leg, rest, step.class, step.limit,
+        )?;
+        rest = lower;
+    }
+    Ok(())
+}
+
+/// Adds the bar of a class, over the seats that are held in these ranks.
+fn put_rank(
+    text: &mut Vec<u8>,
+    bars: Bars,
+    bookings: &[Booking],
+    flight: u32,
+    leg: u8,
+    ranks: &[Step],
+    class: Class,
+    limit: u16,
+) -> Result<(), AllocError>
+    requires { held_from (held bookings.now flight leg) ranks.now ≤ limit }
+    ensures { OnOk result (text.new.items ≡ text.old.items ++ bar_line bars class (held_from (held bookings.now flight leg) ranks.now) limit) }
+{
+    let seats = held_from(bookings, flight, leg, ranks);
+    put_bar(text, bars, class, seats, limit)
+}
+
+/// The seats that are held on a leg in these classes.
+fn held_from(bookings: &[Booking], flight: u32, leg: u8, steps: &[Step]) -> u16
+    requires { held_from (held bookings.now flight leg) steps.now ≤ 65535 }
+    ensures { result ≡ held_from (held bookings.now flight leg) steps.now }
+{
+    let mut seats = 0u16;
+    for step in steps {
+        seats += held_in(bookings, flight, leg, step.class);
+    }
+    seats
+}
+
+/// The seats that are held on a leg in a class.
+fn held_in(bookings: &[Booking], flight: u32, leg: u8, class: Class) -> u16
+    requires { held bookings.now flight leg class ≤ 65535 }
+    ensures { result ≡ held bookings.now flight leg class }
+{
+    let mut seats = 0u16;
+    for booking in bookings {
+        seats += seats_on(booking, flight, leg, class);
+    }
+    seats
+}
+
+/// The seats that a booking holds on a leg in a class.
+fn seats_on(booking: &Booking, flight: u32, leg: u8, class: Class) -> u16
+    ensures { result ≡ seats_on flight leg class booking.now }
+{
+    match booking.status {
+        Status::Held => seats_of(booking, flight, leg, class),
+        Status::Waiting => 0,
+    }
+}
+
+fn seats_of(booking: &Booking, flight: u32, leg: u8, class: Class) -> u16
+    ensures { result ≡ seats_of flight leg class booking.now }
+{
+    if covers(booking.place, flight, leg) && booking.class == class {
+        booking.seats
+    } else {
+        0
+    }
+}
+
+fn covers(place: Place, flight: u32, leg: u8) -> bool
+    ensures { result ≡ covers flight leg place }
+{
+    place.flight == flight && (place.from <= leg && leg <= place.to)
+}
+
+/// Adds the bar of a class, and its seats that are held of its limit.
+fn put_bar(
+    text: &mut Vec<u8>,
+    bars: Bars,
+    class: Class,
+    held: u16,
+    limit: u16,
+) -> Result<(), AllocError>
+    ensures { OnOk result (text.new.items ≡ text.old.items ++ bar_line bars class held limit) }
+{
+    put(text, &[class.letter()])?;
+    put(text, b" ")?;
+    put_marks(text, bars, filled(held, limit))?;
+    put_share(text, held, limit)
+}
+
+fn put_share(text: &mut Vec<u8>, held: u16, limit: u16) -> Result<(), AllocError>
+    ensures { OnOk result (text.new.items ≡ text.old.items ++ bar_share held limit) }
+{
+    put(text, b" ")?;
+    put_number(text, u64::from(held))?;
+    put(text, b"/")?;
+    put_number(text, u64::from(limit))?;
+    put(text, b"\n")
+}
+
+/// How many of the 20 characters of a bar stand for seats that are held.
+fn filled(held: u16, limit: u16) -> u32
+    ensures { result ≡ filled held limit }
+{
+    if limit == 0 {
+        return 0;
+    }
+    u32::from(held) * 20 / u32::from(limit)
+}
+
+/// Adds a bar of which so many characters are full.
+fn put_marks(text: &mut Vec<u8>, bars: Bars, full: u32) -> Result<(), AllocError>
+    ensures { OnOk result (text.new.items ≡ text.old.items ++ bar bars full) }
+{
+    match bars {
+        Bars::Plain => put_two(text, full, b"#", b"."),
+        Bars::Blocks => put_two(text, full, b"\xE2\x96\x88", b"\xC2\xB7"),
+    }
+}
+
+fn put_two(text: &mut Vec<u8>, count: u32, full: &[u8], empty: &[u8]) -> Result<(), AllocError>
+    ensures { OnOk result (text.new.items ≡ text.old.items ++ (times count full.now ++ times (20 - count) empty.now)) }
+{
+    put_times(text, count, full)?;
+    put_times(text, left(count), empty)
+}
+
+/// How many of the 20 characters are left.
+fn left(count: u32) -> u32
+    ensures { result ≡ 20 - count }
+{
+    if count < 20 { 20 - count } else { 0 }
+}
+
+#[tactic(auto, using(crate::proofs::RoomTexts::times_more))]
+fn put_times(text: &mut Vec<u8>, count: u32, bytes: &[u8]) -> Result<(), AllocError>
+    ensures { OnOk result (text.new.items ≡ text.old.items ++ times count bytes.now) }
+{
+    for i in 0..count {
+        let _ = i;
+        put(text, bytes)?;
+    }
+    Ok(())
+}
