@@ -1,4 +1,5 @@
 mod Advised
+mod Comparing
 mod Parts
 mod Histories
 mod Changing
@@ -6,5 +7,8 @@ mod Serving
 mod Reading
 mod Gathering
 mod Written
+mod Keeping
 mod Lengths
 mod Audits
+mod Unasked
+mod Beside

@@ -1,3 +1,4 @@
+pub mod Against
 pub mod Answering
 pub mod Audits
 pub mod Changes
