@@ -4,7 +4,7 @@ use Rattle.clap.specs.Words.{AddsArg, AddsSubcommand, App, Rule, Text, with_rule
 use Rattle.clap.specs.declared.builder.action.ArgAction.TheVariants.{Append}
 use Rattle.clap.specs.declared.builder.arg.Arg.{Arg}
 use Rattle.clap.specs.declared.builder.command.Command.{Command}
-use Rattle.seat_words.specs.CommandLine.{IsBuiltAs, IsReadAlike, IsReadAs, required_value, required_values}
+use Rattle.seat_words.specs.CommandLine.{IsBuiltAs, IsReadAlike, IsReadAs}
 
 -- what is added has no global arguments
 or_false : (x y : Bool) → y ≡ false → (x || y) ≡ x
@@ -40,9 +40,9 @@ joined a s (Ok x) (Err e) (Ok y) was built adds = absurd adds
 joined a s old sub (Err e) was built adds = tt
 
 -- an argument that may be given more than once
-pub valued : (id : Text) (one many : Arg) → many ≡ record one { action = Some Append } → IsReadAs (required_value id) one → IsReadAs (required_values id) many
-valued id one many e has = subst (IsReadAs (required_values id)) (sym e) (record {
-  rule = ap (λ (r : Rule). record r { action = Some Append }) has.rule;
+pub valued : (r : Rule) (one many : Arg) → many ≡ record one { action = Some Append } → IsReadAs r one → IsReadAs (record r { action = Some Append }) many
+valued r one many e has = subst (IsReadAs (record r { action = Some Append })) (sym e) (record {
+  rule = ap (λ (x : Rule). record x { action = Some Append }) has.rule;
   local = has.local;
 })
 

@@ -1,13 +1,14 @@
 -- What the reading of the matches cites.
-use Rattle.std.proofs.Common.{◌≡◌, ◌∙◌, ap, sym, true, false, Some, None, Option, List, find, slice_get, option_and_then, Box, is_some, option_map}
+use Rattle.std.proofs.Common.{◌≡◌, ◌∙◌, ap, sym, Bool, true, false, Some, None, Option, List, find, slice_get, option_and_then, Box, is_some, option_map, unwrap_or, [], codes}
 use Rattle.std.specs.Box.{box_value}
 use Rattle.std.specs.Str.{bytes_eq}
+use Rattle.std.specs.Option.{option_map_or}
 use Rattle.clap.specs.Words.{Row, Text, all_of, matched_of, raw_values, first_value, first_of, rows_of, subcommand_rows}
 use Rattle.clap.specs.declared.parser.matches.Found.{Found}
 use Rattle.clap.specs.declared.parser.matches.SubCommand.{SubCommand}
 use Rattle.clap.specs.declared.parser.matches.ArgMatches.TheViews.{out-SubCommand}
 use Rattle.clap.proofs.WalkLemmas.{first_value-rows, raw_values-rows}
-use Rattle.seat_words.specs.Jobs.{is_answerable}
+use Rattle.seat_words.specs.Jobs.{is_answerable, is_flagged}
 
 -- a value that was got is the one in the rows
 pub some_text : (f : Found) (id t : Text) → Some t ≡ first_value f id → first_of id (rows_of f) ≡ Some t
@@ -21,9 +22,25 @@ may_text f id found e = sym (e ∙ first_value-rows f id)
 pub no_text : (f : Found) (id : Text) → None ≡ first_value f id → is_some (first_of id (rows_of f)) ≡ true → ⊥
 no_text f id e h = let bad : false ≡ true = ap is_some (e ∙ first_value-rows f id) ∙ h in cc
 
+-- a flag is there where its value says so
+abbrev says_so : Option Text → Bool
+says_so found = option_map_or (λ text. bytes_eq text (codes "true")) found false
+
+pub some_flag : (f : Found) (id t : Text) → Some t ≡ first_value f id → is_flagged id (rows_of f) ≡ bytes_eq t (codes "true")
+some_flag f id t e = ap says_so (some_text f id t e)
+
+pub no_flag : (f : Found) (id : Text) → None ≡ first_value f id → is_flagged id (rows_of f) ≡ false
+no_flag f id e = ap says_so (may_text f id None e)
+
 -- and so of several values
 pub some_texts : (f : Found) (id : Text) (ts : List Text) → Some ts ≡ option_map raw_values (matched_of f id) → all_of id (rows_of f) ≡ Some ts
 some_texts f id ts e = sym (e ∙ raw_values-rows f id)
+
+pub any_texts : (f : Found) (id : Text) (ts : List Text) → Some ts ≡ option_map raw_values (matched_of f id) → unwrap_or (all_of id (rows_of f)) [] ≡ ts
+any_texts f id ts e = ap (λ (found : Option (List Text)). unwrap_or found []) (some_texts f id ts e)
+
+pub none_of_texts : (f : Found) (id : Text) → None ≡ option_map raw_values (matched_of f id) → unwrap_or (all_of id (rows_of f)) [] ≡ []
+none_of_texts f id e = ap (λ (found : Option (List Text)). unwrap_or found []) (sym (e ∙ raw_values-rows f id))
 
 pub no_texts : (f : Found) (id : Text) → None ≡ option_map raw_values (matched_of f id) → is_some (first_of id (rows_of f)) ≡ true → ⊥
 no_texts f id e h = none_first (find (λ r. bytes_eq r.id id) (rows_of f)) (e ∙ raw_values-rows f id) h

@@ -1,20 +1,21 @@
 -- What clap makes of the words of seatdesk: the command line is one that its definitions cover.
-use Rattle.std.proofs.Common.{◌≡◌, refl, true, Bool, List, []}
+use Rattle.std.proofs.Common.{◌≡◌, refl, sym, subst, true, false, Bool, ◌||◌, List, [], codes}
+use Rattle.std.proofs.lemmas.Slice.Eq.{bytes_eq-Decides}
 use Rattle.clap.specs.Words.{Row, Shape, Text, fault_of, is_simple, is_simple_and_free, subcommand_of}
-use Rattle.clap.specs.Walk.{rows_after}
+use Rattle.clap.specs.Walk.{answers_to, rows_after}
 use Rattle.clap.specs.Simple.{argument_words, built, built_leaf}
 use Rattle.clap.proofs.OnLiterals.{clap_on_literals}
-use Rattle.seat_words.specs.CommandLine.{audit_app, bare_app, check_app, flights_app, horizon_app, ladder_app, run_app, seatdesk_app}
+use Rattle.seat_words.specs.CommandLine.{audit_app, bare_app, bookings_app, check_app, cover_app, explain_app, flights_app, horizon_app, ladder_app, named_app, rooms_app, run_app, seatdesk_app, selling_app, why_app}
 use Rattle.seat_words.specs.Jobs.{Line, is_answerable, is_complete}
-use Rattle.seat_words.proofs.Found.{Each, Yields, line_in}
-use Rattle.seat_words.proofs.Values.{Keeps, append_keeps, has_required, help_keeps, leaf_values, set_keeps}
+use Rattle.seat_words.proofs.Found.{Each, Yields, is_no_help, line_in}
+use Rattle.seat_words.proofs.Values.{Keeps, append_keeps, flag_keeps, has_required, help_keeps, leaf_values, set_keeps}
 
 pub seatdesk_is_simple : is_simple seatdesk_app ≡ true
-unfolding seatdesk_app bare_app ladder_app check_app flights_app audit_app run_app horizon_app clap_on_literals
+unfolding seatdesk_app selling_app bare_app named_app ladder_app check_app flights_app cover_app rooms_app run_app bookings_app audit_app why_app explain_app horizon_app clap_on_literals
 seatdesk_is_simple = refl
 
 pub seatdesk_is_free : is_simple_and_free seatdesk_app ≡ true
-unfolding seatdesk_app bare_app ladder_app check_app flights_app audit_app run_app horizon_app clap_on_literals
+unfolding seatdesk_app selling_app bare_app named_app ladder_app check_app flights_app cover_app rooms_app run_app bookings_app audit_app why_app explain_app horizon_app clap_on_literals
 seatdesk_is_free = refl
 
 -- ---- words without a fault give a line of one of the commands
@@ -37,45 +38,69 @@ unfolding flights_app
 flights_line = leaf_line is_complete (built_leaf flights_app.top)
     (set_keeps _ refl refl, (set_keeps _ refl refl, (set_keeps _ refl refl, (help_keeps _ refl, tt)))) (λ rows h. h)
 
-audit_line : Yields is_complete (built_leaf audit_app.top)
-unfolding audit_app horizon_app
-audit_line = leaf_line is_complete (built_leaf audit_app.top) (
-  set_keeps _ refl refl,
-  (
-    set_keeps _ refl refl,
-    (
-      set_keeps _ refl refl,
-      (
-        set_keeps _ refl refl,
-        (
-          set_keeps _ refl refl,
-          (help_keeps _ refl, tt),
-        ),
-      ),
-    ),
-  ),
-) (λ rows h. h)
+cover_line : Yields is_complete (built_leaf cover_app.top)
+unfolding cover_app horizon_app
+cover_line = leaf_line is_complete (built_leaf cover_app.top)
+    (set_keeps _ refl refl, (set_keeps _ refl refl, (set_keeps _ refl refl, (set_keeps _ refl refl, (help_keeps _ refl, tt))))) (λ rows h. h)
+
+rooms_line : Yields is_complete (built_leaf rooms_app.top)
+unfolding rooms_app horizon_app
+rooms_line = leaf_line is_complete (built_leaf rooms_app.top)
+    (set_keeps _ refl refl, (set_keeps _ refl refl, (set_keeps _ refl refl, (set_keeps _ refl refl, (set_keeps _ refl refl, (set_keeps _ refl refl, (flag_keeps _ refl _ refl, (set_keeps _ refl refl, (help_keeps _ refl, tt))))))))) (λ rows h. h)
 
 run_line : Yields is_complete (built_leaf run_app.top)
 unfolding run_app horizon_app
-run_line = leaf_line is_complete (built_leaf run_app.top) (
-  set_keeps _ refl refl,
-  (
-    set_keeps _ refl refl,
-    (
-      set_keeps _ refl refl,
-      (
-        set_keeps _ refl refl,
-        (
-          set_keeps _ refl refl,
-          (set_keeps _ refl refl, (set_keeps _ refl refl, (append_keeps _ refl refl, (help_keeps _ refl, tt)))),
-        ),
-      ),
-    ),
-  ),
-) (λ rows h. h)
+run_line = leaf_line is_complete (built_leaf run_app.top)
+    (set_keeps _ refl refl, (set_keeps _ refl refl, (set_keeps _ refl refl, (set_keeps _ refl refl, (set_keeps _ refl refl, (set_keeps _ refl refl, (set_keeps _ refl refl, (flag_keeps _ refl _ refl, (append_keeps _ refl refl, (help_keeps _ refl, tt)))))))))) (λ rows h. h)
+
+bookings_line : Yields is_complete (built_leaf bookings_app.top)
+unfolding bookings_app horizon_app
+bookings_line = leaf_line is_complete (built_leaf bookings_app.top)
+    (set_keeps _ refl refl, (set_keeps _ refl refl, (set_keeps _ refl refl, (set_keeps _ refl refl, (set_keeps _ refl refl, (set_keeps _ refl refl, (help_keeps _ refl, tt))))))) (λ rows h. h)
+
+audit_line : Yields is_complete (built_leaf audit_app.top)
+unfolding audit_app horizon_app
+audit_line = leaf_line is_complete (built_leaf audit_app.top)
+    (set_keeps _ refl refl, (set_keeps _ refl refl, (set_keeps _ refl refl, (set_keeps _ refl refl, (set_keeps _ refl refl, (set_keeps _ refl refl, (append_keeps _ refl refl, (help_keeps _ refl, tt)))))))) (λ rows h. h)
+
+why_line : Yields is_complete (built_leaf why_app.top)
+unfolding why_app horizon_app
+why_line = leaf_line is_complete (built_leaf why_app.top)
+    (set_keeps _ refl refl, (set_keeps _ refl refl, (set_keeps _ refl refl, (set_keeps _ refl refl, (set_keeps _ refl refl, (set_keeps _ refl refl, (help_keeps _ refl, tt))))))) (λ rows h. h)
+
+explain_line : Yields is_complete (built_leaf explain_app.top)
+unfolding explain_app
+explain_line = leaf_line is_complete (built_leaf explain_app.top)
+    (set_keeps _ refl refl, (append_keeps _ refl refl, (help_keeps _ refl, tt))) (λ rows h. h)
+
+-- the help that clap adds is met by its own name alone
+no_help : (name : Text) → is_no_help name ≡ true → (answers_to name (codes "help", []) ≡ true) → ⊥
+no_help name o h = let e : name ≡ codes "help" = sym ((bytes_eq-Decides (codes "help") name).0 (either_true _ h)) in
+    let bad : is_no_help (codes "help") ≡ true = subst (λ (n : Text). is_no_help n ≡ true) e o in cc
+  where
+    either_true : (x : Bool) → (x || false) ≡ true → x ≡ true
+    either_true true h = refl
+    either_true false h = cc
 
 pub seatdesk_line : (words : List Text) → fault_of seatdesk_app words ≡ [] → is_answerable (subcommand_of seatdesk_app words) ≡ true
-unfolding seatdesk_app bare_app ladder_app check_app flights_app audit_app run_app horizon_app
-seatdesk_line words e = line_in is_complete (built seatdesk_app) (argument_words seatdesk_app words) refl
-    (ladder_line, (check_line, (flights_line, (audit_line, (run_line, tt))))) e
+unfolding seatdesk_app selling_app bare_app named_app ladder_app check_app flights_app cover_app rooms_app run_app bookings_app audit_app why_app explain_app horizon_app
+seatdesk_line words e = line_in is_complete (built seatdesk_app) (argument_words seatdesk_app words) refl refl
+    (λ name o. (
+      λ _. ladder_line,
+      (
+        λ _. check_line,
+        (
+          λ _. flights_line,
+          (
+            λ _. cover_line,
+            (
+              λ _. rooms_line,
+              (
+                λ _. run_line,
+                (λ _. bookings_line, (λ _. audit_line, (λ _. why_line, (λ _. explain_line, (λ h. absurd (no_help name o h), tt))))),
+              ),
+            ),
+          ),
+        ),
+      ),
+    )) e

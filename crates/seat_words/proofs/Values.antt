@@ -11,7 +11,7 @@ use Rattle.clap.specs.Faults.{bundle_fault, bundle_step_fault, check_fault, defa
 use Rattle.clap.specs.Takes.{is_given}
 use Rattle.clap.specs.Facts.{unwrap_or_range}
 use Rattle.clap.specs.declared.builder.action.ArgAction.{ArgAction}
-use Rattle.clap.specs.declared.builder.action.ArgAction.TheVariants.{Set, Append, Help}
+use Rattle.clap.specs.declared.builder.action.ArgAction.TheVariants.{Set, Append, Help, SetTrue}
 use Rattle.clap.specs.declared.builder.range.ValueRange.{ValueRange}
 use Rattle.clap.specs.declared.builder.value_parser.Reading.{Reading}
 use Rattle.clap.specs.declared.error.kind.ErrorKind.TheVariants.{TooManyValues}
@@ -92,6 +92,23 @@ append_keeps a e range = record { use_of = go }
     go again [] rows f h = let bad = is_used a one [] range refl (neither _ _ f).0 in cc
     go again (v ∷ vs) rows f h = subst (λ (x : ArgAction). Filled (used_as x a.id (reading_by a) (v ∷ vs) rows)) (sym e)
         (filled_with a.id (reading_by a) _ v vs rows h)
+
+-- a flag has the value that stands for its use
+pub flag_keeps : (a : Rule) → action_of a ≡ SetTrue → (v : Text) → a.missing ≡ v ∷ [] → Keeps a
+flag_keeps a e v given = record { use_of = go }
+  where
+    put : (rows : List Row) (values : List Text) → has_some values ≡ true → Filled rows
+        → Filled (used_as SetTrue a.id (reading_by a) values rows)
+    put rows [] k h = cc
+    put rows (w ∷ ws) k h = filled_with a.id (reading_by a) _ w ws (without a.id rows) (filled_without a.id rows h)
+
+    some_given : (values : List Text) → has_some (values_or_missing a values) ≡ true
+    some_given [] = rw given refl
+    some_given (w ∷ ws) = refl
+
+    go : (again : Bool) (values : List Text) (rows : List Row) → use_fault again a values rows ≡ [] → Filled rows → Filled (used a values rows)
+    go again values rows f h = subst (λ (x : ArgAction). Filled (used_as x a.id (reading_by a) (values_or_missing a values) rows)) (sym e)
+        (put rows (values_or_missing a values) (some_given values) h)
 
 pub help_keeps : (a : Rule) → action_of a ≡ Help → Keeps a
 help_keeps a e = record { use_of = go }

@@ -1,7 +1,7 @@
--- The command line of seatdesk, as clap reads it: five commands, each with the values that it asks for.
-use Rattle.std.specs.Prelude.{◌≡◌, Some, [], codes, true, false}
+-- The command line of seatdesk, as clap reads it: its commands, each with the values that it asks for.
+use Rattle.std.specs.Prelude.{◌≡◌, ℕ, Some, [], codes, true, false}
 use Rattle.clap.specs.Words.{App, Rule, Text, app_of, new_app, new_rule, rule_of, with_rule, with_subcommand}
-use Rattle.clap.specs.declared.builder.action.ArgAction.TheVariants.{Append}
+use Rattle.clap.specs.declared.builder.action.ArgAction.TheVariants.{Append, SetTrue}
 use Rattle.clap.specs.declared.builder.arg.Arg.{Arg}
 use Rattle.clap.specs.declared.builder.command.Command.{Command}
 use Rattle.clap.specs.declared.builder.command.Command.TheViews.{out-Command as fields_of}
@@ -14,6 +14,14 @@ required_option id = record (new_rule id) { long = Some id; required = true; val
 abbrev pub optional : Text → Rule
 optional id = record (new_rule id) { long = Some id; value_names = 1 }
 
+-- an option without a value: it is there, or it is not
+abbrev pub flag : Text → Rule
+flag id = record (new_rule id) { long = Some id; action = Some SetTrue }
+
+-- the same, which has a letter too
+abbrev pub lettered_flag : Text → ℕ → Rule
+lettered_flag id letter = record (flag id) { short = Some letter }
+
 -- a value by its place, which must be there
 abbrev pub required_value : Text → Rule
 required_value id = record (new_rule id) { required = true; value_names = 1 }
@@ -21,6 +29,14 @@ required_value id = record (new_rule id) { required = true; value_names = 1 }
 -- the same, of which there may be more
 abbrev pub required_values : Text → Rule
 required_values id = record (required_value id) { action = Some Append }
+
+-- a value by its place, which may be left out
+abbrev pub optional_value : Text → Rule
+optional_value id = record (new_rule id) { value_names = 1 }
+
+-- the same, of which there may be more
+abbrev pub optional_values : Text → Rule
+optional_values id = record (optional_value id) { action = Some Append }
 
 unfoldable pub ladder_app : App
 ladder_app = new_app (codes "ladder")
@@ -42,31 +58,69 @@ horizon_app name = with_rule (with_rule (with_rule (with_rule (new_app name)
     (required_option (codes "first")))
     (required_option (codes "days"))
 
-unfoldable pub audit_app : App
-audit_app = with_rule (horizon_app (codes "audit")) (required_value (codes "journal"))
+unfoldable pub cover_app : App
+cover_app = horizon_app (codes "cover")
+
+unfoldable pub rooms_app : App
+rooms_app = with_rule (with_rule (with_rule (with_rule (horizon_app (codes "rooms"))
+    (optional (codes "day")))
+    (optional (codes "pair")))
+    (flag (codes "bars")))
+    (optional_value (codes "journal"))
 
 unfoldable pub run_app : App
-run_app = with_rule (with_rule (with_rule (with_rule (horizon_app (codes "run"))
+run_app = with_rule (with_rule (with_rule (with_rule (with_rule (horizon_app (codes "run"))
     (required_option (codes "today")))
     (required_option (codes "journal")))
     (optional (codes "changes")))
+    (flag (codes "no-clobber")))
     (required_values (codes "scripts"))
 
--- the program before its commands
-unfoldable pub bare_app : App
-bare_app = record {
+unfoldable pub bookings_app : App
+bookings_app = with_rule (with_rule (horizon_app (codes "bookings"))
+    (required_option (codes "locator")))
+    (required_value (codes "journal"))
+
+unfoldable pub audit_app : App
+audit_app = with_rule (with_rule (with_rule (horizon_app (codes "audit"))
+    (optional (codes "today")))
+    (required_value (codes "journal")))
+    (optional_values (codes "scripts"))
+
+unfoldable pub why_app : App
+why_app = with_rule (with_rule (horizon_app (codes "why"))
+    (required_option (codes "line")))
+    (required_value (codes "journal"))
+
+unfoldable pub explain_app : App
+explain_app = with_rule (with_rule (new_app (codes "explain"))
+    (required_value (codes "code")))
+    (optional_values (codes "numbers"))
+
+-- the program before its options and commands
+unfoldable pub named_app : App
+named_app = record {
   top = record (new_app (codes "seatdesk")).top {
     has_version = true;
+    has_long_version = true;
     subcommand_required = true;
-    disable_help_subcommand = true;
   };
   subs = [];
 }
 
+-- the program before its commands
+unfoldable pub bare_app : App
+bare_app = with_rule named_app (lettered_flag (codes "verbose") 118)
+
+-- the commands that work on a schedule, or on one leg
+unfoldable pub selling_app : App
+selling_app = with_subcommand (with_subcommand (with_subcommand (with_subcommand (with_subcommand (with_subcommand
+    bare_app ladder_app.top) check_app.top) flights_app.top) cover_app.top) rooms_app.top) run_app.top
+
 -- the program: one of its commands must be named
 unfoldable pub seatdesk_app : App
-seatdesk_app = with_subcommand (with_subcommand (with_subcommand (with_subcommand (with_subcommand
-    bare_app ladder_app.top) check_app.top) flights_app.top) audit_app.top) run_app.top
+seatdesk_app = with_subcommand (with_subcommand (with_subcommand (with_subcommand
+    selling_app bookings_app.top) audit_app.top) why_app.top) explain_app.top
 
 -- the command is read as a, and its options are its own
 pub record IsBuiltAs (a : App) (c : Command) : Type 0 where

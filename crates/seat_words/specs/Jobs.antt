@@ -1,11 +1,12 @@
 -- What a job says of the words that it was read from.
-use Rattle.std.specs.Prelude.{◌≡◌, Bool, List, [], ◌∷◌, Option, Some, codes, find, is_some, false}
+use Rattle.std.specs.Prelude.{◌≡◌, Bool, List, [], ◌∷◌, ◌++◌, Option, Some, codes, find, is_some, false, unwrap_or}
 use Rattle.std.specs.Str.{bytes_eq}
 use Rattle.std.specs.List.{list_all}
 use Rattle.std.specs.Option.{option_map, option_map_or}
 use Rattle.clap.specs.Words.{Row, Text, all_of, first_of}
+use Rattle.seat_words.specs.declared.job.Horizon.{Horizon}
 use Rattle.seat_words.specs.declared.job.Job.{Job}
-use Rattle.seat_words.specs.declared.job.Job.TheVariants.{Ladder, Check, Flights, Audit, Run}
+use Rattle.seat_words.specs.declared.job.Job.TheVariants.{Ladder, Check, Flights, Cover, Rooms, Run, Bookings, Audit, Why, Explain}
 
 -- a command that clap found in the words, and what it found of the command's values
 abbrev pub Line : Type 0
@@ -19,6 +20,24 @@ Has line id text = first_of id line.1 ≡ Some text
 abbrev pub MayHave : Line → Text → Option Text → Type 0
 MayHave line id text = first_of id line.1 ≡ text
 
+-- clap found these values by their place, or none where there is none
+abbrev pub HasAny : Line → Text → List Text → Type 0
+HasAny line id texts = unwrap_or (all_of id line.1) [] ≡ texts
+
+-- the flag is among the words
+abbrev pub is_flagged : Text → List Row → Bool
+is_flagged id rows = option_map_or (λ text. bytes_eq text (codes "true")) (first_of id rows) false
+
+abbrev pub HasFlag : Line → Text → Bool → Type 0
+HasFlag line id is_there = is_flagged id line.1 ≡ is_there
+
+-- the flights and limits over which the command works
+abbrev pub IsOver : List Row → Horizon → Type 0
+IsOver rows over = (first_of (codes "set") rows ≡ Some over.set.now)
+    × (first_of (codes "limits") rows ≡ Some over.limits.now)
+    × (first_of (codes "first") rows ≡ Some over.first.now)
+    × (first_of (codes "days") rows ≡ Some over.days.now)
+
 -- the job is the command that was named, with the values that clap found
 abbrev pub Asks : Job → Line → Type 0
 Asks Ladder line = line.0 ≡ codes "ladder"
@@ -27,38 +46,55 @@ Asks (Flights set first days) line = (line.0 ≡ codes "flights")
     × Has line (codes "set") set.now
     × Has line (codes "first") first.now
     × Has line (codes "days") days.now
-Asks (Audit set limits first days journal) line = (line.0 ≡ codes "audit")
-    × Has line (codes "set") set.now
-    × Has line (codes "limits") limits.now
-    × Has line (codes "first") first.now
-    × Has line (codes "days") days.now
-    × Has line (codes "journal") journal.now
-Asks (Run set limits first days today journal changes scripts) line = (line.0 ≡ codes "run")
-    × Has line (codes "set") set.now
-    × Has line (codes "limits") limits.now
-    × Has line (codes "first") first.now
-    × Has line (codes "days") days.now
+Asks (Cover over) line = (line.0 ≡ codes "cover") × IsOver line.1 over
+Asks (Rooms over day pair bars journal) line = (line.0 ≡ codes "rooms")
+    × IsOver line.1 over
+    × MayHave line (codes "day") (option_map (λ text. text.now) day)
+    × MayHave line (codes "pair") (option_map (λ text. text.now) pair)
+    × HasFlag line (codes "bars") bars
+    × MayHave line (codes "journal") (option_map (λ text. text.now) journal)
+Asks (Run over today journal changes no_clobber scripts) line = (line.0 ≡ codes "run")
+    × IsOver line.1 over
     × Has line (codes "today") today.now
     × Has line (codes "journal") journal.now
     × MayHave line (codes "changes") (option_map (λ text. text.now) changes)
+    × HasFlag line (codes "no-clobber") no_clobber
     × (all_of (codes "scripts") line.1 ≡ Some scripts)
+Asks (Bookings over locator journal) line = (line.0 ≡ codes "bookings")
+    × IsOver line.1 over
+    × Has line (codes "locator") locator.now
+    × Has line (codes "journal") journal.now
+Asks (Audit over today journal scripts) line = (line.0 ≡ codes "audit")
+    × IsOver line.1 over
+    × MayHave line (codes "today") (option_map (λ text. text.now) today)
+    × Has line (codes "journal") journal.now
+    × HasAny line (codes "scripts") scripts
+Asks (Why over line_word journal) line = (line.0 ≡ codes "why")
+    × IsOver line.1 over
+    × Has line (codes "line") line_word.now
+    × Has line (codes "journal") journal.now
+Asks (Explain code numbers) line = (line.0 ≡ codes "explain")
+    × Has line (codes "code") code.now
+    × HasAny line (codes "numbers") numbers
 
 -- ---- what the reading itself needs
+
+-- the values that the limits of a horizon ask for
+abbrev pub horizon_values : List Text
+horizon_values = codes "set" ∷ codes "limits" ∷ codes "first" ∷ codes "days" ∷ []
 
 -- the values that each command asks for
 abbrev pub asked_values : List (Text × List Text)
 asked_values = (codes "ladder", [])
     ∷ (codes "check", codes "set" ∷ [])
     ∷ (codes "flights", codes "first" ∷ codes "days" ∷ codes "set" ∷ [])
-    ∷ (
-      codes "audit",
-      codes "set" ∷ codes "limits" ∷ codes "first" ∷ codes "days" ∷ codes "journal" ∷ [],
-    )
-    ∷ (
-      codes "run",
-      codes "set" ∷ codes "limits" ∷ codes "first" ∷ codes "days"
-          ∷ codes "today" ∷ codes "journal" ∷ codes "scripts" ∷ [],
-    )
+    ∷ (codes "cover", horizon_values)
+    ∷ (codes "rooms", horizon_values)
+    ∷ (codes "run", horizon_values ++ codes "today" ∷ codes "journal" ∷ codes "scripts" ∷ [])
+    ∷ (codes "bookings", horizon_values ++ codes "locator" ∷ codes "journal" ∷ [])
+    ∷ (codes "audit", horizon_values ++ codes "journal" ∷ [])
+    ∷ (codes "why", horizon_values ++ codes "line" ∷ codes "journal" ∷ [])
+    ∷ (codes "explain", codes "code" ∷ [])
     ∷ []
 
 abbrev pub has_values : List Text → List Row → Bool

@@ -1,12 +1,19 @@
 //! The commands, as clap reads them and as their help shows them.
 ghost use Rattle.std.specs.Prelude.{IfOk, IsOkAnd, codes};
 ghost use Rattle.clap.specs.Words.{AddsArg, AddsSubcommand, new_app};
-ghost use Rattle.seat_words.specs.CommandLine.{IsBuiltAs, IsReadAlike, IsReadAs, audit_app, bare_app, check_app, flights_app, horizon_app, ladder_app, optional, required_option, required_value, required_values, run_app, seatdesk_app};
+ghost use Rattle.seat_words.specs.CommandLine.{IsBuiltAs, IsReadAlike, IsReadAs, audit_app, bare_app, bookings_app, check_app, cover_app, explain_app, flag, flights_app, horizon_app, ladder_app, lettered_flag, named_app, optional, optional_value, optional_values, required_option, required_value, required_values, rooms_app, run_app, seatdesk_app, selling_app, why_app};
 
 use clap::{Arg, ArgAction, Command};
 use std::alloc::{AllocError, Global};
 
+const VERSION: &str = "1.0.0";
+
+const LONG_VERSION: &str = "1.0.0\nproved and built with rattle-kit-13b logic dac8208d650f15bf";
+
 const SET_HELP: &str = "The data set of the schedule (SSIM chapter 7, a file)";
+
+const SET_INPUT_HELP: &str =
+    "The data set of the schedule (SSIM chapter 7, a file, or - for standard input)";
 
 const LIMITS_HELP: &str = "The booking limits of the legs, in seats from 0 to 999 (a file)";
 
@@ -17,24 +24,61 @@ const DAYS_HELP: &str = "How many days from the first on, 1 to 366";
 const TODAY_HELP: &str =
     "The day of the run, as 2024-06-01, from 2000 to 2099; it gives the requests their year";
 
-const OUT_HELP: &str = "The file that the journal is written to";
+const OUT_HELP: &str = "The file that the journal is written to, which may be no input";
 
-const JOURNAL_HELP: &str = "The journal to replay: a file that run wrote";
+const JOURNAL_HELP: &str = "The journal to replay: a file that run wrote, or - for standard input";
 
 const CHANGES_HELP: &str =
     "Changes of the limits, made beside the sessions (a file); without it no limit changes";
 
+const NO_CLOBBER_HELP: &str = "Refuses an OUT that is there and is not empty";
+
 const SCRIPTS_HELP: &str = "The scripts of the sessions, 1 to 8 files of AIRIMP messages";
+
+const ASKED_HELP: &str =
+    "The scripts that the journal must be of, up to 8 files of AIRIMP messages; they need --today";
+
+const DAY_HELP: &str = "The places that depart on this day alone, as 2024-06-01";
+
+const PAIR_HELP: &str = "The places between these two stations alone, as LHRJFK";
+
+const BARS_HELP: &str = "Shows the seats held of each limit as a bar, behind each leg";
+
+const OPENING_HELP: &str =
+    "The journal to replay: a file that run wrote, or - for standard input; without it the rooms before the first booking";
+
+const LOCATOR_HELP: &str = "The locator of the bookings: six letters and digits, as B3N6VC";
+
+const LINE_HELP: &str = "The line of the journal, counted from 1";
+
+const CODE_HELP: &str = "The code of a fault line, as Q2 of seatdesk: Q2 A5 1 2";
+
+const NUMBERS_HELP: &str = "What stands behind it in the fault line";
+
+const STATUSES: &str =
+    "Example: seatdesk check examples/summer.ssim\nEach command tells more: seatdesk help run\n\nExit status:\n  0  All is done\n  1  An input is refused, or the journal is full\n  2  The command line is wrong\n  3  A device failed, a file did not open, or memory was refused\n\nA fault is one line on standard error; seatdesk explain says what its code means.";
 
 /// The whole command line.
 pub(crate) fn seatdesk_command<'a>(alloc: Global) -> Result<Command<'a>, AllocError>
     ensures { IfOk result (IsBuiltAs seatdesk_app) }
 {
+    let program = selling_command(alloc);
+    let program = with_command(program, bookings_command(alloc));
+    let program = with_command(program, audit_command(alloc));
+    let program = with_command(program, why_command(alloc));
+    with_command(program, explain_command(alloc))
+}
+
+// The program with the commands that work on a schedule, or on one leg.
+fn selling_command<'a>(alloc: Global) -> Result<Command<'a>, AllocError>
+    ensures { IfOk result (IsBuiltAs selling_app) }
+{
     let program = bare_command(alloc);
     let program = with_command(program, Ok(ladder_command(alloc)));
     let program = with_command(program, check_command(alloc));
     let program = with_command(program, flights_command(alloc));
-    let program = with_command(program, audit_command(alloc));
+    let program = with_command(program, cover_command(alloc));
+    let program = with_command(program, rooms_command(alloc));
     with_command(program, run_command(alloc))
 }
 
@@ -48,18 +92,29 @@ fn with_command<'a>(
     program?.subcommand(command?)
 }
 
-#[tactic(auto, unfolding(crate::specs::CommandLine::bare_app))]
+// The program with its own options.
 fn bare_command<'a>(alloc: Global) -> Result<Command<'a>, AllocError>
     ensures { IfOk result (IsBuiltAs bare_app) }
 {
+    let verbose = lettered_flag(
+        alloc,
+        "verbose",
+        'v',
+        "Names the file of a fault that is DEVICE or R2, and the system's reason",
+    );
+    with_argument(named_program(alloc), verbose)
+}
+
+#[tactic(auto, unfolding(crate::specs::CommandLine::named_app))]
+fn named_program<'a>(alloc: Global) -> Result<Command<'a>, AllocError>
+    ensures { IfOk result (IsBuiltAs named_app) }
+{
     Command::new(alloc, "seatdesk")
-        .version("1.0.0")
+        .version(VERSION)
+        .long_version(LONG_VERSION)
         .about("The seat inventory of an airline's reservations host")
-        .after_help(
-            "Example: seatdesk check examples/summer.ssim\nEach command tells more: seatdesk run --help",
-        )
+        .after_help(STATUSES)
         .subcommand_required(true)
-        .disable_help_subcommand(true)
         .bin_name("seatdesk")
 }
 
@@ -84,7 +139,7 @@ fn check_command<'a>(alloc: Global) -> Result<Command<'a>, AllocError>
         "Reads a data set and writes one summary line",
         "Example: seatdesk check examples/summer.ssim",
     );
-    with_argument(Ok(check), wanted_value(alloc, "set", "SET", SET_HELP))
+    with_argument(Ok(check), wanted_value(alloc, "set", "SET", SET_INPUT_HELP))
 }
 
 fn flights_command<'a>(alloc: Global) -> Result<Command<'a>, AllocError>
@@ -101,21 +156,36 @@ fn flights_command<'a>(alloc: Global) -> Result<Command<'a>, AllocError>
         wanted_option(alloc, "first", "DATE", FIRST_HELP),
     );
     let flights = with_argument(flights, wanted_option(alloc, "days", "N", DAYS_HELP));
-    with_argument(flights, wanted_value(alloc, "set", "SET", SET_HELP))
+    with_argument(flights, wanted_value(alloc, "set", "SET", SET_INPUT_HELP))
 }
 
-fn audit_command<'a>(alloc: Global) -> Result<Command<'a>, AllocError>
-    ensures { IfOk result (IsBuiltAs audit_app) }
+#[tactic(auto, unfolding(crate::specs::CommandLine::cover_app))]
+fn cover_command<'a>(alloc: Global) -> Result<Command<'a>, AllocError>
+    ensures { IfOk result (IsBuiltAs cover_app) }
 {
-    let audit = horizon_command(
+    horizon_command(
         alloc,
-        "audit",
-        "Replays a journal against its schedule and limits, and writes one summary line",
-        "Example: seatdesk audit --set examples/summer.ssim --limits examples/limits.txt --first 2024-07-01 --days 31 examples/journal.txt",
+        "cover",
+        "Writes the limits that are for no leg, and the legs that have no limits",
+        "Example: seatdesk cover --set examples/summer.ssim --limits examples/limits.txt --first 2024-07-01 --days 31",
+    )
+}
+
+fn rooms_command<'a>(alloc: Global) -> Result<Command<'a>, AllocError>
+    ensures { IfOk result (IsBuiltAs rooms_app) }
+{
+    let rooms = horizon_command(
+        alloc,
+        "rooms",
+        "Writes the seats that are left on each place of a flight, by class",
+        "Example: seatdesk rooms --set examples/summer.ssim --limits examples/limits.txt --first 2024-07-01 --days 31 --day 2024-07-27 --pair LHRKEF examples/journal.txt",
     );
+    let rooms = with_argument(rooms, optional_option(alloc, "day", "DATE", DAY_HELP));
+    let rooms = with_argument(rooms, optional_option(alloc, "pair", "PAIR", PAIR_HELP));
+    let rooms = with_argument(rooms, flag(alloc, "bars", BARS_HELP));
     with_argument(
-        audit,
-        wanted_value(alloc, "journal", "JOURNAL", JOURNAL_HELP),
+        rooms,
+        optional_value(alloc, "journal", "JOURNAL", OPENING_HELP),
     )
 }
 
@@ -131,7 +201,76 @@ fn run_command<'a>(alloc: Global) -> Result<Command<'a>, AllocError>
     let run = with_argument(run, wanted_option(alloc, "today", "DATE", TODAY_HELP));
     let run = with_argument(run, wanted_option(alloc, "journal", "OUT", OUT_HELP));
     let run = with_argument(run, optional_option(alloc, "changes", "FILE", CHANGES_HELP));
+    let run = with_argument(run, flag(alloc, "no-clobber", NO_CLOBBER_HELP));
     with_argument(run, wanted_values(alloc, "scripts", "SCRIPT", SCRIPTS_HELP))
+}
+
+fn bookings_command<'a>(alloc: Global) -> Result<Command<'a>, AllocError>
+    ensures { IfOk result (IsBuiltAs bookings_app) }
+{
+    let bookings = horizon_command(
+        alloc,
+        "bookings",
+        "Writes the live bookings of a locator, in the codes of AIRIMP",
+        "Example: seatdesk bookings --set examples/summer.ssim --limits examples/limits.txt --first 2024-07-01 --days 31 --locator B3N6VC examples/journal.txt",
+    );
+    let bookings = with_argument(
+        bookings,
+        wanted_option(alloc, "locator", "LOCATOR", LOCATOR_HELP),
+    );
+    with_argument(
+        bookings,
+        wanted_value(alloc, "journal", "JOURNAL", JOURNAL_HELP),
+    )
+}
+
+fn audit_command<'a>(alloc: Global) -> Result<Command<'a>, AllocError>
+    ensures { IfOk result (IsBuiltAs audit_app) }
+{
+    let audit = horizon_command(
+        alloc,
+        "audit",
+        "Replays a journal against its schedule and limits, and writes one summary line",
+        "Example: seatdesk audit --set examples/summer.ssim --limits examples/limits.txt --first 2024-07-01 --days 31 examples/journal.txt\n\nAgainst its scripts: seatdesk audit --set examples/summer.ssim --limits examples/limits.txt --first 2024-07-01 --days 31 --today 2024-06-20 examples/journal.txt examples/london.txt examples/lisbon.txt",
+    );
+    let audit = with_argument(audit, optional_option(alloc, "today", "DATE", TODAY_HELP));
+    let audit = with_argument(
+        audit,
+        wanted_value(alloc, "journal", "JOURNAL", JOURNAL_HELP),
+    );
+    with_argument(
+        audit,
+        optional_values(alloc, "scripts", "SCRIPT", ASKED_HELP),
+    )
+}
+
+fn why_command<'a>(alloc: Global) -> Result<Command<'a>, AllocError>
+    ensures { IfOk result (IsBuiltAs why_app) }
+{
+    let why = horizon_command(
+        alloc,
+        "why",
+        "Writes the reason of one reply of a journal: what the limits left, and the right answer",
+        "Only the lines before it need be right, so it explains the line that audit refuses.\n\nExample: seatdesk why --set examples/summer.ssim --limits examples/limits.txt --first 2024-07-01 --days 31 --line 6 examples/journal.txt",
+    );
+    let why = with_argument(why, wanted_option(alloc, "line", "N", LINE_HELP));
+    with_argument(why, wanted_value(alloc, "journal", "JOURNAL", JOURNAL_HELP))
+}
+
+fn explain_command<'a>(alloc: Global) -> Result<Command<'a>, AllocError>
+    ensures { IfOk result (IsBuiltAs explain_app) }
+{
+    let explain = named_command(
+        alloc,
+        "explain",
+        "Says what a fault line means",
+        "Example: seatdesk explain Q2 A5 1 2",
+    );
+    let explain = with_argument(Ok(explain), wanted_value(alloc, "code", "CODE", CODE_HELP));
+    with_argument(
+        explain,
+        optional_values(alloc, "numbers", "NUMBER", NUMBERS_HELP),
+    )
 }
 
 // A command over the limits of the dated flights.
@@ -220,4 +359,35 @@ fn wanted_values<'a>(alloc: Global, id: &'a str, value: &'a str, help: &'a str) 
     ensures { IsReadAs (required_values id.entry.now) result }
 {
     wanted_value(alloc, id, value, help).action(ArgAction::Append)
+}
+
+// A value by its place, which may be left out.
+fn optional_value<'a>(alloc: Global, id: &'a str, value: &'a str, help: &'a str) -> Arg<'a>
+    ensures { IsReadAs (optional_value id.entry.now) result }
+{
+    Arg::new(alloc, id).value_name(value).help(help)
+}
+
+// A value by its place, of which there may be none or more.
+fn optional_values<'a>(alloc: Global, id: &'a str, value: &'a str, help: &'a str) -> Arg<'a>
+    ensures { IsReadAs (optional_values id.entry.now) result }
+{
+    optional_value(alloc, id, value, help).action(ArgAction::Append)
+}
+
+// An option without a value.
+fn flag<'a>(alloc: Global, id: &'a str, help: &'a str) -> Arg<'a>
+    ensures { IsReadAs (flag id.entry.now) result }
+{
+    Arg::new(alloc, id)
+        .help(help)
+        .long(id)
+        .action(ArgAction::SetTrue)
+}
+
+// An option without a value, which has a letter too.
+fn lettered_flag<'a>(alloc: Global, id: &'a str, letter: char, help: &'a str) -> Arg<'a>
+    ensures { IsReadAs (lettered_flag id.entry.now letter) result }
+{
+    flag(alloc, id, help).short(letter)
 }

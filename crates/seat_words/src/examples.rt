@@ -23,7 +23,8 @@ pub fn examples_are_read()
         ((codes "set", codes "examples/summer.ssim" ∷ []) ∷ (codes "limits", codes "examples/limits.txt" ∷ [])
         ∷ (codes "first", codes "2024-07-01" ∷ []) ∷ (codes "days", codes "31" ∷ [])
         ∷ (codes "today", codes "2024-06-20" ∷ []) ∷ (codes "journal", codes "journal.txt" ∷ [])
-        ∷ (codes "scripts", codes "examples/london.txt" ∷ codes "examples/lisbon.txt" ∷ []) ∷ []) }
+        ∷ (codes "scripts", codes "examples/london.txt" ∷ codes "examples/lisbon.txt" ∷ [])
+        ∷ (codes "no-clobber", codes "false" ∷ []) ∷ []) }
     ensures changes { IsReadTo
         (codes "seatdesk run --set examples/summer.ssim --limits examples/limits.txt --first 2024-07-01 --days 31 --today 2024-06-20 --journal journal.txt --changes examples/changes.txt examples/london.txt examples/lisbon.txt")
         (codes "run")
@@ -31,5 +32,40 @@ pub fn examples_are_read()
         ∷ (codes "first", codes "2024-07-01" ∷ []) ∷ (codes "days", codes "31" ∷ [])
         ∷ (codes "today", codes "2024-06-20" ∷ []) ∷ (codes "journal", codes "journal.txt" ∷ [])
         ∷ (codes "changes", codes "examples/changes.txt" ∷ [])
+        ∷ (codes "scripts", codes "examples/london.txt" ∷ codes "examples/lisbon.txt" ∷ [])
+        ∷ (codes "no-clobber", codes "false" ∷ []) ∷ []) }
+    ensures cover { IsReadTo
+        (codes "seatdesk cover --set examples/summer.ssim --limits examples/limits.txt --first 2024-07-01 --days 31")
+        (codes "cover")
+        ((codes "set", codes "examples/summer.ssim" ∷ []) ∷ (codes "limits", codes "examples/limits.txt" ∷ [])
+        ∷ (codes "first", codes "2024-07-01" ∷ []) ∷ (codes "days", codes "31" ∷ []) ∷ []) }
+    ensures rooms { IsReadTo
+        (codes "seatdesk rooms --set examples/summer.ssim --limits examples/limits.txt --first 2024-07-01 --days 31 --day 2024-07-27 --pair LHRKEF examples/journal.txt")
+        (codes "rooms")
+        ((codes "set", codes "examples/summer.ssim" ∷ []) ∷ (codes "limits", codes "examples/limits.txt" ∷ [])
+        ∷ (codes "first", codes "2024-07-01" ∷ []) ∷ (codes "days", codes "31" ∷ [])
+        ∷ (codes "day", codes "2024-07-27" ∷ []) ∷ (codes "pair", codes "LHRKEF" ∷ [])
+        ∷ (codes "journal", codes "examples/journal.txt" ∷ [])
+        ∷ (codes "bars", codes "false" ∷ []) ∷ []) }
+    ensures bookings { IsReadTo
+        (codes "seatdesk bookings --set examples/summer.ssim --limits examples/limits.txt --first 2024-07-01 --days 31 --locator B3N6VC examples/journal.txt")
+        (codes "bookings")
+        ((codes "set", codes "examples/summer.ssim" ∷ []) ∷ (codes "limits", codes "examples/limits.txt" ∷ [])
+        ∷ (codes "first", codes "2024-07-01" ∷ []) ∷ (codes "days", codes "31" ∷ [])
+        ∷ (codes "locator", codes "B3N6VC" ∷ []) ∷ (codes "journal", codes "examples/journal.txt" ∷ []) ∷ []) }
+    ensures against { IsReadTo
+        (codes "seatdesk audit --set examples/summer.ssim --limits examples/limits.txt --first 2024-07-01 --days 31 --today 2024-06-20 examples/journal.txt examples/london.txt examples/lisbon.txt")
+        (codes "audit")
+        ((codes "set", codes "examples/summer.ssim" ∷ []) ∷ (codes "limits", codes "examples/limits.txt" ∷ [])
+        ∷ (codes "first", codes "2024-07-01" ∷ []) ∷ (codes "days", codes "31" ∷ [])
+        ∷ (codes "today", codes "2024-06-20" ∷ []) ∷ (codes "journal", codes "examples/journal.txt" ∷ [])
         ∷ (codes "scripts", codes "examples/london.txt" ∷ codes "examples/lisbon.txt" ∷ []) ∷ []) }
+    ensures why { IsReadTo
+        (codes "seatdesk why --set examples/summer.ssim --limits examples/limits.txt --first 2024-07-01 --days 31 --line 6 examples/journal.txt")
+        (codes "why")
+        ((codes "set", codes "examples/summer.ssim" ∷ []) ∷ (codes "limits", codes "examples/limits.txt" ∷ [])
+        ∷ (codes "first", codes "2024-07-01" ∷ []) ∷ (codes "days", codes "31" ∷ [])
+        ∷ (codes "line", codes "6" ∷ []) ∷ (codes "journal", codes "examples/journal.txt" ∷ []) ∷ []) }
+    ensures explain { IsReadTo (codes "seatdesk explain Q2 A5 1 2") (codes "explain")
+        ((codes "code", codes "Q2" ∷ []) ∷ (codes "numbers", codes "A5" ∷ codes "1" ∷ codes "2" ∷ []) ∷ []) }
 {}

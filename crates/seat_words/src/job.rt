@@ -1,15 +1,25 @@
 //! What the command line asks for.
-ghost use Rattle.std.specs.Prelude.{◌≡◌, IfOk, IfErr, IsSomeAnd, Some, is_some, true};
+ghost use Rattle.std.specs.Prelude.{◌≡◌, [], IfOk, IfErr, IsSomeAnd, Some, codes, is_some, option_map, true, unwrap_or};
 ghost use Rattle.clap.specs.Walk.{texts};
-ghost use Rattle.clap.specs.Words.{FailsBy, all_of, fault_of, first_of, found_of, kind_of, rows_of, subcommand_of, subcommand_rows_of, takes};
-ghost use Rattle.clap.specs.declared.error.kind.ErrorKind.TheVariants.{OutOfMemory};
+ghost use Rattle.clap.specs.Words.{FailsBy, all_of, fault_of, first_of, found_of, kind_of, matches_of, rows_of, subcommand_of, subcommand_rows_of, takes};
+ghost use Rattle.clap.specs.declared.error.kind.ErrorKind.TheVariants.{InvalidValue, OutOfMemory};
 ghost use Rattle.seat_words.specs.CommandLine.{seatdesk_app};
-ghost use Rattle.seat_words.specs.Jobs.{Asks, is_answerable, is_complete};
+ghost use Rattle.seat_words.specs.Jobs.{Asks, IsOver, has_values, horizon_values, is_answerable, is_complete, is_flagged};
 
 use super::commands::seatdesk_command;
-use super::scripts::Scripts;
+use super::several::Several;
+use clap::error::ErrorKind;
 use clap::{ArgMatches, Error};
 use std::alloc::{AllocError, Global};
+
+/// The dated flights and limits over which a command works, as they were written: `--set SET --limits LIMITS --first DATE --days N`.
+#[derive(Clone, Copy)]
+pub struct Horizon<'a> {
+    pub set: &'a str,
+    pub limits: &'a str,
+    pub first: &'a str,
+    pub days: &'a str,
+}
 
 /// One command of the program, with the values of its options as they were written.
 #[derive(Drop)]
@@ -26,41 +36,87 @@ pub enum Job<'a> {
         first: &'a str,
         days: &'a str,
     },
-    /// `seatdesk audit --set SET --limits LIMITS --first DATE --days N JOURNAL`
-    Audit {
-        set: &'a str,
-        limits: &'a str,
-        first: &'a str,
-        days: &'a str,
-        journal: &'a str,
+    /// `seatdesk cover` over a horizon
+    Cover {
+        over: Horizon<'a>,
     },
-    /// `seatdesk run --set SET --limits LIMITS --first DATE --days N --today DATE --journal OUT [--changes FILE] SCRIPT...`
+    /// `seatdesk rooms` over a horizon `[--day DATE] [--pair PAIR] [--bars] [JOURNAL]`
+    Rooms {
+        over: Horizon<'a>,
+        day: Option<&'a str>,
+        pair: Option<&'a str>,
+        bars: bool,
+        journal: Option<&'a str>,
+    },
+    /// `seatdesk run` over a horizon `--today DATE --journal OUT [--changes FILE] [--no-clobber] SCRIPT...`
     Run {
-        set: &'a str,
-        limits: &'a str,
-        first: &'a str,
-        days: &'a str,
+        over: Horizon<'a>,
         today: &'a str,
         journal: &'a str,
         changes: Option<&'a str>,
+        no_clobber: bool,
         /// One or more.
-        scripts: Scripts<'a>,
+        scripts: Several<'a>,
     },
+    /// `seatdesk bookings` over a horizon `--locator LOCATOR JOURNAL`
+    Bookings {
+        over: Horizon<'a>,
+        locator: &'a str,
+        journal: &'a str,
+    },
+    /// `seatdesk audit` over a horizon `[--today DATE] JOURNAL [SCRIPT...]`
+    Audit {
+        over: Horizon<'a>,
+        today: Option<&'a str>,
+        journal: &'a str,
+        /// None or more.
+        scripts: Several<'a>,
+    },
+    /// `seatdesk why` over a horizon `--line N JOURNAL`
+    Why {
+        over: Horizon<'a>,
+        line: &'a str,
+        journal: &'a str,
+    },
+    /// `seatdesk explain CODE [NUMBER...]`
+    Explain {
+        code: &'a str,
+        /// None or more.
+        numbers: Several<'a>,
+    },
+}
+
+/// A command line: the command that it names, and whether `-v` or `--verbose` stands ahead of it.
+#[derive(Drop)]
+pub struct Asked<'a> {
+    pub job: Job<'a>,
+    pub is_verbose: bool,
 }
 
 /// The command that the words name; the first word is the program's own name.
 /// An error is clap's: its help, its version, a fault of the words, or want of memory.
-pub fn read_words<'a>(alloc: Global, words: &'a [&'a str]) -> Result<Job<'a>, Error>
-    ensures asks { IfOk result (λ job.
-        IsSomeAnd (subcommand_of seatdesk_app (texts words.entry.now)) (Asks job)) }
+pub fn read_words<'a>(alloc: Global, words: &'a [&'a str]) -> Result<Asked<'a>, Error>
+    ensures asks { IfOk result (λ asked.
+        IsSomeAnd (subcommand_of seatdesk_app (texts words.entry.now)) (Asks asked.job)) }
+    ensures verbose { IfOk result (λ asked.
+        is_flagged (codes "verbose") (matches_of seatdesk_app (texts words.entry.now)) ≡ asked.is_verbose) }
     ensures passes { IfErr result (λ e.
         takes seatdesk_app (texts words.entry.now) ≡ true → kind_of e ≡ OutOfMemory) }
     ensures kinds { FailsBy (fault_of seatdesk_app (texts words.entry.now)) result }
 {
     let command = seatdesk_command(alloc)?;
     let matches = command.try_get_matches_from(words)?;
+    let is_verbose = flag_of(&matches, "verbose");
     let job = job_of(alloc, &matches)?;
-    Ok(job)
+    Ok(Asked { job, is_verbose })
+}
+
+/// The fault of a word that is no value of its place, with the usage of the program. An error is want of memory.
+pub fn wrong_value(alloc: Global, message: &str) -> Result<Error, AllocError>
+    ensures { IfOk result (λ e. kind_of e ≡ InvalidValue) }
+{
+    let mut command = seatdesk_command(alloc)?;
+    command.error(ErrorKind::InvalidValue, message)
 }
 
 #[tactic(auto, using(crate::proofs::Lines::nothing_found, crate::proofs::Lines::line_found))]
@@ -74,7 +130,6 @@ fn job_of<'a>(alloc: Global, matches: &ArgMatches<'a>) -> Result<Job<'a>, AllocE
     job_named(alloc, name, inner)
 }
 
-#[tactic(auto, using(crate::proofs::Lines::may_text))]
 fn job_named<'a>(alloc: Global, name: &str, matches: &ArgMatches<'a>) -> Result<Job<'a>, AllocError>
     requires { is_complete (name.now, rows_of (found_of matches.now)) ≡ true }
     ensures { IfOk result (λ job. Asks job (name.now, rows_of (found_of matches.now))) }
@@ -89,26 +144,59 @@ fn job_named<'a>(alloc: Global, name: &str, matches: &ArgMatches<'a>) -> Result<
             first: value_of(matches, "first"),
             days: value_of(matches, "days"),
         },
-        "audit" => Job::Audit {
-            set: value_of(matches, "set"),
-            limits: value_of(matches, "limits"),
-            first: value_of(matches, "first"),
-            days: value_of(matches, "days"),
-            journal: value_of(matches, "journal"),
+        "cover" => Job::Cover {
+            over: horizon_of(matches),
+        },
+        "rooms" => Job::Rooms {
+            over: horizon_of(matches),
+            day: may_value_of(matches, "day"),
+            pair: may_value_of(matches, "pair"),
+            bars: flag_of(matches, "bars"),
+            journal: may_value_of(matches, "journal"),
         },
         "run" => Job::Run {
-            set: value_of(matches, "set"),
-            limits: value_of(matches, "limits"),
-            first: value_of(matches, "first"),
-            days: value_of(matches, "days"),
+            over: horizon_of(matches),
             today: value_of(matches, "today"),
             journal: value_of(matches, "journal"),
-            changes: matches.get_str("changes"),
+            changes: may_value_of(matches, "changes"),
+            no_clobber: flag_of(matches, "no-clobber"),
             scripts: values_of(alloc, matches, "scripts")?,
+        },
+        "bookings" => Job::Bookings {
+            over: horizon_of(matches),
+            locator: value_of(matches, "locator"),
+            journal: value_of(matches, "journal"),
+        },
+        "audit" => Job::Audit {
+            over: horizon_of(matches),
+            today: may_value_of(matches, "today"),
+            journal: value_of(matches, "journal"),
+            scripts: any_values_of(alloc, matches, "scripts")?,
+        },
+        "why" => Job::Why {
+            over: horizon_of(matches),
+            line: value_of(matches, "line"),
+            journal: value_of(matches, "journal"),
+        },
+        "explain" => Job::Explain {
+            code: value_of(matches, "code"),
+            numbers: any_values_of(alloc, matches, "numbers")?,
         },
         _ => unreachable!(),
     };
     Ok(job)
+}
+
+fn horizon_of<'a>(matches: &ArgMatches<'a>) -> Horizon<'a>
+    requires { has_values horizon_values (rows_of (found_of matches.now)) ≡ true }
+    ensures { IsOver (rows_of (found_of matches.now)) result }
+{
+    Horizon {
+        set: value_of(matches, "set"),
+        limits: value_of(matches, "limits"),
+        first: value_of(matches, "first"),
+        days: value_of(matches, "days"),
+    }
 }
 
 #[tactic(auto, using(crate::proofs::Lines::some_text, crate::proofs::Lines::no_text))]
@@ -122,17 +210,48 @@ fn value_of<'a>(matches: &ArgMatches<'a>, id: &str) -> &'a str
     }
 }
 
+#[tactic(auto, using(crate::proofs::Lines::may_text))]
+fn may_value_of<'a>(matches: &ArgMatches<'a>, id: &str) -> Option<&'a str>
+    ensures { first_of id.now (rows_of (found_of matches.now)) ≡ option_map (λ text. text.now) result }
+{
+    matches.get_str(id)
+}
+
+#[tactic(auto, using(crate::proofs::Lines::some_flag, crate::proofs::Lines::no_flag))]
+fn flag_of(matches: &ArgMatches<'_>, id: &str) -> bool
+    ensures { is_flagged id.now (rows_of (found_of matches.now)) ≡ result }
+{
+    match matches.get_str(id) {
+        Some(text) => text == "true",
+        None => false,
+    }
+}
+
 #[tactic(auto, using(crate::proofs::Lines::some_texts, crate::proofs::Lines::no_texts))]
 fn values_of<'a>(
     alloc: Global,
     matches: &ArgMatches<'a>,
     id: &str,
-) -> Result<Scripts<'a>, AllocError>
+) -> Result<Several<'a>, AllocError>
     requires { is_some (first_of id.now (rows_of (found_of matches.now))) ≡ true }
-    ensures { IfOk result (λ scripts. all_of id.now (rows_of (found_of matches.now)) ≡ Some scripts) }
+    ensures { IfOk result (λ several. all_of id.now (rows_of (found_of matches.now)) ≡ Some several) }
 {
     match matches.get_strs(id) {
-        Some(texts) => Scripts::of(alloc, texts),
+        Some(texts) => Several::of(alloc, texts),
         None => unreachable!(),
+    }
+}
+
+#[tactic(auto, using(crate::proofs::Lines::any_texts, crate::proofs::Lines::none_of_texts))]
+fn any_values_of<'a>(
+    alloc: Global,
+    matches: &ArgMatches<'a>,
+    id: &str,
+) -> Result<Several<'a>, AllocError>
+    ensures { IfOk result (λ several. unwrap_or (all_of id.now (rows_of (found_of matches.now))) [] ≡ several) }
+{
+    match matches.get_strs(id) {
+        Some(texts) => Several::of(alloc, texts),
+        None => Several::of(alloc, &[]),
     }
 }

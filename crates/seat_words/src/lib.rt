@@ -1,14 +1,16 @@
 //! The words of the command line: which command they name, with the values of its options.
-//! It knows clap and dates, and nothing of what the commands do.
+//! It knows clap, dates and names, and nothing of what the commands do.
 #![tactic(auto)]
 
 mod commands;
 mod days;
 mod examples;
 mod job;
-mod scripts;
+mod names;
+mod several;
 
 pub use days::{date_word, days_word};
 pub use examples::examples_are_read;
-pub use job::{Job, read_words};
-pub use scripts::Scripts;
+pub use job::{Asked, Horizon, Job, read_words, wrong_value};
+pub use names::{line_word, locator_word, pair_word};
+pub use several::Several;

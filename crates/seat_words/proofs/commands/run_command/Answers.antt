@@ -8,4 +8,5 @@ returns c =
     let today = argued _ _ c.horizon_command-run.result c.with_argument-run.result c.wanted_option.result c.horizon_command-run.ensures c.wanted_option.ensures c.with_argument-run.ensures in
     let journal = argued _ _ c.with_argument-run.result c.with_argument-run-2.result c.wanted_option-2.result today c.wanted_option-2.ensures c.with_argument-run-2.ensures in
     let changes = argued _ _ c.with_argument-run-2.result c.with_argument-run-3.result c.optional_option.result journal c.optional_option.ensures c.with_argument-run-3.ensures in
-    argued _ _ c.with_argument-run-3.result c.with_argument.result c.wanted_values.result changes c.wanted_values.ensures c.with_argument.ensures
+    let clobber = argued _ _ c.with_argument-run-3.result c.with_argument-run-4.result c.flag.result changes c.flag.ensures c.with_argument-run-4.ensures in
+    argued _ _ c.with_argument-run-4.result c.with_argument.result c.wanted_values.result clobber c.wanted_values.ensures c.with_argument.ensures

@@ -1,0 +1,17 @@
+-- Words that name a pair of stations, or a line of a journal.
+use Rattle.std.specs.Prelude.{◌≡◌, ℕ, ◌≤◌, ◌&&◌, if◌then◌else◌, true, List, length, take, drop, Option, Some, None}
+use Rattle.std.specs.Char.{is_ascii_digit}
+use Rattle.std.specs.List.{list_all}
+use Rattle.std.specs.Str.Parse.{digits_value}
+use Rattle.ssim_records.specs.Names.{is_station}
+
+-- two stations, the board point and behind it the off point
+abbrev pub pair_word_in : List ℕ → Option (List ℕ × List ℕ)
+pair_word_in word = if is_station (take 3 word) && is_station (drop 3 word) then Some (take 3 word, drop 3 word) else None
+
+-- the word is n in one to six digits, from 1 on
+pub record IsLineWord (word : List ℕ) (n : ℕ) : Type 0 where
+  pub digits : list_all is_ascii_digit word ≡ true
+  pub short : length word ≤ 6
+  pub value : digits_value 10 word ≡ n
+  pub least : 1 ≤ n

@@ -1,0 +1,38 @@
+//! Words that name a pair of stations, a locator or a line of a journal.
+ghost use Rattle.std.specs.Prelude.{◌≡◌, ℕ, IfSome, Some, None, if◌then◌else◌};
+ghost use Rattle.ssim_records.specs.Names.{is_locator};
+ghost use Rattle.seat_words.specs.NameWords.{IsLineWord, pair_word_in};
+
+use ssim_records::fields::{are_digits, value_of};
+use ssim_records::{Locator, Station};
+
+/// The board and the off point that the word names: two stations of three letters A to Z, as `LHRJFK`.
+pub fn pair_word(word: &str) -> Option<(Station, Station)>
+    ensures { result ≡ pair_word_in word.now }
+{
+    let (board, off) = word.as_bytes().split_at_checked(3)?;
+    Some((Station::new(board)?, Station::new(off)?))
+}
+
+/// The locator that the word names: six of A to Z and 0 to 9.
+pub fn locator_word(word: &str) -> Option<Locator>
+    ensures { result ≡ (if is_locator word.now then Some word.now else None) }
+{
+    Locator::new(word.as_bytes())
+}
+
+/// The line that the word names: one to six digits, of value 1 to 999,999.
+pub fn line_word(word: &str) -> Option<u32>
+    ensures value { IfSome result (IsLineWord word.now) }
+    ensures only { (n : ℕ) → IsLineWord word.now n → result ≡ Some n }
+{
+    let digits = word.as_bytes();
+    if digits.len() > 6 || !are_digits(digits) {
+        return None;
+    }
+    let line = value_of(digits);
+    if line == 0 {
+        return None;
+    }
+    Some(line)
+}
