@@ -1,0 +1,605 @@
+//! What each fault line means, in one table.
+//! It knows the codes that the program prints, and nothing of the faults behind them.
+
+/// What one code means.
+pub struct Explanation {
+    /// The code ahead of it in a fault line, or nothing where it stands first.
+    pub behind: &'static str,
+    pub code: &'static str,
+    /// What the numbers behind it count, in order, with the codes behind it passed over.
+    pub numbers: &'static [&'static str],
+    /// What is wrong, and what helps: lines without the last one's end.
+    pub text: &'static str,
+}
+
+/// The row of a code that stands behind another, or first where that is the empty text.
+pub fn row_behind(behind: &str, code: &str) -> Option<&'static Explanation> {
+    first_behind(records(), behind, code)
+        .or(first_behind(records_on(), behind, code))
+        .or(first_behind(flights(), behind, code))
+        .or(first_behind(limits(), behind, code))
+        .or(first_behind(ladders(), behind, code))
+        .or(first_behind(scripts(), behind, code))
+        .or(first_behind(segments(), behind, code))
+        .or(first_behind(journals(), behind, code))
+        .or(first_behind(entries(), behind, code))
+        .or(first_behind(words(), behind, code))
+}
+
+/// The row of a code, wherever it stands: a letter with its number, or a word that stands first.
+pub fn row_of(code: &str) -> Option<&'static Explanation> {
+    first_of(records(), code)
+        .or(first_of(records_on(), code))
+        .or(first_of(flights(), code))
+        .or(first_of(limits(), code))
+        .or(first_of(ladders(), code))
+        .or(first_of(scripts(), code))
+        .or(first_of(segments(), code))
+        .or(first_of(journals(), code))
+        .or(first_of(entries(), code))
+        .or(first_of(words(), code))
+}
+
+fn first_behind<'a>(rows: &'a [Explanation], behind: &str, code: &str) -> Option<&'a Explanation> {
+    rows.iter()
+        .find(|row| row.behind == behind && row.code == code)
+}
+
+fn first_of<'a>(rows: &'a [Explanation], code: &str) -> Option<&'a Explanation> {
+    rows.iter()
+        .find(|row| row.code == code && row.behind != "E2")
+}
+
+fn records() -> &'static [Explanation] {
+    RECORDS
+}
+
+fn records_on() -> &'static [Explanation] {
+    RECORDS_ON
+}
+
+fn flights() -> &'static [Explanation] {
+    FLIGHTS
+}
+
+fn limits() -> &'static [Explanation] {
+    LIMITS
+}
+
+fn ladders() -> &'static [Explanation] {
+    LADDERS
+}
+
+fn scripts() -> &'static [Explanation] {
+    SCRIPTS
+}
+
+fn segments() -> &'static [Explanation] {
+    SEGMENTS
+}
+
+fn journals() -> &'static [Explanation] {
+    JOURNALS
+}
+
+fn entries() -> &'static [Explanation] {
+    ENTRIES
+}
+
+fn words() -> &'static [Explanation] {
+    WORDS
+}
+
+const NONE: &[&str] = &[];
+
+const RECORD: &[&str] = &["record"];
+
+const SERIAL: &[&str] = &["record with the serial number"];
+
+const LINE: &[&str] = &["line"];
+
+const ENTRY: &[&str] = &["entry"];
+
+const SCRIPT: &[&str] = &["script", "line"];
+
+// Records of a data set.
+const RECORDS: &[Explanation] = &[
+    Explanation {
+        behind: "",
+        code: "S1",
+        numbers: RECORD,
+        text: "The data set ends inside a record: fewer than 200 bytes are left.\nRecords have 200 bytes each, and LF, CR LF or nothing behind them.",
+    },
+    Explanation {
+        behind: "",
+        code: "S2",
+        numbers: RECORD,
+        text: "A byte of the record is no printable ASCII character, 0x20 to 0x7E.\nA line end inside the 200 bytes is one too: look whether the record is too short.",
+    },
+    Explanation {
+        behind: "",
+        code: "S3",
+        numbers: RECORD,
+        text: "A CR stands behind the record, and no LF behind the CR.\nA record ends with LF, CR LF or nothing.",
+    },
+    Explanation {
+        behind: "",
+        code: "S4",
+        numbers: RECORD,
+        text: "The data set does not begin with a header, a record of type 1.\nAn empty file is such a data set.",
+    },
+    Explanation {
+        behind: "",
+        code: "S5",
+        numbers: RECORD,
+        text: "The title of the header, in bytes 2 to 35, is not\nAIRLINE STANDARD SCHEDULE DATA SET.",
+    },
+    Explanation {
+        behind: "",
+        code: "S6",
+        numbers: RECORD,
+        text: "A record of this type may not stand here.\nThe order is header, carrier, then legs with their segment data, then the trailer.",
+    },
+    Explanation {
+        behind: "",
+        code: "S7",
+        numbers: RECORD,
+        text: "Bytes 195 to 200 are not the next serial number in six digits.\nThe header has 000001, and each record but a filler has one more.",
+    },
+    Explanation {
+        behind: "",
+        code: "S8",
+        numbers: &["record", "first byte of the wrong field"],
+        text: "A field of the record is wrong. Bytes count from 1.\nSSIM chapter 7 says what each field holds.",
+    },
+];
+
+// Records of a data set, further.
+const RECORDS_ON: &[Explanation] = &[
+    Explanation {
+        behind: "",
+        code: "S9",
+        numbers: RECORD,
+        text: "The airline of a leg or of the trailer is not the carrier's.\nA data set is of one airline.",
+    },
+    Explanation {
+        behind: "",
+        code: "S10",
+        numbers: RECORD,
+        text: "Bytes 188 to 193 of the trailer are not the serial number of the record ahead of it.\nRecords may be missing.",
+    },
+    Explanation {
+        behind: "",
+        code: "S11",
+        numbers: RECORD,
+        text: "The trailer says that the data set goes on elsewhere: byte 194 is C.\nOnly a data set that ends with E is read.",
+    },
+    Explanation {
+        behind: "",
+        code: "S12",
+        numbers: RECORD,
+        text: "A record that is no filler stands behind the trailer.\nThe trailer must be the last record.",
+    },
+    Explanation {
+        behind: "",
+        code: "S13",
+        numbers: RECORD,
+        text: "The data set ends before a trailer, a record of type 5.\nThe file may have been cut off.",
+    },
+    Explanation {
+        behind: "",
+        code: "S14",
+        numbers: RECORD,
+        text: "The record is one more than may be read.",
+    },
+    Explanation {
+        behind: "",
+        code: "S15",
+        numbers: RECORD,
+        text: "Memory was refused for a leg. The program prints MEMORY in place of it.",
+    },
+];
+
+// Itineraries and flights.
+const FLIGHTS: &[Explanation] = &[
+    Explanation {
+        behind: "",
+        code: "F1",
+        numbers: SERIAL,
+        text: "A leg of the itinerary is missing.\nIts leg sequence numbers must be 1, 2, 3 and so on. The record is its first.",
+    },
+    Explanation {
+        behind: "",
+        code: "F2",
+        numbers: SERIAL,
+        text: "The record repeats a leg sequence number of its itinerary.\nA new period of the same leg needs another itinerary variation.",
+    },
+    Explanation {
+        behind: "",
+        code: "F3",
+        numbers: SERIAL,
+        text: "The leg departs elsewhere than the leg ahead of it arrives.",
+    },
+    Explanation {
+        behind: "",
+        code: "F4",
+        numbers: SERIAL,
+        text: "The leg has another number of operating days than leg 1 of its itinerary.\nLook at its period, days of operation and frequency.",
+    },
+    Explanation {
+        behind: "",
+        code: "F5",
+        numbers: SERIAL,
+        text: "On some date the leg departs more than one local day before the leg ahead of it.\nLook at its period and its departure date variation.",
+    },
+    Explanation {
+        behind: "",
+        code: "F6",
+        numbers: SERIAL,
+        text: "An earlier itinerary of the same flight number and suffix departs on the same day.\nTwo variations of a flight may not share a day. The record is leg 1.",
+    },
+    Explanation {
+        behind: "",
+        code: "F7",
+        numbers: SERIAL,
+        text: "The itinerary has more than 8 legs. The record is its first.",
+    },
+    Explanation {
+        behind: "",
+        code: "F8",
+        numbers: SERIAL,
+        text: "There are more than 100,000 dated flights, with those of this itinerary.\nAsk for fewer days. The record is leg 1.",
+    },
+    Explanation {
+        behind: "",
+        code: "F9",
+        numbers: SERIAL,
+        text: "Memory was refused for the flights. The program prints MEMORY in place of it.",
+    },
+];
+
+// Limit rows and change rows.
+const LIMITS: &[Explanation] = &[
+    Explanation {
+        behind: "",
+        code: "M1",
+        numbers: LINE,
+        text: "The line of limits or changes does not begin with AU and a blank.",
+    },
+    Explanation {
+        behind: "",
+        code: "M2",
+        numbers: LINE,
+        text: "No flight stands behind AU: an airline, one to four digits above 0,\nat most one letter, and a blank, as LZ601.",
+    },
+    Explanation {
+        behind: "",
+        code: "M3",
+        numbers: LINE,
+        text: "No period stands behind the flight: two dates as 27JUL24, each with a blank behind it,\nthe second not before the first. A line of changes has one date.",
+    },
+    Explanation {
+        behind: "",
+        code: "M4",
+        numbers: LINE,
+        text: "No pair of stations stands behind the dates: six letters, as LHRKEF.",
+    },
+    Explanation {
+        behind: "",
+        code: "M5",
+        numbers: LINE,
+        text: "No classes with their limits follow, or one of them is malformed.\nThey are written as Y098/010, with one blank ahead of each and none at the end.",
+    },
+    Explanation {
+        behind: "",
+        code: "M6",
+        numbers: LINE,
+        text: "The classes and their limits are no ladder. The code behind it says why.",
+    },
+    Explanation {
+        behind: "",
+        code: "M7",
+        numbers: LINE,
+        text: "Memory was refused for the limits. The program prints MEMORY in place of it.",
+    },
+    Explanation {
+        behind: "",
+        code: "U1",
+        numbers: LINE,
+        text: "The line of changes names no leg: no flight goes between its cities on its day,\nor only by way of another city.",
+    },
+];
+
+// Ladders.
+const LADDERS: &[Explanation] = &[
+    Explanation {
+        behind: "M6",
+        code: "L1",
+        numbers: LINE,
+        text: "The ladder has no class.",
+    },
+    Explanation {
+        behind: "M6",
+        code: "L2",
+        numbers: LINE,
+        text: "A class stands twice in the ladder.",
+    },
+    Explanation {
+        behind: "M6",
+        code: "L3",
+        numbers: LINE,
+        text: "A limit is above that of the class before it.\nClasses stand with the highest limit first.",
+    },
+    Explanation {
+        behind: "M6",
+        code: "L4",
+        numbers: LINE,
+        text: "A limit, or a number of seats that may wait, is above 999.",
+    },
+];
+
+// Scripts, and the lines of a ladder.
+const SCRIPTS: &[Explanation] = &[
+    Explanation {
+        behind: "",
+        code: "Q1",
+        numbers: SCRIPT,
+        text: "A message of the script does not begin with an address and a locator, as LONLZ B3N6VC.\nScripts count from 1. The line behind an empty one begins a new message.",
+    },
+    Explanation {
+        behind: "",
+        code: "Q2",
+        numbers: SCRIPT,
+        text: "A line of the script is no segment line, as LZ601Q27JUL LHRKEF NN12.\nThe code behind it says why. Scripts count from 1.",
+    },
+    Explanation {
+        behind: "",
+        code: "Q3",
+        numbers: SCRIPT,
+        text: "Memory was refused for a request. The program prints MEMORY in place of it.",
+    },
+    Explanation {
+        behind: "",
+        code: "B1",
+        numbers: &["session", "call of that session"],
+        text: "The journal has no line left for a request or a change.\nIt has at most 999,999 lines: take fewer requests into one run.",
+    },
+    Explanation {
+        behind: "",
+        code: "E1",
+        numbers: LINE,
+        text: "The line is no request, as A00001 Y NN 6, and no change of a limit, as AU M007/004.\nLines count from 1, with that of the ladder.",
+    },
+    Explanation {
+        behind: "",
+        code: "C1",
+        numbers: LINE,
+        text: "The line is one request more than the 999,999 that a journal has room for.",
+    },
+    Explanation {
+        behind: "",
+        code: "E2",
+        numbers: NONE,
+        text: "A word of the command line is wrong. The word behind it says which.\nNo file was opened for it, but where that word is line or journal.",
+    },
+];
+
+// Segment lines.
+const SEGMENTS: &[Explanation] = &[
+    Explanation {
+        behind: "Q2",
+        code: "A1",
+        numbers: SCRIPT,
+        text: "The line has fewer than 20 or more than 69 characters.",
+    },
+    Explanation {
+        behind: "Q2",
+        code: "A2",
+        numbers: SCRIPT,
+        text: "The line does not begin with an airline: two letters or digits, one of them a letter.",
+    },
+    Explanation {
+        behind: "Q2",
+        code: "A3",
+        numbers: SCRIPT,
+        text: "No flight number stands behind the airline: one to four digits above 0.",
+    },
+    Explanation {
+        behind: "Q2",
+        code: "A4",
+        numbers: SCRIPT,
+        text: "No class stands behind the flight number: one letter, or the flight's suffix and a letter.",
+    },
+    Explanation {
+        behind: "Q2",
+        code: "A5",
+        numbers: SCRIPT,
+        text: "No day stands behind the class, as 27JUL, or it is a day that no year has.",
+    },
+    Explanation {
+        behind: "Q2",
+        code: "A6",
+        numbers: SCRIPT,
+        text: "No blank and pair of stations stand behind the day: six letters, as LHRKEF.",
+    },
+    Explanation {
+        behind: "Q2",
+        code: "A7",
+        numbers: SCRIPT,
+        text: "No blank and code stand behind the stations: two letters, as NN.",
+    },
+    Explanation {
+        behind: "Q2",
+        code: "A8",
+        numbers: SCRIPT,
+        text: "No number of seats stands behind the code: one to three digits above 0.",
+    },
+    Explanation {
+        behind: "Q2",
+        code: "A9",
+        numbers: SCRIPT,
+        text: "Behind the seats stands something other than a stroke and printable characters.",
+    },
+];
+
+// Texts of journals, and what becomes of a device or of memory.
+const JOURNALS: &[Explanation] = &[
+    Explanation {
+        behind: "",
+        code: "J1",
+        numbers: LINE,
+        text: "The journal does not begin with the line SEATJOURNAL 2 or SEATJOURNAL 1.\nIt may be another file, or an empty one.",
+    },
+    Explanation {
+        behind: "",
+        code: "J2",
+        numbers: LINE,
+        text: "The line of the journal is no entry. Lines count from 1, with the head.",
+    },
+    Explanation {
+        behind: "",
+        code: "J3",
+        numbers: LINE,
+        text: "The line is a wrong END line, stands behind it, or should be the END line and is missing.\nThe journal may have been cut off.",
+    },
+    Explanation {
+        behind: "",
+        code: "J4",
+        numbers: LINE,
+        text: "Memory was refused for an entry. The program prints MEMORY in place of it.",
+    },
+    Explanation {
+        behind: "",
+        code: "R2",
+        numbers: NONE,
+        text: "An input is too large: a data set or a journal has at most 256 MiB, any other input 16 MiB.\nseatdesk -v names the file.",
+    },
+    Explanation {
+        behind: "",
+        code: "DEVICE",
+        numbers: NONE,
+        text: "A file does not open, or a read or a write failed.\nseatdesk -v names the file and the system's reason.",
+    },
+    Explanation {
+        behind: "",
+        code: "MEMORY",
+        numbers: NONE,
+        text: "Memory was refused. Nothing is wrong with the inputs as far as they were read.",
+    },
+];
+
+// Entries of journals.
+const ENTRIES: &[Explanation] = &[
+    Explanation {
+        behind: "",
+        code: "P1",
+        numbers: ENTRY,
+        text: "The entry's number is not its place in the journal. Entries count from 1.",
+    },
+    Explanation {
+        behind: "",
+        code: "P2",
+        numbers: ENTRY,
+        text: "Another reply is right for the entry, by the lines ahead of it and the limits.\nseatdesk why says which, and from what numbers of seats.",
+    },
+    Explanation {
+        behind: "",
+        code: "P3",
+        numbers: ENTRY,
+        text: "Another number of released seats is right for the entry.\nseatdesk why says which.",
+    },
+    Explanation {
+        behind: "",
+        code: "P4",
+        numbers: ENTRY,
+        text: "Other confirmations from the waitlist are right for the entry.\nseatdesk why says which.",
+    },
+    Explanation {
+        behind: "",
+        code: "P5",
+        numbers: ENTRY,
+        text: "The entry's session may not make it, or the call is not the next of that session.\nSessions 1 to 8 ask for seats, and session 0, the manager, changes limits.",
+    },
+    Explanation {
+        behind: "",
+        code: "P6",
+        numbers: ENTRY,
+        text: "Memory was refused for the replay. The program prints MEMORY in place of it.",
+    },
+    Explanation {
+        behind: "",
+        code: "P7",
+        numbers: ENTRY,
+        text: "The command or change of the entry does not fit the flights: there is no such place or leg.\nThe journal may be of another data set, first day or number of days.",
+    },
+    Explanation {
+        behind: "",
+        code: "P8",
+        numbers: &["session", "call of that session"],
+        text: "The journal's line of that call is not what the script of the session asks there,\nor one of them has more. The journal may be of other scripts, another first day or another data set.",
+    },
+];
+
+// Words of the command line.
+const WORDS: &[Explanation] = &[
+    Explanation {
+        behind: "E2",
+        code: "first",
+        numbers: NONE,
+        text: "--first is no day of the years 2000 to 2099, as 2024-06-01.",
+    },
+    Explanation {
+        behind: "E2",
+        code: "days",
+        numbers: NONE,
+        text: "--days is no number of 1 to 366, in at most three digits.",
+    },
+    Explanation {
+        behind: "E2",
+        code: "today",
+        numbers: NONE,
+        text: "--today is no day of the years 2000 to 2099, as 2024-06-01, or it is missing:\naudit needs it where scripts are named.",
+    },
+    Explanation {
+        behind: "E2",
+        code: "script",
+        numbers: NONE,
+        text: "There are more than 8 scripts.",
+    },
+    Explanation {
+        behind: "E2",
+        code: "day",
+        numbers: NONE,
+        text: "--day is no day of the years 2000 to 2099, as 2024-06-01.",
+    },
+    Explanation {
+        behind: "E2",
+        code: "pair",
+        numbers: NONE,
+        text: "--pair is not two stations of three letters each, as LHRJFK.",
+    },
+    Explanation {
+        behind: "E2",
+        code: "locator",
+        numbers: NONE,
+        text: "--locator is not six letters and digits, as B3N6VC.",
+    },
+    Explanation {
+        behind: "E2",
+        code: "line",
+        numbers: NONE,
+        text: "--line is no number of 1 to 999999, or the journal has no such line.",
+    },
+    Explanation {
+        behind: "E2",
+        code: "journal",
+        numbers: NONE,
+        text: "The file of --journal is one of the inputs, or --no-clobber keeps it: it is there and not empty.\nNothing was written.",
+    },
+    Explanation {
+        behind: "E2",
+        code: "words",
+        numbers: NONE,
+        text: "A word of the command line is not UTF-8.",
+    },
+];

@@ -1,0 +1,70 @@
+//! What the file of a journal may not be: one of the inputs.
+use crate::refusal::Refusal;
+use crate::streams::Input;
+use seat_desk::{DeskFault, Inputs};
+use std::fs::Metadata;
+use std::os::unix::fs::MetadataExt;
+use std::{fs, io};
+
+/// The file that a journal is to be written to, as it is before that.
+#[derive(Drop)]
+pub struct Guard<'a> {
+    path: &'a str,
+    there: Option<Metadata>,
+}
+
+impl<'a> Guard<'a> {
+    /// Looks at the file. Only a regular one is looked at: a pipe or a device may be written to at any time.
+    pub fn new(rt: &HostRuntime, path: &'a str) -> Result<Guard<'a>, Refusal<'a>> {
+        let there = match fs::metadata(rt, path) {
+            Ok(file) => Some(file).filter(|file| file.is_file()),
+            Err(error) if error.kind() == io::ErrorKind::NotFound => None,
+            Err(error) => return Err(Refusal::unopened(path, &error)),
+        };
+        Ok(Guard { path, there })
+    }
+
+    /// Refuses a file that is one of the inputs, by its name or by its device and its number there, so by a link too.
+    pub fn pass<'b>(
+        &self,
+        inputs: &Inputs<Input<'b>, Input<'b>>,
+        scripts: &[Input<'b>],
+        more: &[&Input<'b>],
+    ) -> Result<(), Refusal<'b>> {
+        self.pass_one(&inputs.set)?;
+        self.pass_one(&inputs.limits)?;
+        for script in scripts {
+            self.pass_one(script)?;
+        }
+        for input in more {
+            self.pass_one(input)?;
+        }
+        Ok(())
+    }
+
+    /// Refuses a file that is there and not empty.
+    pub fn keep<'b>(&self) -> Result<(), Refusal<'b>> {
+        match &self.there {
+            Some(file) if file.len() > 0 => Err(Refusal::of(DeskFault::BadJournal)),
+            _ => Ok(()),
+        }
+    }
+
+    fn pass_one<'b>(&self, input: &Input<'b>) -> Result<(), Refusal<'b>> {
+        let is_named = !self.path.is_empty() && input.name() == self.path;
+        if is_named || self.is_same(input)? {
+            return Err(Refusal::of(DeskFault::BadJournal));
+        }
+        Ok(())
+    }
+
+    fn is_same<'b>(&self, input: &Input<'b>) -> Result<bool, Refusal<'b>> {
+        let Some(there) = &self.there else {
+            return Ok(false);
+        };
+        match input.metadata()? {
+            Some(file) => Ok(file.dev() == there.dev() && file.ino() == there.ino()),
+            None => Ok(false),
+        }
+    }
+}

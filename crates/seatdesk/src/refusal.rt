@@ -1,0 +1,96 @@
+//! What a command is refused with, and the file that it is refused for.
+use crate::streams::{Input, Output};
+use seat_desk::DeskFault;
+use ssim_records::Failures;
+use std::io;
+
+/// A fault, with the name of the file that failed or is too large where that is known, and the system's number for the failure.
+#[derive(Clone, Copy)]
+pub struct Refusal<'a> {
+    pub fault: DeskFault,
+    file: Option<&'a str>,
+    reason: Option<i32>,
+}
+
+impl<'a> Refusal<'a> {
+    pub fn of(fault: DeskFault) -> Refusal<'a> {
+        Refusal {
+            fault,
+            file: None,
+            reason: None,
+        }
+    }
+
+    /// The fault of a file that does not open.
+    pub fn unopened(path: &'a str, error: &io::Error) -> Refusal<'a> {
+        if error.kind() == io::ErrorKind::OutOfMemory {
+            return Refusal::of(DeskFault::Memory);
+        }
+        Refusal {
+            fault: DeskFault::Device,
+            file: Some(path),
+            reason: error.raw_os_error(),
+        }
+    }
+
+    /// Names the input where it may be the one that the fault is of: of inputs that are read one behind the other, and noted in
+    /// that order, the last one that was read is too large, and the last one that failed has failed.
+    pub fn noting(self, input: &Input<'a>) -> Refusal<'a> {
+        match self.fault {
+            DeskFault::TooLarge if input.is_used() => self.at(input.name(), None),
+            DeskFault::Device if input.failures() > 0 => self.at(input.name(), input.reason()),
+            _ => self,
+        }
+    }
+
+    /// The same for several, in order.
+    pub fn noting_all(self, inputs: &[Input<'a>]) -> Refusal<'a> {
+        let mut refusal = self;
+        for input in inputs {
+            refusal = refusal.noting(input);
+        }
+        refusal
+    }
+
+    /// The same for an output.
+    pub fn noting_output(self, output: &Output<'a>) -> Refusal<'a> {
+        match self.fault {
+            DeskFault::Device if output.failures() > 0 => self.at(output.name(), output.reason()),
+            _ => self,
+        }
+    }
+
+    fn at(self, file: &'a str, reason: Option<i32>) -> Refusal<'a> {
+        Refusal {
+            fault: self.fault,
+            file: Some(file),
+            reason,
+        }
+    }
+
+    /// Says what is known of the file, in one line on standard error.
+    pub fn tell_more(&self, rt: &HostRuntime) {
+        let Some(file) = self.file else {
+            return;
+        };
+        if let DeskFault::TooLarge = self.fault {
+            let _ = eprintln!(rt; "seatdesk: {file}: Too large");
+            return;
+        }
+        match self.reason {
+            Some(code) => {
+                let error = io::Error::from_raw_os_error(code);
+                let _ = eprintln!(rt; "seatdesk: {file}: {error}");
+            }
+            None => {
+                let _ = eprintln!(rt; "seatdesk: {file}: Failed");
+            }
+        }
+    }
+}
+
+impl<'a> From<DeskFault> for Refusal<'a> {
+    fn from(fault: DeskFault) -> Refusal<'a> {
+        Refusal::of(fault)
+    }
+}
