@@ -8,7 +8,7 @@ _seatdesk() {
     [ "$before" != = ] || before=${COMP_WORDS[COMP_CWORD - 2]}
     for ((i = 1; i < COMP_CWORD; i++)); do
         case ${COMP_WORDS[i]} in
-        ladder | check | flights | audit | run)
+        ladder | check | flights | cover | rooms | run | bookings | audit | why | explain | help)
             command=${COMP_WORDS[i]}
             break
             ;;
@@ -16,7 +16,7 @@ _seatdesk() {
     done
     case $command in
     '')
-        words='ladder check flights audit run -h --help -V --version'
+        words='ladder check flights cover rooms run bookings audit why explain help -v --verbose -h --help -V --version'
         files=''
         values=''
         place=''
@@ -39,17 +39,53 @@ _seatdesk() {
         values='--first --days'
         place='files'
         ;;
-    audit)
+    cover)
         words='--set --limits --first --days -h --help'
         files='--set --limits'
         values='--first --days'
+        place=''
+        ;;
+    rooms)
+        words='--set --limits --first --days --day --pair --bars -h --help'
+        files='--set --limits'
+        values='--first --days --day --pair'
         place='files'
         ;;
     run)
-        words='--set --limits --first --days --today --journal --changes -h --help'
+        words='--set --limits --first --days --today --journal --changes --no-clobber -h --help'
         files='--set --limits --journal --changes'
         values='--first --days --today'
         place='files'
+        ;;
+    bookings)
+        words='--set --limits --first --days --locator -h --help'
+        files='--set --limits'
+        values='--first --days --locator'
+        place='files'
+        ;;
+    audit)
+        words='--set --limits --first --days --today -h --help'
+        files='--set --limits'
+        values='--first --days --today'
+        place='files'
+        ;;
+    why)
+        words='--set --limits --first --days --line -h --help'
+        files='--set --limits'
+        values='--first --days --line'
+        place='files'
+        ;;
+    explain)
+        words='-h --help'
+        files=''
+        values=''
+        place=''
+        ;;
+    help)
+        words='ladder check flights cover rooms run bookings audit why explain'
+        files=''
+        values=''
+        place=''
         ;;
     esac
     COMPREPLY=()

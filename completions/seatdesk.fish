@@ -1,13 +1,20 @@
 # Completions of seatdesk for fish, made by completions/write from the program's help.
 
 complete -c seatdesk -f
+complete -c seatdesk -n __fish_use_subcommand -s v -l verbose -d 'Names the file of a fault that is DEVICE or R2, and the system\'s reason'
 complete -c seatdesk -n __fish_use_subcommand -s h -l help -d 'Print help'
 complete -c seatdesk -n __fish_use_subcommand -s V -l version -d 'Print version'
 complete -c seatdesk -n __fish_use_subcommand -a ladder -d 'Sells the seats of one leg: its limits and requests from standard input'
 complete -c seatdesk -n __fish_use_subcommand -a check -d 'Reads a data set and writes one summary line'
 complete -c seatdesk -n __fish_use_subcommand -a flights -d 'Writes one line for each dated flight'
-complete -c seatdesk -n __fish_use_subcommand -a audit -d 'Replays a journal against its schedule and limits, and writes one summary line'
+complete -c seatdesk -n __fish_use_subcommand -a cover -d 'Writes the limits that are for no leg, and the legs that have no limits'
+complete -c seatdesk -n __fish_use_subcommand -a rooms -d 'Writes the seats that are left on each place of a flight, by class'
 complete -c seatdesk -n __fish_use_subcommand -a run -d 'Books the requests of scripts, one session on a thread for each script, and writes the replies'
+complete -c seatdesk -n __fish_use_subcommand -a bookings -d 'Writes the live bookings of a locator, in the codes of AIRIMP'
+complete -c seatdesk -n __fish_use_subcommand -a audit -d 'Replays a journal against its schedule and limits, and writes one summary line'
+complete -c seatdesk -n __fish_use_subcommand -a why -d 'Writes the reason of one reply of a journal: what the limits left, and the right answer'
+complete -c seatdesk -n __fish_use_subcommand -a explain -d 'Says what a fault line means'
+complete -c seatdesk -n __fish_use_subcommand -a help -d 'Print this message or the help of the given subcommand(s)'
 
 complete -c seatdesk -n '__fish_seen_subcommand_from ladder' -s h -l help -d 'Print help'
 
@@ -19,19 +26,57 @@ complete -c seatdesk -n '__fish_seen_subcommand_from flights' -l days -x -d 'How
 complete -c seatdesk -n '__fish_seen_subcommand_from flights' -s h -l help -d 'Print help'
 complete -c seatdesk -n '__fish_seen_subcommand_from flights' -F
 
-complete -c seatdesk -n '__fish_seen_subcommand_from audit' -l set -r -F -d 'The data set of the schedule (SSIM chapter 7, a file)'
-complete -c seatdesk -n '__fish_seen_subcommand_from audit' -l limits -r -F -d 'The booking limits of the legs, in seats from 0 to 999 (a file)'
-complete -c seatdesk -n '__fish_seen_subcommand_from audit' -l first -x -d 'The first day of departure, as 2024-06-01, from 2000 to 2099'
-complete -c seatdesk -n '__fish_seen_subcommand_from audit' -l days -x -d 'How many days from the first on, 1 to 366'
-complete -c seatdesk -n '__fish_seen_subcommand_from audit' -s h -l help -d 'Print help'
-complete -c seatdesk -n '__fish_seen_subcommand_from audit' -F
+complete -c seatdesk -n '__fish_seen_subcommand_from cover' -l set -r -F -d 'The data set of the schedule (SSIM chapter 7, a file)'
+complete -c seatdesk -n '__fish_seen_subcommand_from cover' -l limits -r -F -d 'The booking limits of the legs, in seats from 0 to 999 (a file)'
+complete -c seatdesk -n '__fish_seen_subcommand_from cover' -l first -x -d 'The first day of departure, as 2024-06-01, from 2000 to 2099'
+complete -c seatdesk -n '__fish_seen_subcommand_from cover' -l days -x -d 'How many days from the first on, 1 to 366'
+complete -c seatdesk -n '__fish_seen_subcommand_from cover' -s h -l help -d 'Print help'
+
+complete -c seatdesk -n '__fish_seen_subcommand_from rooms' -l set -r -F -d 'The data set of the schedule (SSIM chapter 7, a file)'
+complete -c seatdesk -n '__fish_seen_subcommand_from rooms' -l limits -r -F -d 'The booking limits of the legs, in seats from 0 to 999 (a file)'
+complete -c seatdesk -n '__fish_seen_subcommand_from rooms' -l first -x -d 'The first day of departure, as 2024-06-01, from 2000 to 2099'
+complete -c seatdesk -n '__fish_seen_subcommand_from rooms' -l days -x -d 'How many days from the first on, 1 to 366'
+complete -c seatdesk -n '__fish_seen_subcommand_from rooms' -l day -x -d 'The places that depart on this day alone, as 2024-06-01'
+complete -c seatdesk -n '__fish_seen_subcommand_from rooms' -l pair -x -d 'The places between these two stations alone, as LHRJFK'
+complete -c seatdesk -n '__fish_seen_subcommand_from rooms' -l bars -d 'Shows the seats held of each limit as a bar, behind each leg'
+complete -c seatdesk -n '__fish_seen_subcommand_from rooms' -s h -l help -d 'Print help'
+complete -c seatdesk -n '__fish_seen_subcommand_from rooms' -F
 
 complete -c seatdesk -n '__fish_seen_subcommand_from run' -l set -r -F -d 'The data set of the schedule (SSIM chapter 7, a file)'
 complete -c seatdesk -n '__fish_seen_subcommand_from run' -l limits -r -F -d 'The booking limits of the legs, in seats from 0 to 999 (a file)'
 complete -c seatdesk -n '__fish_seen_subcommand_from run' -l first -x -d 'The first day of departure, as 2024-06-01, from 2000 to 2099'
 complete -c seatdesk -n '__fish_seen_subcommand_from run' -l days -x -d 'How many days from the first on, 1 to 366'
 complete -c seatdesk -n '__fish_seen_subcommand_from run' -l today -x -d 'The day of the run, as 2024-06-01, from 2000 to 2099; it gives the requests their year'
-complete -c seatdesk -n '__fish_seen_subcommand_from run' -l journal -r -F -d 'The file that the journal is written to'
+complete -c seatdesk -n '__fish_seen_subcommand_from run' -l journal -r -F -d 'The file that the journal is written to, which may be no input'
 complete -c seatdesk -n '__fish_seen_subcommand_from run' -l changes -r -F -d 'Changes of the limits, made beside the sessions (a file); without it no limit changes'
+complete -c seatdesk -n '__fish_seen_subcommand_from run' -l no-clobber -d 'Refuses an OUT that is there and is not empty'
 complete -c seatdesk -n '__fish_seen_subcommand_from run' -s h -l help -d 'Print help'
 complete -c seatdesk -n '__fish_seen_subcommand_from run' -F
+
+complete -c seatdesk -n '__fish_seen_subcommand_from bookings' -l set -r -F -d 'The data set of the schedule (SSIM chapter 7, a file)'
+complete -c seatdesk -n '__fish_seen_subcommand_from bookings' -l limits -r -F -d 'The booking limits of the legs, in seats from 0 to 999 (a file)'
+complete -c seatdesk -n '__fish_seen_subcommand_from bookings' -l first -x -d 'The first day of departure, as 2024-06-01, from 2000 to 2099'
+complete -c seatdesk -n '__fish_seen_subcommand_from bookings' -l days -x -d 'How many days from the first on, 1 to 366'
+complete -c seatdesk -n '__fish_seen_subcommand_from bookings' -l locator -x -d 'The locator of the bookings: six letters and digits, as B3N6VC'
+complete -c seatdesk -n '__fish_seen_subcommand_from bookings' -s h -l help -d 'Print help'
+complete -c seatdesk -n '__fish_seen_subcommand_from bookings' -F
+
+complete -c seatdesk -n '__fish_seen_subcommand_from audit' -l set -r -F -d 'The data set of the schedule (SSIM chapter 7, a file)'
+complete -c seatdesk -n '__fish_seen_subcommand_from audit' -l limits -r -F -d 'The booking limits of the legs, in seats from 0 to 999 (a file)'
+complete -c seatdesk -n '__fish_seen_subcommand_from audit' -l first -x -d 'The first day of departure, as 2024-06-01, from 2000 to 2099'
+complete -c seatdesk -n '__fish_seen_subcommand_from audit' -l days -x -d 'How many days from the first on, 1 to 366'
+complete -c seatdesk -n '__fish_seen_subcommand_from audit' -l today -x -d 'The day of the run, as 2024-06-01, from 2000 to 2099; it gives the requests their year'
+complete -c seatdesk -n '__fish_seen_subcommand_from audit' -s h -l help -d 'Print help'
+complete -c seatdesk -n '__fish_seen_subcommand_from audit' -F
+
+complete -c seatdesk -n '__fish_seen_subcommand_from why' -l set -r -F -d 'The data set of the schedule (SSIM chapter 7, a file)'
+complete -c seatdesk -n '__fish_seen_subcommand_from why' -l limits -r -F -d 'The booking limits of the legs, in seats from 0 to 999 (a file)'
+complete -c seatdesk -n '__fish_seen_subcommand_from why' -l first -x -d 'The first day of departure, as 2024-06-01, from 2000 to 2099'
+complete -c seatdesk -n '__fish_seen_subcommand_from why' -l days -x -d 'How many days from the first on, 1 to 366'
+complete -c seatdesk -n '__fish_seen_subcommand_from why' -l line -x -d 'The line of the journal, counted from 1'
+complete -c seatdesk -n '__fish_seen_subcommand_from why' -s h -l help -d 'Print help'
+complete -c seatdesk -n '__fish_seen_subcommand_from why' -F
+
+complete -c seatdesk -n '__fish_seen_subcommand_from explain' -s h -l help -d 'Print help'
+
+complete -c seatdesk -n '__fish_seen_subcommand_from help' -a 'ladder check flights cover rooms run bookings audit why explain'
