@@ -55,7 +55,7 @@ impl fmt::Display for LineFault {
 pub enum ScriptKind {
     /// The first line of a message has no locator in its place.
     Locator,
-    /// A line that must be a segment line is none.
+    /// A line that should be a segment line is not one.
     Line(LineFault),
     /// A request could not be stored.
     Memory,

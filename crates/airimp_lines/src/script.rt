@@ -17,7 +17,7 @@ use ssim_records::{Day, Locator};
 use std::alloc::Global;
 
 /// The requests of a script of booking messages (AIRIMP), of less than 4 GiB. Their days are the earliest such dates on or
-/// after `today`, a day of the years 2000 to 2099. A script is refused by its first faulty line.
+/// after `today`, a day of the years 2000 to 2099. A refusal names the first faulty line.
 pub fn read_script(alloc: Global, bytes: &[u8], today: Day) -> Result<Requests, ScriptFault>
     requires today { IsCenturyDay today }
     requires size { length bytes.now < 2 ^ 32 }
@@ -48,7 +48,7 @@ pub fn read_script(alloc: Global, bytes: &[u8], today: Day) -> Result<Requests, 
     Ok(requests)
 }
 
-/// Takes a line, in the message with that locator if one goes on, and says which one goes on behind it.
+/// Takes a line, within the message of that locator if one is open, and answers which message is open after it.
 fn take_line(
     requests: &mut Requests,
     message: Option<Locator>,

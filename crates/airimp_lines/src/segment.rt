@@ -19,7 +19,7 @@ pub struct Segment {
     pub seats: u16,
 }
 
-/// A segment as the line writes it: its day has no year.
+/// A segment as the line spells it: its day has no year.
 #[derive(Clone, Copy)]
 pub struct Undated {
     pub airline: Airline,

@@ -52,7 +52,7 @@ pub fn queue_at(books: &[FlightBook], flight: u32) -> Option<&WaitingList>
     }
 }
 
-/// Makes the memory for one more booking on the flight of a place.
+/// Reserves memory for one more booking on the flight of a place.
 pub fn reserve_place(
     alloc: Global,
     books: &mut Vec<FlightBook>,
@@ -76,7 +76,7 @@ fn reserve_booking(alloc: Global, books: &mut Vec<FlightBook>, flight: u32) -> R
     books[flight as usize].reserve()
 }
 
-/// Does what an entry tells to the book of its flight, which has room for one more where it asks for a place.
+/// Applies an entry to the book of its flight, which has room for one more booking where the entry asks for a place.
 pub fn enter(books: &mut Vec<FlightBook>, entry: &Entry)
     requires spare { has_spare books.old.items (place_of entry.now.work) ≡ true }
     requires queued { IsQueued books.old.items }

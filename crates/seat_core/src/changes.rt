@@ -59,7 +59,7 @@ fn advices_under(
     }
 }
 
-/// The same of this waiting list: the change is made, and made undone.
+/// The same over this waiting list: the change is made, and then undone.
 fn advices_with(
     alloc: Global,
     counts: &mut Counts,

@@ -1,4 +1,4 @@
-//! What waits for each place and class: by it a waiting list answers without a walk over its bookings.
+//! What waits for each place and class, so that a waiting list can answer without walking its bookings.
 ghost use Rattle.std.specs.Prelude.{◌≡◌, ◌≤◌, ◌<◌, ◌+◌, ◌^◌, ◌++◌, ◌∷◌, [], Some, position, vec_len, vec_capacity};
 ghost use Rattle.seat_nesting.specs.Counting.{limits_of, seats_of};
 ghost use Rattle.seat_core.specs.Demands.{is_demand_of, joined, least_with, no_demand_fits, demand_seats, demand_smallest, demand_waits, seats_for, settled, smallest_of};
@@ -7,7 +7,7 @@ use crate::booking::Booking;
 use seat_nesting::Counts;
 use ssim_records::{Class, Place};
 
-/// The bookings that wait for one place in one class: the least seats of one, and the seats of all.
+/// The bookings that wait for one place in one class: the seats of the smallest, and of all together.
 #[derive(Clone, Copy)]
 pub struct Demand {
     pub place: Place,
@@ -30,7 +30,7 @@ impl Demand {
     }
 }
 
-/// Whether each demand's smallest has more seats than the counters leave room for.
+/// Whether the smallest booking of each demand has more seats than the counters leave room for.
 pub fn are_too_large(counts: &Counts, demands: &[Demand]) -> bool
     ensures { result ≡ no_demand_fits (limits_of counts.now) (seats_of counts.now) demands.now }
 {
@@ -39,7 +39,7 @@ pub fn are_too_large(counts: &Counts, demands: &[Demand]) -> bool
         .all(|p| counts.room(p.place, p.class) < p.smallest)
 }
 
-/// A booking with so many seats waits from now on.
+/// Adds a waiting booking of so many seats.
 #[tactic(auto, using(crate::proofs::Waitlists::Demands::seats_found, crate::proofs::Waitlists::Demands::joined_found, crate::proofs::Waitlists::Demands::joined_none))]
 pub fn join(demands: &mut Vec<Demand>, place: Place, class: Class, seats: u16)
     requires spare { vec_len demands.old < vec_capacity demands.old }
@@ -56,7 +56,7 @@ pub fn join(demands: &mut Vec<Demand>, place: Place, class: Class, seats: u16)
     }
 }
 
-/// A booking lost so many seats and has `left`.
+/// Takes `off` seats from a waiting booking, which keeps `left`.
 pub fn lessen(demands: &mut Vec<Demand>, place: Place, class: Class, off: u16, left: u16)
     requires { off ≤ demand_seats place class demands.old.items }
     ensures { demands.new.items ≡ settled demands.old.items place class (least_with left (demand_smallest place class demands.old.items)) off }
@@ -65,7 +65,7 @@ pub fn lessen(demands: &mut Vec<Demand>, place: Place, class: Class, off: u16, l
     settle(demands, place, class, Some(smallest), off);
 }
 
-/// A booking with so many seats left the queue.
+/// Removes a booking of so many seats, which has left the queue.
 pub fn leave(demands: &mut Vec<Demand>, queue: &[Booking], place: Place, class: Class, seats: u16)
     requires enough { seats ≤ demand_seats place class demands.old.items }
     requires least { demand_smallest place class demands.old.items ≡ least_with seats (smallest_of place class queue.now) }
@@ -160,7 +160,7 @@ fn least(seats: u16, other: Option<u16>) -> u16
     }
 }
 
-/// The smallest of the demand of this place and class.
+/// The seats of the smallest booking that waits for this place and class.
 fn smallest_in(demands: &[Demand], place: Place, class: Class) -> Option<u16>
     ensures { result ≡ demand_smallest place class demands.now }
 {

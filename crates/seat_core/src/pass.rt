@@ -63,7 +63,7 @@ pub fn advices_of(
     advices_by(alloc, counts, queue.as_slice())
 }
 
-/// The same, booking by booking.
+/// The same pass, booking by booking.
 #[tactic(auto, using(crate::proofs::Passes::Undone::undone))]
 fn advices_by(alloc: Global, counts: &mut Counts, queue: &[Booking]) -> Result<Vec<Advice>, Memory>
     ensures limits { limits_of counts.new ≡ limits_of counts.old }

@@ -56,7 +56,7 @@ impl WaitingList {
         self.bookings.as_slice()
     }
 
-    /// Makes the memory for one more.
+    /// Reserves memory for one more booking.
     pub fn reserve(&mut self) -> Result<(), Memory>
         ensures same { self.new.bookings ≡ self.old.bookings }
         ensures ok { OnOk result (self.new.spare ≡ true) }
@@ -112,7 +112,7 @@ impl WaitingList {
         may_wait_at(counts, &self.demands, place, class, seats)
     }
 
-    /// Whether each has more seats than the counters leave room for.
+    /// Whether each waiting booking has more seats than the counters leave room for.
     pub fn none_fits(&self, counts: &Counts) -> bool
         ensures { result ≡ none_fits (limits_of counts.now) (seats_of counts.now) self.now.bookings }
     {

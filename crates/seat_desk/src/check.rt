@@ -38,7 +38,7 @@ pub fn desk_check<R: NotedRead, W: NotedWrite>(
     }
 }
 
-/// The line that sums up the data set that these bytes are.
+/// Reads these bytes as a data set, and words the line that sums it up.
 fn summary(alloc: Global, bytes: &[u8]) -> Result<Vec<u8>, DeskFault>
     requires { length bytes.now ≤ most_bytes }
     ensures ok { IfOk result (λ text. Sums bytes.now text.items) }
@@ -52,7 +52,7 @@ fn summary(alloc: Global, bytes: &[u8]) -> Result<Vec<u8>, DeskFault>
     }
 }
 
-/// The data set that these bytes are.
+/// Reads these bytes as a data set.
 pub fn data_set(alloc: Global, bytes: &[u8]) -> Result<DataSet, DeskFault>
     requires { length bytes.now ≤ most_bytes }
     ensures ok { IfOk result (IsDataSet most_records bytes.now) }

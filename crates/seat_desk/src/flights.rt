@@ -43,7 +43,7 @@ pub fn desk_flights<R: NotedRead, W: NotedWrite>(
     }
 }
 
-/// The lines of the flights of the data set that these bytes are.
+/// Reads these bytes as a data set, and words a line for each of its flights.
 fn listing(alloc: Global, bytes: &[u8], first: Day, days: u16) -> Result<Vec<u8>, DeskFault>
     requires size { length bytes.now ≤ most_bytes }
     requires first { IsOfCentury first }
@@ -59,7 +59,7 @@ fn listing(alloc: Global, bytes: &[u8], first: Day, days: u16) -> Result<Vec<u8>
     }
 }
 
-/// The dated flights of the data set that these bytes are.
+/// Reads these bytes as a data set, and expands its dated flights.
 #[tactic(auto, using(ssim_flights::proofs::RightSets::right_carrier, ssim_flights::proofs::RightSets::right_legs))]
 pub fn scheduled(alloc: Global, bytes: &[u8], first: Day, days: u16) -> Result<Flights, DeskFault>
     requires size { length bytes.now ≤ most_bytes }

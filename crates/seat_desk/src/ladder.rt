@@ -25,7 +25,7 @@ const MOST_LINES: u32 = 999_999;
 const MOST_LADDER_BYTES: u64 = 16_777_216;
 
 /// Reads a ladder, commands on its leg and changes of its limits, and writes the reply to each and the room that is left.
-/// Nothing is written before all is read and right. An input has at most 16 MiB.
+/// Nothing is written until all has been read and is right. An input has at most 16 MiB.
 pub fn desk_ladder<R: NotedRead, W: NotedWrite>(
     alloc: Global,
     input: &mut R,

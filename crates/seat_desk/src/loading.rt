@@ -51,7 +51,7 @@ pub fn load<S: NotedRead, L: NotedRead>(
     Ok(Loaded { flights, grid })
 }
 
-/// The limit rows that these bytes are.
+/// Reads these bytes as limit rows.
 #[tactic(auto, using(crate::proofs::Grounds::refused_limits))]
 pub fn limit_rows(alloc: Global, bytes: &[u8]) -> Result<LimitRows, DeskFault>
     requires { length bytes.now ≤ most_limit_bytes }

@@ -6,7 +6,7 @@ use crate::fault::DeskFault;
 use ssim_records::{NotedRead, ReadFault, read_all};
 use std::alloc::Global;
 
-/// All bytes of an input, which are at most `most`.
+/// All bytes of an input, at most `most`.
 pub fn read_input<R: NotedRead>(
     alloc: Global,
     input: &mut R,

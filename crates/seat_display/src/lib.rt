@@ -1,4 +1,4 @@
-//! The published table: viewers look at it with no lock, and one publisher changes it.
+//! The published table: viewers look at it without a lock, and one publisher changes it.
 //! It knows what entries leave, and nothing of sessions, of locks or of how entries come about.
 #![tactic(auto)]
 

@@ -68,7 +68,7 @@ impl Told {
 }
 
 impl Publisher {
-    /// Adds an entry, a command's or a change's, to what is pending. It is not visible yet.
+    /// Adds the entry of a command or a change to what is pending. It is not visible yet.
     pub fn append(&mut self, entry: Entry) -> Result<(), (Entry, Memory)>
         requires legal { IsLegal self.old.grid ((self.old.visible ++ self.old.pending) ++ entry ∷ []) }
         requires short { length self.old.visible + length self.old.pending < 1000000 }

@@ -3,7 +3,8 @@ use crate::book::Trace;
 use seat_journal::Entry;
 use seat_nesting::{Counts, Grid};
 
-/// The counters that are shown, which know the limits of then, their number of lines, and the history that they stand for, which has no bytes.
+/// The counters that are shown, with the limits at that point; the number of lines that they stand for; and those lines
+/// themselves, which have no bytes.
 #[derive(Drop)]
 pub struct Table {
     pub counts: Counts,

@@ -1,4 +1,4 @@
-//! Readers with no lock.
+//! Readers that take no lock.
 ghost use Rattle.std.specs.Prelude.{◌≡◌, ◌≤◌, ◌⊎◌, length, IfSome, IfNone, true, []};
 ghost use Rattle.left_right.specs.Sides.{view};
 ghost use Rattle.seat_core.specs.Prefixes.{Begins};
@@ -43,9 +43,9 @@ struct Glance {
 }
 
 impl Viewer {
-    /// The seats that are left on a place in a class, after all that is then seen and under the limits after it. It waits
-    /// for nobody. None where no reader is let in, and where the table has fewer lines than this viewer has learnt of. The second does not come:
-    /// lines are told of once they are published; but no clause says so.
+    /// The seats that are left on a place in a class after all that is then seen, under the limits at that point. It waits
+    /// for nobody. None where no reader is let in, or where the table has fewer lines than this viewer has learnt of. The
+    /// latter never happens, since lines are told of only once they are published, but no clause says so.
     pub fn look(&mut self, place: Place, class: Class) -> Option<u16>
         ensures room { IfSome result (λ n. n ≡ room_left (replay self.new.grid self.new.front) place class) }
         ensures front { Begins self.old.front self.new.front }
@@ -63,7 +63,7 @@ impl Viewer {
         Some(room)
     }
 
-    /// Takes in a note of the same display: the front becomes the longer of both.
+    /// Takes in a note of the same display: the front becomes the longer of the two.
     pub fn learn(&mut self, told: Told)
         requires book { told.book ≡ self.old.book }
         requires legal { IsLegal self.old.grid told.lines }

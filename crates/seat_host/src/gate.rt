@@ -1,11 +1,11 @@
-//! What stands round each call of a worker.
+//! What surrounds each call of a worker.
 
 use std::sync::Wait;
 
 /// A worker passes it before each call and after its answer. `call` counts the calls of the session from 1.
 pub trait Gate: Sync {
-    /// Whether a worker may keep the others waiting for many of its calls. Not so where the gate holds one until
-    /// another has come.
+    /// Whether a worker may keep the others waiting for many of its calls. It may not where the gate holds one worker
+    /// until another has come.
     fn takes_turns(&self) -> bool {
         false
     }

@@ -54,7 +54,7 @@ impl<K: Hosting> Manager<K> {
         self.party.next_call()
     }
 
-    /// Changes a limit by its host, as `Host::set_limit` does, and shows the receipt.
+    /// Has the host change a limit, as `Host::set_limit` does, and shows the receipt.
     #[tactic(auto, using(crate::proofs::Lasting::some_receipt, crate::proofs::Lasting::last_answers))]
     pub fn set_limit<R: Wait>(
         &mut self,

@@ -61,7 +61,7 @@ impl<K: Hosting> Session<K> {
         self.party.next_call()
     }
 
-    /// Answers a command by its host, as `Host::book` does, and shows the receipt.
+    /// Has the host answer a command, as `Host::book` does, and shows the receipt.
     #[tactic(auto, using(crate::proofs::Lasting::some_receipt, crate::proofs::Lasting::last_answers))]
     pub fn book<R: Wait>(
         &mut self,

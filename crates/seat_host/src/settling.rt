@@ -104,7 +104,7 @@ impl<K: Hosting> Model for Unsettled<K> {
 }
 
 impl<K: Hosting> Unsettled<K> {
-    /// The host, with these lines. It owes no clause: a host shows its grid alone, which its type names.
+    /// Gives the host back. It owes no clause, since a contract sees of a host its grid alone, which the type names.
     pub fn into_host(self) -> Host<K> {
         let Unsettled { grid, under_lock } = self;
         Host::over(grid, under_lock)

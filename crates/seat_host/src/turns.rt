@@ -1,4 +1,4 @@
-//! Turns of workers that would else meet at a lock at each call. Nothing that a run promises rests on who has his turn
+//! Turns of workers that would otherwise meet at a lock at each call. Nothing that a run promises depends on who has a turn
 //! when, so they owe no clauses.
 use std::sync::Wait;
 use std::sync::atomic::{AtomicU64, Ordering};
@@ -18,7 +18,7 @@ pub struct Turns {
 }
 
 impl Turns {
-    /// For so many workers.
+    /// Turns for so many workers.
     pub fn new(workers: usize) -> Turns {
         Turns {
             workers: workers as u64,
@@ -55,7 +55,7 @@ impl Turns {
         next
     }
 
-    /// A worker leaves, with the turn that it has asked for: it lets it pass.
+    /// A worker leaves, and lets the turn that it has asked for pass.
     pub fn leave<R: Wait>(&self, rt: &R, turn: u64) {
         self.begin(rt, turn);
         self.give_up();

@@ -35,8 +35,8 @@ pub enum RunFault {
 // The least calls of a turn.
 const SHORTEST: usize = 8;
 
-/// Has the manager make its changes in order, and each session book its list, by a worker each. A worker whose call is
-/// refused stops there, and the others finish.
+/// Has the manager make its changes in order and each session book its list, each on a worker of its own. A worker whose
+/// call is refused stops there, and the others finish.
 pub fn run_sessions<K: Hosting + Send + Sync, R: Threads + Wait + Sync, G: Gate>(
     rt: &R,
     alloc: Global,

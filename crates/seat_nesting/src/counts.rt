@@ -1,4 +1,4 @@
-//! The seats that are held on each leg of a grid, by rank: what a step and a look need of the bookings.
+//! The seats that are held on each leg of a grid, by rank: all that a step and a look need to know of the bookings.
 ghost use Rattle.std.specs.Prelude.{◌≡◌, ◌≤◌, ◌↔◌, ℕ, [], length, IfOk, IfSome, IfNone, IsTrue, map};
 ghost use Rattle.seat_nesting.specs.Nesting.{Fits, ladder_at, room, room_on};
 ghost use Rattle.seat_nesting.specs.Counting.{limits_of, seats_of, holds, leg_holds, Takes, Gives, OneLegChanges, FlightChanges, plus, less, IsWithinLimits, IsFresh, leg_in, leg_at, no_leg, seats_on};
@@ -44,7 +44,7 @@ impl Model for Counts {
 }
 
 impl Counts {
-    /// The counters of a grid, on which no seat is held.
+    /// The counters of a grid on which no seat is held.
     pub fn new(alloc: Global, grid: &Grid) -> Result<Counts, Memory>
         ensures limits { IfOk result (λ counts. limits_of counts ≡ grid.now) }
         ensures seats { IfOk result (λ counts. (flight leg class : ℕ) → seats_of counts flight leg class ≡ 0) }
@@ -96,7 +96,7 @@ impl Counts {
         held
     }
 
-    /// So many more seats are held on each leg of the place in the class.
+    /// Takes so many seats of the class on each leg of the place.
     pub fn take(&mut self, place: Place, class: Class, seats: u16)
         requires { seats ≤ room (limits_of self.old) (seats_of self.old) place class }
         ensures { Takes self.old self.new place class seats }
@@ -110,7 +110,7 @@ impl Counts {
         }
     }
 
-    /// So many fewer seats are held on each leg of the place in the class.
+    /// Gives back so many seats of the class on each leg of the place.
     pub fn give(&mut self, place: Place, class: Class, seats: u16)
         requires { IsTrue (holds (limits_of self.old) (seats_of self.old) place class seats) }
         ensures { Gives self.old self.new place class seats }
@@ -144,7 +144,7 @@ impl Counts {
         wait <= 999 && self.may_have(flight, leg, class, limit)
     }
 
-    /// A class of a leg has this limit and wait from now on.
+    /// Sets the limit and the wait of a class on a leg.
     pub fn set(&mut self, flight: u32, leg: u8, class: Class, limit: u16, wait: u16)
         requires { IsTrue (can_set (limits_of self.old) (seats_of self.old) flight leg class limit wait) }
         ensures { Sets self.old self.new flight leg class limit wait }

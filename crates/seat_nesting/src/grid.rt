@@ -12,7 +12,7 @@ use ssim_records::{Memory, Place};
 use std::alloc::Global;
 use std::marker::Model;
 
-/// The ladders of the legs of one flight; a leg without limits has none.
+/// The ladders of the legs of one flight. A leg without limits has none.
 #[derive(Drop)]
 pub struct FlightLegs {
     ladders: Vec<Option<Ladder>>,
@@ -82,7 +82,7 @@ impl Grid {
         Ok(Grid { flights: grid })
     }
 
-    /// The same grid once more.
+    /// A copy of the grid.
     pub fn copy(&self, alloc: Global) -> Result<Grid, Memory>
         ensures { IfOk result (λ grid. grid ≡ self.now) }
     {
@@ -121,7 +121,7 @@ impl Grid {
         self.flights.get(flight as usize)?.ladder(usize::from(leg))
     }
 
-    /// The steps of a leg, which are none where it has no limits.
+    /// The steps of a leg; none where it has no limits.
     pub fn steps(&self, flight: u32, leg: u8) -> &[Step]
         ensures value { result.now ≡ ladder_at self.now flight leg }
         ensures distinct { IsDistinct result.now }
@@ -201,7 +201,7 @@ impl FlightLegs {
     }
 }
 
-/// The same ladder once more, if there is one.
+/// A copy of the ladder, if there is one.
 pub(crate) fn copy_of(ladder: &Option<Ladder>) -> Option<Ladder>
     ensures { result ≡ ladder.now }
 {

@@ -107,7 +107,7 @@ impl Ladder {
         self.steps.as_slice()
     }
 
-    /// The class has this limit and wait from now on, and keeps its mark.
+    /// Sets the limit and the wait of the class, which keeps its mark.
     pub(crate) fn set(&mut self, class: Class, limit: u16, wait: u16)
         requires { IsLadder (with_limit self.old class limit wait) }
         ensures { self.new ≡ with_limit self.old class limit wait }
@@ -123,7 +123,7 @@ impl Ladder {
         }
     }
 
-    /// The same ladder once more.
+    /// A copy of the ladder.
     pub fn copy(&self) -> Ladder
         ensures { result ≡ self.now }
     {

@@ -80,7 +80,7 @@ impl LegCounts {
         }
     }
 
-    /// So many more seats are held in the class.
+    /// Takes so many seats of the class.
     pub fn take(&mut self, class: Class, seats: u16)
         requires { seats ≤ room_on self.old.steps (seats_on self.old) class }
         ensures { LegChanges plus self.old self.new class seats }
@@ -90,7 +90,7 @@ impl LegCounts {
         }
     }
 
-    /// So many fewer seats are held in the class.
+    /// Gives back so many seats of the class.
     pub fn give(&mut self, class: Class, seats: u16)
         requires { seats ≤ seats_on self.old class }
         ensures { LegChanges less self.old self.new class seats }
@@ -127,7 +127,7 @@ impl LegCounts {
         }
     }
 
-    /// The class has this limit and wait from now on.
+    /// Sets the limit and the wait of the class.
     pub fn set(&mut self, class: Class, limit: u16, wait: u16)
         requires may { IsTrue (may_have self.old.steps (seats_on self.old) class limit) }
         requires wait { wait ≤ 999 }
@@ -164,7 +164,7 @@ impl LegCounts {
     }
 }
 
-/// The steps of a leg that has a ladder or none.
+/// The steps of a leg; none where it has no ladder.
 fn steps_of(ladder: &Option<Ladder>) -> &[Step]
     ensures value { result.now ≡ steps_of ladder.now }
     ensures ladder { IsLegLadder result.now }

@@ -21,7 +21,7 @@ pub struct Pair {
     pub off: Station,
 }
 
-/// The last row of each pair, and for each row the one before it of its pair.
+/// The last row of each pair, and for each row the one of its pair before it.
 #[derive(Drop)]
 pub struct RowIndex {
     pub last: HashMap<Pair, usize>,
@@ -59,7 +59,7 @@ impl RowIndex {
     }
 }
 
-/// Puts the row of this number as the last one of its pair, and answers the one before it.
+/// Makes the row of this number the last one of its pair, and answers the one before it.
 fn put(last: &mut HashMap<Pair, usize>, pair: Pair, i: usize) -> Result<Option<usize>, Memory>
     ensures before { IfOk result (λ o. o ≡ get same_pair last.old pair) }
     ensures after { OnOk result (PutsRow last.old last.new pair i) }

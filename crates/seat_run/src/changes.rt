@@ -60,7 +60,7 @@ fn of_rows(fault: LimitFault) -> DeskFault
     }
 }
 
-/// A change for each of the rows that these bytes are, as far as one leg serves them.
+/// The change of each row, in order. It refuses the first row that no leg serves, or that more than one does.
 #[tactic(auto, using(crate::proofs::Changing::served_more, crate::proofs::Changing::is_unserved))]
 fn served(
     alloc: Global,
@@ -93,7 +93,7 @@ fn served(
     Ok(changes)
 }
 
-/// The change that a row asks for, where one leg alone serves it.
+/// The change that a row asks for, where exactly one leg serves it.
 fn change_of(index: &Served<'_>, row: &ChangeRow) -> Option<Change>
     ensures { result ≡ change_of index.now row.now }
 {

@@ -1,4 +1,4 @@
-//! The replies to changes and to scripts, whose requests are answered by segment lines.
+//! The replies to changes and to scripts. A request is answered by a segment line.
 ghost use Rattle.std.specs.Prelude.{◌≡◌, ◌++◌, ◌<◌, Some, IfOk, OnOk};
 ghost use Rattle.airimp_lines.specs.Grammar.{IsPlainLine, IsRightSegment, IsWritable, reply_of};
 ghost use Rattle.seat_desk.specs.FlightsDesk.{IsPut, IsText};

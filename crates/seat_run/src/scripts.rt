@@ -118,7 +118,7 @@ fn read_one<C: NotedRead>(
     requests_of(alloc, &bytes, session, today)
 }
 
-/// The requests that these bytes are a script of.
+/// Reads these bytes as a script.
 fn requests_of(alloc: Global, bytes: &[u8], session: u8, today: Day) -> Result<Requests, DeskFault>
     requires today { IsCenturyDay today }
     requires size { length bytes.now ≤ most_script_bytes }

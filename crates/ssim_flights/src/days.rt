@@ -52,7 +52,7 @@ impl Days {
 }
 
 /// The days on which the leg operates, where `end` stands for an open end of its period.
-/// The only refusal is want of memory.
+/// It refuses for want of memory alone.
 pub fn operating_days(alloc: Global, leg: &Leg, end: Day) -> Result<Days, Memory>
     ensures value { IfOk result (λ days. days ≡ operating_days leg.now end) }
     ensures exact { IfOk result (λ days. (d : ℕ) → Contains days d ↔ Operates leg.now end d) }

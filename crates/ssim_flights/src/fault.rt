@@ -31,7 +31,7 @@ pub enum FlightKind {
     TooManyLegs,
     /// There are more flights than were asked for.
     TooManyFlights,
-    /// Memory was wanted.
+    /// A growth was refused.
     Memory,
 }
 

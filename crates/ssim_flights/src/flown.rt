@@ -13,7 +13,7 @@ use ssim_records::{Airline, Day, Leg, Memory};
 use std::alloc::Global;
 use std::collections::HashSet;
 
-/// What no two flights of a carrier share: the flight number, the suffix and the first operating day.
+/// What tells the flights of a carrier apart: flight number, suffix and first operating day.
 #[derive(Clone, Copy, PartialEq, Eq, Hash)]
 pub(crate) struct Departure {
     pub number: u16,

@@ -1,4 +1,4 @@
-//! The index of the places on flights, by what they serve.
+//! The index of the places on flights, by the wishes that they serve.
 ghost use Rattle.std.specs.Prelude.{◌≡◌, ◌+◌, ◌≤◌, ◌<◌, ◌^◌, ◌∷◌, [], OnOk, IfOk, length};
 ghost use Rattle.ssim_flights.specs.Few.{AreFew};
 ghost use Rattle.ssim_flights.specs.Places.{ends_from, places_from, places};
@@ -24,7 +24,7 @@ pub(crate) fn index_of(alloc: Global, flights: &[Flight]) -> Result<HashMap<Want
     Ok(index)
 }
 
-/// Puts the places that begin with one of the last legs of a flight.
+/// Adds the places that begin with one of the last legs of a flight.
 fn add_places(
     index: &mut HashMap<Wanted, Place>,
     flight: &Flight,
@@ -52,7 +52,7 @@ fn add_places(
     )
 }
 
-/// Puts the places that begin with one leg and end with one of the last legs of a flight.
+/// Adds the places that begin with one leg and end with one of the last legs of a flight.
 fn add_ends(
     index: &mut HashMap<Wanted, Place>,
     flight: &Flight,
@@ -83,7 +83,7 @@ fn add_ends(
     put(index, wanted, place)
 }
 
-/// Puts a place before all others.
+/// Adds a place, which counts before those added earlier.
 fn put(index: &mut HashMap<Wanted, Place>, wanted: Wanted, place: Place) -> Result<(), Memory>
     ensures { OnOk result (Puts index.old index.new ((wanted, place) ∷ [])) }
 {

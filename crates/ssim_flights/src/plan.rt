@@ -1,4 +1,4 @@
-//! What the legs of a carrier are expanded by.
+//! What guides the expansion of a carrier's legs.
 use ssim_records::{Airline, Day};
 
 /// The carrier's airline and time mode, and the horizon.
@@ -8,7 +8,7 @@ pub(crate) struct Plan {
     pub local: bool,
     pub first: Day,
     pub last: Day,
-    /// What stands for an open end of a leg's period.
+    /// The day that stands for an open end of a leg's period.
     pub end: Day,
     /// How many flights there may be.
     pub most: u32,

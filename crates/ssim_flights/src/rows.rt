@@ -9,7 +9,7 @@ use crate::schedule::{Scheduled, shortest};
 use ssim_records::{Day, Leg, Memory};
 use std::alloc::Global;
 
-/// The indices at which all legs operate, and leg 1 does in the horizon.
+/// The indices at which all legs operate, and leg 1 within the horizon.
 #[tactic(auto, unfolding(crate::specs::Schedules::rows))]
 pub(crate) fn rows(alloc: Global, plan: &Plan, legs: &[Scheduled]) -> Result<Vec<usize>, Memory>
     ensures { IfOk result (λ list. list.items ≡ rows plan.now legs.now) }
@@ -32,7 +32,7 @@ fn is_in_horizon(plan: &Plan, day: Day) -> bool
     plan.first.number() <= day.number() && day.number() <= plan.last.number()
 }
 
-/// The serial of the first leg that has another count of operating days than leg 1, where no leg has an open end.
+/// The serial of the first leg whose count of operating days differs from leg 1's, where no leg has an open end.
 #[tactic(auto, unfolding(crate::specs::Schedules::differing))]
 pub(crate) fn differing(legs: &[Scheduled]) -> Option<u32>
     ensures { result ≡ differing legs.now }

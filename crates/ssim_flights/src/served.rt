@@ -1,4 +1,4 @@
-//! The places on flights, found by what is asked for.
+//! Finding a place on a flight by what is asked for.
 ghost use Rattle.std.specs.Prelude.{◌≡◌, IfOk};
 ghost use Rattle.ssim_flights.specs.Places.{place_wanted};
 
@@ -11,7 +11,7 @@ use std::collections::HashMap;
 use std::marker::Model;
 
 /// Flights with an index of the places on them.
-/// The index is made once, and costs a place in memory for each pair of legs: who looks for no place makes none.
+/// The index is made once and takes memory for each pair of legs, so a caller that looks for no place makes none.
 #[derive(Drop)]
 pub struct Served<'a> {
     flights: &'a Flights,

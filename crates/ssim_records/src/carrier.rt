@@ -6,7 +6,7 @@ use crate::names::{Airline, Station};
 #[derive(Clone, Copy)]
 pub struct Carrier {
     pub airline: Airline,
-    /// Whether the times are local. Else they are UTC.
+    /// Whether the times are local rather than UTC.
     pub local: bool,
     pub from: Day,
     /// The last day, or none where the end is open.
@@ -33,7 +33,7 @@ pub struct Leg {
     pub to: Option<Day>,
     /// Monday to Sunday.
     pub days: [bool; 7],
-    /// Whether it operates every second week. Else it does every week.
+    /// Whether it operates every second week rather than every week.
     pub second_week: bool,
     pub board: Station,
     /// The aircraft's scheduled time of departure, in minutes of the day, 0 to 1440.

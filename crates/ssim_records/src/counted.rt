@@ -8,7 +8,7 @@ ghost use Rattle.ssim_records.specs.Noting.{noted, NotesRead, NotesWrite};
 use std::io;
 use std::io::{Read, Write};
 
-/// What counts its failures. The count stays at `u64::MAX`.
+/// A device that counts its failures. The count stops at `u64::MAX`.
 pub trait Failures {
     ghost failure_count: { Self → ℕ };
 

@@ -1,4 +1,4 @@
-//! The names of the airline standards: what is written in one form alone is a type of its own.
+//! The names of the airline standards. Each name that has exactly one form is a type of its own.
 ghost use Rattle.std.specs.Prelude.{◌≡◌, ℕ, List, ◌∷◌, [], Some, None, if◌then◌else◌, IsTrue};
 ghost use Rattle.std.specs.Char.{is_ascii_uppercase};
 ghost use Rattle.ssim_records.specs.Names.{is_station, is_airline, is_code, is_locator, is_name_byte};
@@ -22,7 +22,7 @@ impl Model for Station {
 }
 
 impl Station {
-    /// The station that these bytes write, if they do.
+    /// The station that these bytes spell, if they spell one.
     pub fn new(text: &[u8]) -> Option<Self>
         ensures { result ≡ (if is_station text.now then Some text.now else None) }
     {
@@ -62,7 +62,7 @@ impl Model for Airline {
 }
 
 impl Airline {
-    /// The airline that these bytes write, if they do.
+    /// The airline that these bytes spell, if they spell one.
     pub fn new(text: &[u8]) -> Option<Self>
         ensures { result ≡ (if is_airline text.now then Some text.now else None) }
     {
@@ -104,7 +104,7 @@ impl Model for Code {
 }
 
 impl Code {
-    /// The code that these bytes write, if they do.
+    /// The code that these bytes spell, if they spell one.
     pub fn new(text: &[u8]) -> Option<Self>
         ensures { result ≡ (if is_code text.now then Some text.now else None) }
     {
@@ -185,7 +185,7 @@ impl Model for Locator {
 }
 
 impl Locator {
-    /// The locator that these bytes write, if they do.
+    /// The locator that these bytes spell, if they spell one.
     pub fn new(text: &[u8]) -> Option<Self>
         ensures { result ≡ (if is_locator text.now then Some text.now else None) }
     {

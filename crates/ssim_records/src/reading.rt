@@ -1,4 +1,4 @@
-//! All bytes of a reader, up to a bound.
+//! Reading all bytes of a reader, up to a bound.
 ghost use Rattle.std.specs.Prelude.{◌≡◌, ◌≢◌, ℕ, ◌+◌, ◌<◌, ◌≤◌, List, length, ◌++◌, IfOk, IfErr, OnOk, OnErr, IfSome, true, false};
 ghost use Rattle.std.specs.Io.KnownBytes.{Consumes, IsAtEnd};
 ghost use Rattle.ssim_records.specs.Noting.{noted, GaveMore, Turned, WantsRoom};
@@ -10,12 +10,12 @@ use std::fmt;
 // The most that one read takes. It lies on the stack, once for a reader.
 const PIECE: usize = 64 * 1024;
 
-/// Why the bytes of a reader are not all there.
+/// Why a reader was not read to its end.
 #[derive(Clone, Copy, Debug, PartialEq, Eq)]
 pub enum ReadFault {
     /// The reader failed. An interrupted read is a failure too.
     Device,
-    /// It gave more bytes than it may.
+    /// It gave more bytes than it may give.
     TooLarge,
     /// A growth was refused.
     Memory,

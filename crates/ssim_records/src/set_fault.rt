@@ -34,7 +34,7 @@ pub enum SetKind {
     AfterTrailer,
     /// The bytes end before a trailer.
     NoTrailer,
-    /// A right record is one too many.
+    /// There is one record too many, though a right one.
     TooLarge,
     /// A leg could not be stored.
     Memory,

@@ -13,7 +13,7 @@ use crate::state::{Phase, Reader};
 use crate::steps::take;
 use std::alloc::Global;
 
-/// The data set that these bytes are, with at most `most` records that are no fillers.
+/// Reads these bytes as a data set of at most `most` records, fillers not counted.
 pub fn read_set(alloc: Global, bytes: &[u8], most: u32) -> Result<DataSet, SetFault>
     requires most { most ≤ 999999 }
     requires size { length bytes.now ≤ 2 ^ 28 }

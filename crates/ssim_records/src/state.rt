@@ -11,7 +11,7 @@ pub enum Phase {
     Done(Carrier),
 }
 
-/// What was read so far.
+/// What has been read so far.
 #[derive(Drop)]
 pub struct Reader {
     pub phase: Phase,

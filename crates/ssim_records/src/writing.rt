@@ -1,4 +1,4 @@
-//! All bytes of a text to a writer.
+//! Writing a text whole.
 ghost use Rattle.std.specs.Prelude.{◌≡◌, ℕ, ◌<◌, ◌≤◌, List, length, take, [], IfOk, OnOk, OnErr};
 ghost use Rattle.std.specs.Io.KnownBytes.{Appends, Keeps};
 ghost use Rattle.ssim_records.specs.Noting.{noted, TookFront};
