@@ -17,13 +17,13 @@ use std::sync::Wait;
 use std::test::Fail;
 
 /// A host of a leg with the ladder F010/000 Y008/000 M005/004, and the totals when it is over.
-struct Deeds {
-    row: Row,
-    sessions: u8,
-    cap: u32,
-    lines: u64,
-    confirmed: u64,
-    released: u64,
+pub struct Deeds {
+    pub row: Row,
+    pub sessions: u8,
+    pub cap: u32,
+    pub lines: u64,
+    pub confirmed: u64,
+    pub released: u64,
 }
 
 const ROWS: [Deeds; 5] = [
@@ -412,7 +412,7 @@ fn act<K: Hosting, R: Wait + Abort>(
     Some(())
 }
 
-fn act_all<K: Hosting, R: Wait + Abort>(
+pub fn act_all<K: Hosting, R: Wait + Abort>(
     rt: &R,
     alloc: Global,
     host: &Host<K>,
@@ -459,7 +459,7 @@ fn gather_without_last<K: Hosting, R: Wait + Abort>(
 }
 
 /// Gathers, and gathers again where a growth is refused.
-fn gather_all<K: Hosting, R: Wait>(
+pub fn gather_all<K: Hosting, R: Wait>(
     rt: &R,
     alloc: Global,
     host: Host<K>,
@@ -520,7 +520,7 @@ fn compare<R: Abort>(
 }
 
 /// Has the manager and the sessions of a host do their deeds, and gathers. False where it was not opened for want of memory.
-fn play<K: Hosting, R: Wait + Abort>(
+pub fn play<K: Hosting, R: Wait + Abort>(
     rt: &R,
     alloc: Global,
     parts: Parts,
@@ -555,7 +555,12 @@ fn act_and_gather<K: Hosting, R: Wait + Abort>(
     compare(rt, &settled, lines, row, sessions)
 }
 
-fn parts_of<R: Wait>(rt: &R, alloc: Global, sessions: u8, cap: u32) -> Result<Parts, HostFault> {
+pub fn parts_of<R: Wait>(
+    rt: &R,
+    alloc: Global,
+    sessions: u8,
+    cap: u32,
+) -> Result<Parts, HostFault> {
     let Some(grid) = grid_of(alloc, b"F010/000 Y008/000 M005/004") else {
         return Err(HostFault::Memory);
     };

@@ -9,6 +9,8 @@ mod display_tests;
 #[cfg(test)]
 mod feed;
 #[cfg(test)]
+mod going_on_tests;
+#[cfg(test)]
 mod inventories;
 #[cfg(test)]
 mod meeting;

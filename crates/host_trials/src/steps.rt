@@ -6,6 +6,7 @@ use std::alloc::Global;
 use std::process::Abort;
 
 /// What a row shows, the text of its journal, and its steps, a line each.
+#[derive(Drop)]
 pub struct Row {
     pub shows: &'static str,
     pub lines: &'static [u8],

@@ -31,19 +31,19 @@ pub front_is : (front front' journal : List Entry) (e : Entry) → Begins front 
 front_is front front' journal e pre more longer =
     ⊎_elim (λ (is : front' ≡ front). absurd (omega (arith, ap length is, begins_length front journal pre, begins_length (journal ++ e ∷ []) front' more, length-append journal (e ∷ [])))) (λ is. is) longer
 
-at_set_here : (xs : List ℕ) (i v : ℕ) → i < length xs → slice_index (slice_set xs i v) i ≡ v
+pub at_set_here : (xs : List ℕ) (i v : ℕ) → i < length xs → slice_index (slice_set xs i v) i ≡ v
 at_set_here [] i v h = absurd (omega arith)
 at_set_here (x ∷ xs) zero v h = refl
 at_set_here (x ∷ xs) (suc i) v h = at_set_here xs i v (omega arith)
 
-at_set_else : (xs : List ℕ) (i j v : ℕ) → j ≢ i → slice_index (slice_set xs i v) j ≡ slice_index xs j
+pub at_set_else : (xs : List ℕ) (i j v : ℕ) → j ≢ i → slice_index (slice_set xs i v) j ≡ slice_index xs j
 at_set_else [] i j v n = refl
 at_set_else (x ∷ xs) zero zero v n = absurd (n refl)
 at_set_else (x ∷ xs) zero (suc j) v n = refl
 at_set_else (x ∷ xs) (suc i) zero v n = refl
 at_set_else (x ∷ xs) (suc i) (suc j) v n = at_set_else xs i j v (λ e. n (ap suc e))
 
-set_length : (xs : List ℕ) (i v : ℕ) → length (slice_set xs i v) ≡ length xs
+pub set_length : (xs : List ℕ) (i v : ℕ) → length (slice_set xs i v) ≡ length xs
 set_length [] i v = refl
 set_length (x ∷ xs) zero v = refl
 set_length (x ∷ xs) (suc i) v = ap suc (set_length xs i v)
@@ -51,7 +51,7 @@ set_length (x ∷ xs) (suc i) v = ap suc (set_length xs i v)
 pub dec_nat : (m n : ℕ) → (m ≡ n) ⊎ (m ≢ n)
 dec_nat m n = dite (ℕ_discrete m n) (λ e. inl e) (λ ne. inr ne)
 
-no_calls : (s : ℕ) → s < 9 → slice_index (0 ∷ 0 ∷ 0 ∷ 0 ∷ 0 ∷ 0 ∷ 0 ∷ 0 ∷ 0 ∷ []) s ≡ 0
+pub no_calls : (s : ℕ) → s < 9 → slice_index (0 ∷ 0 ∷ 0 ∷ 0 ∷ 0 ∷ 0 ∷ 0 ∷ 0 ∷ 0 ∷ []) s ≡ 0
 no_calls zero h = refl
 no_calls (suc zero) h = refl
 no_calls (suc (suc zero)) h = refl

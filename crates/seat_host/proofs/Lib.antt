@@ -5,3 +5,4 @@ pub mod Own
 pub mod Staking
 pub mod Gathered
 pub mod Working
+pub mod Opening

@@ -2,7 +2,6 @@
 use Rattle.std.proofs.Common.{◌≡◌, ℕ, suc, ◌+◌, ◌-◌, ◌≤◌, List, [], ◌∷◌, ◌++◌, Option, Some, None, length, length-append, ap, sym, ◌∙◌, arith}
 use Rattle.std.specs.Prelude.{option_to_list, IsSome, ◌<◌}
 use Rattle.seat_host.specs.Ledgers.{Staked, counted, stakes_left}
-use Rattle.seat_host.specs.Sessions.{Seat, fresh, fresh_sessions}
 use Rattle.seat_core.proofs.History.Prefixes.{push_same}
 
 -- the last of the shares that are left is that of the next number
@@ -23,9 +22,3 @@ popped n was rest None high is split some = absurd (cc (some (omega (arith, ap l
 popped n was rest (Some s) high is split some =
     let p = take_last n was rest s high is split in
     (p.0, ap Some p.1)
-
--- one session more
-pub fresh_more : (xs : List Seat) (n m : ℕ) → xs ≡ fresh_sessions n → m ≡ n + 1 → xs ++ fresh m ∷ [] ≡ fresh_sessions m
-fresh_more xs n m is e =
-    let up : m ≡ suc n = omega (arith, e) in
-    ap (λ (l : List Seat). l ++ fresh m ∷ []) is ∙ ap (λ (k : ℕ). fresh_sessions n ++ fresh k ∷ []) up ∙ sym (ap fresh_sessions up)

@@ -23,6 +23,12 @@ pub record IsTied (grid : Legs) (cap n : ℕ) (line_counts : List ℕ) (journal 
   -- no session but the first n has any
   pub only : OnlyFirst n journal
 
+-- of nine counts, the first n are of their sessions' lines, and the others are 0
+pub record CountsFirst (n : ℕ) (journal : List Entry) (line_counts : List ℕ) : Type 0 where
+  pub wide : length line_counts ≡ 9
+  pub own : (s : ℕ) → s < n → slice_index line_counts s ≡ length (of_session s journal)
+  pub none : (s : ℕ) → n ≤ s → s < 9 → slice_index line_counts s ≡ 0
+
 -- what viewers find is the journal, over the same limits, and nothing is pending
 pub record Shows (core : Inventory) (publisher : Published) : Type 0 where
   pub grid_is : publisher.grid ≡ core.grid

@@ -2,6 +2,7 @@
 use Rattle.std.specs.Prelude.{ℕ, List}
 use Rattle.logbook.specs.Pages.{Book}
 use Rattle.seat_nesting.specs.Nesting.{Legs}
+use Rattle.seat_journal.specs.declared.entry.Entry.{Entry}
 
 pub record Named : Type 0 where
   pub grid : Legs
@@ -9,3 +10,5 @@ pub record Named : Type 0 where
   pub book : Book
   pub sessions : ℕ
   pub names : List ℕ
+  -- the lines that its journal begins with
+  pub past : List Entry

@@ -14,14 +14,22 @@ pub record Seat : Type 0 where
   pub receipts : List Entry
   pub front : List Entry
 
+-- a session that goes on from these lines: it has seen them all, and has its own among them as receipts
+abbrev pub seated : ℕ → List Entry → Seat
+seated number past = record { id = number; receipts = of_session number past; front = past }
+
+-- sessions 1 to n that go on from these lines
+abbrev pub seated_sessions : ℕ → List Entry → List Seat
+seated_sessions zero past = []
+seated_sessions (suc n) past = seated_sessions n past ++ seated (suc n) past ∷ []
+
 -- a session that has done nothing
 abbrev pub fresh : ℕ → Seat
-fresh number = record { id = number; receipts = []; front = [] }
+fresh number = seated number []
 
 -- sessions 1 to n that have done nothing
 abbrev pub fresh_sessions : ℕ → List Seat
-fresh_sessions zero = []
-fresh_sessions (suc n) = fresh_sessions n ++ fresh (suc n) ∷ []
+fresh_sessions n = seated_sessions n []
 
 -- what holds of a session at any time, among n. Its receipts begin its own entries in its front
 pub record Stands (grid : Legs) (n : ℕ) (s : Seat) : Type 0 where

@@ -107,11 +107,11 @@ impl<K: Hosting, const N: u8> Whole<K, N> {
         book.audit(&mut self.share);
     }
 
-    // Counts one line more.
-    fn add(&mut self, book: &mut Book<Numbered<K, N>>)
-        ensures { (book.new.total ≡ book.old.total + 1) × (self.new ≡ self.old + 1) }
+    // Counts so many lines more.
+    fn add(&mut self, book: &mut Book<Numbered<K, N>>, more: u64)
+        ensures { (book.new.total ≡ book.old.total + more) × (self.new ≡ self.old + more) }
     {
-        book.add(&mut self.share, 1);
+        book.add(&mut self.share, more);
     }
 }
 
@@ -167,16 +167,24 @@ impl<K: Hosting> LineCounts<K> {
         ensures mine { mine.new ≡ counted mine.old.number (mine.old.amount + 1) }
         ensures total { self.new ≡ slice_set self.old mine.old.number (slice_index self.old mine.old.number + 1) }
     {
+        self.add_all(mine, 1);
+    }
+
+    /// Counts so many lines more of the share's session.
+    pub fn add_all(&mut self, mine: &mut Stake<K>, more: u64)
+        ensures mine { mine.new ≡ counted mine.old.number (mine.old.amount + more) }
+        ensures total { self.new ≡ slice_set self.old mine.old.number (slice_index self.old mine.old.number + more) }
+    {
         match &mut mine.share {
-            AnyShare::Zero(share) => share.add(&mut self.zero),
-            AnyShare::One(share) => share.add(&mut self.one),
-            AnyShare::Two(share) => share.add(&mut self.two),
-            AnyShare::Three(share) => share.add(&mut self.three),
-            AnyShare::Four(share) => share.add(&mut self.four),
-            AnyShare::Five(share) => share.add(&mut self.five),
-            AnyShare::Six(share) => share.add(&mut self.six),
-            AnyShare::Seven(share) => share.add(&mut self.seven),
-            AnyShare::Eight(share) => share.add(&mut self.eight),
+            AnyShare::Zero(share) => share.add(&mut self.zero, more),
+            AnyShare::One(share) => share.add(&mut self.one, more),
+            AnyShare::Two(share) => share.add(&mut self.two, more),
+            AnyShare::Three(share) => share.add(&mut self.three, more),
+            AnyShare::Four(share) => share.add(&mut self.four, more),
+            AnyShare::Five(share) => share.add(&mut self.five, more),
+            AnyShare::Six(share) => share.add(&mut self.six, more),
+            AnyShare::Seven(share) => share.add(&mut self.seven, more),
+            AnyShare::Eight(share) => share.add(&mut self.eight, more),
         }
     }
 }

@@ -11,6 +11,7 @@ mod parts;
 mod party;
 mod receipt;
 mod request_list;
+mod seating;
 mod session;
 mod settling;
 mod turns;

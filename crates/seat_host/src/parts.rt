@@ -1,11 +1,15 @@
 //! The parts of a host, which no type names yet.
-ghost use Rattle.std.specs.Prelude.{◌≡◌, ◌<◌, ◌≤◌, ◌⊎◌, OnOk, IfOk, IfErr};
+ghost use Rattle.std.specs.Prelude.{◌≡◌, ◌<◌, ◌≤◌, ◌⊎◌, ◌↔◌, [], IsTrue, OnOk, IfOk, IfErr, length};
+ghost use Rattle.seat_core.specs.Journal.{IsLegal};
+ghost use Rattle.seat_host.specs.Histories.{OnlyFirst};
 ghost use Rattle.seat_host.specs.declared.parts.HostFault.TheVariants.{Sessions, Memory as NoMemory};
 
 use crate::ledgers::Blanks;
 use seat_core::Core;
 use seat_display::{Publisher, Viewer, open as open_display};
+use seat_journal::Entry;
 use seat_nesting::Grid;
+use ssim_records::Memory;
 use std::alloc::Global;
 use std::marker::Model;
 use std::sync::Wait;
@@ -32,17 +36,19 @@ pub struct Parts {
 impl Model for Parts {
     ghost use Rattle.std.specs.Prelude.{◌≡◌, ◌+◌, ◌<◌, ◌≤◌, [], All, vec_len};
     ghost use Rattle.seat_display.specs.Faces.{opened};
+    ghost use Rattle.seat_host.specs.Histories.{OnlyFirst};
     ghost use Rattle.seat_host.specs.Named.{Named};
 
     ghost Value = { Named };
 
-    ghost view = { λ p. record { grid = p.core.grid; cap = p.core.cap; book = p.publisher.book; sessions = p.sessions; names = p.blanks } };
+    ghost view = { λ p. record { grid = p.core.grid; cap = p.core.cap; book = p.publisher.book; sessions = p.sessions; names = p.blanks; past = p.core.journal } };
 
-    ghost invariant = { λ p. (p.core.journal ≡ []) × (p.core.cap ≤ 999999) × (p.grid ≡ p.core.grid) × (p.publisher.grid ≡ p.core.grid) × (p.publisher.visible ≡ []) × (p.publisher.pending ≡ []) × (0 < p.sessions) × (p.sessions < 9) × (vec_len p.viewers ≡ p.sessions + 1) × All (λ v. v ≡ opened p.publisher.book p.core.grid) p.viewers.items };
+    ghost invariant = { λ p. (p.core.cap ≤ 999999) × OnlyFirst p.sessions p.core.journal × (p.grid ≡ p.core.grid) × (p.publisher.grid ≡ p.core.grid) × (p.publisher.visible ≡ p.core.journal) × (p.publisher.pending ≡ []) × (0 < p.sessions) × (p.sessions < 9) × (vec_len p.viewers ≡ p.sessions + 1) × All (λ v. v ≡ opened p.publisher.book p.core.grid) p.viewers.items };
 }
 
 impl Parts {
     /// The parts of a host for a manager and so many sessions, 1 to 8, over a grid. Its journal takes `cap` lines, 1 to 999,999.
+    #[tactic(auto, using(crate::proofs::Opening::only_none))]
     pub fn new<R: Wait>(
         rt: &R,
         alloc: Global,
@@ -52,24 +58,51 @@ impl Parts {
     ) -> Result<Parts, HostFault>
         requires cap { (1 ≤ cap) × (cap ≤ 999999) }
         ensures parts { IfOk result (λ p. (p.grid ≡ grid) × (p.cap ≡ cap) × (p.sessions ≡ sessions)) }
+        ensures past { IfOk result (λ p. p.past ≡ []) }
         ensures range { OnOk result ((1 ≤ sessions) × (sessions ≤ 8)) }
         ensures sessions { IfErr result (λ f. f ≡ Sessions → (sessions < 1) ⊎ (8 < sessions)) }
         ensures memory { IfErr result (λ f. f ≡ NoMemory → (1 ≤ sessions) × (sessions ≤ 8)) }
     {
-        if sessions < 1 || sessions > 8 {
+        if !is_in_range(sessions) {
             return Err(HostFault::Sessions);
         }
-        let Ok(kept) = grid.copy(alloc) else {
+        match Core::new(alloc, grid, cap) {
+            Ok(core) => Parts::over(rt, alloc, core, sessions),
+            Err(Memory) => Err(HostFault::Memory),
+        }
+    }
+
+    /// The parts of a host for a manager and so many sessions, 1 to 8, that goes on from an inventory: its limits, its most
+    /// lines, at most 999,999, and its lines, of which none may be of a session above these. Each line stays the receipt of
+    /// its session, and is visible from the first.
+    pub fn over<R: Wait>(
+        rt: &R,
+        alloc: Global,
+        core: Core,
+        sessions: u8,
+    ) -> Result<Parts, HostFault>
+        requires most { core.cap ≤ 999999 }
+        requires only { OnlyFirst sessions core.journal }
+        ensures parts { IfOk result (λ p. (p.grid ≡ core.grid) × (p.cap ≡ core.cap) × (p.sessions ≡ sessions)) }
+        ensures past { IfOk result (λ p. p.past ≡ core.journal) }
+        ensures range { OnOk result ((1 ≤ sessions) × (sessions ≤ 8)) }
+        ensures sessions { IfErr result (λ f. f ≡ Sessions → (sessions < 1) ⊎ (8 < sessions)) }
+        ensures memory { IfErr result (λ f. f ≡ NoMemory → (1 ≤ sessions) × (sessions ≤ 8)) }
+    {
+        if !is_in_range(sessions) {
+            return Err(HostFault::Sessions);
+        }
+        let Ok(grid) = core.grid().copy(alloc) else {
             return Err(HostFault::Memory);
         };
-        let Ok(core) = Core::new(alloc, grid, cap) else {
+        let Ok((publisher, viewers)) = open_display(rt, alloc, &grid, sessions + 1) else {
             return Err(HostFault::Memory);
         };
-        let Ok((publisher, viewers)) = open_display(rt, alloc, &kept, sessions + 1) else {
+        let Ok(publisher) = showing(rt, alloc, publisher, core.journal()) else {
             return Err(HostFault::Memory);
         };
         Ok(Parts {
-            grid: kept,
+            grid,
             core,
             publisher,
             viewers,
@@ -77,4 +110,55 @@ impl Parts {
             blanks: Blanks::new(),
         })
     }
+}
+
+// Whether a host can have so many sessions.
+fn is_in_range(sessions: u8) -> bool
+    ensures { IsTrue result ↔ (1 ≤ sessions) × (sessions ≤ 8) }
+{
+    sessions >= 1 && sessions <= 8
+}
+
+// A publisher that shows these lines. Where it refuses, the publisher is used up.
+fn showing<R: Wait>(
+    rt: &R,
+    alloc: Global,
+    publisher: Publisher,
+    lines: &[Entry],
+) -> Result<Publisher, Memory>
+    requires empty { (publisher.visible ≡ []) × (publisher.pending ≡ []) }
+    requires legal { IsLegal publisher.grid lines.now }
+    requires few { length lines.now ≤ 999999 }
+    ensures visible { IfOk result (λ p. (p.visible ≡ lines.now) × (p.pending ≡ [])) }
+    ensures same { IfOk result (λ p. (p.book ≡ publisher.book) × (p.grid ≡ publisher.grid)) }
+{
+    let mut publisher = publisher;
+    match append_all(alloc, &mut publisher, lines) {
+        Ok(()) => {
+            publisher.publish(rt);
+            Ok(publisher)
+        }
+        Err(Memory) => {
+            publisher.end(rt);
+            Err(Memory)
+        }
+    }
+}
+
+// Appends a copy of each line.
+#[tactic(auto, using(crate::proofs::Opening::legal_at_end, crate::proofs::Opening::short_at_end, crate::proofs::Opening::pending_next))]
+fn append_all(alloc: Global, publisher: &mut Publisher, lines: &[Entry]) -> Result<(), Memory>
+    requires empty { (publisher.old.visible ≡ []) × (publisher.old.pending ≡ []) }
+    requires legal { IsLegal publisher.old.grid lines.now }
+    requires few { length lines.now ≤ 999999 }
+    ensures pending { OnOk result (publisher.new.pending ≡ lines.now) }
+    ensures same { (publisher.new.book ≡ publisher.old.book) × (publisher.new.grid ≡ publisher.old.grid) × (publisher.new.visible ≡ publisher.old.visible) }
+{
+    for line in lines {
+        let shown = line.copy(alloc)?;
+        let Ok(()) = publisher.append(shown) else {
+            return Err(Memory);
+        };
+    }
+    Ok(())
 }

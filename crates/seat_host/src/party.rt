@@ -3,15 +3,14 @@ ghost use Rattle.std.specs.Prelude.{◌≡◌, ◌+◌, ◌-◌, ◌<◌, ◌≤
 ghost use Rattle.seat_core.specs.Prefixes.{Begins};
 ghost use Rattle.seat_core.specs.Sequential.{room_left};
 ghost use Rattle.seat_core.specs.Journal.{IsLegal, replay};
-ghost use Rattle.seat_display.specs.Faces.{opened};
 ghost use Rattle.seat_host.specs.Ledgers.{counted};
-ghost use Rattle.seat_host.specs.Sessions.{fresh};
+ghost use Rattle.seat_host.specs.Histories.{of_session};
+ghost use Rattle.seat_host.specs.Sessions.{seated};
 
 use crate::ledgers::{Hosting, Stake};
 use crate::receipt::Receipt;
 use seat_display::Viewer;
 use ssim_records::{Class, Place};
-use std::alloc::Global;
 use std::marker::Model;
 
 /// It keeps its own lines as receipts, the one share of its ledger, and a viewer.
@@ -83,18 +82,21 @@ impl<K: Hosting> Party<K> {
         self.viewer.look(place, class)
     }
 
-    /// One that has done nothing.
-    pub fn seated(alloc: Global, id: u8, stake: Stake<K>, viewer: Viewer) -> Party<K>
+    /// One that goes on from the lines that its viewer has seen. Its own among them are its receipts.
+    #[tactic(auto, using(crate::proofs::Opening::seated_is))]
+    pub fn seated(id: u8, stake: Stake<K>, viewer: Viewer, receipts: Vec<Receipt>) -> Party<K>
         requires number { (id ≤ K.sessions) × (K.sessions < 9) }
-        requires stake { stake ≡ counted id 0 }
-        requires viewer { viewer ≡ opened K.book K.grid }
-        ensures { result ≡ fresh id }
+        requires stake { stake ≡ counted id (length receipts.items) }
+        requires viewer { (viewer.book ≡ K.book) × (viewer.grid ≡ K.grid) }
+        requires legal { IsLegal K.grid viewer.front × (length viewer.front ≤ 999999) }
+        requires receipts { receipts.items ≡ of_session id viewer.front }
+        ensures { result ≡ seated id viewer.front }
     {
         Party {
             id,
             stake,
             viewer,
-            receipts: Vec::new(alloc),
+            receipts,
         }
     }
 }

@@ -1,0 +1,10 @@
+use Rattle.std.proofs.Common.{◌≡◌, [], take}
+use Rattle.seat_host.proofs.parts.append_all.Given as goal
+
+abbrev pub invariant-loop-line : goal.invariant-loop-line
+invariant-loop-line l = record {
+  pending : l.publisher.pending ≡ take l.line-index l.lines;
+  visible : l.publisher.visible ≡ [];
+  book : l.publisher.book ≡ l.initial.publisher.book;
+  grid : l.publisher.grid ≡ l.initial.publisher.grid;
+}
