@@ -12,7 +12,8 @@ use Rattle.ssim_records.proofs.Years.{same_parts}
 use Rattle.airimp_lines.specs.Fields.{is_tail}
 use Rattle.airimp_lines.specs.declared.segment.Segment.{Segment}
 use Rattle.ssim_records.specs.Fields.{IsNumberText}
-use Rattle.airimp_lines.specs.Grammar.{letters_text, SpellsSegment, plain_line, IsWritable, IsPlainLine, reply_of}
+use Rattle.airimp_lines.specs.Grammar.{letters_text, SpellsSegment, plain_line, IsPlainLine, reply_of}
+use Rattle.airimp_lines.proofs.RightLines.{right_segment}
 use Rattle.ssim_records.proofs.DateLaws.{length_name}
 use Rattle.ssim_records.proofs.LeadingFields.{length_airline, length_station, length_code}
 
@@ -64,8 +65,9 @@ unfolding is_tail
 tail_none = refl
 
 -- a segment that some line spells is spelled by its reply, with that code and number
-pub reply_spelled : (today : ℕ) (line : List ℕ) (s : Segment) (code : List ℕ) (seats : ℕ) (text : List ℕ) → is_code code ≡ true → 0 < seats → seats < 10 ^ 3 → IsWritable s → IsPlainLine (reply_of s code seats) text → SpellsSegment today line s → SpellsSegment today text (reply_of s code seats)
-reply_spelled today line s code seats text is positive small fits p h =
+pub reply_spelled : (today : ℕ) (line : List ℕ) (s : Segment) (code : List ℕ) (seats : ℕ) (text : List ℕ) → is_code code ≡ true → 0 < seats → seats < 10 ^ 3 → IsPlainLine (reply_of s code seats) text → SpellsSegment today line s → SpellsSegment today text (reply_of s code seats)
+reply_spelled today line s code seats text is positive small p h =
+    let fits = (right_segment today line s h).writable in
     let same = same_parts p.year p.month p.day h.date.year h.month h.day s.day p.date h.date.date in
     let number = decimal_numeral 4 s.number (omega arith) fits.number.0 fits.number.1 (omega (arith, fits.number.1)) in
     let count = decimal_numeral 3 seats (omega arith) positive small (omega arith) in

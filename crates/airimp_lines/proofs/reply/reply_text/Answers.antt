@@ -13,4 +13,4 @@ returns-clause-line c =
     record { year = d.year; month = d.month; day = d.day; date = d.date; written = written }
 
 pub returns-clause-spelled : goal.returns-clause-spelled
-returns-clause-spelled c = λ today line h. reply_spelled today line c.args.segment.now c.args.code c.args.seats c.put_number-2.new.text.items c.letters-3.ensures.code c.requires.seats.0 c.requires.seats.1 c.requires.segment (returns-clause-line c) h
+returns-clause-spelled c = λ some few today line h. reply_spelled today line c.args.segment.now c.args.code c.args.seats c.put_number-2.new.text.items c.letters-3.ensures.code some few (returns-clause-line c) h
