@@ -44,9 +44,10 @@ pub record IsAudited (grid : Legs) (bytes line : List ℕ) : Type 0 where
   pub within : HoldsWithinLimits grid entries
   pub sums : line ≡ audit_line (totals_of entries)
 
--- the bytes are the text of a legal history over these limits, and the inventory is what it comes to, after which no leg holds more than the limits that it leaves
+-- the bytes are the text of a legal history over these limits, and the inventory is what it comes to and takes as many lines as a journal has at most, after which no leg holds more than the limits that it leaves
 pub record IsReplayOf (grid : Legs) (bytes : List ℕ) (core : Inventory) : Type 0 where
   pub grid_is : core.grid ≡ grid
+  pub cap_is : core.cap ≡ most_lines
   pub is_text : IsJournalText bytes core.journal
   pub legal : IsLegal grid core.journal
   pub few : length core.journal ≤ most_lines
