@@ -1,10 +1,10 @@
--- The advices of a legal history are for bookings of its lines that ask for seats.
-use Rattle.std.proofs.Common.{◌≡◌, ℕ, zero, suc, ◌+◌, ◌-◌, ◌<◌, ◌≤◌, Bool, true, false, nat_le, List, [], ◌∷◌, ◌++◌, length, take, get_or, refl, sym, ap, ◌∙◌, subst, arith, length-append, Some}
+-- The advices of a legal history are for bookings of its lines that ask for seats on a place.
+use Rattle.std.proofs.Common.{◌≡◌, ℕ, zero, suc, ◌+◌, ◌-◌, ◌<◌, ◌≤◌, Bool, true, false, nat_le, List, [], ◌∷◌, ◌++◌, length, take, get_or, refl, sym, ap, ◌∙◌, subst, arith, length-append, Option, Some, IfSome}
 use Rattle.std.specs.Prelude.{slice_get}
 use Rattle.std.specs.List.{AllByRecursion}
-use Rattle.std.proofs.lemmas.Bool.Decides.{nat_tests}
 use Rattle.std.proofs.lemmas.List.{take_more}
-use Rattle.seat_nesting.specs.Nesting.{Legs}
+use Rattle.ssim_records.specs.declared.place.Place.{Place}
+use Rattle.seat_nesting.specs.Nesting.{Fits, Legs}
 use Rattle.seat_journal.specs.declared.entry.Advice.{Advice}
 use Rattle.seat_journal.specs.declared.entry.Command.{Command}
 use Rattle.seat_journal.specs.declared.entry.Entry.{Entry}
@@ -18,7 +18,6 @@ use Rattle.seat_core.specs.Journal.{replay, FitsWork, IsLegal, IsNext}
 use Rattle.seat_core.proofs.History.Lines.{replay_next}
 use Rattle.seat_core.proofs.History.Legal.{each_legal}
 use Rattle.seat_core.proofs.Step.Outcomes.{each_outcome}
-use Rattle.seat_run.specs.Answering.{AsksForSeats, IsAdvisable}
 
 module _ {A : Type 0} where
   pub all_push : (P : A → Type 0) (xs : List A) (x : A) → AllByRecursion P xs → P x → AllByRecursion P (xs ++ x ∷ [])
@@ -34,7 +33,18 @@ module _ {A : Type 0} where
   all_weaker P Q [] h all = tt
   all_weaker P Q (x ∷ xs) h all = (h x all.0, all_weaker P Q xs h all.1)
 
--- ---- lines that ask for seats, in a longer history
+-- ---- lines that ask for seats on a place, in a longer history
+
+-- the line of this number asks for seats on a place of the grid
+pub record IsPlaced (grid : Legs) (history : List Entry) (number : ℕ) : Type 0 where
+  pub within : (1 ≤ number) × (number ≤ length history)
+  pub line : Entry
+  pub at : slice_get history (number - 1) ≡ Some line
+  pub command : Command
+  pub work_is : line.work ≡ Seats command
+  pub place : Place
+  pub place_is : command.place ≡ Some place
+  pub fits : Fits grid place
 
 get_longer : (xs more : List Entry) (i : ℕ) (x : Entry) → slice_get xs i ≡ Some x → slice_get (xs ++ more) i ≡ Some x
 get_longer [] more i x at = absurd cc
@@ -45,112 +55,102 @@ get_last : (xs : List Entry) (x : Entry) → slice_get (xs ++ x ∷ []) (length 
 get_last [] x = refl
 get_last (y ∷ xs) x = get_last xs x
 
-asks_longer : (past more : List Entry) (n : ℕ) → AsksForSeats past n → AsksForSeats (past ++ more) n
-asks_longer past more n asks = record {
-  within = (asks.within.0, omega (arith, asks.within.1, length-append past more));
-  line = asks.line;
-  at = get_longer past more (n - 1) asks.line asks.at;
-  command = asks.command;
-  work_is = asks.work_is;
+placed_longer : (grid : Legs) (past more : List Entry) (n : ℕ) → IsPlaced grid past n → IsPlaced grid (past ++ more) n
+placed_longer grid past more n placed = record {
+  within = (placed.within.0, omega (arith, placed.within.1, length-append past more));
+  line = placed.line;
+  at = get_longer past more (n - 1) placed.line placed.at;
+  command = placed.command;
+  work_is = placed.work_is;
+  place = placed.place;
+  place_is = placed.place_is;
+  fits = placed.fits;
 }
 
-asks_last : (past : List Entry) (e : Entry) (c : Command) → e.work ≡ Seats c → AsksForSeats (past ++ e ∷ []) (length past + 1)
-asks_last past e c is =
+placed_last : (grid : Legs) (past : List Entry) (e : Entry) (c : Command) (p : Place) → FitsWork grid e.work → e.work ≡ Seats c → c.place ≡ Some p → IsPlaced grid (past ++ e ∷ []) (length past + 1)
+placed_last grid past e c p fits is on =
     let here : length past ≡ length past + 1 - 1 = omega arith in
+    let all : FitsWork grid (Seats c) = subst (FitsWork grid) is fits in
     record {
       within = (omega arith, omega (arith, length-append past (e ∷ [])));
       line = e;
       at = subst (λ (i : ℕ). slice_get (past ++ e ∷ []) i ≡ Some e) here (get_last past e);
       command = c;
       work_is = is;
+      place = p;
+      place_is = on;
+      fits = subst (λ (o : Option Place). IfSome o (Fits grid)) on all.2;
     }
 
 -- ---- bookings
 
--- the booking is that of a line that asks for seats, with 1 to 999 of them
-record IsSeated (history : List Entry) (b : Booking) : Type 0 where
-  of_seats : AsksForSeats history b.number
-  seats : (0 < b.seats) × (b.seats < 1000)
+-- the booking is that of such a line, and so is the advice
+abbrev IsSeated : Legs → List Entry → Booking → Type 0
+IsSeated grid history b = IsPlaced grid history b.number
 
-advised : (history : List Entry) (b : Booking) → IsSeated history b → IsAdvisable history (advice_of b)
-advised history b s = record { of_seats = s.of_seats; seats = s.seats }
-
-still : (history : List Entry) (b : Booking) → IsSeated history b → IsSeated history (confirmed b)
-still history b s = record { of_seats = s.of_seats; seats = s.seats }
-
-later : (past more : List Entry) (b : Booking) → IsSeated past b → IsSeated (past ++ more) b
-later past more b s = record { of_seats = asks_longer past more b.number s.of_seats; seats = s.seats }
+abbrev IsTold : Legs → List Entry → Advice → Type 0
+IsTold grid history a = IsPlaced grid history a.number
 
 -- the bookings that are left, and what was advised
-record IsSound (history : List Entry) (bookings : List Booking) (advices : List Advice) : Type 0 where
-  seated : AllByRecursion (IsSeated history) bookings
-  advised_all : AllByRecursion (IsAdvisable history) advices
+record IsSound (grid : Legs) (history : List Entry) (bookings : List Booking) (advices : List Advice) : Type 0 where
+  seated : AllByRecursion (IsSeated grid history) bookings
+  advised_all : AllByRecursion (IsTold grid history) advices
 
-sound_pass : (history : List Entry) (grid : Legs) (done : List Booking) (told : List Advice) (bs : List Booking)
-    → IsSound history done told → AllByRecursion (IsSeated history) bs
-    → IsSound history (pass grid done told bs).bookings (pass grid done told bs).advices
-sound_pass history grid done told [] sound all = sound
-sound_pass history grid done told (b ∷ bs) sound all =
-    let told_more : IsSound history (done ++ confirmed b ∷ []) (told ++ advice_of b ∷ []) = record {
-      seated = all_push (IsSeated history) done (confirmed b) sound.seated (still history b all.0);
-      advised_all = all_push (IsAdvisable history) told (advice_of b) sound.advised_all (advised history b all.0);
+sound_pass : (over : Legs) (history : List Entry) (grid : Legs) (done : List Booking) (told : List Advice) (bs : List Booking)
+    → IsSound over history done told → AllByRecursion (IsSeated over history) bs
+    → IsSound over history (pass grid done told bs).bookings (pass grid done told bs).advices
+sound_pass over history grid done told [] sound all = sound
+sound_pass over history grid done told (b ∷ bs) sound all =
+    let told_more : IsSound over history (done ++ confirmed b ∷ []) (told ++ advice_of b ∷ []) = record {
+      seated = all_push (IsSeated over history) done (confirmed b) sound.seated all.0;
+      advised_all = all_push (IsTold over history) told (advice_of b) sound.advised_all all.0;
     } in
-    let passed_over : IsSound history (done ++ b ∷ []) told = record { seated = all_push (IsSeated history) done b sound.seated all.0; advised_all = sound.advised_all } in
+    let passed_over : IsSound over history (done ++ b ∷ []) told = record { seated = all_push (IsSeated over history) done b sound.seated all.0; advised_all = sound.advised_all } in
     cases (may_confirm grid (done ++ b ∷ bs) b) refl
-    (sound_pass history grid (done ++ confirmed b ∷ []) (told ++ advice_of b ∷ []) bs told_more all.1)
-    (sound_pass history grid (done ++ b ∷ []) told bs passed_over all.1) where
-      cases : (t : Bool) → may_confirm grid (done ++ b ∷ bs) b ≡ t → IsSound history (pass grid (done ++ confirmed b ∷ []) (told ++ advice_of b ∷ []) bs).bookings (pass grid (done ++ confirmed b ∷ []) (told ++ advice_of b ∷ []) bs).advices
-          → IsSound history (pass grid (done ++ b ∷ []) told bs).bookings (pass grid (done ++ b ∷ []) told bs).advices
-          → IsSound history (pass grid done told (b ∷ bs)).bookings (pass grid done told (b ∷ bs)).advices
+    (sound_pass over history grid (done ++ confirmed b ∷ []) (told ++ advice_of b ∷ []) bs told_more all.1)
+    (sound_pass over history grid (done ++ b ∷ []) told bs passed_over all.1) where
+      cases : (t : Bool) → may_confirm grid (done ++ b ∷ bs) b ≡ t → IsSound over history (pass grid (done ++ confirmed b ∷ []) (told ++ advice_of b ∷ []) bs).bookings (pass grid (done ++ confirmed b ∷ []) (told ++ advice_of b ∷ []) bs).advices
+          → IsSound over history (pass grid (done ++ b ∷ []) told bs).bookings (pass grid (done ++ b ∷ []) told bs).advices
+          → IsSound over history (pass grid done told (b ∷ bs)).bookings (pass grid done told (b ∷ bs)).advices
       cases true e told_on passed_on = rw e told_on
       cases false e told_on passed_on = rw e passed_on
 
-seated_reduced : (history : List Entry) (test : Booking → Bool) (n : ℕ) (bs : List Booking) → AllByRecursion (IsSeated history) bs → AllByRecursion (IsSeated history) (reduced test n bs)
-seated_reduced history test n [] all = tt
-seated_reduced history test n (b ∷ bs) all = cases (test b) (nat_le b.seats n) refl refl (seated_reduced history test n bs all.1) where
-  fewer : nat_le b.seats n ≡ false → IsSeated history (record b { seats = b.seats - n })
-  fewer e =
-      let more : n < b.seats = grind (arith, nat_tests) in
-      record { of_seats = all.0.of_seats; seats = (omega (arith, more), omega (arith, all.0.seats.1)) }
-
-  cases : (t u : Bool) → test b ≡ t → nat_le b.seats n ≡ u → AllByRecursion (IsSeated history) (reduced test n bs) → AllByRecursion (IsSeated history) (reduced test n (b ∷ bs))
+seated_reduced : (over : Legs) (history : List Entry) (test : Booking → Bool) (n : ℕ) (bs : List Booking) → AllByRecursion (IsSeated over history) bs → AllByRecursion (IsSeated over history) (reduced test n bs)
+seated_reduced over history test n [] all = tt
+seated_reduced over history test n (b ∷ bs) all = cases (test b) (nat_le b.seats n) refl refl (seated_reduced over history test n bs all.1) where
+  cases : (t u : Bool) → test b ≡ t → nat_le b.seats n ≡ u → AllByRecursion (IsSeated over history) (reduced test n bs) → AllByRecursion (IsSeated over history) (reduced test n (b ∷ bs))
   cases true true e g rest = rw (e, g) all.1
-  cases true false e g rest = rw (e, g) (fewer g, all.1)
+  cases true false e g rest = rw (e, g) (all.0, all.1)
   cases false u e g rest = rw e (all.0, rest)
 
 -- a line's answer, where the bookings before it are of the history, and so is its own
-sound_answer : (s : State) (history : List Entry) (number : ℕ) (w : Work)
-    → ((c : Command) → w ≡ Seats c → AsksForSeats history number × (1 ≤ c.seats) × (c.seats ≤ 999)) → AllByRecursion (IsSeated history) s.bookings
-    → IsSound history (answer s number w).state.bookings (answer s number w).advices
-sound_answer s history number w asks all =
-    let one : (c : Command) (b : Booking) → w ≡ Seats c → b.number ≡ number → b.seats ≡ c.seats → IsSeated history b =
-    λ c b is same seats. record {
-      of_seats = subst (AsksForSeats history) (sym same) (asks c is).0;
-      seats = (omega (arith, seats, (asks c is).1), omega (arith, seats, (asks c is).2));
-    } in
-    each_outcome (λ v o. w ≡ v → IsSound history o.state.bookings o.advices) s number
+sound_answer : (over : Legs) (s : State) (history : List Entry) (number : ℕ) (w : Work)
+    → ((c : Command) (p : Place) → w ≡ Seats c → c.place ≡ Some p → IsPlaced over history number) → AllByRecursion (IsSeated over history) s.bookings
+    → IsSound over history (answer s number w).state.bookings (answer s number w).advices
+sound_answer over s history number w asks all =
+    each_outcome (λ v o. w ≡ v → IsSound over history o.state.bookings o.advices) s number
     (λ v r is. record { seated = all; advised_all = tt })
-    (λ c place at none fits is. record { seated = all_push (IsSeated history) s.bookings (booking_of number c place Held) all (one c (booking_of number c place Held) is refl refl); advised_all = tt })
-    (λ c place at none over why is. record { seated = all_push (IsSeated history) s.bookings (booking_of number c place Waiting) all (one c (booking_of number c place Waiting) is refl refl); advised_all = tt })
-    (λ c place at none is. sound_pass history s.grid [] [] (s.bookings ++ booking_of number c place Waiting ∷ []) (record { seated = tt; advised_all = tt })
-    (all_push (IsSeated history) s.bookings (booking_of number c place Waiting) all (one c (booking_of number c place Waiting) is refl refl)))
-    (λ c place b at found le is. sound_pass history s.grid [] [] (reduced (is_for c.locator place c.class) c.seats s.bookings) (record { seated = tt; advised_all = tt })
-    (seated_reduced history (is_for c.locator place c.class) c.seats s.bookings all))
-    (λ c may is. sound_pass history (changed_by s.grid c) [] [] s.bookings (record { seated = tt; advised_all = tt }) all)
+    (λ c place at none fits is. record { seated = all_push (IsSeated over history) s.bookings (booking_of number c place Held) all (asks c place is at); advised_all = tt })
+    (λ c place at none over_it why is. record { seated = all_push (IsSeated over history) s.bookings (booking_of number c place Waiting) all (asks c place is at); advised_all = tt })
+    (λ c place at none is. sound_pass over history s.grid [] [] (s.bookings ++ booking_of number c place Waiting ∷ []) (record { seated = tt; advised_all = tt })
+    (all_push (IsSeated over history) s.bookings (booking_of number c place Waiting) all (asks c place is at)))
+    (λ c place b at found le is. sound_pass over history s.grid [] [] (reduced (is_for c.locator place c.class) c.seats s.bookings) (record { seated = tt; advised_all = tt })
+    (seated_reduced over history (is_for c.locator place c.class) c.seats s.bookings all))
+    (λ c may is. sound_pass over history (changed_by s.grid c) [] [] s.bookings (record { seated = tt; advised_all = tt }) all)
     w refl
 
 -- each line's advices are for bookings of the history
-abbrev pub AreAdvised : List Entry → List Entry → Type 0
-AreAdvised history lines = AllByRecursion (λ (e : Entry). AllByRecursion (IsAdvisable history) e.advices) lines
+abbrev pub AreAdvised : Legs → List Entry → List Entry → Type 0
+AreAdvised grid history lines = AllByRecursion (λ (e : Entry). AllByRecursion (λ (a : Advice). IsPlaced grid history a.number) e.advices) lines
 
-wider_advices : (past more lines : List Entry) → AreAdvised past lines → AreAdvised (past ++ more) lines
-wider_advices past more lines =
-    all_weaker (λ (e : Entry). AllByRecursion (IsAdvisable past) e.advices) (λ (e : Entry). AllByRecursion (IsAdvisable (past ++ more)) e.advices) lines
-    (λ e. all_weaker (IsAdvisable past) (IsAdvisable (past ++ more)) e.advices (λ a h. record { of_seats = asks_longer past more a.number h.of_seats; seats = h.seats }))
+wider_advices : (grid : Legs) (past more lines : List Entry) → AreAdvised grid past lines → AreAdvised grid (past ++ more) lines
+wider_advices grid past more lines =
+    all_weaker (λ (e : Entry). AllByRecursion (IsTold grid past) e.advices) (λ (e : Entry). AllByRecursion (IsTold grid (past ++ more)) e.advices) lines
+    (λ e. all_weaker (IsTold grid past) (IsTold grid (past ++ more)) e.advices (λ a h. placed_longer grid past more a.number h))
 
 record IsSoundHistory (grid : Legs) (history : List Entry) : Type 0 where
-  seated : AllByRecursion (IsSeated history) (replay grid history).bookings
-  told : AreAdvised history history
+  seated : AllByRecursion (IsSeated grid history) (replay grid history).bookings
+  told : AreAdvised grid history history
 
 sound_next : (grid : Legs) (past : List Entry) (e : Entry) → IsLegal grid past → IsNext grid past e → IsSoundHistory grid past → IsSoundHistory grid (past ++ e ∷ [])
 sound_next grid past e legal next sound =
@@ -159,16 +159,16 @@ sound_next grid past e legal next sound =
     let o : Outcome = answer (replay grid past) (n + 1) e.work in
     let number : e.number ≡ n + 1 = ap (λ (x : Entry). x.number) next.line in
     let told : e.advices ≡ o.advices = ap (λ (x : Entry). x.advices) next.line in
-    let own : (c : Command) → e.work ≡ Seats c → AsksForSeats history (n + 1) × (1 ≤ c.seats) × (c.seats ≤ 999) =
-    λ c is. let fits : FitsWork grid (Seats c) = subst (FitsWork grid) is next.fits in (asks_last past e c is, fits.0, fits.1) in
-    let before : AllByRecursion (IsSeated history) (replay grid past).bookings = all_weaker (IsSeated past) (IsSeated history) (replay grid past).bookings (later past (e ∷ [])) sound.seated in
-    let both = sound_answer (replay grid past) history (n + 1) e.work own before in
+    let own : (c : Command) (p : Place) → e.work ≡ Seats c → c.place ≡ Some p → IsPlaced grid history (n + 1) = λ c p is on. placed_last grid past e c p next.fits is on in
+    let before : AllByRecursion (IsSeated grid history) (replay grid past).bookings =
+    all_weaker (IsSeated grid past) (IsSeated grid history) (replay grid past).bookings (λ b h. placed_longer grid past (e ∷ []) b.number h) sound.seated in
+    let both = sound_answer grid (replay grid past) history (n + 1) e.work own before in
     let left : replay grid history ≡ o.state = replay_next grid past e ∙ ap (λ (k : ℕ). (answer (replay grid past) k e.work).state) number in
     record {
-      seated = subst (λ (s : State). AllByRecursion (IsSeated history) s.bookings) (sym left) both.seated;
-      told = all_push (λ (x : Entry). AllByRecursion (IsAdvisable history) x.advices) past e (wider_advices past (e ∷ []) past sound.told)
-          (subst (λ (l : List Advice). AllByRecursion (IsAdvisable history) l) (sym told) both.advised_all);
+      seated = subst (λ (s : State). AllByRecursion (IsSeated grid history) s.bookings) (sym left) both.seated;
+      told = all_push (λ (x : Entry). AllByRecursion (IsTold grid history) x.advices) past e (wider_advices grid past (e ∷ []) past sound.told)
+          (subst (λ (l : List Advice). AllByRecursion (IsTold grid history) l) (sym told) both.advised_all);
     }
 
-pub legal_is_advised : (grid : Legs) (history : List Entry) → IsLegal grid history → AreAdvised history history
+pub legal_is_advised : (grid : Legs) (history : List Entry) → IsLegal grid history → AreAdvised grid history history
 legal_is_advised grid history legal = (each_legal grid (IsSoundHistory grid) (sound_next grid) [] history (record { seated = tt; told = tt }) legal).told

@@ -1,7 +1,6 @@
 -- What `run` writes, `audit` accepts.
-use Rattle.std.proofs.Common.{◌≡◌, ◌⊎◌, ⊎_elim, inl, ℕ, suc, ◌+◌, ◌<◌, ◌≤◌, List, [], ◌∷◌, length, map, refl, sym, ap, ◌∙◌, subst, arith, Option, Result, Ok, Err}
+use Rattle.std.proofs.Common.{◌≡◌, ◌⊎◌, ⊎_elim, inl, ℕ, ◌+◌, ◌<◌, ◌≤◌, List, [], ◌∷◌, length, map, refl, sym, ap, ◌∙◌, subst, arith, Result, Ok, Err}
 use Rattle.std.specs.Str.Lines.{lines}
-use Rattle.std.proofs.lemmas.List.{length-map}
 use Rattle.ssim_records.specs.declared.set.DataSet.{DataSet}
 use Rattle.ssim_records.proofs.SetLaws.{one_data_set}
 use Rattle.ssim_flights.specs.declared.flight.Flight.{Flight as Flown}
@@ -14,10 +13,8 @@ use Rattle.seat_nesting.proofs.RowLaws.{row_again}
 use Rattle.seat_journal.specs.Text.{IsJournalText}
 use Rattle.seat_journal.specs.declared.entry.Entry.{Entry}
 use Rattle.seat_journal.proofs.TextLaws.{one_text}
-use Rattle.airimp_lines.specs.declared.requests.Request.{Request}
 use Rattle.seat_core.specs.Journal.{IsLegal}
 use Rattle.seat_core.specs.Totals.{totals_of}
-use Rattle.seat_host.specs.Agreement.{totals_in}
 use Rattle.seat_host.specs.Histories.{by_session}
 use Rattle.seat_desk.specs.AuditDesk.{IsAudit, IsAudited, IsRefusedOver, AuditRefusal, IsTooLarge, audit_line, most_journal_bytes}
 use Rattle.seat_desk.specs.CheckDesk.{most_bytes, most_records}
@@ -26,7 +23,8 @@ use Rattle.seat_desk.specs.Loading.{IsLoaded, IsLoadedGrid, IsRefusedLoad, most_
 use Rattle.seat_desk.specs.declared.fault.DeskFault.{DeskFault}
 use Rattle.seat_desk.specs.declared.fault.DeskFault.TheVariants as faults
 use Rattle.seat_run.specs.Audits.{IsAccepted, RunsAreAudited}
-use Rattle.seat_run.specs.Requests.{AreScripts, commands_of}
+use Rattle.seat_run.specs.Going.{lists_over}
+use Rattle.seat_run.specs.Requests.{commands_of}
 use Rattle.seat_run.proofs.Lengths.{text_short}
 
 -- ---- one grid is loaded, and none is refused
@@ -105,27 +103,21 @@ module _ (set limits : List ℕ) (first days : ℕ) (journal : List ℕ) (flight
 
 -- ---- a run's
 
-as_many : (today : ℕ) (texts : List (Option (List ℕ))) (scripts : List (List Request)) → AreScripts today texts scripts → length texts ≡ length scripts
-as_many today [] [] all = refl
-as_many today [] (script ∷ scripts) all = absurd all
-as_many today (text ∷ texts) [] all = absurd all
-as_many today (text ∷ texts) (script ∷ scripts) all = ap suc (as_many today texts scripts all.1)
-
 pub runs_are_audited : RunsAreAudited
-runs_are_audited set limits first days today texts changing journal replies run =
+runs_are_audited set limits first days today after texts changing journal replies run =
     let h = run.is_history in
+    let n = length (lists_over run.past (map (commands_of run.flights) run.scripts)) in
     let text : IsJournalText journal run.history = record { each = run.are_entries; text = inl run.journal_is } in
     let few : length journal ≤ most_journal_bytes = subst (λ (bytes : List ℕ). length bytes ≤ most_journal_bytes) (sym run.journal_is) (text_short run.grid run.history h.headline.legal run.are_entries h.headline.capped) in
     let audited : IsAudited run.grid journal (audit_line (totals_of run.history)) =
     record { entries = run.history; is_text = text; legal = h.headline.legal; few = h.headline.capped; within = h.headline.within; sums = refl } in
-    let count : length (map (commands_of run.flights) run.scripts) ≡ length texts = length-map run.scripts (commands_of run.flights) ∙ sym (as_many today texts run.scripts run.are_scripts) in
     record {
       history = run.history;
-      receipts = by_session (length texts) run.history;
+      receipts = by_session n run.history;
       totals = totals_of run.history;
       is_text = text;
       own = refl;
       totals_are = refl;
-      sums = subst (λ (n : ℕ). totals_of run.history ≡ totals_in (by_session n run.history)) count h.headline.sums;
+      sums = h.headline.sums;
       is_accepted = accepted set limits first days journal run.flights run.grid run.history run.is_loaded audited text few;
     }

@@ -23,7 +23,7 @@ use Rattle.seat_host.specs.Histories.{of_session}
 use Rattle.seat_host.proofs.Own.{calls_own, own_append, own_one, own_other}
 use Rattle.seat_run.specs.Against.{AreAsked, AreAskedBelow, DifferAt, asked_by, done_by, same_command, works_of_list}
 use Rattle.seat_run.specs.RunDesk.{works_in}
-use Rattle.seat_run.proofs.Histories.{place_below}
+use Rattle.seat_run.proofs.Rows.{place_below}
 
 -- ---- tests
 

@@ -1,9 +1,9 @@
--- What the sessions booked is a history of their lists.
-use Rattle.std.proofs.Common.{◌≡◌, ◌≢◌, ⊎_elim, Option, Some, None, ◌-◌, ℕ, zero, suc, ◌+◌, ◌<◌, ◌≤◌, List, [], ◌∷◌, ◌++◌, length, take, map, refl, sym, ap, ◌∙◌, subst, arith, get_or, length-append}
+-- What the sessions booked behind the past is a history of their lists.
+use Rattle.std.proofs.Common.{◌≡◌, ◌≢◌, ⊎_elim, Some, ◌-◌, ℕ, zero, suc, ◌+◌, ◌<◌, ◌≤◌, List, [], ◌∷◌, ◌++◌, length, take, map, refl, sym, ap, ◌∙◌, subst, arith, get_or, length-append, append_assoc}
 use Rattle.std.specs.List.{AllByRecursion, AllZip}
 use Rattle.std.specs.Prelude.{slice_get}
 use Rattle.std.specs.Option.{option_map}
-use Rattle.std.proofs.lemmas.Option.{get_or_from_slice_get, slice_get-map, slice_get_within}
+use Rattle.std.proofs.lemmas.Option.{get_or_from_slice_get, slice_get_within}
 use Rattle.std.proofs.lemmas.List.Sums.{sum_by-cons}
 use Rattle.std.proofs.lemmas.List.{append-nil, length-map, take_all, take-append-le, take_more, map_push}
 use Rattle.seat_journal.specs.declared.entry.Change.{Change}
@@ -15,8 +15,11 @@ use Rattle.seat_nesting.specs.Nesting.{Legs}
 use Rattle.seat_core.specs.Prefixes.{Begins}
 use Rattle.seat_core.specs.declared.totals.Totals.{Totals}
 use Rattle.seat_core.specs.Totals.{totals_of}
-use Rattle.seat_host.specs.Histories.{of_session, by_session}
-use Rattle.seat_host.specs.Sessions.{Seat, fresh, fresh_sessions}
+use Rattle.seat_host.specs.Histories.{OnlyFirst, of_session, by_session}
+use Rattle.seat_host.proofs.Agreeing.{lists_count}
+use Rattle.seat_host.proofs.Own.{calls_own, own_append}
+use Rattle.seat_core.specs.Journal.{IsLegal, calls_of}
+use Rattle.seat_host.specs.Sessions.{Seat, seated, seated_sessions}
 use Rattle.seat_host.specs.Settling.{IsConfirmed}
 use Rattle.seat_host.specs.Headline.{Headline}
 use Rattle.seat_desk.specs.AuditDesk.{most_lines}
@@ -26,23 +29,23 @@ use Rattle.seat_host.specs.declared.under_lock.BookFault.{BookFault}
 use Rattle.seat_host.specs.declared.under_lock.BookFault.TheVariants.{JournalFull as Full, Memory as NoRoom}
 use Rattle.seat_host.specs.declared.workers.RunFault.{RunFault}
 use Rattle.seat_host.specs.declared.workers.RunFault.TheVariants as run_faults
-use Rattle.airimp_lines.specs.declared.requests.Request.{Request}
-use Rattle.ssim_flights.specs.declared.flight.Flight.{Flight as Flown}
 use Rattle.seat_desk.specs.declared.fault.DeskFault.{DeskFault}
-use Rattle.seat_desk.specs.declared.fault.DeskFault.TheVariants.{Book, Memory}
-use Rattle.seat_run.specs.Requests.{commands_of}
+use Rattle.seat_desk.specs.declared.fault.DeskFault.TheVariants.{Memory}
 use Rattle.seat_run.specs.RunDesk.{asked_in, IsBookedTo, IsFull, IsHistoryOf, IsUnbooked, run_refusal, works_in}
-use Rattle.seat_run.proofs.Histories.{all_of, row_at, row_count}
+use Rattle.seat_run.proofs.Rows.{all_of, row_at, row_count}
 
--- the manager and n sessions that have done nothing
-abbrev all_fresh : ℕ → List Seat
-all_fresh n = fresh 0 ∷ fresh_sessions n
+-- the manager and n sessions that go on from the past
+abbrev all_seated : List Entry → ℕ → List Seat
+all_seated past n = seated 0 past ∷ seated_sessions n past
 
-fresh_count : (n : ℕ) → length (all_fresh n) ≡ suc n
-fresh_count n = row_count fresh all_fresh refl (λ k. refl) n
+seat_at : (past : List Entry) (n i : ℕ) (d : Seat) → i < suc n → get_or (all_seated past n) i d ≡ seated i past
+seat_at past n i d lt = row_at (λ k. seated k past) (λ k. all_seated past k) refl (λ k. refl) n i d lt
 
-pub as_many : (n : ℕ) (lists : List (List Command)) (sessions : List Seat) → sessions ≡ fresh_sessions n → length lists ≡ n → length lists ≡ length sessions
-as_many n lists sessions opened count = let fewer : length (fresh_sessions n) ≡ n = omega (arith, fresh_count n) in count ∙ (sym fewer ∙ ap length (sym opened))
+seat_count : (past : List Entry) (n : ℕ) → length (all_seated past n) ≡ suc n
+seat_count past n = row_count (λ k. seated k past) (λ k. all_seated past k) refl (λ k. refl) n
+
+pub as_many : (past : List Entry) (n : ℕ) (lists : List (List Command)) (sessions : List Seat) → sessions ≡ seated_sessions n past → length lists ≡ n → length lists ≡ length sessions
+as_many past n lists sessions opened count = let fewer : length (seated_sessions n past) ≡ n = omega (arith, seat_count past n) in count ∙ (sym fewer ∙ ap length (sym opened))
 
 run_at : (lists : List (List Work)) (olds news : List Seat) (i : ℕ) (d e : Seat) → AllHaveRun lists olds news → length lists ≡ length olds → i < length lists
     → HasRun (get_or lists i []) (get_or olds i d) (get_or news i e) × (i < length news)
@@ -53,22 +56,41 @@ run_at (l ∷ lists) (s ∷ olds) (t ∷ news) zero d e run same lt = (run.0, om
 run_at (l ∷ lists) (s ∷ olds) (t ∷ news) (suc i) d e run same lt =
     let below = run_at lists olds news i d e run.1 (omega (arith, same)) (omega (arith, lt)) in (below.0, omega (arith, below.1))
 
--- a session that ran from nothing has its list in the journal
-own_list : (n i : ℕ) (journal : List Entry) (list : List Work) (t : Seat) → HasRun list (fresh i) t → IsConfirmed n journal t → works_in (of_session i journal) ≡ list
-own_list n i journal list t run confirmed =
-    let lines : run.lines ≡ of_session i journal = sym run.receipts ∙ (confirmed.lines ∙ ap (λ (k : ℕ). of_session k journal) run.id) in
-    ap works_in (sym lines) ∙ run.works
+same_rest : (xs ys zs : List Entry) → xs ++ ys ≡ xs ++ zs → ys ≡ zs
+same_rest [] ys zs e = e
+same_rest (x ∷ xs) ys zs e = same_rest xs ys zs (cc e)
 
-module _ (n : ℕ) (lists : List (List Work)) (news : List Seat) (journal : List Entry) (count : length lists ≡ suc n)
-    (run : AllHaveRun lists (all_fresh n) news) (confirmed : AllByRecursion (IsConfirmed n journal) news) where
-  list_at : (i : ℕ) → i < suc n → works_in (of_session i journal) ≡ get_or lists i []
+-- a session that ran from the past has its list behind the past in the journal
+own_list : (n i : ℕ) (past added : List Entry) (list : List Work) (t : Seat) → HasRun list (seated i past) t → IsConfirmed n (past ++ added) t → works_in (of_session i added) ≡ list
+own_list n i past added list t run confirmed =
+    let all : of_session i past ++ run.lines ≡ of_session i past ++ of_session i added =
+    sym run.receipts ∙ (confirmed.lines ∙ (ap (λ (k : ℕ). of_session k (past ++ added)) run.id ∙ own_append i past added)) in
+    ap works_in (sym (same_rest (of_session i past) run.lines (of_session i added) all)) ∙ run.works
+
+-- the journal begins with the past, which the manager has seen
+record GoesOn (past journal : List Entry) : Type 0 where
+  added : List Entry
+  is : journal ≡ past ++ added
+
+goes_on : (past journal : List Entry) (n : ℕ) (list : List Work) (t : Seat) → HasRun list (seated 0 past) t → IsConfirmed n journal t → GoesOn past journal
+goes_on past journal n list t run confirmed =
+    let seen : t.front ≡ past ++ run.before.rest = run.before.is in
+    let shown = confirmed.front in
+    record {
+      added = run.before.rest ++ shown.rest;
+      is = shown.is ∙ (ap (λ (l : List Entry). l ++ shown.rest) seen ∙ append_assoc past run.before.rest shown.rest);
+    }
+
+module _ (n : ℕ) (lists : List (List Work)) (news : List Seat) (past added : List Entry) (count : length lists ≡ suc n)
+    (run : AllHaveRun lists (all_seated past n) news) (confirmed : AllByRecursion (IsConfirmed n (past ++ added)) news) where
+  list_at : (i : ℕ) → i < suc n → works_in (of_session i added) ≡ get_or lists i []
   list_at i lt =
-      let nobody = fresh 0 in
-      let here = run_at lists (all_fresh n) news i nobody nobody run (count ∙ sym (fresh_count n)) (omega (arith, lt, count)) in
-      let from : get_or (all_fresh n) i nobody ≡ fresh i = row_at fresh all_fresh refl (λ k. refl) n i nobody lt in
-      own_list n i journal (get_or lists i []) (get_or news i nobody)
+      let nobody = seated 0 past in
+      let here = run_at lists (all_seated past n) news i nobody nobody run (count ∙ sym (seat_count past n)) (omega (arith, lt, count)) in
+      let from : get_or (all_seated past n) i nobody ≡ seated i past = seat_at past n i nobody lt in
+      own_list n i past added (get_or lists i []) (get_or news i nobody)
       (subst (λ (s : Seat). HasRun (get_or lists i []) s (get_or news i nobody)) from here.0)
-      (all_of (IsConfirmed n journal) news confirmed i nobody here.1)
+      (all_of (IsConfirmed n (past ++ added)) news confirmed i nobody here.1)
 
   one_more : (k : ℕ) → k < suc n → take (suc k) lists ≡ take k lists ++ get_or lists k [] ∷ []
   one_more k lt =
@@ -76,11 +98,11 @@ module _ (n : ℕ) (lists : List (List Work)) (news : List Seat) (journal : List
       let up : k + 1 ≡ suc k = omega arith in
       subst (λ (j : ℕ). take j lists ≡ take k lists ++ get_or lists k [] ∷ []) up (take_more lists k [] within)
 
-  lists_to : (k : ℕ) → k ≤ n → map works_in (by_session k journal) ≡ take (suc k) lists
+  lists_to : (k : ℕ) → k ≤ n → map works_in (by_session k added) ≡ take (suc k) lists
   lists_to zero le = ap (λ (x : List Work). x ∷ []) (list_at 0 (omega arith)) ∙ sym (one_more 0 (omega arith))
   lists_to (suc k) le =
-      map_push works_in (by_session k journal) (of_session (suc k) journal)
-      ∙ (ap (λ (l : List (List Work)). l ++ works_in (of_session (suc k) journal) ∷ []) (lists_to k (omega (arith, le)))
+      map_push works_in (by_session k added) (of_session (suc k) added)
+      ∙ (ap (λ (l : List (List Work)). l ++ works_in (of_session (suc k) added) ∷ []) (lists_to k (omega (arith, le)))
       ∙ (ap (λ (x : List Work). take (suc k) lists ++ x ∷ []) (list_at (suc k) (omega (arith, le))) ∙ sym (one_more (suc k) (omega (arith, le)))))
 
 -- the headline, said of a journal alone
@@ -98,20 +120,29 @@ own_receipts grid cap n journal receipts totals h = h.own
 works_count : (changes : List Change) (lists : List (List Command)) → length (works_of changes lists) ≡ suc (length lists)
 works_count changes lists = ap suc (length-map lists (λ (list : List Command). map Seats list))
 
-both_fresh : (n : ℕ) (manager : Seat) (sessions : List Seat) → manager ≡ fresh 0 → sessions ≡ fresh_sessions n → manager ∷ sessions ≡ all_fresh n
-both_fresh n manager sessions one others = ap (λ (m : Seat). m ∷ sessions) one ∙ ap (λ (l : List Seat). fresh 0 ∷ l) others
+both_seated : (past : List Entry) (n : ℕ) (manager : Seat) (sessions : List Seat) → manager ≡ seated 0 past → sessions ≡ seated_sessions n past → manager ∷ sessions ≡ all_seated past n
+both_seated past n manager sessions one others = ap (λ (m : Seat). m ∷ sessions) one ∙ ap (λ (l : List Seat). seated 0 past ∷ l) others
 
-pub settled_history : (grid : Legs) (cap n : ℕ) (changes : List Change) (lists : List (List Command)) (manager : Seat) (sessions news : List Seat) (journal : List Entry) (receipts : List (List Entry)) (totals : Totals)
-    → manager ≡ fresh 0 → sessions ≡ fresh_sessions n → length lists ≡ n → AllHaveRun (works_of changes lists) (manager ∷ sessions) news → AllByRecursion (IsConfirmed n journal) news
-    → cap ≡ most_lines → Headline grid cap n journal receipts totals → IsHistoryOf grid changes lists journal
-settled_history grid cap n changes lists manager sessions news journal receipts totals begun opened count run confirmed most h =
+first_run : (past journal : List Entry) (n : ℕ) (list : List Work) (lists : List (List Work)) (sessions news : List Seat)
+    → AllHaveRun (list ∷ lists) (seated 0 past ∷ sessions) news → AllByRecursion (IsConfirmed n journal) news → GoesOn past journal
+first_run past journal n list lists sessions [] run confirmed = absurd run
+first_run past journal n list lists sessions (t ∷ news) run confirmed = goes_on past journal n list t run.0 confirmed.0
+
+pub settled_history : (grid : Legs) (cap n : ℕ) (past : List Entry) (changes : List Change) (lists : List (List Command)) (manager : Seat) (sessions news : List Seat) (journal : List Entry) (receipts : List (List Entry)) (totals : Totals)
+    → manager ≡ seated 0 past → sessions ≡ seated_sessions n past → length lists ≡ n → AllHaveRun (works_of changes lists) (manager ∷ sessions) news → AllByRecursion (IsConfirmed n journal) news
+    → cap ≡ most_lines → Headline grid cap n journal receipts totals → IsHistoryOf grid past changes lists journal
+settled_history grid cap n past changes lists manager sessions news journal receipts totals begun opened count run confirmed most h =
     let works = works_of changes lists in
     let all : length works ≡ suc n = works_count changes lists ∙ ap suc count in
-    let from = subst (λ (l : List Seat). AllHaveRun works l news) (both_fresh n manager sessions begun opened) run in
+    let from = subst (λ (l : List Seat). AllHaveRun works l news) (both_seated past n manager sessions begun opened) run in
+    let on = first_run past journal n _ _ _ news from confirmed in
+    let confirmed_on = subst (λ (j : List Entry). AllByRecursion (IsConfirmed n j) news) on.is confirmed in
     record {
       headline = of_journal grid cap n most_lines (length lists) journal receipts totals most (sym count) h;
-      asked = subst (λ (k : ℕ). map works_in (by_session k journal) ≡ works) (sym count)
-          (lists_to n works news journal all from confirmed n (omega arith) ∙ take_all (suc n) works (omega (arith, all)));
+      added = on.added;
+      goes_on = on.is;
+      asked = subst (λ (k : ℕ). map works_in (by_session k on.added) ≡ works) (sym count)
+          (lists_to n works news past on.added all from confirmed_on n (omega arith) ∙ take_all (suc n) works (omega (arith, all)));
     }
 
 -- ---- refusals
@@ -234,95 +265,139 @@ receipts_are_asked : (lists : List (List Entry)) → receipts_in lists ≡ asked
 receipts_are_asked [] = refl
 receipts_are_asked (list ∷ lists) = omega (arith, sum_by-cons (λ (receipts : List Entry). length receipts) list lists, receipts_are_asked lists)
 
-refusal_of : (grid : Legs) (changes : List Change) (lists : List (List Command)) (session call : ℕ) (why : BookFault) → IsFull grid changes lists session call
-    → run_refusal (run_faults.Book session call why) ≢ Memory → IsUnbooked grid changes lists (run_refusal (run_faults.Book session call why))
-refusal_of grid changes lists session call Full is not = is
-refusal_of grid changes lists session call NoRoom is not = absurd (not refl)
+refusal_of : (grid : Legs) (past : List Entry) (changes : List Change) (lists : List (List Command)) (session call : ℕ) (why : BookFault) → IsFull grid past changes lists session call
+    → run_refusal (run_faults.Book session call why) ≢ Memory → IsUnbooked grid past changes lists (run_refusal (run_faults.Book session call why))
+refusal_of grid past changes lists session call Full is not = is
+refusal_of grid past changes lists session call NoRoom is not = absurd (not refl)
 
 -- what stands before the work that was refused
 front_of : (list booked left : List Work) (refused : Work) → list ≡ booked ++ refused ∷ left → take (length booked) list ≡ booked
 front_of list booked left refused parts =
     ap (λ (l : List Work). take (length booked) l) parts ∙ (take-append-le (length booked) booked (refused ∷ left) (omega arith) ∙ take_all (length booked) booked (omega arith))
 
-module _ (grid : Legs) (cap n : ℕ) (fault : RunFault) (changes : List Change) (lists : List (List Command)) (olds news : List Seat) (journal : List Entry) (receipts : List (List Entry)) (totals : Totals)
-    (opened : olds ≡ all_fresh n) (count : length lists ≡ n) (confirmed : AllByRecursion (IsConfirmed n journal) news) (most : cap ≡ most_lines)
-    (h : Headline grid cap n journal receipts totals) (t : IsStopped cap fault (works_of changes lists) olds news) (full : cap ≤ length journal) where
-  own_lists : map works_in (by_session n journal) ≡ t.taken
+-- the lines of the past are no more than those of its sessions
+legal_front : (grid : Legs) (past added : List Entry) → IsLegal grid (past ++ added) → IsLegal grid past
+legal_front grid past added legal =
+    record { each = λ front e begins. legal.each front e (record { rest = begins.rest ++ added; is = ap (λ (l : List Entry). l ++ added) begins.is ∙ append_assoc (front ++ e ∷ []) begins.rest added }) }
+
+only_front : (n : ℕ) (past added : List Entry) → OnlyFirst n (past ++ added) → OnlyFirst n past
+only_front n past added only = record { none = λ s high. front_nil (of_session s past) (of_session s added) (sym (own_append s past added) ∙ only.none s high) } where
+  front_nil : (xs ys : List Entry) → xs ++ ys ≡ [] → xs ≡ []
+  front_nil [] ys e = refl
+  front_nil (x ∷ xs) ys e = absurd cc
+
+both_asked : (n : ℕ) (past added : List Entry) → asked_in (by_session n (past ++ added)) ≡ asked_in (by_session n past) + asked_in (by_session n added)
+both_asked zero past added = omega (arith, ap length (own_append 0 past added), length-append (of_session 0 past) (of_session 0 added))
+both_asked (suc n) past added =
+    omega (
+      arith,
+      asked_push (by_session n (past ++ added)) (of_session (suc n) (past ++ added)),
+      asked_push (by_session n past) (of_session (suc n) past),
+      asked_push (by_session n added) (of_session (suc n) added),
+      ap length (own_append (suc n) past added),
+      length-append (of_session (suc n) past) (of_session (suc n) added),
+      both_asked n past added,
+    ) where
+      asked_push : (xs : List (List Entry)) (x : List Entry) → asked_in (xs ++ x ∷ []) ≡ asked_in xs + length x
+      asked_push [] x = omega arith
+      asked_push (y ∷ xs) x = omega (arith, asked_push xs x)
+
+module _ (grid : Legs) (cap n : ℕ) (fault : RunFault) (past added : List Entry) (changes : List Change) (lists : List (List Command)) (olds news : List Seat) (receipts : List (List Entry)) (totals : Totals)
+    (opened : olds ≡ all_seated past n) (count : length lists ≡ n) (confirmed : AllByRecursion (IsConfirmed n (past ++ added)) news) (most : cap ≡ most_lines)
+    (h : Headline grid cap n (past ++ added) receipts totals) (t : IsStopped cap fault (works_of changes lists) olds news) (full : cap ≤ length (past ++ added)) where
+  own_lists : map works_in (by_session n added) ≡ t.taken
   own_lists =
       let as_all : length t.taken ≡ suc n = t.count ∙ (works_count changes lists ∙ ap suc count) in
-      lists_to n t.taken news journal as_all (subst (λ (l : List Seat). AllHaveRun t.taken l news) opened t.run) confirmed n (omega arith) ∙ take_all (suc n) t.taken (omega (arith, as_all))
+      lists_to n t.taken news past added as_all (subst (λ (l : List Seat). AllHaveRun t.taken l news) opened t.run) confirmed n (omega arith) ∙ take_all (suc n) t.taken (omega (arith, as_all))
 
-  -- where a call is refused, more is asked than a journal has lines
-  too_many : most_lines < asked_in (works_of changes lists)
+  -- where a call is refused, more is asked than a journal has lines behind the past
+  too_many : most_lines < length past + asked_in (works_of changes lists)
   too_many =
-      let all : asked_in t.taken ≡ length journal =
-      ap asked_in (sym own_lists) ∙ (asked_map (λ (e : Entry). e.work) (by_session n journal) ∙ (sym (receipts_are_asked (by_session n journal)) ∙ (ap receipts_in (sym h.own) ∙ h.lines))) in
-      omega (arith, t.fewer, all, full, most)
+      let booked : asked_in t.taken ≡ asked_in (by_session n added) = ap asked_in (sym own_lists) ∙ asked_map (λ (e : Entry). e.work) (by_session n added) in
+      let all : asked_in (by_session n (past ++ added)) ≡ length (past ++ added) =
+      sym (receipts_are_asked (by_session n (past ++ added))) ∙ (ap receipts_in (sym h.own) ∙ h.lines) in
+      let before : asked_in (by_session n past) ≡ length past =
+      sym (receipts_are_asked (by_session n past)) ∙ lists_count grid n past (by_session n past) (legal_front grid past added h.legal) (only_front n past added h.only) refl in
+      omega (arith, t.fewer, booked, all, before, both_asked n past added, full, most)
 
-  -- the session at the place of the refusal has that number, and as many calls as were booked
-  from_fresh : t.old ≡ fresh t.place
-  from_fresh =
-      let within : t.place < suc n = omega (arith, slice_get_within olds t.place t.old t.of_olds, ap (length {A = Seat}) opened, fresh_count n) in
-      sym (get_or_from_slice_get olds t.place t.old (fresh 0) t.of_olds) ∙ (ap (λ (l : List Seat). get_or l t.place (fresh 0)) opened ∙ row_at fresh all_fresh refl (λ k. refl) n t.place (fresh 0) within)
+  -- the session at the place of the refusal has that number, and as many calls as it had in the past and as were booked
+  from_past : t.old ≡ seated t.place past
+  from_past =
+      let within : t.place < suc n = omega (arith, slice_get_within olds t.place t.old t.of_olds, ap (length {A = Seat}) opened, seat_count past n) in
+      sym (get_or_from_slice_get olds t.place t.old (seated 0 past) t.of_olds) ∙ (ap (λ (l : List Seat). get_or l t.place (seated 0 past)) opened ∙ seat_at past n t.place (seated 0 past) within)
 
   place_is : t.new.id ≡ t.place
-  place_is = t.refused.run.id ∙ ap (λ (s : Seat). s.id) from_fresh
+  place_is = t.refused.run.id ∙ ap (λ (s : Seat). s.id) from_past
 
-  call_is : length t.new.receipts ≡ length t.refused.booked
+  call_is : length t.new.receipts ≡ calls_of past t.new.id + length t.refused.booked
   call_is =
       let r = t.refused in
-      let lines : t.new.receipts ≡ r.run.lines = r.run.receipts ∙ ap (λ (s : Seat). s.receipts ++ r.run.lines) from_fresh in
-      ap length lines ∙ (sym (length-map r.run.lines (λ (e : Entry). e.work)) ∙ ap length r.run.works)
+      let lines : t.new.receipts ≡ of_session t.place past ++ r.run.lines = r.run.receipts ∙ ap (λ (s : Seat). s.receipts ++ r.run.lines) from_past in
+      let made : length r.run.lines ≡ length r.booked = sym (length-map r.run.lines (λ (e : Entry). e.work)) ∙ ap length r.run.works in
+      let old : calls_of past t.new.id ≡ length (of_session t.place past) = ap (λ (k : ℕ). calls_of past k) place_is ∙ calls_own past t.place in
+      omega (arith, ap length lines, length-append (of_session t.place past) r.run.lines, made, old)
 
-  booked_to : IsBookedTo t.new.id (length t.new.receipts + 1) (works_of changes lists) t.taken
+  booked_to : IsBookedTo t.new.id (length t.new.receipts + 1 - calls_of past t.new.id) (works_of changes lists) t.taken
   booked_to =
-      let fewer : length t.new.receipts + 1 - 1 ≡ length t.refused.booked = omega (arith, call_is) in
+      let fewer : length t.new.receipts + 1 - calls_of past t.new.id - 1 ≡ length t.refused.booked = omega (arith, call_is) in
       let front : take (length t.refused.booked) t.list ≡ t.refused.booked = front_of t.list t.refused.booked t.refused.left t.refused.refused t.refused.parts in
       let own : slice_get t.taken t.place ≡ option_map (take (length t.refused.booked)) (slice_get (works_of changes lists) t.place) =
       t.of_taken ∙ sym (ap (option_map (take (length t.refused.booked))) t.of_lists ∙ ap Some front) in
       record {
         before = subst (λ (k : ℕ). take k t.taken ≡ take k (works_of changes lists)) (sym place_is) t.before;
-        own = subst (λ (k : ℕ). slice_get t.taken k ≡ option_map (take (length t.new.receipts + 1 - 1)) (slice_get (works_of changes lists) k)) (sym place_is)
+        own = subst (λ (k : ℕ). slice_get t.taken k ≡ option_map (take (length t.new.receipts + 1 - calls_of past t.new.id - 1)) (slice_get (works_of changes lists) k)) (sym place_is)
             (subst (λ (k : ℕ). slice_get t.taken t.place ≡ option_map (take k) (slice_get (works_of changes lists) t.place)) (sym fewer) own);
         each = t.each;
       }
 
-  is_full_journal : IsFull grid changes lists t.new.id (length t.new.receipts + 1)
+  is_full_journal : IsFull grid past changes lists t.new.id (length t.new.receipts + 1)
   is_full_journal =
       let long : length t.list ≡ length t.refused.booked + suc (length t.refused.left) = ap length t.refused.parts ∙ length-append t.refused.booked (t.refused.refused ∷ t.refused.left) in
       record {
         many = too_many;
         list = t.list;
         at = subst (λ (k : ℕ). slice_get (works_of changes lists) k ≡ Some t.list) (sym place_is) t.of_lists;
-        call_is = (omega arith, omega (arith, call_is, long));
-        history = journal;
-        headline = of_journal grid cap n most_lines (length lists) journal receipts totals most (sym count) h;
+        call_is = (omega (arith, call_is), omega (arith, call_is, long));
+        history = past ++ added;
+        headline = of_journal grid cap n most_lines (length lists) (past ++ added) receipts totals most (sym count) h;
         full = omega (arith, full, most, h.capped);
-        booked = subst (IsBookedTo t.new.id (length t.new.receipts + 1) (works_of changes lists))
-            (sym own_lists ∙ ap (λ (k : ℕ). map works_in (by_session k journal)) (sym count)) booked_to;
+        added = added;
+        goes_on = refl;
+        booked = subst (IsBookedTo t.new.id (length t.new.receipts + 1 - calls_of past t.new.id) (works_of changes lists))
+            (sym own_lists ∙ ap (λ (k : ℕ). map works_in (by_session k added)) (sym count)) booked_to;
       }
 
--- the fault of such a run
-pub refused_run : (grid : Legs) (cap n : ℕ) (fault : RunFault) (changes : List Change) (lists : List (List Command)) (manager : Seat) (sessions news : List Seat) (journal : List Entry) (receipts : List (List Entry)) (totals : Totals) (f : DeskFault)
-    → f ≡ run_refusal fault → manager ≡ fresh 0 → sessions ≡ fresh_sessions n → length lists ≡ n
-    → AllHaveBegun (works_of changes lists) (manager ∷ sessions) news → NamesFirst cap fault (works_of changes lists) (manager ∷ sessions) news
-    → AllByRecursion (IsConfirmed n journal) news → cap ≡ most_lines → Headline grid cap n journal receipts totals → f ≢ Memory → IsUnbooked grid changes lists f
-refused_run grid cap n fault changes lists manager sessions news journal receipts totals f is one others count begun named confirmed most h =
-    subst (λ (x : DeskFault). x ≢ Memory → IsUnbooked grid changes lists x) (sym is) refused where
-      opened : manager ∷ sessions ≡ all_fresh n
-      opened = both_fresh n manager sessions one others
+first_begun : (past journal : List Entry) (n : ℕ) (list : List Work) (lists : List (List Work)) (sessions news : List Seat)
+    → AllHaveBegun (list ∷ lists) (seated 0 past ∷ sessions) news → AllByRecursion (IsConfirmed n journal) news → GoesOn past journal
+first_begun past journal n list lists sessions [] begun confirmed = absurd begun
+first_begun past journal n list lists sessions (t ∷ news) begun confirmed = goes_on past journal n begun.0.booked t begun.0.run confirmed.0
 
-      refused : run_refusal fault ≢ Memory → IsUnbooked grid changes lists (run_refusal fault)
+-- the fault of such a run
+pub refused_run : (grid : Legs) (cap n : ℕ) (fault : RunFault) (past : List Entry) (changes : List Change) (lists : List (List Command)) (manager : Seat) (sessions news : List Seat) (journal : List Entry) (receipts : List (List Entry)) (totals : Totals) (f : DeskFault)
+    → f ≡ run_refusal fault → manager ≡ seated 0 past → sessions ≡ seated_sessions n past → length lists ≡ n
+    → AllHaveBegun (works_of changes lists) (manager ∷ sessions) news → NamesFirst cap fault (works_of changes lists) (manager ∷ sessions) news
+    → AllByRecursion (IsConfirmed n journal) news → cap ≡ most_lines → Headline grid cap n journal receipts totals → f ≢ Memory → IsUnbooked grid past changes lists f
+refused_run grid cap n fault past changes lists manager sessions news journal receipts totals f is one others count begun named confirmed most h =
+    subst (λ (x : DeskFault). x ≢ Memory → IsUnbooked grid past changes lists x) (sym is) refused where
+      opened : manager ∷ sessions ≡ all_seated past n
+      opened = both_seated past n manager sessions one others
+
+      on : GoesOn past journal
+      on = first_begun past journal n _ _ _ news (subst (λ (l : List Seat). AllHaveBegun (works_of changes lists) l news) opened begun) confirmed
+
+      refused : run_refusal fault ≢ Memory → IsUnbooked grid past changes lists (run_refusal fault)
       refused not =
           let works = works_of changes lists in
-          let same : length works ≡ length (manager ∷ sessions) = works_count changes lists ∙ (ap suc count ∙ (sym (fresh_count n) ∙ ap length (sym opened))) in
+          let same : length works ≡ length (manager ∷ sessions) = works_count changes lists ∙ (ap suc count ∙ (sym (seat_count past n) ∙ ap length (sym opened))) in
           let t = stopped cap fault works (manager ∷ sessions) news same begun named in
           let full = is_full cap n fault journal works (manager ∷ sessions) news not named confirmed in
-          let all = is_full_journal grid cap n fault changes lists (manager ∷ sessions) news journal receipts totals opened count confirmed most h t full in
-          subst (λ (x : RunFault). run_refusal x ≢ Memory → IsUnbooked grid changes lists (run_refusal x)) (sym t.refused.named)
-          (refusal_of grid changes lists t.new.id (length t.new.receipts + 1) t.refused.why all) not
+          let all = is_full_journal grid cap n fault past on.added changes lists (manager ∷ sessions) news receipts totals opened count
+          (subst (λ (j : List Entry). AllByRecursion (IsConfirmed n j) news) on.is confirmed) most
+          (subst (λ (j : List Entry). Headline grid cap n j receipts totals) on.is h) t (subst (λ (j : List Entry). cap ≤ length j) on.is full) in
+          subst (λ (x : RunFault). run_refusal x ≢ Memory → IsUnbooked grid past changes lists (run_refusal x)) (sym t.refused.named)
+          (refusal_of grid past changes lists t.new.id (length t.new.receipts + 1) t.refused.why all) not
 
 -- the same of the commands that scripts ask
-pub unbooked : (flights : List Flown) (grid : Legs) (changes : List Change) (scripts : List (List Request)) (lists : List (List Command)) (fault : DeskFault) → lists ≡ map (commands_of flights) scripts
-    → IsUnbooked grid changes lists fault → IsUnbooked grid changes (map (commands_of flights) scripts) fault
-unbooked flights grid changes scripts lists fault is has = subst (λ (l : List (List Command)). IsUnbooked grid changes l fault) is has
+pub unbooked : (grid : Legs) (past : List Entry) (changes : List Change) (asked lists : List (List Command)) (fault : DeskFault) → lists ≡ asked
+    → IsUnbooked grid past changes lists fault → IsUnbooked grid past changes asked fault
+unbooked grid past changes asked lists fault is has = subst (λ (l : List (List Command)). IsUnbooked grid past changes l fault) is has

@@ -1,192 +1,305 @@
--- A history of what scripts ask: each line has its request.
-use Rattle.std.proofs.Common.{◌≡◌, ◌⊎◌, ⊎_elim, ℕ, zero, suc, ◌+◌, ◌-◌, ◌<◌, ◌≤◌, ◌==◌, Bool, true, false, List, [], ◌∷◌, ◌++◌, length, map, refl, sym, ap, ◌∙◌, subst, arith, get_or, Some, length-append, append_assoc, inl, inr}
-use Rattle.std.proofs.lemmas.List.{length-map}
-use Rattle.std.specs.Prelude.{slice_get, All, filter}
-use Rattle.std.specs.Option.{option_map}
+-- The lines that a history adds to the past can be answered: what they and their advices answer is there.
+use Rattle.std.proofs.Common.{◌≡◌, ⊎_elim, ℕ, zero, suc, ◌+◌, ◌-◌, ◌<◌, ◌≤◌, List, [], ◌∷◌, ◌++◌, length, map, refl, sym, ap, ◌∙◌, subst, arith, get_or, Option, Some, None, length-append, append_assoc, take, ◌==◌}
+use Rattle.std.specs.Prelude.{slice_get, slice_index, unwrap_or}
 use Rattle.std.specs.List.{AllByRecursion}
-use Rattle.std.proofs.Math.ListN.{get_or-append}
-use Rattle.std.proofs.Math.Seq.{get_or-append_seam}
-use Rattle.std.proofs.lemmas.Option.{slice_get-get_or, slice_get-map}
+use Rattle.std.specs.Option.{option_map}
+use Rattle.std.proofs.lemmas.Bool.{cases_lt}
+use Rattle.std.proofs.lemmas.List.{append-nil, get_or_past, length-map, length-take-le}
+use Rattle.std.proofs.lemmas.Option.{slice_get-get_or, slice_get-map, slice_get_cases}
 use Rattle.airimp_lines.specs.declared.requests.Request.{Request}
+use Rattle.airimp_lines.specs.declared.segment.Segment.{Segment}
+use Rattle.ssim_records.specs.declared.place.Place.{Place}
+use Rattle.ssim_flights.specs.declared.flight.DatedLeg.{DatedLeg}
 use Rattle.ssim_flights.specs.declared.flight.Flight.{Flight as Flown}
+use Rattle.seat_journal.specs.declared.entry.Advice.{Advice}
 use Rattle.seat_journal.specs.declared.entry.Change.{Change}
 use Rattle.seat_journal.specs.declared.entry.Command.{Command}
 use Rattle.seat_journal.specs.declared.entry.Entry.{Entry}
 use Rattle.seat_journal.specs.declared.entry.Work.{Work}
 use Rattle.seat_journal.specs.declared.entry.Work.TheVariants.{Seats, Limit}
-use Rattle.seat_nesting.specs.Nesting.{Legs}
-use Rattle.seat_core.specs.Journal.{IsLegalAfter, IsNext, MayAsk, calls_of}
+use Rattle.seat_nesting.specs.Authorised.{authorised_grid, authorised_legs}
+use Rattle.seat_nesting.specs.Nesting.{Fits, Legs, Steps, legs_of}
+use Rattle.seat_nesting.specs.declared.limit_row.LimitRow.{LimitRow}
+use Rattle.seat_core.specs.Journal.{IsLegal, IsLegalAfter, IsNext, MayAsk, calls_of}
 use Rattle.seat_core.proofs.History.Legal.{legal_to_after}
 use Rattle.seat_host.specs.Histories.{of_session, by_session}
 use Rattle.seat_host.specs.Working.{works_of}
 use Rattle.seat_host.proofs.Own.{own_append, own_one, calls_own}
-use Rattle.seat_run.specs.Answering.{AreAllAnswerable, AreAnswerable, HasRequest, IsAdvisable, IsAnswerable, IsAsked}
-use Rattle.seat_run.specs.Requests.{AreRight, commands_of}
-use Rattle.seat_run.specs.RunDesk.{IsHistoryOf, works_in}
-use Rattle.seat_run.proofs.Advised.{AreAdvised, all_push, legal_is_advised}
-
-module _ {A : Type 0} where
-  pub all_of : (P : A → Type 0) (xs : List A) → AllByRecursion P xs → All P xs
-  all_of P [] all k d lt = absurd (omega (arith, lt))
-  all_of P (x ∷ xs) all zero d lt = all.0
-  all_of P (x ∷ xs) all (suc k) d lt = all_of P xs all.1 k d (omega (arith, lt))
-
-  all_kept : (P : A → Type 0) (test : A → Bool) (xs : List A) → AllByRecursion P xs → AllByRecursion P (filter test xs)
-  all_kept P test [] all = tt
-  all_kept P test (x ∷ xs) all = cases (test x) refl (all_kept P test xs all.1) where
-    cases : (t : Bool) → test x ≡ t → AllByRecursion P (filter test xs) → AllByRecursion P (filter test (x ∷ xs))
-    cases true e rest = rw e (all.0, rest)
-    cases false e rest = rw e rest
-
--- ---- the lines of each session
-
-pub place_below : (i n : ℕ) → i < suc n → (i < n) ⊎ (n ≡ i)
-place_below zero zero low = inr refl
-place_below zero (suc n) low = inl (omega arith)
-place_below (suc i) zero low = absurd (omega (arith, low))
-place_below (suc i) (suc n) low = ⊎_elim (λ (h : i < n). inl (omega (arith, h))) (λ (h : n ≡ i). inr (ap suc h)) (place_below i n (omega (arith, low)))
-
--- a row that has f 0, then f 1, and so on
-module _ {A : Type 0} (f : ℕ → A) (row : ℕ → List A) (first : row 0 ≡ f 0 ∷ []) (more : (n : ℕ) → row (suc n) ≡ row n ++ f (suc n) ∷ []) where
-  pub row_count : (n : ℕ) → length (row n) ≡ suc n
-  row_count zero = ap length first
-  row_count (suc n) = ap length (more n) ∙ (length-append (row n) (f (suc n) ∷ []) ∙ omega (arith, row_count n))
-
-  pub row_at : (n i : ℕ) (d : A) → i < suc n → get_or (row n) i d ≡ f i
-  row_at zero zero d low = ap (λ (l : List A). get_or l 0 d) first
-  row_at zero (suc i) d low = absurd (omega (arith, low))
-  row_at (suc n) i d low = ap (λ (l : List A). get_or l i d) (more n) ∙ ⊎_elim (λ (lt : i < suc n). below lt (row_at n i d lt)) last (place_below i (suc n) low) where
-    below : i < suc n → get_or (row n) i d ≡ f i → get_or (row n ++ f (suc n) ∷ []) i d ≡ f i
-    below lt rest =
-        let within : i < length (row n) = omega (arith, lt, row_count n) in
-        get_or-append (row n) (f (suc n) ∷ []) d i within ∙ rest
-
-    last : suc n ≡ i → get_or (row n ++ f (suc n) ∷ []) i d ≡ f i
-    last e =
-        subst (λ (k : ℕ). get_or (row n ++ f (suc n) ∷ []) k d ≡ f k) e
-        (subst (λ (k : ℕ). get_or (row n ++ f (suc n) ∷ []) k d ≡ f (suc n)) (row_count n) (get_or-append_seam (row n) (f (suc n)) [] d))
-
-sessions_count : (n : ℕ) (history : List Entry) → length (by_session n history) ≡ suc n
-sessions_count n history = row_count (λ s. of_session s history) (λ k. by_session k history) refl (λ k. refl) n
-
-lines_at : (n i : ℕ) (history : List Entry) → i < suc n → get_or (by_session n history) i [] ≡ of_session i history
-lines_at n i history low = row_at (λ s. of_session s history) (λ k. by_session k history) refl (λ k. refl) n i [] low
+use Rattle.seat_desk.specs.FlightsDesk.{IsText}
+use Rattle.seat_desk.specs.Loading.{IsGridOf}
+use Rattle.seat_run.specs.declared.past.Past.{Past}
+use Rattle.seat_run.specs.Answering.{AreAllAnswerable, AreAnswerable, HasRequest, IsAnswerable, IsAsked, IsBooked}
+use Rattle.seat_run.specs.Going.{behind, idle, lists_over, past_of, segment_at, segment_between, segment_from, segment_of, segment_on}
+use Rattle.seat_run.specs.Requests.{commands_of}
+use Rattle.seat_run.specs.RunDesk.{AreAnswers, IsHistoryOf, IsReplied, at_any, works_in}
+use Rattle.seat_run.proofs.Advised.{AreAdvised, IsPlaced, all_push, legal_is_advised}
+use Rattle.seat_run.proofs.Going.{added_lines, idle_at, over_count, lines_at, past_calls, past_counts, sessions_count}
+use Rattle.seat_run.proofs.Rows.{all_kept, all_of, each_at}
+use Rattle.seat_run.proofs.Serving.{legs_are}
 
 same_some : {A : Type 0} → (x y : A) → Some x ≡ Some y → x ≡ y
 same_some x y e = cc e
 
--- a session has a line for each request of its script
-own_count : (grid : Legs) (flights : List Flown) (changes : List Change) (scripts : List (List Request)) (history : List Entry) (i : ℕ)
-    → IsHistoryOf grid changes (map (commands_of flights) scripts) history → i < length scripts
-    → length (of_session (suc i) history) ≡ length (get_or scripts i [])
-own_count grid flights changes scripts history i h lt =
-    let lists = map (commands_of flights) scripts in
-    let seats : List (List Work) = map (map Seats) lists in
-    let n : length lists ≡ length scripts = length-map scripts (commands_of flights) in
-    let within : suc i < length (by_session (length lists) history) = omega (arith, lt, n, sessions_count (length lists) history) in
-    let here : slice_get (by_session (length lists) history) (suc i) ≡ Some (of_session (suc i) history) =
-    slice_get-get_or (by_session (length lists) history) (suc i) [] within ∙ ap Some (lines_at (length lists) (suc i) history (omega (arith, lt, n))) in
-    let lines : slice_get (works_of changes lists) (suc i) ≡ Some (works_in (of_session (suc i) history)) =
-    ap (λ (l : List (List Work)). slice_get l (suc i)) (sym h.asked) ∙ (slice_get-map works_in (by_session (length lists) history) (suc i) ∙ ap (option_map works_in) here) in
-    let commands : slice_get lists i ≡ Some (commands_of flights (get_or scripts i [])) =
-    slice_get-map (commands_of flights) scripts i ∙ ap (option_map (commands_of flights)) (slice_get-get_or scripts i [] lt) in
-    let script : slice_get seats i ≡ Some (map Seats (commands_of flights (get_or scripts i []))) =
-    slice_get-map (map Seats) lists i ∙ ap (option_map (map Seats)) commands in
-    let same : works_in (of_session (suc i) history) ≡ map Seats (commands_of flights (get_or scripts i [])) = same_some _ _ (sym lines ∙ script) in
-    sym (length-map (of_session (suc i) history) (λ (e : Entry). e.work))
-    ∙ (ap length same ∙ (length-map (commands_of flights (get_or scripts i [])) Seats ∙ length-map (get_or scripts i []) _))
+-- ---- the segment of a place on the grid
+
+record IsThere (legs : List DatedLeg) (i : ℕ) : Type 0 where
+  leg : DatedLeg
+  at : slice_get legs i ≡ Some leg
+
+leg_there : (legs : List DatedLeg) (i : ℕ) → i < length legs → IsThere legs i
+leg_there [] i lt = absurd (omega (arith, lt))
+leg_there (leg ∷ legs) zero lt = record { leg = leg; at = refl }
+leg_there (leg ∷ legs) (suc i) lt = let rest = leg_there legs i (omega (arith, lt)) in record { leg = rest.leg; at = rest.at }
+
+record IsFlown (flights : List Flown) (c : Command) : Type 0 where
+  segment : Segment
+  is : segment_of flights c ≡ Some segment
+
+flown_on : (flights : List Flown) (c : Command) (place : Place) (flight : Flown) → c.place ≡ Some place → slice_get flights place.flight ≡ Some flight
+    → place.from < length flight.legs → place.to < length flight.legs → IsFlown flights c
+flown_on flights c place flight on at from to =
+    let first = leg_there flight.legs place.from from in
+    let last = leg_there flight.legs place.to to in
+    record {
+      segment = segment_from c flight first.leg last.leg;
+      is = ap (segment_on flights c) on ∙ (ap (segment_at c place) at
+          ∙ (ap (λ (o : Option DatedLeg). segment_between c flight o (slice_get flight.legs place.to)) first.at
+          ∙ ap (λ (o : Option DatedLeg). segment_between c flight (Some first.leg) o) last.at));
+    }
+
+no_legs : (rows : List LimitRow) (flights : List Flown) (i : ℕ) → slice_get flights i ≡ None → length (legs_of (authorised_grid rows flights) i) ≡ 0
+no_legs rows flights i at =
+    let none : slice_get (authorised_grid rows flights) i ≡ None = slice_get-map (authorised_legs rows) flights i ∙ ap (λ (o : Option Flown). option_map (authorised_legs rows) o) at in
+    ap (λ (o : Option (List Steps)). length (unwrap_or o [])) none
+
+flown : (flights : List Flown) (grid : Legs) (c : Command) (place : Place) → IsGridOf flights grid → c.place ≡ Some place → Fits grid place → IsFlown flights c
+flown flights grid c place g on fits =
+    let i = place.flight in
+    let to : place.to < length (legs_of (authorised_grid g.rows flights) i) = subst (λ (l : Legs). place.to < length (legs_of l i)) g.is fits.1 in
+    ⊎_elim
+    (λ (s : (x : Flown) × (i < length flights) × (slice_get flights i ≡ Some x) × (get_or flights i x ≡ x)).
+    let same = legs_are g.rows flights i s.0 s.2 in
+    flown_on flights c place s.0 on s.2 (omega (arith, fits.0, to, same)) (omega (arith, to, same)))
+    (λ (n : (length flights ≤ i) × (slice_get flights i ≡ None)). absurd (omega (arith, to, no_legs g.rows flights i n.1)))
+    (slice_get_cases flights i).1
 
 -- ---- each line's request
 
-own_at : (s : ℕ) (past es : List Entry) (e : Entry) → e.session ≡ s → length (of_session s (past ++ e ∷ es)) ≡ length (of_session s past) + suc (length (of_session s es))
-own_at s past es e is =
-    let later : of_session s (e ∷ es) ≡ e ∷ of_session s es = own_append s (e ∷ []) es ∙ ap (λ (l : List Entry). l ++ of_session s es) (own_one s e is) in
-    ap length (own_append s past (e ∷ es)) ∙ (length-append (of_session s past) (of_session s (e ∷ es)) ∙ ap (λ (l : List Entry). length (of_session s past) + length l) later)
+-- the list of each session is that of its script, and none beyond the scripts
+list_of : (flights : List Flown) (scripts : List (List Request)) (k i : ℕ) → get_or (map (commands_of flights) scripts ++ idle k) i [] ≡ commands_of flights (get_or scripts i [])
+list_of flights [] k i = idle_at k i
+list_of flights (script ∷ scripts) k zero = refl
+list_of flights (script ∷ scripts) k (suc i) = list_of flights scripts k i
 
-has_request : (grid : Legs) (flights : List Flown) (changes : List Change) (scripts : List (List Request)) (history past es : List Entry) (e : Entry)
-    → IsHistoryOf grid changes (map (commands_of flights) scripts) history → All AreRight scripts → history ≡ past ++ e ∷ es → IsNext grid past e → 1 ≤ e.session → HasRequest scripts e
-has_request grid flights changes scripts history past es e h right is next low =
-    let s = e.session in
-    let n : length (map (commands_of flights) scripts) ≡ length scripts = length-map scripts (commands_of flights) in
-    let counted : length (of_session s history) ≡ length (of_session s past) + suc (length (of_session s es)) = ap (λ (l : List Entry). length (of_session s l)) is ∙ own_at s past es e refl in
-    let below : s ≤ length scripts = within s n counted in
-    let at : s - 1 < length scripts = omega (arith, below, low) in
-    let own = own_count grid flights changes scripts history (s - 1) h at in
-    let up : suc (s - 1) ≡ s = omega (arith, low) in
-    let all_own : length (of_session s history) ≡ length (get_or scripts (s - 1) []) = ap (λ (k : ℕ). length (of_session k history)) (sym up) ∙ own in
-    let calls : calls_of past s ≡ length (of_session s past) = calls_own past s in
-    record {
-      session = (low, below);
-      script = get_or scripts (s - 1) [];
-      at = slice_get-get_or scripts (s - 1) [] at;
-      call = (omega (arith, next.call), omega (arith, next.call, calls, counted, all_own));
-      right = right (s - 1) [] at;
-    } where
-      within : (s : ℕ) → length (map (commands_of flights) scripts) ≡ length scripts → length (of_session s history) ≡ length (of_session s past) + suc (length (of_session s es)) → s ≤ length scripts
-      within s n counted = ⊎_elim (λ (le : s ≤ length scripts). le) (λ (lt : length scripts < s). absurd (beyond lt)) (either s (length scripts)) where
-        either : (a b : ℕ) → (a ≤ b) ⊎ (b < a)
-        either zero b = inl (omega arith)
-        either (suc a) zero = inr (omega arith)
-        either (suc a) (suc b) = ⊎_elim (λ (le : a ≤ b). inl (omega (arith, le))) (λ (lt : b < a). inr (omega (arith, lt))) (either a b)
+module _ (grid : Legs) (past : List Entry) (flights : List Flown) (changes : List Change) (scripts : List (List Request)) (history : List Entry)
+    (h : IsHistoryOf grid past changes (lists_over past (map (commands_of flights) scripts)) history) where
+  abbrev lists : List (List Command)
+  lists = lists_over past (map (commands_of flights) scripts)
 
-        beyond : length scripts < s → ⊥
-        beyond lt = let empty : length (of_session s history) ≡ 0 = ap length (h.headline.only.none s (omega (arith, lt, n))) in omega (arith, empty, counted)
+  -- a session has a line behind the past for each request of its script
+  own_count : (i : ℕ) → i < length lists → length (of_session (suc i) h.added) ≡ length (get_or scripts i [])
+  own_count i lt =
+      let within : suc i < length (by_session (length lists) h.added) = omega (arith, lt, sessions_count (length lists) h.added) in
+      let here : slice_get (by_session (length lists) h.added) (suc i) ≡ Some (of_session (suc i) h.added) =
+      slice_get-get_or (by_session (length lists) h.added) (suc i) [] within ∙ ap Some (lines_at (length lists) (suc i) h.added (omega (arith, lt))) in
+      let lines : slice_get (works_of changes lists) (suc i) ≡ Some (works_in (of_session (suc i) h.added)) =
+      ap (λ (l : List (List Work)). slice_get l (suc i)) (sym h.asked) ∙ (slice_get-map works_in (by_session (length lists) h.added) (suc i) ∙ ap (option_map works_in) here) in
+      let asked : slice_get (works_of changes lists) (suc i) ≡ Some (map Seats (get_or lists i [])) =
+      slice_get-map (map Seats) lists i ∙ ap (option_map (map Seats)) (slice_get-get_or lists i [] lt) in
+      let same : works_in (of_session (suc i) h.added) ≡ map Seats (get_or lists i []) = same_some _ _ (sym lines ∙ asked) in
+      sym (length-map (of_session (suc i) h.added) (λ (e : Entry). e.work))
+      ∙ (ap length same ∙ (length-map (get_or lists i []) Seats
+      ∙ (ap length (list_of flights scripts _ i) ∙ length-map (get_or scripts i []) _)))
 
-is_asked : (grid : Legs) (flights : List Flown) (changes : List Change) (scripts : List (List Request)) (history past es : List Entry) (e : Entry)
-    → IsHistoryOf grid changes (map (commands_of flights) scripts) history → All AreRight scripts → history ≡ past ++ e ∷ es → IsNext grid past e
-    → (w : Work) → e.work ≡ w → IsAsked scripts e w
-is_asked grid flights changes scripts history past es e h right is next (Seats c) work =
-    let may : MayAsk e.session (Seats c) = subst (MayAsk e.session) work next.session in
-    has_request grid flights changes scripts history past es e h right is next may.0
-is_asked grid flights changes scripts history past es e h right is next (Limit c) work = tt
+  own_at : (s : ℕ) (front es : List Entry) (e : Entry) → e.session ≡ s → length (of_session s (front ++ e ∷ es)) ≡ length (of_session s front) + suc (length (of_session s es))
+  own_at s front es e is =
+      let later : of_session s (e ∷ es) ≡ e ∷ of_session s es = own_append s (e ∷ []) es ∙ ap (λ (l : List Entry). l ++ of_session s es) (own_one s e is) in
+      ap length (own_append s front (e ∷ es)) ∙ (length-append (of_session s front) (of_session s (e ∷ es)) ∙ ap (λ (l : List Entry). length (of_session s front) + length l) later)
 
-have_requests : (grid : Legs) (flights : List Flown) (changes : List Change) (scripts : List (List Request)) (history past es : List Entry)
-    → IsHistoryOf grid changes (map (commands_of flights) scripts) history → All AreRight scripts → history ≡ past ++ es → IsLegalAfter grid past es
-    → AllByRecursion (λ (e : Entry). IsAsked scripts e e.work) es
-have_requests grid flights changes scripts history past [] h right is legal = tt
-have_requests grid flights changes scripts history past (e ∷ es) h right is legal = (
-  is_asked grid flights changes scripts history past es e h right is legal.0 e.work refl,
-  have_requests grid flights changes scripts history (past ++ e ∷ []) es h right (is ∙ sym (append_assoc past (e ∷ []) es)) legal.1,
-)
+  -- a session that has a line behind the past is one of those that were opened
+  opened : (s n : ℕ) → length (of_session s h.added) ≡ suc n → s ≤ length lists
+  opened s n some =
+      ⊎_elim (λ (high : length lists < s).
+      let none : length (of_session s history) ≡ 0 = ap length (h.headline.only.none s high) in
+      let all : length (of_session s history) ≡ length (of_session s past) + length (of_session s h.added) =
+      ap (λ (l : List Entry). length (of_session s l)) h.goes_on ∙ (ap length (own_append s past h.added) ∙ length-append (of_session s past) (of_session s h.added)) in
+      absurd (omega (arith, none, all, some)))
+      (λ (le : s ≤ length lists). le)
+      (cases_lt (length lists) s)
 
-answer_each : (scripts : List (List Request)) (history lines : List Entry) → AllByRecursion (λ (e : Entry). IsAsked scripts e e.work) lines → AreAdvised history lines
-    → AllByRecursion (IsAnswerable scripts history) lines
-answer_each scripts history [] asked told = tt
-answer_each scripts history (e ∷ es) asked told =
-    (record { asked = asked.0; advised = all_of (IsAdvisable history) e.advices told.0 }, answer_each scripts history es asked.1 told.1)
+  -- and has a script
+  scripted : (s n : ℕ) → 1 ≤ s → length (of_session s h.added) ≡ suc n → s - 1 < length scripts
+  scripted s n low some =
+      let up : suc (s - 1) ≡ s = omega (arith, low) in
+      let own : length (of_session s h.added) ≡ length (get_or scripts (s - 1) []) =
+      ap (λ (k : ℕ). length (of_session k h.added)) (sym up) ∙ own_count (s - 1) (omega (arith, low, opened s n some)) in
+      ⊎_elim (λ (lt : s - 1 < length scripts). lt)
+      (λ (le : length scripts ≤ s - 1). let none : get_or scripts (s - 1) [] ≡ [] = get_or_past scripts (s - 1) [] le in absurd (omega (arith, own, some, ap length none)))
+      (cases_lt (s - 1) (length scripts))
 
-answer_sessions : (scripts : List (List Request)) (history : List Entry) (n : ℕ) → AllByRecursion (IsAnswerable scripts history) history
-    → AllByRecursion (AreAnswerable scripts history) (by_session n history)
-answer_sessions scripts history zero all =
-    (record { each = all_of (IsAnswerable scripts history) (of_session 0 history) (all_kept (IsAnswerable scripts history) (λ (e : Entry). e.session == 0) history all) }, tt)
-answer_sessions scripts history (suc n) all =
-    all_push (AreAnswerable scripts history) (by_session n history) (of_session (suc n) history) (answer_sessions scripts history n all)
-    (record { each = all_of (IsAnswerable scripts history) (of_session (suc n) history) (all_kept (IsAnswerable scripts history) (λ (e : Entry). e.session == suc n) history all) })
+  has_request : (front es : List Entry) (e : Entry) → h.added ≡ front ++ e ∷ es → IsNext grid (past ++ front) e → 1 ≤ e.session → e.session ≤ 8 → HasRequest (past_of past) scripts e
+  has_request front es e is next low high =
+      let s = e.session in
+      let counted : length (of_session s h.added) ≡ length (of_session s front) + suc (length (of_session s es)) = ap (λ (l : List Entry). length (of_session s l)) is ∙ own_at s front es e refl in
+      let some : length (of_session s h.added) ≡ suc (length (of_session s front) + length (of_session s es)) = omega (arith, counted) in
+      let at : s - 1 < length scripts = scripted s (length (of_session s front) + length (of_session s es)) low some in
+      let up : suc (s - 1) ≡ s = omega (arith, low) in
+      let own : length (of_session s h.added) ≡ length (get_or scripts (s - 1) []) =
+      ap (λ (k : ℕ). length (of_session k h.added)) (sym up) ∙ own_count (s - 1) (omega (arith, low, opened s (length (of_session s front) + length (of_session s es)) some)) in
+      let before : calls_of (past ++ front) s ≡ calls_of past s + length (of_session s front) =
+      calls_own (past ++ front) s ∙ (ap length (own_append s past front) ∙ (length-append (of_session s past) (of_session s front) ∙ ap (λ (k : ℕ). k + length (of_session s front)) (sym (calls_own past s)))) in
+      let known : slice_index (past_of past).calls s ≡ calls_of past s = past_calls past s high in
+      record {
+        session = (low, omega (arith, at, low));
+        script = get_or scripts (s - 1) [];
+        at = slice_get-get_or scripts (s - 1) [] at;
+        counted = omega (arith, high, past_counts past);
+        call = (omega (arith, next.call, before, known), omega (arith, next.call, before, known, own, counted));
+      }
 
-all_lines : (grid : Legs) (flights : List Flown) (changes : List Change) (scripts : List (List Request)) (history : List Entry)
-    → IsHistoryOf grid changes (map (commands_of flights) scripts) history → AllByRecursion AreRight scripts → AllByRecursion (IsAnswerable scripts history) history
-all_lines grid flights changes scripts history h right =
-    answer_each scripts history history
-    (have_requests grid flights changes scripts history [] history h (all_of AreRight scripts right) refl (legal_to_after grid [] history h.headline.legal))
-    (legal_is_advised grid history h.headline.legal)
+  is_asked : (front es : List Entry) (e : Entry) → h.added ≡ front ++ e ∷ es → IsNext grid (past ++ front) e → (w : Work) → e.work ≡ w → IsAsked (past_of past) scripts e w
+  is_asked front es e is next (Seats c) work =
+      let may : MayAsk e.session (Seats c) = subst (MayAsk e.session) work next.session in
+      has_request front es e is next may.0 may.1
+  is_asked front es e is next (Limit c) work = tt
 
--- all lines of the history can be answered, also session by session
-pub answerable : (grid : Legs) (flights : List Flown) (changes : List Change) (scripts : List (List Request)) (history : List Entry)
-    → IsHistoryOf grid changes (map (commands_of flights) scripts) history → AllByRecursion AreRight scripts → AreAnswerable scripts history history
-answerable grid flights changes scripts history h right = record { each = all_of (IsAnswerable scripts history) history (all_lines grid flights changes scripts history h right) }
+  have_requests : (front es : List Entry) → h.added ≡ front ++ es → IsLegalAfter grid (past ++ front) es → AllByRecursion (λ (e : Entry). IsAsked (past_of past) scripts e e.work) es
+  have_requests front [] is legal = tt
+  have_requests front (e ∷ es) is legal = (
+    is_asked front es e is legal.0 e.work refl,
+    have_requests (front ++ e ∷ []) es (is ∙ sym (append_assoc front (e ∷ []) es))
+        (subst (λ (l : List Entry). IsLegalAfter grid l es) (append_assoc past front (e ∷ [])) legal.1),
+  )
 
-all_answerable : (grid : Legs) (flights : List Flown) (changes : List Change) (scripts : List (List Request)) (history : List Entry) (n : ℕ)
-    → IsHistoryOf grid changes (map (commands_of flights) scripts) history → AllByRecursion AreRight scripts → AreAllAnswerable scripts history (by_session n history)
-all_answerable grid flights changes scripts history n h right = record {
-  each = all_of (AreAnswerable scripts history) (by_session n history) (answer_sessions scripts history n (all_lines grid flights changes scripts history h right));
-}
+  all_asked : AllByRecursion (λ (e : Entry). IsAsked (past_of past) scripts e e.work) h.added
+  all_asked =
+      let none : past ++ [] ≡ past = append-nil past in
+      have_requests [] h.added refl (subst (λ (l : List Entry). IsLegalAfter grid l h.added) (sym none)
+      (legal_to_after grid past h.added (subst (IsLegal grid) h.goes_on h.headline.legal)))
 
--- the same, of slices of the history and of its sessions' lines
-pub slices_answerable : (grid : Legs) (flights : List Flown) (changes : List Change) (scripts : List (List Request)) (lists : List (List Command)) (history slice : List Entry) (receipts all : List (List Entry)) (n : ℕ)
-    → lists ≡ map (commands_of flights) scripts → slice ≡ history → all ≡ receipts → receipts ≡ by_session n history
-    → IsHistoryOf grid changes lists history → AllByRecursion AreRight scripts → AreAllAnswerable scripts slice all
-slices_answerable grid flights changes scripts lists history slice receipts all n lists_are slice_is all_are receipts_are h right =
-    let h' : IsHistoryOf grid changes (map (commands_of flights) scripts) history = subst (λ (l : List (List Command)). IsHistoryOf grid changes l history) lists_are h in
-    let base : AreAllAnswerable scripts history (by_session n history) = all_answerable grid flights changes scripts history n h' right in
-    let here : AreAllAnswerable scripts history all = subst (AreAllAnswerable scripts history) (sym (all_are ∙ receipts_are)) base in
-    subst (λ (j : List Entry). AreAllAnswerable scripts j all) (sym slice_is) here
+  -- ---- each advice's booking
+
+  get_behind : (xs ys : List Entry) (i : ℕ) (x : Entry) → length xs ≤ i → slice_get (xs ++ ys) i ≡ Some x → slice_get ys (i - length xs) ≡ Some x
+  get_behind [] ys i x le at = let e : i - 0 ≡ i = omega arith in subst (λ (k : ℕ). slice_get ys k ≡ Some x) (sym e) at
+  get_behind (y ∷ xs) ys zero x le at = absurd (omega (arith, le))
+  get_behind (y ∷ xs) ys (suc i) x le at =
+      let e : i - length xs ≡ suc i - suc (length xs) = omega arith in
+      subst (λ (k : ℕ). slice_get ys k ≡ Some x) e (get_behind xs ys i x (omega (arith, le)) at)
+
+  booked : IsGridOf flights grid → (number : ℕ) → IsPlaced grid history number → IsBooked flights (past_of past) scripts history number
+  booked of_grid number placed =
+      let on : IsFlown flights placed.command = flown flights grid placed.command placed.place of_grid placed.place_is placed.fits in
+      record {
+        within = placed.within;
+        line = placed.line;
+        at = placed.at;
+        command = placed.command;
+        work_is = placed.work_is;
+        segment = on.segment;
+        flown = on.is;
+        asked = λ late.
+            let there : slice_get (past ++ h.added) (number - 1) ≡ Some placed.line = subst (λ (l : List Entry). slice_get l (number - 1) ≡ Some placed.line) h.goes_on placed.at in
+            let new : slice_get h.added (number - 1 - length past) ≡ Some placed.line = get_behind past h.added (number - 1) placed.line (omega (arith, late)) there in
+            subst (IsAsked (past_of past) scripts placed.line) placed.work_is
+            (each_at (λ (e : Entry). IsAsked (past_of past) scripts e e.work) h.added (number - 1 - length past) placed.line all_asked new);
+      }
+
+  -- ---- all lines that were added
+
+  each_advised : IsGridOf flights grid → (advices : List Advice) → AllByRecursion (λ (a : Advice). IsPlaced grid history a.number) advices
+      → AllByRecursion (λ (a : Advice). IsBooked flights (past_of past) scripts history a.number) advices
+  each_advised g [] told = tt
+  each_advised g (a ∷ advices) told = (booked g a.number told.0, each_advised g advices told.1)
+
+  answer_each : IsGridOf flights grid → (lines : List Entry) → AllByRecursion (λ (e : Entry). IsAsked (past_of past) scripts e e.work) lines → AreAdvised grid history lines
+      → AllByRecursion (IsAnswerable flights (past_of past) scripts history) lines
+  answer_each g [] asked told = tt
+  answer_each g (e ∷ es) asked told = (
+    record { asked = asked.0; advised = all_of (λ (a : Advice). IsBooked flights (past_of past) scripts history a.number) e.advices (each_advised g e.advices told.0) },
+    answer_each g es asked.1 told.1,
+  )
+
+  added_advised : (xs ys : List Entry) → AreAdvised grid history (xs ++ ys) → AreAdvised grid history ys
+  added_advised [] ys all = all
+  added_advised (x ∷ xs) ys all = added_advised xs ys all.1
+
+  all_lines : IsGridOf flights grid → AllByRecursion (IsAnswerable flights (past_of past) scripts history) h.added
+  all_lines g =
+      answer_each g h.added all_asked
+      (added_advised past h.added (subst (λ (l : List Entry). AreAdvised grid history l) h.goes_on (legal_is_advised grid history h.headline.legal)))
+
+  answer_sessions : (n : ℕ) (lines : List Entry) → AllByRecursion (IsAnswerable flights (past_of past) scripts history) lines
+      → AllByRecursion (AreAnswerable flights (past_of past) scripts history) (by_session n lines)
+  answer_sessions zero lines all =
+      let is = IsAnswerable flights (past_of past) scripts history in
+      (record { each = all_of is (of_session 0 lines) (all_kept is (λ (e : Entry). e.session == 0) lines all) }, tt)
+  answer_sessions (suc n) lines all =
+      let is = IsAnswerable flights (past_of past) scripts history in
+      all_push (AreAnswerable flights (past_of past) scripts history) (by_session n lines) (of_session (suc n) lines) (answer_sessions n lines all)
+      (record { each = all_of is (of_session (suc n) lines) (all_kept is (λ (e : Entry). e.session == suc n) lines all) })
+
+  -- session by session
+  answerable : (n : ℕ) → IsGridOf flights grid → AreAllAnswerable flights (past_of past) scripts history (by_session n h.added)
+  answerable n g = record {
+    each = all_of (AreAnswerable flights (past_of past) scripts history) (by_session n h.added) (answer_sessions n h.added (all_lines g));
+  }
+
+  -- what the receipts of the scripts' sessions have behind the past
+  receipts_behind : length scripts ≤ 8 → behind (past_of past).calls (take (length scripts + 1) (by_session (length lists) history)) ≡ by_session (length scripts) h.added
+  receipts_behind few =
+      let enough : length scripts ≤ length lists = omega (arith, over_count past (map (commands_of flights) scripts), length-map scripts (commands_of flights)) in
+      let up : length scripts + 1 ≡ suc (length scripts) = omega arith in
+      ap (λ (k : ℕ). behind (past_of past).calls (take k (by_session (length lists) history))) up
+      ∙ (ap (λ (l : List Entry). behind (past_of past).calls (take (suc (length scripts)) (by_session (length lists) l))) h.goes_on
+      ∙ added_lines (length scripts) (length lists) past h.added enough few)
+
+  -- so these can be answered, and their answers are the replies
+  behind_answerable : IsGridOf flights grid → length scripts ≤ 8
+      → AreAllAnswerable flights (past_of past) scripts history (behind (past_of past).calls (take (length scripts + 1) (by_session (length lists) history)))
+  behind_answerable g few = subst (λ (rows : List (List Entry)). AreAllAnswerable flights (past_of past) scripts history rows) (sym (receipts_behind few)) (answerable (length scripts) g)
+
+  replied : (text : List ℕ) → length scripts ≤ 8
+      → IsText (at_any (AreAnswers flights (past_of past) scripts history)) 0 (behind (past_of past).calls (take (length scripts + 1) (by_session (length lists) history))) text
+      → IsReplied flights past scripts history text
+  replied text few said =
+      let rows = subst (λ (rows : List (List Entry)). IsText (at_any (AreAnswers flights (past_of past) scripts history)) 0 rows text) (receipts_behind few) said in
+      record {
+        added = h.added;
+        goes_on = h.goes_on;
+        are_replies = subst (λ (l : List Entry). IsText (at_any (AreAnswers flights (past_of past) scripts l)) 0 (by_session (length scripts) h.added) text) h.goes_on rows;
+      }
+
+-- ---- the same, said of what the host was asked and what it gave
+
+module _ (grid : Legs) (past : List Entry) (flights : List Flown) (changes : List Change) (scripts : List (List Request)) (history slice : List Entry) (before : Past)
+    (lists : List (List Command)) (receipts : List (List Entry)) (few : length scripts ≤ 8) (known : before ≡ past_of past) (asked : lists ≡ lists_over past (map (commands_of flights) scripts))
+    (same : slice ≡ history) (own : receipts ≡ by_session (length lists) history) where
+  abbrev opened_lists : List (List Command)
+  opened_lists = lists_over past (map (commands_of flights) scripts)
+
+  own_rows : receipts ≡ by_session (length opened_lists) history
+  own_rows = own ∙ ap (λ (l : List (List Command)). by_session (length l) history) asked
+
+  -- each script's session has its receipts
+  pub rows_enough : length scripts + 1 ≡ length (take (length scripts + 1) receipts)
+  rows_enough =
+      let rows : length receipts ≡ suc (length opened_lists) = ap length own_rows ∙ sessions_count (length opened_lists) history in
+      let enough : length scripts ≤ length opened_lists = omega (arith, over_count past (map (commands_of flights) scripts), length-map scripts (commands_of flights)) in
+      sym (length-take-le (length scripts + 1) receipts (omega (arith, rows, enough)))
+
+  pub lines_answerable : IsGridOf flights grid → IsHistoryOf grid past changes lists history → AreAllAnswerable flights before scripts slice (behind before.calls (take (length scripts + 1) receipts))
+  lines_answerable g h =
+      let on = subst (λ (l : List (List Command)). IsHistoryOf grid past changes l history) asked h in
+      subst (λ (b : Past). AreAllAnswerable flights b scripts slice (behind b.calls (take (length scripts + 1) receipts))) (sym known)
+      (subst (λ (l : List Entry). AreAllAnswerable flights (past_of past) scripts l (behind (past_of past).calls (take (length scripts + 1) receipts))) (sym same)
+      (subst (λ (rows : List (List Entry)). AreAllAnswerable flights (past_of past) scripts history (behind (past_of past).calls (take (length scripts + 1) rows))) (sym own_rows)
+      (behind_answerable grid past flights changes scripts history on g few)))
+
+  pub lines_replied : (text : List ℕ) → IsHistoryOf grid past changes lists history
+      → IsText (at_any (AreAnswers flights before scripts slice)) 0 (behind before.calls (take (length scripts + 1) receipts)) text → IsReplied flights past scripts history text
+  lines_replied text h said =
+      let on = subst (λ (l : List (List Command)). IsHistoryOf grid past changes l history) asked h in
+      replied grid past flights changes scripts history on text few
+      (subst (λ (rows : List (List Entry)). IsText (at_any (AreAnswers flights (past_of past) scripts history)) 0 (behind (past_of past).calls (take (length scripts + 1) rows)) text) own_rows
+      (subst (λ (l : List Entry). IsText (at_any (AreAnswers flights (past_of past) scripts l)) 0 (behind (past_of past).calls (take (length scripts + 1) receipts)) text) same
+      (subst (λ (b : Past). IsText (at_any (AreAnswers flights b scripts slice)) 0 (behind b.calls (take (length scripts + 1) receipts)) text) known said)))

@@ -1,9 +1,11 @@
 mod Advised
 mod Comparing
+mod Rows
+mod Going
 mod Parts
+mod Serving
 mod Histories
 mod Changing
-mod Serving
 mod Reading
 mod Gathering
 mod Written

@@ -1,65 +1,127 @@
 -- The replies, part by part.
-use Rattle.std.proofs.Common.{◌≡◌, ℕ, ◌+◌, ◌-◌, ◌<◌, ◌≤◌, List, [], ◌∷◌, ◌++◌, length, take, refl, sym, ap, ◌∙◌, subst, arith, append_assoc, get_or, Option, Some, codes}
-use Rattle.std.specs.Prelude.{slice_get}
-use Rattle.std.proofs.lemmas.Option.{slice_get_read}
+use Rattle.std.proofs.Common.{◌≡◌, ⊎_elim, ℕ, zero, suc, ◌+◌, ◌-◌, ◌<◌, ◌≤◌, nat_le, Bool, true, false, List, [], ◌∷◌, ◌++◌, length, take, drop, refl, sym, ap, ◌∙◌, subst, arith, append_assoc, get_or, Option, Some, None, codes}
+use Rattle.std.specs.Prelude.{slice_get, slice_index}
+use Rattle.std.specs.Option.{option_map}
+use Rattle.std.proofs.lemmas.Bool.Decides.{nat_tests}
+use Rattle.std.proofs.lemmas.Option.{slice_get_cases, slice_get_read}
 use Rattle.airimp_lines.specs.Grammar.{IsPlainLine, reply_of}
 use Rattle.airimp_lines.specs.declared.requests.Request.{Request}
 use Rattle.airimp_lines.specs.declared.segment.Segment.{Segment}
+use Rattle.ssim_flights.specs.declared.flight.Flight.{Flight as Flown}
 use Rattle.seat_journal.specs.declared.entry.Advice.{Advice}
 use Rattle.seat_journal.specs.declared.entry.Change.{Change}
 use Rattle.seat_journal.specs.declared.entry.Entry.{Entry}
-use Rattle.seat_journal.specs.declared.entry.Work.TheVariants.{Seats, Limit}
-use Rattle.seat_desk.specs.FlightsDesk.{IsPut}
-use Rattle.seat_run.specs.Answering.{AreAllAnswerable, AreAnswerable, AsksForSeats, HasRequest, IsAdvisable, IsAnswerable, IsAsked, IsBehind}
-use Rattle.seat_run.specs.RunDesk.{AreAnswers, IsAdviceLine, IsAnswer, IsLineReply, IsReply, IsSeatsReply, at_any, booked_by, change_reply, reply_head, request_of, requested, requested_by}
-use Rattle.seat_desk.proofs.Texts.{put_more}
+use Rattle.seat_journal.specs.declared.entry.Work.TheVariants.{Limit}
+use Rattle.seat_desk.specs.FlightsDesk.{IsPut, IsText}
+use Rattle.seat_run.specs.declared.past.Past.{Past}
+use Rattle.seat_run.specs.declared.replies.Answered.{Answered}
+use Rattle.seat_run.specs.Answering.{AreAllAnswerable, AreAnswerable, HasRequest, IsAnswerable, IsBehind, IsBooked}
+use Rattle.seat_run.specs.Going.{behind}
+use Rattle.seat_run.specs.RunDesk.{AreAnswers, IsAdviceLine, IsAnswer, IsLineReply, IsReply, IsSeatsReply, at_any, booked_by, change_reply, made_by, of_command, of_request, of_work, reply_head, request_of, requested}
+use Rattle.seat_desk.proofs.Texts.{put_more, text_whole}
 
 -- ---- what can be answered
 
-pub session_answerable : (scripts : List (List Request)) (history : List Entry) (lists : List (List Entry)) (i : ℕ) (lines : List Entry)
-    → AreAllAnswerable scripts history lists → i < length lists → lines ≡ get_or lists i lines → AreAnswerable scripts history lines
-session_answerable scripts history lists i lines all in_range here = subst (AreAnswerable scripts history) (sym here) (all.each i lines in_range)
+behind_count : (counts : List ℕ) (lists : List (List Entry)) → length lists ≤ length counts → length (behind counts lists) ≡ length lists
+behind_count [] [] le = refl
+behind_count (c ∷ counts) [] le = refl
+behind_count [] (l ∷ lists) le = absurd (omega (arith, le))
+behind_count (c ∷ counts) (l ∷ lists) le = ap suc (behind_count counts lists (omega (arith, le)))
 
-pub line_answerable : (scripts : List (List Request)) (history lines : List Entry) (i : ℕ) (e : Entry)
-    → AreAnswerable scripts history lines → i < length lines → e ≡ get_or lines i e → IsAnswerable scripts history e
-line_answerable scripts history lines i e all in_range here = subst (IsAnswerable scripts history) (sym here) (all.each i e in_range)
+behind_at : (counts : List ℕ) (lists : List (List Entry)) (i : ℕ) (lines d : List Entry) → length lists ≤ length counts → i < length lists
+    → lines ≡ get_or lists i lines → drop (slice_index counts i) lines ≡ get_or (behind counts lists) i d
+behind_at counts [] i lines d le lt there = absurd (omega (arith, lt))
+behind_at [] (l ∷ lists) i lines d le lt there = absurd (omega (arith, le))
+behind_at (k ∷ counts) (l ∷ lists) zero lines d le lt there = ap (λ (xs : List Entry). drop k xs) there
+behind_at (k ∷ counts) (l ∷ lists) (suc i) lines d le lt there = behind_at counts lists i lines d (omega (arith, le)) (omega (arith, lt)) there
 
-pub advice_advisable : (scripts : List (List Request)) (history : List Entry) (e : Entry) (i : ℕ) (a : Advice)
-    → IsAnswerable scripts history e → i < length e.advices → a ≡ get_or e.advices i a → IsAdvisable history a
-advice_advisable scripts history e i a line in_range here = subst (IsAdvisable history) (sym here) (line.advised i a in_range)
+-- the lines of the session at this place that stand behind the past
+pub session_answerable : (flights : List Flown) (past : Past) (scripts : List (List Request)) (history : List Entry) (counts : List ℕ) (lists : List (List Entry)) (i : ℕ) (lines added : List Entry)
+    → AreAllAnswerable flights past scripts history (behind counts lists) → length lists ≤ length counts → i < length lists
+    → lines ≡ get_or lists i lines → added ≡ drop (slice_index counts i) lines → AreAnswerable flights past scripts history added
+session_answerable flights past scripts history counts lists i lines added all le lt there is =
+    subst (AreAnswerable flights past scripts history) (sym (is ∙ behind_at counts lists i lines [] le lt there)) (all.each i [] (omega (arith, lt, behind_count counts lists le)))
+
+pub line_answerable : (flights : List Flown) (past : Past) (scripts : List (List Request)) (history lines : List Entry) (i : ℕ) (e : Entry)
+    → AreAnswerable flights past scripts history lines → i < length lines → e ≡ get_or lines i e → IsAnswerable flights past scripts history e
+line_answerable flights past scripts history lines i e all in_range here = subst (IsAnswerable flights past scripts history) (sym here) (all.each i e in_range)
+
+pub advice_booked : (flights : List Flown) (past : Past) (scripts : List (List Request)) (history : List Entry) (e : Entry) (i : ℕ) (a : Advice)
+    → IsAnswerable flights past scripts history e → i < length e.advices → a ≡ get_or e.advices i a → IsBooked flights past scripts history a.number
+advice_booked flights past scripts history e i a line in_range here =
+    subst (λ (x : Advice). IsBooked flights past scripts history x.number) (sym here) (line.advised i a in_range)
 
 -- ---- requests
 
 -- the request at its call's place
-pub asked : (scripts : List (List Request)) (e : Entry) (script : List Request) (request : Request) → HasRequest scripts e
-    → script ≡ get_or scripts (e.session - 1) script → request ≡ get_or script (e.call - 1) request
-    → request_of scripts e ≡ Some request
-asked scripts e script request has of_session of_call =
+pub asked : (past : Past) (scripts : List (List Request)) (e : Entry) (script : List Request) (request : Request) → HasRequest past scripts e
+    → script ≡ get_or scripts (e.session - 1) script → request ≡ get_or script (e.call - slice_index past.calls e.session - 1) request
+    → request_of past scripts e ≡ Some request
+asked past scripts e script request has of_session of_call =
     let in_scripts : e.session - 1 < length scripts = omega (arith, has.session.0, has.session.1) in
     let there : slice_get scripts (e.session - 1) ≡ Some script = slice_get_read scripts (length scripts) (e.session - 1) script refl in_scripts of_session in
     let same : script ≡ has.script = cc (there, has.at) in
-    let in_script : e.call - 1 < length script = omega (arith, has.call.0, has.call.1, ap (length {A = Request}) same) in
-    let here : slice_get script (e.call - 1) ≡ Some request = slice_get_read script (length script) (e.call - 1) request refl in_script of_call in
-    ap (λ (o : Option (List Request)). requested o e.call) there ∙ here
+    let place = e.call - slice_index past.calls e.session in
+    let in_script : place - 1 < length script = omega (arith, has.call.0, has.call.1, ap (length {A = Request}) same) in
+    let here : slice_get script (place - 1) ≡ Some request = slice_get_read script (length script) (place - 1) request refl in_script of_call in
+    ap (λ (o : Option (List Request)). requested o place) there ∙ here
 
--- the line of a booking has a request
-pub line_asked : (scripts : List (List Request)) (history : List Entry) (number i : ℕ) (line : Entry)
-    → AreAnswerable scripts history history → AsksForSeats history number → i ≡ number - 1 → line ≡ get_or history i line → HasRequest scripts line
-line_asked scripts history number i line all asks is here =
-    let in_range : number - 1 < length history = omega (arith, asks.within.0, asks.within.1) in
-    let at : slice_get history (number - 1) ≡ Some line = slice_get_read history (length history) (number - 1) line refl in_range (subst (λ (k : ℕ). line ≡ get_or history k line) is here) in
-    let same : asks.line ≡ line = cc (at, asks.at) in
-    let work : line.work ≡ Seats asks.command = ap (λ (e : Entry). e.work) (sym same) ∙ asks.work_is in
-    let within : i < length history = omega (arith, is, in_range) in
-    subst (IsAsked scripts line) work (line_answerable scripts history history i line all within here).asked
+-- ---- bookings
 
--- the request of the booking's line
-pub booked : (scripts : List (List Request)) (history : List Entry) (number i : ℕ) (line : Entry) (request : Request) → i ≡ number - 1 → AsksForSeats history number
-    → line ≡ get_or history i line → request_of scripts line ≡ Some request → booked_by scripts history number ≡ Some request
-booked scripts history number i line request is asks here requested =
-    let in_range : number - 1 < length history = omega (arith, asks.within.0, asks.within.1) in
-    let at : slice_get history (number - 1) ≡ Some line = slice_get_read history (length history) (number - 1) line refl in_range (subst (λ (k : ℕ). line ≡ get_or history k line) is here) in
-    ap (requested_by scripts) at ∙ requested
+module _ (flights : List Flown) (past : Past) (scripts : List (List Request)) (history : List Entry) (number : ℕ) (line : Entry)
+    (b : IsBooked flights past scripts history number) (here : line ≡ get_or history (number - 1) line) where
+  read : slice_get history (number - 1) ≡ Some line
+  read =
+      let in_range : number - 1 < length history = omega (arith, b.within.0, b.within.1) in
+      slice_get_read history (length history) (number - 1) line refl in_range here
+
+  -- the line of a booking that is not of the past has a request
+  pub booked_asked : past.lines < number → HasRequest past scripts line
+  booked_asked late = let same : b.line ≡ line = cc (read, b.at) in subst (HasRequest past scripts) same (b.asked late)
+
+  pub booked_before : (answered : Option Answered) → number ≤ past.lines → answered ≡ of_work flights line.work → answered ≡ booked_by flights past scripts history number
+  booked_before answered early said =
+      let test : nat_le number past.lines ≡ true = grind (arith, nat_tests) in
+      said ∙ sym (ap (made_by flights past scripts number) read ∙ rw test refl)
+
+  pub booked_now : (request : Request) (answered : Answered) → past.lines < number → request_of past scripts line ≡ Some request → answered ≡ of_request request
+      → Some answered ≡ booked_by flights past scripts history number
+  booked_now request answered late has said =
+      let test : nat_le number past.lines ≡ false = grind (arith, nat_tests) in
+      ap Some said ∙ sym (ap (made_by flights past scripts number) read ∙ rw test (ap (option_map of_request) has))
+
+-- each booking is there
+unmapped : (o : Option Request) → option_map of_request o ≡ None → o ≡ None
+unmapped None e = refl
+unmapped (Some r) e = absurd cc
+
+request_there : (past : Past) (scripts : List (List Request)) (e : Entry) → HasRequest past scripts e → request_of past scripts e ≡ None → ⊥
+request_there past scripts e has none =
+    let place = e.call - slice_index past.calls e.session in
+    let there : request_of past scripts e ≡ slice_get has.script (place - 1) = ap (λ (o : Option (List Request)). requested o place) has.at in
+    ⊎_elim
+    (λ (s : (x : Request) × (place - 1 < length has.script) × (slice_get has.script (place - 1) ≡ Some x) × (get_or has.script (place - 1) x ≡ x)). some_none s.0 (sym s.2 ∙ (sym there ∙ none)))
+    (λ (n : (length has.script ≤ place - 1) × (slice_get has.script (place - 1) ≡ None)). absurd (omega (arith, n.0, has.call.0, has.call.1)))
+    (slice_get_cases has.script (place - 1)).1 where
+      some_none : (x : Request) → Some x ≡ None → ⊥
+      some_none x e = cc e
+
+pub booked_there : (flights : List Flown) (past : Past) (scripts : List (List Request)) (history : List Entry) (number : ℕ)
+    → IsBooked flights past scripts history number → booked_by flights past scripts history number ≡ None → ⊥
+booked_there flights past scripts history number b none = by (nat_le number past.lines) refl where
+  made : made_by flights past scripts number (Some b.line) ≡ None
+  made = sym (ap (made_by flights past scripts number) b.at) ∙ none
+
+  by : (t : Bool) → nat_le number past.lines ≡ t → ⊥
+  by true e =
+      let said : of_work flights b.line.work ≡ None = subst (λ (o : Option Answered). o ≡ None) (rw e refl) made in
+      let segment : of_command flights b.command ≡ Some (record { locator = b.command.locator; segment = b.segment }) = ap (option_map (λ (s : Segment). record { locator = b.command.locator; segment = s })) b.flown in
+      let work : of_work flights b.line.work ≡ of_command flights b.command = ap (of_work flights) b.work_is in
+      cc (said, work, segment)
+  by false e =
+      let late : past.lines < number = grind (arith, nat_tests, e) in
+      let asked_none : option_map of_request (request_of past scripts b.line) ≡ None = subst (λ (o : Option Answered). o ≡ None) (rw e refl) made in
+      request_there past scripts b.line (b.asked late) (unmapped (request_of past scripts b.line) asked_none)
 
 -- ---- parts
 
@@ -69,51 +131,60 @@ line_behind s old new part line added = record { part = part; is_part = line; wr
 joined : (a b c d : List ℕ) → ((a ++ b) ++ c) ++ d ≡ a ++ ((b ++ c) ++ d)
 joined a b c d = simp append_assoc
 
-pub reply_put : (e : Entry) (request : Request) (code : List ℕ) (seats : ℕ) (old head mid new : List ℕ)
-    → head ≡ old ++ reply_head e request → IsBehind (IsPlainLine (reply_of request.segment code seats)) head mid → new ≡ mid ++ 10 ∷ []
-    → IsBehind (IsReply e request code seats) old new
-reply_put e request code seats old head mid new begun line ended = record {
-  part = reply_head e request ++ line.part ++ 10 ∷ [];
+pub reply_put : (e : Entry) (answered : Answered) (code : List ℕ) (seats : ℕ) (old head mid new : List ℕ)
+    → head ≡ old ++ reply_head e answered → IsBehind (IsPlainLine (reply_of answered.segment code seats)) head mid → new ≡ mid ++ 10 ∷ []
+    → IsBehind (IsReply e answered code seats) old new
+reply_put e answered code seats old head mid new begun line ended = record {
+  part = reply_head e answered ++ line.part ++ 10 ∷ [];
   is_part = record { text = line.part; is_text = line.is_part; written = refl };
-  written = ended ∙ (ap (λ (l : List ℕ). l ++ 10 ∷ []) (line.written ∙ ap (λ (l : List ℕ). l ++ line.part) begun) ∙ joined old (reply_head e request) line.part (10 ∷ []));
+  written = ended ∙ (ap (λ (l : List ℕ). l ++ 10 ∷ []) (line.written ∙ ap (λ (l : List ℕ). l ++ line.part) begun) ∙ joined old (reply_head e answered) line.part (10 ∷ []));
 }
 
-pub advices_more : (scripts : List (List Request)) (history : List Entry) (e : Entry) (i : ℕ) (xs : List Advice) (a : Advice) (old mid new : List ℕ)
-    → IsPut (at_any (IsAdviceLine scripts history e)) 0 (take i xs) old mid → i < length xs → a ≡ get_or xs i a
-    → IsBehind (IsAdviceLine scripts history e a) mid new → IsPut (at_any (IsAdviceLine scripts history e)) 0 (take (i + 1) xs) old new
-advices_more scripts history e i xs a old mid new put in_range here behind =
-    put_more (at_any (IsAdviceLine scripts history e)) 0 i xs a old mid new behind.part put in_range here behind.is_part behind.written
+pub advices_more : (flights : List Flown) (past : Past) (scripts : List (List Request)) (history : List Entry) (e : Entry) (i : ℕ) (xs : List Advice) (a : Advice) (old mid new : List ℕ)
+    → IsPut (at_any (IsAdviceLine flights past scripts history e)) 0 (take i xs) old mid → i < length xs → a ≡ get_or xs i a
+    → IsBehind (IsAdviceLine flights past scripts history e a) mid new → IsPut (at_any (IsAdviceLine flights past scripts history e)) 0 (take (i + 1) xs) old new
+advices_more flights past scripts history e i xs a old mid new put in_range here behind =
+    put_more (at_any (IsAdviceLine flights past scripts history e)) 0 i xs a old mid new behind.part put in_range here behind.is_part behind.written
 
-pub answers_more : (scripts : List (List Request)) (history : List Entry) (i : ℕ) (xs : List Entry) (e : Entry) (old mid new : List ℕ)
-    → IsPut (at_any (IsAnswer scripts history)) 0 (take i xs) old mid → i < length xs → e ≡ get_or xs i e
-    → IsBehind (IsAnswer scripts history e) mid new → IsPut (at_any (IsAnswer scripts history)) 0 (take (i + 1) xs) old new
-answers_more scripts history i xs e old mid new put in_range here behind =
-    put_more (at_any (IsAnswer scripts history)) 0 i xs e old mid new behind.part put in_range here behind.is_part behind.written
+pub answers_more : (flights : List Flown) (past : Past) (scripts : List (List Request)) (history : List Entry) (i : ℕ) (xs : List Entry) (e : Entry) (old mid new : List ℕ)
+    → IsPut (at_any (IsAnswer flights past scripts history)) 0 (take i xs) old mid → i < length xs → e ≡ get_or xs i e
+    → IsBehind (IsAnswer flights past scripts history e) mid new → IsPut (at_any (IsAnswer flights past scripts history)) 0 (take (i + 1) xs) old new
+answers_more flights past scripts history i xs e old mid new put in_range here behind =
+    put_more (at_any (IsAnswer flights past scripts history)) 0 i xs e old mid new behind.part put in_range here behind.is_part behind.written
 
-pub sessions_more : (scripts : List (List Request)) (history : List Entry) (i : ℕ) (xs : List (List Entry)) (lines : List Entry) (old mid new : List ℕ)
-    → IsPut (at_any (AreAnswers scripts history)) 0 (take i xs) old mid → i < length xs → lines ≡ get_or xs i lines
-    → IsPut (at_any (IsAnswer scripts history)) 0 lines mid new → IsPut (at_any (AreAnswers scripts history)) 0 (take (i + 1) xs) old new
-sessions_more scripts history i xs lines old mid new put in_range here behind =
-    put_more (at_any (AreAnswers scripts history)) 0 i xs lines old mid new behind.part put in_range here behind.is_text behind.written
+pub sessions_more : (flights : List Flown) (past : Past) (scripts : List (List Request)) (history : List Entry) (counts : List ℕ) (lists : List (List Entry)) (i : ℕ) (lines added : List Entry) (old mid new : List ℕ)
+    → IsPut (at_any (AreAnswers flights past scripts history)) 0 (take i (behind counts lists)) old mid → length lists ≤ length counts → i < length lists
+    → lines ≡ get_or lists i lines → added ≡ drop (slice_index counts i) lines
+    → IsPut (at_any (IsAnswer flights past scripts history)) 0 added mid new → IsPut (at_any (AreAnswers flights past scripts history)) 0 (take (i + 1) (behind counts lists)) old new
+sessions_more flights past scripts history counts lists i lines added old mid new put le in_range there is part =
+    put_more (at_any (AreAnswers flights past scripts history)) 0 i (behind counts lists) added old mid new part.part put
+    (omega (arith, in_range, behind_count counts lists le)) (is ∙ behind_at counts lists i lines added le in_range there) part.is_text part.written
+
+-- the text is whole where all sessions are answered
+pub sessions_whole : (flights : List Flown) (past : Past) (scripts : List (List Request)) (history : List Entry) (counts : List ℕ) (i : ℕ) (lists : List (List Entry)) (new : List ℕ)
+    → IsPut (at_any (AreAnswers flights past scripts history)) 0 (take i (behind counts lists)) [] new → length lists ≤ length counts → length lists ≤ i
+    → IsText (at_any (AreAnswers flights past scripts history)) 0 (behind counts lists) new
+sessions_whole flights past scripts history counts i lists new put le over =
+    text_whole (at_any (AreAnswers flights past scripts history)) 0 i (length lists) (behind counts lists) new put (sym (behind_count counts lists le)) over
 
 -- the reply to a request, and to a change
-pub seats_put : (scripts : List (List Request)) (e : Entry) (request : Request) (old new : List ℕ)
-    → request_of scripts e ≡ Some request → IsBehind (IsReply e request e.reply request.segment.seats) old new → IsBehind (IsSeatsReply scripts e) old new
-seats_put scripts e request old new requested reply = record {
+pub seats_put : (past : Past) (scripts : List (List Request)) (e : Entry) (request : Request) (old new : List ℕ)
+    → request_of past scripts e ≡ Some request → IsBehind (IsReply e (of_request request) e.reply request.segment.seats) old new → IsBehind (IsSeatsReply past scripts e) old new
+seats_put past scripts e request old new requested reply = record {
   part = reply.part;
   is_part = record { request = request; requested = requested; is_reply = reply.is_part };
   written = reply.written;
 }
 
-pub change_put : (scripts : List (List Request)) (e : Entry) (change : Change) (old new : List ℕ)
-    → new ≡ old ++ change_reply e change → IsBehind (IsLineReply scripts e (Limit change)) old new
-change_put scripts e change old new written = record { part = change_reply e change; is_part = refl; written = written }
+pub change_put : (past : Past) (scripts : List (List Request)) (e : Entry) (change : Change) (old new : List ℕ)
+    → new ≡ old ++ change_reply e change → IsBehind (IsLineReply past scripts e (Limit change)) old new
+change_put past scripts e change old new written = record { part = change_reply e change; is_part = refl; written = written }
 
 -- a reply and its advices
-pub answer_put : (scripts : List (List Request)) (history : List Entry) (e : Entry) (old mid new : List ℕ)
-    → IsBehind (IsLineReply scripts e e.work) old mid
-    → IsPut (at_any (IsAdviceLine scripts history e)) 0 e.advices mid new → IsBehind (IsAnswer scripts history e) old new
-answer_put scripts history e old mid new reply put = record {
+pub answer_put : (flights : List Flown) (past : Past) (scripts : List (List Request)) (history : List Entry) (e : Entry) (old mid new : List ℕ)
+    → IsBehind (IsLineReply past scripts e e.work) old mid
+    → IsPut (at_any (IsAdviceLine flights past scripts history e)) 0 e.advices mid new → IsBehind (IsAnswer flights past scripts history e) old new
+answer_put flights past scripts history e old mid new reply put = record {
   part = reply.part ++ put.part;
   is_part = record {
     line = reply.part;
@@ -125,11 +196,11 @@ answer_put scripts history e old mid new reply put = record {
   written = put.written ∙ ap (λ (l : List ℕ). l ++ put.part) reply.written ∙ append_assoc old reply.part put.part;
 }
 
-pub advice_put : (scripts : List (List Request)) (history : List Entry) (e : Entry) (a : Advice) (request : Request) (old new : List ℕ)
-    → booked_by scripts history a.number ≡ Some request → IsBehind (IsReply e request (codes "KL") a.seats) old new
-    → IsBehind (IsAdviceLine scripts history e a) old new
-advice_put scripts history e a request old new booked reply = record {
+pub advice_put : (flights : List Flown) (past : Past) (scripts : List (List Request)) (history : List Entry) (e : Entry) (a : Advice) (answered : Answered) (old new : List ℕ)
+    → booked_by flights past scripts history a.number ≡ Some answered → IsBehind (IsReply e answered (codes "KL") a.seats) old new
+    → IsBehind (IsAdviceLine flights past scripts history e a) old new
+advice_put flights past scripts history e a answered old new booked reply = record {
   part = reply.part;
-  is_part = record { request = request; booked = booked; is_reply = reply.is_part };
+  is_part = record { answered = answered; booked = booked; is_reply = reply.is_part };
   written = reply.written;
 }

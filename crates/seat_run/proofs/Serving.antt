@@ -1,5 +1,5 @@
 -- A place that is found is on the grid.
-use Rattle.std.proofs.Common.{◌≡◌, ℕ, suc, ◌+◌, ◌<◌, ◌≤◌, List, [], ◌∷◌, ◌++◌, length, map, refl, sym, ap, ◌∙◌, subst, arith, Option, Some, IfSome, Bool, true, false}
+use Rattle.std.proofs.Common.{◌≡◌, ℕ, zero, suc, ◌+◌, ◌<◌, ◌≤◌, List, [], ◌∷◌, ◌++◌, length, map, refl, sym, ap, ◌∙◌, subst, arith, Option, Some, IfSome, Bool, true, false}
 use Rattle.std.proofs.lemmas.List.{length-map}
 use Rattle.std.specs.Prelude.{slice_get, unwrap_or, All}
 use Rattle.std.specs.List.{AllByRecursion}
@@ -18,12 +18,15 @@ use Rattle.airimp_lines.specs.Grammar.{IsRightSegment}
 use Rattle.airimp_lines.specs.declared.requests.Request.{Request}
 use Rattle.seat_journal.specs.declared.entry.Change.{Change}
 use Rattle.seat_journal.specs.declared.entry.Command.{Command}
+use Rattle.seat_journal.specs.declared.entry.Entry.{Entry}
 use Rattle.seat_core.specs.Journal.{FitsChange, FitsCommand}
 use Rattle.seat_nesting.specs.Nesting.{Steps}
 use Rattle.seat_desk.specs.Loading.{IsGridOf}
 use Rattle.seat_run.specs.Changes.{IsOnLeg}
+use Rattle.seat_run.specs.Going.{idle, lists_over}
 use Rattle.seat_run.specs.Requests.{AreRight, command_of, commands_of, wanted_of}
-use Rattle.seat_run.proofs.Histories.{all_of}
+use Rattle.seat_run.proofs.Going.{over_few}
+use Rattle.seat_run.proofs.Rows.{all_append, all_of}
 
 -- P holds of the place of each
 abbrev Each : (Place → Type 0) → List (Wanted × Place) → Type 0
@@ -64,7 +67,7 @@ all_fit P n (flight ∷ flights) h =
     (from_fit P flight n 0 flight.legs (λ f t low high. subst (λ (k : ℕ). P (place k f t)) here (h 0 flight f t refl low (omega (arith, high)))))
     (all_fit P (n + 1) flights (λ i x f t at low high. let e : n + suc i ≡ n + 1 + i = omega arith in subst (λ (k : ℕ). P (place k f t)) e (h (suc i) x f t at low high)))
 
-legs_are : (rows : List LimitRow) (flights : List Flown) (i : ℕ) (flight : Flown) → slice_get flights i ≡ Some flight
+pub legs_are : (rows : List LimitRow) (flights : List Flown) (i : ℕ) (flight : Flown) → slice_get flights i ≡ Some flight
     → length (legs_of (authorised_grid rows flights) i) ≡ length flight.legs
 legs_are rows flights i flight at =
     let here : slice_get (authorised_grid rows flights) i ≡ Some (authorised_legs rows flight) =
@@ -100,12 +103,25 @@ lists_fit flights grid [] g right = tt
 lists_fit flights grid (requests ∷ scripts) g right =
     (all_of (FitsCommand grid) (commands_of flights requests) (commands_fit flights grid requests g right.0.each), lists_fit flights grid scripts g right.1)
 
--- what right scripts ask fits the grid
-pub all_fit_grid : (flights : List Flown) (grid : Legs) (scripts : List (List Request)) (lists : List (List Command)) → IsGridOf flights grid → AllByRecursion AreRight scripts
-    → lists ≡ map (commands_of flights) scripts → All (λ (list : List Command). All (λ (c : Command). FitsCommand grid c) list) lists
-all_fit_grid flights grid scripts lists g right is =
-    subst (λ (l : List (List Command)). All (λ (list : List Command). All (λ (c : Command). FitsCommand grid c) list) l) (sym is)
-    (all_of (λ (list : List Command). All (λ (c : Command). FitsCommand grid c) list) (map (commands_of flights) scripts) (lists_fit flights grid scripts g right))
+idle_fit : (grid : Legs) (n : ℕ) → AllByRecursion (λ (list : List Command). All (λ (c : Command). FitsCommand grid c) list) (idle n)
+idle_fit grid zero = tt
+idle_fit grid (suc n) = (λ k d lt. absurd (omega (arith, lt)), idle_fit grid n)
+
+-- what right scripts ask fits the grid, and so does nothing
+pub all_fit_grid : (flights : List Flown) (grid : Legs) (past : List Entry) (scripts : List (List Request)) (lists : List (List Command)) → IsGridOf flights grid → AllByRecursion AreRight scripts
+    → lists ≡ lists_over past (map (commands_of flights) scripts) → All (λ (list : List Command). All (λ (c : Command). FitsCommand grid c) list) lists
+all_fit_grid flights grid past scripts lists g right is =
+    let fit : List Command → Type 0 = λ list. All (λ (c : Command). FitsCommand grid c) list in
+    let both = all_append fit (map (commands_of flights) scripts) _ (lists_fit flights grid scripts g right) (idle_fit grid _) in
+    subst (λ (l : List (List Command)). All fit l) (sym is) (all_of fit (lists_over past (map (commands_of flights) scripts)) both)
+
+-- and the host is opened for one to eight of them
+pub opened_few : (flights : List Flown) (past : List Entry) (scripts : List (List Request)) (lists : List (List Command)) → (1 ≤ length scripts) × (length scripts ≤ 8)
+    → lists ≡ lists_over past (map (commands_of flights) scripts) → (1 ≤ length lists) × (length lists ≤ 8)
+opened_few flights past scripts lists count is =
+    let mapped : length (map (commands_of flights) scripts) ≡ length scripts = length-map scripts (commands_of flights) in
+    let few = over_few past (map (commands_of flights) scripts) (omega (arith, count.0, mapped)) (omega (arith, count.1, mapped)) in
+    subst (λ (l : List (List Command)). (1 ≤ length l) × (length l ≤ 8)) (sym is) few
 
 -- ---- changes
 

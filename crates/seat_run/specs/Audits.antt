@@ -1,5 +1,5 @@
 -- What `run` writes, `audit` accepts.
-use Rattle.std.specs.Prelude.{◌≡◌, ℕ, List, length, Option}
+use Rattle.std.specs.Prelude.{◌≡◌, ℕ, List, length, map, Option}
 use Rattle.seat_journal.specs.Text.{IsJournalText}
 use Rattle.seat_journal.specs.declared.entry.Entry.{Entry}
 use Rattle.seat_core.specs.Totals.{totals_of}
@@ -8,6 +8,8 @@ use Rattle.seat_host.specs.Agreement.{totals_in}
 use Rattle.seat_host.specs.Histories.{by_session}
 use Rattle.seat_desk.specs.AuditDesk.{IsAudit, IsRefusedAudit, IsTooLarge, audit_line}
 use Rattle.seat_desk.specs.declared.fault.DeskFault.{DeskFault}
+use Rattle.seat_run.specs.Going.{lists_over}
+use Rattle.seat_run.specs.Requests.{commands_of}
 use Rattle.seat_run.specs.RunDesk.{IsRun}
 
 -- the journal is audited with these totals and no others, has no fault, and is not too large
@@ -28,7 +30,9 @@ pub record IsAccountedFor (set limits : List ℕ) (first days sessions : ℕ) (j
   pub sums : totals ≡ totals_in receipts
   pub is_accepted : IsAccepted set limits first days journal totals
 
--- so it is with every journal that a run of these scripts and changes writes
+-- so it is with every journal that a run of these scripts and changes behind an older journal writes, with as many sessions as
+-- scripts, or more where the older journal has more
 abbrev pub RunsAreAudited : Type 0
-RunsAreAudited = (set limits : List ℕ) (first days today : ℕ) (texts : List (Option (List ℕ))) (changing : Option (List ℕ)) (journal replies : List ℕ) →
-    IsRun set limits first days today texts changing journal replies → IsAccountedFor set limits first days (length texts) journal
+RunsAreAudited = (set limits : List ℕ) (first days today : ℕ) (after : List ℕ) (texts : List (Option (List ℕ))) (changing : Option (List ℕ)) (journal replies : List ℕ) →
+    (run : IsRun set limits first days today after texts changing journal replies) →
+    IsAccountedFor set limits first days (length (lists_over run.past (map (commands_of run.flights) run.scripts))) journal

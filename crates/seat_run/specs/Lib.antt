@@ -2,5 +2,6 @@ pub mod Against
 pub mod Answering
 pub mod Audits
 pub mod Changes
+pub mod Going
 pub mod Requests
 pub mod RunDesk

@@ -1,5 +1,5 @@
--- What `run` writes: the journal of what the scripts ask, and the replies to each script.
-use Rattle.std.specs.Prelude.{◌≡◌, ◌≤◌, ◌<◌, ◌+◌, ◌-◌, ◌⊎◌, ℕ, List, [], ◌∷◌, ◌++◌, length, map, take, decimal, codes, Option, Some, None, IfSome, slice_get}
+-- What `run` writes: an older journal and behind it what the scripts ask, and the replies to each script.
+use Rattle.std.specs.Prelude.{◌≡◌, ◌≤◌, ◌<◌, ◌+◌, ◌-◌, ◌⊎◌, nat_le, ℕ, List, [], ◌∷◌, ◌++◌, length, map, take, decimal, codes, Option, Some, None, IfSome, if◌then◌else◌, slice_get, slice_index}
 use Rattle.std.specs.Io.KnownBytes.{Appends}
 use Rattle.std.specs.List.{AllByRecursion, AllZip}
 use Rattle.std.specs.Option.{option_map}
@@ -8,6 +8,7 @@ use Rattle.ssim_records.specs.Noting.{TookFront}
 use Rattle.seat_nesting.specs.Nesting.{Legs}
 use Rattle.airimp_lines.specs.Grammar.{IsPlainLine, reply_of}
 use Rattle.airimp_lines.specs.declared.requests.Request.{Request}
+use Rattle.airimp_lines.specs.declared.segment.Segment.{Segment}
 use Rattle.seat_journal.specs.Text.{IsEntry, journal_text}
 use Rattle.seat_journal.specs.declared.entry.Advice.{Advice}
 use Rattle.seat_journal.specs.declared.entry.Change.{Change}
@@ -15,20 +16,24 @@ use Rattle.seat_journal.specs.declared.entry.Command.{Command}
 use Rattle.seat_journal.specs.declared.entry.Entry.{Entry}
 use Rattle.seat_journal.specs.declared.entry.Work.{Work}
 use Rattle.seat_journal.specs.declared.entry.Work.TheVariants.{Seats, Limit}
+use Rattle.seat_core.specs.Journal.{calls_of}
 use Rattle.seat_core.specs.Prefixes.{Begins}
 use Rattle.seat_core.specs.Totals.{totals_of}
 use Rattle.seat_host.specs.Headline.{Headline}
 use Rattle.seat_host.specs.Histories.{by_session}
 use Rattle.seat_host.specs.Working.{works_of}
-use Rattle.seat_desk.specs.AuditDesk.{most_lines}
+use Rattle.seat_desk.specs.AuditDesk.{IsRefusedOver, IsTooLarge, most_lines}
 use Rattle.seat_desk.specs.Desk.{HasFailed}
 use Rattle.seat_desk.specs.FlightsDesk.{IsText}
-use Rattle.seat_desk.specs.Loading.{Bytes, IsLoaded, IsRefusedLoad, IsTooLargeLoad}
+use Rattle.seat_desk.specs.Loading.{Bytes, IsLoaded, IsRefusedLoad}
 use Rattle.seat_desk.specs.declared.inputs.Inputs.{Inputs}
 use Rattle.seat_run.specs.Changes.{AreChanges, IsUnchanged, most_change_bytes}
+use Rattle.seat_run.specs.Going.{IsPast, lists_over, past_of, segment_of}
 use Rattle.seat_run.specs.Requests.{AreScripts, IsRefusedAmong, IsTooLargeAmong, commands_of}
+use Rattle.seat_run.specs.declared.past.Past.{Past}
+use Rattle.seat_run.specs.declared.replies.Answered.{Answered}
 use Rattle.seat_desk.specs.declared.fault.DeskFault.{DeskFault}
-use Rattle.seat_desk.specs.declared.fault.DeskFault.TheVariants.{Change as BadChange, NoLeg, Script, Book, Memory}
+use Rattle.seat_desk.specs.declared.fault.DeskFault.TheVariants.{Change as BadChange, NoLeg, Script, Book, Journal, Memory, Replay}
 use Rattle.seat_host.specs.declared.under_lock.BookFault.TheVariants.{JournalFull as Full, Memory as NoRoom}
 use Rattle.seat_host.specs.declared.workers.RunFault.{RunFault}
 use Rattle.seat_host.specs.declared.workers.RunFault.TheVariants as run_faults
@@ -37,10 +42,12 @@ use Rattle.seat_host.specs.declared.workers.RunFault.TheVariants as run_faults
 abbrev pub works_in : List Entry → List Work
 works_in lines = map (λ (e : Entry). e.work) lines
 
--- a history of changes and of lists of commands: the headline holds of it, with its lines by session as receipts, and the lines of session 0 are the changes, in order, those of session 1 the first list, and so on
-pub record IsHistoryOf (grid : Legs) (changes : List Change) (lists : List (List Command)) (history : List Entry) : Type 0 where
+-- a history that goes on from the past: the headline holds of it, with its lines by session as receipts, it begins with the past, and behind that the lines of session 0 are the changes, in order, those of session 1 the first list, and so on
+pub record IsHistoryOf (grid : Legs) (past : List Entry) (changes : List Change) (lists : List (List Command)) (history : List Entry) : Type 0 where
   pub headline : Headline grid most_lines (length lists) history (by_session (length lists) history) (totals_of history)
-  pub asked : map works_in (by_session (length lists) history) ≡ works_of changes lists
+  pub added : List Entry
+  pub goes_on : history ≡ past ++ added
+  pub asked : map works_in (by_session (length lists) added) ≡ works_of changes lists
 
 -- ---- the replies
 
@@ -53,14 +60,14 @@ abbrev pub line_head : Entry → List ℕ
 line_head e = decimal e.session ++ codes " " ++ decimal e.number ++ codes " "
 
 -- and LOCATOR
-abbrev pub reply_head : Entry → Request → List ℕ
-reply_head e request = line_head e ++ request.locator ++ codes " "
+abbrev pub reply_head : Entry → Answered → List ℕ
+reply_head e answered = line_head e ++ answered.locator ++ codes " "
 
 -- and the segment with this code and these seats
-pub record IsReply (e : Entry) (request : Request) (code : List ℕ) (seats : ℕ) (line : List ℕ) : Type 0 where
+pub record IsReply (e : Entry) (answered : Answered) (code : List ℕ) (seats : ℕ) (line : List ℕ) : Type 0 where
   pub text : List ℕ
-  pub is_text : IsPlainLine (reply_of request.segment code seats) text
-  pub written : line ≡ reply_head e request ++ text ++ 10 ∷ []
+  pub is_text : IsPlainLine (reply_of answered.segment code seats) text
+  pub written : line ≡ reply_head e answered ++ text ++ 10 ∷ []
 
 -- FLIGHT.LEG
 abbrev pub leg_text : Change → List ℕ
@@ -78,76 +85,97 @@ change_head e c = line_head e ++ leg_text c ++ codes " " ++ limit_text c
 abbrev pub change_reply : Entry → Change → List ℕ
 change_reply e c = change_head e c ++ codes " " ++ e.reply ++ 10 ∷ []
 
--- the request that a line answers: its call's, in its session's script
+-- the request that a line answers: its call's, counted from the end of the past, in its session's script
 abbrev pub requested : Option (List Request) → ℕ → Option Request
 requested None call = None
 requested (Some script) call = slice_get script (call - 1)
 
-abbrev pub request_of : List (List Request) → Entry → Option Request
-request_of scripts e = requested (slice_get scripts (e.session - 1)) e.call
+abbrev pub request_of : Past → List (List Request) → Entry → Option Request
+request_of past scripts e = requested (slice_get scripts (e.session - 1)) (e.call - slice_index past.calls e.session)
 
--- the request that made the booking of this number
-abbrev pub requested_by : List (List Request) → Option Entry → Option Request
-requested_by scripts None = None
-requested_by scripts (Some e) = request_of scripts e
+-- the locator and the segment of a request
+abbrev pub of_request : Request → Answered
+of_request r = record { locator = r.locator; segment = r.segment }
 
-abbrev pub booked_by : List (List Request) → List Entry → ℕ → Option Request
-booked_by scripts history number = requested_by scripts (slice_get history (number - 1))
+-- the locator of a command, and the segment on the flight of its place
+abbrev pub of_command : List Flown → Command → Option Answered
+of_command flights c = option_map (λ (s : Segment). record { locator = c.locator; segment = s }) (segment_of flights c)
+
+abbrev pub of_work : List Flown → Work → Option Answered
+of_work flights (Seats c) = of_command flights c
+of_work flights (Limit c) = None
+
+-- the locator and the segment of the booking of this number: those of its line where that is of the past, or else those of the request that made it
+abbrev pub made_by : List Flown → Past → List (List Request) → ℕ → Option Entry → Option Answered
+made_by flights past scripts number None = None
+made_by flights past scripts number (Some e) = (if nat_le number past.lines then of_work flights e.work else option_map of_request (request_of past scripts e))
+
+abbrev pub booked_by : List Flown → Past → List (List Request) → List Entry → ℕ → Option Answered
+booked_by flights past scripts history number = made_by flights past scripts number (slice_get history (number - 1))
 
 -- KL and its seats, with the locator and the segment of the booking
-pub record IsAdviceLine (scripts : List (List Request)) (history : List Entry) (e : Entry) (a : Advice) (line : List ℕ) : Type 0 where
-  pub request : Request
-  pub booked : booked_by scripts history a.number ≡ Some request
-  pub is_reply : IsReply e request (codes "KL") a.seats line
+pub record IsAdviceLine (flights : List Flown) (past : Past) (scripts : List (List Request)) (history : List Entry) (e : Entry) (a : Advice) (line : List ℕ) : Type 0 where
+  pub answered : Answered
+  pub booked : booked_by flights past scripts history a.number ≡ Some answered
+  pub is_reply : IsReply e answered (codes "KL") a.seats line
 
 -- the reply to a line's request, with the seats asked
-pub record IsSeatsReply (scripts : List (List Request)) (e : Entry) (line : List ℕ) : Type 0 where
+pub record IsSeatsReply (past : Past) (scripts : List (List Request)) (e : Entry) (line : List ℕ) : Type 0 where
   pub request : Request
-  pub requested : request_of scripts e ≡ Some request
-  pub is_reply : IsReply e request e.reply request.segment.seats line
+  pub requested : request_of past scripts e ≡ Some request
+  pub is_reply : IsReply e (of_request request) e.reply request.segment.seats line
 
 -- the reply to what a line asks for
-abbrev pub IsLineReply : List (List Request) → Entry → Work → List ℕ → Type 0
-IsLineReply scripts e (Seats command) line = IsSeatsReply scripts e line
-IsLineReply scripts e (Limit change) line = line ≡ change_reply e change
+abbrev pub IsLineReply : Past → List (List Request) → Entry → Work → List ℕ → Type 0
+IsLineReply past scripts e (Seats command) line = IsSeatsReply past scripts e line
+IsLineReply past scripts e (Limit change) line = line ≡ change_reply e change
 
 -- and then its advices
-pub record IsAnswer (scripts : List (List Request)) (history : List Entry) (e : Entry) (text : List ℕ) : Type 0 where
+pub record IsAnswer (flights : List Flown) (past : Past) (scripts : List (List Request)) (history : List Entry) (e : Entry) (text : List ℕ) : Type 0 where
   pub line : List ℕ
   pub advices : List ℕ
-  pub is_reply : IsLineReply scripts e e.work line
-  pub are_advices : IsText (at_any (IsAdviceLine scripts history e)) 0 e.advices advices
+  pub is_reply : IsLineReply past scripts e e.work line
+  pub are_advices : IsText (at_any (IsAdviceLine flights past scripts history e)) 0 e.advices advices
   pub written : text ≡ line ++ advices
 
 -- the answers to the lines of one session, in order
-abbrev pub AreAnswers : List (List Request) → List Entry → List Entry → List ℕ → Type 0
-AreAnswers scripts history lines text = IsText (at_any (IsAnswer scripts history)) 0 lines text
+abbrev pub AreAnswers : List Flown → Past → List (List Request) → List Entry → List Entry → List ℕ → Type 0
+AreAnswers flights past scripts history lines text = IsText (at_any (IsAnswer flights past scripts history)) 0 lines text
 
--- those of session 0, the manager, then those of session 1, and so on
-abbrev pub AreReplies : List (List Request) → List Entry → List ℕ → Type 0
-AreReplies scripts history text = IsText (at_any (AreAnswers scripts history)) 0 (by_session (length scripts) history) text
+-- those to the lines that were added behind the past: of session 0, the manager, then of session 1, and so on
+abbrev pub AreReplies : List Flown → List Entry → List (List Request) → List Entry → List ℕ → Type 0
+AreReplies flights past scripts added text =
+    IsText (at_any (AreAnswers flights (past_of past) scripts (past ++ added))) 0 (by_session (length scripts) added) text
+
+-- the same of the lines that stand behind the past in the history
+pub record IsReplied (flights : List Flown) (past : List Entry) (scripts : List (List Request)) (history : List Entry) (text : List ℕ) : Type 0 where
+  pub added : List Entry
+  pub goes_on : history ≡ past ++ added
+  pub are_replies : AreReplies flights past scripts added text
 
 -- ---- the whole
 
--- the texts of one history of what the scripts and the changes ask, over the grid of the set and the limits
-pub record IsRun (set limits : List ℕ) (first days today : ℕ) (texts : List (Option (List ℕ))) (changing : Option (List ℕ)) (journal replies : List ℕ) : Type 0 where
+-- the texts of one history that goes on from the older journal with what the scripts and the changes ask, over the grid of the set and the limits
+pub record IsRun (set limits : List ℕ) (first days today : ℕ) (after : List ℕ) (texts : List (Option (List ℕ))) (changing : Option (List ℕ)) (journal replies : List ℕ) : Type 0 where
   pub flights : List Flown
   pub grid : Legs
+  pub past : List Entry
   pub scripts : List (List Request)
   pub changes : List Change
   pub history : List Entry
   pub is_loaded : IsLoaded set limits first days flights grid
+  pub is_past : IsPast grid past after
   pub are_scripts : AreScripts today texts scripts
   pub are_changes : IfSome changing (AreChanges flights changes)
-  pub is_history : IsHistoryOf grid changes (map (commands_of flights) scripts) history
+  pub is_history : IsHistoryOf grid past changes (lists_over past (map (commands_of flights) scripts)) history
   pub are_entries : AllByRecursion IsEntry history
   pub journal_is : journal ≡ journal_text history
-  pub are_replies : AreReplies scripts history replies
+  pub is_replied : IsReplied flights past scripts history replies
 
--- where the bytes of the set and of the limits are known
-abbrev pub IsRunOf : {S L : Type 0} → Bytes S → Bytes L → Inputs S L → ℕ → List (Option (List ℕ)) → Option (List ℕ) → List ℕ → List ℕ → Type 0
-IsRunOf set limits inputs today texts changing journal replies =
-    IfSome (set inputs.set) (λ xs. IfSome (limits inputs.limits) (λ ys. IsRun xs ys inputs.first inputs.days today texts changing journal replies))
+-- where the bytes of the set, of the limits and of the older journal are known
+abbrev pub IsRunOf : {S L : Type 0} → Bytes S → Bytes L → Inputs S L → ℕ → Option (List ℕ) → List (Option (List ℕ)) → Option (List ℕ) → List ℕ → List ℕ → Type 0
+IsRunOf set limits inputs today after texts changing journal replies =
+    IfSome (set inputs.set) (λ xs. IfSome (limits inputs.limits) (λ ys. IfSome after (λ zs. IsRun xs ys inputs.first inputs.days today zs texts changing journal replies)))
 
 -- both texts are written, whole
 pub record AreWritten (answers : List ℕ → List ℕ → Type 0) (journal_old journal_new out_old out_new : Option (List ℕ)) : Type 0 where
@@ -198,84 +226,95 @@ asked_in [] = 0
 asked_in (list ∷ lists) = length list + asked_in lists
 
 -- what was booked of lists, by session, where a call was refused: the lists of the sessions before its own whole, its own as far as
--- that call, and of each list a beginning
-pub record IsBookedTo (session call : ℕ) (lists booked : List (List Work)) : Type 0 where
+-- the place of that call, from 1, and of each list a beginning
+pub record IsBookedTo (session place : ℕ) (lists booked : List (List Work)) : Type 0 where
   pub before : take session booked ≡ take session lists
-  pub own : slice_get booked session ≡ option_map (take (call - 1)) (slice_get lists session)
+  pub own : slice_get booked session ≡ option_map (take (place - 1)) (slice_get lists session)
   pub each : AllZip Begins booked lists
 
--- more is asked than a journal has lines, and a call of a session was refused: a history that has as many lines as a journal may is
--- what was booked of all that was asked
-pub record IsFull (grid : Legs) (changes : List Change) (lists : List (List Command)) (session call : ℕ) : Type 0 where
-  pub many : most_lines < asked_in (works_of changes lists)
+-- more is asked than a journal has lines behind the past, and a call of a session was refused, which counts on from the session's
+-- calls of the past: a history that has as many lines as a journal may goes on from the past with what was booked of all that was asked
+pub record IsFull (grid : Legs) (past : List Entry) (changes : List Change) (lists : List (List Command)) (session call : ℕ) : Type 0 where
+  pub many : most_lines < length past + asked_in (works_of changes lists)
   pub list : List Work
   pub at : slice_get (works_of changes lists) session ≡ Some list
-  pub call_is : (1 ≤ call) × (call ≤ length list)
+  pub call_is : (calls_of past session < call) × (call ≤ calls_of past session + length list)
   pub history : List Entry
   pub headline : Headline grid most_lines (length lists) history (by_session (length lists) history) (totals_of history)
   pub full : length history ≡ most_lines
-  pub booked : IsBookedTo session call (works_of changes lists) (map works_in (by_session (length lists) history))
+  pub added : List Entry
+  pub goes_on : history ≡ past ++ added
+  pub booked : IsBookedTo session (call - calls_of past session) (works_of changes lists) (map works_in (by_session (length lists) added))
 
 -- the fault is that of the first session that was not booked whole, at the call that was refused
-abbrev pub IsUnbooked : Legs → List Change → List (List Command) → DeskFault → Type 0
-IsUnbooked grid changes lists (Book session call) = IsFull grid changes lists session call
-IsUnbooked grid changes lists _ = ⊥
+abbrev pub IsUnbooked : Legs → List Entry → List Change → List (List Command) → DeskFault → Type 0
+IsUnbooked grid past changes lists (Book session call) = IsFull grid past changes lists session call
+IsUnbooked grid past changes lists _ = ⊥
 
 -- the desk's fault for one of a run
 abbrev pub run_refusal : RunFault → DeskFault
 run_refusal (run_faults.Book session call Full) = Book session call
 run_refusal (run_faults.Book session call NoRoom) = Memory
 
--- the set, the limits, the scripts and the changes are right, and something that they ask was not booked
-pub record IsUnbookedOf (set limits : List ℕ) (first days today : ℕ) (texts : List (Option (List ℕ))) (changing : Option (List ℕ)) (fault : DeskFault) : Type 0 where
+-- the set, the limits, the older journal, the scripts and the changes are right, and something that they ask was not booked
+pub record IsUnbookedOf (set limits : List ℕ) (first days today : ℕ) (after : List ℕ) (texts : List (Option (List ℕ))) (changing : Option (List ℕ)) (fault : DeskFault) : Type 0 where
   pub flights : List Flown
   pub grid : Legs
   pub is_loaded : IsLoaded set limits first days flights grid
+  pub past : List Entry
+  pub is_past : IsPast grid past after
   pub scripts : List (List Request)
   pub are_scripts : AreScripts today texts scripts
   pub changes : List Change
   pub are_changes : IfSome changing (AreChanges flights changes)
-  pub is_unbooked : IsUnbooked grid changes (map (commands_of flights) scripts) fault
+  pub is_unbooked : IsUnbooked grid past changes (lists_over past (map (commands_of flights) scripts)) fault
 
--- the set, the limits and the scripts are right, and the fault is that of the changes
-pub record IsUnchangedOf (set limits : List ℕ) (first days today : ℕ) (texts : List (Option (List ℕ))) (changing : Option (List ℕ)) (fault : DeskFault) : Type 0 where
+-- the set, the limits, the older journal and the scripts are right, and the fault is that of the changes
+pub record IsUnchangedOf (set limits : List ℕ) (first days today : ℕ) (after : List ℕ) (texts : List (Option (List ℕ))) (changing : Option (List ℕ)) (fault : DeskFault) : Type 0 where
   pub flights : List Flown
   pub grid : Legs
   pub is_loaded : IsLoaded set limits first days flights grid
+  pub past : List Entry
+  pub is_past : IsPast grid past after
   pub scripts : List (List Request)
   pub are_scripts : AreScripts today texts scripts
   pub is_refused : IfSome changing (IsUnchanged flights fault)
 
--- the set and the limits are right, and the fault is that of the first script that is none
-pub record IsRefusedOf (set limits : List ℕ) (first days today : ℕ) (texts : List (Option (List ℕ))) (fault : DeskFault) : Type 0 where
+-- the set, the limits and the older journal are right, and the fault is that of the first script that is none
+pub record IsRefusedOf (set limits : List ℕ) (first days today : ℕ) (after : List ℕ) (texts : List (Option (List ℕ))) (fault : DeskFault) : Type 0 where
   pub flights : List Flown
   pub grid : Legs
   pub is_loaded : IsLoaded set limits first days flights grid
+  pub past : List Entry
+  pub is_past : IsPast grid past after
   pub is_refused : IsRefusedAmong today 1 texts fault
 
--- a script's fault is the first of the first script that is none. A fault of the changes is the first of their rows, or, where these
--- are right, names the first that not one leg serves, and all scripts are read. A call's names the first session that was not
--- booked whole, and all is read. Any other is the first of the set, of its flights or of the limits
-abbrev pub RunRefusal : List ℕ → List ℕ → ℕ → ℕ → ℕ → List (Option (List ℕ)) → Option (List ℕ) → DeskFault → Type 0
-RunRefusal set limits first days today texts changing (Script session fault) = IsRefusedOf set limits first days today texts (Script session fault)
-RunRefusal set limits first days today texts changing (BadChange fault) = IsUnchangedOf set limits first days today texts changing (BadChange fault)
-RunRefusal set limits first days today texts changing (NoLeg line) = IsUnchangedOf set limits first days today texts changing (NoLeg line)
-RunRefusal set limits first days today texts changing (Book session call) = IsUnbookedOf set limits first days today texts changing (Book session call)
-RunRefusal set limits first days today texts changing fault = IsRefusedLoad set limits first days fault
+-- a fault of the older journal is that of its audit. A script's fault is the first of the first script that is none. A fault of the
+-- changes is the first of their rows, or, where these are right, names the first that not one leg serves, and all scripts are read.
+-- A call's names the first session that was not booked whole, and all is read. Any other is the first of the set, of its flights or
+-- of the limits
+abbrev pub RunRefusal : List ℕ → List ℕ → ℕ → ℕ → ℕ → List ℕ → List (Option (List ℕ)) → Option (List ℕ) → DeskFault → Type 0
+RunRefusal set limits first days today after texts changing (Journal fault) = IsRefusedOver set limits first days (Journal fault) after
+RunRefusal set limits first days today after texts changing (Replay fault) = IsRefusedOver set limits first days (Replay fault) after
+RunRefusal set limits first days today after texts changing (Script session fault) = IsRefusedOf set limits first days today after texts (Script session fault)
+RunRefusal set limits first days today after texts changing (BadChange fault) = IsUnchangedOf set limits first days today after texts changing (BadChange fault)
+RunRefusal set limits first days today after texts changing (NoLeg line) = IsUnchangedOf set limits first days today after texts changing (NoLeg line)
+RunRefusal set limits first days today after texts changing (Book session call) = IsUnbookedOf set limits first days today after texts changing (Book session call)
+RunRefusal set limits first days today after texts changing fault = IsRefusedLoad set limits first days fault
 
-pub record IsRefusedRun (set limits : List ℕ) (first days today : ℕ) (texts : List (Option (List ℕ))) (changing : Option (List ℕ)) (fault : DeskFault) : Type 0 where
-  pub refusal : RunRefusal set limits first days today texts changing fault
+pub record IsRefusedRun (set limits : List ℕ) (first days today : ℕ) (after : List ℕ) (texts : List (Option (List ℕ))) (changing : Option (List ℕ)) (fault : DeskFault) : Type 0 where
+  pub refusal : RunRefusal set limits first days today after texts changing fault
 
--- the set, the limits, a script or the changes are too large
-abbrev pub IsTooLargeRun : List ℕ → List ℕ → List (Option (List ℕ)) → Option (List ℕ) → Type 0
-IsTooLargeRun set limits texts changing =
-    IsTooLargeLoad set limits ⊎ (IsTooLargeAmong texts ⊎ IfSome changing (λ bytes. most_change_bytes < length bytes))
+-- the set, the limits, the older journal, a script or the changes are too large
+abbrev pub IsTooLargeRun : List ℕ → List ℕ → List ℕ → List (Option (List ℕ)) → Option (List ℕ) → Type 0
+IsTooLargeRun set limits after texts changing =
+    IsTooLarge set limits after ⊎ (IsTooLargeAmong texts ⊎ IfSome changing (λ bytes. most_change_bytes < length bytes))
 
--- where the bytes of the set and of the limits are known
-abbrev pub IsRefusedRunOf : {S L : Type 0} → Bytes S → Bytes L → Inputs S L → ℕ → List (Option (List ℕ)) → Option (List ℕ) → DeskFault → Type 0
-IsRefusedRunOf set limits inputs today texts changing fault =
-    IfSome (set inputs.set) (λ xs. IfSome (limits inputs.limits) (λ ys. IsRefusedRun xs ys inputs.first inputs.days today texts changing fault))
+-- where the bytes of the set, of the limits and of the older journal are known
+abbrev pub IsRefusedRunOf : {S L : Type 0} → Bytes S → Bytes L → Inputs S L → ℕ → Option (List ℕ) → List (Option (List ℕ)) → Option (List ℕ) → DeskFault → Type 0
+IsRefusedRunOf set limits inputs today after texts changing fault =
+    IfSome (set inputs.set) (λ xs. IfSome (limits inputs.limits) (λ ys. IfSome after (λ zs. IsRefusedRun xs ys inputs.first inputs.days today zs texts changing fault)))
 
-abbrev pub IsTooLargeRunOf : {S L : Type 0} → Bytes S → Bytes L → Inputs S L → List (Option (List ℕ)) → Option (List ℕ) → Type 0
-IsTooLargeRunOf set limits inputs texts changing =
-    IfSome (set inputs.set) (λ xs. IfSome (limits inputs.limits) (λ ys. IsTooLargeRun xs ys texts changing))
+abbrev pub IsTooLargeRunOf : {S L : Type 0} → Bytes S → Bytes L → Inputs S L → Option (List ℕ) → List (Option (List ℕ)) → Option (List ℕ) → Type 0
+IsTooLargeRunOf set limits inputs after texts changing =
+    IfSome (set inputs.set) (λ xs. IfSome (limits inputs.limits) (λ ys. IfSome after (λ zs. IsTooLargeRun xs ys zs texts changing)))

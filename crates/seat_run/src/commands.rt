@@ -1,12 +1,39 @@
 //! What requests ask of the inventory.
-ghost use Rattle.std.specs.Prelude.{◌≡◌, IfOk, map};
+ghost use Rattle.std.specs.Prelude.{◌≡◌, ◌≤◌, ◌-◌, ◌++◌, IfOk, OnOk, length, map};
+ghost use Rattle.seat_run.specs.Going.{idle, lists_over};
 ghost use Rattle.seat_run.specs.Requests.{command_of, commands_of, wanted_of};
 
+use crate::past::highest;
 use airimp_lines::{Request, Requests, Segment};
-use seat_core::Command;
+use seat_core::{Command, Core};
 use seat_host::RequestList;
 use ssim_flights::{Flights, Served, Wanted};
 use std::alloc::{AllocError, Global};
+
+/// The commands of each script, in the order of the scripts, and none for each further session as far as one that has a line.
+pub fn lists_over(
+    alloc: Global,
+    past: &Core,
+    flights: &Flights,
+    scripts: &[Requests],
+) -> Result<Vec<RequestList>, AllocError>
+    ensures { IfOk result (λ lists. lists.items ≡ lists_over past.now.journal (map (commands_of flights.now) scripts.now)) }
+{
+    let mut lists = command_lists(alloc, flights, scripts)?;
+    add_idle(alloc, &mut lists, highest(past))?;
+    Ok(lists)
+}
+
+/// Adds lists of nothing, until there are as many lists as this.
+#[tactic(auto, using(crate::proofs::Going::idle_end))]
+fn add_idle(alloc: Global, lists: &mut Vec<RequestList>, sessions: u8) -> Result<(), AllocError>
+    ensures { OnOk result (lists.new.items ≡ lists.old.items ++ idle (sessions - length lists.old.items)) }
+{
+    while lists.len() < usize::from(sessions) {
+        lists.push(RequestList::from_vec(Vec::new(alloc)))?;
+    }
+    Ok(())
+}
 
 /// The commands of each script, in the order of the scripts.
 pub fn command_lists(

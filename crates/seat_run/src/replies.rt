@@ -1,63 +1,74 @@
-//! The replies to changes and to scripts. A request is answered by a segment line.
-ghost use Rattle.std.specs.Prelude.{◌≡◌, ◌++◌, ◌<◌, Some, IfOk, OnOk};
-ghost use Rattle.airimp_lines.specs.Grammar.{IsPlainLine, IsRightSegment, IsWritable, reply_of};
+//! The replies to the changes and to the scripts of a run, whose requests are answered by segment lines.
+ghost use Rattle.std.specs.Prelude.{◌≡◌, ◌++◌, ◌<◌, ◌≤◌, Some, IfOk, OnOk, drop, length};
+ghost use Rattle.airimp_lines.specs.Grammar.{IsPlainLine, reply_of};
 ghost use Rattle.seat_desk.specs.FlightsDesk.{IsPut, IsText};
-ghost use Rattle.seat_run.specs.Answering.{AreAllAnswerable, AreAnswerable, AsksForSeats, HasRequest, IsAdvisable, IsAnswerable, IsAsked, IsBehind};
-ghost use Rattle.seat_run.specs.RunDesk.{AreAnswers, IsAdviceLine, IsAnswer, IsLineReply, IsReply, IsSeatsReply, at_any, booked_by, change_head, change_reply, leg_text, limit_text, line_head, reply_head, request_of};
+ghost use Rattle.seat_run.specs.Answering.{AreAllAnswerable, AreAnswerable, HasRequest, IsAnswerable, IsAsked, IsBehind, IsBooked};
+ghost use Rattle.seat_run.specs.Going.{behind, segment_at, segment_of};
+ghost use Rattle.seat_run.specs.RunDesk.{AreAnswers, IsAdviceLine, IsAnswer, IsLineReply, IsReply, IsSeatsReply, at_any, booked_by, change_head, change_reply, leg_text, limit_text, line_head, of_command, of_request, of_work, reply_head, request_of};
 
+use crate::past::Past;
 use airimp_lines::{Request, Requests, Segment, reply_text};
 use seat_desk::{put, put_number};
 use seat_host::{Receipt, Receipts};
-use seat_journal::{Advice, Change, Entry, Work};
-use ssim_records::Code;
+use seat_journal::{Advice, Change, Command, Entry, Work};
+use ssim_flights::{Flight, Flights};
+use ssim_records::{Code, Locator, Place};
 use std::alloc::{AllocError, Global};
 
-/// The replies to the lines of session 0, the manager, then of session 1, and so on, each with the advices of its line.
-#[tactic(auto, using(seat_desk::proofs::Texts::put_none, crate::proofs::Parts::sessions_more))]
+/// Whose seats a reply is for, and which.
+#[derive(Clone, Copy)]
+pub(crate) struct Answered {
+    pub locator: Locator,
+    pub segment: Segment,
+}
+
+/// The replies to the lines behind the past: those of session 0, the manager, then of session 1, and so on, each with the
+/// advices of its line.
+#[tactic(auto, using(seat_desk::proofs::Texts::put_none, crate::proofs::Parts::sessions_whole))]
 pub fn replies(
     alloc: Global,
+    flights: &Flights,
+    past: &Past,
     scripts: &[Requests],
     journal: &[Entry],
     receipts: &[Receipts],
 ) -> Result<Vec<u8>, AllocError>
-    requires whole { AreAnswerable scripts.now journal.now journal.now }
-    requires lines { AreAllAnswerable scripts.now journal.now receipts.now }
-    ensures { IfOk result (λ text. IsText (at_any (AreAnswers scripts.now journal.now)) 0 receipts.now text.items) }
+    requires few { length receipts.now ≤ 9 }
+    requires lines { AreAllAnswerable flights.now past.now scripts.now journal.now (behind past.now.calls receipts.now) }
+    ensures { IfOk result (λ text. IsText (at_any (AreAnswers flights.now past.now scripts.now journal.now)) 0 (behind past.now.calls receipts.now) text.items) }
 {
     let mut text = Vec::new(alloc);
-    for lines in receipts {
-        put_session(&mut text, scripts, journal, lines)?;
+    for session in 0..receipts.len() {
+        let lines = added(&receipts[session], past.calls[session]);
+        put_answers(&mut text, flights, past, scripts, journal, lines)?;
     }
     Ok(text)
 }
 
-/// Adds the answers to the lines of one session.
-fn put_session(
-    text: &mut Vec<u8>,
-    scripts: &[Requests],
-    journal: &[Entry],
-    receipts: &Receipts,
-) -> Result<(), AllocError>
-    requires whole { AreAnswerable scripts.now journal.now journal.now }
-    requires lines { AreAnswerable scripts.now journal.now receipts.now }
-    ensures { OnOk result (IsPut (at_any (IsAnswer scripts.now journal.now)) 0 receipts.now text.old.items text.new.items) }
+/// The lines of a session behind so many.
+fn added(receipts: &Receipts, past: u32) -> &[Receipt]
+    ensures { result.now ≡ drop past receipts.now }
 {
-    put_answers(text, scripts, journal, receipts.as_slice())
+    let lines = receipts.as_slice();
+    let front = lines.len().min(past as usize);
+    &lines[front..]
 }
 
+/// Adds the answers to lines.
 #[tactic(auto, using(seat_desk::proofs::Texts::put_none, crate::proofs::Parts::answers_more, crate::proofs::Parts::line_answerable))]
 fn put_answers(
     text: &mut Vec<u8>,
+    flights: &Flights,
+    past: &Past,
     scripts: &[Requests],
     journal: &[Entry],
     receipts: &[Receipt],
 ) -> Result<(), AllocError>
-    requires whole { AreAnswerable scripts.now journal.now journal.now }
-    requires lines { AreAnswerable scripts.now journal.now receipts.now }
-    ensures { OnOk result (IsPut (at_any (IsAnswer scripts.now journal.now)) 0 receipts.now text.old.items text.new.items) }
+    requires lines { AreAnswerable flights.now past.now scripts.now journal.now receipts.now }
+    ensures { OnOk result (IsPut (at_any (IsAnswer flights.now past.now scripts.now journal.now)) 0 receipts.now text.old.items text.new.items) }
 {
     for receipt in receipts {
-        put_answer(text, scripts, journal, receipt.entry())?;
+        put_answer(text, flights, past, scripts, journal, receipt.entry())?;
     }
     Ok(())
 }
@@ -66,16 +77,17 @@ fn put_answers(
 #[tactic(auto, using(crate::proofs::Parts::answer_put))]
 fn put_answer(
     text: &mut Vec<u8>,
+    flights: &Flights,
+    past: &Past,
     scripts: &[Requests],
     journal: &[Entry],
     entry: &Entry,
 ) -> Result<(), AllocError>
-    requires whole { AreAnswerable scripts.now journal.now journal.now }
-    requires line { IsAnswerable scripts.now journal.now entry.now }
-    ensures { OnOk result (IsBehind (IsAnswer scripts.now journal.now entry.now) text.old.items text.new.items) }
+    requires { IsAnswerable flights.now past.now scripts.now journal.now entry.now }
+    ensures { OnOk result (IsBehind (IsAnswer flights.now past.now scripts.now journal.now entry.now) text.old.items text.new.items) }
 {
-    put_line_reply(text, scripts, entry, entry.work)?;
-    put_advices(text, scripts, journal, entry)?;
+    put_line_reply(text, past, scripts, entry, entry.work)?;
+    put_advices(text, flights, past, scripts, journal, entry)?;
     Ok(())
 }
 
@@ -83,15 +95,16 @@ fn put_answer(
 #[tactic(auto, using(crate::proofs::Parts::change_put))]
 fn put_line_reply(
     text: &mut Vec<u8>,
+    past: &Past,
     scripts: &[Requests],
     entry: &Entry,
     work: Work,
 ) -> Result<(), AllocError>
-    requires { IsAsked scripts.now entry.now work }
-    ensures { OnOk result (IsBehind (IsLineReply scripts.now entry.now work) text.old.items text.new.items) }
+    requires { IsAsked past.now scripts.now entry.now work }
+    ensures { OnOk result (IsBehind (IsLineReply past.now scripts.now entry.now work) text.old.items text.new.items) }
 {
     match work {
-        Work::Seats(_) => put_seats_reply(text, scripts, entry),
+        Work::Seats(_) => put_seats_reply(text, past, scripts, entry),
         Work::Limit(change) => put_change_reply(text, entry, &change),
     }
 }
@@ -100,14 +113,16 @@ fn put_line_reply(
 #[tactic(auto, using(crate::proofs::Parts::seats_put))]
 fn put_seats_reply(
     text: &mut Vec<u8>,
+    past: &Past,
     scripts: &[Requests],
     entry: &Entry,
 ) -> Result<(), AllocError>
-    requires { HasRequest scripts.now entry.now }
-    ensures { OnOk result (IsBehind (IsSeatsReply scripts.now entry.now) text.old.items text.new.items) }
+    requires { HasRequest past.now scripts.now entry.now }
+    ensures { OnOk result (IsBehind (IsSeatsReply past.now scripts.now entry.now) text.old.items text.new.items) }
 {
-    let request = request_of(scripts, entry);
-    put_reply(text, entry, request, entry.reply, request.segment.seats)?;
+    let request = request_of(past, scripts, entry);
+    let seats = request.segment.seats;
+    put_reply(text, entry, &of_request(request), entry.reply, seats)?;
     Ok(())
 }
 
@@ -147,38 +162,42 @@ fn put_limit(text: &mut Vec<u8>, change: &Change) -> Result<(), AllocError>
     put_number(text, u64::from(change.wait))
 }
 
-#[tactic(auto, using(seat_desk::proofs::Texts::put_none, crate::proofs::Parts::advices_more, crate::proofs::Parts::advice_advisable))]
+#[tactic(auto, using(seat_desk::proofs::Texts::put_none, crate::proofs::Parts::advices_more, crate::proofs::Parts::advice_booked))]
 fn put_advices(
     text: &mut Vec<u8>,
+    flights: &Flights,
+    past: &Past,
     scripts: &[Requests],
     journal: &[Entry],
     entry: &Entry,
 ) -> Result<(), AllocError>
-    requires whole { AreAnswerable scripts.now journal.now journal.now }
-    requires line { IsAnswerable scripts.now journal.now entry.now }
-    ensures { OnOk result (IsPut (at_any (IsAdviceLine scripts.now journal.now entry.now)) 0 entry.now.advices text.old.items text.new.items) }
+    requires { IsAnswerable flights.now past.now scripts.now journal.now entry.now }
+    ensures { OnOk result (IsPut (at_any (IsAdviceLine flights.now past.now scripts.now journal.now entry.now)) 0 entry.now.advices text.old.items text.new.items) }
 {
     for advice in entry.advices.as_slice() {
-        put_advice(text, scripts, journal, entry, advice)?;
+        put_advice(text, flights, past, scripts, journal, entry, advice)?;
     }
     Ok(())
 }
 
 /// Adds an advice, with the locator and the segment of its booking.
-#[tactic(auto, using(crate::proofs::Parts::advice_put))]
+#[tactic(auto, using(crate::proofs::Parts::advice_put, crate::proofs::Parts::booked_there))]
 fn put_advice(
     text: &mut Vec<u8>,
+    flights: &Flights,
+    past: &Past,
     scripts: &[Requests],
     journal: &[Entry],
     entry: &Entry,
     advice: &Advice,
 ) -> Result<(), AllocError>
-    requires whole { AreAnswerable scripts.now journal.now journal.now }
-    requires advice { IsAdvisable journal.now advice.now }
-    ensures { OnOk result (IsBehind (IsAdviceLine scripts.now journal.now entry.now advice.now) text.old.items text.new.items) }
+    requires { IsBooked flights.now past.now scripts.now journal.now advice.now.number }
+    ensures { OnOk result (IsBehind (IsAdviceLine flights.now past.now scripts.now journal.now entry.now advice.now) text.old.items text.new.items) }
 {
-    let request = booked_by(scripts, journal, advice.number);
-    put_reply(text, entry, request, Code::of(*b"KL"), advice.seats)?;
+    let Some(answered) = booked_by(flights, past, scripts, journal, advice.number) else {
+        unreachable!()
+    };
+    put_reply(text, entry, &answered, Code::of(*b"KL"), advice.seats)?;
     Ok(())
 }
 
@@ -187,25 +206,23 @@ fn put_advice(
 fn put_reply(
     text: &mut Vec<u8>,
     entry: &Entry,
-    request: &Request,
+    answered: &Answered,
     code: Code,
     seats: u16,
 ) -> Result<(), AllocError>
-    requires segment { IsWritable request.now.segment }
-    requires seats { (0 < seats) × (seats < 1000) }
-    ensures { OnOk result (IsBehind (IsReply entry.now request.now code seats) text.old.items text.new.items) }
+    ensures { OnOk result (IsBehind (IsReply entry.now answered.now code seats) text.old.items text.new.items) }
 {
-    put_head(text, entry, request)?;
-    put_segment(text, &request.segment, code, seats)?;
+    put_head(text, entry, answered)?;
+    put_segment(text, &answered.segment, code, seats)?;
     put(text, b"\n")?;
     Ok(())
 }
 
-fn put_head(text: &mut Vec<u8>, entry: &Entry, request: &Request) -> Result<(), AllocError>
-    ensures { OnOk result (text.new.items ≡ text.old.items ++ reply_head entry.now request.now) }
+fn put_head(text: &mut Vec<u8>, entry: &Entry, answered: &Answered) -> Result<(), AllocError>
+    ensures { OnOk result (text.new.items ≡ text.old.items ++ reply_head entry.now answered.now) }
 {
     put_line_head(text, entry)?;
-    put(text, &request.locator.characters())?;
+    put(text, &answered.locator.characters())?;
     put(text, b" ")
 }
 
@@ -225,8 +242,6 @@ fn put_segment(
     code: Code,
     seats: u16,
 ) -> Result<(), AllocError>
-    requires segment { IsWritable segment.now }
-    requires seats { (0 < seats) × (seats < 1000) }
     ensures { OnOk result (IsBehind (IsPlainLine (reply_of segment.now code seats)) text.old.items text.new.items) }
 {
     put(text, reply_text(segment, code, seats).as_slice())?;
@@ -235,24 +250,89 @@ fn put_segment(
 
 /// The request that a line answers.
 #[tactic(auto, using(crate::proofs::Parts::asked))]
-fn request_of<'a>(scripts: &'a [Requests], entry: &Entry) -> &'a Request
-    requires { HasRequest scripts.now entry.now }
-    ensures request { request_of scripts.now entry.now ≡ Some result.now }
-    ensures right { IsRightSegment result.now.segment }
+fn request_of<'a>(past: &Past, scripts: &'a [Requests], entry: &Entry) -> &'a Request
+    requires { HasRequest past.now scripts.now entry.now }
+    ensures { request_of past.now scripts.now entry.now ≡ Some result.now }
 {
-    let script = &scripts[usize::from(entry.session) - 1];
-    let request = entry.call as usize - 1;
-    &script.as_slice()[request]
+    let session = usize::from(entry.session);
+    let script = &scripts[session - 1];
+    let call = entry.call - past.calls[session];
+    &script.as_slice()[call as usize - 1]
 }
 
-/// The request that made the booking of this number.
-#[tactic(auto, using(crate::proofs::Parts::booked, crate::proofs::Parts::line_asked))]
-fn booked_by<'a>(scripts: &'a [Requests], journal: &[Entry], number: u32) -> &'a Request
-    requires whole { AreAnswerable scripts.now journal.now journal.now }
-    requires seats { AsksForSeats journal.now number }
-    ensures request { booked_by scripts.now journal.now number ≡ Some result.now }
-    ensures right { IsRightSegment result.now.segment }
+fn of_request(request: &Request) -> Answered
+    ensures { result ≡ of_request request.now }
 {
-    let line = number as usize - 1;
-    request_of(scripts, &journal[line])
+    Answered {
+        locator: request.locator,
+        segment: request.segment,
+    }
+}
+
+/// The locator and the segment of the booking of this number.
+fn booked_by(
+    flights: &Flights,
+    past: &Past,
+    scripts: &[Requests],
+    journal: &[Entry],
+    number: u32,
+) -> Option<Answered>
+    requires { IsBooked flights.now past.now scripts.now journal.now number }
+    ensures { result ≡ booked_by flights.now past.now scripts.now journal.now number }
+{
+    let line = &journal[number as usize - 1];
+    if number <= past.lines {
+        return of_work(flights, line.work);
+    }
+    Some(of_request(request_of(past, scripts, line)))
+}
+
+fn of_work(flights: &Flights, work: Work) -> Option<Answered>
+    ensures { result ≡ of_work flights.now work }
+{
+    match work {
+        Work::Seats(command) => of_command(flights, &command),
+        Work::Limit(_) => None,
+    }
+}
+
+/// The locator of a command, and the segment on the flight of its place.
+fn of_command(flights: &Flights, command: &Command) -> Option<Answered>
+    ensures { result ≡ of_command flights.now command.now }
+{
+    let segment = segment_of(flights, command)?;
+    Some(Answered {
+        locator: command.locator,
+        segment,
+    })
+}
+
+/// The segment that a command asks for, on the flight of its place.
+fn segment_of(flights: &Flights, command: &Command) -> Option<Segment>
+    ensures { result ≡ segment_of flights.now command.now }
+{
+    let place = command.place?;
+    if place.flight >= flights.len() {
+        return None;
+    }
+    segment_on(flights.flight(place.flight), place, command)
+}
+
+fn segment_on(flight: &Flight, place: Place, command: &Command) -> Option<Segment>
+    ensures { result ≡ segment_at command.now place (Some flight.now) }
+{
+    let legs = flight.legs.as_slice();
+    let first = legs.get(usize::from(place.from))?;
+    let last = legs.get(usize::from(place.to))?;
+    Some(Segment {
+        airline: flight.airline,
+        number: flight.number,
+        suffix: flight.suffix,
+        class: command.class,
+        day: first.day,
+        board: first.board,
+        off: last.off,
+        code: command.code,
+        seats: command.seats,
+    })
 }

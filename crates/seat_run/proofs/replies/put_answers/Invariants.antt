@@ -5,4 +5,4 @@ use Rattle.seat_run.specs.RunDesk.{IsAnswer, at_any}
 use Rattle.seat_run.proofs.replies.put_answers.Given as goal
 
 abbrev pub invariant-loop-receipt : goal.invariant-loop-receipt
-invariant-loop-receipt l = IsPut (at_any (IsAnswer l.scripts l.journal)) 0 (take l.receipt-index l.receipts) l.initial.text.items l.text.items
+invariant-loop-receipt l = IsPut (at_any (IsAnswer l.flights l.past l.scripts l.journal)) 0 (take l.receipt-index l.receipts) l.initial.text.items l.text.items

@@ -1,8 +1,9 @@
 -- The answers to the sessions so far are written.
 use Rattle.std.proofs.Common.{[], take}
 use Rattle.seat_desk.specs.FlightsDesk.{IsPut}
+use Rattle.seat_run.specs.Going.{behind}
 use Rattle.seat_run.specs.RunDesk.{AreAnswers, at_any}
 use Rattle.seat_run.proofs.replies.replies.Given as goal
 
-abbrev pub invariant-loop-lines : goal.invariant-loop-lines
-invariant-loop-lines l = IsPut (at_any (AreAnswers l.scripts l.journal)) 0 (take l.lines-index l.receipts) [] l.text.items
+abbrev pub invariant-loop-session : goal.invariant-loop-session
+invariant-loop-session l = IsPut (at_any (AreAnswers l.flights l.past l.scripts l.journal)) 0 (take l.session (behind l.past.calls l.receipts)) [] l.text.items
