@@ -14,3 +14,4 @@ mod Lengths
 mod Audits
 mod Unasked
 mod Beside
+mod First

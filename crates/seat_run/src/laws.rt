@@ -1,11 +1,18 @@
 //! The laws of the definitions, each the contract of a function that does nothing.
 ghost use Rattle.seat_run.specs.Against.{UnaskedIsNotAudited};
 ghost use Rattle.seat_run.specs.Audits.{RunsAreAudited};
+ghost use Rattle.seat_run.specs.First.{RunsFromNoLines};
 
 /// What `run` writes as a journal, `audit` accepts: over the same set, limits and days it finds no fault in it, it is not too
 /// large, and the one line that answers it has the totals of the receipts. Only memory or a device can stop it.
 pub fn runs_are_audited()
     ensures { RunsAreAudited }
+{}
+
+/// A run behind a journal without lines, as [`NO_LINES`](crate::NO_LINES) is one, has no line but what the scripts and the
+/// changes ask, and answers them all.
+pub fn runs_from_no_lines()
+    ensures { RunsFromNoLines }
 {}
 
 /// What `audit` with scripts refuses as unasked has no line: the journal that differs from its scripts at a call is no journal of
