@@ -51,7 +51,7 @@ rooms_line = leaf_line is_complete (built_leaf rooms_app.top)
 run_line : Yields is_complete (built_leaf run_app.top)
 unfolding run_app horizon_app
 run_line = leaf_line is_complete (built_leaf run_app.top)
-    (set_keeps _ refl refl, (set_keeps _ refl refl, (set_keeps _ refl refl, (set_keeps _ refl refl, (set_keeps _ refl refl, (set_keeps _ refl refl, (set_keeps _ refl refl, (flag_keeps _ refl _ refl, (append_keeps _ refl refl, (help_keeps _ refl, tt)))))))))) (λ rows h. h)
+    (set_keeps _ refl refl, (set_keeps _ refl refl, (set_keeps _ refl refl, (set_keeps _ refl refl, (set_keeps _ refl refl, (set_keeps _ refl refl, (set_keeps _ refl refl, (set_keeps _ refl refl, (flag_keeps _ refl _ refl, (append_keeps _ refl refl, (help_keeps _ refl, tt))))))))))) (λ rows h. h)
 
 bookings_line : Yields is_complete (built_leaf bookings_app.top)
 unfolding bookings_app horizon_app
@@ -61,7 +61,7 @@ bookings_line = leaf_line is_complete (built_leaf bookings_app.top)
 audit_line : Yields is_complete (built_leaf audit_app.top)
 unfolding audit_app horizon_app
 audit_line = leaf_line is_complete (built_leaf audit_app.top)
-    (set_keeps _ refl refl, (set_keeps _ refl refl, (set_keeps _ refl refl, (set_keeps _ refl refl, (set_keeps _ refl refl, (set_keeps _ refl refl, (append_keeps _ refl refl, (help_keeps _ refl, tt)))))))) (λ rows h. h)
+    (set_keeps _ refl refl, (set_keeps _ refl refl, (set_keeps _ refl refl, (set_keeps _ refl refl, (set_keeps _ refl refl, (set_keeps _ refl refl, (set_keeps _ refl refl, (append_keeps _ refl refl, (help_keeps _ refl, tt))))))))) (λ rows h. h)
 
 why_line : Yields is_complete (built_leaf why_app.top)
 unfolding why_app horizon_app

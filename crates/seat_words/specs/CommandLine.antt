@@ -69,7 +69,8 @@ rooms_app = with_rule (with_rule (with_rule (with_rule (horizon_app (codes "room
     (optional_value (codes "journal"))
 
 unfoldable pub run_app : App
-run_app = with_rule (with_rule (with_rule (with_rule (with_rule (horizon_app (codes "run"))
+run_app = with_rule (with_rule (with_rule (with_rule (with_rule (with_rule (horizon_app (codes "run"))
+    (optional (codes "after")))
     (required_option (codes "today")))
     (required_option (codes "journal")))
     (optional (codes "changes")))
@@ -82,7 +83,8 @@ bookings_app = with_rule (with_rule (horizon_app (codes "bookings"))
     (required_value (codes "journal"))
 
 unfoldable pub audit_app : App
-audit_app = with_rule (with_rule (with_rule (horizon_app (codes "audit"))
+audit_app = with_rule (with_rule (with_rule (with_rule (horizon_app (codes "audit"))
+    (optional (codes "after")))
     (optional (codes "today")))
     (required_value (codes "journal")))
     (optional_values (codes "scripts"))

@@ -53,8 +53,9 @@ Asks (Rooms over day pair bars journal) line = (line.0 ≡ codes "rooms")
     × MayHave line (codes "pair") (option_map (λ text. text.now) pair)
     × HasFlag line (codes "bars") bars
     × MayHave line (codes "journal") (option_map (λ text. text.now) journal)
-Asks (Run over today journal changes no_clobber scripts) line = (line.0 ≡ codes "run")
+Asks (Run over after today journal changes no_clobber scripts) line = (line.0 ≡ codes "run")
     × IsOver line.1 over
+    × MayHave line (codes "after") (option_map (λ text. text.now) after)
     × Has line (codes "today") today.now
     × Has line (codes "journal") journal.now
     × MayHave line (codes "changes") (option_map (λ text. text.now) changes)
@@ -64,8 +65,9 @@ Asks (Bookings over locator journal) line = (line.0 ≡ codes "bookings")
     × IsOver line.1 over
     × Has line (codes "locator") locator.now
     × Has line (codes "journal") journal.now
-Asks (Audit over today journal scripts) line = (line.0 ≡ codes "audit")
+Asks (Audit over after today journal scripts) line = (line.0 ≡ codes "audit")
     × IsOver line.1 over
+    × MayHave line (codes "after") (option_map (λ text. text.now) after)
     × MayHave line (codes "today") (option_map (λ text. text.now) today)
     × Has line (codes "journal") journal.now
     × HasAny line (codes "scripts") scripts

@@ -26,6 +26,12 @@ const TODAY_HELP: &str =
 
 const OUT_HELP: &str = "The file that the journal is written to, which may be no input";
 
+const AFTER_HELP: &str =
+    "The journal to go on from: a file that run wrote, or - for standard input; its lines come first";
+
+const OLDER_HELP: &str =
+    "The journal that JOURNAL goes on from (a file); the scripts ask for the lines behind it";
+
 const JOURNAL_HELP: &str = "The journal to replay: a file that run wrote, or - for standard input";
 
 const CHANGES_HELP: &str =
@@ -196,8 +202,9 @@ fn run_command<'a>(alloc: Global) -> Result<Command<'a>, AllocError>
         alloc,
         "run",
         "Books the requests of scripts, one session on a thread for each script, and writes the replies",
-        "OUT is created, empty, after the inputs open and before they are read; a refused run leaves it empty.\n\nExample: seatdesk run --set examples/summer.ssim --limits examples/limits.txt --first 2024-07-01 --days 31 --today 2024-06-20 --journal journal.txt examples/london.txt examples/lisbon.txt\n\nWith changes of the limits: seatdesk run --set examples/summer.ssim --limits examples/limits.txt --first 2024-07-01 --days 31 --today 2024-06-20 --journal journal.txt --changes examples/changes.txt examples/london.txt examples/lisbon.txt",
+        "OUT is created, empty, after the inputs open and before they are read; a refused run leaves it empty.\n\nExample: seatdesk run --set examples/summer.ssim --limits examples/limits.txt --first 2024-07-01 --days 31 --today 2024-06-20 --journal journal.txt examples/london.txt examples/lisbon.txt\n\nWith changes of the limits: seatdesk run --set examples/summer.ssim --limits examples/limits.txt --first 2024-07-01 --days 31 --today 2024-06-20 --journal journal.txt --changes examples/changes.txt examples/london.txt examples/lisbon.txt\n\nThe day after: seatdesk run --set examples/summer.ssim --limits examples/limits.txt --first 2024-07-01 --days 31 --after examples/journal.txt --today 2024-06-21 --journal journal-2.txt examples/london-2.txt",
     );
+    let run = with_argument(run, optional_option(alloc, "after", "JOURNAL", AFTER_HELP));
     let run = with_argument(run, wanted_option(alloc, "today", "DATE", TODAY_HELP));
     let run = with_argument(run, wanted_option(alloc, "journal", "OUT", OUT_HELP));
     let run = with_argument(run, optional_option(alloc, "changes", "FILE", CHANGES_HELP));
@@ -231,7 +238,11 @@ fn audit_command<'a>(alloc: Global) -> Result<Command<'a>, AllocError>
         alloc,
         "audit",
         "Replays a journal against its schedule and limits, and writes one summary line",
-        "Example: seatdesk audit --set examples/summer.ssim --limits examples/limits.txt --first 2024-07-01 --days 31 examples/journal.txt\n\nAgainst its scripts: seatdesk audit --set examples/summer.ssim --limits examples/limits.txt --first 2024-07-01 --days 31 --today 2024-06-20 examples/journal.txt examples/london.txt examples/lisbon.txt",
+        "Example: seatdesk audit --set examples/summer.ssim --limits examples/limits.txt --first 2024-07-01 --days 31 examples/journal.txt\n\nAgainst its scripts: seatdesk audit --set examples/summer.ssim --limits examples/limits.txt --first 2024-07-01 --days 31 --today 2024-06-20 examples/journal.txt examples/london.txt examples/lisbon.txt\n\nThe day after: seatdesk audit --set examples/summer.ssim --limits examples/limits.txt --first 2024-07-01 --days 31 --after examples/journal.txt --today 2024-06-21 journal-2.txt examples/london-2.txt",
+    );
+    let audit = with_argument(
+        audit,
+        optional_option(alloc, "after", "JOURNAL", OLDER_HELP),
     );
     let audit = with_argument(audit, optional_option(alloc, "today", "DATE", TODAY_HELP));
     let audit = with_argument(

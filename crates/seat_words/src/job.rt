@@ -48,9 +48,10 @@ pub enum Job<'a> {
         bars: bool,
         journal: Option<&'a str>,
     },
-    /// `seatdesk run` over a horizon `--today DATE --journal OUT [--changes FILE] [--no-clobber] SCRIPT...`
+    /// `seatdesk run` over a horizon `[--after JOURNAL] --today DATE --journal OUT [--changes FILE] [--no-clobber] SCRIPT...`
     Run {
         over: Horizon<'a>,
+        after: Option<&'a str>,
         today: &'a str,
         journal: &'a str,
         changes: Option<&'a str>,
@@ -64,9 +65,10 @@ pub enum Job<'a> {
         locator: &'a str,
         journal: &'a str,
     },
-    /// `seatdesk audit` over a horizon `[--today DATE] JOURNAL [SCRIPT...]`
+    /// `seatdesk audit` over a horizon `[--after JOURNAL] [--today DATE] JOURNAL [SCRIPT...]`
     Audit {
         over: Horizon<'a>,
+        after: Option<&'a str>,
         today: Option<&'a str>,
         journal: &'a str,
         /// None or more.
@@ -156,6 +158,7 @@ fn job_named<'a>(alloc: Global, name: &str, matches: &ArgMatches<'a>) -> Result<
         },
         "run" => Job::Run {
             over: horizon_of(matches),
+            after: may_value_of(matches, "after"),
             today: value_of(matches, "today"),
             journal: value_of(matches, "journal"),
             changes: may_value_of(matches, "changes"),
@@ -169,6 +172,7 @@ fn job_named<'a>(alloc: Global, name: &str, matches: &ArgMatches<'a>) -> Result<
         },
         "audit" => Job::Audit {
             over: horizon_of(matches),
+            after: may_value_of(matches, "after"),
             today: may_value_of(matches, "today"),
             journal: value_of(matches, "journal"),
             scripts: any_values_of(alloc, matches, "scripts")?,

@@ -5,8 +5,9 @@ use Rattle.seat_words.proofs.commands.run_command.Goals as goal
 pub returns : goal.returns
 unfolding run_app
 returns c =
-    let today = argued _ _ c.horizon_command-run.result c.with_argument-run.result c.wanted_option.result c.horizon_command-run.ensures c.wanted_option.ensures c.with_argument-run.ensures in
-    let journal = argued _ _ c.with_argument-run.result c.with_argument-run-2.result c.wanted_option-2.result today c.wanted_option-2.ensures c.with_argument-run-2.ensures in
-    let changes = argued _ _ c.with_argument-run-2.result c.with_argument-run-3.result c.optional_option.result journal c.optional_option.ensures c.with_argument-run-3.ensures in
-    let clobber = argued _ _ c.with_argument-run-3.result c.with_argument-run-4.result c.flag.result changes c.flag.ensures c.with_argument-run-4.ensures in
-    argued _ _ c.with_argument-run-4.result c.with_argument.result c.wanted_values.result clobber c.wanted_values.ensures c.with_argument.ensures
+    let after = argued _ _ c.horizon_command-run.result c.with_argument-run.result c.optional_option.result c.horizon_command-run.ensures c.optional_option.ensures c.with_argument-run.ensures in
+    let today = argued _ _ c.with_argument-run.result c.with_argument-run-2.result c.wanted_option.result after c.wanted_option.ensures c.with_argument-run-2.ensures in
+    let journal = argued _ _ c.with_argument-run-2.result c.with_argument-run-3.result c.wanted_option-2.result today c.wanted_option-2.ensures c.with_argument-run-3.ensures in
+    let changes = argued _ _ c.with_argument-run-3.result c.with_argument-run-4.result c.optional_option-2.result journal c.optional_option-2.ensures c.with_argument-run-4.ensures in
+    let clobber = argued _ _ c.with_argument-run-4.result c.with_argument-run-5.result c.flag.result changes c.flag.ensures c.with_argument-run-5.ensures in
+    argued _ _ c.with_argument-run-5.result c.with_argument.result c.wanted_values.result clobber c.wanted_values.ensures c.with_argument.ensures

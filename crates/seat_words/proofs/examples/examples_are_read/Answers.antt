@@ -27,6 +27,10 @@ pub returns-clause-changes : goal.returns-clause-changes
 unfolding seatdesk_app selling_app bare_app named_app ladder_app check_app flights_app cover_app rooms_app run_app bookings_app audit_app why_app explain_app horizon_app clap_on_literals
 returns-clause-changes c = record { taken = refl; found = refl }
 
+pub returns-clause-after : goal.returns-clause-after
+unfolding seatdesk_app selling_app bare_app named_app ladder_app check_app flights_app cover_app rooms_app run_app bookings_app audit_app why_app explain_app horizon_app clap_on_literals
+returns-clause-after c = record { taken = refl; found = refl }
+
 pub returns-clause-cover : goal.returns-clause-cover
 unfolding seatdesk_app selling_app bare_app named_app ladder_app check_app flights_app cover_app rooms_app run_app bookings_app audit_app why_app explain_app horizon_app clap_on_literals
 returns-clause-cover c = record { taken = refl; found = refl }
@@ -42,6 +46,10 @@ returns-clause-bookings c = record { taken = refl; found = refl }
 pub returns-clause-against : goal.returns-clause-against
 unfolding seatdesk_app selling_app bare_app named_app ladder_app check_app flights_app cover_app rooms_app run_app bookings_app audit_app why_app explain_app horizon_app clap_on_literals
 returns-clause-against c = record { taken = refl; found = refl }
+
+pub returns-clause-behind : goal.returns-clause-behind
+unfolding seatdesk_app selling_app bare_app named_app ladder_app check_app flights_app cover_app rooms_app run_app bookings_app audit_app why_app explain_app horizon_app clap_on_literals
+returns-clause-behind c = record { taken = refl; found = refl }
 
 pub returns-clause-why : goal.returns-clause-why
 unfolding seatdesk_app selling_app bare_app named_app ladder_app check_app flights_app cover_app rooms_app run_app bookings_app audit_app why_app explain_app horizon_app clap_on_literals
