@@ -27,10 +27,10 @@ const TODAY_HELP: &str =
 const OUT_HELP: &str = "The file that the journal is written to, which may be no input";
 
 const AFTER_HELP: &str =
-    "The journal to go on from: a file that run wrote, or - for standard input; its lines come first";
+    "The journal to go on from (a file that run wrote); its lines stand ahead of the new ones";
 
 const OLDER_HELP: &str =
-    "The journal that JOURNAL goes on from (a file); the scripts ask for the lines behind it";
+    "The journal that JOURNAL goes on from (a file); the scripts ask for the lines behind its own";
 
 const JOURNAL_HELP: &str = "The journal to replay: a file that run wrote, or - for standard input";
 
