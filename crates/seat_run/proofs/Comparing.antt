@@ -14,14 +14,14 @@ use Rattle.seat_journal.specs.declared.entry.Command.{Command}
 use Rattle.seat_journal.specs.declared.entry.Entry.{Entry}
 use Rattle.seat_journal.specs.declared.entry.Work.{Work}
 use Rattle.seat_journal.specs.declared.entry.Work.TheVariants.{Seats, Limit}
-use Rattle.seat_core.specs.Journal.{IsLegal, MayAsk, calls_of}
+use Rattle.seat_core.specs.Journal.{IsLegal, MayAsk}
 use Rattle.seat_core.specs.Bookings.{same_place}
 use Rattle.seat_core.proofs.History.Faults.{place_same}
 use Rattle.seat_core.proofs.History.Legal.{each_legal}
 use Rattle.seat_core.proofs.Step.Limits.{both}
 use Rattle.seat_host.specs.Histories.{of_session}
-use Rattle.seat_host.proofs.Own.{calls_own, own_append, own_one, own_other}
-use Rattle.seat_run.specs.Against.{AreAsked, AreAskedBelow, DifferAt, asked_by, done_by, same_command, works_of_list}
+use Rattle.seat_host.proofs.Own.{own_append, own_one, own_other}
+use Rattle.seat_run.specs.Against.{AreAsked, AreAskedBelow, DifferAt, asked_by, done_by, same_change, same_command, works_of_list}
 use Rattle.seat_run.specs.RunDesk.{works_in}
 use Rattle.seat_run.proofs.Rows.{place_below}
 
@@ -67,6 +67,35 @@ commands_same a b told e = (
   λ (is : IsTrue told). command_same a b (sym e ∙ is),
   λ (same : a ≡ b). e ∙ (ap (same_command a) (sym same) ∙ command_itself a),
 )
+
+change_is : (a b : Change) → a.flight ≡ b.flight → a.leg ≡ b.leg → a.class ≡ b.class → a.limit ≡ b.limit → a.wait ≡ b.wait → a ≡ b
+change_is a b e f g h k = λ i. record { flight = e i; leg = f i; class = g i; limit = h i; wait = k i }
+
+change_same : (a b : Change) → same_change a b ≡ true → a ≡ b
+change_same a b e =
+    let four = both ((a.flight == b.flight) && (a.leg == b.leg) && (a.class == b.class) && (a.limit == b.limit)) (a.wait == b.wait) e in
+    let three = both ((a.flight == b.flight) && (a.leg == b.leg) && (a.class == b.class)) (a.limit == b.limit) four.0 in
+    let two = both ((a.flight == b.flight) && (a.leg == b.leg)) (a.class == b.class) three.0 in
+    let one = both (a.flight == b.flight) (a.leg == b.leg) two.0 in
+    change_is a b (nat_same a.flight b.flight one.0) (nat_same a.leg b.leg one.1) (nat_same a.class b.class two.1) (nat_same a.limit b.limit three.1) (nat_same a.wait b.wait four.1)
+
+change_itself : (a : Change) → same_change a a ≡ true
+change_itself a = rw (same_nat a.flight, same_nat a.leg, same_nat a.class, same_nat a.limit, same_nat a.wait) refl
+
+-- and of two changes
+pub changes_same : (a b : Change) (told : Bool) → told ≡ same_change a b → (IsTrue told → a ≡ b) × (a ≡ b → IsTrue told)
+changes_same a b told e = (
+  λ (is : IsTrue told). change_same a b (sym e ∙ is),
+  λ (same : a ≡ b). e ∙ (ap (same_change a) (sym same) ∙ change_itself a),
+)
+
+pub limits_same : (a b : Change) (told : Bool) → (IsTrue told → a ≡ b) × (a ≡ b → IsTrue told) → (IsTrue told → Limit a ≡ Limit b) × (Limit a ≡ Limit b → IsTrue told)
+limits_same a b told same = (λ (is : IsTrue told). ap Limit (same.0 is), λ (e : Limit a ≡ Limit b). same.1 (one e)) where
+  one : Limit a ≡ Limit b → a ≡ b
+  one e = cc
+
+pub no_seats : (a : Change) (c : Command) → Limit a ≡ Seats c → ⊥
+no_seats a c e = cc
 
 -- of works that ask for seats, too
 pub works_same : (a b : Command) (told : Bool) → (IsTrue told → a ≡ b) × (a ≡ b → IsTrue told) → (IsTrue told → Seats a ≡ Seats b) × (Seats a ≡ Seats b → IsTrue told)
@@ -242,23 +271,15 @@ module _ (lists : List (List Command)) (journal : List Entry) (session : ℕ) (l
 
 -- ---- a session beyond the lists
 
-module _ (lists : List (List Command)) (journal : List Entry) (session : ℕ) (none : slice_get lists (session - 1) ≡ None) where
-  asks_nothing : asked_by lists session ≡ []
-  asks_nothing = ap works_of_list none
+module _ (lists : List (List Command)) (journal : List Entry) (session : ℕ) (none : slice_get lists (session - 1) ≡ None) (slice : List Command) (empty : slice ≡ []) where
+  asks_nothing : map Seats slice ≡ asked_by lists session
+  asks_nothing = ap (λ (l : List Command). map Seats l) empty ∙ sym (ap works_of_list none)
 
-  pub both_nothing : calls_of journal session ≡ 0 → done_by session journal ≡ asked_by lists session
-  both_nothing no_call = nothing_done (of_session session journal) (sym (calls_own journal session) ∙ no_call) ∙ sym asks_nothing where
-    nothing_done : (lines : List Entry) → length lines ≡ 0 → works_in lines ≡ []
-    nothing_done [] e = refl
-    nothing_done (x ∷ lines) e = absurd (omega (arith, e))
+  pub as_nothing : (answer : Option ℕ) → IfNone answer (done_by session journal ≡ map Seats slice) → IfNone answer (done_by session journal ≡ asked_by lists session)
+  as_nothing answer told = subst (λ (asked : List Work). IfNone answer (done_by session journal ≡ asked)) asks_nothing told
 
-  pub differ_first : calls_of journal session ≢ 0 → DifferAt 1 (done_by session journal) (asked_by lists session)
-  differ_first some = record { from_one = omega arith; before = refl; there = there (of_session session journal) (λ (e : length (of_session session journal) ≡ 0). some (calls_own journal session ∙ e)) } where
-    there : (lines : List Entry) → length lines ≢ 0 → slice_get (works_in lines) 0 ≢ slice_get (asked_by lists session) 0
-    there [] not = absurd (not refl)
-    there (x ∷ lines) not = λ (same : slice_get (works_in (x ∷ lines)) 0 ≡ slice_get (asked_by lists session) 0). some_is_none x.work (same ∙ ap (λ (l : List Work). slice_get l 0) asks_nothing) where
-      some_is_none : (w : Work) → Some w ≡ None → ⊥
-      some_is_none w e = cc
+  pub not_as_nothing : (answer : Option ℕ) → IfSome answer (λ call. DifferAt call (done_by session journal) (map Seats slice)) → IfSome answer (λ call. DifferAt call (done_by session journal) (asked_by lists session))
+  not_as_nothing answer told = subst (λ (asked : List Work). IfSome answer (λ call. DifferAt call (done_by session journal) asked)) asks_nothing told
 
 -- ---- session by session
 
@@ -281,14 +302,21 @@ none_beyond s beyond grid journal legal =
     (λ past e l next h. own_append s past (e ∷ []) ∙ (ap (λ (lines : List Entry). lines ++ of_session s (e ∷ [])) h ∙ own_other s e (λ (is : e.session ≡ s). let most : e.session ≤ 8 = session_most e.session e.work next.session in absurd (omega (arith, is, most, beyond)))))
     [] journal refl legal
 
-pub all_asked : (grid : Legs) (lists : List (List Command)) (journal : List Entry) → IsLegal grid journal → length lists ≤ 8 → AreAskedBelow lists journal 9 → AreAsked lists journal
-all_asked grid lists journal legal few below = record { each = λ session low. ⊎_elim (λ (lt : session < 9). below.each session low lt) (λ (high : 9 ≤ session). beyond session high) (either session 9) } where
+none_added : (s : ℕ) (older added : List Entry) → of_session s (older ++ added) ≡ [] → of_session s added ≡ []
+none_added s older added e = second (of_session s older) (of_session s added) (sym (own_append s older added) ∙ e) where
+  second : (xs ys : List Entry) → xs ++ ys ≡ [] → ys ≡ []
+  second [] ys e = e
+  second (x ∷ xs) ys e = absurd cc
+
+pub all_asked : (grid : Legs) (lists : List (List Command)) (older journal added : List Entry) → IsLegal grid journal → journal ≡ older ++ added → length lists ≤ 8 → AreAskedBelow lists added 9 → AreAsked lists added
+all_asked grid lists older journal added legal is few below = record { each = λ session low. ⊎_elim (λ (lt : session < 9). below.each session low lt) (λ (high : 9 ≤ session). beyond session high) (either session 9) } where
   either : (a b : ℕ) → (a < b) ⊎ (b ≤ a)
   either a zero = inr (omega arith)
   either zero (suc b) = inl (omega arith)
   either (suc a) (suc b) = ⊎_elim (λ (lt : a < b). inl (omega (arith, lt))) (λ (le : b ≤ a). inr (omega (arith, le))) (either a b)
 
-  beyond : (session : ℕ) → 9 ≤ session → done_by session journal ≡ asked_by lists session
+  beyond : (session : ℕ) → 9 ≤ session → done_by session added ≡ asked_by lists session
   beyond session high =
       let past : slice_get lists (session - 1) ≡ None = slice_get_past lists (session - 1) (omega (arith, high, few)) in
-      ap works_in (none_beyond session (omega (arith, high)) grid journal legal) ∙ sym (ap works_of_list past)
+      let none : of_session session (older ++ added) ≡ [] = subst (λ (lines : List Entry). of_session session lines ≡ []) is (none_beyond session (omega (arith, high)) grid journal legal) in
+      ap works_in (none_added session older added none) ∙ sym (ap works_of_list past)

@@ -2,6 +2,7 @@ mod Advised
 mod Comparing
 mod Rows
 mod Going
+mod Beginnings
 mod Parts
 mod Serving
 mod Histories

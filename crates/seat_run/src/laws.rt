@@ -1,5 +1,5 @@
 //! The laws of the definitions, each the contract of a function that does nothing.
-ghost use Rattle.seat_run.specs.Against.{UnaskedIsNotAudited};
+ghost use Rattle.seat_run.specs.Against.{AuditsBehindNoLines, UnaskedIsNotAudited};
 ghost use Rattle.seat_run.specs.Audits.{RunsAreAudited};
 ghost use Rattle.seat_run.specs.First.{RunsFromNoLines};
 
@@ -15,8 +15,13 @@ pub fn runs_from_no_lines()
     ensures { RunsFromNoLines }
 {}
 
-/// What `audit` with scripts refuses as unasked has no line: the journal that differs from its scripts at a call is no journal of
-/// just their requests.
+/// What `audit` with scripts refuses as unasked has no line: the journal that differs from the older one, or behind its lines from
+/// the scripts, is none that goes on from the one with just what the others ask.
 pub fn unasked_is_not_audited()
     ensures { UnaskedIsNotAudited }
+{}
+
+/// Behind a journal without lines `audit` with scripts is that of one journal: the lines of each session are what its script asks.
+pub fn audits_behind_no_lines()
+    ensures { AuditsBehindNoLines }
 {}

@@ -16,6 +16,8 @@ mod scripts;
 
 pub use against::desk_audit_against;
 pub use kept_write::KeptWrite;
-pub use laws::{runs_are_audited, runs_from_no_lines, unasked_is_not_audited};
+pub use laws::{
+    audits_behind_no_lines, runs_are_audited, runs_from_no_lines, unasked_is_not_audited,
+};
 pub use past::{NO_LINES, no_lines};
 pub use run::desk_run;

@@ -1,10 +1,14 @@
-use Rattle.std.proofs.Common.{◌≡◌, ℕ, arith, subst}
-use Rattle.seat_run.specs.Against.{AreAskedBelow}
-use Rattle.seat_run.proofs.Comparing.{all_asked}
+use Rattle.std.proofs.Common.{◌+◌, ℕ, ap}
+use Rattle.seat_run.proofs.Beginnings.{all_behind, unasked_behind}
 use Rattle.seat_run.proofs.against.check.Goals as goal
 
-pub returns-clause-ok : goal.returns-clause-ok
-returns-clause-ok c =
-    let nine : c.loop-session.session ≡ 9 = omega (arith, c.loop-session-test.false, c.loop-session.invariant.within) in
-    all_asked c.args.core.now.grid c.args.lists.now c.args.core.now.journal c.journal-journal.ensures.legal c.requires.few
-    (subst (λ (s : ℕ). AreAskedBelow c.args.lists.now c.args.core.now.journal s) nine c.loop-session.invariant.below)
+pub returns-in-Some-first_unasked-clause-fault : goal.returns-in-Some-first_unasked-clause-fault
+returns-in-Some-first_unasked-clause-fault c =
+    unasked_behind c.args.lists.now c.args.older.now.journal c.args.core.now.journal c.added-added.result.now c.in-Some-first_unasked.session c.in-Some-first_unasked.place
+    (c.calls_of.result + c.in-Some-first_unasked.place) c.added-added.ensures.goes_on c.in-Some-first_unasked.ensures.differ
+    (ap (λ (calls : ℕ). calls + c.in-Some-first_unasked.place) c.calls_of.ensures.value)
+
+pub returns-in-None-clause-ok : goal.returns-in-None-clause-ok
+returns-in-None-clause-ok c =
+    all_behind c.args.core.now.grid c.args.lists.now c.args.older.now.journal c.args.core.now.journal c.added-added.result.now c.added-added.ensures.legal c.added-added.ensures.goes_on c.requires.few
+    c.in-None.ensures.same
