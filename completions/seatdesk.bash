@@ -52,8 +52,8 @@ _seatdesk() {
         place='files'
         ;;
     run)
-        words='--set --limits --first --days --today --journal --changes --no-clobber -h --help'
-        files='--set --limits --journal --changes'
+        words='--set --limits --first --days --after --today --journal --changes --no-clobber -h --help'
+        files='--set --limits --after --journal --changes'
         values='--first --days --today'
         place='files'
         ;;
@@ -64,8 +64,8 @@ _seatdesk() {
         place='files'
         ;;
     audit)
-        words='--set --limits --first --days --today -h --help'
-        files='--set --limits'
+        words='--set --limits --first --days --after --today -h --help'
+        files='--set --limits --after'
         values='--first --days --today'
         place='files'
         ;;

@@ -46,6 +46,7 @@ complete -c seatdesk -n '__fish_seen_subcommand_from run' -l set -r -F -d 'The d
 complete -c seatdesk -n '__fish_seen_subcommand_from run' -l limits -r -F -d 'The booking limits of the legs, in seats from 0 to 999 (a file)'
 complete -c seatdesk -n '__fish_seen_subcommand_from run' -l first -x -d 'The first day of departure, as 2024-06-01, from 2000 to 2099'
 complete -c seatdesk -n '__fish_seen_subcommand_from run' -l days -x -d 'How many days from the first on, 1 to 366'
+complete -c seatdesk -n '__fish_seen_subcommand_from run' -l after -r -F -d 'The journal to go on from (a file that run wrote); its lines stand ahead of the new ones'
 complete -c seatdesk -n '__fish_seen_subcommand_from run' -l today -x -d 'The day of the run, as 2024-06-01, from 2000 to 2099; it gives the requests their year'
 complete -c seatdesk -n '__fish_seen_subcommand_from run' -l journal -r -F -d 'The file that the journal is written to, which may be no input'
 complete -c seatdesk -n '__fish_seen_subcommand_from run' -l changes -r -F -d 'Changes of the limits, made beside the sessions (a file); without it no limit changes'
@@ -65,6 +66,7 @@ complete -c seatdesk -n '__fish_seen_subcommand_from audit' -l set -r -F -d 'The
 complete -c seatdesk -n '__fish_seen_subcommand_from audit' -l limits -r -F -d 'The booking limits of the legs, in seats from 0 to 999 (a file)'
 complete -c seatdesk -n '__fish_seen_subcommand_from audit' -l first -x -d 'The first day of departure, as 2024-06-01, from 2000 to 2099'
 complete -c seatdesk -n '__fish_seen_subcommand_from audit' -l days -x -d 'How many days from the first on, 1 to 366'
+complete -c seatdesk -n '__fish_seen_subcommand_from audit' -l after -r -F -d 'The journal that JOURNAL goes on from (a file); the scripts ask for the lines behind its own'
 complete -c seatdesk -n '__fish_seen_subcommand_from audit' -l today -x -d 'The day of the run, as 2024-06-01, from 2000 to 2099; it gives the requests their year'
 complete -c seatdesk -n '__fish_seen_subcommand_from audit' -s h -l help -d 'Print help'
 complete -c seatdesk -n '__fish_seen_subcommand_from audit' -F
