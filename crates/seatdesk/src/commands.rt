@@ -15,7 +15,7 @@ use seat_host::NoGate;
 use seat_questions::{
     Asked, Bars, CityPair, desk_bookings, desk_cover, desk_opening_rooms, desk_rooms, desk_why,
 };
-use seat_run::{desk_audit_against, desk_run};
+use seat_run::{NO_LINES, desk_audit_against, desk_run};
 use seat_words::{Horizon, date_word, days_word, line_word, locator_word, pair_word};
 use ssim_records::Day;
 use std::sync::Wait;
@@ -227,10 +227,11 @@ pub fn why<'a>(
     )
 }
 
-/// Without a script the journal is looked at alone. Scripts need the day of the run.
+/// Without a script the journal is looked at alone. Scripts need the day of the run, and an older journal needs scripts.
 pub fn audit<'a>(
     rt: &HostRuntime,
     over: &Horizon<'a>,
+    after: Option<&'a str>,
     today: Option<&str>,
     journal: &'a str,
     scripts: &[&'a str],
@@ -241,6 +242,9 @@ pub fn audit<'a>(
         None => None,
     };
     if scripts.is_empty() {
+        if after.is_some() {
+            return Err(Refusal::of(DeskFault::TooManyScripts));
+        }
         return audit_alone(rt, over, days, journal);
     }
     let Some(today) = today else {
@@ -249,7 +253,7 @@ pub fn audit<'a>(
     if scripts.len() > MOST_SCRIPTS {
         return Err(Refusal::of(DeskFault::TooManyScripts));
     }
-    audit_against(rt, over, days, today, journal, scripts)
+    audit_against(rt, over, days, after, today, journal, scripts)
 }
 
 fn audit_alone<'a>(
@@ -287,6 +291,7 @@ fn audit_against<'a>(
     rt: &HostRuntime,
     over: &Horizon<'a>,
     days: (Day, u16),
+    after: Option<&'a str>,
     today: Day,
     journal: &'a str,
     scripts: &[&'a str],
@@ -303,12 +308,14 @@ fn audit_against<'a>(
         first,
         days,
     };
+    let mut after = opened_or(rt, after, &NO_LINES)?;
     let mut journal = taken(rt, journal)?;
     let mut scripts = all_opened(rt, scripts)?;
     let mut out = standard_output(rt);
     let outcome = desk_audit_against(
         rt.alloc(),
         &mut inputs,
+        &mut after,
         &mut journal,
         scripts.as_mut_slice(),
         today,
@@ -320,6 +327,7 @@ fn audit_against<'a>(
     let refusal = Refusal::of(fault)
         .noting(&inputs.set)
         .noting(&inputs.limits)
+        .noting(&after)
         .noting(&journal);
     Err(refusal.noting_all(scripts.as_slice()).noting_output(&out))
 }
@@ -327,6 +335,7 @@ fn audit_against<'a>(
 /// What a run is asked for beside its flights and limits, as it was written.
 #[derive(Clone, Copy)]
 pub struct Asking<'a, 'b> {
+    pub after: Option<&'a str>,
     pub today: &'a str,
     pub journal: &'a str,
     pub changes: Option<&'a str>,
@@ -334,8 +343,8 @@ pub struct Asking<'a, 'b> {
     pub scripts: &'b [&'a str],
 }
 
-/// OUT, the file of the journal, is looked at and made once each input is open, and before the first is read. Without a file of
-/// changes there are none.
+/// OUT, the file of the journal, is looked at and made once each input is open, and before the first is read. Without an older
+/// journal the run goes on from no line, and without a file of changes there are none.
 pub fn run<'a, T: Threads + Wait + Sync>(
     rt: &HostRuntime,
     threads: &T,
@@ -354,10 +363,11 @@ pub fn run<'a, T: Threads + Wait + Sync>(
         first,
         days,
     };
+    let mut after = opened_or(rt, asking.after, &NO_LINES)?;
     let mut scripts = all_opened(rt, asking.scripts)?;
     let mut changes = opened_or(rt, asking.changes, b"")?;
     let guard = Guard::new(rt, asking.journal)?;
-    guard.pass(&inputs, scripts.as_slice(), &[&changes])?;
+    guard.pass(&inputs, scripts.as_slice(), &[&after, &changes])?;
     if asking.no_clobber {
         guard.keep()?;
     }
@@ -367,6 +377,7 @@ pub fn run<'a, T: Threads + Wait + Sync>(
         threads,
         rt.alloc(),
         &mut inputs,
+        &mut after,
         scripts.as_mut_slice(),
         &mut changes,
         today,
@@ -380,6 +391,7 @@ pub fn run<'a, T: Threads + Wait + Sync>(
     let refusal = Refusal::of(fault)
         .noting(&inputs.set)
         .noting(&inputs.limits)
+        .noting(&after)
         .noting_all(scripts.as_slice());
     Err(
         refusal

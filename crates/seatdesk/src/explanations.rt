@@ -362,7 +362,7 @@ const SCRIPTS: &[Explanation] = &[
         behind: "",
         code: "B1",
         numbers: &["session", "call of that session"],
-        text: "The journal has no line left for a request or a change.\nIt has at most 999,999 lines: take fewer requests into one run.",
+        text: "The journal has no line left for a request or a change.\nIt has at most 999,999 lines, with those of --after: take fewer requests into one run.",
     },
     Explanation {
         behind: "",
@@ -448,19 +448,19 @@ const JOURNALS: &[Explanation] = &[
         behind: "",
         code: "J1",
         numbers: LINE,
-        text: "The journal does not begin with the line SEATJOURNAL 2 or SEATJOURNAL 1.\nIt may be another file, or an empty one.",
+        text: "The journal does not begin with the line SEATJOURNAL 2 or SEATJOURNAL 1.\nIt may be another file, or an empty one.\nWith --after it may be the older journal, which is read first.",
     },
     Explanation {
         behind: "",
         code: "J2",
         numbers: LINE,
-        text: "The line of the journal is no entry. Lines count from 1, with the head.",
+        text: "The line of the journal is no entry. Lines count from 1, with the head.\nWith --after it may be the older journal, which is read first.",
     },
     Explanation {
         behind: "",
         code: "J3",
         numbers: LINE,
-        text: "The line is a wrong END line, stands behind it, or should be the END line and is missing.\nThe journal may have been cut off.",
+        text: "The line is a wrong END line, stands behind it, or should be the END line and is missing.\nThe journal may have been cut off.\nWith --after it may be the older journal, which is read first.",
     },
     Explanation {
         behind: "",
@@ -494,31 +494,31 @@ const ENTRIES: &[Explanation] = &[
         behind: "",
         code: "P1",
         numbers: ENTRY,
-        text: "The entry's number is not its place in the journal. Entries count from 1.",
+        text: "The entry's number is not its place in the journal. Entries count from 1.\nWith --after it may be the older journal, which is read first.",
     },
     Explanation {
         behind: "",
         code: "P2",
         numbers: ENTRY,
-        text: "Another reply is right for the entry, by the lines ahead of it and the limits.\nseatdesk why says which, and from what numbers of seats.",
+        text: "Another reply is right for the entry, by the lines ahead of it and the limits.\nseatdesk why says which, and from what numbers of seats.\nWith --after it may be the older journal, which is read first.",
     },
     Explanation {
         behind: "",
         code: "P3",
         numbers: ENTRY,
-        text: "Another number of released seats is right for the entry.\nseatdesk why says which.",
+        text: "Another number of released seats is right for the entry.\nseatdesk why says which.\nWith --after it may be the older journal, which is read first.",
     },
     Explanation {
         behind: "",
         code: "P4",
         numbers: ENTRY,
-        text: "Other confirmations from the waitlist are right for the entry.\nseatdesk why says which.",
+        text: "Other confirmations from the waitlist are right for the entry.\nseatdesk why says which.\nWith --after it may be the older journal, which is read first.",
     },
     Explanation {
         behind: "",
         code: "P5",
         numbers: ENTRY,
-        text: "The entry's session may not make it, or the call is not the next of that session.\nSessions 1 to 8 ask for seats, and session 0, the manager, changes limits.",
+        text: "The entry's session may not make it, or the call is not the next of that session.\nSessions 1 to 8 ask for seats, and session 0, the manager, changes limits.\nWith --after it may be the older journal, which is read first.",
     },
     Explanation {
         behind: "",
@@ -530,13 +530,13 @@ const ENTRIES: &[Explanation] = &[
         behind: "",
         code: "P7",
         numbers: ENTRY,
-        text: "The command or change of the entry does not fit the flights: there is no such place or leg.\nThe journal may be of another data set, first day or number of days.",
+        text: "The command or change of the entry does not fit the flights: there is no such place or leg.\nThe journal may be of another data set, first day or number of days.\nWith --after it may be the older journal, which is read first.",
     },
     Explanation {
         behind: "",
         code: "P8",
         numbers: &["session", "call of that session"],
-        text: "The journal's line of that call is not what the script of the session asks there,\nor one of them has more. The journal may be of other scripts, another first day or another data set.",
+        text: "The journal's line of that call is not what the script of the session asks there,\nor one of them has more. The journal may be of other scripts, another first day or another data set.\nWith --after calls go on from those of the older journal. Where the journal does not begin with its\nlines, the session and the call are those of the first line that differs, which may be of session 0.",
     },
 ];
 
@@ -564,7 +564,7 @@ const WORDS: &[Explanation] = &[
         behind: "E2",
         code: "script",
         numbers: NONE,
-        text: "There are more than 8 scripts.",
+        text: "There are more than 8 scripts, or audit has --after and no script.",
     },
     Explanation {
         behind: "E2",
@@ -594,7 +594,7 @@ const WORDS: &[Explanation] = &[
         behind: "E2",
         code: "journal",
         numbers: NONE,
-        text: "The file of --journal is one of the inputs, or --no-clobber keeps it: it is there and not empty.\nNothing was written.",
+        text: "The file of --journal is one of the inputs, also the journal of --after, or --no-clobber keeps it:\nit is there and not empty. Nothing was written.",
     },
     Explanation {
         behind: "E2",

@@ -76,6 +76,7 @@ fn carry_out<'a, T: Threads + Wait + Sync>(
         Job::Cover { over } => commands::cover(rt, over),
         Job::Run {
             over,
+            after,
             today,
             journal,
             changes,
@@ -83,6 +84,7 @@ fn carry_out<'a, T: Threads + Wait + Sync>(
             scripts,
         } => {
             let asking = Asking {
+                after: *after,
                 today,
                 journal,
                 changes: *changes,
@@ -93,10 +95,11 @@ fn carry_out<'a, T: Threads + Wait + Sync>(
         }
         Job::Audit {
             over,
+            after,
             today,
             journal,
             scripts,
-        } => commands::audit(rt, over, *today, journal, scripts.as_slice()),
+        } => commands::audit(rt, over, *after, *today, journal, scripts.as_slice()),
         Job::Rooms {
             over,
             day,
