@@ -202,7 +202,7 @@ fn run_command<'a>(alloc: Global) -> Result<Command<'a>, AllocError>
         alloc,
         "run",
         "Books the requests of scripts, one session on a thread for each script, and writes the replies",
-        "OUT is created, empty, after the inputs open and before they are read; a refused run leaves it empty.\n\nExample: seatdesk run --set examples/summer.ssim --limits examples/limits.txt --first 2024-07-01 --days 31 --today 2024-06-20 --journal journal.txt examples/london.txt examples/lisbon.txt\n\nWith changes of the limits: seatdesk run --set examples/summer.ssim --limits examples/limits.txt --first 2024-07-01 --days 31 --today 2024-06-20 --journal journal.txt --changes examples/changes.txt examples/london.txt examples/lisbon.txt\n\nThe day after: seatdesk run --set examples/summer.ssim --limits examples/limits.txt --first 2024-07-01 --days 31 --after examples/journal.txt --today 2024-06-21 --journal journal-2.txt examples/london-2.txt",
+        "OUT is created, empty, after the inputs open and before they are read; a refused run leaves it empty.\nThe journal of --after belongs to its set, limits, first day and days: name the same ones.\n\nExample: seatdesk run --set examples/summer.ssim --limits examples/limits.txt --first 2024-07-01 --days 31 --today 2024-06-20 --journal journal.txt examples/london.txt examples/lisbon.txt\n\nWith changes of the limits: seatdesk run --set examples/summer.ssim --limits examples/limits.txt --first 2024-07-01 --days 31 --today 2024-06-20 --journal journal.txt --changes examples/changes.txt examples/london.txt examples/lisbon.txt\n\nThe day after: seatdesk run --set examples/summer.ssim --limits examples/limits.txt --first 2024-07-01 --days 31 --after examples/journal.txt --today 2024-06-21 --journal journal-2.txt examples/london-2.txt",
     );
     let run = with_argument(run, optional_option(alloc, "after", "JOURNAL", AFTER_HELP));
     let run = with_argument(run, wanted_option(alloc, "today", "DATE", TODAY_HELP));
@@ -238,7 +238,7 @@ fn audit_command<'a>(alloc: Global) -> Result<Command<'a>, AllocError>
         alloc,
         "audit",
         "Replays a journal against its schedule and limits, and writes one summary line",
-        "Example: seatdesk audit --set examples/summer.ssim --limits examples/limits.txt --first 2024-07-01 --days 31 examples/journal.txt\n\nAgainst its scripts: seatdesk audit --set examples/summer.ssim --limits examples/limits.txt --first 2024-07-01 --days 31 --today 2024-06-20 examples/journal.txt examples/london.txt examples/lisbon.txt\n\nThe day after: seatdesk audit --set examples/summer.ssim --limits examples/limits.txt --first 2024-07-01 --days 31 --after examples/journal.txt --today 2024-06-21 journal-2.txt examples/london-2.txt",
+        "A journal belongs to its set, limits, first day and days. With the scripts audit sees whether they are those: over\nanother first day its lines are not what the scripts ask (P8).\n\nExample: seatdesk audit --set examples/summer.ssim --limits examples/limits.txt --first 2024-07-01 --days 31 examples/journal.txt\n\nAgainst its scripts: seatdesk audit --set examples/summer.ssim --limits examples/limits.txt --first 2024-07-01 --days 31 --today 2024-06-20 examples/journal.txt examples/london.txt examples/lisbon.txt\n\nThe day after: seatdesk audit --set examples/summer.ssim --limits examples/limits.txt --first 2024-07-01 --days 31 --after examples/journal.txt --today 2024-06-21 journal-2.txt examples/london-2.txt",
     );
     let audit = with_argument(
         audit,
