@@ -39,14 +39,14 @@ leg_line i j flight leg old head mid new e way f = record {
 by_row : (b : Bool) (i : ℕ) (flight : Flight) (j : ℕ) (leg : DatedLeg) → b ≡ true → IsLegTextBy b i flight j leg []
 by_row b i flight j leg e = rw e refl
 
--- a leg with a row has no line
-pub leg_covered : (rows : List LimitRow) (i : ℕ) (flight : Flight) (j : ℕ) (leg : DatedLeg) (text : List ℕ) → has_row rows flight leg ≡ true → IsLegPut rows i flight j leg text text
-leg_covered rows i flight j leg text e = record { part = []; is_part = by_row (has_row rows flight leg) i flight j leg e; written = sym (append-nil text) }
+-- a leg that passes the test has no line
+pub leg_covered : (test : Flight → DatedLeg → Bool) (i : ℕ) (flight : Flight) (j : ℕ) (leg : DatedLeg) (text : List ℕ) → test flight leg ≡ true → IsLegPut test i flight j leg text text
+leg_covered test i flight j leg text e = record { part = []; is_part = by_row (test flight leg) i flight j leg e; written = sym (append-nil text) }
 
--- one without has it
-pub leg_bare : (rows : List LimitRow) (i : ℕ) (flight : Flight) (j : ℕ) (leg : DatedLeg) (old new : List ℕ) → has_row rows flight leg ≡ false
-    → IsBarePut i flight j leg old new → IsLegPut rows i flight j leg old new
-leg_bare rows i flight j leg old new e put =
+-- one that fails it has
+pub leg_bare : (test : Flight → DatedLeg → Bool) (i : ℕ) (flight : Flight) (j : ℕ) (leg : DatedLeg) (old new : List ℕ) → test flight leg ≡ false
+    → IsBarePut i flight j leg old new → IsLegPut test i flight j leg old new
+leg_bare test i flight j leg old new e put =
     record { part = put.line; is_part = subst (λ (b : Bool). IsLegTextBy b i flight j leg put.line) (sym e) put.is_line; written = put.written }
 
 pub cover_text : (rows : List LimitRow) (flights : List Flight) (start mid legs new : List ℕ) (a b c : ℕ) → start ≡ []

@@ -1,5 +1,7 @@
+mod Coverages
 mod Covers
 mod Grounds
+mod Numbering
 mod RoomGrounds
 mod RoomTexts
 pub mod Making

@@ -30,8 +30,12 @@ abbrev pub row_text : ℕ → Bool → List ℕ
 row_text n true = []
 row_text n false = codes "ROW " ++ decimal n ++ codes " NO LEG" ++ 10 ∷ []
 
+-- by a test of rows, and for these flights
+abbrev pub IsRowPartBy : (LimitRow → Bool) → ℕ → LimitRow → List ℕ → Type 0
+IsRowPartBy test n row text = text ≡ row_text n (test row)
+
 abbrev pub IsRowPart : List Flown → ℕ → LimitRow → List ℕ → Type 0
-IsRowPart flights n row text = text ≡ row_text n (has_leg flights row)
+IsRowPart flights = IsRowPartBy (has_leg flights)
 
 abbrev pub designator_text : Flown → List ℕ
 designator_text flight = flight.airline ++ decimal flight.number ++ suffix_text flight.suffix
@@ -49,8 +53,15 @@ abbrev pub IsLegTextBy : Bool → ℕ → Flown → ℕ → DatedLeg → List �
 IsLegTextBy true i flight j leg text = text ≡ []
 IsLegTextBy false i flight j leg text = IsBareText i flight j leg text
 
-abbrev pub IsLegPart : List LimitRow → ℕ → Flown → ℕ → DatedLeg → List ℕ → Type 0
-IsLegPart rows i flight j leg text = IsLegTextBy (has_row rows flight leg) i flight j leg text
+-- by a test of legs, and for these rows
+abbrev pub IsLegPartBy : (Flown → DatedLeg → Bool) → ℕ → Flown → ℕ → DatedLeg → List ℕ → Type 0
+IsLegPartBy test i flight j leg text = IsLegTextBy (test flight leg) i flight j leg text
+
+abbrev pub IsFlightPartBy : (Flown → DatedLeg → Bool) → ℕ → Flown → List ℕ → Type 0
+IsFlightPartBy test i flight text = IsText (IsLegPartBy test i flight) 0 flight.legs text
+
+abbrev pub IsFlightPart : List LimitRow → ℕ → Flown → List ℕ → Type 0
+IsFlightPart rows = IsFlightPartBy (has_row rows)
 
 -- such a line is written behind what was there
 pub record IsBarePut (i : ℕ) (flight : Flown) (j : ℕ) (leg : DatedLeg) (old new : List ℕ) : Type 0 where
@@ -59,20 +70,20 @@ pub record IsBarePut (i : ℕ) (flight : Flown) (j : ℕ) (leg : DatedLeg) (old 
   pub written : new ≡ old ++ line
 
 -- such a part is
-pub record IsLegPut (rows : List LimitRow) (i : ℕ) (flight : Flown) (j : ℕ) (leg : DatedLeg) (old new : List ℕ) : Type 0 where
+pub record IsLegPut (test : Flown → DatedLeg → Bool) (i : ℕ) (flight : Flown) (j : ℕ) (leg : DatedLeg) (old new : List ℕ) : Type 0 where
   pub part : List ℕ
-  pub is_part : IsLegPart rows i flight j leg part
+  pub is_part : IsLegPartBy test i flight j leg part
   pub written : new ≡ old ++ part
 
-abbrev pub IsFlightPart : List LimitRow → ℕ → Flown → List ℕ → Type 0
-IsFlightPart rows i flight text = IsText (IsLegPart rows i flight) 0 flight.legs text
-
--- the legs of a flight, and those of them that have a row
+-- the legs of a flight, and those of them that pass the test, or have a row
 abbrev pub leg_count : Flown → ℕ
 leg_count flight = length flight.legs
 
+abbrev pub covered_by : (Flown → DatedLeg → Bool) → Flown → ℕ
+covered_by test flight = count_by (test flight) flight.legs
+
 abbrev pub covered_legs : List LimitRow → Flown → ℕ
-covered_legs rows flight = count_by (has_row rows flight) flight.legs
+covered_legs rows = covered_by (has_row rows)
 
 -- A of B
 abbrev pub share_text : ℕ → ℕ → List ℕ

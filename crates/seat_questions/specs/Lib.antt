@@ -1,3 +1,5 @@
+pub mod PairNumbers
+pub mod Coverage
 pub mod Cover
 pub mod Ground
 pub mod Rooms

@@ -1,18 +1,19 @@
 //! `cover`: the limit rows that are for no leg, and the legs that have no row.
 ghost use Rattle.std.specs.Prelude.{if◌then◌else◌, ◌≡◌, ℕ, List, ◌≢◌, ◌++◌, ◌*◌, ◌+◌, ◌<◌, ◌≤◌, ◌⊎◌, IfErr, IfOk, OnOk, decimal, codes, length, count_by};
-ghost use Rattle.std.specs.List.{list_any, sum_by};
+ghost use Rattle.std.specs.List.{sum_by};
 ghost use Rattle.ssim_flights.specs.Right.{IsOfCentury};
-ghost use Rattle.seat_nesting.specs.Authorised.{holds_day, is_for, leg_pair, row_pair, same_pair};
 ghost use Rattle.seat_desk.specs.Desk.{InputFailed, IsOfInput, IsWritten, OutputFailed};
 ghost use Rattle.seat_desk.specs.FlightsDesk.{IsLegText, IsPut, suffix_text};
 ghost use Rattle.seat_desk.specs.Loading.{HaveFailed, IsRefusedLoadOf, IsTooLargeLoadOf};
-ghost use Rattle.seat_questions.specs.Cover.{IsBarePut, IsCoverOf, IsCoverText, IsFlightPart, IsLegPart, IsLegPut, IsRowPart, bare_head, covered_legs, sums_text, designator_text, has_leg, has_row, is_on, is_row_of, leg_count, row_text, share_text};
+ghost use Rattle.seat_questions.specs.Cover.{IsBarePut, IsCoverOf, IsCoverText, IsFlightPartBy, IsLegPartBy, IsLegPut, IsRowPartBy, bare_head, covered_by, designator_text, leg_count, row_text, share_text, sums_text};
+ghost use Rattle.seat_questions.specs.Coverage.{IsSearchable, finds_leg, finds_row};
 
+use crate::coverage::Coverage;
 use crate::ground::load_rows;
 use seat_desk::{DeskFault, Inputs, put, put_number};
 use seat_nesting::LimitRow;
 use ssim_flights::{DatedLeg, Flight, Flights};
-use ssim_records::{NotedRead, NotedWrite, put_all};
+use ssim_records::{Memory, NotedRead, NotedWrite, put_all};
 use std::alloc::{AllocError, Global};
 
 /// Writes a line for each limit row that is for no leg, one for each dated leg without a row, and last how many
@@ -52,12 +53,13 @@ fn covered(alloc: Global, flights: &Flights, rows: &[LimitRow]) -> Result<Vec<u8
     }
 }
 
-fn text_of(alloc: Global, flights: &Flights, rows: &[LimitRow]) -> Result<Vec<u8>, AllocError>
+fn text_of(alloc: Global, flights: &Flights, rows: &[LimitRow]) -> Result<Vec<u8>, Memory>
     ensures { IfOk result (λ text. IsCoverText rows.now flights.now text.items) }
 {
+    let coverage = Coverage::new(alloc, flights, rows)?;
     let mut text = Vec::new(alloc);
-    let found = put_rows(&mut text, flights, rows)?;
-    let covered = put_flights(&mut text, flights, rows)?;
+    let found = put_rows(&mut text, &coverage, rows)?;
+    let covered = put_flights(&mut text, flights, &coverage)?;
     put_sums(
         &mut text,
         covered,
@@ -89,80 +91,30 @@ fn put_share(text: &mut Vec<u8>, a: u64, b: u64) -> Result<(), AllocError>
 }
 
 /// Adds a line for each row that is for no leg, and answers how many are for one.
-fn put_rows(text: &mut Vec<u8>, flights: &Flights, rows: &[LimitRow]) -> Result<u64, AllocError>
-    ensures put { OnOk result (IsPut (IsRowPart flights.now) 1 rows.now text.old.items text.new.items) }
-    ensures count { IfOk result (λ n. n ≡ count_by (has_leg flights.now) rows.now) }
+fn put_rows(text: &mut Vec<u8>, coverage: &Coverage, rows: &[LimitRow]) -> Result<u64, AllocError>
+    requires { IsSearchable coverage.now }
+    ensures put { OnOk result (IsPut (IsRowPartBy (finds_leg coverage.now)) 1 rows.now text.old.items text.new.items) }
+    ensures count { IfOk result (λ n. n ≡ count_by (finds_leg coverage.now) rows.now) }
 {
     let mut count = 0u64;
     for i in 0..rows.len() {
-        count += put_row(text, i as u64 + 1, flights, &rows[i])?;
+        count += put_row(text, i as u64 + 1, coverage.has_leg(&rows[i]))?;
     }
     Ok(count)
 }
 
 /// Adds the line of a row, if it is for no leg. Else it counts 1.
-fn put_row(text: &mut Vec<u8>, n: u64, flights: &Flights, row: &LimitRow) -> Result<u64, AllocError>
-    ensures put { OnOk result (text.new.items ≡ text.old.items ++ row_text n (has_leg flights.now row.now)) }
-    ensures count { IfOk result (λ c. c ≡ (if has_leg flights.now row.now then 1 else 0)) }
+fn put_row(text: &mut Vec<u8>, n: u64, has_leg: bool) -> Result<u64, AllocError>
+    ensures put { OnOk result (text.new.items ≡ text.old.items ++ row_text n has_leg) }
+    ensures count { IfOk result (λ c. c ≡ (if has_leg then 1 else 0)) }
 {
-    if has_leg(row, flights) {
+    if has_leg {
         return Ok(1);
     }
     put(text, b"ROW ")?;
     put_number(text, n)?;
     put(text, b" NO LEG\n")?;
     Ok(0)
-}
-
-/// Whether a row is for some leg.
-fn has_leg(row: &LimitRow, flights: &Flights) -> bool
-    ensures { result ≡ has_leg flights.now row.now }
-{
-    for i in 0..flights.len() {
-        if is_on(row, flights.flight(i)) {
-            return true;
-        }
-    }
-    false
-}
-
-/// Whether a row is for some leg of a flight.
-fn is_on(row: &LimitRow, flight: &Flight) -> bool
-    ensures { result ≡ is_on row.now flight.now }
-{
-    flight
-        .legs
-        .as_slice()
-        .iter()
-        .any(|leg| is_row_of(row, flight, leg))
-}
-
-/// Whether some row is for a leg.
-fn has_row(rows: &[LimitRow], flight: &Flight, leg: &DatedLeg) -> bool
-    ensures { result ≡ has_row rows.now flight.now leg.now }
-{
-    rows.iter().any(|row| is_row_of(row, flight, leg))
-}
-
-/// Whether a row is for a leg: it has its airline, number, suffix and city pair, and its period holds its day.
-fn is_row_of(row: &LimitRow, flight: &Flight, leg: &DatedLeg) -> bool
-    ensures { result ≡ is_row_of row.now flight.now leg.now }
-{
-    is_of_pair(row, flight, leg) && holds_day(row, leg)
-}
-
-fn is_of_pair(row: &LimitRow, flight: &Flight, leg: &DatedLeg) -> bool
-    ensures { result ≡ same_pair (row_pair row.now) (leg_pair flight.now leg.now) }
-{
-    row.airline == flight.airline
-        && (row.number == flight.number
-            && (row.suffix == flight.suffix && (row.board == leg.board && row.off == leg.off)))
-}
-
-fn holds_day(row: &LimitRow, leg: &DatedLeg) -> bool
-    ensures { result ≡ holds_day row.now leg.now.day }
-{
-    row.from.number() <= leg.day.number() && leg.day.number() <= row.to.number()
 }
 
 /// How many legs there are.
@@ -177,13 +129,18 @@ fn legs_of(flights: &Flights) -> u64
 }
 
 /// Adds a line for each leg without a row, and answers how many have one.
-fn put_flights(text: &mut Vec<u8>, flights: &Flights, rows: &[LimitRow]) -> Result<u64, AllocError>
-    ensures put { OnOk result (IsPut (IsFlightPart rows.now) 0 flights.now text.old.items text.new.items) }
-    ensures count { IfOk result (λ n. n ≡ sum_by (covered_legs rows.now) flights.now) }
+fn put_flights(
+    text: &mut Vec<u8>,
+    flights: &Flights,
+    coverage: &Coverage,
+) -> Result<u64, AllocError>
+    requires { IsSearchable coverage.now }
+    ensures put { OnOk result (IsPut (IsFlightPartBy (finds_row coverage.now)) 0 flights.now text.old.items text.new.items) }
+    ensures count { IfOk result (λ n. n ≡ sum_by (covered_by (finds_row coverage.now)) flights.now) }
 {
     let mut count = 0u64;
     for i in 0..flights.len() {
-        count += put_legs(text, i, flights.flight(i), rows)?;
+        count += put_legs(text, i, flights.flight(i), coverage)?;
     }
     Ok(count)
 }
@@ -193,17 +150,18 @@ fn put_legs(
     text: &mut Vec<u8>,
     index: u32,
     flight: &Flight,
-    rows: &[LimitRow],
+    coverage: &Coverage,
 ) -> Result<u64, AllocError>
-    requires { length flight.now.legs ≤ 8 }
-    ensures put { OnOk result (IsPut (IsLegPart rows.now index flight.now) 0 flight.now.legs text.old.items text.new.items) }
-    ensures count { IfOk result (λ n. n ≡ covered_legs rows.now flight.now) }
+    requires searchable { IsSearchable coverage.now }
+    requires few { length flight.now.legs ≤ 8 }
+    ensures put { OnOk result (IsPut (IsLegPartBy (finds_row coverage.now) index flight.now) 0 flight.now.legs text.old.items text.new.items) }
+    ensures count { IfOk result (λ n. n ≡ covered_by (finds_row coverage.now) flight.now) }
     ensures few { IfOk result (λ n. n ≤ 8) }
 {
     let legs = flight.legs.as_slice();
     let mut count = 0u64;
     for j in 0..legs.len() {
-        count += put_leg(text, index, j as u64, flight, &legs[j], rows)?;
+        count += put_leg(text, index, j as u64, flight, &legs[j], coverage)?;
     }
     Ok(count)
 }
@@ -216,12 +174,13 @@ fn put_leg(
     j: u64,
     flight: &Flight,
     leg: &DatedLeg,
-    rows: &[LimitRow],
+    coverage: &Coverage,
 ) -> Result<u64, AllocError>
-    ensures put { OnOk result (IsLegPut rows.now index flight.now j leg.now text.old.items text.new.items) }
-    ensures count { IfOk result (λ n. n ≡ (if has_row rows.now flight.now leg.now then 1 else 0)) }
+    requires { IsSearchable coverage.now }
+    ensures put { OnOk result (IsLegPut (finds_row coverage.now) index flight.now j leg.now text.old.items text.new.items) }
+    ensures count { IfOk result (λ n. n ≡ (if finds_row coverage.now flight.now leg.now then 1 else 0)) }
 {
-    if has_row(rows, flight, leg) {
+    if coverage.has_row(flight, leg) {
         return Ok(1);
     }
     put_bare(text, index, j, flight, leg)?;

@@ -4,9 +4,11 @@
 
 mod bookings;
 mod cover;
+mod coverage;
 mod ground;
 mod legs;
 mod line;
+mod pair_numbers;
 mod rooms;
 mod why;
 
