@@ -1,5 +1,5 @@
 -- The texts of places, of their rooms and of bars.
-use Rattle.std.proofs.Common.{arith, Bool, true, false, ◌≡◌, ℕ, zero, suc, ◌+◌, ◌<◌, ◌≤◌, List, [], ◌∷◌, ◌++◌, length, take, get_or, refl, sym, ap, ◌∙◌, subst, append_assoc}
+use Rattle.std.proofs.Common.{arith, Bool, true, false, ◌≡◌, ℕ, zero, suc, ◌+◌, ◌-◌, ◌<◌, ◌≤◌, List, [], ◌∷◌, ◌++◌, length, take, get_or, refl, sym, ap, ◌∙◌, subst, append_assoc}
 use Rattle.std.specs.Prelude.{slice_get, unwrap_or, option_map, Option, Some}
 use Rattle.std.specs.List.{sum_by}
 use Rattle.std.proofs.lemmas.List.{append-nil, length-map, take_all}
@@ -22,7 +22,7 @@ use Rattle.seat_core.proofs.Flight.View.{bookings_view, held_view}
 use Rattle.seat_desk.specs.AuditDesk.{IsReplayOf}
 use Rattle.seat_desk.specs.FlightsDesk.{IsLegText, head_text}
 use Rattle.seat_desk.specs.Loading.{IsGridOf}
-use Rattle.seat_questions.specs.Rooms.{AreRoomsAfter, IsAdded, IsPlaceText, IsPlaceTextBy, IsRoomsText, IsRunText, bar_line, bar_lines, bars_text, keeps, leg_bars, rooms_part, times}
+use Rattle.seat_questions.specs.Rooms.{AreRoomsAfter, IsAdded, IsPlaceText, IsPlaceTextBy, IsRoomsText, IsRunText, bar_line, bar_lines, bars_text, block_bar, keeps, leg_bars, rooms_part, times}
 use Rattle.seat_questions.specs.declared.rooms.Asked.{Asked}
 use Rattle.seat_questions.specs.declared.rooms.Bars.{Bars}
 
@@ -165,3 +165,26 @@ times_more n bytes old mid new so_far put =
     let e : suc n ≡ n + 1 = omega arith in
     put ∙ ap (λ (l : List ℕ). l ++ bytes) so_far ∙ append_assoc old (times n bytes) bytes
     ∙ ap (λ (l : List ℕ). old ++ l) (times_next n bytes) ∙ ap (λ (k : ℕ). old ++ times k bytes) e
+
+-- ---- blocks
+
+assoc_four : (a b c d : List ℕ) → ((a ++ b) ++ c) ++ d ≡ a ++ ((b ++ c) ++ d)
+assoc_four a b c d = simp append_assoc
+
+-- with a half block
+pub half_put : (n m : ℕ) (half : Bool) (old full mid new : List ℕ) → half ≡ true → full ≡ old ++ times n (226 ∷ 150 ∷ 136 ∷ []) → mid ≡ full ++ 226 ∷ 150 ∷ 140 ∷ []
+    → m ≡ 19 - n → new ≡ mid ++ times m (194 ∷ 183 ∷ []) → new ≡ old ++ block_bar n half
+half_put n m half old full mid new e is_full is_mid is_left is_new =
+    let whole : List ℕ = times n (226 ∷ 150 ∷ 136 ∷ []) in
+    let one : List ℕ = 226 ∷ 150 ∷ 140 ∷ [] in
+    let dots : List ℕ = times (19 - n) (194 ∷ 183 ∷ []) in
+    subst (λ (b : Bool). new ≡ old ++ block_bar n b) (sym e)
+    (is_new ∙ ap (λ (k : ℕ). mid ++ times k (194 ∷ 183 ∷ [])) is_left ∙ ap (λ (l : List ℕ). l ++ dots) (is_mid ∙ ap (λ (l : List ℕ). l ++ one) is_full) ∙ assoc_four old whole one dots)
+
+-- and without
+pub whole_put : (n m : ℕ) (half : Bool) (old full new : List ℕ) → half ≡ false → full ≡ old ++ times n (226 ∷ 150 ∷ 136 ∷ [])
+    → m ≡ 20 - n → new ≡ full ++ times m (194 ∷ 183 ∷ []) → new ≡ old ++ block_bar n half
+whole_put n m half old full new e is_full is_left is_new =
+    let dots : List ℕ = times (20 - n) (194 ∷ 183 ∷ []) in
+    subst (λ (b : Bool). new ≡ old ++ block_bar n b) (sym e)
+    (is_new ∙ ap (λ (k : ℕ). full ++ times k (194 ∷ 183 ∷ [])) is_left ∙ ap (λ (l : List ℕ). l ++ dots) is_full ∙ append_assoc old (times n (226 ∷ 150 ∷ 136 ∷ [])) dots)

@@ -1,5 +1,5 @@
 -- What `rooms` writes: one line for each place of a flight, with the seats that are left on it in each class.
-use Rattle.std.specs.Prelude.{◌≡◌, ◌≤◌, ℕ, zero, suc, ◌-◌, ◌*◌, ◌/◌, ◌==◌, ◌&&◌, nat_eq, Bool, true, false, if◌then◌else◌, List, [], ◌∷◌, ◌++◌, length, drop, decimal, codes, Option, Some, None, IfSome}
+use Rattle.std.specs.Prelude.{◌≡◌, ◌≤◌, ℕ, zero, suc, ◌-◌, ◌*◌, ◌/◌, ◌%◌, ◌==◌, ◌&&◌, nat_eq, nat_le, Bool, true, false, if◌then◌else◌, List, [], ◌∷◌, ◌++◌, length, drop, decimal, codes, Option, Some, None, IfSome}
 use Rattle.std.specs.List.{flat_map}
 use Rattle.std.specs.Cmp.Lexicographic.{pointwise}
 use Rattle.ssim_records.specs.declared.place.Place.{Place}
@@ -64,22 +64,27 @@ rooms_part state place = codes " ROOM" ++ rooms_text state place
 abbrev pub filled : ℕ → ℕ → ℕ
 filled held limit = (if limit == 0 then 0 else held * 20 / limit)
 
+-- at least half of a character's worth is left over
+abbrev pub has_half : ℕ → ℕ → Bool
+has_half held limit = (if limit == 0 then false else nat_le limit (held * 20 % limit * 2))
+
 -- the same bytes n times
 abbrev pub times : ℕ → List ℕ → List ℕ
 times zero bytes = []
 times (suc n) bytes = bytes ++ times n bytes
 
--- `#` and `.`, or U+2588 and U+00B7 in UTF-8
-abbrev pub full_mark : Bars → List ℕ
-full_mark Plain = codes "#"
-full_mark Blocks = 226 ∷ 150 ∷ 136 ∷ []
+-- `#`, and `.` up to 20 characters
+abbrev pub plain_bar : ℕ → List ℕ
+plain_bar n = times n (codes "#") ++ times (20 - n) (codes ".")
 
-abbrev pub empty_mark : Bars → List ℕ
-empty_mark Plain = codes "."
-empty_mark Blocks = 194 ∷ 183 ∷ []
+-- in UTF-8 U+2588, the half block U+258C where half is left over, and U+00B7 up to 20 characters
+abbrev pub block_bar : ℕ → Bool → List ℕ
+block_bar n true = times n (226 ∷ 150 ∷ 136 ∷ []) ++ (226 ∷ 150 ∷ 140 ∷ []) ++ times (19 - n) (194 ∷ 183 ∷ [])
+block_bar n false = times n (226 ∷ 150 ∷ 136 ∷ []) ++ times (20 - n) (194 ∷ 183 ∷ [])
 
-abbrev pub bar : Bars → ℕ → List ℕ
-bar bars n = times n (full_mark bars) ++ times (20 - n) (empty_mark bars)
+abbrev pub bar : Bars → ℕ → Bool → List ℕ
+bar Plain n half = plain_bar n
+bar Blocks n half = block_bar n half
 
 -- HELD/LIMIT behind a blank, and the end of the line
 abbrev pub bar_share : ℕ → ℕ → List ℕ
@@ -87,7 +92,7 @@ bar_share held limit = codes " " ++ decimal held ++ codes "/" ++ decimal limit +
 
 -- the class, its bar, and the seats that are held in it and those below it, of its limit
 abbrev pub bar_line : Bars → ℕ → ℕ → ℕ → List ℕ
-bar_line bars class held limit = (class ∷ []) ++ codes " " ++ bar bars (filled held limit) ++ bar_share held limit
+bar_line bars class held limit = (class ∷ []) ++ codes " " ++ bar bars (filled held limit) (has_half held limit) ++ bar_share held limit
 
 -- such a line for each of these ranks, from the highest down
 abbrev pub bar_lines : Bars → ByClass → Steps → List ℕ

@@ -9,7 +9,7 @@ ghost use Rattle.seat_desk.specs.AuditDesk.{IsRefusedAuditOf, IsTooLargeOf, IsUn
 ghost use Rattle.seat_desk.specs.Desk.{HasFailed, InputFailed, IsOfInput, IsWritten, OutputFailed};
 ghost use Rattle.seat_desk.specs.FlightsDesk.{IsPut, head_text};
 ghost use Rattle.seat_desk.specs.Loading.{HaveFailed, IsGridOf, IsRefusedLoadOf, IsTooLargeLoadOf};
-ghost use Rattle.seat_questions.specs.Rooms.{AreOpeningRoomsOf, AreRoomsAfter, AreRoomsOf, IsAdded, IsFirstPart, IsLastPart, IsPlaceText, IsRoomsText, IsRunText, bar, bar_line, bar_lines, bar_share, bars_text, filled, keeps, keeps_day, keeps_pair, leg_bars, place_bars, room_text, rooms_part, rooms_text, run_of, times};
+ghost use Rattle.seat_questions.specs.Rooms.{AreOpeningRoomsOf, AreRoomsAfter, AreRoomsOf, IsAdded, IsFirstPart, IsLastPart, IsPlaceText, IsRoomsText, IsRunText, bar, bar_line, bar_lines, bar_share, bars_text, block_bar, filled, has_half, keeps, keeps_day, keeps_pair, leg_bars, place_bars, plain_bar, room_text, rooms_part, rooms_text, run_of, times};
 
 use crate::cover::{put_designator, put_way};
 use seat_core::{Booking, Core, Status};
@@ -502,7 +502,7 @@ fn put_bar(
 {
     put(text, &[class.letter()])?;
     put(text, b" ")?;
-    put_marks(text, bars, filled(held, limit))?;
+    put_marks(text, bars, filled(held, limit), has_half(held, limit))?;
     put_share(text, held, limit)
 }
 
@@ -526,28 +526,52 @@ fn filled(held: u16, limit: u16) -> u32
     u32::from(held) * 20 / u32::from(limit)
 }
 
-/// Adds a bar of which so many characters are full.
-fn put_marks(text: &mut Vec<u8>, bars: Bars, full: u32) -> Result<(), AllocError>
-    ensures { OnOk result (text.new.items ≡ text.old.items ++ bar bars full) }
+/// Whether at least half of a character's worth is left over behind those.
+fn has_half(held: u16, limit: u16) -> bool
+    ensures { result ≡ has_half held limit }
+{
+    if limit == 0 {
+        return false;
+    }
+    u32::from(limit) <= u32::from(held) * 20 % u32::from(limit) * 2
+}
+
+/// Adds a bar of which so many characters are full, and one half full where that can be shown.
+fn put_marks(text: &mut Vec<u8>, bars: Bars, full: u32, half: bool) -> Result<(), AllocError>
+    ensures { OnOk result (text.new.items ≡ text.old.items ++ bar bars full half) }
 {
     match bars {
-        Bars::Plain => put_two(text, full, b"#", b"."),
-        Bars::Blocks => put_two(text, full, b"\xE2\x96\x88", b"\xC2\xB7"),
+        Bars::Plain => put_plain(text, full),
+        Bars::Blocks => put_blocks(text, full, half),
     }
 }
 
-fn put_two(text: &mut Vec<u8>, count: u32, full: &[u8], empty: &[u8]) -> Result<(), AllocError>
-    ensures { OnOk result (text.new.items ≡ text.old.items ++ (times count full.now ++ times (20 - count) empty.now)) }
+fn put_plain(text: &mut Vec<u8>, full: u32) -> Result<(), AllocError>
+    ensures { OnOk result (text.new.items ≡ text.old.items ++ plain_bar full) }
 {
-    put_times(text, count, full)?;
-    put_times(text, left(count), empty)
+    put_times(text, full, b"#")?;
+    put_times(text, left(20, full), b".")
 }
 
-/// How many of the 20 characters are left.
-fn left(count: u32) -> u32
-    ensures { result ≡ 20 - count }
+#[tactic(auto, using(crate::proofs::RoomTexts::half_put, crate::proofs::RoomTexts::whole_put))]
+fn put_blocks(text: &mut Vec<u8>, full: u32, half: bool) -> Result<(), AllocError>
+    ensures { OnOk result (text.new.items ≡ text.old.items ++ block_bar full half) }
 {
-    if count < 20 { 20 - count } else { 0 }
+    put_times(text, full, b"\xE2\x96\x88")?;
+    if half {
+        put(text, b"\xE2\x96\x8C")?;
+        put_times(text, left(19, full), b"\xC2\xB7")?;
+    } else {
+        put_times(text, left(20, full), b"\xC2\xB7")?;
+    }
+    Ok(())
+}
+
+/// How many of so many characters are left.
+fn left(most: u32, count: u32) -> u32
+    ensures { result ≡ most - count }
+{
+    if count < most { most - count } else { 0 }
 }
 
 #[tactic(auto, using(crate::proofs::RoomTexts::times_more))]
