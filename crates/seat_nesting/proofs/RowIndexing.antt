@@ -1,7 +1,8 @@
 -- Limit rows by flight and city pair.
 use Rattle.std.proofs.Common.{◌≡◌, ◌==◌, nat_eq, ℕ, zero, suc, ◌+◌, ◌<◌, ◌≤◌, Bool, true, false, ◌&&◌, cond, List, [], ◌∷◌, ◌++◌, length, take, get_or, fold, Option, Some, None, refl, sym, ap, subst, ◌∙◌, arith}
 use Rattle.std.specs.List.{slice_get}
-use Rattle.std.specs.Option.{option_eq}
+use Rattle.std.specs.Option.{option_eq, option_map}
+use Rattle.std.specs.Prelude.{unwrap_or}
 use Rattle.std.specs.HashMap.{get}
 use Rattle.std.specs.Cmp.Lexicographic.{pointwise}
 use Rattle.std.proofs.lemmas.Bool.{eqb-true, and_parts}
@@ -10,7 +11,7 @@ use Rattle.std.proofs.lemmas.List.{take_more, take_all, length-append}
 use Rattle.std.proofs.lemmas.List.Sums.{fold_push}
 use Rattle.std.proofs.lemmas.Option.{slice_get-get_or, slice_get_within, get_or_from_slice_get, same_Some}
 use Rattle.seat_nesting.specs.Nesting.{Steps}
-use Rattle.seat_nesting.specs.Authorised.{row_pair, same_pair, holds_day, after_row, authorised, LastRows, is_of, last_below, PutsRow, IsRowIndex}
+use Rattle.seat_nesting.specs.Authorised.{row_pair, same_pair, holds_day, after_row, authorised, row_steps, LastRows, is_of, last_below, PutsRow, IsRowIndex}
 use Rattle.seat_nesting.specs.declared.limit_row.LimitRow.{LimitRow}
 use Rattle.seat_nesting.specs.declared.row_index.Pair.{Pair}
 
@@ -170,6 +171,11 @@ pub walk_found : (p : Pair) (day : ℕ) (rows : List LimitRow) (i : ℕ) (row : 
 walk_found p day rows i row w is h =
     let r = walk_row p day rows i row w is in
     sym (r.1 ∙ ap (λ (b : Bool). cond (b && holds_day row day) row.ladder (so_far p day rows i)) r.0 ∙ ap (λ (b : Bool). cond b row.ladder (so_far p day rows i)) h)
+
+-- the same by the row's number
+pub walk_row_found : (p : Pair) (day : ℕ) (rows : List LimitRow) (i : ℕ) (row : LimitRow) → IsWalk p day rows (Some i) → row ≡ get_or rows i row → holds_day row day ≡ true → row_steps rows (Some i) ≡ authorised rows p day
+walk_row_found p day rows i row w is h =
+    ap (λ (o : Option LimitRow). unwrap_or (option_map (λ (r : LimitRow). r.ladder) o) []) (row_here rows i row (walk_inside p day rows i w) is) ∙ walk_found p day rows i row w is h
 
 -- one row back
 pub walk_next : (p : Pair) (day : ℕ) (rows : List LimitRow) (last : LastRows) (before : List (Option ℕ)) (i : ℕ) (row : LimitRow) (next : Option ℕ) → IsRowIndex last before rows (length rows) → IsWalk p day rows (Some i) → row ≡ get_or rows i row → holds_day row day ≡ false

@@ -1,5 +1,5 @@
 -- Authorised seats: which ladder the limit rows give to a dated leg.
-use Rattle.std.specs.Prelude.{◌≡◌, ℕ, zero, suc, ◌<◌, ◌==◌, nat_eq, nat_le, Bool, false, ◌&&◌, List, [], length, map, fold, Option, Some, None, slice_get, if◌then◌else◌}
+use Rattle.std.specs.Prelude.{◌≡◌, ℕ, zero, suc, ◌<◌, ◌==◌, nat_eq, nat_le, Bool, false, ◌&&◌, List, [], length, map, fold, Option, Some, None, option_map, unwrap_or, slice_get, if◌then◌else◌}
 use Rattle.std.specs.Option.{option_eq}
 use Rattle.std.specs.HashMap.{HashMap, get}
 use Rattle.std.specs.Cmp.Lexicographic.{pointwise}
@@ -70,3 +70,15 @@ pub record IsRowIndex (last : LastRows) (before : List (Option ℕ)) (rows : Lis
   pub last_is : (p : Pair) → get same_pair last p ≡ last_below p rows n
   pub counted : length before ≡ n
   pub before_is : (i : ℕ) (row : LimitRow) → i < n → slice_get rows i ≡ Some row → slice_get before i ≡ Some (last_below (row_pair row) rows i)
+
+-- ---- ladders by their rows
+
+-- the ladder of a row, by its number
+abbrev pub row_steps : List LimitRow → Option ℕ → Steps
+row_steps rows None = []
+row_steps rows (Some i) = unwrap_or (option_map (λ (row : LimitRow). row.ladder) (slice_get rows i)) []
+
+-- beside each row its ladder, or nothing yet
+pub record AreShares (shares : List (Option Steps)) (rows : List LimitRow) : Type 0 where
+  pub counted : length shares ≡ length rows
+  pub each : (i : ℕ) (steps : Steps) → slice_get shares i ≡ Some (Some steps) → steps ≡ row_steps rows (Some i)

@@ -1,21 +1,23 @@
 //! The ladder of each leg of each dated flight.
-ghost use Rattle.std.specs.Prelude.{◌≡◌, ◌≤◌, ℕ, length, [], ◌∷◌, IfOk, IfSome, IfNone, IsTrue, map, option_map, ◌↔◌};
+ghost use Rattle.std.specs.Prelude.{◌≡◌, ◌≤◌, ◌<◌, ℕ, length, [], ◌∷◌, Some, IfOk, OnOk, IfSome, IfNone, IsTrue, map, ◌↔◌};
 ghost use Rattle.seat_nesting.specs.Nesting.{Fits, ladder_at, IsDistinct, HasLadders, steps_at, steps_of};
 ghost use Rattle.seat_nesting.specs.Changing.{FitsLimit};
-ghost use Rattle.seat_nesting.specs.Authorised.{authorised_grid, authorised_legs, IsRowIndex};
+ghost use Rattle.seat_nesting.specs.Authorised.{authorised_grid, authorised_legs, row_steps, AreShares, IsRowIndex};
 
 use crate::ladder::{Ladder, Step};
 use crate::limit_row::LimitRow;
 use crate::row_index::{RowIndex, leg_pair_of};
+use crate::shared::SharedLadder;
 use ssim_flights::{Flight, Flights};
 use ssim_records::{Memory, Place};
 use std::alloc::Global;
 use std::marker::Model;
+use std::sync::Arc;
 
 /// The ladders of the legs of one flight. A leg without limits has none.
 #[derive(Drop)]
 pub struct FlightLegs {
-    ladders: Vec<Option<Ladder>>,
+    ladders: Vec<Option<SharedLadder>>,
 }
 
 impl Model for FlightLegs {
@@ -33,7 +35,7 @@ impl Model for FlightLegs {
 /// [`Grid::ladders_are_distinct`] hands out.
 #[derive(Drop)]
 pub struct Grid {
-    flights: Vec<FlightLegs>,
+    flights: Arc<Vec<FlightLegs>>,
 }
 
 impl Model for Grid {
@@ -43,10 +45,11 @@ impl Model for Grid {
     ghost Value = { List (List (List Step)) };
 
     ghost use Rattle.seat_nesting.specs.Nesting.{HasLadders};
+    ghost use Rattle.std.specs.Arc.{arc_value};
 
-    ghost view = { λ g. g.flights.items };
+    ghost view = { λ g. (arc_value g.flights).items };
 
-    ghost invariant = { λ g. HasLadders g.flights.items };
+    ghost invariant = { λ g. HasLadders (arc_value g.flights).items };
 }
 
 impl Grid {
@@ -56,6 +59,7 @@ impl Grid {
         ensures { IfOk result (λ grid. grid ≡ (ladder ∷ []) ∷ []) }
     {
         let _ = ladder.steps();
+        let ladder = SharedLadder::of(alloc, ladder)?;
         let mut ladders = Vec::new(alloc);
         if ladders.push(Some(ladder)).is_err() {
             return Err(Memory);
@@ -64,6 +68,7 @@ impl Grid {
         if flights.push(FlightLegs { ladders }).is_err() {
             return Err(Memory);
         }
+        let flights = Arc::new(alloc, flights)?;
         Ok(Grid { flights })
     }
 
@@ -74,23 +79,24 @@ impl Grid {
         ensures { IfOk result (λ grid. grid ≡ authorised_grid rows.now flights.now) }
     {
         let index = RowIndex::new(alloc, rows)?;
+        let mut shares = no_shares(alloc, rows)?;
         let mut grid = Vec::with_capacity(alloc, flights.len() as usize)?;
         for i in 0..flights.len() {
             let flight = flights.flight(i);
-            grid.push(FlightLegs::build(alloc, flight, rows, &index)?)?;
+            grid.push(FlightLegs::build(alloc, flight, rows, &index, &mut shares)?)?;
         }
-        Ok(Grid { flights: grid })
+        let flights = Arc::new(alloc, grid)?;
+        Ok(Grid { flights })
     }
 
-    /// A copy of the grid.
-    pub fn copy(&self, alloc: Global) -> Result<Grid, Memory>
+    /// The same grid once more. Its memory is shared.
+    pub fn copy(&self, _alloc: Global) -> Result<Grid, Memory>
         ensures { IfOk result (λ grid. grid ≡ self.now) }
     {
-        let mut flights = Vec::with_capacity(alloc, self.flights.len())?;
-        for flight in &self.flights {
-            flights.push(flight.copy(alloc)?)?;
+        match Arc::try_clone(&self.flights) {
+            Ok(flights) => Ok(Grid { flights }),
+            Err(_) => Err(Memory),
         }
-        Ok(Grid { flights })
     }
 
     /// Whether the flight and both legs are there, the second not before the first.
@@ -137,7 +143,7 @@ impl Grid {
     pub(crate) fn flights(&self) -> &[FlightLegs]
         ensures { result.now ≡ self.now }
     {
-        &self.flights
+        self.flights.as_slice()
     }
 
     /// No class stands twice in a leg's steps. It does nothing: each grid promises this.
@@ -150,7 +156,7 @@ impl Grid {
 
 impl FlightLegs {
     /// The ladder of each leg, where it has one.
-    pub(crate) fn ladders(&self) -> &[Option<Ladder>]
+    pub(crate) fn ladders(&self) -> &[Option<SharedLadder>]
         ensures { self.now ≡ map steps_of result.now }
     {
         &self.ladders
@@ -167,7 +173,7 @@ impl FlightLegs {
         ensures none { IfNone result (steps_at self.now leg ≡ []) }
     {
         match self.ladders.get(leg) {
-            Some(Some(ladder)) => Some(ladder),
+            Some(Some(ladder)) => Some(ladder.get()),
             _ => None,
         }
     }
@@ -177,49 +183,82 @@ impl FlightLegs {
         flight: &Flight,
         rows: &[LimitRow],
         index: &RowIndex,
+        shares: &mut Vec<Option<SharedLadder>>,
     ) -> Result<FlightLegs, Memory>
-        requires { IsRowIndex index.now.last index.now.before.items rows.now (length rows.now) }
+        requires index { IsRowIndex index.now.last index.now.before.items rows.now (length rows.now) }
+        requires shares { AreShares shares.old.items rows.now }
         ensures legs { IfOk result (λ legs. legs ≡ authorised_legs rows.now flight.now) }
         ensures distinct { IfOk result (λ legs. (leg : ℕ) → IsDistinct (steps_at legs leg)) }
+        ensures shares { OnOk result (AreShares shares.new.items rows.now) }
     {
         let mut ladders = Vec::with_capacity(alloc, flight.legs.len())?;
         for leg in flight.legs.as_slice() {
-            let ladder = index.ladder(rows, leg_pair_of(flight, leg), leg.day);
-            ladders.push(copy_of_found(ladder))?;
-        }
-        Ok(FlightLegs { ladders })
-    }
-
-    fn copy(&self, alloc: Global) -> Result<FlightLegs, Memory>
-        ensures { IfOk result (λ legs. legs ≡ self.now) }
-    {
-        let mut ladders = Vec::with_capacity(alloc, self.ladders.len())?;
-        for ladder in &self.ladders {
-            ladders.push(copy_of(ladder))?;
+            let row = index.row(rows, leg_pair_of(flight, leg), leg.day);
+            ladders.push(shared_of(alloc, rows, shares, row)?)?;
         }
         Ok(FlightLegs { ladders })
     }
 }
 
 /// A copy of the ladder, if there is one.
-pub(crate) fn copy_of(ladder: &Option<Ladder>) -> Option<Ladder>
+pub(crate) fn copy_of(ladder: &Option<SharedLadder>) -> Option<Ladder>
     ensures { result ≡ ladder.now }
 {
     match ladder {
-        Some(ladder) => Some(ladder.copy()),
+        Some(ladder) => Some(ladder.get().copy()),
         None => None,
     }
 }
 
-fn copy_of_found(ladder: Option<&Ladder>) -> Option<Ladder>
-    ensures value { result ≡ option_map (λ l. l.now) ladder.entry }
-    ensures distinct { IsDistinct (steps_of result) }
+/// Room for the ladder of each row.
+fn no_shares(alloc: Global, rows: &[LimitRow]) -> Result<Vec<Option<SharedLadder>>, Memory>
+    ensures { IfOk result (λ shares. AreShares shares.items rows.now) }
 {
-    match ladder {
-        Some(ladder) => {
-            let _ = ladder.steps();
-            Some(ladder.copy())
-        }
-        None => None,
+    let mut shares = Vec::with_capacity(alloc, rows.len())?;
+    for _row in rows {
+        shares.push(None)?;
     }
+    Ok(shares)
+}
+
+/// The ladder of a row, if there is a row.
+fn shared_of(
+    alloc: Global,
+    rows: &[LimitRow],
+    shares: &mut Vec<Option<SharedLadder>>,
+    row: Option<usize>,
+) -> Result<Option<SharedLadder>, Memory>
+    requires inside { IfSome row (λ i. i < length rows.now) }
+    requires shares { AreShares shares.old.items rows.now }
+    ensures steps { IfOk result (λ ladder. steps_of ladder ≡ row_steps rows.now row) }
+    ensures distinct { IfOk result (λ ladder. IsDistinct (steps_of ladder)) }
+    ensures shares { OnOk result (AreShares shares.new.items rows.now) }
+{
+    let Some(i) = row else {
+        return Ok(None);
+    };
+    let ladder = share(alloc, rows, shares, i)?;
+    let _ = ladder.get().steps();
+    Ok(Some(ladder))
+}
+
+/// The ladder of a row, which all legs share that have it.
+fn share(
+    alloc: Global,
+    rows: &[LimitRow],
+    shares: &mut Vec<Option<SharedLadder>>,
+    i: usize,
+) -> Result<SharedLadder, Memory>
+    requires inside { i < length rows.now }
+    requires shares { AreShares shares.old.items rows.now }
+    ensures steps { IfOk result (λ ladder. ladder ≡ row_steps rows.now (Some i)) }
+    ensures shares { OnOk result (AreShares shares.new.items rows.now) }
+{
+    if let Some(ladder) = &shares[i] {
+        return ladder.again();
+    }
+    let ladder = SharedLadder::of(alloc, rows[i].ladder.copy())?;
+    let kept = ladder.again()?;
+    shares[i] = Some(kept);
+    Ok(ladder)
 }

@@ -15,6 +15,7 @@ mod limit_row;
 mod row_fields;
 mod row_index;
 mod row_reading;
+mod shared;
 
 pub use change_reading::read_changes;
 pub use change_row::{ChangeRow, ChangeRows};

@@ -1,10 +1,8 @@
 //! Limit rows by flight and city pair, so that a leg looks at the rows of its own pair alone.
-ghost use Rattle.std.specs.Prelude.{◌≡◌, ◌≤◌, ◌<◌, length, [], IfOk, OnOk, option_map};
+ghost use Rattle.std.specs.Prelude.{◌≡◌, ◌≤◌, ◌<◌, length, IfOk, IfSome, OnOk};
 ghost use Rattle.std.specs.HashMap.{get};
-ghost use Rattle.seat_nesting.specs.Nesting.{steps_of};
-ghost use Rattle.seat_nesting.specs.Authorised.{row_pair, leg_pair, same_pair, holds_day, authorised, PutsRow, IsRowIndex};
+ghost use Rattle.seat_nesting.specs.Authorised.{row_pair, leg_pair, same_pair, holds_day, authorised, row_steps, PutsRow, IsRowIndex};
 
-use crate::ladder::Ladder;
 use crate::limit_row::LimitRow;
 use ssim_flights::{DatedLeg, Flight};
 use ssim_records::{Airline, Day, Memory, Station};
@@ -42,16 +40,17 @@ impl RowIndex {
         Ok(RowIndex { last, before })
     }
 
-    /// The ladder of the last row that is for a pair on a day.
-    pub fn ladder<'a>(&self, rows: &'a [LimitRow], pair: Pair, day: Day) -> Option<&'a Ladder>
+    /// The last row that is for a pair on a day.
+    pub fn row(&self, rows: &[LimitRow], pair: Pair, day: Day) -> Option<usize>
         requires { IsRowIndex self.now.last self.now.before.items rows.now (length rows.now) }
-        ensures { steps_of (option_map (λ l. l.now) result) ≡ authorised rows.now pair day }
+        ensures ladder { row_steps rows.now result ≡ authorised rows.now pair day }
+        ensures inside { IfSome result (λ i. i < length rows.now) }
     {
         let mut at = self.last.get(&pair).copied();
         while let Some(i) = at {
             let row = &rows[i];
             if holds_day(row, day) {
-                return Some(&row.ladder);
+                return Some(i);
             }
             at = self.before[i];
         }

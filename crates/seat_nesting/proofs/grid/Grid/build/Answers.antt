@@ -5,5 +5,6 @@ use Rattle.seat_nesting.proofs.grid.Grid.build.Goals as goal
 pub loop-i-preserved : goal.loop-i-preserved
 loop-i-preserved c = record {
   legs = rw c.in_ok-push.ensures.items (flights_more c.loop-i.grid.items c.in_ok-build.field-0 c.args.flights.now (authorised_legs c.args.rows.now) c.loop-i.i c.flight-flight.result.now c.loop-i.invariant.legs c.flight-flight.ensures.value c.in_ok-build.ensures.legs);
+  shares = c.in_ok-build.ensures.shares;
   distinct = rw c.in_ok-push.ensures.items (ladders_more c.loop-i.grid.items c.in_ok-build.field-0 c.loop-i.invariant.distinct c.in_ok-build.ensures.distinct);
 }

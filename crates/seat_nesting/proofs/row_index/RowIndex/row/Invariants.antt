@@ -1,5 +1,5 @@
 use Rattle.seat_nesting.proofs.RowIndexing.{IsWalk, steps_left}
-use Rattle.seat_nesting.proofs.row_index.RowIndex.ladder.Given as goal
+use Rattle.seat_nesting.proofs.row_index.RowIndex.row.Given as goal
 
 abbrev pub invariant-loop-at : goal.invariant-loop-at
 invariant-loop-at l = IsWalk l.fn.pair l.day l.rows l.at
