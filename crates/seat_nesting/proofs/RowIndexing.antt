@@ -5,13 +5,13 @@ use Rattle.std.specs.Option.{option_eq, option_map}
 use Rattle.std.specs.Prelude.{unwrap_or}
 use Rattle.std.specs.HashMap.{get}
 use Rattle.std.specs.Cmp.Lexicographic.{pointwise}
-use Rattle.std.proofs.lemmas.Bool.{eqb-true, and_parts}
+use Rattle.std.proofs.lemmas.Bool.{eqb-true, eq-eqb, and_parts}
 use Rattle.std.proofs.lemmas.Bool.Decides.{nat_tests}
 use Rattle.std.proofs.lemmas.List.{take_more, take_all, length-append}
 use Rattle.std.proofs.lemmas.List.Sums.{fold_push}
 use Rattle.std.proofs.lemmas.Option.{slice_get-get_or, slice_get_within, get_or_from_slice_get, same_Some}
 use Rattle.seat_nesting.specs.Nesting.{Steps}
-use Rattle.seat_nesting.specs.Authorised.{row_pair, same_pair, holds_day, after_row, authorised, row_steps, LastRows, is_of, last_below, PutsRow, IsRowIndex}
+use Rattle.seat_nesting.specs.Authorised.{row_pair, same_pair, holds_day, after_row, LastRows, is_of, last_below, PutsRow, HasLastRows}
 use Rattle.seat_nesting.specs.declared.limit_row.LimitRow.{LimitRow}
 use Rattle.seat_nesting.specs.declared.row_index.Pair.{Pair}
 
@@ -48,23 +48,24 @@ pair_is a b h =
     ∙ ap (λ (x : List ℕ). pair b.airline b.number b.suffix x a.off) (same_text a.board b.board s.0)
     ∙ ap (λ (x : List ℕ). pair b.airline b.number b.suffix b.board x) (same_text a.off b.off s.1)
 
+text_same : (a : List ℕ) → pointwise nat_eq a a ≡ true
+text_same [] = refl
+text_same (x ∷ xs) = ap (λ (b : Bool). b && pointwise nat_eq xs xs) (eq-eqb x x refl) ∙ text_same xs
+
+letter_same : (a : Option ℕ) → option_eq nat_eq a a ≡ true
+letter_same None = refl
+letter_same (Some x) = eq-eqb x x refl
+
+pub pair_same : (a : Pair) → same_pair a a ≡ true
+pair_same a = rw (text_same a.airline, eq-eqb a.number a.number refl, letter_same a.suffix, text_same a.board, text_same a.off) refl
+
 -- ---- one row more
 
-row_here : (rows : List LimitRow) (i : ℕ) (row : LimitRow) → i < length rows → row ≡ get_or rows i row → slice_get rows i ≡ Some row
+pub row_here : (rows : List LimitRow) (i : ℕ) (row : LimitRow) → i < length rows → row ≡ get_or rows i row → slice_get rows i ≡ Some row
 row_here rows i row lt is = slice_get-get_or rows i row lt ∙ ap (λ (x : LimitRow). Some x) (sym is)
 
-at_end : {X : Type 0} (xs : List X) (x : X) → slice_get (xs ++ x ∷ []) (length xs) ≡ Some x
-at_end [] x = refl
-at_end (y ∷ xs) x = at_end xs x
-
-in_front : {X : Type 0} (xs : List X) (x : X) (i : ℕ) → i < length xs → slice_get (xs ++ x ∷ []) i ≡ slice_get xs i
-in_front [] x i h = absurd (omega arith)
-in_front (y ∷ xs) x zero h = refl
-in_front (y ∷ xs) x (suc i) h = in_front xs x i (omega arith)
-
-pub index_more : (old new : LastRows) (before : List (Option ℕ)) (rows : List LimitRow) (i : ℕ) (row : LimitRow) (previous : Option ℕ) → IsRowIndex old before rows i → i < length rows → row ≡ get_or rows i row
-    → previous ≡ get same_pair old (row_pair row) → PutsRow old new (row_pair row) i → IsRowIndex new (before ++ previous ∷ []) rows (i + 1)
-index_more old new before rows i row previous h lt is prev puts =
+pub last_more : (old new : LastRows) (rows : List LimitRow) (i : ℕ) (row : LimitRow) → HasLastRows old rows i → i < length rows → row ≡ get_or rows i row → PutsRow old new (row_pair row) i → HasLastRows new rows (i + 1)
+last_more old new rows i row h lt is puts =
     let here = row_here rows i row lt is in
     let one : i + 1 ≡ suc i = omega arith in
     record {
@@ -72,26 +73,19 @@ index_more old new before rows i row previous h lt is prev puts =
           puts.at p ∙ ap (λ (o : Option ℕ). cond (same_pair (row_pair row) p) (Some i) o) (h.last_is p)
           ∙ ap (λ (o : Option LimitRow). cond (is_of p o) (Some i) (last_below p rows i)) (sym here)
           ∙ ap (last_below p rows) (sym one);
-      counted = length-append before (previous ∷ []) ∙ omega (arith, h.counted);
-      before_is = λ k r less at. step k r at (k == i) refl (omega arith);
     }
-  where
-    step : (k : ℕ) (r : LimitRow) → slice_get rows k ≡ Some r → (b : Bool) → (k == i) ≡ b → k ≤ i → slice_get (before ++ previous ∷ []) k ≡ Some (last_below (row_pair r) rows k)
-    step k r at true e le =
-        let same : k ≡ i = eqb-true k i e in
-        let same_row : row ≡ r = same_Some row r (sym (row_here rows i row lt is) ∙ ap (slice_get rows) (sym same) ∙ at) in
-        ap (slice_get (before ++ previous ∷ [])) (same ∙ sym h.counted) ∙ at_end before previous
-        ∙ ap (λ (o : Option ℕ). Some o) (prev ∙ h.last_is (row_pair row) ∙ ap (λ (x : LimitRow). last_below (row_pair x) rows i) same_row ∙ ap (last_below (row_pair r) rows) (sym same))
-    step k r at false e le =
-        let less : k < i = grind (arith, nat_tests) in
-        in_front before previous k (omega (arith, h.counted)) ∙ h.before_is k r less at
 
--- ---- the walk from row to row
+-- ---- the rows so far
 
-abbrev so_far : Pair → ℕ → List LimitRow → ℕ → Steps
+pub none_within : (xs : List LimitRow) (k : ℕ) → k < length xs → slice_get xs k ≡ None → ⊥
+none_within [] k l e = absurd (omega arith)
+none_within (x ∷ xs) zero l e = cc
+none_within (x ∷ xs) (suc k) l e = none_within xs k (omega arith) e
+
+abbrev pub so_far : Pair → ℕ → List LimitRow → ℕ → Steps
 so_far p day rows n = fold (after_row p day) [] (take n rows)
 
-so_far_more : (p : Pair) (day : ℕ) (rows : List LimitRow) (n : ℕ) (row : LimitRow) → slice_get rows n ≡ Some row → so_far p day rows (suc n) ≡ after_row p day (so_far p day rows n) row
+pub so_far_more : (p : Pair) (day : ℕ) (rows : List LimitRow) (n : ℕ) (row : LimitRow) → slice_get rows n ≡ Some row → so_far p day rows (suc n) ≡ after_row p day (so_far p day rows n) row
 so_far_more p day rows n row at =
     let lt = slice_get_within rows n row at in
     let one : suc n ≡ n + 1 = omega arith in
@@ -101,13 +95,7 @@ so_far_more p day rows n row at =
     ∙ ap (after_row p day (so_far p day rows n)) (get_or_from_slice_get rows n row row at)
 
 not_of : (p : Pair) (day : ℕ) (rows : List LimitRow) (n : ℕ) (o : Option LimitRow) → slice_get rows n ≡ o → n < length rows → is_of p o ≡ false → so_far p day rows (suc n) ≡ so_far p day rows n
-not_of p day rows n None at lt h =
-    absurd (none_within rows n lt at)
-  where
-    none_within : (xs : List LimitRow) (k : ℕ) → k < length xs → slice_get xs k ≡ None → ⊥
-    none_within [] k l e = absurd (omega arith)
-    none_within (x ∷ xs) zero l e = cc
-    none_within (x ∷ xs) (suc k) l e = none_within xs k (omega arith) e
+not_of p day rows n None at lt h = absurd (none_within rows n lt at)
 not_of p day rows n (Some row) at lt h =
     so_far_more p day rows n row at ∙ ap (λ (b : Bool). cond (b && holds_day row day) row.ladder (so_far p day rows n)) h
 
@@ -142,69 +130,3 @@ last_row p day rows (suc m) i le e = of (is_of p (slice_get rows m)) refl e (λ 
     of false is h below =
         let l = below h in
         record { inside = omega (arith, l.inside); row = l.row; at = l.at; of_pair = l.of_pair; same = not_of p day rows m (slice_get rows m) refl (omega arith) is ∙ l.same }
-
--- the rows from the mth on are not for the leg, and `at` is the last one of its pair before them
-pub record IsWalk (p : Pair) (day : ℕ) (rows : List LimitRow) (at : Option ℕ) : Type 0 where
-  pub m : ℕ
-  pub within : m ≤ length rows
-  pub at_is : at ≡ last_below p rows m
-  pub same : authorised rows p day ≡ so_far p day rows m
-
-pub walk_start : (p : Pair) (day : ℕ) (rows : List LimitRow) (at : Option ℕ) → at ≡ last_below p rows (length rows) → IsWalk p day rows at
-walk_start p day rows at e = record { m = length rows; within = omega arith; at_is = e; same = ap (fold (after_row p day) []) (sym (take_all (length rows) rows (omega arith))) }
-
-pub walk_end : (p : Pair) (day : ℕ) (rows : List LimitRow) → IsWalk p day rows None → authorised rows p day ≡ []
-walk_end p day rows w = w.same ∙ nothing_of p day rows w.m w.within (sym w.at_is)
-
-pub walk_inside : (p : Pair) (day : ℕ) (rows : List LimitRow) (i : ℕ) → IsWalk p day rows (Some i) → i < length rows
-walk_inside p day rows i w = let l = last_row p day rows w.m i w.within (sym w.at_is) in omega (arith, l.inside, w.within)
-
-walk_row : (p : Pair) (day : ℕ) (rows : List LimitRow) (i : ℕ) (row : LimitRow) (w : IsWalk p day rows (Some i)) → row ≡ get_or rows i row → (same_pair (row_pair row) p ≡ true) × (authorised rows p day ≡ after_row p day (so_far p day rows i) row) × (slice_get rows i ≡ Some row)
-walk_row p day rows i row w is =
-    let l = last_row p day rows w.m i w.within (sym w.at_is) in
-    let here = row_here rows i row (walk_inside p day rows i w) is in
-    let same_row : l.row ≡ row = same_Some l.row row (sym l.at ∙ here) in
-    (ap (λ (x : LimitRow). same_pair (row_pair x) p) (sym same_row) ∙ l.of_pair, w.same ∙ l.same ∙ so_far_more p day rows i row here, here)
-
--- the row whose period holds the day
-pub walk_found : (p : Pair) (day : ℕ) (rows : List LimitRow) (i : ℕ) (row : LimitRow) → IsWalk p day rows (Some i) → row ≡ get_or rows i row → holds_day row day ≡ true → row.ladder ≡ authorised rows p day
-walk_found p day rows i row w is h =
-    let r = walk_row p day rows i row w is in
-    sym (r.1 ∙ ap (λ (b : Bool). cond (b && holds_day row day) row.ladder (so_far p day rows i)) r.0 ∙ ap (λ (b : Bool). cond b row.ladder (so_far p day rows i)) h)
-
--- the same by the row's number
-pub walk_row_found : (p : Pair) (day : ℕ) (rows : List LimitRow) (i : ℕ) (row : LimitRow) → IsWalk p day rows (Some i) → row ≡ get_or rows i row → holds_day row day ≡ true → row_steps rows (Some i) ≡ authorised rows p day
-walk_row_found p day rows i row w is h =
-    ap (λ (o : Option LimitRow). unwrap_or (option_map (λ (r : LimitRow). r.ladder) o) []) (row_here rows i row (walk_inside p day rows i w) is) ∙ walk_found p day rows i row w is h
-
--- one row back
-pub walk_next : (p : Pair) (day : ℕ) (rows : List LimitRow) (last : LastRows) (before : List (Option ℕ)) (i : ℕ) (row : LimitRow) (next : Option ℕ) → IsRowIndex last before rows (length rows) → IsWalk p day rows (Some i) → row ≡ get_or rows i row → holds_day row day ≡ false
-    → next ≡ get_or before i next → IsWalk p day rows next
-walk_next p day rows last before i row next index w is h at =
-    let r = walk_row p day rows i row w is in
-    let inside = walk_inside p day rows i w in
-    let mine : row_pair row ≡ p = pair_is (row_pair row) p r.0 in
-    let found = get_or_from_slice_get before i (last_below (row_pair row) rows i) next (index.before_is i row inside r.2) in
-    record {
-      m = i;
-      within = omega arith;
-      at_is = at ∙ found ∙ ap (λ (q : Pair). last_below q rows i) mine;
-      same = r.1 ∙ ap (λ (b : Bool). cond (b && holds_day row day) row.ladder (so_far p day rows i)) r.0 ∙ ap (λ (b : Bool). cond b row.ladder (so_far p day rows i)) h;
-    }
-
--- how far the walk has to go
-abbrev pub steps_left : Option ℕ → ℕ
-steps_left None = 0
-steps_left (Some i) = suc i
-
-pub walk_shorter : (p : Pair) (day : ℕ) (rows : List LimitRow) (last : LastRows) (before : List (Option ℕ)) (i : ℕ) (row : LimitRow) (next : Option ℕ) → IsRowIndex last before rows (length rows) → IsWalk p day rows (Some i) → row ≡ get_or rows i row
-    → next ≡ get_or before i next → steps_left next < steps_left (Some i)
-walk_shorter p day rows last before i row next index w is at =
-    let r = walk_row p day rows i row w is in
-    let inside = walk_inside p day rows i w in
-    let found : next ≡ last_below (row_pair row) rows i = at ∙ get_or_from_slice_get before i (last_below (row_pair row) rows i) next (index.before_is i row inside r.2) in
-    of next found
-  where
-    of : (o : Option ℕ) → o ≡ last_below (row_pair row) rows i → steps_left o < suc i
-    of None e = omega arith
-    of (Some k) e = let l = last_row (row_pair row) day rows i k (omega (arith, walk_inside p day rows i w)) (sym e) in omega (arith, l.inside)

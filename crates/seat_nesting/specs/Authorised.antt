@@ -1,5 +1,5 @@
 -- Authorised seats: which ladder the limit rows give to a dated leg.
-use Rattle.std.specs.Prelude.{◌≡◌, ℕ, zero, suc, ◌<◌, ◌==◌, nat_eq, nat_le, Bool, false, ◌&&◌, List, [], length, map, fold, Option, Some, None, option_map, unwrap_or, slice_get, if◌then◌else◌}
+use Rattle.std.specs.Prelude.{◌≡◌, ℕ, zero, suc, ◌==◌, nat_eq, nat_le, Bool, false, ◌&&◌, List, [], length, map, fold, Option, Some, None, option_map, unwrap_or, slice_get, if◌then◌else◌}
 use Rattle.std.specs.Option.{option_eq}
 use Rattle.std.specs.HashMap.{HashMap, get}
 use Rattle.std.specs.Cmp.Lexicographic.{pointwise}
@@ -65,11 +65,9 @@ last_below pair rows (suc n) = (if is_of pair (slice_get rows n) then Some n els
 pub record PutsRow (old new : LastRows) (pair : Pair) (i : ℕ) : Type 0 where
   pub at : (p : Pair) → get same_pair new p ≡ (if same_pair pair p then Some i else get same_pair old p)
 
--- the last of the first n rows by pair, and for each of them the last one before it of its pair
-pub record IsRowIndex (last : LastRows) (before : List (Option ℕ)) (rows : List LimitRow) (n : ℕ) : Type 0 where
+-- the last of the first n rows by pair
+pub record HasLastRows (last : LastRows) (rows : List LimitRow) (n : ℕ) : Type 0 where
   pub last_is : (p : Pair) → get same_pair last p ≡ last_below p rows n
-  pub counted : length before ≡ n
-  pub before_is : (i : ℕ) (row : LimitRow) → i < n → slice_get rows i ≡ Some row → slice_get before i ≡ Some (last_below (row_pair row) rows i)
 
 -- ---- ladders by their rows
 

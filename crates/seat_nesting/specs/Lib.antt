@@ -8,4 +8,5 @@ pub mod Ladders
 pub mod LimitRows
 pub mod Nesting
 pub mod RowFields
+pub mod RowStretches
 pub mod RowTexts

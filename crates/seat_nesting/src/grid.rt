@@ -2,7 +2,8 @@
 ghost use Rattle.std.specs.Prelude.{◌≡◌, ◌≤◌, ◌<◌, ℕ, length, [], ◌∷◌, Some, IfOk, OnOk, IfSome, IfNone, IsTrue, map, ◌↔◌};
 ghost use Rattle.seat_nesting.specs.Nesting.{Fits, ladder_at, IsDistinct, HasLadders, steps_at, steps_of};
 ghost use Rattle.seat_nesting.specs.Changing.{FitsLimit};
-ghost use Rattle.seat_nesting.specs.Authorised.{authorised_grid, authorised_legs, row_steps, AreShares, IsRowIndex};
+ghost use Rattle.seat_nesting.specs.Authorised.{authorised_grid, authorised_legs, row_steps, AreShares};
+ghost use Rattle.seat_nesting.specs.RowStretches.{IsRowIndex};
 
 use crate::ladder::{Ladder, Step};
 use crate::limit_row::LimitRow;
@@ -185,7 +186,7 @@ impl FlightLegs {
         index: &RowIndex,
         shares: &mut Vec<Option<SharedLadder>>,
     ) -> Result<FlightLegs, Memory>
-        requires index { IsRowIndex index.now.last index.now.before.items rows.now (length rows.now) }
+        requires index { IsRowIndex index.now.last index.now.edges.items index.now.found.items rows.now }
         requires shares { AreShares shares.old.items rows.now }
         ensures legs { IfOk result (λ legs. legs ≡ authorised_legs rows.now flight.now) }
         ensures distinct { IfOk result (λ legs. (leg : ℕ) → IsDistinct (steps_at legs leg)) }
@@ -226,7 +227,7 @@ fn shared_of(
     alloc: Global,
     rows: &[LimitRow],
     shares: &mut Vec<Option<SharedLadder>>,
-    row: Option<usize>,
+    row: Option<u32>,
 ) -> Result<Option<SharedLadder>, Memory>
     requires inside { IfSome row (λ i. i < length rows.now) }
     requires shares { AreShares shares.old.items rows.now }
@@ -237,7 +238,7 @@ fn shared_of(
     let Some(i) = row else {
         return Ok(None);
     };
-    let ladder = share(alloc, rows, shares, i)?;
+    let ladder = share(alloc, rows, shares, i as usize)?;
     let _ = ladder.get().steps();
     Ok(Some(ladder))
 }

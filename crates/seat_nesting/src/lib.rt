@@ -16,6 +16,7 @@ mod row_fields;
 mod row_index;
 mod row_reading;
 mod shared;
+mod stretches;
 
 pub use change_reading::read_changes;
 pub use change_row::{ChangeRow, ChangeRows};

@@ -1,42 +1,37 @@
-use Rattle.std.proofs.Common.{arith, sym, subst, ◌∙◌}
-use Rattle.seat_nesting.proofs.RowIndexing.{IsWalk, walk_start, walk_end, walk_inside, walk_row_found, walk_next, walk_shorter}
+use Rattle.std.proofs.Common.{◌≡◌, ◌+◌, ◌-◌, ◌<◌, None, get_or, length, arith, sym, ◌∙◌}
+use Rattle.std.proofs.lemmas.List.{get_or_default}
+use Rattle.seat_nesting.specs.Authorised.{is_for}
+use Rattle.seat_nesting.specs.RowStretches.{slot, last_where, IsFirst}
+use Rattle.seat_nesting.proofs.RowSlots.{stretch_row, ahead_of_rows, found_steps, found_inside, no_row}
 use Rattle.seat_nesting.proofs.row_index.RowIndex.row.Goals as goal
 
-pub loop-at-init : goal.loop-at-init
-loop-at-init c = walk_start c.args.pair c.args.day c.args.rows.now c.copied-at.result (c.copied-at.ensures ∙ c.get.ensures.value ∙ c.requires.last_is c.args.pair)
+pub returns-in_err-number-clause-ladder : goal.returns-in_err-number-clause-ladder
+returns-in_err-number-clause-ladder c =
+    rw c.from_residual.ensures (no_row c.args.pair c.args.day c.args._rows.now (sym (c.requires.last_is c.args.pair) ∙ sym c.in_err-number.ensures.value))
 
-pub offset_bounds-rows-i : goal.offset_bounds-rows-i
-offset_bounds-rows-i c =
-    let walk = subst (IsWalk c.args.pair c.args.day c.args.rows.now) c.in-Some.is c.loop-at.invariant in
-    let inside = walk_inside c.args.pair c.args.day c.args.rows.now c.in-Some.i walk in
-    omega (arith, inside, c.well_formed)
-
-pub bounds-rows-i : goal.bounds-rows-i
-bounds-rows-i c = walk_inside c.args.pair c.args.day c.args.rows.now c.in-Some.i (subst (IsWalk c.args.pair c.args.day c.args.rows.now) c.in-Some.is c.loop-at.invariant)
-
-pub returns-then-holds_day-clause-ladder : goal.returns-then-holds_day-clause-ladder
-returns-then-holds_day-clause-ladder c =
-    let walk = subst (IsWalk c.args.pair c.args.day c.args.rows.now) c.in-Some.is c.loop-at.invariant in
-    walk_row_found c.args.pair c.args.day c.args.rows.now c.in-Some.i c.index-rows-i.result walk c.index-rows-i.is (sym c.holds_day.ensures ∙ c.if-holds_day.true)
-
-pub returns-then-holds_day-clause-inside : goal.returns-then-holds_day-clause-inside
-returns-then-holds_day-clause-inside c =
-    walk_inside c.args.pair c.args.day c.args.rows.now c.in-Some.i (subst (IsWalk c.args.pair c.args.day c.args.rows.now) c.in-Some.is c.loop-at.invariant)
-
-pub index-at-requires : goal.index-at-requires
-index-at-requires c =
-    let inside = walk_inside c.args.pair c.args.day c.args.rows.now c.in-Some.i (subst (IsWalk c.args.pair c.args.day c.args.rows.now) c.in-Some.is c.loop-at.invariant) in
-    omega (arith, inside, c.requires.counted, c.args.self.now.before.ok.0)
-
-pub loop-at-smaller : goal.loop-at-smaller
-loop-at-smaller c =
-    let walk = subst (IsWalk c.args.pair c.args.day c.args.rows.now) c.in-Some.is c.loop-at.invariant in
-    rw c.in-Some.is (walk_shorter c.args.pair c.args.day c.args.rows.now c.args.self.now.last c.args.self.now.before.items c.in-Some.i c.index-rows-i.result c.index-at.result.now c.requires walk c.index-rows-i.is c.index-at.ensures)
-
-pub loop-at-preserved : goal.loop-at-preserved
-loop-at-preserved c =
-    let walk = subst (IsWalk c.args.pair c.args.day c.args.rows.now) c.in-Some.is c.loop-at.invariant in
-    walk_next c.args.pair c.args.day c.args.rows.now c.args.self.now.last c.args.self.now.before.items c.in-Some.i c.index-rows-i.result c.index-at.result.now c.requires walk c.index-rows-i.is (sym c.holds_day.ensures ∙ c.if-holds_day.false) c.index-at.ensures
+pub returns-then-place-eq0-clause-ladder : goal.returns-then-place-eq0-clause-ladder
+returns-then-place-eq0-clause-ladder c =
+    let first : IsFirst c.args.self.now.edges.items (slot c.in_ok-number.field-0.now c.args.day + 1) c.first_at-place.result = rw (c.deref.ensures.value, c.slot.ensures.value) at c.first_at-place.ensures in
+    let is : c.first_at-place.result ≡ 0 = omega arith in
+    found_steps c.args._rows.now c.args.pair c.args.day None
+    (ahead_of_rows c.args.self.now.last c.args._rows.now c.args.self.now.edges.items c.args.self.now.found.items c.args.pair c.in_ok-number.field-0.now c.args.day c.first_at-place.result c.requires (sym c.in_ok-number.ensures.value) c.slot.ensures.day first is)
 
 pub returns-clause-ladder : goal.returns-clause-ladder
-returns-clause-ladder c = sym (walk_end c.args.pair c.args.day c.args.rows.now (subst (IsWalk c.args.pair c.args.day c.args.rows.now) c.in_default.is c.loop-at.invariant))
+returns-clause-ladder c =
+    let first : IsFirst c.args.self.now.edges.items (slot c.in_ok-number.field-0.now c.args.day + 1) c.first_at-place.result = rw (c.deref.ensures.value, c.slot.ensures.value) at c.first_at-place.ensures in
+    let is : (c.first_at-place.result - 1) + 1 ≡ c.first_at-place.result = omega arith in
+    let lt : c.first_at-place.result - 1 < length c.args.self.now.found.items = omega (arith, first.inside, is, c.requires.shown.counted) in
+    let here : c.index.result.now ≡ get_or c.args.self.now.found.items (c.first_at-place.result - 1) None = c.index.ensures ∙ get_or_default c.args.self.now.found.items (c.first_at-place.result - 1) c.index.result.now None lt in
+    let row : c.index.result.now ≡ last_where (is_for c.args.pair c.args.day) c.args._rows.now (length c.args._rows.now) =
+    here ∙ stretch_row c.args.self.now.last c.args._rows.now c.args.self.now.edges.items c.args.self.now.found.items c.args.pair c.in_ok-number.field-0.now c.args.day c.first_at-place.result (c.first_at-place.result - 1) c.requires (sym c.in_ok-number.ensures.value) c.slot.ensures.day first is in
+    found_steps c.args._rows.now c.args.pair c.args.day c.index.result.now row
+
+pub returns-clause-inside : goal.returns-clause-inside
+returns-clause-inside c =
+    let first : IsFirst c.args.self.now.edges.items (slot c.in_ok-number.field-0.now c.args.day + 1) c.first_at-place.result = rw (c.deref.ensures.value, c.slot.ensures.value) at c.first_at-place.ensures in
+    let is : (c.first_at-place.result - 1) + 1 ≡ c.first_at-place.result = omega arith in
+    let lt : c.first_at-place.result - 1 < length c.args.self.now.found.items = omega (arith, first.inside, is, c.requires.shown.counted) in
+    let here : c.index.result.now ≡ get_or c.args.self.now.found.items (c.first_at-place.result - 1) None = c.index.ensures ∙ get_or_default c.args.self.now.found.items (c.first_at-place.result - 1) c.index.result.now None lt in
+    let row : c.index.result.now ≡ last_where (is_for c.args.pair c.args.day) c.args._rows.now (length c.args._rows.now) =
+    here ∙ stretch_row c.args.self.now.last c.args._rows.now c.args.self.now.edges.items c.args.self.now.found.items c.args.pair c.in_ok-number.field-0.now c.args.day c.first_at-place.result (c.first_at-place.result - 1) c.requires (sym c.in_ok-number.ensures.value) c.slot.ensures.day first is in
+    found_inside c.args._rows.now c.args.pair c.args.day c.index.result.now row
