@@ -13,6 +13,10 @@ abs_below : (n : ℕ) (x : ℤ) → negsuc n ≤ℤ x → x ≤ℤ pos n → uns
 abs_below n (pos k) low high = omega (arith, signed_arith)
 abs_below n (negsuc k) low high = omega (arith, signed_arith)
 
+-- a number of days, through 32 bits
+pub few_days : (x : ℤ) → negsuc 1 ≤ℤ x → x ≤ℤ pos 8 → to_z w32 (of_z w32 x) ≡ x
+few_days x low high = back_small w32 x (omega (arith, abs_below 8 x (omega (arith, signed_arith)) high))
+
 -- a sum of small numbers, through 32 bits
 small_sum : (a b x y : ℤ) → a ≡ x → b ≡ y → negsuc 9999 ≤ℤ x → x ≤ℤ pos 9999 → negsuc 9999 ≤ℤ y → y ≤ℤ pos 9999 → to_z w32 (of_z w32 (to_z w32 (of_z w32 a) +ℤ to_z w32 (of_z w32 b))) ≡ x +ℤ y
 small_sum a b x y ea eb lx hx ly hy =

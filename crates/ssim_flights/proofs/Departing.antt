@@ -1,5 +1,5 @@
 -- No two flights of a carrier have the same number, suffix and first operating day.
-use Rattle.std.proofs.Common.{◌≡◌, ℕ, ◌<◌, Bool, true, false, cond, ◌||◌, ◌&&◌, ◌==◌, nat_eq, List, [], ◌∷◌, ◌++◌, length, get_or, map, Some, None, refl, sym, ap, subst, ◌∙◌, append_assoc, append-nil, arith}
+use Rattle.std.proofs.Common.{◌≡◌, ℕ, ℤ, pos, ◌+ℤ◌, unsigned_abs, ◌<◌, Bool, true, false, cond, ◌||◌, ◌&&◌, ◌==◌, nat_eq, List, [], ◌∷◌, ◌++◌, length, get_or, map, Some, None, refl, sym, ap, subst, ◌∙◌, append_assoc, append-nil, arith}
 use Rattle.std.specs.Option.{option_eq}
 use Rattle.std.specs.List.{list_any, AllByRecursion, IsDistinct, range_with_len}
 use Rattle.std.specs.List.Sorted.{IsStrictlyIncreasing}
@@ -16,8 +16,8 @@ use Rattle.ssim_flights.specs.declared.flown.Departure.{Departure}
 use Rattle.ssim_flights.specs.declared.plan.Plan.{Plan}
 use Rattle.ssim_flights.specs.declared.schedule.Scheduled.{Scheduled}
 use Rattle.ssim_flights.specs.Flown.{departure, departures_on, leg_one_if, same_departure}
-use Rattle.ssim_flights.specs.Operating.{operating_days}
-use Rattle.ssim_flights.specs.Schedules.{day_at, is_in_horizon, operation, rows, schedule, scheduled, shortest}
+use Rattle.ssim_flights.specs.Operating.{operating_days, operation}
+use Rattle.ssim_flights.specs.Schedules.{day_at, days_after, is_in_horizon, rows, schedule, scheduled, shortest}
 use Rattle.ssim_flights.proofs.Chaining.{rows_reach}
 use Rattle.ssim_flights.proofs.OperatingDays.{days_increase, range_increases}
 
@@ -34,17 +34,22 @@ rows_increase plan [] = λ k h. absurd (omega arith)
 rows_increase plan (leg ∷ legs) =
     IsStrictlyIncreasing-filter (λ i. is_in_horizon plan (day_at leg i)) (range_with_len 0 (shortest (length leg.operations) legs)) (range_increases 0 (shortest (length leg.operations) legs))
 
-days_back : (plan : Plan) (leg : Leg) (days : List ℕ) → map (λ o. o.day) (map (operation plan leg) days) ≡ days
-days_back plan leg [] = refl
-days_back plan leg (d ∷ days) = ap (λ ds. d ∷ ds) (days_back plan leg days)
+pub days_back : (after : ℤ) (days : List ℕ) → map (λ o. o.day) (map (operation after) days) ≡ days
+days_back after [] = refl
+days_back after (d ∷ days) = ap (λ ds. d ∷ ds) (days_back after days)
+
+pub local_back : (after : ℤ) (days : List ℕ) (i : ℕ) → i < length days → get_or (map (λ o. o.local) (map (operation after) days)) i 0 ≡ unsigned_abs (pos (get_or days i 0) +ℤ after)
+local_back after days i inside =
+    let n = length-map days (operation after) in
+    get_or-map (λ o. o.local) (map (operation after) days) i (operation after 0) 0 (omega arith) ∙ ap (λ o. o.local) (get_or-map (operation after) days i 0 (operation after 0) inside)
 
 day_is : (plan : Plan) (leg : Leg) (i : ℕ) → day_at (scheduled plan leg) i ≡ get_or (operating_days leg plan.end) i 0
 unfolding scheduled
-day_is plan leg i = ap (λ (ds : List ℕ). get_or ds i 0) (days_back plan leg (operating_days leg plan.end))
+day_is plan leg i = ap (λ (ds : List ℕ). get_or ds i 0) (days_back (days_after plan.local leg) (operating_days leg plan.end))
 
 operations_are : (plan : Plan) (leg : Leg) → length (scheduled plan leg).operations ≡ length (operating_days leg plan.end)
 unfolding scheduled
-operations_are plan leg = length-map (operating_days leg plan.end) (operation plan leg)
+operations_are plan leg = length-map (operating_days leg plan.end) (operation (days_after plan.local leg))
 
 days_rise : (plan : Plan) (leg : Leg) (i j : ℕ) → i < j → j < length (scheduled plan leg).operations → day_at (scheduled plan leg) i < day_at (scheduled plan leg) j
 days_rise plan leg i j below inside =

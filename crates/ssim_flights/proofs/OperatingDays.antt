@@ -36,7 +36,7 @@ range_increases a n = λ k h.
     let y = get_or-range_with_len a n (k + 1) 0 (omega arith) in
     omega arith
 
-range_within : (a n : ℕ) → All (λ d. (a ≤ d) × (d < a + n)) (range_with_len a n)
+pub range_within : (a n : ℕ) → All (λ d. (a ≤ d) × (d < a + n)) (range_with_len a n)
 range_within a n = All-from_get_or (λ d. (a ≤ d) × (d < a + n)) (range_with_len a n) 0
     (λ i h. let l = length-range_with_len a n in let e = get_or-range_with_len a n i 0 (omega arith) in (omega arith, omega arith))
 

@@ -8,5 +8,6 @@ pub mod Itineraries
 pub mod Operating
 pub mod Places
 pub mod Right
+pub mod Rounds
 pub mod Schedules
 pub mod Taken

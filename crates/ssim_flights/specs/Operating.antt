@@ -1,5 +1,5 @@
 -- SSIM chapter 7: the days on which a leg operates, by its period, days of operation and frequency rate.
-use Rattle.std.specs.Prelude.{ℕ, ◌+◌, ◌-◌, ◌/◌, ◌%◌, ◌≤◌, ◌==◌, ◌&&◌, ◌||◌, Bool, false, not, IsTrue, List, pos, unwrap_or, slice_index_or, filter}
+use Rattle.std.specs.Prelude.{ℕ, ◌+◌, ◌-◌, ◌/◌, ◌%◌, ◌≤◌, ◌==◌, ◌&&◌, ◌||◌, Bool, false, not, IsTrue, List, ℤ, pos, ◌+ℤ◌, unsigned_abs, unwrap_or, slice_index_or, filter}
 use Rattle.std.specs.List.{range_with_len}
 use Rattle.jiff_core.specs.Calendar.{weekday_number}
 use Rattle.ssim_records.specs.declared.carrier.Leg.{Leg}
@@ -26,6 +26,19 @@ pub record Operates (leg : Leg) (end d : ℕ) : Type 0 where
   pub listed : IsTrue (is_listed leg d)
   pub in_week : IsTrue (is_in_week leg d)
 
--- those days, in order
+-- the operating days among the first n days from the leg's first one on, whatever its last
+abbrev pub days_among : Leg → ℕ → List ℕ
+days_among leg n = filter (operates leg) (range_with_len leg.from n)
+
+-- those of the period, in order
 abbrev pub operating_days : Leg → ℕ → List ℕ
-operating_days leg end = filter (operates leg) (range_with_len leg.from (last_day leg end + 1 - leg.from))
+operating_days leg end = days_among leg (last_day leg end + 1 - leg.from)
+
+-- a day on which a leg operates, and the local day of its departure
+pub record Operation : Type 0 where
+  pub day : ℕ
+  pub local : ℕ
+
+-- the operation on day d, whose local day lies so many days after it
+abbrev pub operation : ℤ → ℕ → Operation
+operation after d = record { day = d; local = unsigned_abs (pos d +ℤ after) }

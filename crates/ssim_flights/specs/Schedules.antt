@@ -1,5 +1,5 @@
 -- The dated flights of a chain of legs.
-use Rattle.std.specs.Prelude.{ℕ, ◌+◌, ◌-◌, ◌<◌, ◌==◌, nat_lt, nat_le, Bool, true, false, ◌&&◌, is_none, if◌then◌else◌, List, [], ◌∷◌, Option, Some, None, map, filter, length, All, min, slice_index, unwrap_or, ℤ, pos, ◌+ℤ◌, unsigned_abs}
+use Rattle.std.specs.Prelude.{ℕ, ◌+◌, ◌-◌, ◌<◌, ◌==◌, nat_lt, nat_le, Bool, true, false, ◌&&◌, is_none, if◌then◌else◌, List, [], ◌∷◌, Option, Some, None, map, filter, length, All, min, slice_index, unwrap_or, ℤ, pos, ◌+ℤ◌}
 use Rattle.std.specs.Int.{int_div_euclid}
 use Rattle.std.specs.Option.{option_or}
 use Rattle.std.specs.List.{list_any, range_with_len}
@@ -8,9 +8,8 @@ use Rattle.ssim_records.specs.declared.carrier.Leg.{Leg}
 use Rattle.ssim_flights.specs.declared.flight.DatedLeg.{DatedLeg}
 use Rattle.ssim_flights.specs.declared.flight.Flight.{Flight}
 use Rattle.ssim_flights.specs.declared.plan.Plan.{Plan}
-use Rattle.ssim_flights.specs.declared.schedule.Operation.{Operation}
 use Rattle.ssim_flights.specs.declared.schedule.Scheduled.{Scheduled}
-use Rattle.ssim_flights.specs.Operating.{operating_days}
+use Rattle.ssim_flights.specs.Operating.{operating_days, operation}
 
 -- ---- the horizon
 
@@ -33,15 +32,9 @@ abbrev pub days_after : Bool → Leg → ℤ
 days_after true leg = leg.shift
 days_after false leg = leg.shift +ℤ int_div_euclid (pos leg.std +ℤ leg.offset) (pos 1440)
 
-unfoldable pub local_day : Bool → Leg → ℕ → ℕ
-local_day local leg day = unsigned_abs (pos day +ℤ days_after local leg)
-
-abbrev pub operation : Plan → Leg → ℕ → Operation
-operation plan leg day = record { day = day; local = local_day plan.local leg day }
-
 -- a leg with its operations, in order
 unfoldable pub scheduled : Plan → Leg → Scheduled
-scheduled plan leg = record { leg = leg; operations = map (operation plan leg) (operating_days leg plan.end) }
+scheduled plan leg = record { leg = leg; operations = map (operation (days_after plan.local leg)) (operating_days leg plan.end) }
 
 abbrev pub schedule : Plan → List Leg → List Scheduled
 schedule plan legs = map (scheduled plan) legs

@@ -1,8 +1,8 @@
 //! The days on which a leg operates (SSIM chapter 7, period and days of operation).
-ghost use Rattle.std.specs.Prelude.{◌≡◌, ◌+◌, ◌≤◌, ◌<◌, ◌++◌, ◌∷◌, ◌↔◌, ℕ, List, [], All, Contains, IfOk, OnOk, OnErr, length, pos, unwrap_or};
+ghost use Rattle.std.specs.Prelude.{◌≡◌, ◌+◌, ◌-◌, ◌≤◌, ◌<◌, ◌++◌, ◌∷◌, ◌↔◌, ℕ, List, [], All, Contains, IfOk, OnOk, OnErr, length, pos, unwrap_or};
 ghost use Rattle.std.specs.List.Sorted.{IsStrictlyIncreasing};
 ghost use Rattle.jiff_core.specs.Calendar.{weekday_number};
-ghost use Rattle.ssim_flights.specs.Operating.{Operates, operates, operating_days, last_day};
+ghost use Rattle.ssim_flights.specs.Operating.{Operates, days_among, last_day, operates, operating_days};
 
 use ssim_records::{Day, Leg, Memory};
 use std::alloc::Global;
@@ -59,10 +59,25 @@ pub fn operating_days(alloc: Global, leg: &Leg, end: Day) -> Result<Days, Memory
     ensures ascending { IfOk result IsStrictlyIncreasing }
     ensures within { IfOk result (All (λ d. (leg.now.from ≤ d) × (d ≤ last_day leg.now end))) }
 {
+    days_among(alloc, leg, days_of_period(leg, end))
+}
+
+/// How many days the leg's period has.
+pub(crate) fn days_of_period(leg: &Leg, end: Day) -> u32
+    ensures value { result ≡ last_day leg.now end + 1 - leg.now.from }
+    ensures small { leg.now.from + result ≤ 84006 }
+{
+    (leg.to.unwrap_or(end).number() + 1).saturating_sub(leg.from.number())
+}
+
+/// The operating days among the first `count` days from the leg's first one on, whatever its last.
+pub(crate) fn days_among(alloc: Global, leg: &Leg, count: u32) -> Result<Days, Memory>
+    requires { leg.now.from + count ≤ 84006 }
+    ensures { IfOk result (λ days. days ≡ days_among leg.now count) }
+{
     let mut days = Days::new(alloc);
     let first = leg.from.number();
-    let last = leg.to.unwrap_or(end).number();
-    for past in 0..(last + 1).saturating_sub(first) {
+    for past in 0..count {
         if operates(leg, first + past) {
             days.push(Day::numbered(first + past))?;
         }

@@ -14,6 +14,7 @@ mod index;
 mod itinerary;
 mod leg_list;
 mod plan;
+mod rounds;
 mod rows;
 mod schedule;
 mod served;

@@ -1,12 +1,12 @@
 //! The dated flights of one chain of legs, and what can be wrong with its days.
 ghost use Rattle.std.specs.Prelude.{◌≡◌, All, IfOk, is_none};
 ghost use Rattle.std.specs.List.{list_any};
-ghost use Rattle.ssim_flights.specs.Schedules.{differing, falling_after, falling_at, flight_on, is_in_horizon, rows, Reaches};
+ghost use Rattle.ssim_flights.specs.Schedules.{differing, falling_after, falling_at, flight_on, rows, Reaches};
 
 use crate::flight::{DatedLeg, DatedLegs, Flight};
 use crate::plan::Plan;
 use crate::schedule::{Scheduled, shortest};
-use ssim_records::{Day, Leg, Memory};
+use ssim_records::{Leg, Memory};
 use std::alloc::Global;
 
 /// The indices at which all legs operate, and leg 1 within the horizon.
@@ -18,18 +18,15 @@ pub(crate) fn rows(alloc: Global, plan: &Plan, legs: &[Scheduled]) -> Result<Vec
     let Some((first, rest)) = legs.split_first() else {
         return Ok(list);
     };
-    for i in 0..shortest(first.operations.as_slice().len(), rest) {
-        if is_in_horizon(plan, first.day(i)) {
-            list.push(i)?;
-        }
+    let count = shortest(first.operations.len(), rest);
+    let ahead = first.before(plan.first.number());
+    let within = first.before(plan.last.number() + 1);
+    let begin = ahead.min(count);
+    let end = within.min(count).max(begin);
+    for i in begin..end {
+        list.push(i)?;
     }
     Ok(list)
-}
-
-fn is_in_horizon(plan: &Plan, day: Day) -> bool
-    ensures { result ≡ is_in_horizon plan.now day }
-{
-    plan.first.number() <= day.number() && day.number() <= plan.last.number()
 }
 
 /// The serial of the first leg whose count of operating days differs from leg 1's, where no leg has an open end.
@@ -43,9 +40,9 @@ pub(crate) fn differing(legs: &[Scheduled]) -> Option<u32>
     if has_open_end(legs) {
         return None;
     }
-    let count = first.operations.as_slice().len();
+    let count = first.operations.len();
     for leg in rest {
-        if leg.operations.as_slice().len() != count {
+        if leg.operations.len() != count {
             return Some(leg.leg.serial);
         }
     }

@@ -1,34 +1,33 @@
 //! Legs with the days of their operations.
-ghost use Rattle.std.specs.Prelude.{◌≡◌, ◌≤◌, ◌<◌, ◌++◌, ◌∷◌, [], All, IfOk, OnOk, length, pos, negsuc, ◌≤ℤ◌};
+ghost use Rattle.std.specs.Prelude.{◌≡◌, ◌≤◌, ◌<◌, All, IfOk, length, map, slice_index, unsigned_abs, pos, negsuc, ◌+ℤ◌, ◌≤ℤ◌};
+ghost use Rattle.ssim_flights.specs.Operating.{operation};
 ghost use Rattle.ssim_flights.specs.Right.{IsRightLeg};
-ghost use Rattle.ssim_flights.specs.Schedules.{day_at, days_after, local_at, local_day, schedule, scheduled, shortest};
+ghost use Rattle.ssim_flights.specs.Rounds.{AreBefore};
+ghost use Rattle.ssim_flights.specs.Schedules.{day_at, days_after, local_at, schedule, scheduled, shortest};
 
-use crate::days::operating_days;
 use crate::plan::Plan;
+use crate::rounds::Rounds;
 use ssim_records::{Day, Leg, Memory, Station};
 use std::alloc::Global;
 use std::marker::Model;
 
-/// A day on which a leg operates, and the local day of its departure.
-#[derive(Clone, Copy)]
-pub(crate) struct Operation {
-    pub day: Day,
-    pub local: Day,
-}
-
-/// Operations in order.
+/// The operations of a leg, in order.
 #[derive(Drop)]
 pub(crate) struct Operations {
-    items: Vec<Operation>,
+    days: Rounds,
+    /// How many days a local day lies after the operating day.
+    after: i32,
 }
 
 impl Model for Operations {
-    ghost use Rattle.std.specs.Prelude.{List};
-    ghost use Rattle.ssim_flights.specs.declared.schedule.Operation.{Operation as Operated};
+    ghost use Rattle.std.specs.Prelude.{List, map, negsuc, pos, ◌≤ℤ◌};
+    ghost use Rattle.ssim_flights.specs.Operating.{operation, Operation};
 
-    ghost Value = { List Operated };
+    ghost Value = { List Operation };
 
-    ghost view = { λ o. o.items.items };
+    ghost view = { λ o. map (operation o.after) o.days };
+
+    ghost invariant = { λ o. (negsuc 1 ≤ℤ o.after) × (o.after ≤ℤ pos 8) };
 }
 
 /// A leg with its operations.
@@ -39,26 +38,38 @@ pub(crate) struct Scheduled {
 }
 
 impl Operations {
-    pub(crate) fn as_slice(&self) -> &[Operation]
-        ensures { result.now ≡ self.now }
+    fn of(days: Rounds, after: i32) -> Operations
+        requires low { negsuc 1 ≤ℤ after }
+        requires high { after ≤ℤ pos 8 }
+        ensures { result ≡ map (operation after) days }
     {
-        self.items.as_slice()
+        Operations { days, after }
     }
 
-    /// No operations, and room for `count`.
-    fn with_room(alloc: Global, count: usize) -> Result<Self, Memory>
-        ensures { IfOk result (λ operations. operations ≡ []) }
+    pub(crate) fn len(&self) -> usize
+        ensures { result ≡ length self.now }
     {
-        let items = Vec::with_capacity(alloc, count)?;
-        Ok(Operations { items })
+        self.days.len()
     }
 
-    fn push(&mut self, operation: Operation) -> Result<(), Memory>
-        ensures { OnOk result (self.new ≡ self.old ++ operation ∷ []) }
+    fn day(&self, i: usize) -> Day
+        requires { i < length self.now }
+        ensures { result ≡ slice_index (map (λ o. o.day) self.now) i }
     {
-        let _day: Day = operation.day;
-        self.items.push(operation)?;
-        Ok(())
+        self.days.day(i)
+    }
+
+    fn local(&self, i: usize) -> Day
+        requires { i < length self.now }
+        ensures { result ≡ slice_index (map (λ o. o.local) self.now) i }
+    {
+        local_day(self.days.day(i), self.after)
+    }
+
+    fn before(&self, number: u32) -> usize
+        ensures { AreBefore (map (λ o. o.day) self.now) number result }
+    {
+        self.days.before(number)
     }
 }
 
@@ -68,7 +79,7 @@ impl Scheduled {
         requires { i < length self.now.operations }
         ensures { result ≡ day_at self.now i }
     {
-        self.operations.as_slice()[i].day
+        self.operations.day(i)
     }
 
     /// Its local day.
@@ -76,7 +87,14 @@ impl Scheduled {
         requires { i < length self.now.operations }
         ensures { result ≡ local_at self.now i }
     {
-        self.operations.as_slice()[i].local
+        self.operations.local(i)
+    }
+
+    /// How many operations lie before the day with this number.
+    pub(crate) fn before(&self, number: u32) -> usize
+        ensures { AreBefore (map (λ o. o.day) self.now.operations) number result }
+    {
+        self.operations.before(number)
     }
 }
 
@@ -100,7 +118,7 @@ pub(crate) fn shortest(n: usize, legs: &[Scheduled]) -> usize
 {
     let mut least = n;
     for leg in legs {
-        least = least.min(leg.operations.as_slice().len());
+        least = least.min(leg.operations.len());
     }
     least
 }
@@ -111,12 +129,9 @@ fn schedule_leg(alloc: Global, plan: &Plan, leg: &Leg) -> Result<Scheduled, Memo
     requires end { plan.now.end ≤ 47846 }
     ensures { IfOk result (λ s. s ≡ scheduled plan.now leg.now) }
 {
-    let days = operating_days(alloc, leg, plan.end)?;
-    let mut operations = Operations::with_room(alloc, days.len())?;
-    for day in days.as_slice() {
-        let local = local_day(plan.local, leg, *day);
-        operations.push(Operation { day: *day, local })?;
-    }
+    let days = Rounds::of(alloc, leg, plan.end)?;
+    let after = days_after(plan.local, leg);
+    let operations = Operations::of(days, after);
     let _board: Station = leg.board;
     Ok(Scheduled {
         leg: *leg,
@@ -124,15 +139,15 @@ fn schedule_leg(alloc: Global, plan: &Plan, leg: &Leg) -> Result<Scheduled, Memo
     })
 }
 
-/// The local day of departure at the board point, on an operating day.
-#[tactic(auto, unfolding(crate::specs::Schedules::local_day))]
-fn local_day(local: bool, leg: &Leg, day: Day) -> Day
-    requires right { IsRightLeg leg.now }
+/// The local day of departure, so many days after an operating day.
+fn local_day(day: Day, after: i32) -> Day
     requires begun { 10957 ≤ day }
     requires lasts { day ≤ 47846 }
-    ensures { result ≡ local_day local leg.now day }
+    requires low { negsuc 1 ≤ℤ after }
+    requires high { after ≤ℤ pos 8 }
+    ensures { result ≡ unsigned_abs (pos day +ℤ after) }
 {
-    let number = day.number() as i32 + days_after(local, leg);
+    let number = day.number() as i32 + after;
     Day::numbered(number as u32)
 }
 

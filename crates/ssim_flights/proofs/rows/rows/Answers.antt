@@ -1,20 +1,37 @@
-use Rattle.std.proofs.Common.{◌≡◌, ℕ, ◌+◌, [], ◌∷◌, ◌++◌, refl, sym, ap, ◌∙◌, arith}
-use Rattle.ssim_flights.specs.Schedules.{is_in_horizon, day_at}
-use Rattle.ssim_flights.proofs.OperatingDays.{days_more_yes, days_more_no}
+use Rattle.std.proofs.Common.{◌≡◌, ◌≤◌, ◌+◌, ◌-◌, ℕ, List, [], ◌∷◌, ◌++◌, length, map, refl, sym, ap, subst, ◌∙◌, rules, arith}
+use Rattle.std.proofs.lemmas.List.{length-map}
+use Rattle.ssim_flights.specs.Operating.{Operation}
+use Rattle.ssim_flights.specs.Rounds.{AreBefore}
+use Rattle.ssim_flights.specs.Schedules.{shortest}
+use Rattle.ssim_flights.proofs.Horizons.{rows_are}
+use Rattle.ssim_flights.proofs.Walks.{range_push}
 use Rattle.ssim_flights.proofs.rows.rows.Goals as goal
-use Rattle.ssim_flights.proofs.rows.rows.Goals.{then-is_in_horizon+in_ok-push, else-is_in_horizon}
 
 pub loop-i-preserved : goal.loop-i-preserved
 loop-i-preserved c =
+    let inside = c.loop-i-test.true in
+    let held = c.loop-i.invariant in
+    let begin = c.min-begin.result in
+    let i = c.loop-i.i in (
+      c.in_ok-push.ensures.items ∙ ap (λ (xs : List ℕ). xs ++ i ∷ []) held.0 ∙ sym (range_push begin (i - begin) (i + 1 - begin) i (omega arith) (omega arith)),
+      omega arith,
+      omega arith,
+    )
+
+pub returns : goal.returns
+returns c =
     let plan = c.args.plan.now in
     let first = c.in-Some.first.now in
-    let n = c.loop-i.i in
-    let here : c.is_in_horizon.result ≡ is_in_horizon plan (day_at first n) = c.is_in_horizon.ensures ∙ ap (is_in_horizon plan) c.day.ensures in
-    let kept = days_more_yes (λ (i : ℕ). is_in_horizon plan (day_at first i)) 0 n (n + 1) n refl (omega arith) in
-    let left = days_more_no (λ (i : ℕ). is_in_horizon plan (day_at first i)) 0 n (n + 1) n refl (omega arith) in
-    elim c.if-is_in_horizon.branch [
-      | then-is_in_horizon+in_ok-push w ↦
-          ap (λ list. list.items) w.list-is ∙ w.in_ok-push.ensures.items ∙ ap (λ x. x ++ n ∷ []) c.loop-i.invariant ∙ sym (kept (sym here ∙ w.if-is_in_horizon.true))
-      | else-is_in_horizon w ↦
-          ap (λ list. list.items) w.list-is ∙ c.loop-i.invariant ∙ sym (left (sym here ∙ w.if-is_in_horizon.false))
-    ]
+    let rest = c.in-Some.rest.now in
+    let parts : c.args.legs.now ≡ first ∷ rest = search rules in
+    let ahead : AreBefore (map (λ o. o.day) first.operations) plan.first c.before-ahead.result =
+    subst (λ (d : ℕ). AreBefore (map (λ o. o.day) first.operations) d c.before-ahead.result) c.number.ensures.value c.before-ahead.ensures in
+    let within : AreBefore (map (λ o. o.day) first.operations) (plan.last + 1) c.before-within.result =
+    subst (λ (d : ℕ). AreBefore (map (λ o. o.day) first.operations) (d + 1) c.before-within.result) c.number-2.ensures.value c.before-within.ensures in
+    let count : c.shortest-count.result ≡ shortest (length first.operations) rest = c.shortest-count.ensures.value ∙ ap (λ (n : ℕ). shortest n rest) c.len.ensures in
+    let low = c.shortest-count.ensures.low in
+    let len = c.len.ensures in
+    let mapped = length-map first.operations (λ (o : Operation). o.day) in
+    let short : c.shortest-count.result ≤ length (map (λ o. o.day) first.operations) = omega arith in
+    rows_are plan first c.before-ahead.result c.before-within.result c.shortest-count.result ahead within short first rest c.args.legs.now c.min-begin.result c.max-end.result c.loop-i.i c.loop-i.list.items
+    refl parts count (omega arith) (omega arith) (omega arith) c.loop-i.invariant.0

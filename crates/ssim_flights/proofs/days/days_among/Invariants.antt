@@ -1,7 +1,7 @@
 use Rattle.std.proofs.Common.{◌≡◌, filter}
 use Rattle.std.specs.List.{range_with_len}
 use Rattle.ssim_flights.specs.Operating.{operates}
-use Rattle.ssim_flights.proofs.days.operating_days.Given as goal
+use Rattle.ssim_flights.proofs.days.days_among.Given as goal
 
 abbrev pub invariant-loop-past : goal.invariant-loop-past
 invariant-loop-past l = l.days ≡ filter (operates l.leg) (range_with_len l.leg.from l.past)
