@@ -4,7 +4,6 @@ use Rattle.std.proofs.lemmas.Bool.Decides.{nat_tests}
 use Rattle.ssim_records.specs.Names.{is_airline, is_station, is_code}
 use Rattle.ssim_records.specs.Days.{two_digits, month_name, day_month}
 use Rattle.airimp_lines.specs.declared.fault.LineFault.TheVariants as faults
-use Rattle.airimp_lines.specs.declared.segment.Asked.{Asked}
 use Rattle.airimp_lines.specs.declared.segment.Undated.{Undated}
 use Rattle.ssim_records.specs.Fields.{fixed_at, byte_at, numeral_at, IsNumberText}
 use Rattle.ssim_records.proofs.Chains.{with_want, with_check, with_step}
@@ -17,25 +16,22 @@ use Rattle.airimp_lines.proofs.FieldLaws.{letters_takes, letters_again, day_take
 
 -- ---- what is asked
 
-pub record SpellsAsked (bytes : List ℕ) (a : Asked) : Type 0 where
+pub record SpellsAsked (bytes board off code : List ℕ) (count : ℕ) : Type 0 where
   pub seats : List ℕ
   pub tail : List ℕ
-  pub text : bytes ≡ 32 ∷ (a.board ++ (a.off ++ (32 ∷ (a.code ++ (seats ++ tail)))))
-  pub is_board : is_station a.board ≡ true
-  pub is_off : is_station a.off ≡ true
-  pub is_code : is_code a.code ≡ true
-  pub is_seats : IsNumberText 3 seats a.seats
+  pub text : bytes ≡ 32 ∷ (board ++ (off ++ (32 ∷ (code ++ (seats ++ tail)))))
+  pub is_board : is_station board ≡ true
+  pub is_off : is_station off ≡ true
+  pub is_code : is_code code ≡ true
+  pub is_seats : IsNumberText 3 seats count
   pub is_tail : is_tail tail ≡ true
-
-abbrev asked_in : Undated → Asked
-asked_in u = record { board = u.board; off = u.off; code = u.code; seats = u.seats }
 
 behind_day : (l b o c s t r5 r6 r7 r8 r9 : List ℕ) → l ≡ 32 ∷ r5 → r5 ≡ b ++ r6 → r6 ≡ o ++ r7 → r7 ≡ 32 ∷ r8 → r8 ≡ c ++ r9 → r9 ≡ s ++ t → l ≡ 32 ∷ (b ++ (o ++ (32 ∷ (c ++ (s ++ t)))))
 behind_day l b o c s t r5 r6 r7 r8 r9 e1 e2 e3 e4 e5 e6 = rw (e1, e2, e3, e4, e5, e6) refl
 
 asked_is : (bytes pair : List ℕ) (board off : List ℕ × List ℕ) (action : List ℕ) (code : List ℕ × List ℕ) (seats : ℕ × List ℕ)
     → byte_at 32 bytes ≡ Some pair → fixed_at 3 is_station pair ≡ Some board → fixed_at 3 is_station board.1 ≡ Some off → byte_at 32 off.1 ≡ Some action → fixed_at 2 is_code action ≡ Some code → numeral_at 3 code.1 ≡ Some seats → is_tail seats.1 ≡ true
-    → SpellsAsked bytes (record { board = board.0; off = off.0; code = code.0; seats = seats.0 })
+    → SpellsAsked bytes board.0 off.0 code.0 seats.0
 asked_is bytes pair board off action code seats e5 e6 e7 e8 e9 e10 e11 =
     let t5 = byte_takes 32 bytes pair e5 in
     let t6 = fixed_takes 3 is_station pair board.0 board.1 e6 in
@@ -54,7 +50,7 @@ asked_is bytes pair board off action code seats e5 e6 e7 e8 e9 e10 e11 =
       is_tail = e11;
     }
 
-asked_takes : (bytes : List ℕ) (a : Asked) → asked_at bytes ≡ Ok a → SpellsAsked bytes a
+asked_takes : (bytes : List ℕ) (a : List ℕ × List ℕ × List ℕ × ℕ) → asked_at bytes ≡ Ok a → SpellsAsked bytes a.0 a.1 a.2 a.3
 unfolding asked_at
 asked_takes bytes a e =
     with_want faults.Pair _ _ a e (λ pair e5 k5.
@@ -64,20 +60,20 @@ asked_takes bytes a e =
     with_want faults.Code _ _ a k8 (λ code e9 k9.
     with_want faults.Seats _ _ a k9 (λ seats e10 k10.
     with_check faults.Tail _ _ a k10 (λ e11 k11.
-    subst (SpellsAsked bytes) (ok_is _ a k11) (asked_is bytes pair board off action code seats e5 e6 e7 e8 e9 e10 e11))))))))
+    subst (λ (x : List ℕ × List ℕ × List ℕ × ℕ). SpellsAsked bytes x.0 x.1 x.2 x.3) (ok_is _ a k11) (asked_is bytes pair board off action code seats e5 e6 e7 e8 e9 e10 e11))))))))
 
-asked_again : (bytes : List ℕ) (a : Asked) → SpellsAsked bytes a → asked_at bytes ≡ Ok a
+asked_again : (bytes b o c : List ℕ) (n : ℕ) → SpellsAsked bytes b o c n → asked_at bytes ≡ Ok (b, o, c, n)
 unfolding asked_at
-asked_again bytes a s =
+asked_again bytes b o c n s =
     let r9 = s.seats ++ s.tail in
-    let r8 = a.code ++ r9 in
+    let r8 = c ++ r9 in
     let r7 = 32 ∷ r8 in
-    let r6 = a.off ++ r7 in
-    let r5 = a.board ++ r6 in
-    let board : fixed_at 3 is_station r5 ≡ Some (a.board, r6) = fixed_again 3 is_station a.board r6 (length_station a.board s.is_board) s.is_board in
-    let off : fixed_at 3 is_station r6 ≡ Some (a.off, r7) = fixed_again 3 is_station a.off r7 (length_station a.off s.is_off) s.is_off in
-    let code : fixed_at 2 is_code r8 ≡ Some (a.code, r9) = fixed_again 2 is_code a.code r9 (length_code a.code s.is_code) s.is_code in
-    let seats : numeral_at 3 r9 ≡ Some (a.seats, s.tail) = numeral_again 3 s.seats a.seats s.tail s.is_seats (tail_stops s.tail s.is_tail) in
+    let r6 = o ++ r7 in
+    let r5 = b ++ r6 in
+    let board : fixed_at 3 is_station r5 ≡ Some (b, r6) = fixed_again 3 is_station b r6 (length_station b s.is_board) s.is_board in
+    let off : fixed_at 3 is_station r6 ≡ Some (o, r7) = fixed_again 3 is_station o r7 (length_station o s.is_off) s.is_off in
+    let code : fixed_at 2 is_code r8 ≡ Some (c, r9) = fixed_again 2 is_code c r9 (length_code c s.is_code) s.is_code in
+    let seats : numeral_at 3 r9 ≡ Some (n, s.tail) = numeral_again 3 s.seats n s.tail s.is_seats (tail_stops s.tail s.is_tail) in
     rw (s.text, board, off, code, seats, s.is_tail) refl
 
 -- ---- the whole line
@@ -96,10 +92,10 @@ length_is : (n : ℕ) → (leb 20 n && leb n 69) ≡ true → (20 ≤ n) × (n �
 length_is n h = grind (arith, nat_tests, h)
 
 -- each step was taken, so the line is spelled so
-assemble : (line : List ℕ) (airline : List ℕ × List ℕ) (number : ℕ × List ℕ) (letters : (Option ℕ × ℕ) × List ℕ) (day : (ℕ × ℕ) × List ℕ) (asked : Asked)
+assemble : (line : List ℕ) (airline : List ℕ × List ℕ) (number : ℕ × List ℕ) (letters : (Option ℕ × ℕ) × List ℕ) (day : (ℕ × ℕ) × List ℕ) (asked : List ℕ × List ℕ × List ℕ × ℕ)
     → (leb 20 (length line) && leb (length line) 69) ≡ true
-    → fixed_at 2 is_airline line ≡ Some airline → numeral_at 4 airline.1 ≡ Some number → letters_at number.1 ≡ Some letters → day_at letters.1 ≡ Some day → SpellsAsked day.1 asked
-    → Told line (record { airline = airline.0; number = number.0; suffix = letters.0.0; class = letters.0.1; day = day.0.0; month = day.0.1; board = asked.board; off = asked.off; code = asked.code; seats = asked.seats })
+    → fixed_at 2 is_airline line ≡ Some airline → numeral_at 4 airline.1 ≡ Some number → letters_at number.1 ≡ Some letters → day_at letters.1 ≡ Some day → SpellsAsked day.1 asked.0 asked.1 asked.2 asked.3
+    → Told line (record { airline = airline.0; number = number.0; suffix = letters.0.0; class = letters.0.1; day = day.0.0; month = day.0.1; board = asked.0; off = asked.1; code = asked.2; seats = asked.3 })
 assemble line airline number letters day asked e0 e1 e2 e3 e4 t5 =
     let t1 = fixed_takes 2 is_airline line airline.0 airline.1 e1 in
     let t2 = numeral_takes 4 airline.1 number.0 number.1 e2 in
@@ -155,5 +151,5 @@ undated_again line u told =
     let number : numeral_at 4 r1 ≡ Some (u.number, r2) = numeral_again 4 s.number u.number r2 s.is_number (letters_stop u.suffix u.class r3 s.is_suffix s.is_class) in
     let letters : letters_at r2 ≡ Some ((u.suffix, u.class), r3) = letters_again u.suffix u.class r3 s.is_suffix s.is_class (day_stops u.day u.month r4 told.in_month) in
     let day : day_at r3 ≡ Some ((u.day, u.month), r4) = ap day_at (append_assoc (two_digits u.day) (month_name u.month) r4) ∙ day_again u.day u.month r4 told.low told.high told.in_month in
-    let asked : asked_at r4 ≡ Ok (asked_in u) = asked_again r4 (asked_in u) (record { seats = s.seats; tail = s.tail; text = refl; is_board = s.is_board; is_off = s.is_off; is_code = s.is_code; is_seats = s.is_seats; is_tail = s.is_tail }) in
+    let asked : asked_at r4 ≡ Ok (u.board, u.off, u.code, u.seats) = asked_again r4 u.board u.off u.code u.seats (record { seats = s.seats; tail = s.tail; text = refl; is_board = s.is_board; is_off = s.is_off; is_code = s.is_code; is_seats = s.is_seats; is_tail = s.is_tail }) in
     rw (lengths, airline, number, letters, day, asked) refl

@@ -3,14 +3,13 @@ use Rattle.std.specs.Prelude.{ℕ, ◌&&◌, nat_le, List, length, Result, Ok}
 use Rattle.ssim_records.specs.Names.{is_airline, is_station, is_code}
 use Rattle.airimp_lines.specs.declared.fault.LineFault.{LineFault}
 use Rattle.airimp_lines.specs.declared.fault.LineFault.TheVariants as faults
-use Rattle.airimp_lines.specs.declared.segment.Asked.{Asked}
 use Rattle.airimp_lines.specs.declared.segment.Undated.{Undated}
 use Rattle.ssim_records.specs.Chains.{◌>>=◌, want, check}
 use Rattle.ssim_records.specs.Fields.{fixed_at, byte_at, numeral_at}
 use Rattle.airimp_lines.specs.Fields.{letters_at, day_at, is_tail}
 
 -- the pair, the code, the seats and the tail
-unfoldable pub asked_at : List ℕ → Result Asked LineFault
+unfoldable pub asked_at : List ℕ → Result (List ℕ × List ℕ × List ℕ × ℕ) LineFault
 asked_at bytes = do
   pair ← want faults.Pair (byte_at 32 bytes)
   board ← want faults.Pair (fixed_at 3 is_station pair)
@@ -19,7 +18,7 @@ asked_at bytes = do
   code ← want faults.Code (fixed_at 2 is_code action)
   seats ← want faults.Seats (numeral_at 3 code.1)
   _ ← check faults.Tail (is_tail seats.1)
-  Ok (record { board = board.0; off = off.0; code = code.0; seats = seats.0 })
+  Ok (board.0, off.0, code.0, seats.0)
 
 -- the whole line
 unfoldable pub undated_at : List ℕ → Result Undated LineFault
@@ -37,8 +36,8 @@ undated_at line = do
     class = letters.0.1;
     day = day.0.0;
     month = day.0.1;
-    board = asked.board;
-    off = asked.off;
-    code = asked.code;
-    seats = asked.seats;
+    board = asked.0;
+    off = asked.1;
+    code = asked.2;
+    seats = asked.3;
   })

@@ -33,12 +33,3 @@ pub struct Undated {
     pub code: Code,
     pub seats: u16,
 }
-
-/// What a line asks for, behind its flight and day.
-#[derive(Clone, Copy)]
-pub struct Asked {
-    pub board: Station,
-    pub off: Station,
-    pub code: Code,
-    pub seats: u16,
-}
