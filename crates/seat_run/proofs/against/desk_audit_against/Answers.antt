@@ -2,7 +2,7 @@ use Rattle.std.proofs.Common.{ℕ, List, inr, map, subst}
 use Rattle.std.proofs.lemmas.Result.{err_from_is_err_and}
 use Rattle.std.specs.Io.KnownBytes.{Appends}
 use Rattle.ssim_records.specs.Noting.{TookFront}
-use Rattle.seat_run.proofs.Beside.{audited, refused_journal, refused_unasked}
+use Rattle.seat_run.proofs.Beside.{audited, refused_journal, refused_script, refused_unasked}
 use Rattle.seat_run.proofs.against.desk_audit_against.Goals as goal
 
 pub returns-in_err-core-clause-fault : goal.returns-in_err-core-clause-fault
@@ -11,6 +11,12 @@ returns-in_err-core-clause-fault g c =
     rw (p.1, p.2) (refused_journal (g.S.Read.remaining c.args.inputs.now.set) (g.L.Read.remaining c.args.inputs.now.limits) (g.A.Read.remaining c.args.after.now) (g.J.Read.remaining c.args.journal.now)
     c.args.inputs.now.first c.args.inputs.now.days c.args.today (map g.C.Read.remaining c.args.scripts.now) c.in_ok-loaded.loaded.flights c.in_ok-loaded.loaded.grid c.in_ok-loaded.ensures.ok
     c.in_ok-older.older c.in_ok-older.ensures.ok c.in_err-core.field-0.0 c.in_err-core.ensures.fault)
+
+pub returns-in-Err-clause-fault : goal.returns-in-Err-clause-fault
+returns-in-Err-clause-fault g c =
+    refused_script (g.S.Read.remaining c.args.inputs.now.set) (g.L.Read.remaining c.args.inputs.now.limits) (g.A.Read.remaining c.args.after.now) (g.J.Read.remaining c.args.journal.now)
+    c.args.inputs.now.first c.args.inputs.now.days c.args.today (map g.C.Read.remaining c.args.scripts.now) c.in_ok-loaded.loaded.flights c.in_ok-loaded.loaded.grid c.in_ok-loaded.ensures.ok
+    c.in_ok-older.older c.in_ok-older.ensures.ok c.in_ok-core.core c.in_ok-core.ensures.ok c.in-Err.fault c.in-Err.ensures.script c.in-Err.ensures.fault
 
 pub returns-in_err-line-clause-fault : goal.returns-in_err-line-clause-fault
 returns-in_err-line-clause-fault g c =
