@@ -65,8 +65,8 @@ def place(chance, chains, popular):
     return f"XX{number}{chance.choice('FYYMM')}{day.day:02}{MONTHS[day.month - 1]} {stations[board]}{stations[off]}"
 
 
-def part(chance, chains, popular, lines, names):
-    """The messages of one part, with so many request lines."""
+def part(chance, chains, popular, lines, names, place=place):
+    """The messages of one part, with so many request lines, each on a flight that `place` draws."""
     asked, left, messages = [], lines, []
     while left:
         if asked and chance.random() < 0.25:
