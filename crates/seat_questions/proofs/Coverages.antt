@@ -1,5 +1,5 @@
 -- Rows and legs find each other by counts.
-use Rattle.std.proofs.Common.{◌≡◌, ◌==◌, ℕ, zero, suc, ◌+◌, ◌*◌, ◌<◌, ◌≤◌, Bool, true, false, ◌&&◌, ◌||◌, cond, nat_lt, nat_le, min, max, List, [], ◌∷◌, ◌++◌, length, map, take, get_or, Option, Some, refl, sym, ap, subst, ◌∙◌, append_assoc, arith, zero-add}
+use Rattle.std.proofs.Common.{◌≡◌, ◌==◌, ℕ, zero, suc, ◌+◌, ◌<◌, ◌≤◌, Bool, true, false, ◌&&◌, ◌||◌, cond, nat_lt, nat_le, max, List, [], ◌∷◌, ◌++◌, length, map, take, get_or, Some, refl, sym, ap, subst, ◌∙◌, append_assoc, arith, zero-add}
 use Rattle.std.specs.Prelude.{count_by, slice_get}
 use Rattle.std.specs.List.{All, AllWithin, flat_map, list_any, sum_by}
 use Rattle.std.specs.List.Sorted.{IsPartitionPoint, IsPermutation, IsSorted}
@@ -18,7 +18,6 @@ use Rattle.ssim_flights.specs.declared.flight.DatedLeg.{DatedLeg}
 use Rattle.ssim_flights.specs.declared.flight.Flight.{Flight}
 use Rattle.seat_nesting.specs.Authorised.{holds_day, leg_pair, row_pair, same_pair}
 use Rattle.seat_nesting.specs.declared.limit_row.LimitRow.{LimitRow}
-use Rattle.seat_nesting.specs.declared.row_index.Pair.{Pair}
 use Rattle.seat_nesting.proofs.RowIndexing.{pair_is}
 use Rattle.seat_questions.specs.Cover.{IsCoverText, IsFlightPartBy, IsRowPartBy, covered_by, has_leg, has_row, is_on, is_row_of, leg_count, row_text, sums_text}
 use Rattle.seat_desk.specs.FlightsDesk.{IsPut, IsText}

@@ -10,7 +10,7 @@ use Rattle.ssim_flights.specs.declared.flight.DatedLeg.{DatedLeg}
 use Rattle.ssim_flights.specs.declared.flight.Flight.{Flight}
 use Rattle.seat_nesting.specs.declared.limit_row.LimitRow.{LimitRow}
 use Rattle.seat_desk.specs.FlightsDesk.{IsLegText, IsPut}
-use Rattle.seat_questions.specs.Cover.{IsBarePut, IsCoverText, IsFlightPart, IsLegPut, IsLegTextBy, IsRowPart, bare_head, covered_legs, covered_line, has_leg, has_row, leg_count, share_text, sums_text}
+use Rattle.seat_questions.specs.Cover.{IsBarePut, IsCoverText, IsFlightPart, IsLegPut, IsLegTextBy, IsRowPart, bare_head, covered_legs, covered_line, has_leg, leg_count, share_text, sums_text}
 
 missing : (flight : Flight) → Some flight ≡ None → ⊥
 missing flight e = cc

@@ -1,5 +1,5 @@
 -- Limit rows and legs on one line of numbers: each pair has a run of points, one for each day.
-use Rattle.std.specs.Prelude.{◌≡◌, ◌≤◌, ◌+◌, ◌*◌, ℕ, Bool, min, max, nat_lt, List, map, count_by, length}
+use Rattle.std.specs.Prelude.{◌≡◌, ◌+◌, ◌*◌, ℕ, Bool, min, max, nat_lt, List, map, count_by, length}
 use Rattle.std.specs.List.{All, flat_map}
 use Rattle.std.specs.List.Sorted.{IsNonDecreasing, IsPermutation}
 use Rattle.ssim_records.specs.Days.{IsDay}

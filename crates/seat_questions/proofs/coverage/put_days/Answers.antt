@@ -1,4 +1,3 @@
-use Rattle.std.proofs.Common.{◌∙◌}
 use Rattle.seat_questions.specs.Coverage.{day_of}
 use Rattle.seat_questions.proofs.Coverages.{leg_more}
 use Rattle.seat_questions.proofs.coverage.put_days.Goals as goal
