@@ -368,6 +368,7 @@ pub fn run<'a, T: Threads + Wait + Sync>(
     let mut changes = opened_or(rt, asking.changes, b"")?;
     let guard = Guard::new(rt, asking.journal)?;
     guard.pass(&inputs, scripts.as_slice(), &[&after, &changes])?;
+    guard.pass_output(rt)?;
     if asking.no_clobber {
         guard.keep()?;
     }

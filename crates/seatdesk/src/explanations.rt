@@ -594,7 +594,7 @@ const WORDS: &[Explanation] = &[
         behind: "E2",
         code: "journal",
         numbers: NONE,
-        text: "The file of --journal is one of the inputs, also the journal of --after, or --no-clobber keeps it:\nit is there and not empty. Nothing was written.",
+        text: "The file of --journal is one of the inputs, also the journal of --after, or that of standard output,\nor --no-clobber keeps it: it is there and not empty. Nothing was written.",
     },
     Explanation {
         behind: "E2",

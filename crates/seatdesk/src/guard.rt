@@ -1,10 +1,13 @@
-//! What the file of a journal may not be: one of the inputs.
+//! What the file of a journal may not be: one of the inputs, or the file that the replies go to.
 use crate::refusal::Refusal;
 use crate::streams::Input;
 use seat_desk::{DeskFault, Inputs};
 use std::fs::Metadata;
 use std::os::unix::fs::MetadataExt;
 use std::{fs, io};
+
+/// The name under which a program finds its own standard output.
+const STANDARD_OUTPUT: &str = "/dev/stdout";
 
 /// The file that a journal is to be written to, as it is before that.
 #[derive(Drop)]
@@ -42,6 +45,17 @@ impl<'a> Guard<'a> {
         Ok(())
     }
 
+    /// Refuses the file that standard output goes to, since the replies would be written over the journal.
+    pub fn pass_output<'b>(&self, rt: &HostRuntime) -> Result<(), Refusal<'b>> {
+        let Some(there) = &self.there else {
+            return Ok(());
+        };
+        match fs::metadata(rt, STANDARD_OUTPUT) {
+            Ok(file) if is_same(&file, there) => Err(Refusal::of(DeskFault::BadJournal)),
+            _ => Ok(()),
+        }
+    }
+
     /// Refuses a file that is there and not empty.
     pub fn keep<'b>(&self) -> Result<(), Refusal<'b>> {
         match &self.there {
@@ -63,8 +77,12 @@ impl<'a> Guard<'a> {
             return Ok(false);
         };
         match input.metadata()? {
-            Some(file) => Ok(file.dev() == there.dev() && file.ino() == there.ino()),
+            Some(file) => Ok(is_same(&file, there)),
             None => Ok(false),
         }
     }
+}
+
+fn is_same(one: &Metadata, other: &Metadata) -> bool {
+    one.dev() == other.dev() && one.ino() == other.ino()
 }
