@@ -1,5 +1,5 @@
 -- The live bookings, flight by flight.
-use Rattle.std.specs.Prelude.{◌≡◌, ℕ, ◌≤◌, Bool, true, false, ◌&&◌, nat_lt, List, [], Option, Some, None, slice_get, slice_index, vec_len, vec_capacity, if◌then◌else◌}
+use Rattle.std.specs.Prelude.{◌≡◌, ℕ, ◌≤◌, Bool, true, false, ◌&&◌, List, [], Option, Some, None, slice_get, slice_index, if◌then◌else◌}
 use Rattle.ssim_records.specs.declared.place.Place.{Place}
 use Rattle.seat_nesting.specs.Nesting.{Legs}
 use Rattle.seat_nesting.specs.Counting.{Counted, limits_of, seats_of}
@@ -13,6 +13,7 @@ use Rattle.seat_core.specs.Journal.{replay, calls_of}
 use Rattle.seat_core.specs.Flights.{bookings_on, queue_on, is_on}
 use Rattle.seat_core.specs.Queues.{queue_of}
 use Rattle.seat_core.specs.Applying.{applied}
+use Rattle.seat_core.specs.Live.{AreLive}
 use Rattle.seat_core.specs.Inventory.{IsLawful}
 
 abbrev pub bookings_in : Option FlightBook → List Booking
@@ -43,7 +44,7 @@ book_of books (Limit c) = book_at books c.flight
 
 -- there is memory for one more booking in it, held or waiting
 abbrev pub spare_of : FlightBook → Bool
-spare_of book = nat_lt (vec_len book.bookings) (vec_capacity book.bookings) && book.queue.spare
+spare_of book = book.bookings.spare && book.queue.spare
 
 abbrev pub has_spare_in : Option FlightBook → Bool
 has_spare_in None = false
@@ -62,6 +63,10 @@ pub record SameBooks (old new : List FlightBook) : Type 0 where
 -- each waiting list is that of its flight's bookings
 pub record IsQueued (books : List FlightBook) : Type 0 where
   pub each : (flight : ℕ) → queue_at books flight ≡ queue_of (book_at books flight)
+
+-- the entry leaves live bookings in the book of its flight
+pub record LeavesLive (books : List FlightBook) (e : Entry) : Type 0 where
+  pub each : (flight : ℕ) → is_on flight e.work ≡ true → AreLive (applied (book_at books flight) e)
 
 -- the entry was applied to the book of its flight, and to no other
 pub record IsEntered (old new : List FlightBook) (e : Entry) : Type 0 where

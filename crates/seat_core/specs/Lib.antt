@@ -12,6 +12,8 @@ pub mod Replaying
 pub mod FaultText
 pub mod Tables
 pub mod Applying
+pub mod Live
+pub mod Numbers
 pub mod Flights
 pub mod Queues
 pub mod Demands

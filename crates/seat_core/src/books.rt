@@ -1,11 +1,13 @@
 //! The live bookings, flight by flight.
-ghost use Rattle.std.specs.Prelude.{◌≡◌, ◌<◌, ◌+◌, [], true, IfNone, IfSome, OnOk, slice_get, vec_len};
+ghost use Rattle.std.specs.Prelude.{◌≡◌, ◌<◌, ◌+◌, [], position, true, IfNone, IfSome, OnOk, slice_get, vec_len};
 ghost use Rattle.seat_journal.specs.declared.entry.Work.TheVariants.{Seats, Limit};
 ghost use Rattle.seat_core.specs.Flights.{place_of};
-ghost use Rattle.seat_core.specs.Books.{book_at, has_spare, has_spare_in, queue_at, spare_of, IsEntered, IsQueued, SameBooks};
+ghost use Rattle.seat_core.specs.Bookings.{is_for};
+ghost use Rattle.seat_core.specs.Books.{book_at, has_spare, has_spare_in, queue_at, spare_of, IsEntered, IsQueued, LeavesLive, SameBooks};
 
 use crate::booking::Booking;
 use crate::effect::{apply, confirm_all};
+use crate::live_bookings::LiveBookings;
 use crate::waiting_list::WaitingList;
 use seat_journal::{Change, Command, Entry, Work};
 use ssim_records::{Memory, Place};
@@ -14,19 +16,19 @@ use std::alloc::Global;
 /// The bookings of one flight, and those of them that wait, each in order of number.
 #[derive(Drop)]
 pub struct FlightBook {
-    bookings: Vec<Booking>,
+    bookings: LiveBookings,
     queue: WaitingList,
 }
 
 impl FlightBook {
     #[tactic(auto, using(crate::proofs::Waitlists::Queue::spare_both))]
     // Makes the memory for one more booking.
-    fn reserve(&mut self) -> Result<(), Memory>
+    fn reserve(&mut self, alloc: Global) -> Result<(), Memory>
         ensures bookings { self.new.bookings.items ≡ self.old.bookings.items }
         ensures queue { self.new.queue.bookings ≡ self.old.queue.bookings }
         ensures ok { OnOk result (spare_of self.new ≡ true) }
     {
-        self.bookings.reserve(1)?;
+        self.bookings.reserve(alloc)?;
         self.queue.reserve()
     }
 }
@@ -38,6 +40,16 @@ pub fn book_at(books: &[FlightBook], flight: u32) -> &[Booking]
     match books.get(flight as usize) {
         Some(book) => book.bookings.as_slice(),
         None => &[],
+    }
+}
+
+/// Where the booking of a command's locator, a place and the command's class stands among those of its flight.
+pub fn find_in(books: &[FlightBook], command: &Command, place: Place) -> Option<usize>
+    ensures { result ≡ position (is_for command.now.locator place command.now.class) (book_at books.now place.flight) }
+{
+    match books.get(place.flight as usize) {
+        Some(book) => book.bookings.find(command, place),
+        None => None,
     }
 }
 
@@ -73,13 +85,14 @@ fn reserve_booking(alloc: Global, books: &mut Vec<FlightBook>, flight: u32) -> R
     ensures ok { OnOk result (has_spare_in (slice_get books.new.items flight) ≡ true) }
 {
     open_books(alloc, books, flight)?;
-    books[flight as usize].reserve()
+    books[flight as usize].reserve(alloc)
 }
 
 /// Applies an entry to the book of its flight, which has room for one more booking where the entry asks for a place.
 pub fn enter(books: &mut Vec<FlightBook>, entry: &Entry)
     requires spare { has_spare books.old.items (place_of entry.now.work) ≡ true }
     requires queued { IsQueued books.old.items }
+    requires live { LeavesLive books.old.items entry.now }
     ensures entered { IsEntered books.old.items books.new.items entry.now }
     ensures queued { IsQueued books.new.items }
 {
@@ -95,6 +108,7 @@ fn enter_command(books: &mut Vec<FlightBook>, entry: &Entry, command: &Command)
     requires command { entry.now.work ≡ Seats command.now }
     requires spare { has_spare books.old.items command.now.place ≡ true }
     requires queued { IsQueued books.old.items }
+    requires live { LeavesLive books.old.items entry.now }
     ensures entered { IsEntered books.old.items books.new.items entry.now }
     ensures queued { IsQueued books.new.items }
 {
@@ -109,6 +123,7 @@ fn enter_command(books: &mut Vec<FlightBook>, entry: &Entry, command: &Command)
 fn enter_change(books: &mut Vec<FlightBook>, entry: &Entry, change: Change)
     requires change { entry.now.work ≡ Limit change }
     requires queued { IsQueued books.old.items }
+    requires live { LeavesLive books.old.items entry.now }
     ensures entered { IsEntered books.old.items books.new.items entry.now }
     ensures queued { IsQueued books.new.items }
 {
@@ -141,7 +156,7 @@ fn open_book(alloc: Global, books: &mut Vec<FlightBook>) -> Result<(), Memory>
     ensures ok { OnOk result (vec_len books.new ≡ vec_len books.old + 1) }
 {
     books.push(FlightBook {
-        bookings: Vec::new(alloc),
+        bookings: LiveBookings::new(alloc),
         queue: WaitingList::new(alloc),
     })?;
     Ok(())

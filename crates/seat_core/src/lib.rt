@@ -12,6 +12,7 @@ mod effect;
 mod fault;
 mod inventory;
 mod laws;
+mod live_bookings;
 mod one_flight;
 mod pass;
 mod replaying;

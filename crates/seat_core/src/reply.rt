@@ -14,8 +14,7 @@ ghost use Rattle.seat_core.specs.Answers.{IsAsked, IsFlight, IsReply, Says};
 
 use crate::action::{Action, Wish, action_of};
 use crate::booking::Booking;
-use crate::bookings::find_booking;
-use crate::books::{FlightBook, book_at, queue_at};
+use crate::books::{FlightBook, book_at, find_in, queue_at};
 use crate::changes::answer_change;
 use crate::pass::{advices_after, advices_of_rest};
 use crate::rooms::{is_listed_at, may_wait_at};
@@ -101,7 +100,7 @@ fn answer_command(
     let Some(place) = command.place else {
         return Ok(reply(alloc, *b"UN"));
     };
-    let found = find_booking(book_at(books, place.flight), command, place);
+    let found = find_in(books, command, place);
     match action {
         Action::Want(wish) => match found {
             None => book_seats(alloc, counts, books, number, command, place, wish),

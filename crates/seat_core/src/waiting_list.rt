@@ -1,7 +1,8 @@
 //! The waiting list of a flight.
-ghost use Rattle.std.specs.Prelude.{◌≡◌, ◌<◌, ◌≤◌, ◌++◌, ◌∷◌, [], length, position, remove, true, vec_len, vec_capacity, OnOk, Some};
+ghost use Rattle.std.specs.Prelude.{◌≡◌, ◌==◌, ◌<◌, ◌≤◌, ◌++◌, ◌∷◌, [], length, position, remove, true, vec_len, vec_capacity, OnOk, Some};
 ghost use Rattle.seat_nesting.specs.Counting.{limits_of, seats_of};
 ghost use Rattle.seat_nesting.specs.Nesting.{may_wait};
+ghost use Rattle.seat_core.specs.Applying.{IsOrdered};
 ghost use Rattle.seat_core.specs.Bookings.{is_for, waiting};
 ghost use Rattle.seat_core.specs.Demands.{has_spare, IsIndexed};
 ghost use Rattle.seat_core.specs.Queues.{none_fits, without};
@@ -9,7 +10,7 @@ ghost use Rattle.seat_core.specs.Sequential.{booking_of, reduced};
 ghost use Rattle.seat_core.specs.declared.booking.Status.TheVariants.{Waiting};
 
 use crate::booking::{Booking, Status};
-use crate::bookings::{add, find_booking, find_number, take_off};
+use crate::bookings::{add, find_number, take_off};
 use crate::demands::{Demand, are_too_large, join, leave, lessen};
 use crate::rooms::may_wait_at;
 use seat_journal::Command;
@@ -83,11 +84,13 @@ impl WaitingList {
         );
     }
 
-    /// Takes the seats of a command off its booking, where there is one.
-    pub fn reduce(&mut self, command: &Command, place: Place)
+    /// Takes the seats of a command off its booking, which has this number, where there is one.
+    pub fn reduce(&mut self, number: u32, command: &Command, place: Place)
+        requires ordered { IsOrdered self.old.bookings }
+        requires number { position (λ b. b.number == number) self.old.bookings ≡ position (is_for command.now.locator place command.now.class) self.old.bookings }
         ensures { self.new.bookings ≡ reduced (is_for command.now.locator place command.now.class) command.now.seats self.old.bookings }
     {
-        match find_booking(&self.bookings, command, place) {
+        match find_number(&self.bookings, number) {
             Some(at) => reduce_at(&mut self.bookings, &mut self.demands, at, command, place),
             None => {}
         }
@@ -95,6 +98,7 @@ impl WaitingList {
 
     /// Takes out the booking of this number, where there is one.
     pub fn take_out(&mut self, number: u32)
+        requires { IsOrdered self.old.bookings }
         ensures { self.new.bookings ≡ without self.old.bookings number }
     {
         match find_number(&self.bookings, number) {

@@ -24,12 +24,14 @@ use Rattle.seat_core.specs.Applying.{applied, confirmed_each, replied, IsOrdered
 use Rattle.seat_core.specs.Flights.{bookings_on, is_flight, is_on, advices_anew}
 use Rattle.seat_core.specs.Inventory.{has_memory, HoldsWithinLimits, IsLawful, KeepsLimits}
 use Rattle.seat_core.specs.Showing.{Standing, shown, standing_of, unsold}
-use Rattle.seat_core.specs.Books.{book_at, book_for, book_of, has_spare, has_spare_in, spare_of, IsEntered, IsKept, IsQueued, SameBooks}
+use Rattle.seat_core.specs.Books.{book_at, book_for, book_of, has_spare, has_spare_in, spare_of, IsEntered, IsKept, IsQueued, LeavesLive, SameBooks}
+use Rattle.seat_core.specs.Live.{AreLive, Differs, IsApart}
 use Rattle.seat_core.specs.Queues.{queue_of}
 use Rattle.seat_core.proofs.Waitlists.Queue.{queue_is}
 use Rattle.seat_core.proofs.Flight.View.{bookings_view}
 use Rattle.seat_core.proofs.Flight.Seen.{seen, answer_on, answer_off, advices_on}
 use Rattle.seat_core.proofs.Step.Effect.{answer_applies, replay_is_numbered}
+use Rattle.seat_core.proofs.Step.Apart.{replay_apart}
 use Rattle.seat_core.proofs.Kept.Commits.{lawful_committed}
 use Rattle.seat_core.proofs.History.Lines.{replay_next}
 use Rattle.seat_core.proofs.History.Legal.{each_legal, legal_nil, legal_push}
@@ -246,6 +248,33 @@ kept_next opening cap journal books books' calls counts counts' e k nine lt next
       ∙ (ap (λ t. if t then applied (book_at books f) e else book_at books f) off
       ∙ (k.by_flight f
       ∙ (sym (left_off (limits_of counts) f (replay opening journal).bookings (length journal + 1) e.work off k.lawful.quiet) ∙ ap (λ (s : State). bookings_on f s.bookings) (sym step))))
+
+-- the line leaves live bookings
+apart_on : (f : ℕ) (bs : List Booking) → IsApart bs → IsApart (bookings_on f bs)
+apart_on f [] o = tt
+apart_on f (b ∷ bs) o = cases (b.place.flight == f) refl (apart_on f bs o.1) where
+  cases : (t : Bool) → (b.place.flight == f) ≡ t → IsApart (bookings_on f bs) → IsApart (bookings_on f (b ∷ bs))
+  cases true e rest = rw e (all_on (Differs b) f bs o.0, rest)
+  cases false e rest = rw e rest
+
+pub kept_live : (opening : Legs) (cap : ℕ) (journal : List Entry) (books : List FlightBook) (calls : List ℕ) (counts : Counted) (e : Entry) → IsKept opening cap journal books calls counts → IsNext opening journal e → LeavesLive books e
+kept_live opening cap journal books calls counts e k next = record { each = λ f on. subst AreLive (sym (left f on)) (live f) } where
+  live : (f : ℕ) → AreLive (bookings_on f (replay opening (journal ++ e ∷ [])).bookings)
+  live f = record {
+    ordered = ordered_on f (replay opening (journal ++ e ∷ [])).bookings (replay_is_numbered opening (journal ++ e ∷ []) (legal_push opening journal e k.lawful.legal next)).ordered;
+    apart = apart_on f (replay opening (journal ++ e ∷ [])).bookings (replay_apart opening (journal ++ e ∷ []));
+  }
+
+  step : replay opening (journal ++ e ∷ []) ≡ (answer (state_of (limits_of counts) (replay opening journal).bookings) (length journal + 1) e.work).state
+  step =
+      replay_next opening journal e
+      ∙ (ap (λ x. (answer (replay opening journal) x e.work).state) (ap (λ (x : Entry). x.number) next.line)
+      ∙ ap (λ (s : State). (answer s (length journal + 1) e.work).state) k.lawful.left)
+
+  left : (f : ℕ) → is_on f e.work ≡ true → applied (book_at books f) e ≡ bookings_on f (replay opening (journal ++ e ∷ [])).bookings
+  left f on =
+      ap (λ (l : List Booking). applied l e) (k.by_flight f)
+      ∙ (entered_on opening (limits_of counts) cap journal f e k.lawful next on ∙ ap (λ (s : State). bookings_on f s.bookings) (sym step))
 
 -- sessions beyond 8 have no lines
 none_beyond : (s : ℕ) → 8 < s → (grid : Legs) (journal : List Entry) → IsLegal grid journal → calls_of journal s ≡ 0

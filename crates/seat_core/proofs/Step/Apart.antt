@@ -10,7 +10,9 @@ use Rattle.seat_core.specs.declared.booking.Booking.{Booking}
 use Rattle.seat_core.specs.declared.booking.Status.TheVariants.{Held, Waiting}
 use Rattle.seat_journal.specs.declared.entry.Command.{Command}
 use Rattle.seat_journal.specs.declared.entry.Work.{Work}
+use Rattle.seat_journal.specs.declared.entry.Entry.{Entry}
 use Rattle.seat_core.specs.Bookings.{is_for, IsSameBooking}
+use Rattle.seat_core.specs.Live.{Differs, IsApart}
 use Rattle.seat_core.specs.Journal.{replay}
 use Rattle.seat_core.specs.declared.booking.Status.{Status}
 use Rattle.seat_core.specs.Sequential.{State, state_of, answer, changed_by, pass, reduced, confirmed, booking_of, booking_for}
@@ -19,14 +21,6 @@ use Rattle.seat_core.proofs.Step.Outcomes.{each_outcome}
 use Rattle.seat_core.proofs.Step.Limits.{each_pass}
 use Rattle.seat_core.proofs.Passes.Quiet.{all_push}
 use Rattle.seat_core.proofs.History.Lines.{each_replay}
-
--- the earlier booking x is not for what the later b is for
-abbrev pub Differs : Booking → Booking → Type 0
-Differs x b = is_for b.locator b.place b.class x ≡ false
-
-abbrev pub IsApart : List Booking → Type 0
-IsApart [] = Unit {0}
-IsApart (x ∷ xs) = AllByRecursion (Differs x) xs × IsApart xs
 
 pub find_none_all : (p : Booking → Bool) (xs : List Booking) → find p xs ≡ None → AllByRecursion (λ x. p x ≡ false) xs
 find_none_all p [] e = tt
@@ -53,7 +47,7 @@ apart_more : (xs : List Booking) (b : Booking) → IsApart xs → AllByRecursion
 apart_more [] b h a = (tt, tt)
 apart_more (x ∷ xs) b h a = (all_push (Differs x) xs b h.0 a.0, apart_more xs b h.1 a.1)
 
-apart_reduced : (test : Booking → Bool) (n : ℕ) (xs : List Booking) → IsApart xs → IsApart (reduced test n xs)
+pub apart_reduced : (test : Booking → Bool) (n : ℕ) (xs : List Booking) → IsApart xs → IsApart (reduced test n xs)
 apart_reduced test n [] h = tt
 apart_reduced test n (b ∷ bs) h = cases (test b) (nat_le b.seats n) refl refl (apart_reduced test n bs h.1) where
   cases : (t u : Bool) → test b ≡ t → nat_le b.seats n ≡ u → IsApart (reduced test n bs) → IsApart (reduced test n (b ∷ bs))
@@ -108,7 +102,8 @@ apart_pairs (x ∷ xs) h zero (suc j) d lt le same =
     true_false (is_for y.locator y.place y.class x) (is_for_same x y.locator y.place y.class same.0 same.1 same.2) differs
 apart_pairs (x ∷ xs) h (suc i) (suc j) d lt le same = apart_pairs xs h.1 i j d (omega arith) (omega arith) same
 
+pub replay_apart : (grid : Legs) (journal : List Entry) → IsApart (replay grid journal).bookings
+replay_apart grid journal = each_replay (λ s. IsApart s.bookings) apart_answer (state_of grid []) tt journal
+
 pub live_bookings_differ : LiveBookingsDiffer
-live_bookings_differ grid journal =
-    let h : IsApart (replay grid journal).bookings = each_replay (λ s. IsApart s.bookings) apart_answer (state_of grid []) tt journal in
-    apart_pairs (replay grid journal).bookings h
+live_bookings_differ grid journal = apart_pairs (replay grid journal).bookings (replay_apart grid journal)

@@ -1,6 +1,5 @@
 -- Waiting lists, booking by booking.
-use Rattle.std.proofs.Common.{◌≡◌, ◌==◌, ◌&&◌, ℕ, zero, suc, ◌+◌, ◌<◌, ◌≤◌, Bool, true, false, nat_le, nat_lt, vec_len, vec_capacity, List, [], ◌∷◌, ◌++◌, length, get_or, remove, position, Some, None, arith, refl, ap, sym, ◌∙◌}
-use Rattle.std.proofs.lemmas.Bool.Decides.{nat_tests}
+use Rattle.std.proofs.Common.{◌≡◌, ◌==◌, ◌&&◌, ℕ, zero, suc, ◌+◌, ◌<◌, ◌≤◌, Bool, true, false, nat_le, List, [], ◌∷◌, ◌++◌, length, get_or, remove, position, Some, None, arith, refl, ap, sym, ◌∙◌}
 use Rattle.std.proofs.lemmas.List.{append-nil}
 use Rattle.std.proofs.lemmas.List.Quantifiers.{position-Some}
 use Rattle.std.specs.List.{AllByRecursion}
@@ -155,15 +154,11 @@ split true true e = (refl, refl)
 split true false e = absurd cc
 split false u e = absurd cc
 
-pub spare_booking : (book : FlightBook) → spare_of book ≡ true → vec_len book.bookings < vec_capacity book.bookings
-spare_booking book e =
-    let h = (split (nat_lt (vec_len book.bookings) (vec_capacity book.bookings)) (book.queue.spare) e).0 in
-    grind (arith, nat_tests)
+pub spare_booking : (book : FlightBook) → spare_of book ≡ true → book.bookings.spare ≡ true
+spare_booking book e = (split book.bookings.spare book.queue.spare e).0
 
 pub spare_waiting : (book : FlightBook) → spare_of book ≡ true → book.queue.spare ≡ true
-spare_waiting book e = (split (nat_lt (vec_len book.bookings) (vec_capacity book.bookings)) book.queue.spare e).1
+spare_waiting book e = (split book.bookings.spare book.queue.spare e).1
 
-pub spare_both : (book : FlightBook) → vec_len book.bookings < vec_capacity book.bookings → book.queue.spare ≡ true → spare_of book ≡ true
-spare_both book a b =
-    let one : nat_lt (vec_len book.bookings) (vec_capacity book.bookings) ≡ true = grind (arith, nat_tests) in
-    rw (one, b) refl
+pub spare_both : (book : FlightBook) → book.bookings.spare ≡ true → book.queue.spare ≡ true → spare_of book ≡ true
+spare_both book a b = rw (a, b) refl

@@ -10,8 +10,8 @@ returns-in-None c =
     let at : book_for c.args.books.now c.args.command.now.place ≡ book_at c.args.books.now c.in-Some.place.flight = ap (book_for c.args.books.now) c.in-Some.is in
     rw (
       at,
-      answers_want c.in-Want.wish (state_of (limits_of c.args.counts.now) (book_at c.args.books.now c.in-Some.place.flight)) c.args.number c.args.command.now c.in-Some.place c.book_at.result.now
-          c.book_at.ensures c.in-Want.ensures c.in-Some.is c.in-None.ensures,
+      answers_want c.in-Want.wish (state_of (limits_of c.args.counts.now) (book_at c.args.books.now c.in-Some.place.flight)) c.args.number c.args.command.now c.in-Some.place (book_at c.args.books.now c.in-Some.place.flight)
+          refl c.in-Want.ensures c.in-Some.is c.in-None.ensures,
     )
     (record { says = c.book_seats.ensures; limits = refl; seats = refl })
 
@@ -20,8 +20,8 @@ returns-in-Some-found-2 c =
     let at : book_for c.args.books.now c.args.command.now.place ≡ book_at c.args.books.now c.in-Some.place.flight = ap (book_for c.args.books.now) c.in-Some.is in
     rw (
       at,
-      answers_cancel (state_of (limits_of c.args.counts.now) (book_at c.args.books.now c.in-Some.place.flight)) c.args.number c.args.command.now c.in-Some.place c.in-Some-found-2.at c.book_at.result.now
-          c.book_at.ensures c.in-Cancel.ensures c.in-Some.is c.in-Some-found-2.ensures,
+      answers_cancel (state_of (limits_of c.args.counts.now) (book_at c.args.books.now c.in-Some.place.flight)) c.args.number c.args.command.now c.in-Some.place c.in-Some-found-2.at (book_at c.args.books.now c.in-Some.place.flight)
+          refl c.in-Cancel.ensures c.in-Some.is c.in-Some-found-2.ensures,
     )
     c.cancel_seats.ensures
 
@@ -30,8 +30,8 @@ returns-in-Some-found c =
     let at : book_for c.args.books.now c.args.command.now.place ≡ book_at c.args.books.now c.in-Some.place.flight = ap (book_for c.args.books.now) c.in-Some.is in
     rw (
       at,
-      answers_taken c.in-Want.wish (state_of (limits_of c.args.counts.now) (book_at c.args.books.now c.in-Some.place.flight)) c.args.number c.args.command.now c.in-Some.place c.in-Some-found.field-0 c.book_at.result.now
-          c.book_at.ensures c.in-Want.ensures c.in-Some.is c.in-Some-found.ensures,
+      answers_taken c.in-Want.wish (state_of (limits_of c.args.counts.now) (book_at c.args.books.now c.in-Some.place.flight)) c.args.number c.args.command.now c.in-Some.place c.in-Some-found.field-0 (book_at c.args.books.now c.in-Some.place.flight)
+          refl c.in-Want.ensures c.in-Some.is c.in-Some-found.ensures,
     )
     (search rules)
 
@@ -40,7 +40,7 @@ returns-in-None-found c =
     let at : book_for c.args.books.now c.args.command.now.place ≡ book_at c.args.books.now c.in-Some.place.flight = ap (book_for c.args.books.now) c.in-Some.is in
     rw (
       at,
-      answers_missing (state_of (limits_of c.args.counts.now) (book_at c.args.books.now c.in-Some.place.flight)) c.args.number c.args.command.now c.in-Some.place c.book_at.result.now
-          c.book_at.ensures c.in-Cancel.ensures c.in-Some.is c.in-None-found.ensures,
+      answers_missing (state_of (limits_of c.args.counts.now) (book_at c.args.books.now c.in-Some.place.flight)) c.args.number c.args.command.now c.in-Some.place (book_at c.args.books.now c.in-Some.place.flight)
+          refl c.in-Cancel.ensures c.in-Some.is c.in-None-found.ensures,
     )
     (search rules)

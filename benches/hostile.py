@@ -1,0 +1,85 @@
+#!/usr/bin/env python3
+"""Writes input for `seatdesk ladder` in which each line has many bookings to look through, the same for the same words.
+
+    benches/hostile.py N held|fresh|confirming [--seed S]
+
+held        one class: 999 bookings of one seat are held and 999 wait. Then cancels of any of them alternate with
+            listings of new locators. A cancel of a held one confirms the first that waits.
+fresh       26 classes: one booking holds all 999 seats, and in each class 999 bookings of one seat wait. Then sales of
+            fresh locators find neither room nor a place to wait.
+confirming  the same 26 classes. Then one seat is given back, which confirms the first that waits; its cancel confirms
+            the next, and so on, and after each cancel a new locator is listed.
+
+Example: benches/hostile.py 900000 held > held.txt && time ./seatdesk ladder < held.txt > replies.txt
+"""
+import collections
+import itertools
+import random
+import sys
+
+LETTERS = "0123456789ABCDEFGHIJKLMNOPQRSTUVWXYZ"
+CLASSES = "ABCDEFGHIJKLMNOPQRSTUVWXYZ"
+
+
+def locator(number):
+    text = ""
+    for _ in range(6):
+        number, digit = divmod(number, 36)
+        text = LETTERS[digit] + text
+    return text
+
+
+def held(chance):
+    yield "F999/999"
+    live = []
+    for number in itertools.count():
+        if number >= 1998:
+            at = chance.randrange(len(live))
+            yield f"{live[at]} F XX 1"
+            live[at] = live[-1]
+            live.pop()
+        live.append(locator(number))
+        yield f"{live[-1]} F LL 1"
+
+
+def crowd():
+    """The limits, the holding booking, and those that wait: one of each class in turn."""
+    yield " ".join(f"{letter}999/999" for letter in CLASSES)
+    yield f"{locator(0)} A NN 999"
+    for number in range(999 * 26):
+        yield f"{locator(number + 1)} {CLASSES[number % 26]} LL 1"
+
+
+def fresh(chance):
+    yield from crowd()
+    for number in itertools.count(999 * 26 + 1):
+        yield f"{locator(number)} {chance.choice(CLASSES)} SS 1"
+
+
+def confirming(chance):
+    yield from crowd()
+    queue = collections.deque((locator(number + 1), CLASSES[number % 26]) for number in range(999 * 26))
+    yield f"{locator(0)} A XX 1"
+    for number in itertools.count(999 * 26 + 1):
+        gone, letter = queue.popleft()
+        yield f"{gone} {letter} XX 1"
+        queue.append((locator(number), letter))
+        yield f"{locator(number)} {letter} LL 1"
+
+
+def main(words):
+    seed = 1
+    if "--seed" in words:
+        at = words.index("--seed")
+        seed, words = int(words[at + 1]), words[:at] + words[at + 2 :]
+    modes = {"held": held, "fresh": fresh, "confirming": confirming}
+    if len(words) != 2 or words[1] not in modes or not words[0].isdigit():
+        print(__doc__, end="", file=sys.stderr)
+        return 2
+    for line in itertools.islice(modes[words[1]](random.Random(seed)), int(words[0]) + 1):
+        sys.stdout.write(f"{line}\n")
+    return 0
+
+
+if __name__ == "__main__":
+    sys.exit(main(sys.argv[1:]))

@@ -1,0 +1,98 @@
+-- A list of live bookings and its index, after each change.
+use Rattle.std.proofs.Common.{◌≡◌, ℕ, zero, suc, ◌+◌, ◌<◌, ◌≤◌, Bool, true, List, [], ◌∷◌, ◌++◌, length, get_or, drop, position, Option, Some, None, if◌then◌else◌, arith, refl, ap, sym, subst, ◌∙◌}
+use Rattle.std.proofs.lemmas.List.Quantifiers.{position-Some}
+use Rattle.ssim_records.specs.declared.place.Place.{Place}
+use Rattle.seat_core.specs.declared.booking.Booking.{Booking}
+use Rattle.seat_core.specs.declared.books.FlightBook.{FlightBook}
+use Rattle.seat_core.specs.Applying.{confirmed_at}
+use Rattle.seat_core.specs.Bookings.{is_for}
+use Rattle.seat_core.specs.Books.{book_at, queue_at, SameBooks}
+use Rattle.seat_core.specs.Live.{key_for, key_of, same_key, AreLive, IsListed, IsNumbersOf, Numbers, PutsNumber, PutsWhere}
+use Rattle.seat_core.specs.Numbers.{SameNumbers}
+use Rattle.seat_core.specs.Sequential.{reduced}
+use Rattle.seat_core.proofs.History.Prefixes.{drop_at}
+use Rattle.seat_core.proofs.Live.Keys.{number_more}
+use Rattle.seat_core.proofs.Live.Changes.{live_held, live_reduced, number_held, number_less, number_gone}
+
+pub listed_same : (bs : List Booking) (old new : Numbers) (indexed : Bool) → IsListed bs old indexed → SameNumbers old new → IsListed bs new indexed
+listed_same bs old new indexed h same = record { live = h.live; found = λ e. record { at = λ key. same.at key ∙ (h.found e).at key } }
+
+pub listed_held : (n : ℕ) (bs : List Booking) (numbers : Numbers) (indexed : Bool) → IsListed bs numbers indexed → IsListed (confirmed_at bs n) numbers indexed
+listed_held n bs numbers indexed h = record {
+  live = live_held n bs h.live;
+  found = λ e. record { at = λ key. (h.found e).at key ∙ sym (number_held key n bs) };
+}
+
+pub listed_more : (bs : List Booking) (old new : Numbers) (indexed : Bool) (b : Booking) → IsListed bs old indexed → AreLive (bs ++ b ∷ []) → PutsWhere indexed old new (key_of b) (Some b.number) → IsListed (bs ++ b ∷ []) new indexed
+listed_more bs old new indexed b h live puts = record {
+  live = live;
+  found = λ e. record {
+    at = λ key.
+        (puts.put e).at key
+        ∙ (ap (λ (o : Option ℕ). if same_key (key_of b) key then Some b.number else o) ((h.found e).at key)
+        ∙ sym (number_more key bs b live.apart));
+  };
+}
+
+pub listed_less : (bs : List Booking) (numbers : Numbers) (indexed : Bool) (l : List ℕ) (p : Place) (k n i : ℕ) (b : Booking) → IsListed bs numbers indexed → position (is_for l p k) bs ≡ Some i → b ≡ get_or bs i b → n < b.seats
+    → IsListed (reduced (is_for l p k) n bs) numbers indexed
+listed_less bs numbers indexed l p k n i b h found is lt =
+    let less : n < (get_or bs i b).seats = rw (← is) lt in
+    record {
+      live = live_reduced (is_for l p k) n bs h.live;
+      found = λ e. record { at = λ key. (h.found e).at key ∙ sym (number_less key l p k n bs i b (position-Some (is_for l p k) bs i b found) less) };
+    }
+
+pub listed_gone : (bs : List Booking) (old new : Numbers) (indexed : Bool) (l : List ℕ) (p : Place) (k n i : ℕ) (b : Booking) → IsListed bs old indexed → position (is_for l p k) bs ≡ Some i → b ≡ get_or bs i b → b.seats ≤ n
+    → PutsWhere indexed old new (key_for l p k) None → IsListed (reduced (is_for l p k) n bs) new indexed
+listed_gone bs old new indexed l p k n i b h found is le puts =
+    let all : (get_or bs i b).seats ≤ n = rw (← is) le in
+    record {
+      live = live_reduced (is_for l p k) n bs h.live;
+      found = λ e. record {
+        at = λ key.
+            (puts.put e).at key
+            ∙ (ap (λ (o : Option ℕ). if same_key (key_for l p k) key then None else o) ((h.found e).at key)
+            ∙ sym (number_gone key l p k n bs i b h.live.apart (position-Some (is_for l p k) bs i b found) all));
+      };
+    }
+
+pub listed_anew : (bs : List Booking) (old new : Numbers) (indexed : Bool) → IsListed bs old indexed → IsNumbersOf new bs → IsListed bs new true
+listed_anew bs old new indexed h found = record { live = h.live; found = λ e. found }
+
+-- ---- the index, made from the last booking to the first
+pub numbers_same : (old new : Numbers) (bs : List Booking) → IsNumbersOf old bs → SameNumbers old new → IsNumbersOf new bs
+numbers_same old new bs h same = record { at = λ key. same.at key ∙ h.at key }
+
+drop_all : (bs : List Booking) (n : ℕ) → length bs ≤ n → drop n bs ≡ []
+drop_all [] zero le = refl
+drop_all [] (suc n) le = refl
+drop_all (b ∷ bs) zero le = absurd (omega arith)
+drop_all (b ∷ bs) (suc n) le = drop_all bs n (omega arith)
+
+pub numbers_none : (numbers : Numbers) (bs : List Booking) (n : ℕ) → numbers.entries ≡ [] → length bs ≤ n → IsNumbersOf numbers (drop n bs)
+numbers_none numbers bs n none le =
+    let P : List Booking → Type 0 = λ xs. IsNumbersOf numbers xs in
+    subst P (sym (drop_all bs n le)) (record { at = λ key. rw none refl })
+
+pub numbers_next : (old new : Numbers) (bs : List Booking) (i j : ℕ) (b : Booking) → IsNumbersOf old (drop j bs) → j ≡ i + 1 → i < length bs → b ≡ get_or bs i b → PutsNumber old new (key_of b) (Some b.number) → IsNumbersOf new (drop i bs)
+numbers_next old new bs i j b h next lt is puts =
+    let P : List Booking → Type 0 = λ xs. IsNumbersOf new xs in
+    subst P (sym (drop_at bs i j b next lt is))
+    (record { at = λ key. puts.at key ∙ ap (λ (o : Option ℕ). if same_key (key_of b) key then Some b.number else o) (h.at key) })
+
+-- ---- one book more, without bookings
+book_more : (books : List FlightBook) (b : FlightBook) → b.bookings.items ≡ [] → (f : ℕ) → book_at (books ++ b ∷ []) f ≡ book_at books f
+book_more [] b e zero = e
+book_more [] b e (suc f) = refl
+book_more (x ∷ xs) b e zero = refl
+book_more (x ∷ xs) b e (suc f) = book_more xs b e f
+
+queue_more : (books : List FlightBook) (b : FlightBook) → b.queue.bookings ≡ [] → (f : ℕ) → queue_at (books ++ b ∷ []) f ≡ queue_at books f
+queue_more [] b e zero = e
+queue_more [] b e (suc f) = refl
+queue_more (x ∷ xs) b e zero = refl
+queue_more (x ∷ xs) b e (suc f) = queue_more xs b e f
+
+pub same_opened : (books : List FlightBook) (b : FlightBook) → b.bookings.items ≡ [] → b.queue.bookings ≡ [] → SameBooks books (books ++ b ∷ [])
+same_opened books b none idle = record { each = λ f. book_more books b none f; queues = λ f. queue_more books b idle f }
