@@ -119,20 +119,20 @@ over_journal flights grid bytes locator text core r is = record {
 }
 
 -- where what was read of each input is all of it
-pub bookings_of_all : (set limits journal : Option (List ℕ)) (first days : ℕ) (flights : List Flown) (grid : Legs) (locator bytes slice text : List ℕ)
-    → IfSome set (λ xs. IfSome limits (λ ys. IsLoaded xs ys first days flights grid)) → slice ≡ bytes → IfSome journal (λ zs. bytes ≡ zs)
-    → length bytes ≤ most_journal_bytes → IsBookingsOver flights grid locator slice text
+pub bookings_of_all : (set limits journal : Option (List ℕ)) (first days : ℕ) (flights : List Flown) (grid : Legs) (locator bytes text : List ℕ)
+    → IfSome set (λ xs. IfSome limits (λ ys. IsLoaded xs ys first days flights grid)) → IfSome journal (λ zs. bytes ≡ zs)
+    → length bytes ≤ most_journal_bytes → IsBookingsOver flights grid locator bytes text
     → IfSome set (λ xs. IfSome limits (λ ys. IfSome journal (λ zs. IsBookings xs ys first days locator zs text)))
-bookings_of_all (Some xs) (Some ys) (Some zs) first days flights grid locator bytes slice text loaded same whole within over = record {
+bookings_of_all (Some xs) (Some ys) (Some zs) first days flights grid locator bytes text loaded whole within over = record {
   flights = flights;
   grid = grid;
   is_loaded = loaded;
   within = subst (λ (l : List ℕ). length l ≤ most_journal_bytes) whole within;
-  are_bookings = subst (λ (l : List ℕ). IsBookingsOver flights grid locator l text) (same ∙ whole) over;
+  are_bookings = subst (λ (l : List ℕ). IsBookingsOver flights grid locator l text) whole over;
 }
-bookings_of_all (Some xs) (Some ys) None first days flights grid locator bytes slice text loaded same whole within over = tt
-bookings_of_all (Some xs) None journal first days flights grid locator bytes slice text loaded same whole within over = tt
-bookings_of_all None limits journal first days flights grid locator bytes slice text loaded same whole within over = tt
+bookings_of_all (Some xs) (Some ys) None first days flights grid locator bytes text loaded whole within over = tt
+bookings_of_all (Some xs) None journal first days flights grid locator bytes text loaded whole within over = tt
+bookings_of_all None limits journal first days flights grid locator bytes text loaded whole within over = tt
 
 -- ---- refusals
 

@@ -8,20 +8,20 @@ use Rattle.seat_desk.specs.Loading.{IsLoaded}
 use Rattle.seat_questions.specs.Rooms.{AreOpeningRooms, AreRooms, AreRoomsAfter, IsRoomsText}
 use Rattle.seat_questions.specs.declared.rooms.Asked.{Asked}
 
-pub rooms_of : (asked : Asked) (set limits journal : Option (List ℕ)) (first days : ℕ) (flights : List Flight) (grid : Legs) (bytes slice text : List ℕ)
-    → IfSome set (λ xs. IfSome limits (λ ys. IsLoaded xs ys first days flights grid)) → slice ≡ bytes → IfSome journal (λ zs. bytes ≡ zs)
-    → length bytes ≤ most_journal_bytes → AreRoomsAfter asked flights grid slice text
+pub rooms_of : (asked : Asked) (set limits journal : Option (List ℕ)) (first days : ℕ) (flights : List Flight) (grid : Legs) (bytes text : List ℕ)
+    → IfSome set (λ xs. IfSome limits (λ ys. IsLoaded xs ys first days flights grid)) → IfSome journal (λ zs. bytes ≡ zs)
+    → length bytes ≤ most_journal_bytes → AreRoomsAfter asked flights grid bytes text
     → IfSome set (λ xs. IfSome limits (λ ys. IfSome journal (λ zs. AreRooms asked xs ys first days zs text)))
-rooms_of asked (Some xs) (Some ys) (Some zs) first days flights grid bytes slice text loaded of_journal same within rooms = record {
+rooms_of asked (Some xs) (Some ys) (Some zs) first days flights grid bytes text loaded same within rooms = record {
   flights = flights;
   grid = grid;
   is_loaded = loaded;
   within = subst (λ (l : List ℕ). length l ≤ most_journal_bytes) same within;
-  are_rooms = subst (λ (l : List ℕ). AreRoomsAfter asked flights grid l text) (of_journal ∙ same) rooms;
+  are_rooms = subst (λ (l : List ℕ). AreRoomsAfter asked flights grid l text) same rooms;
 }
-rooms_of asked (Some xs) (Some ys) None first days flights grid bytes slice text loaded of_journal same within rooms = tt
-rooms_of asked (Some xs) None journal first days flights grid bytes slice text loaded of_journal same within rooms = tt
-rooms_of asked None limits journal first days flights grid bytes slice text loaded of_journal same within rooms = tt
+rooms_of asked (Some xs) (Some ys) None first days flights grid bytes text loaded same within rooms = tt
+rooms_of asked (Some xs) None journal first days flights grid bytes text loaded same within rooms = tt
+rooms_of asked None limits journal first days flights grid bytes text loaded same within rooms = tt
 
 pub opening_of : (asked : Asked) (set limits : Option (List ℕ)) (first days : ℕ) (flights : List Flight) (grid : Legs) (text : List ℕ)
     → IfSome set (λ xs. IfSome limits (λ ys. IsLoaded xs ys first days flights grid)) → IsRoomsText asked (replay grid []) flights text

@@ -75,7 +75,7 @@ pub fn desk_rooms<S: NotedRead, L: NotedRead, J: NotedRead, W: NotedWrite>(
 {
     let Loaded { flights, grid } = load(alloc, inputs)?;
     let bytes = read_input(alloc, journal, MOST_JOURNAL_BYTES)?;
-    let text = rooms_after(alloc, &flights, grid, &bytes, asked)?;
+    let text = rooms_after(alloc, &flights, grid, bytes, asked)?;
     match put_all(out, &text) {
         Ok(()) => Ok(()),
         Err(_) => Err(DeskFault::Device),
@@ -114,13 +114,13 @@ fn rooms_after(
     alloc: Global,
     flights: &Flights,
     grid: Grid,
-    bytes: &[u8],
+    bytes: Vec<u8>,
     asked: &Asked,
 ) -> Result<Vec<u8>, DeskFault>
-    requires size { length bytes.now ≤ most_journal_bytes }
+    requires size { length bytes.items ≤ most_journal_bytes }
     requires grid { IsGridOf flights.now grid }
-    ensures ok { IfOk result (λ text. AreRoomsAfter asked.now flights.now grid bytes.now text.items) }
-    ensures fault { IfErr result (λ f. f ≢ DeskFault.Memory → IsUnlawful grid f bytes.now) }
+    ensures ok { IfOk result (λ text. AreRoomsAfter asked.now flights.now grid bytes.items text.items) }
+    ensures fault { IfErr result (λ f. f ≢ DeskFault.Memory → IsUnlawful grid f bytes.items) }
     ensures kind { IfErr result (λ f. (f ≢ DeskFault.Device) × (f ≢ DeskFault.TooLarge)) }
 {
     let core = replayed(alloc, grid, bytes)?;

@@ -43,16 +43,16 @@ pub(crate) fn read_past<A: NotedRead>(
     ensures device { IfErr result (λ f. f ≡ DeskFault.Device → HasFailed A.failure_count after.old after.new) }
 {
     let bytes = read_input(alloc, after, MOST_JOURNAL_BYTES)?;
-    past_in(alloc, grid, &bytes)
+    past_in(alloc, grid, bytes)
 }
 
 /// The inventory that these bytes come to.
-fn past_in(alloc: Global, grid: Grid, bytes: &[u8]) -> Result<Core, DeskFault>
-    requires { length bytes.now ≤ most_journal_bytes }
-    ensures ok { IfOk result (λ core. IsPast grid core.journal bytes.now) }
+fn past_in(alloc: Global, grid: Grid, bytes: Vec<u8>) -> Result<Core, DeskFault>
+    requires { length bytes.items ≤ most_journal_bytes }
+    ensures ok { IfOk result (λ core. IsPast grid core.journal bytes.items) }
     ensures grid { IfOk result (λ core. core.grid ≡ grid) }
     ensures cap { IfOk result (λ core. core.cap ≡ most_lines) }
-    ensures fault { IfErr result (λ f. f ≢ DeskFault.Memory → IsUnlawful grid f bytes.now) }
+    ensures fault { IfErr result (λ f. f ≢ DeskFault.Memory → IsUnlawful grid f bytes.items) }
     ensures kind { IfErr result (λ f. (f ≢ DeskFault.Device) × (f ≢ DeskFault.TooLarge)) }
 {
     match replayed(alloc, grid, bytes) {

@@ -8,9 +8,9 @@ pub returns-in-Ok-clause-ok : goal.returns-in-Ok-clause-ok
 returns-in-Ok-clause-ok g c = record {
   text = c.in_ok-text.text.items;
   right = rooms_of c.args.asked.now (g.S.Read.remaining c.args.inputs.now.set) (g.L.Read.remaining c.args.inputs.now.limits) (g.J.Read.remaining c.args.journal.now) c.args.inputs.now.first c.args.inputs.now.days
-      c.in_ok-flights.field-0.flights c.in_ok-flights.field-0.grid c.in_ok-bytes.bytes.items c.deref.result.now c.in_ok-text.text.items
-      c.in_ok-flights.ensures.ok c.deref.ensures.value c.in_ok-bytes.ensures.whole c.in_ok-bytes.ensures.within c.in_ok-text.ensures.ok;
-  written = subst (λ (l : List ℕ). Appends (g.W.Write.contents c.args.out.now) (g.W.Write.contents c.put_all.new.out) l) c.deref-2.ensures.value c.in-Ok.ensures.ok;
+      c.in_ok-flights.field-0.flights c.in_ok-flights.field-0.grid c.in_ok-bytes.bytes.items c.in_ok-text.text.items
+      c.in_ok-flights.ensures.ok c.in_ok-bytes.ensures.whole c.in_ok-bytes.ensures.within c.in_ok-text.ensures.ok;
+  written = subst (λ (l : List ℕ). Appends (g.W.Write.contents c.args.out.now) (g.W.Write.contents c.put_all.new.out) l) c.deref.ensures.value c.in-Ok.ensures.ok;
 }
 
 pub returns-clause-device : goal.returns-clause-device
@@ -18,7 +18,7 @@ returns-clause-device g c = λ _. inr (record {
   counted = c.in-Err.ensures.device;
   text = c.in_ok-text.text.items;
   right = rooms_of c.args.asked.now (g.S.Read.remaining c.args.inputs.now.set) (g.L.Read.remaining c.args.inputs.now.limits) (g.J.Read.remaining c.args.journal.now) c.args.inputs.now.first c.args.inputs.now.days
-      c.in_ok-flights.field-0.flights c.in_ok-flights.field-0.grid c.in_ok-bytes.bytes.items c.deref.result.now c.in_ok-text.text.items
-      c.in_ok-flights.ensures.ok c.deref.ensures.value c.in_ok-bytes.ensures.whole c.in_ok-bytes.ensures.within c.in_ok-text.ensures.ok;
-  begun = subst (λ (l : List ℕ). TookFront (g.W.Write.contents c.args.out.now) (g.W.Write.contents c.put_all.new.out) l) c.deref-2.ensures.value c.in-Err.ensures.front;
+      c.in_ok-flights.field-0.flights c.in_ok-flights.field-0.grid c.in_ok-bytes.bytes.items c.in_ok-text.text.items
+      c.in_ok-flights.ensures.ok c.in_ok-bytes.ensures.whole c.in_ok-bytes.ensures.within c.in_ok-text.ensures.ok;
+  begun = subst (λ (l : List ℕ). TookFront (g.W.Write.contents c.args.out.now) (g.W.Write.contents c.put_all.new.out) l) c.deref.ensures.value c.in-Err.ensures.front;
 })
