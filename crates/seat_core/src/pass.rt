@@ -1,5 +1,5 @@
 //! The pass over a flight's waiting list, by counters of held seats.
-ghost use Rattle.std.specs.Prelude.{◌≡◌, ◌+◌, ◌<◌, ◌≤◌, ◌++◌, ◌∷◌, [], length, vec_len, vec_capacity, IfOk, IfSome};
+ghost use Rattle.std.specs.Prelude.{◌≡◌, ◌++◌, ◌∷◌, [], IfOk, IfSome, OnErr, OnOk};
 ghost use Rattle.seat_nesting.specs.Counting.{limits_of, seats_of};
 ghost use Rattle.seat_nesting.specs.Nesting.{room};
 ghost use Rattle.seat_core.specs.Answers.{rest_advised};
@@ -47,7 +47,6 @@ pub fn advices_after(
 }
 
 /// The advices of the pass over a waiting list. The counters are left as they were.
-#[tactic(auto, using(crate::proofs::Passes::Undone::none_told))]
 pub fn advices_of(
     alloc: Global,
     counts: &mut Counts,
@@ -57,40 +56,35 @@ pub fn advices_of(
     ensures seats { seats_of counts.new ≡ seats_of counts.old }
     ensures told { IfOk result (λ told. told.items ≡ advices_by (limits_of counts.old) (seats_of counts.old) queue.now.bookings) }
 {
-    if queue.none_fits(counts) {
-        return Ok(Vec::new(alloc));
-    }
-    advices_by(alloc, counts, queue.as_slice())
-}
-
-/// The same pass, booking by booking.
-#[tactic(auto, using(crate::proofs::Passes::Undone::undone))]
-fn advices_by(alloc: Global, counts: &mut Counts, queue: &[Booking]) -> Result<Vec<Advice>, Memory>
-    ensures limits { limits_of counts.new ≡ limits_of counts.old }
-    ensures seats { seats_of counts.new ≡ seats_of counts.old }
-    ensures told { IfOk result (λ told. told.items ≡ advices_by (limits_of counts.old) (seats_of counts.old) queue.now) }
-{
     let mut advices = Vec::new(alloc);
-    advices.reserve(queue.len())?;
-    confirm_each(counts, queue, &mut advices);
+    let confirmed = confirm_each(counts, queue, &mut advices);
     take_back_each(counts, advices.as_slice());
+    confirmed?;
     let told = Vec::from_slice(alloc, advices.as_slice())?;
     Ok(told)
 }
 
-/// Takes the seats of each waiting booking that fits, in order, and tells of it. Bookings of one place and class
-/// that wait one behind the other share one look at the room, until one of them is confirmed.
-fn confirm_each(counts: &mut Counts, queue: &[Booking], advices: &mut Vec<Advice>)
+/// Takes the seats of each waiting booking that fits, in order, and tells of it. No room is known at the start and after
+/// each confirmation: there the pass ends if none of the list fits any more. In between, bookings of one place and class
+/// that wait one behind the other share one look at the room.
+fn confirm_each(
+    counts: &mut Counts,
+    queue: &WaitingList,
+    advices: &mut Vec<Advice>,
+) -> Result<(), Memory>
     requires none { advices.old.items ≡ [] }
-    requires room { length queue.now ≤ vec_capacity advices.old }
     ensures limits { limits_of counts.new ≡ limits_of counts.old }
-    ensures advices { advices.new.items ≡ advices_by (limits_of counts.old) (seats_of counts.old) queue.now }
-    ensures seats { seats_of counts.new ≡ shown_advices (limits_of counts.old) (seats_of counts.old) advices.new.items }
+    ensures advices { OnOk result (advices.new.items ≡ advices_by (limits_of counts.old) (seats_of counts.old) queue.now.bookings) }
+    ensures seats { taken_back (limits_of counts.old) (seats_of counts.new) advices.new.items ≡ seats_of counts.old }
 {
     let mut known = None;
-    for booking in queue {
-        known = consider(counts, booking, advices, known);
+    for booking in queue.as_slice() {
+        if known.is_none() && queue.none_fits(counts) {
+            break;
+        }
+        known = consider(counts, booking, advices, known)?;
     }
+    Ok(())
 }
 
 /// Takes the seats of one booking, where it waits and fits, and tells of it.
@@ -100,30 +94,28 @@ fn consider(
     booking: &Booking,
     advices: &mut Vec<Advice>,
     known: Option<Known>,
-) -> Option<Known>
-    requires spare { vec_len advices.old < vec_capacity advices.old }
+) -> Result<Option<Known>, Memory>
     requires known { IfSome known (λ k. k.room ≡ room (limits_of counts.old) (seats_of counts.old) k.place k.class) }
     ensures limits { limits_of counts.new ≡ limits_of counts.old }
-    ensures advices { advices.new.items ≡ advices.old.items ++ told_of (limits_of counts.old) (seats_of counts.old) booking.now }
-    ensures seats { seats_of counts.new ≡ shown_advices (limits_of counts.old) (seats_of counts.old) (told_of (limits_of counts.old) (seats_of counts.old) booking.now) }
-    ensures length { vec_len advices.new ≤ vec_len advices.old + 1 }
-    ensures capacity { vec_capacity advices.old ≤ vec_capacity advices.new }
-    ensures known { IfSome result (λ k. k.room ≡ room (limits_of counts.new) (seats_of counts.new) k.place k.class) }
+    ensures advices { OnOk result (advices.new.items ≡ advices.old.items ++ told_of (limits_of counts.old) (seats_of counts.old) booking.now) }
+    ensures seats { OnOk result (seats_of counts.new ≡ shown_advices (limits_of counts.old) (seats_of counts.old) (told_of (limits_of counts.old) (seats_of counts.old) booking.now)) }
+    ensures known { IfOk result (λ known. IfSome known (λ k. k.room ≡ room (limits_of counts.new) (seats_of counts.new) k.place k.class)) }
+    ensures same { OnErr result (advices.new.items ≡ advices.old.items × seats_of counts.new ≡ seats_of counts.old) }
 {
     if !booking.is_waiting() {
-        return known;
+        return Ok(known);
     }
     let room = look(counts, booking.place, booking.class, known);
     if booking.seats > room {
-        return Some(Known {
+        return Ok(Some(Known {
             place: booking.place,
             class: booking.class,
             room,
-        });
+        }));
     }
+    tell(advices, booking)?;
     counts.take(booking.place, booking.class, booking.seats);
-    tell(advices, booking);
-    None
+    Ok(None)
 }
 
 /// The room of a place, as it is known or else looked up.
@@ -179,18 +171,16 @@ pub fn advices_of_rest(
     Ok(told)
 }
 
-/// Adds the advice of a booking, for which there is room.
-fn tell(advices: &mut Vec<Advice>, booking: &Booking)
-    requires { vec_len advices.old < vec_capacity advices.old }
-    ensures items { advices.new.items ≡ advices.old.items ++ advice_of booking.now ∷ [] }
-    ensures capacity { vec_capacity advices.old ≤ vec_capacity advices.new }
+/// Adds the advice of a booking.
+fn tell(advices: &mut Vec<Advice>, booking: &Booking) -> Result<(), Memory>
+    ensures ok { OnOk result (advices.new.items ≡ advices.old.items ++ advice_of booking.now ∷ []) }
+    ensures err { OnErr result (advices.new.items ≡ advices.old.items) }
 {
-    let pushed = advices.push(Advice {
+    advices.push(Advice {
         number: booking.number,
         place: booking.place,
         class: booking.class,
         seats: booking.seats,
-    });
-    prove!(pushed.is_ok());
-    let _ = pushed;
+    })?;
+    Ok(())
 }

@@ -170,22 +170,27 @@ given_taken grid t p class (suc m) fits =
     rw (holds_taken grid t p class (suc m) (omega arith) fits)
     (same_table (λ f l k. more t p class (suc m) f l k - seats_at p class (suc m) f l k) t (λ f l k. omega arith))
 
-pub undone : (grid : Legs) (t : Table) (queue : List Booking) → taken_back grid (shown_advices grid t (advices_by grid t queue)) (advices_by grid t queue) ≡ t
-undone grid t [] = refl
-undone grid t (b ∷ bs) = cases (is_waiting b.status && nat_le b.seats (room grid t b.place b.class)) refl (λ (u : Table). undone grid u bs) where
-  cases : (m : Bool) → (is_waiting b.status && nat_le b.seats (room grid t b.place b.class)) ≡ m
-      → ((u : Table) → taken_back grid (shown_advices grid u (advices_by grid u bs)) (advices_by grid u bs) ≡ u)
-      → taken_back grid (shown_advices grid t (advices_by grid t (b ∷ bs))) (advices_by grid t (b ∷ bs)) ≡ t
-  cases true e rest =
+back_push : (grid : Legs) (u : Table) (xs ys : List Advice) → taken_back grid u (xs ++ ys) ≡ taken_back grid (taken_back grid u ys) xs
+back_push grid u [] ys = refl
+back_push grid u (x ∷ xs) ys = ap (λ (t : Table). given_back grid t x.place x.class x.seats) (back_push grid u xs ys)
+
+one_back : (grid : Legs) (t : Table) (b : Booking) → taken_back grid (shown_advices grid t (told_of grid t b)) (told_of grid t b) ≡ t
+one_back grid t b = cases (is_waiting b.status && nat_le b.seats (room grid t b.place b.class)) refl where
+  cases : (m : Bool) → (is_waiting b.status && nat_le b.seats (room grid t b.place b.class)) ≡ m → taken_back grid (shown_advices grid t (told_of grid t b)) (told_of grid t b) ≡ t
+  cases true e =
       let fits = (both (is_waiting b.status) (nat_le b.seats (room grid t b.place b.class)) e).1 in
       let le : b.seats ≤ room grid t b.place b.class = grind (arith, nat_tests) in
-      let next : Table = more t b.place b.class b.seats in
-      let up : taken_up grid t b.place b.class b.seats ≡ next = rw fits refl in
-      let told : List Advice = advices_by grid (with_advice t (advice_of b)) bs in
-      let back : taken_back grid (shown_advices grid (taken_up grid t b.place b.class b.seats) told) told ≡ next =
-      ap (λ (u : Table). taken_back grid (shown_advices grid u told) told) up ∙ rest next in
-      rw e (ap (λ (u : Table). given_back grid u b.place b.class b.seats) back ∙ given_taken grid t b.place b.class b.seats le)
-  cases false e rest = rw e (rest t)
+      let up : taken_up grid t b.place b.class b.seats ≡ more t b.place b.class b.seats = rw fits refl in
+      rw e (ap (λ (u : Table). given_back grid u b.place b.class b.seats) up ∙ given_taken grid t b.place b.class b.seats le)
+  cases false e = rw e refl
+
+-- what one booking more took is given back first
+pub back_next : (grid : Legs) (base t u : Table) (told : List Advice) (b : Booking) → taken_back grid t told ≡ base → u ≡ shown_advices grid t (told_of grid t b)
+    → taken_back grid u (told ++ told_of grid t b) ≡ base
+back_next grid base t u told b before shows =
+    back_push grid u told (told_of grid t b)
+    ∙ (ap (λ (x : Table). taken_back grid (taken_back grid x (told_of grid t b)) told) shows
+    ∙ (ap (λ (x : Table). taken_back grid x told) (one_back grid t b) ∙ before))
 
 -- ---- booking by booking
 
@@ -201,12 +206,11 @@ none_told grid t (b ∷ bs) h =
     cases true e high rest = rw (e, high) rest
     cases false e high rest = rw e rest
 
-shown_push : (grid : Legs) (t : Table) (xs ys : List Advice) → shown_advices grid t (xs ++ ys) ≡ shown_advices grid (shown_advices grid t xs) ys
-shown_push grid t [] ys = refl
-shown_push grid t (x ∷ xs) ys = shown_push grid (taken_up grid t x.place x.class x.seats) xs ys
-
-pub shown_more : (grid : Legs) (base t u : Table) (told more : List Advice) → t ≡ shown_advices grid base told → u ≡ shown_advices grid t more → u ≡ shown_advices grid base (told ++ more)
-shown_more grid base t u told more here next = next ∙ (ap (λ (x : Table). shown_advices grid x more) here ∙ sym (shown_push grid base told more))
+-- nor of those that are left
+pub none_left : (grid : Legs) (t : Table) (queue : List Booking) (k : ℕ) → none_fits grid t queue ≡ true → advices_by grid t (drop k queue) ≡ []
+none_left grid t queue zero h = none_told grid t queue h
+none_left grid t [] (suc k) h = refl
+none_left grid t (b ∷ bs) (suc k) h = none_left grid t bs k (both (nat_lt (room grid t b.place b.class) b.seats) (none_fits grid t bs) h).1
 
 one_told : (grid : Legs) (t : Table) (b : Booking) (rest : List Booking) → advices_by grid t (b ∷ rest) ≡ told_of grid t b ++ advices_by grid (shown_advices grid t (told_of grid t b)) rest
 one_told grid t b rest = cases (is_waiting b.status && nat_le b.seats (room grid t b.place b.class)) refl where
