@@ -1,5 +1,6 @@
 -- The list of a flight's live bookings, and the index by which one is found.
-use Rattle.std.specs.Prelude.{◌≡◌, ℕ, ◌&&◌, ◌==◌, ◌<◌, Bool, true, false, nat_eq, nat_lt, List, [], ◌∷◌, Option, Some, None, if◌then◌else◌}
+use Rattle.std.specs.Prelude.{◌≡◌, ℕ, ◌&&◌, ◌==◌, Bool, true, false, nat_eq, nat_lt, List, [], ◌∷◌, Option, Some, None, IfSome, if◌then◌else◌}
+use Rattle.std.specs.Global.{Box}
 use Rattle.std.specs.List.{AllByRecursion}
 use Rattle.std.specs.HashMap.{HashMap, get, spare}
 use Rattle.std.specs.Cmp.Lexicographic.{pointwise}
@@ -59,20 +60,26 @@ pub record IsNumbersOf (numbers : Numbers) (bookings : List Booking) : Type 0 wh
 pub record PutsNumber (old new : Numbers) (key : Key) (number : Option ℕ) : Type 0 where
   pub at : (k : Key) → get same_key new k ≡ (if same_key key k then number else get same_key old k)
 
--- the same, where there is an index
-pub record PutsWhere (indexed : Bool) (old new : Numbers) (key : Key) (number : Option ℕ) : Type 0 where
-  pub put : indexed ≡ true → PutsNumber old new key number
+-- the index of a list; none where it never had many bookings
+abbrev pub Index : Type 0
+Index = Option (Box Numbers)
 
--- and there is a place in it
-pub record HasPlace (indexed : Bool) (numbers : Numbers) : Type 0 where
-  pub free : indexed ≡ true → 0 < spare numbers
+-- a number is put into the index, or taken out, where there is one
+abbrev pub PutsWhere : Index → Index → Key → Option ℕ → Type 0
+PutsWhere (Some old) (Some new) key number = PutsNumber old.value new.value key number
+PutsWhere (Some old) None key number = ⊥
+PutsWhere None new key number = new ≡ None
+
+-- there is a place in it for one number more
+abbrev pub has_place : Index → Bool
+has_place None = true
+has_place (Some numbers) = nat_lt 0 (spare numbers.value)
 
 -- live bookings, and their index where there is one
-pub record IsListed (bookings : List Booking) (numbers : Numbers) (indexed : Bool) : Type 0 where
+pub record IsListed (bookings : List Booking) (index : Index) : Type 0 where
   pub live : AreLive bookings
-  pub found : indexed ≡ true → IsNumbersOf numbers bookings
+  pub found : IfSome index (λ numbers. IsNumbersOf numbers.value bookings)
 
 -- there is memory for one booking more, and for its number in the index
-abbrev pub has_room : ℕ → ℕ → Bool → ℕ → Bool
-has_room bookings capacity false places = nat_lt bookings capacity
-has_room bookings capacity true places = nat_lt bookings capacity && nat_lt 0 places
+abbrev pub has_room : ℕ → ℕ → Index → Bool
+has_room bookings capacity index = nat_lt bookings capacity && has_place index

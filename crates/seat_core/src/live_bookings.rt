@@ -3,8 +3,8 @@ ghost use Rattle.std.specs.Prelude.{◌≡◌, ◌==◌, ◌≤◌, ◌<◌, ◌
 ghost use Rattle.std.specs.HashMap.{spare};
 ghost use Rattle.seat_core.specs.Applying.{confirmed_at, IsOrdered};
 ghost use Rattle.seat_core.specs.Bookings.{is_for};
-ghost use Rattle.seat_core.specs.Live.{key_for, key_of, AreLive, HasPlace, IsListed, IsNumbersOf, PutsNumber, PutsWhere};
-ghost use Rattle.seat_core.specs.Numbers.{SameNumbers};
+ghost use Rattle.seat_core.specs.Live.{key_for, key_of, has_place, AreLive, IsListed, IsNumbersOf, PutsNumber, PutsWhere};
+ghost use Rattle.seat_core.specs.Numbers.{SameIndex, SameNumbers};
 ghost use Rattle.seat_core.specs.Queues.{first_waits};
 ghost use Rattle.seat_core.specs.Sequential.{booking_of, reduced};
 
@@ -29,24 +29,25 @@ pub struct Key {
     pub class: u8,
 }
 
-/// The live bookings of a flight, in order of number. Once there were many, their numbers stand in an index too.
+type Numbers = HashMap<Key, u32>;
+
+/// The live bookings of a flight, in order of number. Once there were many, their numbers stand in an index too; a flight
+/// that never had many takes no memory for one.
 #[derive(Drop)]
 pub struct LiveBookings {
     bookings: Vec<Booking>,
-    numbers: HashMap<Key, u32>,
-    indexed: bool,
+    index: Option<Box<Numbers>>,
 }
 
 impl Model for LiveBookings {
     ghost use Rattle.std.specs.Prelude.{vec_len, vec_capacity};
-    ghost use Rattle.std.specs.HashMap.{spare as places};
     ghost use Rattle.seat_core.specs.Live.{has_room, IsListed, Listed};
 
     ghost Value = { Listed };
 
-    ghost view = { λ l. record { items = l.bookings.items; spare = has_room (vec_len l.bookings) (vec_capacity l.bookings) l.indexed (places l.numbers) } };
+    ghost view = { λ l. record { items = l.bookings.items; spare = has_room (vec_len l.bookings) (vec_capacity l.bookings) l.index } };
 
-    ghost invariant = { λ l. IsListed l.bookings.items l.numbers l.indexed };
+    ghost invariant = { λ l. IsListed l.bookings.items l.index };
 }
 
 impl LiveBookings {
@@ -55,8 +56,7 @@ impl LiveBookings {
     {
         LiveBookings {
             bookings: Vec::new(alloc),
-            numbers: HashMap::new(alloc),
-            indexed: false,
+            index: None,
         }
     }
 
@@ -71,10 +71,10 @@ impl LiveBookings {
         ensures value { result ≡ position (is_for command.now.locator place command.now.class) self.now.items }
         ensures ordered { IsOrdered self.now.items }
     {
-        if !self.indexed {
+        let Some(numbers) = &self.index else {
             return find_booking(&self.bookings, command, place);
-        }
-        match self.numbers.get(&key_for(command, place)) {
+        };
+        match numbers.get(&key_for(command, place)) {
             Some(number) => find_number(&self.bookings, *number),
             None => None,
         }
@@ -94,15 +94,10 @@ impl LiveBookings {
         ensures ok { OnOk result (self.new.spare ≡ true) }
     {
         self.bookings.reserve(1)?;
-        if self.indexed {
-            make_room(&mut self.numbers)?;
-            return Ok(());
+        if self.index.is_none() && self.bookings.len() >= FEW {
+            self.index = Some(index_of(alloc, &self.bookings)?);
         }
-        if self.bookings.len() >= FEW {
-            self.numbers = numbers_of(alloc, &self.bookings)?;
-            self.indexed = true;
-        }
-        Ok(())
+        make_room(&mut self.index)
     }
 
     /// Adds the booking of a command.
@@ -111,12 +106,7 @@ impl LiveBookings {
         requires live { AreLive (self.old.items ++ booking_of number command.now place status ∷ []) }
         ensures { self.new.items ≡ self.old.items ++ booking_of number command.now place status ∷ [] }
     {
-        note(
-            &mut self.numbers,
-            self.indexed,
-            key_for(command, place),
-            number,
-        );
+        note(&mut self.index, key_for(command, place), number);
         add(&mut self.bookings, number, command, place, status);
     }
 
@@ -125,14 +115,7 @@ impl LiveBookings {
         requires found { position (is_for command.now.locator place command.now.class) self.old.items ≡ Some at }
         ensures { self.new.items ≡ reduced (is_for command.now.locator place command.now.class) command.now.seats self.old.items }
     {
-        lessen(
-            &mut self.bookings,
-            &mut self.numbers,
-            self.indexed,
-            at,
-            command,
-            place,
-        );
+        lessen(&mut self.bookings, &mut self.index, at, command, place);
     }
 
     /// Makes the booking of this number, where there is one, a held one.
@@ -146,22 +129,21 @@ impl LiveBookings {
 // Takes the seats of a command off the booking at an index, and its key out of the index where none are left.
 fn lessen(
     bookings: &mut Vec<Booking>,
-    numbers: &mut HashMap<Key, u32>,
-    indexed: bool,
+    index: &mut Option<Box<Numbers>>,
     at: usize,
     command: &Command,
     place: Place,
 )
     requires found { position (is_for command.now.locator place command.now.class) bookings.old.items ≡ Some at }
-    requires listed { IsListed bookings.old.items numbers.old indexed }
+    requires listed { IsListed bookings.old.items index.old }
     ensures reduced { bookings.new.items ≡ reduced (is_for command.now.locator place command.now.class) command.now.seats bookings.old.items }
-    ensures listed { IsListed bookings.new.items numbers.new indexed }
+    ensures listed { IsListed bookings.new.items index.new }
 {
     if bookings[at].seats > command.seats {
         take_off(bookings, at, command, place);
         return;
     }
-    forget(numbers, indexed, key_for(command, place));
+    forget(index, key_for(command, place));
     take_off(bookings, at, command, place);
 }
 
@@ -189,10 +171,18 @@ fn key_of(booking: &Booking) -> Key
     }
 }
 
-// The index of these bookings, with memory for one more. The last come first: the first of a key stays.
-fn numbers_of(alloc: Global, bookings: &[Booking]) -> Result<HashMap<Key, u32>, Memory>
-    ensures found { IfOk result (λ numbers. IsNumbersOf numbers bookings.now) }
-    ensures spare { IfOk result (λ numbers. 0 < spare numbers) }
+// The index of these bookings.
+fn index_of(alloc: Global, bookings: &[Booking]) -> Result<Box<Numbers>, Memory>
+    ensures { IfOk result (λ numbers. IsNumbersOf numbers.value bookings.now) }
+{
+    let numbers = numbers_of(alloc, bookings)?;
+    let index = Box::new(alloc, numbers)?;
+    Ok(index)
+}
+
+// The numbers of these bookings by their keys. The last come first: the first of a key stays.
+fn numbers_of(alloc: Global, bookings: &[Booking]) -> Result<Numbers, Memory>
+    ensures { IfOk result (λ numbers. IsNumbersOf numbers bookings.now) }
 {
     let mut numbers = HashMap::new(alloc);
     let mut at = bookings.len();
@@ -201,12 +191,29 @@ fn numbers_of(alloc: Global, bookings: &[Booking]) -> Result<HashMap<Key, u32>, 
         let booking = &bookings[at];
         put(&mut numbers, key_of(booking), booking.number)?;
     }
-    make_room(&mut numbers)?;
     Ok(numbers)
 }
 
-// Makes the memory for one more number.
-fn make_room(numbers: &mut HashMap<Key, u32>) -> Result<(), Memory>
+fn put(numbers: &mut Numbers, key: Key, number: u32) -> Result<(), Memory>
+    ensures { OnOk result (PutsNumber numbers.old numbers.new key (Some number)) }
+{
+    numbers.insert(key, number)?;
+    Ok(())
+}
+
+// Makes the memory for one more number, where there is an index.
+#[tactic(auto, using(crate::proofs::Live::Lists::same_in))]
+fn make_room(index: &mut Option<Box<Numbers>>) -> Result<(), Memory>
+    ensures same { SameIndex index.old index.new }
+    ensures place { OnOk result (has_place index.new ≡ true) }
+{
+    match index {
+        Some(numbers) => reserve(numbers),
+        None => Ok(()),
+    }
+}
+
+fn reserve(numbers: &mut Numbers) -> Result<(), Memory>
     ensures same { SameNumbers numbers.old numbers.new }
     ensures spare { OnOk result (0 < spare numbers.new) }
 {
@@ -214,32 +221,40 @@ fn make_room(numbers: &mut HashMap<Key, u32>) -> Result<(), Memory>
     Ok(())
 }
 
-fn put(numbers: &mut HashMap<Key, u32>, key: Key, number: u32) -> Result<(), Memory>
-    ensures { OnOk result (PutsNumber numbers.old numbers.new key (Some number)) }
+// Puts a number into the index, where there is one: it has room.
+#[tactic(auto, using(crate::proofs::Live::Lists::puts_in))]
+fn note(index: &mut Option<Box<Numbers>>, key: Key, number: u32)
+    requires { has_place index.old ≡ true }
+    ensures { PutsWhere index.old index.new key (Some number) }
 {
-    numbers.insert(key, number)?;
-    Ok(())
+    match index {
+        Some(numbers) => put_reserved(numbers, key, number),
+        None => {}
+    }
 }
 
-// Puts a number into the index, where there is one: it has room.
-fn note(numbers: &mut HashMap<Key, u32>, indexed: bool, key: Key, number: u32)
-    requires { HasPlace indexed numbers.old }
-    ensures { PutsWhere indexed numbers.old numbers.new key (Some number) }
+fn put_reserved(numbers: &mut Numbers, key: Key, number: u32)
+    requires { 0 < spare numbers.old }
+    ensures { PutsNumber numbers.old numbers.new key (Some number) }
 {
-    if !indexed {
-        return;
-    }
     let noted = numbers.insert(key, number);
     prove!(noted.is_ok());
     let _ = noted;
 }
 
 // Takes a key out of the index, where there is one.
-fn forget(numbers: &mut HashMap<Key, u32>, indexed: bool, key: Key)
-    ensures { PutsWhere indexed numbers.old numbers.new key None }
+#[tactic(auto, using(crate::proofs::Live::Lists::puts_in))]
+fn forget(index: &mut Option<Box<Numbers>>, key: Key)
+    ensures { PutsWhere index.old index.new key None }
 {
-    if !indexed {
-        return;
+    match index {
+        Some(numbers) => strike(numbers, key),
+        None => {}
     }
+}
+
+fn strike(numbers: &mut Numbers, key: Key)
+    ensures { PutsNumber numbers.old numbers.new key None }
+{
     let _ = numbers.remove(&key);
 }

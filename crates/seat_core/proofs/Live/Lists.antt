@@ -1,64 +1,90 @@
 -- A list of live bookings and its index, after each change.
-use Rattle.std.proofs.Common.{◌≡◌, ℕ, zero, suc, ◌+◌, ◌<◌, ◌≤◌, Bool, true, List, [], ◌∷◌, ◌++◌, length, get_or, drop, position, Option, Some, None, if◌then◌else◌, arith, refl, ap, sym, subst, ◌∙◌}
+use Rattle.std.proofs.Common.{◌≡◌, ℕ, zero, suc, ◌+◌, ◌<◌, ◌≤◌, List, [], ◌∷◌, ◌++◌, length, get_or, drop, position, Option, Some, None, IfSome, if◌then◌else◌, arith, refl, ap, sym, subst, ◌∙◌}
 use Rattle.std.proofs.lemmas.List.Quantifiers.{position-Some}
+use Rattle.std.specs.Box.{with_value}
+use Rattle.std.specs.Global.{Box}
+use Rattle.std.specs.HashMap.{get}
 use Rattle.ssim_records.specs.declared.place.Place.{Place}
 use Rattle.seat_core.specs.declared.booking.Booking.{Booking}
 use Rattle.seat_core.specs.declared.books.FlightBook.{FlightBook}
+use Rattle.seat_core.specs.declared.live_bookings.Key.{Key}
 use Rattle.seat_core.specs.Applying.{confirmed_at}
 use Rattle.seat_core.specs.Bookings.{is_for}
 use Rattle.seat_core.specs.Books.{book_at, queue_at, SameBooks}
-use Rattle.seat_core.specs.Live.{key_for, key_of, same_key, AreLive, IsListed, IsNumbersOf, Numbers, PutsNumber, PutsWhere}
-use Rattle.seat_core.specs.Numbers.{SameNumbers}
+use Rattle.seat_core.specs.Live.{key_for, key_of, same_key, number_of, AreLive, Index, IsListed, IsNumbersOf, Numbers, PutsNumber, PutsWhere}
+use Rattle.seat_core.specs.Numbers.{SameIndex, SameNumbers}
 use Rattle.seat_core.specs.Sequential.{reduced}
 use Rattle.seat_core.proofs.History.Prefixes.{drop_at}
 use Rattle.seat_core.proofs.Live.Keys.{number_more}
 use Rattle.seat_core.proofs.Live.Changes.{live_held, live_reduced, number_held, number_less, number_gone}
 
-pub listed_same : (bs : List Booking) (old new : Numbers) (indexed : Bool) → IsListed bs old indexed → SameNumbers old new → IsListed bs new indexed
-listed_same bs old new indexed h same = record { live = h.live; found = λ e. record { at = λ key. same.at key ∙ (h.found e).at key } }
+-- ---- the index behind its box
+pub puts_in : (index : Index) (b : Box Numbers) (old new : Numbers) (key : Key) (n : Option ℕ) → Some b ≡ index → old ≡ b.value → PutsNumber old new key n → PutsWhere index (Some (with_value b new)) key n
+puts_in index b old new key n is value puts =
+    let P : Index → Type 0 = λ i. PutsWhere i (Some (with_value b new)) key n in
+    let Q : Numbers → Type 0 = λ m. PutsNumber m new key n in
+    subst P is (subst Q value puts)
 
-pub listed_held : (n : ℕ) (bs : List Booking) (numbers : Numbers) (indexed : Bool) → IsListed bs numbers indexed → IsListed (confirmed_at bs n) numbers indexed
-listed_held n bs numbers indexed h = record {
+pub same_in : (index : Index) (b : Box Numbers) (old new : Numbers) → Some b ≡ index → old ≡ b.value → SameNumbers old new → SameIndex index (Some (with_value b new))
+same_in index b old new is value same =
+    let P : Index → Type 0 = λ i. SameIndex i (Some (with_value b new)) in
+    let Q : Numbers → Type 0 = λ m. SameNumbers m new in
+    subst P is (subst Q value same)
+
+pub listed_at : (bs : List Booking) (index : Index) (b : Box Numbers) (key : Key) → IsListed bs index → index ≡ Some b → get same_key b.value key ≡ number_of key bs
+listed_at bs index b key h is = let P : Index → Type 0 = λ i. IfSome i (λ numbers. IsNumbersOf numbers.value bs) in (subst P is h.found).at key
+
+-- ---- a list and its index
+pub listed_same : (bs : List Booking) (old new : Index) → IsListed bs old → SameIndex old new → IsListed bs new
+listed_same bs None new h same = subst (IsListed bs) (sym same) h
+listed_same bs (Some old) None h same = absurd same
+listed_same bs (Some old) (Some new) h same = record { live = h.live; found = record { at = λ key. same.at key ∙ h.found.at key } }
+
+pub listed_held : (n : ℕ) (bs : List Booking) (index : Index) → IsListed bs index → IsListed (confirmed_at bs n) index
+listed_held n bs None h = record { live = live_held n bs h.live; found = tt }
+listed_held n bs (Some numbers) h = record {
   live = live_held n bs h.live;
-  found = λ e. record { at = λ key. (h.found e).at key ∙ sym (number_held key n bs) };
+  found = record { at = λ key. h.found.at key ∙ sym (number_held key n bs) };
 }
 
-pub listed_more : (bs : List Booking) (old new : Numbers) (indexed : Bool) (b : Booking) → IsListed bs old indexed → AreLive (bs ++ b ∷ []) → PutsWhere indexed old new (key_of b) (Some b.number) → IsListed (bs ++ b ∷ []) new indexed
-listed_more bs old new indexed b h live puts = record {
+pub listed_more : (bs : List Booking) (old new : Index) (b : Booking) → IsListed bs old → AreLive (bs ++ b ∷ []) → PutsWhere old new (key_of b) (Some b.number) → IsListed (bs ++ b ∷ []) new
+listed_more bs None new b h live puts = subst (IsListed (bs ++ b ∷ [])) (sym puts) (record { live = live; found = tt })
+listed_more bs (Some old) None b h live puts = absurd puts
+listed_more bs (Some old) (Some new) b h live puts = record {
   live = live;
-  found = λ e. record {
+  found = record {
     at = λ key.
-        (puts.put e).at key
-        ∙ (ap (λ (o : Option ℕ). if same_key (key_of b) key then Some b.number else o) ((h.found e).at key)
+        puts.at key
+        ∙ (ap (λ (o : Option ℕ). if same_key (key_of b) key then Some b.number else o) (h.found.at key)
         ∙ sym (number_more key bs b live.apart));
   };
 }
 
-pub listed_less : (bs : List Booking) (numbers : Numbers) (indexed : Bool) (l : List ℕ) (p : Place) (k n i : ℕ) (b : Booking) → IsListed bs numbers indexed → position (is_for l p k) bs ≡ Some i → b ≡ get_or bs i b → n < b.seats
-    → IsListed (reduced (is_for l p k) n bs) numbers indexed
-listed_less bs numbers indexed l p k n i b h found is lt =
+pub listed_less : (bs : List Booking) (index : Index) (l : List ℕ) (p : Place) (k n i : ℕ) (b : Booking) → IsListed bs index → position (is_for l p k) bs ≡ Some i → b ≡ get_or bs i b → n < b.seats
+    → IsListed (reduced (is_for l p k) n bs) index
+listed_less bs None l p k n i b h found is lt = record { live = live_reduced (is_for l p k) n bs h.live; found = tt }
+listed_less bs (Some numbers) l p k n i b h found is lt =
     let less : n < (get_or bs i b).seats = rw (← is) lt in
     record {
       live = live_reduced (is_for l p k) n bs h.live;
-      found = λ e. record { at = λ key. (h.found e).at key ∙ sym (number_less key l p k n bs i b (position-Some (is_for l p k) bs i b found) less) };
+      found = record { at = λ key. h.found.at key ∙ sym (number_less key l p k n bs i b (position-Some (is_for l p k) bs i b found) less) };
     }
 
-pub listed_gone : (bs : List Booking) (old new : Numbers) (indexed : Bool) (l : List ℕ) (p : Place) (k n i : ℕ) (b : Booking) → IsListed bs old indexed → position (is_for l p k) bs ≡ Some i → b ≡ get_or bs i b → b.seats ≤ n
-    → PutsWhere indexed old new (key_for l p k) None → IsListed (reduced (is_for l p k) n bs) new indexed
-listed_gone bs old new indexed l p k n i b h found is le puts =
+pub listed_gone : (bs : List Booking) (old new : Index) (l : List ℕ) (p : Place) (k n i : ℕ) (b : Booking) → IsListed bs old → position (is_for l p k) bs ≡ Some i → b ≡ get_or bs i b → b.seats ≤ n
+    → PutsWhere old new (key_for l p k) None → IsListed (reduced (is_for l p k) n bs) new
+listed_gone bs None new l p k n i b h found is le puts = subst (IsListed (reduced (is_for l p k) n bs)) (sym puts) (record { live = live_reduced (is_for l p k) n bs h.live; found = tt })
+listed_gone bs (Some old) None l p k n i b h found is le puts = absurd puts
+listed_gone bs (Some old) (Some new) l p k n i b h found is le puts =
     let all : (get_or bs i b).seats ≤ n = rw (← is) le in
     record {
       live = live_reduced (is_for l p k) n bs h.live;
-      found = λ e. record {
+      found = record {
         at = λ key.
-            (puts.put e).at key
-            ∙ (ap (λ (o : Option ℕ). if same_key (key_for l p k) key then None else o) ((h.found e).at key)
+            puts.at key
+            ∙ (ap (λ (o : Option ℕ). if same_key (key_for l p k) key then None else o) (h.found.at key)
             ∙ sym (number_gone key l p k n bs i b h.live.apart (position-Some (is_for l p k) bs i b found) all));
       };
     }
-
-pub listed_anew : (bs : List Booking) (old new : Numbers) (indexed : Bool) → IsListed bs old indexed → IsNumbersOf new bs → IsListed bs new true
-listed_anew bs old new indexed h found = record { live = h.live; found = λ e. found }
 
 -- ---- the index, made from the last booking to the first
 pub numbers_same : (old new : Numbers) (bs : List Booking) → IsNumbersOf old bs → SameNumbers old new → IsNumbersOf new bs
