@@ -1,5 +1,5 @@
 -- The live bookings, flight by flight.
-use Rattle.std.specs.Prelude.{◌≡◌, ℕ, ◌≤◌, Bool, true, false, ◌&&◌, List, [], Option, Some, None, slice_get, slice_index, if◌then◌else◌}
+use Rattle.std.specs.Prelude.{◌≡◌, ℕ, ◌≤◌, Bool, true, false, List, [], Option, Some, None, slice_get, slice_index, if◌then◌else◌}
 use Rattle.ssim_records.specs.declared.place.Place.{Place}
 use Rattle.seat_nesting.specs.Nesting.{Legs}
 use Rattle.seat_nesting.specs.Counting.{Counted, limits_of, seats_of}
@@ -8,11 +8,12 @@ use Rattle.seat_journal.specs.declared.entry.Work.{Work}
 use Rattle.seat_journal.specs.declared.entry.Work.TheVariants.{Seats, Limit}
 use Rattle.seat_core.specs.declared.booking.Booking.{Booking}
 use Rattle.seat_core.specs.declared.books.FlightBook.{FlightBook}
+use Rattle.seat_core.specs.declared.effect.Effect.{Effect}
 use Rattle.seat_core.specs.Bookings.{held}
 use Rattle.seat_core.specs.Journal.{replay, calls_of}
 use Rattle.seat_core.specs.Flights.{bookings_on, queue_on, is_on}
 use Rattle.seat_core.specs.Queues.{queue_of}
-use Rattle.seat_core.specs.Applying.{applied}
+use Rattle.seat_core.specs.Applying.{applied, suffices, Spare}
 use Rattle.seat_core.specs.Live.{AreLive}
 use Rattle.seat_core.specs.Inventory.{IsLawful}
 
@@ -42,18 +43,17 @@ abbrev pub book_of : List FlightBook → Work → List Booking
 book_of books (Seats c) = book_for books c.place
 book_of books (Limit c) = book_at books c.flight
 
--- there is memory for one more booking in it, held or waiting
-abbrev pub spare_of : FlightBook → Bool
-spare_of book = book.bookings.spare && book.queue.spare
+abbrev pub spare_of : FlightBook → Spare
+spare_of book = record { booking = book.bookings.spare; waiting = book.queue.spare }
 
-abbrev pub has_spare_in : Option FlightBook → Bool
-has_spare_in None = false
-has_spare_in (Some book) = spare_of book
+abbrev pub has_spare_in : Effect → Option FlightBook → Bool
+has_spare_in effect None = false
+has_spare_in effect (Some book) = suffices effect (spare_of book)
 
--- there is memory for one more booking on the place's flight; no place needs none
-abbrev pub has_spare : List FlightBook → Option Place → Bool
-has_spare books None = true
-has_spare books (Some place) = has_spare_in (slice_get books place.flight)
+-- there is memory for what a reply does on the place's flight; no place needs none
+abbrev pub has_spare : List FlightBook → Option Place → Effect → Bool
+has_spare books None effect = true
+has_spare books (Some place) effect = has_spare_in effect (slice_get books place.flight)
 
 -- each flight has the same bookings and waiting list
 pub record SameBooks (old new : List FlightBook) : Type 0 where

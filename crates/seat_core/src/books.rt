@@ -2,11 +2,12 @@
 ghost use Rattle.std.specs.Prelude.{◌≡◌, ◌<◌, ◌+◌, [], position, true, IfNone, IfSome, OnOk, slice_get, vec_len};
 ghost use Rattle.seat_journal.specs.declared.entry.Work.TheVariants.{Seats, Limit};
 ghost use Rattle.seat_core.specs.Flights.{place_of};
+ghost use Rattle.seat_core.specs.Applying.{effect_of, suffices};
 ghost use Rattle.seat_core.specs.Bookings.{is_for};
 ghost use Rattle.seat_core.specs.Books.{book_at, has_spare, has_spare_in, queue_at, spare_of, IsEntered, IsQueued, LeavesLive, SameBooks};
 
 use crate::booking::Booking;
-use crate::effect::{apply, confirm_all};
+use crate::effect::{Effect, apply, confirm_all};
 use crate::live_bookings::LiveBookings;
 use crate::waiting_list::WaitingList;
 use seat_journal::{Change, Command, Entry, Work};
@@ -22,14 +23,21 @@ pub struct FlightBook {
 
 impl FlightBook {
     #[tactic(auto, using(crate::proofs::Waitlists::Queue::spare_both))]
-    // Makes the memory for one more booking.
-    fn reserve(&mut self, alloc: Global) -> Result<(), Memory>
+    // Makes the memory for what a reply does.
+    fn reserve(&mut self, alloc: Global, effect: Effect) -> Result<(), Memory>
         ensures bookings { self.new.bookings.items ≡ self.old.bookings.items }
         ensures queue { self.new.queue.bookings ≡ self.old.queue.bookings }
-        ensures ok { OnOk result (spare_of self.new ≡ true) }
+        ensures ok { OnOk result (suffices effect (spare_of self.new) ≡ true) }
     {
-        self.bookings.reserve(alloc)?;
-        self.queue.reserve()
+        match effect {
+            Effect::Holds => self.bookings.reserve(alloc),
+            Effect::Waits => {
+                self.bookings.reserve(alloc)?;
+                self.queue.reserve()
+            }
+            Effect::Reduces => Ok(()),
+            Effect::Nothing => Ok(()),
+        }
     }
 }
 
@@ -64,33 +72,39 @@ pub fn queue_at(books: &[FlightBook], flight: u32) -> Option<&WaitingList>
     }
 }
 
-/// Reserves memory for one more booking on the flight of a place.
+/// Reserves memory for what a reply does on the flight of a place.
 pub fn reserve_place(
     alloc: Global,
     books: &mut Vec<FlightBook>,
     place: Option<Place>,
+    effect: Effect,
 ) -> Result<(), Memory>
     ensures same { SameBooks books.old.items books.new.items }
-    ensures ok { OnOk result (has_spare books.new.items place ≡ true) }
+    ensures ok { OnOk result (has_spare books.new.items place effect ≡ true) }
 {
     match place {
-        Some(place) => reserve_booking(alloc, books, place.flight),
+        Some(place) => reserve_effect(alloc, books, place.flight, effect),
         None => Ok(()),
     }
 }
 
-// Makes the memory for one more booking on a flight.
-fn reserve_booking(alloc: Global, books: &mut Vec<FlightBook>, flight: u32) -> Result<(), Memory>
+// Makes the memory for what a reply does on a flight.
+fn reserve_effect(
+    alloc: Global,
+    books: &mut Vec<FlightBook>,
+    flight: u32,
+    effect: Effect,
+) -> Result<(), Memory>
     ensures same { SameBooks books.old.items books.new.items }
-    ensures ok { OnOk result (has_spare_in (slice_get books.new.items flight) ≡ true) }
+    ensures ok { OnOk result (has_spare_in effect (slice_get books.new.items flight) ≡ true) }
 {
     open_books(alloc, books, flight)?;
-    books[flight as usize].reserve(alloc)
+    books[flight as usize].reserve(alloc, effect)
 }
 
-/// Applies an entry to the book of its flight, which has room for one more booking where the entry asks for a place.
+/// Applies an entry to the book of its flight, which has room for what its reply does there.
 pub fn enter(books: &mut Vec<FlightBook>, entry: &Entry)
-    requires spare { has_spare books.old.items (place_of entry.now.work) ≡ true }
+    requires spare { has_spare books.old.items (place_of entry.now.work) (effect_of entry.now.reply) ≡ true }
     requires queued { IsQueued books.old.items }
     requires live { LeavesLive books.old.items entry.now }
     ensures entered { IsEntered books.old.items books.new.items entry.now }
@@ -103,10 +117,9 @@ pub fn enter(books: &mut Vec<FlightBook>, entry: &Entry)
 }
 
 // Does what the entry of a command tells.
-#[tactic(auto, using(crate::proofs::Waitlists::Queue::spare_booking, crate::proofs::Waitlists::Queue::spare_waiting))]
 fn enter_command(books: &mut Vec<FlightBook>, entry: &Entry, command: &Command)
     requires command { entry.now.work ≡ Seats command.now }
-    requires spare { has_spare books.old.items command.now.place ≡ true }
+    requires spare { has_spare books.old.items command.now.place (effect_of entry.now.reply) ≡ true }
     requires queued { IsQueued books.old.items }
     requires live { LeavesLive books.old.items entry.now }
     ensures entered { IsEntered books.old.items books.new.items entry.now }

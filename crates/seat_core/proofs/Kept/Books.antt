@@ -1,5 +1,5 @@
 -- The books of an inventory, flight by flight, line by line.
-use Rattle.std.proofs.Common.{◌≡◌, ◌≢◌, ◌==◌, ℕ, zero, suc, ◌+◌, ◌<◌, ◌≤◌, Bool, true, false, List, [], ◌∷◌, ◌++◌, length, set, get_or, slice_get, unwrap_or, map, cond, Option, Some, None, option_map, if◌then◌else◌, arith, refl, ap, sym, subst, ◌∙◌}
+use Rattle.std.proofs.Common.{◌≡◌, ◌≢◌, ◌==◌, ℕ, zero, suc, ◌+◌, ◌<◌, ◌≤◌, Bool, true, false, List, [], ◌∷◌, ◌++◌, length, set, get_or, slice_get, map, cond, Option, Some, None, option_map, if◌then◌else◌, arith, refl, ap, sym, subst, ◌∙◌}
 use Rattle.std.specs.List.{AllByRecursion}
 use Rattle.std.proofs.lemmas.List.{get_or-set_same, get_or-set_other}
 use Rattle.std.proofs.lemmas.List.Sums.{sum_by_push, fold_push, count_by-le-length}
@@ -9,6 +9,7 @@ use Rattle.seat_nesting.specs.Nesting.{Legs, Table, legs_of, room, HasLadders}
 use Rattle.seat_nesting.specs.Counting.{Counted, limits_of, seats_of}
 use Rattle.seat_core.specs.declared.booking.Booking.{Booking}
 use Rattle.seat_core.specs.declared.books.FlightBook.{FlightBook}
+use Rattle.seat_core.specs.declared.effect.Effect.{Effect}
 use Rattle.seat_journal.specs.declared.entry.Advice.{Advice}
 use Rattle.seat_journal.specs.declared.entry.Command.{Command}
 use Rattle.seat_journal.specs.declared.entry.Work.{Work}
@@ -22,7 +23,7 @@ use Rattle.seat_core.specs.Sequential.{State, Outcome, state_of, room_left, answ
 use Rattle.seat_core.specs.Journal.{replay, calls_of, line_of, next_line, IsNext, IsLegal, MayAsk}
 use Rattle.seat_core.specs.Applying.{applied, confirmed_each, replied, IsOrdered, IsNumbered}
 use Rattle.seat_core.specs.Flights.{bookings_on, is_flight, is_on, advices_anew}
-use Rattle.seat_core.specs.Inventory.{has_memory, HoldsWithinLimits, IsLawful, KeepsLimits}
+use Rattle.seat_core.specs.Inventory.{has_memory, has_memory_in, HoldsWithinLimits, IsLawful, KeepsLimits}
 use Rattle.seat_core.specs.Showing.{Standing, shown, standing_of, unsold}
 use Rattle.seat_core.specs.Books.{book_at, book_for, book_of, has_spare, has_spare_in, spare_of, IsEntered, IsKept, IsQueued, LeavesLive, SameBooks}
 use Rattle.seat_core.specs.Live.{AreLive, Differs, IsApart}
@@ -291,14 +292,14 @@ pub few_calls : (opening : Legs) (cap : ℕ) (journal : List Entry) (books : Lis
 few_calls opening cap journal books calls counts s k = omega (arith, count_by-le-length (λ (x : Entry). x.session == s) journal, k.lawful.capped, k.lawful.small)
 
 -- the memory of the books, as it is shown
-spares_at : (books : List FlightBook) (i : ℕ) → unwrap_or (slice_get (map spare_of books) i) false ≡ has_spare_in (slice_get books i)
-spares_at [] i = refl
-spares_at (b ∷ bs) zero = refl
-spares_at (b ∷ bs) (suc i) = spares_at bs i
+spares_at : (books : List FlightBook) (i : ℕ) (effect : Effect) → has_memory_in effect (slice_get (map spare_of books) i) ≡ has_spare_in effect (slice_get books i)
+spares_at [] i effect = refl
+spares_at (b ∷ bs) zero effect = refl
+spares_at (b ∷ bs) (suc i) effect = spares_at bs i effect
 
-pub memory_is : (books : List FlightBook) (o : Option Place) → has_memory (map spare_of books) o ≡ has_spare books o
-memory_is books None = refl
-memory_is books (Some place) = spares_at books place.flight
+pub memory_is : (books : List FlightBook) (o : Option Place) (effect : Effect) → has_memory (map spare_of books) o effect ≡ has_spare books o effect
+memory_is books None effect = refl
+memory_is books (Some place) effect = spares_at books place.flight effect
 
 -- the line that is answered from the flight's book is the next
 pub next_kept : (opening : Legs) (cap : ℕ) (journal : List Entry) (books : List FlightBook) (calls : List ℕ) (counts : Counted) (book : List Booking) (n session call : ℕ) (w : Work) (line : Entry) → IsKept opening cap journal books calls counts

@@ -9,11 +9,10 @@ use Rattle.seat_journal.specs.declared.entry.Command.{Command}
 use Rattle.seat_core.specs.declared.booking.Booking.{Booking}
 use Rattle.seat_core.specs.declared.booking.Status.{Status}
 use Rattle.seat_core.specs.declared.booking.Status.TheVariants.{Held, Waiting}
-use Rattle.seat_core.specs.declared.books.FlightBook.{FlightBook}
+use Rattle.seat_core.specs.declared.effect.Effect.TheVariants.{Waits}
 use Rattle.seat_core.specs.Bookings.{is_waiting, waits_on, waiting}
-use Rattle.seat_core.specs.Books.{spare_of}
 use Rattle.seat_core.specs.Sequential.{reduced, booking_of}
-use Rattle.seat_core.specs.Applying.{confirmed_at}
+use Rattle.seat_core.specs.Applying.{confirmed_at, suffices, Spare}
 use Rattle.seat_core.specs.Flights.{bookings_on, queue_on}
 use Rattle.seat_core.specs.Queues.{queue_of, first_waits, without}
 use Rattle.seat_core.proofs.Step.Reduced.{IsFirst}
@@ -154,11 +153,11 @@ split true true e = (refl, refl)
 split true false e = absurd cc
 split false u e = absurd cc
 
-pub spare_booking : (book : FlightBook) → spare_of book ≡ true → book.bookings.spare ≡ true
-spare_booking book e = (split book.bookings.spare book.queue.spare e).0
+pub spare_booking : (s : Spare) → suffices Waits s ≡ true → s.booking ≡ true
+spare_booking s e = (split s.booking s.waiting e).0
 
-pub spare_waiting : (book : FlightBook) → spare_of book ≡ true → book.queue.spare ≡ true
-spare_waiting book e = (split book.bookings.spare book.queue.spare e).1
+pub spare_waiting : (s : Spare) → suffices Waits s ≡ true → s.waiting ≡ true
+spare_waiting s e = (split s.booking s.waiting e).1
 
-pub spare_both : (book : FlightBook) → book.bookings.spare ≡ true → book.queue.spare ≡ true → spare_of book ≡ true
-spare_both book a b = rw (a, b) refl
+pub spare_both : (s : Spare) → s.booking ≡ true → s.waiting ≡ true → suffices Waits s ≡ true
+spare_both s a b = rw (a, b) refl
