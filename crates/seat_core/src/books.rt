@@ -9,6 +9,7 @@ ghost use Rattle.seat_core.specs.Books.{book_at, has_spare, has_spare_in, queue_
 use crate::booking::Booking;
 use crate::effect::{Effect, apply, confirm_all};
 use crate::live_bookings::LiveBookings;
+use crate::queue::Queue;
 use crate::waiting_list::WaitingList;
 use seat_journal::{Change, Command, Entry, Work};
 use ssim_records::{Memory, Place};
@@ -18,7 +19,7 @@ use std::alloc::Global;
 #[derive(Drop)]
 pub struct FlightBook {
     bookings: LiveBookings,
-    queue: WaitingList,
+    queue: Queue,
 }
 
 impl FlightBook {
@@ -33,7 +34,7 @@ impl FlightBook {
             Effect::Holds => self.bookings.reserve(alloc),
             Effect::Waits => {
                 self.bookings.reserve(alloc)?;
-                self.queue.reserve()
+                self.queue.reserve(alloc)
             }
             Effect::Reduces => Ok(()),
             Effect::Nothing => Ok(()),
@@ -61,13 +62,13 @@ pub fn find_in(books: &[FlightBook], command: &Command, place: Place) -> Option<
     }
 }
 
-/// The waiting list of a flight; none where it has no book yet.
+/// The waiting list of a flight; none where no booking waited yet.
 pub fn queue_at(books: &[FlightBook], flight: u32) -> Option<&WaitingList>
     ensures some { IfSome result (λ queue. queue.now.bookings ≡ queue_at books.now flight) }
     ensures none { IfNone result (queue_at books.now flight ≡ []) }
 {
     match books.get(flight as usize) {
-        Some(book) => Some(&book.queue),
+        Some(book) => book.queue.list(),
         None => None,
     }
 }
@@ -170,7 +171,7 @@ fn open_book(alloc: Global, books: &mut Vec<FlightBook>) -> Result<(), Memory>
 {
     books.push(FlightBook {
         bookings: LiveBookings::new(alloc),
-        queue: WaitingList::new(alloc),
+        queue: Queue::new(),
     })?;
     Ok(())
 }

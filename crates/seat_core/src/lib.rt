@@ -15,6 +15,7 @@ mod laws;
 mod live_bookings;
 mod one_flight;
 mod pass;
+mod queue;
 mod replaying;
 mod reply;
 mod rooms;
