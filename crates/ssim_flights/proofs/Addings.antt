@@ -8,7 +8,7 @@ use Rattle.ssim_flights.specs.declared.flown.Departure.{Departure}
 use Rattle.ssim_flights.specs.declared.plan.Plan.{Plan}
 use Rattle.ssim_flights.specs.declared.schedule.Scheduled.{Scheduled}
 use Rattle.ssim_flights.specs.Adding.{IsChainAdded, IsAdded}
-use Rattle.ssim_flights.specs.Chains.{chain, missing_leg, repeated_leg, broken_chain}
+use Rattle.ssim_flights.specs.LegChains.{chain, missing_leg, repeated_leg, broken_chain}
 use Rattle.ssim_flights.specs.Flown.{days_fault, departure, departures_of, departures_on, fault_of, flights_of, IsRefusal}
 use Rattle.ssim_flights.specs.Schedules.{rows, schedule, flights_on, flight_on}
 use Rattle.ssim_flights.specs.Taken.{has_departure, Takes}

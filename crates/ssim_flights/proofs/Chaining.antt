@@ -11,7 +11,7 @@ use Rattle.ssim_flights.specs.declared.fault.FlightKind.TheVariants as kinds
 use Rattle.ssim_flights.specs.declared.flown.Departure.{Departure}
 use Rattle.ssim_flights.specs.declared.plan.Plan.{Plan}
 use Rattle.ssim_flights.specs.declared.schedule.Scheduled.{Scheduled}
-use Rattle.ssim_flights.specs.Chains.{chain, leg_at, sequences, first_record_if, missing_leg, repeated_leg, broken_chain}
+use Rattle.ssim_flights.specs.LegChains.{chain, leg_at, sequences, first_record_if, missing_leg, repeated_leg, broken_chain}
 use Rattle.ssim_flights.specs.Schedules.{schedule, differing, falling_at, falling_back, rows, shortest, is_in_horizon, day_at, Reaches, flights_on, flight_on}
 use Rattle.ssim_flights.specs.Flown.{found, days_fault, departures_on, departure, fault_of, leg_one_if}
 

@@ -19,7 +19,7 @@ use Rattle.ssim_flights.specs.declared.flown.Departure.{Departure}
 use Rattle.ssim_flights.specs.declared.plan.Plan.{Plan}
 use Rattle.ssim_flights.specs.declared.schedule.Scheduled.{Scheduled}
 use Rattle.ssim_flights.specs.Adding.{IsAdded, IsFlown}
-use Rattle.ssim_flights.specs.Chains.{chain, sequences, first_record_if, missing_leg, repeated_leg, broken_chain, broken_after}
+use Rattle.ssim_flights.specs.LegChains.{chain, sequences, first_record_if, missing_leg, repeated_leg, broken_chain, broken_after}
 use Rattle.ssim_flights.specs.Few.{AreFew, AreJoined, joins_after, joins_up}
 use Rattle.ssim_flights.specs.Flown.{all_departures, dated_flights, days_fault, departures_of, departures_on, fault_after, fault_of, first_fault, flights_of, found, is_taken, leg_one_if, same_departure, IsRefusal}
 use Rattle.ssim_flights.specs.Itineraries.{itineraries, legs_of, name_of, names_after, same_name}

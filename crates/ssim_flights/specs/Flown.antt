@@ -10,7 +10,7 @@ use Rattle.ssim_flights.specs.declared.flight.Flight.{Flight}
 use Rattle.ssim_flights.specs.declared.flown.Departure.{Departure}
 use Rattle.ssim_flights.specs.declared.plan.Plan.{Plan}
 use Rattle.ssim_flights.specs.declared.schedule.Scheduled.{Scheduled}
-use Rattle.ssim_flights.specs.Chains.{chain, missing_leg, repeated_leg, broken_chain, first_record_if}
+use Rattle.ssim_flights.specs.LegChains.{chain, missing_leg, repeated_leg, broken_chain, first_record_if}
 use Rattle.ssim_flights.specs.Schedules.{schedule, rows, day_at, flights_on, differing, falling_back}
 
 -- ---- one itinerary

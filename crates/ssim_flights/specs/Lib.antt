@@ -1,10 +1,10 @@
 pub mod Adding
-pub mod Chains
 pub mod FaultText
 pub mod Few
 pub mod Flown
 pub mod Index
 pub mod Itineraries
+pub mod LegChains
 pub mod Operating
 pub mod Places
 pub mod Right

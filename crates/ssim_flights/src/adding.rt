@@ -1,7 +1,7 @@
 //! Adding the flights of one itinerary to those of the earlier ones.
 ghost use Rattle.std.specs.Prelude.{◌≡◌, ◌+◌, ◌≤◌, ◌<◌, ◌^◌, nat_lt, All, Err, IfErr, OnOk, Some, length};
 ghost use Rattle.std.specs.List.{list_any};
-ghost use Rattle.ssim_flights.specs.Chains.{first_record_if};
+ghost use Rattle.ssim_flights.specs.LegChains.{first_record_if};
 ghost use Rattle.ssim_flights.specs.Adding.{IsAdded, IsChainAdded};
 ghost use Rattle.ssim_flights.specs.Flown.{days_fault, departures_on, fault_of, leg_one_if, IsRefusal};
 ghost use Rattle.ssim_flights.specs.Right.{IsRightLeg};

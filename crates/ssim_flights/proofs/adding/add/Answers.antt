@@ -1,6 +1,6 @@
 use Rattle.std.proofs.Common.{◌≡◌, List, All, length, ap, sym, subst, ◌∙◌}
 use Rattle.ssim_records.specs.declared.carrier.Leg.{Leg}
-use Rattle.ssim_flights.specs.Chains.{chain, broken_chain}
+use Rattle.ssim_flights.specs.LegChains.{chain, broken_chain}
 use Rattle.ssim_flights.specs.Right.{IsRightLeg}
 use Rattle.ssim_flights.specs.Schedules.{schedule}
 use Rattle.ssim_flights.specs.Taken.{has_departure}
