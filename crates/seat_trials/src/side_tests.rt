@@ -142,7 +142,12 @@ impl Tally {
 
     /// Each of them came often.
     fn has_all(&self) -> bool {
-        self.replies.iter().all(|times| *times >= 20) && self.one >= 100 && self.several >= 10
+        for times in &self.replies {
+            if *times < 20 {
+                return false;
+            }
+        }
+        self.one >= 100 && self.several >= 10
     }
 }
 
