@@ -19,10 +19,6 @@ pub kept : {A : Type 0} (b : Bool) (o : Option A) → b ≡ true → cond b o No
 kept true o h = refl
 kept false o h = absurd cc
 
-pub first_of : {A : Type 0} (b : Bool) (x y : A) → b ≡ true → cond b x y ≡ x
-first_of true x y h = refl
-first_of false x y h = absurd cc
-
 pub second_of : {A : Type 0} (b : Bool) (x y : A) → b ≡ false → cond b x y ≡ y
 second_of true x y h = absurd cc
 second_of false x y h = refl
