@@ -1,5 +1,5 @@
 //! The index of the places on flights, by the wishes that they serve.
-ghost use Rattle.std.specs.Prelude.{◌≡◌, ◌+◌, ◌≤◌, ◌<◌, ◌^◌, ◌∷◌, [], OnOk, IfOk, length};
+ghost use Rattle.std.specs.Prelude.{◌+◌, ◌≤◌, ◌<◌, ◌∷◌, [], OnOk, IfOk, length};
 ghost use Rattle.ssim_flights.specs.Few.{AreFew};
 ghost use Rattle.ssim_flights.specs.Places.{ends_from, places_from, places};
 ghost use Rattle.ssim_flights.specs.Index.{IsIndex, Puts};

@@ -1,8 +1,6 @@
 //! The record at the front of the bytes.
 ghost use Rattle.std.specs.Prelude.{◌≡◌, option_map};
 ghost use Rattle.std.specs.Result.{result_map_both};
-ghost use Rattle.std.specs.List.{list_all};
-ghost use Rattle.ssim_records.specs.Bytes.{is_printable};
 ghost use Rattle.ssim_records.specs.Cut.{end_at, cut_at};
 
 use crate::fields::are_printable;

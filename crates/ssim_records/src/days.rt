@@ -1,6 +1,6 @@
 //! Days of the calendar, and the form DDMMMYY in which the standards write them.
 ghost use Rattle.std.specs.Prelude.{◌≡◌, ℕ, pos, IsSome, IfSome, ◌↔◌, ◌≤◌, ◌+◌};
-ghost use Rattle.jiff_core.specs.Calendar.{IsCivilDate, days_from_civil};
+ghost use Rattle.jiff_core.specs.Calendar.{IsCivilDate};
 ghost use Rattle.ssim_records.specs.Days.{IsDay, IsDate, IsDateText, month_name, civil_in, date_in};
 
 use crate::fields::{month_of, two_are, two_value};

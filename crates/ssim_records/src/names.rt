@@ -1,5 +1,5 @@
 //! The names of the airline standards. Each name that has exactly one form is a type of its own.
-ghost use Rattle.std.specs.Prelude.{◌≡◌, ℕ, List, ◌∷◌, [], Some, None, if◌then◌else◌, IsTrue};
+ghost use Rattle.std.specs.Prelude.{◌≡◌, ℕ, List, Some, None, if◌then◌else◌, IsTrue};
 ghost use Rattle.std.specs.Char.{is_ascii_uppercase};
 ghost use Rattle.ssim_records.specs.Names.{is_station, is_airline, is_code, is_locator, is_name_byte};
 

@@ -1,8 +1,6 @@
 //! The fields of a record (SSIM chapter 7): a value, where the bytes are right.
-ghost use Rattle.std.specs.Prelude.{◌≡◌, ◌≤◌, ◌<◌, ◌^◌, IfSome, ◌==◌, ℕ, length, drop, IsTrue};
-ghost use Rattle.std.specs.Char.{is_ascii_digit};
-ghost use Rattle.std.specs.List.{prefix_len, list_all};
-ghost use Rattle.std.specs.Str.Parse.{digits_value};
+ghost use Rattle.std.specs.Prelude.{◌≡◌, ◌≤◌, ◌<◌, ◌^◌, IfSome, ◌==◌, length, drop};
+ghost use Rattle.std.specs.List.{prefix_len};
 ghost use Rattle.ssim_records.specs.RecordFields.{padded_in, positive_in, six_in, mode_in, designator_in, station_in, suffix_in, byte_in, until_in, day_in, days_in, rate_in, time_in, signed_in, offset_in, shift_in, continued_in};
 
 use crate::days::Day;

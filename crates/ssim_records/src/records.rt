@@ -1,5 +1,5 @@
 //! The records of a data set (SSIM chapter 7), each with its first fault.
-ghost use Rattle.std.specs.Prelude.{◌≡◌, ◌≤◌, ◌==◌, ◌+◌, ℕ, length};
+ghost use Rattle.std.specs.Prelude.{◌≡◌, ◌≤◌, ◌==◌, ◌+◌, length};
 ghost use Rattle.ssim_records.specs.Bytes.{same_text, set_title};
 ghost use Rattle.ssim_records.specs.SetSteps.{type_of, has_serial, header_at, carrier_at, second_at, leg_at, leg_name_at, leg_period_at, leg_path_at, numbered_at, segment_at, trailer_at};
 

@@ -1,5 +1,5 @@
 //! Reading a data set whole (SSIM chapter 7).
-ghost use Rattle.std.specs.Prelude.{◌≡◌, ◌≢◌, ◌≤◌, ◌^◌, List, length, IfOk, IfErr};
+ghost use Rattle.std.specs.Prelude.{◌≡◌, ◌≢◌, ◌≤◌, ◌^◌, length, IfOk, IfErr};
 ghost use Rattle.std.specs.Result.{MatchResult};
 ghost use Rattle.ssim_records.specs.declared.set.DataSet.{DataSet as Said};
 ghost use Rattle.ssim_records.specs.RightSet.{IsRightSet};
