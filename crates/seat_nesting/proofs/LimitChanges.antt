@@ -1,14 +1,13 @@
 -- Limits that are set: what they change, and what stays.
-use Rattle.std.proofs.Common.{◌≡◌, ◌≢◌, ◌==◌, ℕ, zero, suc, ◌+◌, ◌-◌, ◌<◌, ◌≤◌, min, Bool, true, false, if◌then◌else◌, cond, ◌&&◌, ◌||◌, nat_le, Option, Some, None, List, [], ◌∷◌, length, map, drop, get_or, set, refl, ap, sym, subst, ◌∙◌, add-one, arith}
+use Rattle.std.proofs.Common.{◌≡◌, ◌≢◌, ◌==◌, ℕ, zero, suc, ◌+◌, ◌-◌, ◌<◌, ◌≤◌, Bool, true, false, if◌then◌else◌, cond, ◌&&◌, ◌||◌, nat_le, Option, Some, None, List, [], ◌∷◌, length, drop, get_or, set, refl, ap, sym, subst, ◌∙◌, add-one, arith}
 use Rattle.std.specs.List.{AllByRecursion, position, refill}
 use Rattle.std.proofs.lemmas.Bool.{eqb-true, eqb-false, eq-eqb, ne_eqb, le-leb, leb-true, and_parts, or_parts}
 use Rattle.std.proofs.lemmas.List.{length-set}
-use Rattle.ssim_records.specs.declared.place.Place.{Place}
 use Rattle.seat_nesting.specs.declared.ladder.Step.{Step}
-use Rattle.seat_nesting.specs.Nesting.{Steps, Legs, ByClass, Table, LacksClass, has_class, IsDistinct, IsNotRising, IsLadder, IsLegLadder, HasLadders, steps_of, steps_at, legs_of, ladder_at, Fits, held_from, room_on, room, least, IsWithin}
-use Rattle.seat_nesting.specs.Counting.{LegSeats, Counted, count_at, seats_on, leg_in, leg_at, limits_of, seats_of, IsKept, IsRank, IsWithinLimits}
-use Rattle.seat_nesting.specs.Changing.{with_limit, leg_with, limits_with, step_of, top_of, limit_above, may_have_below, may_have, can_set, LegSets, Sets, FitsLimit}
-use Rattle.seat_nesting.proofs.Rooms.{held_cons, held_same, within_same}
+use Rattle.seat_nesting.specs.Nesting.{Steps, Legs, ByClass, Table, LacksClass, has_class, IsDistinct, IsNotRising, IsLadder, IsLegLadder, HasLadders, steps_of, steps_at, legs_of, ladder_at, held_from, IsWithin}
+use Rattle.seat_nesting.specs.Counting.{LegSeats, count_at, seats_on, IsKept, IsRank}
+use Rattle.seat_nesting.specs.Changing.{with_limit, leg_with, limits_with, step_of, top_of, limit_above, may_have_below, may_have, can_set, LegSets}
+use Rattle.seat_nesting.proofs.Rooms.{held_cons, within_same}
 use Rattle.seat_nesting.proofs.LegCounting.{leg_of, is_rank, no_rank}
 
 -- ---- one step
@@ -217,44 +216,6 @@ step_bounded (s ∷ lower) class old all h = of (s.class == class) h (λ (e : st
     of true is below = let same : s ≡ old = cc in subst IsBounded same all.0
     of false is below = below is
 
-or_true : (b : Bool) → (b || true) ≡ true
-or_true true = refl
-or_true false = refl
-
--- a class whose limit may be set is there
-pub may_have_step : (above : ℕ) (steps : Steps) (seats : ByClass) (class limit : ℕ) → may_have_below above steps seats class limit ≡ true → has_class steps class ≡ true
-may_have_step above [] seats class limit h = absurd cc
-may_have_step above (s ∷ lower) seats class limit h = of (s.class == class) refl h (λ (e : may_have_below s.limit lower seats class limit ≡ true). may_have_step s.limit lower seats class limit e)
-  where
-    of : (b : Bool) → (s.class == class) ≡ b → cond b (nat_le limit above && nat_le (top_of lower) limit && nat_le (held_from seats (s ∷ lower)) limit) (may_have_below s.limit lower seats class limit) ≡ true
-        → (may_have_below s.limit lower seats class limit ≡ true → has_class lower class ≡ true) → ((class == s.class) || has_class lower class) ≡ true
-    of true e h below = let same : (class == s.class) ≡ true = eq-eqb class s.class (sym (eqb-true s.class class e)) in rw same refl
-    of false e h below = let there = below h in rw there (or_true (class == s.class))
-
--- ---- a lower limit leaves no more room
-
-pub room_with : (steps : Steps) (seats : ByClass) (class limit wait : ℕ) (old : Step) (k : ℕ) → step_of steps class ≡ Some old → limit ≤ old.limit → room_on (with_limit steps class limit wait) seats k ≤ room_on steps seats k
-room_with [] seats class limit wait old k h low = omega arith
-room_with (s ∷ lower) seats class limit wait old k h low = of (s.class == class) h (λ (e : step_of lower class ≡ Some old). room_with lower seats class limit wait old k e low)
-  where
-    pick : (b : Bool) (here new old more : ℕ) → here ≤ old → new ≤ more → cond b here (min here new) ≤ cond b old (min old more)
-    pick true here new old more a b = a
-    pick false here new old more a b = omega arith
-
-    of : (b : Bool) → cond b (Some s) (step_of lower class) ≡ Some old → (step_of lower class ≡ Some old → room_on (with_limit lower class limit wait) seats k ≤ room_on lower seats k)
-        → room_on (cond b (reset s limit wait ∷ lower) (s ∷ with_limit lower class limit wait)) seats k ≤ cond (s.class == k) (s.limit - held_from seats (s ∷ lower)) (min (s.limit - held_from seats (s ∷ lower)) (room_on lower seats k))
-    of true is below =
-        let same : s ≡ old = cc in
-        let le : limit ≤ s.limit = omega (arith, low, ap (λ (t : Step). t.limit) same) in
-        let held = held_cons seats s lower in
-        let again = held_cons seats (reset s limit wait) lower in
-        pick (s.class == k) (limit - held_from seats (reset s limit wait ∷ lower)) (room_on lower seats k) (s.limit - held_from seats (s ∷ lower)) (room_on lower seats k) (omega (arith, le, held, again)) (omega arith)
-    of false is below =
-        let held = held_cons seats s lower in
-        let again = held_cons seats s (with_limit lower class limit wait) in
-        pick (s.class == k) (s.limit - held_from seats (s ∷ with_limit lower class limit wait)) (room_on (with_limit lower class limit wait) seats k) (s.limit - held_from seats (s ∷ lower)) (room_on lower seats k)
-        (omega (arith, held, again, held_with seats lower class limit wait)) (below is)
-
 -- ---- by rank
 
 lacks_class : (class : ℕ) (lower : Steps) (i : ℕ) (d : Step) → LacksClass class lower → i < length lower → class ≢ (get_or lower i d).class
@@ -442,12 +403,6 @@ legs_other (legs ∷ flights) zero leg class limit wait (suc at) h = refl
 legs_other (legs ∷ flights) (suc flight) leg class limit wait zero h = refl
 legs_other (legs ∷ flights) (suc flight) leg class limit wait (suc at) h = legs_other flights flight leg class limit wait at (λ e. h (ap suc e))
 
--- no flight and no leg comes or goes
-pub length_limits_with : (grid : Legs) (flight leg class limit wait : ℕ) → length (limits_with grid flight leg class limit wait) ≡ length grid
-length_limits_with [] flight leg class limit wait = refl
-length_limits_with (legs ∷ flights) zero leg class limit wait = refl
-length_limits_with (legs ∷ flights) (suc flight) leg class limit wait = ap suc (length_limits_with flights flight leg class limit wait)
-
 pub length_legs : (grid : Legs) (flight leg class limit wait at : ℕ) → length (legs_of (limits_with grid flight leg class limit wait) at) ≡ length (legs_of grid at)
 length_legs [] flight leg class limit wait at = refl
 length_legs (legs ∷ flights) zero leg class limit wait zero = length_leg_with legs leg class limit wait
@@ -495,11 +450,6 @@ pub has_class_at : (grid : Legs) (flight leg class limit wait f at k : ℕ) → 
 has_class_at grid flight leg class limit wait f at k =
     each_ladder (λ f at s. has_class s k ≡ has_class (ladder_at grid f at) k) grid flight leg class limit wait (λ f at. refl) (has_class_with (ladder_at grid flight leg) class limit wait k) f at
 
--- the same seats are held in each rank and below
-pub held_at_with : (grid : Legs) (seats : Table) (flight leg class limit wait f at : ℕ) → held_from (seats f at) (ladder_at (limits_with grid flight leg class limit wait) f at) ≡ held_from (seats f at) (ladder_at grid f at)
-held_at_with grid seats flight leg class limit wait f at =
-    each_ladder (λ f at s. held_from (seats f at) s ≡ held_from (seats f at) (ladder_at grid f at)) grid flight leg class limit wait (λ f at. refl) (held_with (seats flight leg) (ladder_at grid flight leg) class limit wait) f at
-
 -- ---- what may be set
 
 pub can_parts : (grid : Legs) (seats : Table) (flight leg class limit wait : ℕ) → can_set grid seats flight leg class limit wait ≡ true → (wait ≤ 999) × (may_have (ladder_at grid flight leg) (seats flight leg) class limit ≡ true)
@@ -513,34 +463,6 @@ pub within_set : (grid : Legs) (seats : Table) (flight leg class limit wait : �
 within_set grid seats flight leg class limit wait h all =
     each_ladder (λ f at s. IsWithin s (seats f at)) grid flight leg class limit wait all
     (within_with (ladder_at grid flight leg) (seats flight leg) class limit wait (can_parts grid seats flight leg class limit wait h).1 (all flight leg))
-
-pub leg_ladders_set : (grid : Legs) (seats : Table) (flight leg class limit wait : ℕ) → can_set grid seats flight leg class limit wait ≡ true → ((f at : ℕ) → IsLegLadder (ladder_at grid f at))
-    → (f at : ℕ) → IsLegLadder (ladder_at (limits_with grid flight leg class limit wait) f at)
-leg_ladders_set grid seats flight leg class limit wait h all =
-    let p = can_parts grid seats flight leg class limit wait h in
-    each_ladder (λ _ _ s. IsLegLadder s) grid flight leg class limit wait all (leg_ladder_with (ladder_at grid flight leg) (seats flight leg) class limit wait (all flight leg) p.1 p.0)
-
--- tables that agree on the leg
-may_same_below : (above : ℕ) (steps : Steps) (new old : ByClass) (class limit : ℕ) → ((k : ℕ) → new k ≡ old k) → may_have_below above steps new class limit ≡ may_have_below above steps old class limit
-may_same_below above [] new old class limit h = refl
-may_same_below above (s ∷ lower) new old class limit h = rw (held_same (s ∷ lower) new old h, may_same_below s.limit lower new old class limit h) refl
-
-pub can_set_same : (grid : Legs) (new old : Table) (flight leg class limit wait : ℕ) → ((k : ℕ) → new flight leg k ≡ old flight leg k) → can_set grid new flight leg class limit wait ≡ can_set grid old flight leg class limit wait
-can_set_same grid new old flight leg class limit wait h = ap (λ (b : Bool). nat_le wait 999 && b) (may_same_below 999 (ladder_at grid flight leg) (new flight leg) (old flight leg) class limit h)
-
--- ---- what fits
-
-pub fits_with : (grid : Legs) (flight leg class limit wait : ℕ) (place : Place) → Fits grid place → Fits (limits_with grid flight leg class limit wait) place
-fits_with grid flight leg class limit wait place h = (h.0, omega (arith, h.1, length_legs grid flight leg class limit wait place.flight))
-
-pub fits_before : (grid : Legs) (flight leg class limit wait : ℕ) (place : Place) → Fits (limits_with grid flight leg class limit wait) place → Fits grid place
-fits_before grid flight leg class limit wait place h = (h.0, omega (arith, h.1, length_legs grid flight leg class limit wait place.flight))
-
-pub fits_limit_with : (grid : Legs) (flight leg class limit wait f at l w : ℕ) → FitsLimit grid f at l w → FitsLimit (limits_with grid flight leg class limit wait) f at l w
-fits_limit_with grid flight leg class limit wait f at l w h = record { there = omega (arith, h.there, length_legs grid flight leg class limit wait f); limit_most = h.limit_most; wait_most = h.wait_most }
-
-pub fits_limit_before : (grid : Legs) (flight leg class limit wait f at l w : ℕ) → FitsLimit (limits_with grid flight leg class limit wait) f at l w → FitsLimit grid f at l w
-fits_limit_before grid flight leg class limit wait f at l w h = record { there = omega (arith, h.there, length_legs grid flight leg class limit wait f); limit_most = h.limit_most; wait_most = h.wait_most }
 
 -- ---- the old limit and wait again
 
@@ -557,53 +479,3 @@ can_set_back grid seats flight leg class limit wait old is w h =
     ap (λ (s : Steps). may_have s (seats flight leg) class old.limit) (ladder_at_with grid flight leg class limit wait) ∙ may in
     let most = le-leb old.wait 999 (step_bounded (ladder_at grid flight leg) class old is.bounded h).1 in
     rw (most, here) refl
-
--- counters, of which the same limits are seen
-pub ladder_seen : (counts : Counted) (flight leg : ℕ) → ladder_at (limits_of counts) flight leg ≡ (leg_at counts flight leg).steps
-ladder_seen [] flight leg = refl
-ladder_seen (legs ∷ flights) zero leg = at_leg legs leg
-  where
-    at_leg : (legs : List LegSeats) (leg : ℕ) → steps_at (map (λ (l : LegSeats). l.steps) legs) leg ≡ (leg_in legs leg).steps
-    at_leg [] leg = refl
-    at_leg (l ∷ legs) zero = refl
-    at_leg (l ∷ legs) (suc leg) = at_leg legs leg
-ladder_seen (legs ∷ flights) (suc flight) leg = ladder_seen flights flight leg
-
--- a change of counters may be taken back
-pub can_take_back : (old new : Counted) (flight leg class limit wait : ℕ) (step : Step) → IsWithinLimits old → Sets old new flight leg class limit wait → step_of (ladder_at (limits_of old) flight leg) class ≡ Some step
-    → can_set (limits_of new) (seats_of new) flight leg class step.limit step.wait ≡ true
-can_take_back old new flight leg class limit wait step w h is =
-    let kept = w.leg_kept flight leg in
-    let seen = ladder_seen old flight leg in
-    let ladder = subst (λ (s : Steps). IsLegLadder s) (sym seen) kept.ladder in
-    let within = subst (λ (s : Steps). IsWithin s (seats_of old flight leg)) (sym seen) kept.within in
-    can_set_same (limits_of new) (seats_of new) (seats_of old) flight leg class step.limit step.wait (λ k. h.seats flight leg k)
-    ∙ ap (λ (g : Legs). can_set g (seats_of old) flight leg class step.limit step.wait) h.limits
-    ∙ can_set_back (limits_of old) (seats_of old) flight leg class limit wait step ladder within is
-
--- and then the limits are as they were
-pub taken_back : (old new again : Counted) (flight leg class limit wait : ℕ) (step : Step) → Sets old new flight leg class limit wait → Sets new again flight leg class step.limit step.wait → step_of (ladder_at (limits_of old) flight leg) class ≡ Some step
-    → limits_of again ≡ limits_of old
-taken_back old new again flight leg class limit wait step h back is =
-    back.limits ∙ ap (λ (g : Legs). limits_with g flight leg class step.limit step.wait) h.limits ∙ limits_back (limits_of old) flight leg class limit wait step is
-
--- ---- a lower limit leaves no more room
-
-least_less : (f g : ℕ → ℕ) (from n : ℕ) → ((i : ℕ) → f i ≤ g i) → least f from n ≤ least g from n
-least_less f g from zero h = h from
-least_less f g from (suc n) h = omega (arith, least_less f g from n h, h (from + suc n))
-
-pub room_less : (new old : Legs) (seats : Table) (place : Place) (k : ℕ) → ((f at : ℕ) → room_on (ladder_at new f at) (seats f at) k ≤ room_on (ladder_at old f at) (seats f at) k) → room new seats place k ≤ room old seats place k
-room_less new old seats place k h = of (nat_le place.from place.to)
-  where
-    of : (b : Bool) → cond b (least (λ at. room_on (ladder_at new place.flight at) (seats place.flight at) k) place.from (place.to - place.from)) 0
-        ≤ cond b (least (λ at. room_on (ladder_at old place.flight at) (seats place.flight at) k) place.from (place.to - place.from)) 0
-    of true = least_less (λ at. room_on (ladder_at new place.flight at) (seats place.flight at) k) (λ at. room_on (ladder_at old place.flight at) (seats place.flight at) k) place.from (place.to - place.from) (h place.flight)
-    of false = omega arith
-
-pub room_lower : (grid : Legs) (seats : Table) (flight leg class limit wait : ℕ) (old : Step) (place : Place) (k : ℕ) → step_of (ladder_at grid flight leg) class ≡ Some old → limit ≤ old.limit
-    → room (limits_with grid flight leg class limit wait) seats place k ≤ room grid seats place k
-room_lower grid seats flight leg class limit wait old place k h low =
-    room_less (limits_with grid flight leg class limit wait) grid seats place k
-    (each_ladder (λ f at s. room_on s (seats f at) k ≤ room_on (ladder_at grid f at) (seats f at) k) grid flight leg class limit wait (λ f at. omega arith)
-    (room_with (ladder_at grid flight leg) (seats flight leg) class limit wait old k h low))
