@@ -1,22 +1,21 @@
 -- Limit rows by slots: the stretch that holds a leg's slot has the leg's row.
-use Rattle.std.proofs.Common.{◌≡◌, ◌≢◌, ◌==◌, nat_eq, nat_le, nat_lt, ℕ, zero, suc, ◌+◌, ◌*◌, ◌<◌, ◌≤◌, ◌⊎◌, Bool, true, false, ◌&&◌, cond, List, [], ◌∷◌, ◌++◌, length, take, get_or, fold, Option, Some, None, refl, sym, ap, subst, ◌∙◌, arith, inl, inr}
-use Rattle.std.specs.Prelude.{unwrap_or, slice_index_or, All, IfSome}
+use Rattle.std.proofs.Common.{◌≡◌, ◌≢◌, nat_le, nat_lt, ℕ, zero, suc, ◌+◌, ◌*◌, ◌<◌, ◌≤◌, ◌⊎◌, Bool, true, false, ◌&&◌, cond, List, [], ◌∷◌, ◌++◌, length, take, get_or, fold, Option, Some, None, refl, sym, ap, subst, ◌∙◌, arith, inl, inr}
+use Rattle.std.specs.Prelude.{unwrap_or, All, IfSome}
 use Rattle.std.specs.List.{slice_get, Contains}
 use Rattle.std.specs.List.Sorted.{IsNonDecreasing, IsPermutation}
 use Rattle.std.specs.Option.{option_map}
 use Rattle.std.specs.HashMap.{get}
-use Rattle.std.proofs.lemmas.Bool.{eqb-true, and_parts, cases_lt, leb-true, leb-false, le-leb, lt-leb, ltb-true, ltb-false, lt-ltb, le-ltb}
-use Rattle.std.proofs.lemmas.Bool.Decides.{nat_tests}
+use Rattle.std.proofs.lemmas.Bool.{cases_lt, leb-true, leb-false, le-leb, lt-leb, ltb-true, ltb-false, lt-ltb, le-ltb}
 use Rattle.std.proofs.lemmas.List.{take_all, get_or_default}
 use Rattle.std.proofs.lemmas.List.Elements.{All-more, All-weaker, Contains-append_left, Contains-push}
 use Rattle.std.proofs.lemmas.List.Sorted.{Contains-permutation}
-use Rattle.std.proofs.lemmas.Option.{slice_get-get_or, slice_get_within, get_or_from_slice_get, same_Some}
+use Rattle.std.proofs.lemmas.Option.{slice_get_within, get_or_from_slice_get, same_Some}
 use Rattle.seat_nesting.specs.Nesting.{Steps}
 use Rattle.seat_nesting.specs.Authorised.{row_pair, same_pair, holds_day, is_for, after_row, authorised, row_steps, LastRows, is_of, last_below}
-use Rattle.seat_nesting.specs.RowStretches.{slot, number_of, start_of, end_of, holds_slot, passes, last_where, or_row, AreEdges, IsFirst, Paints, ShowRows, IsRowIndex}
+use Rattle.seat_nesting.specs.RowStretches.{slot, number_of, start_of, end_of, holds_slot, passes, last_where, or_row, AreEdges, IsFirst, Paints, IsRowIndex}
 use Rattle.seat_nesting.specs.declared.limit_row.LimitRow.{LimitRow}
 use Rattle.seat_nesting.specs.declared.row_index.Pair.{Pair}
-use Rattle.seat_nesting.proofs.RowIndexing.{pair_is, pair_same, none_within, so_far, so_far_more, nothing_of, last_row, LastRow}
+use Rattle.seat_nesting.proofs.RowIndexing.{pair_is, pair_same, none_within, so_far, so_far_more, nothing_of, last_row}
 
 -- ---- the last row that passes a test
 
@@ -252,13 +251,6 @@ first_of None o = o
 pub record ShowFrom (last : LastRows) (rows : List LimitRow) (edges : List ℕ) (found : List (Option ℕ)) (i : ℕ) : Type 0 where
   pub counted : length found ≡ length edges
   pub each : (c : ℕ) → c < length edges → last_where (holds_slot last (get_or edges c 0)) rows (length rows) ≡ first_of (get_or found c None) (last_where (holds_slot last (get_or edges c 0)) rows i)
-
-pub show_all : (last : LastRows) (rows : List LimitRow) (edges : List ℕ) (found : List (Option ℕ)) → ShowFrom last rows edges found 0 → ShowRows last rows edges found
-show_all last rows edges found h = record { counted = h.counted; each = λ c lt. sym (h.each c lt ∙ alone (get_or found c None)) }
-  where
-    alone : (o : Option ℕ) → first_of o None ≡ o
-    alone None = refl
-    alone (Some j) = refl
 
 or_first : (o rest : Option ℕ) (i : ℕ) → first_of o (Some i) ≡ first_of (or_row o i) rest
 or_first None rest i = refl

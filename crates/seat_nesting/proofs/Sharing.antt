@@ -1,8 +1,8 @@
 -- Ladders that legs share.
-use Rattle.std.proofs.Common.{◌≡◌, ℕ, zero, suc, ◌+◌, ◌<◌, List, [], ◌∷◌, ◌++◌, length, Option, Some, None, refl, sym, ap, ◌∙◌}
+use Rattle.std.proofs.Common.{◌≡◌, ℕ, zero, suc, ◌+◌, List, [], ◌∷◌, ◌++◌, length, Option, Some, None}
 use Rattle.std.specs.List.{slice_get}
 use Rattle.seat_nesting.specs.Nesting.{Steps}
-use Rattle.seat_nesting.specs.Authorised.{AreShares, row_steps}
+use Rattle.seat_nesting.specs.Authorised.{AreShares}
 use Rattle.seat_nesting.specs.declared.limit_row.LimitRow.{LimitRow}
 
 -- nothing stands in the list

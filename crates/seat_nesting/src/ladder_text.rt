@@ -1,5 +1,5 @@
 //! Ladders as text: entries as `F010/000`, or `F010/000N` with the mark, with single blanks between them.
-ghost use Rattle.std.specs.Prelude.{◌≡◌, ◌≤◌, ◌+◌, ◌*◌, ◌<◌, ℕ, Bool, List, IfErr, IfOk, IfSome, IsTrue, is_some, length, option_map, Ok, Err};
+ghost use Rattle.std.specs.Prelude.{◌≡◌, ◌≤◌, ◌+◌, ◌*◌, ◌<◌, ℕ, Bool, List, IfErr, IfOk, is_some, length, option_map, Ok, Err};
 ghost use Rattle.seat_nesting.specs.Nesting.{Steps, IsLadder};
 ghost use Rattle.seat_nesting.specs.LadderText.{SpellsSteps, IsLadderRefusal, three_in, mark_at, entry_at, steps_in, ladder_in};
 

@@ -1,8 +1,8 @@
 //! Limit rows by flight and city pair, so that a leg finds its row by bisection.
-ghost use Rattle.std.specs.Prelude.{◌≡◌, ◌≤◌, ◌<◌, ◌^◌, length, IfOk, IfSome, OnOk};
+ghost use Rattle.std.specs.Prelude.{◌≡◌, ◌<◌, ◌^◌, length, IfOk, IfSome, OnOk};
 ghost use Rattle.std.specs.HashMap.{get};
 ghost use Rattle.std.specs.List.Sorted.{IsNonDecreasing};
-ghost use Rattle.seat_nesting.specs.Authorised.{row_pair, leg_pair, same_pair, authorised, row_steps, last_below, PutsRow, HasLastRows};
+ghost use Rattle.seat_nesting.specs.Authorised.{row_pair, leg_pair, authorised, row_steps, PutsRow, HasLastRows};
 ghost use Rattle.seat_nesting.specs.RowStretches.{slot, number_of, start_of, end_of, AreEdges, IsFirst, ShowRows, IsRowIndex};
 
 use crate::limit_row::LimitRow;

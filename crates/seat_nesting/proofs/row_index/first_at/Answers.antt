@@ -1,4 +1,4 @@
-use Rattle.std.proofs.Common.{nat_lt, ltb, ltb-true, ltb-false, arith, rules}
+use Rattle.std.proofs.Common.{ltb, ltb-true, ltb-false, arith, rules}
 use Rattle.std.proofs.lemmas.List.Sorted.{IsPartitionPoint-from_clause, IsPartitionedBy-ltb}
 use Rattle.seat_nesting.proofs.row_index.first_at.Goals as goal
 

@@ -1,4 +1,4 @@
-use Rattle.std.proofs.Common.{ℕ, ◌≤◌, length}
+use Rattle.std.proofs.Common.{◌≤◌, length}
 use Rattle.seat_nesting.specs.RowStretches.{Skips}
 use Rattle.seat_nesting.proofs.RowSlots.{ShowFrom}
 use Rattle.seat_nesting.proofs.row_index.rows_found.Given as goal

@@ -1,4 +1,4 @@
-use Rattle.std.proofs.Common.{ℕ, ◌-◌, length}
+use Rattle.std.proofs.Common.{◌-◌, length}
 use Rattle.seat_nesting.proofs.Painting.{PaintsUpTo}
 use Rattle.seat_nesting.proofs.stretches.Stretches.paint.Given as goal
 
