@@ -1,15 +1,12 @@
 -- A limit that is changed, and set back.
-use Rattle.std.proofs.Common.{◌≡◌, ◌==◌, ℕ, Bool, true, false, List, [], ◌∷◌, Some, None, if◌then◌else◌, refl, ap, sym, subst, ◌∙◌}
+use Rattle.std.proofs.Common.{◌≡◌, ◌==◌, ℕ, Bool, true, false, [], ◌∷◌, Some, None, if◌then◌else◌, refl, ap, sym, subst, ◌∙◌}
 use Rattle.seat_nesting.specs.declared.ladder.Step.{Step}
 use Rattle.seat_nesting.specs.Nesting.{Legs, Steps, ByClass, Table, IsLegLadder, IsWithin, ladder_at}
 use Rattle.seat_nesting.specs.Counting.{Counted, IsWithinLimits, limits_of, seats_of}
 use Rattle.seat_nesting.specs.Changing.{Sets, can_set, may_have_below, step_of}
 use Rattle.seat_nesting.proofs.LimitChanges.{can_parts, can_set_back, limits_back}
-use Rattle.seat_core.specs.declared.booking.Booking.{Booking}
-use Rattle.seat_journal.specs.declared.entry.Advice.{Advice}
 use Rattle.seat_journal.specs.declared.entry.Change.{Change}
 use Rattle.seat_core.specs.Sequential.{changed_by}
-use Rattle.seat_core.specs.Tables.{advices_by}
 use Rattle.seat_core.proofs.Counters.Changes.{held_as_before}
 use Rattle.seat_core.proofs.Passes.Undone.{ladder_is}
 
@@ -54,11 +51,3 @@ pub seats_again : (old mid after new : Counted) (c : Change) (before : Step) →
     → Sets after new c.flight c.leg c.class before.limit before.wait → seats_of new ≡ seats_of old
 seats_again old mid after new c before set seats back =
     held_as_before after new c.flight c.leg c.class before.limit before.wait back ∙ (seats ∙ held_as_before old mid c.flight c.leg c.class c.limit c.wait set)
-
--- what is told under the limits with the change
-pub told_under : (old mid : Counted) (c : Change) (told : List Advice) (queue : List Booking) → Sets old mid c.flight c.leg c.class c.limit c.wait → told ≡ advices_by (limits_of mid) (seats_of mid) queue
-    → told ≡ advices_by (changed_by (limits_of old) c) (seats_of old) queue
-told_under old mid c told queue set tells =
-    tells
-    ∙ (ap (λ (g : Legs). advices_by g (seats_of mid) queue) set.limits
-    ∙ ap (λ (t : Table). advices_by (changed_by (limits_of old) c) t queue) (held_as_before old mid c.flight c.leg c.class c.limit c.wait set))
