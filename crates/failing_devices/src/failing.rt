@@ -1,5 +1,5 @@
 //! The reader and the writer, with what a clause reads of them.
-ghost use Rattle.std.specs.Prelude.{◌≡◌, ◌-◌, ◌≤◌, ℕ, max, IsErr, IfOk, Ok};
+ghost use Rattle.std.specs.Prelude.{◌≡◌, ◌-◌, ◌≤◌, max, IsErr, IfOk, Ok};
 ghost use Rattle.std.specs.Io.{ReadsAtMost, WritesAtMost};
 ghost use Rattle.std.specs.Io.KnownBytes.{Keeps, ReadConsumes, WriteAppends};
 ghost use Rattle.failing_devices.specs.Failing.{read_inner, reads_piece, reads_left, write_inner, writes_piece, writes_left, writes_stop};

@@ -1,5 +1,5 @@
 //! What a change of a limit is answered (AU): the pass under the new limit, or NO.
-ghost use Rattle.std.specs.Prelude.{◌≡◌, ◌==◌, true, IfNone, IfOk, IfSome, None, Some};
+ghost use Rattle.std.specs.Prelude.{◌≡◌, ◌==◌, true, IfOk, None, Some};
 ghost use Rattle.seat_nesting.specs.Changing.{can_set, step_of};
 ghost use Rattle.seat_nesting.specs.Counting.{limits_of, seats_of};
 ghost use Rattle.seat_core.specs.Answers.{IsFlight, Says};

@@ -1,7 +1,7 @@
 //! What waits for each place and class, so that a waiting list can answer without walking its bookings.
 ghost use Rattle.std.specs.Prelude.{◌≡◌, ◌≤◌, ◌<◌, ◌+◌, ◌^◌, ◌++◌, ◌∷◌, [], Some, position, vec_len, vec_capacity};
 ghost use Rattle.seat_nesting.specs.Counting.{limits_of, seats_of};
-ghost use Rattle.seat_core.specs.Demands.{is_demand_of, joined, least_with, no_demand_fits, demand_seats, demand_smallest, demand_waits, seats_for, settled, smallest_of};
+ghost use Rattle.seat_core.specs.Demands.{is_demand_of, joined, least_with, no_demand_fits, demand_seats, demand_smallest, demand_waits, settled, smallest_of};
 
 use crate::booking::Booking;
 use seat_nesting::Counts;
