@@ -1,6 +1,6 @@
 -- How a command is built up.
 use Rattle.std.proofs.Common.{◌≡◌, ◌∙◌, ap, ap₂, sym, subst, refl, Bool, ◌||◌, false, true, Some, Result, Ok, Err, IfOk, IsOkAnd}
-use Rattle.clap.specs.Words.{AddsArg, AddsSubcommand, App, Rule, Text, with_rule, with_subcommand}
+use Rattle.clap.specs.Words.{AddsArg, AddsSubcommand, App, Rule, with_rule, with_subcommand}
 use Rattle.clap.specs.declared.builder.action.ArgAction.TheVariants.{Append}
 use Rattle.clap.specs.declared.builder.arg.Arg.{Arg}
 use Rattle.clap.specs.declared.builder.command.Command.{Command}
