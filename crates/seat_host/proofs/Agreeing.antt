@@ -5,6 +5,7 @@ use Rattle.std.specs.List.{sum_by, slice_index_or, AllByRecursion}
 use Rattle.std.proofs.lemmas.List.Sums.{sum_by-cons, sum_by_push}
 use Rattle.std.proofs.lemmas.Bool.{cases_lt}
 use Rattle.std.proofs.lemmas.Bool.Decides.{nat_tests}
+use Rattle.std.proofs.lemmas.Option.{same_Some}
 use Rattle.seat_nesting.specs.Nesting.{Legs}
 use Rattle.seat_journal.specs.declared.entry.Entry.{Entry}
 use Rattle.seat_core.specs.declared.totals.Totals.{Totals}
@@ -25,12 +26,9 @@ record Cut (journal : List Entry) (i : ℕ) (x : Entry) : Type 0 where
   is : journal ≡ front ++ x ∷ rest
   len : length front ≡ i
 
-some_same : (x y : Entry) → Some x ≡ Some y → x ≡ y
-some_same x y e = cc e
-
 cut : (journal : List Entry) (i : ℕ) (x : Entry) → slice_get journal i ≡ Some x → Cut journal i x
 cut [] i x e = absurd (cc e)
-cut (y ∷ ys) zero x e = record { front = []; rest = ys; is = ap (λ (h : Entry). h ∷ ys) (some_same y x e); len = refl }
+cut (y ∷ ys) zero x e = record { front = []; rest = ys; is = ap (λ (h : Entry). h ∷ ys) (same_Some y x e); len = refl }
 cut (y ∷ ys) (suc i) x e =
     let c = cut ys i x e in
     record { front = y ∷ c.front; rest = c.rest; is = ap (λ (l : List Entry). y ∷ l) c.is; len = ap suc c.len }
@@ -73,8 +71,8 @@ own_cut s (y ∷ ys) i x e = by (y.session == s) refl i e (own_cut s ys)
     by true t zero e below = record {
       front = [];
       rest = ys;
-      is = ap (λ (h : Entry). h ∷ ys) (some_same y x e);
-      mine = sym (ap (λ (h : Entry). h.session) (some_same y x e)) ∙ grind (arith, nat_tests, t);
+      is = ap (λ (h : Entry). h ∷ ys) (same_Some y x e);
+      mine = sym (ap (λ (h : Entry). h.session) (same_Some y x e)) ∙ grind (arith, nat_tests, t);
       len = refl;
     }
     by true t (suc i) e below = longer true t i (below i x e)

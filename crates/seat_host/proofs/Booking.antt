@@ -11,20 +11,15 @@ use Rattle.logbook.specs.Pages.{Book}
 use Rattle.seat_core.specs.Inventory.{Inventory, HoldsWithinLimits}
 use Rattle.seat_core.specs.Prefixes.{Begins}
 use Rattle.seat_core.specs.Journal.{IsNext, IsLegal}
-use Rattle.seat_core.proofs.History.Prefixes.{begins_trans, begins_whole, begins_length, begins_longer, begins_itself}
-use Rattle.seat_core.proofs.History.Legal.{legal_push, legal_nil}
+use Rattle.seat_core.proofs.History.Prefixes.{begins_trans, begins_length, begins_longer, begins_itself}
+use Rattle.seat_core.proofs.History.Legal.{legal_push}
 use Rattle.seat_host.specs.Histories.{of_session}
 use Rattle.seat_display.specs.Faces.{Published}
 use Rattle.seat_host.specs.Lawful.{IsTied, Shows, LawfulUnderLock, AddsLine}
 use Rattle.seat_host.specs.Ledgers.{Staked, counted}
 use Rattle.seat_host.specs.Sessions.{Stands, Booked, Waits, Seat}
 use Rattle.seat_host.specs.Settling.{IsConfirmed}
-use Rattle.seat_host.proofs.Own.{own_append, own_prefix, own_length, own_one, own_other, calls_own}
-
--- as many receipts as lines, in a front that the journal begins with: they are the lines
-pub own_all : (s : ℕ) (receipts front journal : List Entry) → Begins receipts (of_session s front) → Begins front journal → length receipts ≡ length (of_session s journal) → receipts ≡ of_session s journal
-own_all s receipts front journal own pre same =
-    begins_whole receipts (of_session s journal) (begins_trans receipts (of_session s front) (of_session s journal) own (own_prefix s front journal pre)) (omega (arith, same))
+use Rattle.seat_host.proofs.Own.{own_append, own_length, own_one, own_other, calls_own}
 
 -- a front that the old journal begins with becomes the new journal
 pub front_is : (front front' journal : List Entry) (e : Entry) → Begins front journal → Begins (journal ++ e ∷ []) front' → (front' ≡ front) ⊎ (front' ≡ journal ++ e ∷ []) → front' ≡ journal ++ e ∷ []
@@ -63,19 +58,6 @@ no_calls (suc (suc (suc (suc (suc (suc (suc zero))))))) h = refl
 no_calls (suc (suc (suc (suc (suc (suc (suc (suc zero)))))))) h = refl
 no_calls (suc (suc (suc (suc (suc (suc (suc (suc (suc n))))))))) h = absurd (omega arith)
 
--- no lines yet
-pub tied_open : (grid : Legs) (cap n : ℕ) (line_counts : List ℕ) (journal : List Entry) → journal ≡ [] → line_counts ≡ 0 ∷ 0 ∷ 0 ∷ 0 ∷ 0 ∷ 0 ∷ 0 ∷ 0 ∷ 0 ∷ [] → cap ≤ 999999 → n < 9 → IsTied grid cap n line_counts journal
-tied_open grid cap n line_counts journal none zeros small few =
-    subst (λ (t : List ℕ × List Entry). IsTied grid cap n t.0 t.1) (λ i. (sym zeros i, sym none i)) (record {
-      wide = refl;
-      few = few;
-      legal = legal_nil grid;
-      capped = omega arith;
-      small = small;
-      counts = λ s high. no_calls s high;
-      only = record { none = λ s more. refl };
-    })
-
 -- one line more in the journal and in its session's book
 pub tied_push : (grid : Legs) (cap n : ℕ) (line_counts now : List ℕ) (journal : List Entry) (e : Entry) → IsTied grid cap n line_counts journal → IsNext grid journal e → length journal < cap → e.session ≤ n → now ≡ slice_set line_counts e.session (slice_index line_counts e.session + 1) → IsTied grid cap n now (journal ++ e ∷ [])
 tied_push grid cap n line_counts now journal e t next room le is =
@@ -94,17 +76,6 @@ tied_push grid cap n line_counts now journal e t next room le is =
           (λ (not : e.session ≢ s). ap (λ l. slice_index l s) is ∙ (at_set_else line_counts k s _ (λ q. not (sym q)) ∙ (t.counts s high ∙ sym (ap length (there s not)))))
           (dec_nat e.session s);
       only = record { none = λ s more. there s (λ q. absurd (omega (arith, q, le, more))) ∙ t.only.none s more };
-    }
-
--- a session whose receipts its book counts, and whose front begins the journal, is confirmed by the journal
-pub confirmed_by : (grid : Legs) (cap n : ℕ) (line_counts : List ℕ) (journal : List Entry) (s : Seat) (stake : Staked) → IsTied grid cap n line_counts journal → Stands grid n s → stake ≡ counted s.id (length s.receipts) → stake.amount ≡ slice_index line_counts stake.number → Begins s.front journal → IsConfirmed n journal s
-confirmed_by grid cap n line_counts journal s stake t stands staked counts pre =
-    let same : length s.receipts ≡ slice_index line_counts s.id = sym (ap (λ (k : Staked). k.amount) staked) ∙ counts ∙ ap (λ (k : Staked). slice_index line_counts k.number) staked in
-    let number : length s.receipts ≡ length (of_session s.id journal) = same ∙ t.counts s.id (omega (arith, stands.number.0, stands.number.1)) in
-    record {
-      number = stands.number.0;
-      lines = own_all s.id s.receipts s.front journal stands.own pre number;
-      front = pre;
     }
 
 abbrev pub with_line : Seat → List Entry → List Entry → Seat

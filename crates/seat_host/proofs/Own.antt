@@ -2,7 +2,6 @@
 use Rattle.std.proofs.Common.{◌≡◌, ◌≢◌, ℕ, ◌+◌, ◌≤◌, ◌==◌, Bool, true, false, cond, List, [], ◌∷◌, ◌++◌, length, refl, ap, sym, ◌∙◌, arith, eq-eqb, ne_eqb}
 use Rattle.std.proofs.lemmas.List.Sums.{length-filter}
 use Rattle.seat_journal.specs.declared.entry.Entry.{Entry}
-use Rattle.seat_core.specs.Prefixes.{Begins}
 use Rattle.seat_core.specs.Journal.{calls_of}
 use Rattle.seat_host.specs.Histories.{of_session}
 
@@ -14,9 +13,6 @@ pub own_append : (s : ℕ) (xs ys : List Entry) → of_session s (xs ++ ys) ≡ 
 own_append s [] ys = refl
 own_append s (x ∷ xs) ys =
     ap (λ l. cond (x.session == s) (x ∷ l) l) (own_append s xs ys) ∙ cond_append (x.session == s) x (of_session s xs) (of_session s ys)
-
-pub own_prefix : (s : ℕ) (xs ys : List Entry) → Begins xs ys → Begins (of_session s xs) (of_session s ys)
-own_prefix s xs ys p = record { rest = of_session s p.rest; is = ap (of_session s) p.is ∙ own_append s xs p.rest }
 
 cond_length : (b : Bool) (x : Entry) (xs : List Entry) (n : ℕ) → length xs ≤ n → length (cond b (x ∷ xs) xs) ≤ n + 1
 cond_length true x xs n le = omega (arith, le)

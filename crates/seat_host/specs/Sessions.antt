@@ -23,14 +23,6 @@ abbrev pub seated_sessions : ℕ → List Entry → List Seat
 seated_sessions zero past = []
 seated_sessions (suc n) past = seated_sessions n past ++ seated (suc n) past ∷ []
 
--- a session that has done nothing
-abbrev pub fresh : ℕ → Seat
-fresh number = seated number []
-
--- sessions 1 to n that have done nothing
-abbrev pub fresh_sessions : ℕ → List Seat
-fresh_sessions n = seated_sessions n []
-
 -- what holds of a session at any time, among n. Its receipts begin its own entries in its front
 pub record Stands (grid : Legs) (n : ℕ) (s : Seat) : Type 0 where
   pub number : (s.id ≤ n) × (n < 9)
