@@ -1,5 +1,5 @@
 //! What a session and the manager are: a number, and what its calls have left.
-ghost use Rattle.std.specs.Prelude.{◌≡◌, ◌+◌, ◌-◌, ◌<◌, ◌≤◌, length, Some, IfSome, IfNone, [], slice_get};
+ghost use Rattle.std.specs.Prelude.{◌≡◌, ◌+◌, ◌-◌, ◌<◌, ◌≤◌, length, Some, IfSome, IfNone, slice_get};
 ghost use Rattle.seat_core.specs.Prefixes.{Begins};
 ghost use Rattle.seat_core.specs.Sequential.{room_left};
 ghost use Rattle.seat_core.specs.Journal.{IsLegal, replay};

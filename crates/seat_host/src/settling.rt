@@ -1,5 +1,5 @@
 //! Gathering: what a host, its manager and all its sessions come to.
-ghost use Rattle.std.specs.Prelude.{◌≡◌, ◌+◌, ◌↔◌, ◌≤◌, ◌<◌, ℕ, [], ◌∷◌, length, false, true, slice_set, IfOk, IfErr, OnOk};
+ghost use Rattle.std.specs.Prelude.{◌≡◌, ◌+◌, ◌↔◌, ◌<◌, ◌∷◌, length, false, true, slice_set, IfOk, IfErr, OnOk};
 ghost use Rattle.std.specs.List.{AllByRecursion};
 ghost use Rattle.seat_host.specs.Histories.{by_session};
 ghost use Rattle.seat_host.specs.Headline.{Headline};
