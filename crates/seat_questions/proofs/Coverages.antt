@@ -292,9 +292,6 @@ pub leg_more : {X : Type 0} (f : X → ℕ) (xs : List X) (i : ℕ) (x : X) (old
 leg_more f xs i x old now n so_far lt is value =
     ap (λ (l : List ℕ). l ++ n ∷ []) so_far ∙ append_assoc old (map f (take i xs)) (n ∷ []) ∙ ap (λ (l : List ℕ). old ++ l) (row_added f xs i x n lt is value)
 
-pub legs_whole : {X : Type 0} (f : X → ℕ) (xs : List X) (i : ℕ) (old now : List ℕ) → now ≡ old ++ map f (take i xs) → length xs ≤ i → now ≡ old ++ map f xs
-legs_whole {X} f xs i old now so_far over = so_far ∙ ap (λ (l : List X). old ++ map f l) (take_all i xs over)
-
 pub flight_more : (f : Flight → List ℕ) (flights : List Flight) (i : ℕ) (flight : Flight) (now new : List ℕ) → now ≡ flat_map f (take i flights)
     → slice_get flights i ≡ Some flight → new ≡ now ++ f flight → new ≡ flat_map f (take (i + 1) flights)
 flight_more f flights i flight now new so_far found put =

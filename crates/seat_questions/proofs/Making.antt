@@ -1,24 +1,19 @@
 -- Each live booking was asked for by the line of its number, and its place is one of the flights'.
-use Rattle.std.proofs.Common.{◌≡◌, ◌==◌, ◌&&◌, ◌≤◌, ◌<◌, ◌+◌, ◌-◌, ℕ, zero, suc, Bool, true, false, nat_eq, nat_le, List, [], ◌∷◌, ◌++◌, length, map, filter, Option, Some, None, IfSome, slice_get, unwrap_or, option_map, arith, refl, sym, ap, subst, ◌∙◌}
+use Rattle.std.proofs.Common.{◌≡◌, ◌≤◌, ◌<◌, ◌+◌, ◌-◌, ℕ, zero, suc, List, [], ◌∷◌, ◌++◌, length, Option, Some, None, IfSome, slice_get, unwrap_or, option_map, arith, refl, sym, ap, subst, ◌∙◌}
 use Rattle.std.specs.List.{AllByRecursion}
-use Rattle.std.specs.Cmp.Lexicographic.{pointwise}
-use Rattle.std.proofs.lemmas.Bool.Decides.{nat_tests}
 use Rattle.std.proofs.lemmas.List.{length-map}
 use Rattle.std.proofs.lemmas.Option.{slice_get-map}
 use Rattle.ssim_records.specs.declared.place.Place.{Place}
 use Rattle.ssim_flights.specs.declared.flight.Flight.{Flight as Flown}
-use Rattle.ssim_flights.specs.declared.flight.DatedLeg.{DatedLeg}
-use Rattle.seat_nesting.specs.Authorised.{authorised, authorised_grid, authorised_legs, leg_pair}
-use Rattle.seat_nesting.specs.Nesting.{Fits, Legs, Steps, legs_of}
+use Rattle.seat_nesting.specs.Authorised.{authorised_grid, authorised_legs}
+use Rattle.seat_nesting.specs.Nesting.{Fits, Legs, Steps}
 use Rattle.seat_nesting.specs.declared.limit_row.LimitRow.{LimitRow}
 use Rattle.seat_journal.specs.declared.entry.Command.{Command}
-use Rattle.seat_journal.specs.declared.entry.Change.{Change}
 use Rattle.seat_journal.specs.declared.entry.Entry.{Entry}
-use Rattle.seat_journal.specs.declared.entry.Work.{Work}
-use Rattle.seat_journal.specs.declared.entry.Work.TheVariants.{Seats, Limit}
-use Rattle.seat_core.specs.Bookings.{is_for, is_held}
-use Rattle.seat_core.specs.Journal.{FitsWork, IsLegal, IsNext, next_line, replay}
-use Rattle.seat_core.specs.Sequential.{Outcome, State, answer, booking_of, changed_by, confirmed, pass, reduced, refused}
+use Rattle.seat_journal.specs.declared.entry.Work.TheVariants.{Seats}
+use Rattle.seat_core.specs.Bookings.{is_for}
+use Rattle.seat_core.specs.Journal.{FitsWork, IsLegal, IsNext, replay}
+use Rattle.seat_core.specs.Sequential.{State, answer, booking_of, changed_by, confirmed, pass, reduced}
 use Rattle.seat_core.specs.declared.booking.Booking.{Booking}
 use Rattle.seat_core.specs.declared.booking.Status.{Status}
 use Rattle.seat_core.specs.declared.booking.Status.TheVariants.{Held, Waiting}

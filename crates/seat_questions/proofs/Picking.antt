@@ -1,7 +1,6 @@
 -- The bookings of a locator, one number after the other.
 use Rattle.std.proofs.Common.{◌≡◌, ◌==◌, ◌&&◌, ◌≤◌, ◌<◌, ◌+◌, ℕ, zero, suc, Bool, true, false, nat_eq, nat_le, List, [], ◌∷◌, ◌++◌, length, filter, Option, Some, None, IfSome, IfNone, Bor, Result, Ok, Err, ◌⊎◌, inl, inr, slice_get, get_or, nat_lt, Less, Equal, Greater, if◌then◌else◌, arith, refl, sym, ap, subst, ◌∙◌}
 use Rattle.std.specs.List.{AllByRecursion}
-use Rattle.std.specs.Cmp.Lexicographic.{pointwise}
 use Rattle.std.specs.List.{HoldsAt}
 use Rattle.std.specs.List.Sorted.{IsBinarySearchResult, IsNonDecreasingBy, IsPartitionPoint, IsSearchInRange}
 use Rattle.std.specs.Ordering.{nat_cmp, ordering_index}
@@ -11,11 +10,9 @@ use Rattle.std.proofs.lemmas.List.Elements.{All-from_recursion, recursion_from_A
 use Rattle.ssim_records.specs.declared.place.Place.{Place}
 use Rattle.std.proofs.lemmas.Option.{same_Some, slice_get_read}
 use Rattle.seat_nesting.specs.Nesting.{Fits, Legs}
-use Rattle.seat_journal.specs.declared.entry.Command.{Command}
 use Rattle.seat_journal.specs.declared.entry.Entry.{Entry}
-use Rattle.seat_journal.specs.declared.entry.Work.{Work}
-use Rattle.seat_journal.specs.declared.entry.Work.TheVariants.{Seats, Limit}
-use Rattle.seat_core.specs.Applying.{IsOrdered, IsNumbered}
+use Rattle.seat_journal.specs.declared.entry.Work.TheVariants.{Seats}
+use Rattle.seat_core.specs.Applying.{IsOrdered}
 use Rattle.seat_core.specs.Flights.{bookings_on}
 use Rattle.seat_core.specs.Journal.{IsLegal, IsNext, replay}
 use Rattle.seat_core.specs.declared.booking.Booking.{Booking}

@@ -1,15 +1,12 @@
 -- The legs of a place, and the seats that are held and wait on them.
-use Rattle.std.proofs.Common.{◌≡◌, ◌==◌, ◌&&◌, ℕ, suc, ◌+◌, ◌<◌, ◌≤◌, nat_le, Bool, true, false, List, [], ◌∷◌, ◌++◌, length, fold, drop, drop-cons, take, Some, None, slice_get, get_or, codes, arith, refl, ap, sym, subst, ◌∙◌, append_assoc}
-use Rattle.std.specs.List.{sum_by}
-use Rattle.std.proofs.lemmas.List.{append-nil, drop_all}
-use Rattle.std.proofs.lemmas.List.Sums.{sum_by_more}
+use Rattle.std.proofs.Common.{◌≡◌, ◌==◌, ◌&&◌, ℕ, ◌+◌, ◌≤◌, nat_le, Bool, true, false, List, [], ◌∷◌, ◌++◌, length, fold, Some, None, slice_get, codes, arith, refl, ap, sym, subst, ◌∙◌, append_assoc}
+use Rattle.std.proofs.lemmas.List.{append-nil}
 use Rattle.std.proofs.lemmas.Bool.Decides.{nat_tests}
 use Rattle.std.proofs.lemmas.Option.{slice_get_past}
 use Rattle.ssim_records.specs.declared.place.Place.{Place}
 use Rattle.ssim_flights.specs.declared.flight.DatedLeg.{DatedLeg}
 use Rattle.ssim_flights.specs.declared.flight.Flight.{Flight}
-use Rattle.seat_nesting.specs.Nesting.{ByClass, Fits, Legs, Steps, held_from}
-use Rattle.seat_nesting.specs.declared.ladder.Step.{Step}
+use Rattle.seat_nesting.specs.Nesting.{Fits, Legs}
 use Rattle.seat_core.specs.declared.booking.Booking.{Booking}
 use Rattle.seat_journal.specs.declared.entry.Entry.{Entry}
 use Rattle.seat_core.specs.Bookings.{held, waiting}
@@ -21,7 +18,7 @@ use Rattle.seat_core.proofs.Step.Limits.{few_answer}
 use Rattle.seat_desk.specs.AuditDesk.{most_lines}
 use Rattle.seat_desk.specs.FlightsDesk.{IsLegText, IsPut}
 use Rattle.seat_desk.proofs.Texts.{put_none}
-use Rattle.seat_questions.specs.Why.{IsLegPart, IsLegPartBy, IsLegPut, IsPlacePut, IsStandingPut, class_text, dated_legs, has_leg, held_texts, legs_in, one_leg, standing_text}
+use Rattle.seat_questions.specs.Why.{IsLegPart, IsLegPartBy, IsLegPut, IsPlacePut, IsStandingPut, dated_legs, has_leg, legs_in, one_leg, standing_text}
 
 -- ---- bookings of one flight
 
@@ -51,31 +48,6 @@ held_there f all bookings leg class n is e =
 pub waiting_there : (f : ℕ) (all bookings : List Booking) (leg class n : ℕ) → bookings ≡ bookings_on f all → n ≡ waiting bookings f leg class → n ≡ waiting all f leg class
 waiting_there f all bookings leg class n is e =
     e ∙ ap (λ (l : List Booking). waiting l f leg class) (is ∙ sym (bookings_view f all)) ∙ waiting_view (λ k. k) f all leg class
-
--- one more in a sum
-pub sum_more : {X : Type 0} (f : X → ℕ) (xs : List X) (i : ℕ) (x : X) (count n : ℕ) → count ≡ sum_by f (take i xs) → i < length xs → x ≡ get_or xs i x
-    → n ≡ f x → count + n ≡ sum_by f (take (i + 1) xs)
-sum_more {X} f xs i x count n so_far inside here is =
-    ap (λ (k : ℕ). k + n) so_far ∙ ap (λ (k : ℕ). sum_by f (take i xs) + k) (is ∙ ap f here) ∙ sym (sum_by_more f xs i x inside)
-
--- ---- the seats held in each class and below
-
-pub held_step : (seats : ByClass) (steps lower : Steps) (i : ℕ) (s : Step) (old mid new : List ℕ) (n : ℕ) → mid ++ held_texts seats (drop i steps) ≡ old ++ held_texts seats steps
-    → i < length steps → s ≡ get_or steps i s → lower ≡ drop i steps → n ≡ held_from seats lower → new ≡ mid ++ class_text s.class n
-    → new ++ held_texts seats (drop (i + 1) steps) ≡ old ++ held_texts seats steps
-held_step seats steps lower i s old mid new n so_far inside here is_lower is added =
-    let e : i + 1 ≡ suc i = omega arith in
-    let cut : drop i steps ≡ s ∷ drop (suc i) steps = drop-cons steps i s inside ∙ ap (λ (y : Step). y ∷ drop (suc i) steps) (sym here) in
-    let count : n ≡ held_from seats (s ∷ drop (suc i) steps) = is ∙ ap (held_from seats) (is_lower ∙ cut) in
-    let text : new ++ held_texts seats (drop (suc i) steps) ≡ mid ++ held_texts seats (s ∷ drop (suc i) steps) =
-    ap (λ (l : List ℕ). l ++ held_texts seats (drop (suc i) steps)) (added ∙ ap (λ (k : ℕ). mid ++ class_text s.class k) count)
-    ∙ append_assoc mid (class_text s.class (held_from seats (s ∷ drop (suc i) steps))) (held_texts seats (drop (suc i) steps)) in
-    ap (λ (k : ℕ). new ++ held_texts seats (drop k steps)) e ∙ text ∙ ap (λ (l : Steps). mid ++ held_texts seats l) (sym cut) ∙ so_far
-
-pub held_whole : (seats : ByClass) (steps : Steps) (i : ℕ) (old new : List ℕ) → new ++ held_texts seats (drop i steps) ≡ old ++ held_texts seats steps → length steps ≤ i
-    → new ≡ old ++ held_texts seats steps
-held_whole seats steps i old new so_far over =
-    sym (append-nil new) ∙ ap (λ (l : Steps). new ++ held_texts seats l) (sym (drop_all i steps over)) ∙ so_far
 
 -- ---- a leg
 
