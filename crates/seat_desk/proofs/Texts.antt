@@ -56,7 +56,7 @@ module _ {A : Type 0} where
   pub each_whole : (part : A → List ℕ) (i : ℕ) (xs : List A) (old new : List ℕ) → new ≡ old ++ flat_map part (take i xs) → length xs ≤ i → new ≡ old ++ flat_map part xs
   each_whole part i xs old new so_far over = so_far ∙ ap (λ (l : List A). old ++ flat_map part l) (take_all i xs over)
 
-assoc_four : (a b c d : List ℕ) → ((a ++ b) ++ c) ++ d ≡ a ++ ((b ++ c) ++ d)
+pub assoc_four : (a b c d : List ℕ) → ((a ++ b) ++ c) ++ d ≡ a ++ ((b ++ c) ++ d)
 assoc_four a b c d = simp append_assoc
 
 pub flight_line : (index : ℕ) (flight : Flight) (old head legs new : List ℕ) → head ≡ old ++ head_text index flight
@@ -67,7 +67,7 @@ flight_line index flight old head legs new e put f = record {
   written = f ∙ ap (λ l. l ++ 10 ∷ []) (put.written ∙ ap (λ l. l ++ put.part) e) ∙ assoc_four old (head_text index flight) put.part (10 ∷ []);
 }
 
-missing : (flight : Flight) → Some flight ≡ None → ⊥
+pub missing : (flight : Flight) → Some flight ≡ None → ⊥
 missing flight e = cc
 
 pub flights_more : (flights : List Flight) (i : ℕ) (flight : Flight) (mid new : List ℕ) → IsPut IsFlightLine 0 (take i flights) [] mid

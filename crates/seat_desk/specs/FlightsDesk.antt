@@ -1,6 +1,7 @@
 -- What `flights` writes: one line for each dated flight.
 use Rattle.std.specs.Prelude.{◌≡◌, ◌≤◌, ℕ, ◌+◌, List, [], ◌∷◌, ◌++◌, length, decimal, codes, Option, Some, None}
 use Rattle.ssim_records.specs.Days.{IsDateText}
+use Rattle.ssim_records.specs.Fields.{suffix_text}
 use Rattle.ssim_records.specs.SetText.{IsDataSet}
 use Rattle.ssim_records.specs.declared.set.DataSet.{DataSet}
 use Rattle.ssim_flights.specs.Flown.{dated_flights, first_fault}
@@ -26,13 +27,13 @@ pub record IsPut {A : Type 0} (IsPart : ℕ → A → List ℕ → Type 0) (n : 
   pub is_text : IsText IsPart n xs part
   pub written : new ≡ old ++ part
 
-abbrev pub suffix_text : Option ℕ → List ℕ
-suffix_text None = []
-suffix_text (Some letter) = letter ∷ []
+-- the airline, the number without leading zeros, and the suffix
+abbrev pub designator_text : Flown → List ℕ
+designator_text flight = flight.airline ++ decimal flight.number ++ suffix_text flight.suffix
 
 -- INDEX and DESIGNATOR
 abbrev pub head_text : ℕ → Flown → List ℕ
-head_text index flight = decimal index ++ codes " " ++ flight.airline ++ decimal flight.number ++ suffix_text flight.suffix
+head_text index flight = decimal index ++ codes " " ++ designator_text flight
 
 -- a blank and BOARD/DAY/OFF
 abbrev pub IsLegText : ℕ → DatedLeg → List ℕ → Type 0

@@ -13,17 +13,18 @@ use Rattle.seat_core.specs.Sequential.{State, room_left}
 use Rattle.seat_core.specs.Journal.{calls_of, next_line, replay}
 use Rattle.seat_desk.specs.declared.fault.DeskFault.{DeskFault}
 use Rattle.seat_desk.specs.declared.fault.DeskFault.TheVariants as faults
+use Rattle.seat_desk.specs.AuditDesk.{most_lines}
 use Rattle.seat_desk.specs.Lines.{lines_of}
 use Rattle.seat_desk.specs.Orders.{order_in, only_leg}
 
 -- the most lines of a ladder's input: its ladder, and as many more as a journal has lines
-abbrev pub most_lines : ℕ
-most_lines = 1_000_000
+abbrev pub most_input_lines : ℕ
+most_input_lines = most_lines + 1
 
 -- what this line asks for, and what follows it; the line is wrong, or one too many
 abbrev pub with_order : {A : Type 0} → ℕ → Option Work → (Work → Result A DeskFault) → Result A DeskFault
 with_order line None next = Err (faults.Command line)
-with_order line (Some w) next = (if line == most_lines + 1 then Err (faults.Full line) else next w)
+with_order line (Some w) next = (if line == most_input_lines + 1 then Err (faults.Full line) else next w)
 
 -- these orders and those of the lines, of which the first has this number
 abbrev pub orders_after : ℕ → List Work → List (List ℕ) → Result (List Work) DeskFault

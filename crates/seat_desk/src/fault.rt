@@ -1,10 +1,11 @@
 //! What a command is refused with.
 ghost use Rattle.std.specs.Prelude.{◌≡◌};
+ghost use Rattle.seat_desk.specs.AuditDesk.{journal_fault, replay_refusal};
 ghost use Rattle.seat_desk.specs.Status.{status_of};
 
 use airimp_lines::ScriptFault;
-use seat_core::ReplayFault;
-use seat_journal::JournalFault;
+use seat_core::{ReplayFault, ReplayKind};
+use seat_journal::{JournalFault, JournalKind};
 use seat_nesting::LimitFault;
 use ssim_flights::FlightFault;
 use ssim_records::SetFault;
@@ -108,6 +109,26 @@ impl fmt::Display for DeskFault {
 }
 
 impl DeskFault {
+    /// The refusal of bytes that are no journal. Want of memory says nothing about them.
+    pub fn of_journal(fault: JournalFault) -> DeskFault
+        ensures { result ≡ journal_fault fault }
+    {
+        match fault.kind {
+            JournalKind::Memory => DeskFault::Memory,
+            _ => DeskFault::Journal(fault),
+        }
+    }
+
+    /// The refusal of entries that are no legal history. Want of memory says nothing about them.
+    pub fn of_replay(fault: ReplayFault) -> DeskFault
+        ensures { result ≡ replay_refusal fault }
+    {
+        match fault.kind {
+            ReplayKind::Memory => DeskFault::Memory,
+            _ => DeskFault::Replay(fault),
+        }
+    }
+
     /// The exit status: 2 for the command line, 3 for a device or memory, 1 for an input that is refused.
     pub fn status(&self) -> u8
         ensures { result ≡ status_of self.now }

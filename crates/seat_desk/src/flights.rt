@@ -1,9 +1,10 @@
 //! `flights`: a data set on the dates of a horizon, and one line for each flight.
 ghost use Rattle.std.specs.Prelude.{◌≡◌, ◌≢◌, ◌++◌, ◌<◌, ◌≤◌, ◌⊎◌, ℕ, List, IfErr, IfOk, IfSome, OnOk, length};
+ghost use Rattle.ssim_records.specs.Fields.{suffix_text};
 ghost use Rattle.ssim_flights.specs.Right.{IsOfCentury};
 ghost use Rattle.seat_desk.specs.CheckDesk.{most_bytes};
 ghost use Rattle.seat_desk.specs.Desk.{HasFailed, InputFailed, IsOfInput, IsWritten, OfInput, OutputFailed};
-ghost use Rattle.seat_desk.specs.FlightsDesk.{IsFlightsText, IsLegText, IsLinePut, IsListing, IsPut, IsSchedule, IsUnscheduled, expansion_fault, head_text, suffix_text};
+ghost use Rattle.seat_desk.specs.FlightsDesk.{IsFlightsText, IsLegText, IsLinePut, IsListing, IsPut, IsSchedule, IsUnscheduled, designator_text, expansion_fault, head_text};
 
 use crate::check::{MOST_SET_BYTES, data_set};
 use crate::fault::DeskFault;
@@ -103,17 +104,25 @@ fn text_of(alloc: Global, flights: &Flights) -> Result<Vec<u8>, AllocError>
 fn put_flight(text: &mut Vec<u8>, index: u32, flight: &Flight) -> Result<(), AllocError>
     ensures { OnOk result (IsLinePut index flight.now text.old.items text.new.items) }
 {
-    put_designator(text, index, flight)?;
+    put_head(text, index, flight)?;
     put_legs(text, flight.legs.as_slice())?;
     put(text, b"\n")?;
     Ok(())
 }
 
-fn put_designator(text: &mut Vec<u8>, index: u32, flight: &Flight) -> Result<(), AllocError>
+/// Adds INDEX DESIGNATOR.
+pub fn put_head(text: &mut Vec<u8>, index: u32, flight: &Flight) -> Result<(), AllocError>
     ensures { OnOk result (text.new.items ≡ text.old.items ++ head_text index flight.now) }
 {
     put_number(text, u64::from(index))?;
     put(text, b" ")?;
+    put_designator(text, flight)
+}
+
+/// Adds the airline, the number without leading zeros, and the suffix of a flight.
+pub fn put_designator(text: &mut Vec<u8>, flight: &Flight) -> Result<(), AllocError>
+    ensures { OnOk result (text.new.items ≡ text.old.items ++ designator_text flight.now) }
+{
     put(text, &flight.airline.characters())?;
     put_number(text, u64::from(flight.number))?;
     put_suffix(text, flight.suffix)
@@ -132,12 +141,13 @@ fn put_legs(text: &mut Vec<u8>, legs: &[DatedLeg]) -> Result<(), AllocError>
     ensures { OnOk result (IsPut IsLegText 0 legs.now text.old.items text.new.items) }
 {
     for leg in legs {
-        put_leg(text, leg)?;
+        put_way(text, leg)?;
     }
     Ok(())
 }
 
-fn put_leg(text: &mut Vec<u8>, leg: &DatedLeg) -> Result<(), AllocError>
+/// Adds BOARD/DAY/OFF behind a blank.
+pub fn put_way(text: &mut Vec<u8>, leg: &DatedLeg) -> Result<(), AllocError>
     ensures { OnOk result ((part : List ℕ) × IsLegText 0 leg.now part × (text.new.items ≡ text.old.items ++ part)) }
 {
     put(text, b" ")?;

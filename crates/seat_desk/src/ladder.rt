@@ -8,6 +8,7 @@ ghost use Rattle.seat_desk.specs.LadderDesk.{IsLadderText, IsRefusedLadder, clas
 ghost use Rattle.seat_desk.specs.Lines.{lines_of};
 ghost use Rattle.seat_desk.specs.Orders.{IsOrder, only_leg};
 
+use crate::audit::MOST_LINES;
 use crate::fault::DeskFault;
 use crate::lines::cut_at_feed;
 use crate::orders::{ONLY_LEG, read_orders};
@@ -17,9 +18,6 @@ use seat_core::{Core, Work};
 use seat_nesting::{Grid, Ladder, LimitFault, Step, read_ladder};
 use ssim_records::{Class, NotedRead, NotedWrite, put_all};
 use std::alloc::{AllocError, Global};
-
-/// The most lines of a journal.
-const MOST_LINES: u32 = 999_999;
 
 /// 16 MiB.
 const MOST_LADDER_BYTES: u64 = 16_777_216;

@@ -15,10 +15,10 @@ mod orders;
 mod streams;
 mod text;
 
-pub use audit::{MOST_JOURNAL_BYTES, audit_line, desk_audit, replayed};
+pub use audit::{MOST_JOURNAL_BYTES, MOST_LINES, audit_line, desk_audit, replayed};
 pub use check::{MOST_SET_BYTES, desk_check};
 pub use fault::DeskFault;
-pub use flights::{desk_flights, scheduled};
+pub use flights::{desk_flights, put_designator, put_head, put_way, scheduled};
 pub use inputs::Inputs;
 pub use ladder::desk_ladder;
 pub use laws::{loaded_ladders_differ, loaded_replays_keep_limits};

@@ -5,6 +5,7 @@ ghost use Rattle.seat_desk.specs.LadderDesk.{orders_after, orders_behind};
 ghost use Rattle.seat_desk.specs.Lines.{lines_of};
 ghost use Rattle.seat_desk.specs.Orders.{IsChangeHere, IsOrder, change_in, change_to, command_in, order_in, parts_in, seats_in};
 
+use crate::audit::MOST_LINES;
 use crate::fault::DeskFault;
 use crate::lines::cut_at_feed;
 use seat_journal::{Change, Command, Work};
@@ -20,8 +21,8 @@ pub const ONLY_LEG: Place = Place {
     to: 0,
 };
 
-/// A ladder, and as many more as a journal has lines.
-const MOST_LINES: u32 = 1_000_000;
+/// The most lines of a ladder's input: its ladder, and as many more as a journal has lines.
+const MOST_INPUT_LINES: u32 = MOST_LINES + 1;
 
 /// What the lines that follow the ladder ask for.
 pub fn read_orders(alloc: Global, bytes: &[u8]) -> Result<Vec<Work>, DeskFault>
@@ -56,7 +57,7 @@ fn take_order<'a>(orders: &mut Vec<Work>, bytes: &'a [u8]) -> Result<&'a [u8], D
     let Some(order) = order_of(text) else {
         return Err(DeskFault::Command { line });
     };
-    if line > MOST_LINES {
+    if line > MOST_INPUT_LINES {
         return Err(DeskFault::Full { line });
     }
     if orders.push(order).is_err() {

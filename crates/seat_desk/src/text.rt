@@ -1,5 +1,5 @@
 //! Pieces of the texts that commands write.
-ghost use Rattle.std.specs.Prelude.{◌≡◌, ◌++◌, ◌∷◌, [], decimal, OnOk, codes};
+ghost use Rattle.std.specs.Prelude.{◌≡◌, ◌++◌, decimal, OnOk};
 ghost use Rattle.std.specs.List.{flat_map};
 ghost use Rattle.seat_desk.specs.LadderDesk.{advice_text, asked_text, entry_text};
 

@@ -1,19 +1,16 @@
 -- The texts of what rows and legs miss of each other.
-use Rattle.std.proofs.Common.{arith, ◌||◌, Bool, true, false, ◌≡◌, ℕ, ◌+◌, ◌<◌, ◌≤◌, List, [], ◌∷◌, ◌++◌, length, take, refl, sym, ap, ◌∙◌, subst, append_assoc, get_or, ⊎_elim, codes}
+use Rattle.std.proofs.Common.{arith, Bool, true, false, ◌≡◌, ℕ, ◌+◌, ◌<◌, ◌≤◌, List, [], ◌∷◌, ◌++◌, length, take, refl, sym, ap, ◌∙◌, subst, append_assoc, get_or, ⊎_elim, codes}
 use Rattle.std.specs.Prelude.{cond, count_by, if◌then◌else◌, slice_get, Some, None}
-use Rattle.std.specs.List.{list_any, sum_by}
+use Rattle.std.specs.List.{sum_by}
 use Rattle.std.proofs.lemmas.List.{append-nil}
 use Rattle.std.proofs.lemmas.List.Sums.{sum_by_more}
-use Rattle.std.proofs.lemmas.List.Folds.{list_any_more}
 use Rattle.std.proofs.lemmas.Option.{get_or_from_slice_get, slice_get_cases}
 use Rattle.ssim_flights.specs.declared.flight.DatedLeg.{DatedLeg}
 use Rattle.ssim_flights.specs.declared.flight.Flight.{Flight}
 use Rattle.seat_nesting.specs.declared.limit_row.LimitRow.{LimitRow}
 use Rattle.seat_desk.specs.FlightsDesk.{IsLegText, IsPut}
+use Rattle.seat_desk.proofs.Texts.{assoc_four, missing}
 use Rattle.seat_questions.specs.Cover.{IsBarePut, IsCoverText, IsFlightPart, IsLegPut, IsLegTextBy, IsRowPart, bare_head, covered_legs, covered_line, has_leg, leg_count, share_text, sums_text}
-
-missing : (flight : Flight) → Some flight ≡ None → ⊥
-missing flight e = cc
 
 -- a flight that is found stands there
 pub there : (flights : List Flight) (i : ℕ) (flight : Flight) → slice_get flights i ≡ Some flight → i < length flights
@@ -24,9 +21,6 @@ there flights i flight here = ⊎_elim
 
 pub here : (flights : List Flight) (i : ℕ) (flight : Flight) → slice_get flights i ≡ Some flight → flight ≡ get_or flights i flight
 here flights i flight found = sym (get_or_from_slice_get flights i flight flight found)
-
-assoc_four : (a b c d : List ℕ) → ((a ++ b) ++ c) ++ d ≡ a ++ ((b ++ c) ++ d)
-assoc_four a b c d = simp append_assoc
 
 pub leg_line : (i j : ℕ) (flight : Flight) (leg : DatedLeg) (old head mid new : List ℕ) → head ≡ old ++ bare_head i flight j
     → (way : List ℕ) × IsLegText 0 leg way × (mid ≡ head ++ way) → new ≡ mid ++ (codes " NO ROW" ++ 10 ∷ []) → IsBarePut i flight j leg old new
@@ -87,15 +81,7 @@ sum_flight f flights i flight count n so_far found is =
     let at : f (get_or flights i flight) ≡ f flight = ap f (get_or_from_slice_get flights i flight flight found) in
     ap (λ k. k + n) so_far ∙ ap (λ k. sum_by f (take i flights) + k) (is ∙ sym at) ∙ sym more
 
--- a flight more that fails a test
-pub none_more : (p : Flight → Bool) (flights : List Flight) (i : ℕ) (flight : Flight) → list_any p (take i flights) ≡ false
-    → slice_get flights i ≡ Some flight → p flight ≡ false → list_any p (take (i + 1) flights) ≡ false
-none_more p flights i flight so_far found fails =
-    let more = list_any_more p flights i flight (there flights i flight found) in
-    let at : p (get_or flights i flight) ≡ p flight = ap p (get_or_from_slice_get flights i flight flight found) in
-    more ∙ ap (λ b. b || p (get_or flights i flight)) so_far ∙ at ∙ fails
-
-assoc_six : (o a b c d e : List ℕ) → ((((o ++ a) ++ b) ++ c) ++ d) ++ e ≡ o ++ ((((a ++ b) ++ c) ++ d) ++ e)
+pub assoc_six : (o a b c d e : List ℕ) → ((((o ++ a) ++ b) ++ c) ++ d) ++ e ≡ o ++ ((((a ++ b) ++ c) ++ d) ++ e)
 assoc_six o a b c d e = simp append_assoc
 
 pub sums_put : (a b c d : ℕ) (old t u v w new : List ℕ) → t ≡ old ++ codes "COVERED legs " → u ≡ t ++ share_text a b → v ≡ u ++ codes " rows "

@@ -3,7 +3,7 @@ use Rattle.std.proofs.Common.{◌≡◌, ◌<◌, ◌≤◌, ℕ, ◌+◌, ◌%�
 use Rattle.std.proofs.lemmas.List.{append-nil}
 use Rattle.std.proofs.lemmas.Option.{same_Some, slice_get_read}
 use Rattle.ssim_records.specs.Days.{IsDateText, day_month}
-use Rattle.ssim_records.specs.Fields.{suffix_text as letter_text}
+use Rattle.ssim_records.specs.Fields.{suffix_text}
 use Rattle.ssim_records.specs.declared.place.Place.{Place}
 use Rattle.ssim_flights.specs.declared.flight.DatedLeg.{DatedLeg}
 use Rattle.ssim_flights.specs.declared.flight.Flight.{Flight as Flown}
@@ -15,15 +15,11 @@ use Rattle.seat_core.specs.declared.booking.Booking.{Booking}
 use Rattle.seat_core.specs.Inventory.{Inventory}
 use Rattle.seat_core.specs.Journal.{replay}
 use Rattle.seat_desk.specs.AuditDesk.{IsRefusedAudit, IsReplayOf, most_journal_bytes}
-use Rattle.seat_desk.specs.FlightsDesk.{IsText, suffix_text}
+use Rattle.seat_desk.specs.FlightsDesk.{IsText}
 use Rattle.seat_desk.specs.Loading.{IsGridOf, IsLoaded, IsRefusedLoad}
 use Rattle.seat_desk.specs.declared.fault.DeskFault.{DeskFault}
 use Rattle.seat_desk.specs.declared.fault.DeskFault.TheVariants.{Journal, Replay}
 use Rattle.seat_questions.specs.LiveBookings.{AreBookingsPut, HasPlace, IsBookingLine, IsBookings, IsBookingsOver, IsBookingsText, IsSegmentPut, bookings_of, segment_of}
-
-one_suffix : (suffix : Option ℕ) → suffix_text suffix ≡ letter_text suffix
-one_suffix None = refl
-one_suffix (Some letter) = refl
 
 pieces : (old a n s c d b o e m : List ℕ) → ((((((((old ++ ((a ++ n) ++ s)) ++ c) ++ d) ++ 32 ∷ []) ++ b) ++ o) ++ 32 ∷ []) ++ e) ++ m
     ≡ old ++ (a ++ (n ++ ((s ++ c) ++ (d ++ (32 ∷ (b ++ (o ++ (32 ∷ (e ++ m)))))))))
@@ -42,7 +38,7 @@ segment_line s t0 t1 t2 t3 t4 t5 t6 t7 t8 t9 date board off code letter seats is
       part = plain_line is.day is.month s;
       is_segment = record { year = is.year; month = is.month; day = is.day; date = is.date; written = refl };
       written = written ∙ pieces t0 s.airline (decimal s.number) (suffix_text s.suffix) (letter ∷ []) (take 5 date) board off code (decimal seats)
-          ∙ rw (front, one_suffix s.suffix, c, b, o, k, n) refl;
+          ∙ rw (front, c, b, o, k, n) refl;
     }
 
 -- ---- lines

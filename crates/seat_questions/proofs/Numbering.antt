@@ -6,11 +6,11 @@ use Rattle.std.specs.HashMap.{get}
 use Rattle.std.specs.Cmp.Lexicographic.{pointwise}
 use Rattle.std.proofs.lemmas.Bool.{eqb-true, eq-eqb}
 use Rattle.std.proofs.lemmas.Bool.Decides.{nat_tests}
-use Rattle.std.proofs.lemmas.Option.{slice_get-get_or, slice_get_within, same_Some}
+use Rattle.std.proofs.lemmas.Option.{slice_get_within, same_Some}
 use Rattle.seat_nesting.specs.Authorised.{row_pair, same_pair, PutsRow}
 use Rattle.seat_nesting.specs.declared.limit_row.LimitRow.{LimitRow}
 use Rattle.seat_nesting.specs.declared.row_index.Pair.{Pair}
-use Rattle.seat_nesting.proofs.RowIndexing.{pair_is}
+use Rattle.seat_nesting.proofs.RowIndexing.{pair_is, row_here}
 use Rattle.seat_questions.specs.PairNumbers.{AreNumbered, HasNumber, IsRowOf, Numbers, number_of}
 
 -- a pair is that of itself
@@ -28,9 +28,6 @@ pair_itself a = let number : (a.number == a.number) ≡ true = eq-eqb a.number a
     rw (text_itself a.airline, number, letter_itself a.suffix, text_itself a.board, text_itself a.off) refl
 
 -- ---- one row more
-
-row_here : (rows : List LimitRow) (i : ℕ) (row : LimitRow) → i < length rows → row ≡ get_or rows i row → slice_get rows i ≡ Some row
-row_here rows i row lt is = slice_get-get_or rows i row lt ∙ ap (λ (x : LimitRow). Some x) (sym is)
 
 pub numbered_more : (old new : Numbers) (rows : List LimitRow) (i : ℕ) (row : LimitRow) → AreNumbered old rows i → i < length rows → row ≡ get_or rows i row
     → PutsRow old new (row_pair row) i → AreNumbered new rows (i + 1)

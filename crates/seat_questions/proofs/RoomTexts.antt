@@ -22,6 +22,8 @@ use Rattle.seat_core.proofs.Flight.View.{bookings_view, held_view}
 use Rattle.seat_desk.specs.AuditDesk.{IsReplayOf}
 use Rattle.seat_desk.specs.FlightsDesk.{IsLegText, head_text}
 use Rattle.seat_desk.specs.Loading.{IsGridOf}
+use Rattle.seat_desk.proofs.Texts.{assoc_four}
+use Rattle.seat_questions.proofs.Covers.{assoc_six}
 use Rattle.seat_questions.specs.Rooms.{AreRoomsAfter, IsAdded, IsPlaceText, IsPlaceTextBy, IsRoomsText, IsRunText, bar_line, bar_lines, bars_text, block_bar, keeps, leg_bars, rooms_part, times}
 use Rattle.seat_questions.specs.declared.rooms.Asked.{Asked}
 use Rattle.seat_questions.specs.declared.rooms.Bars.{Bars}
@@ -73,9 +75,6 @@ run_kept asked state flight place run old new e added = record {
   is_part = subst (λ (b : Bool). IsPlaceTextBy b asked.bars state flight place run added.part) (sym e) added.is_part;
   written = added.written;
 }
-
-assoc_six : (o a b c d e : List ℕ) → ((((o ++ a) ++ b) ++ c) ++ d) ++ e ≡ o ++ ((((a ++ b) ++ c) ++ d) ++ e)
-assoc_six o a b c d e = simp append_assoc
 
 pub place_added : (bars : Option Bars) (state : State) (flight : Flight) (place : Place) (run : DatedLeg) (old head mid rooms end new : List ℕ)
     → head ≡ old ++ head_text place.flight flight → (way : List ℕ) × IsLegText 0 run way × (mid ≡ head ++ way)
@@ -167,9 +166,6 @@ times_more n bytes old mid new so_far put =
     ∙ ap (λ (l : List ℕ). old ++ l) (times_next n bytes) ∙ ap (λ (k : ℕ). old ++ times k bytes) e
 
 -- ---- blocks
-
-assoc_four : (a b c d : List ℕ) → ((a ++ b) ++ c) ++ d ≡ a ++ ((b ++ c) ++ d)
-assoc_four a b c d = simp append_assoc
 
 -- with a half block
 pub half_put : (n m : ℕ) (half : Bool) (old full mid new : List ℕ) → half ≡ true → full ≡ old ++ times n (226 ∷ 150 ∷ 136 ∷ []) → mid ≡ full ++ 226 ∷ 150 ∷ 140 ∷ []

@@ -5,7 +5,7 @@ use Rattle.ssim_flights.specs.declared.flight.DatedLeg.{DatedLeg}
 use Rattle.ssim_flights.specs.declared.flight.Flight.{Flight as Flown}
 use Rattle.seat_nesting.specs.Authorised.{is_for, leg_pair}
 use Rattle.seat_nesting.specs.declared.limit_row.LimitRow.{LimitRow}
-use Rattle.seat_desk.specs.FlightsDesk.{IsLegText, IsText, suffix_text}
+use Rattle.seat_desk.specs.FlightsDesk.{IsLegText, IsText, designator_text}
 use Rattle.seat_desk.specs.Loading.{Bytes}
 use Rattle.seat_desk.specs.declared.inputs.Inputs.{Inputs}
 use Rattle.seat_questions.specs.Ground.{IsGround}
@@ -36,9 +36,6 @@ IsRowPartBy test n row text = text ≡ row_text n (test row)
 
 abbrev pub IsRowPart : List Flown → ℕ → LimitRow → List ℕ → Type 0
 IsRowPart flights = IsRowPartBy (has_leg flights)
-
-abbrev pub designator_text : Flown → List ℕ
-designator_text flight = flight.airline ++ decimal flight.number ++ suffix_text flight.suffix
 
 -- LEG I.J DESIGNATOR
 abbrev pub bare_head : ℕ → Flown → ℕ → List ℕ

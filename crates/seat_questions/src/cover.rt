@@ -1,16 +1,16 @@
 //! `cover`: the limit rows that are for no leg, and the legs that have no row.
-ghost use Rattle.std.specs.Prelude.{if◌then◌else◌, ◌≡◌, ℕ, List, ◌≢◌, ◌++◌, ◌*◌, ◌+◌, ◌<◌, ◌≤◌, ◌⊎◌, IfErr, IfOk, OnOk, decimal, codes, length, count_by};
+ghost use Rattle.std.specs.Prelude.{if◌then◌else◌, ◌≡◌, ◌≢◌, ◌++◌, ◌+◌, ◌<◌, ◌≤◌, ◌⊎◌, IfErr, IfOk, OnOk, length, count_by};
 ghost use Rattle.std.specs.List.{sum_by};
 ghost use Rattle.ssim_flights.specs.Right.{IsOfCentury};
 ghost use Rattle.seat_desk.specs.Desk.{InputFailed, IsOfInput, IsWritten, OutputFailed};
-ghost use Rattle.seat_desk.specs.FlightsDesk.{IsLegText, IsPut, suffix_text};
+ghost use Rattle.seat_desk.specs.FlightsDesk.{IsPut};
 ghost use Rattle.seat_desk.specs.Loading.{HaveFailed, IsRefusedLoadOf, IsTooLargeLoadOf};
-ghost use Rattle.seat_questions.specs.Cover.{IsBarePut, IsCoverOf, IsCoverText, IsFlightPartBy, IsLegPartBy, IsLegPut, IsRowPartBy, bare_head, covered_by, designator_text, leg_count, row_text, share_text, sums_text};
+ghost use Rattle.seat_questions.specs.Cover.{IsBarePut, IsCoverOf, IsCoverText, IsFlightPartBy, IsLegPartBy, IsLegPut, IsRowPartBy, bare_head, covered_by, leg_count, row_text, share_text, sums_text};
 ghost use Rattle.seat_questions.specs.Coverage.{IsSearchable, finds_leg, finds_row};
 
 use crate::coverage::Coverage;
 use crate::ground::load_rows;
-use seat_desk::{DeskFault, Inputs, put, put_number};
+use seat_desk::{DeskFault, Inputs, put, put_designator, put_number, put_way};
 use seat_nesting::LimitRow;
 use ssim_flights::{DatedLeg, Flight, Flights};
 use ssim_records::{Memory, NotedRead, NotedWrite, put_all};
@@ -213,33 +213,4 @@ fn put_head(text: &mut Vec<u8>, index: u32, j: u64, flight: &Flight) -> Result<(
     put_number(text, j)?;
     put(text, b" ")?;
     put_designator(text, flight)
-}
-
-pub(crate) fn put_way(text: &mut Vec<u8>, leg: &DatedLeg) -> Result<(), AllocError>
-    ensures { OnOk result ((part : List ℕ) × IsLegText 0 leg.now part × (text.new.items ≡ text.old.items ++ part)) }
-{
-    put(text, b" ")?;
-    put(text, &leg.board.letters())?;
-    put(text, b"/")?;
-    put(text, &leg.day.bytes())?;
-    put(text, b"/")?;
-    put(text, &leg.off.letters())
-}
-
-/// Adds the airline, the number without leading zeros, and the suffix of a flight.
-pub(crate) fn put_designator(text: &mut Vec<u8>, flight: &Flight) -> Result<(), AllocError>
-    ensures { OnOk result (text.new.items ≡ text.old.items ++ designator_text flight.now) }
-{
-    put(text, &flight.airline.characters())?;
-    put_number(text, u64::from(flight.number))?;
-    put_suffix(text, flight.suffix)
-}
-
-fn put_suffix(text: &mut Vec<u8>, suffix: Option<u8>) -> Result<(), AllocError>
-    ensures { OnOk result (text.new.items ≡ text.old.items ++ suffix_text suffix) }
-{
-    match suffix {
-        Some(letter) => put(text, &[letter]),
-        None => put(text, &[]),
-    }
 }

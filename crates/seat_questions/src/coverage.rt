@@ -1,9 +1,9 @@
 //! Limit rows and legs on one line of numbers, where each finds those of its pair on its days by a search.
-ghost use Rattle.std.specs.Prelude.{◌≡◌, ◌≤◌, ◌<◌, ◌++◌, nat_lt, map, length, IfOk, OnOk};
+ghost use Rattle.std.specs.Prelude.{◌≡◌, ◌<◌, ◌++◌, IfOk, OnOk};
 ghost use Rattle.std.specs.List.{flat_map};
 ghost use Rattle.std.specs.List.Sorted.{IsNonDecreasing};
 ghost use Rattle.ssim_records.specs.Days.{IsDay};
-ghost use Rattle.seat_questions.specs.Coverage.{AreSpans, IsCoverage, IsDatedRow, IsRanking, IsSearchable, begin_at, below, day_of, days_of, end_at, finds_leg, finds_row, point};
+ghost use Rattle.seat_questions.specs.Coverage.{AreSpans, IsCoverage, IsRanking, IsSearchable, begin_at, below, day_of, days_of, end_at, finds_leg, finds_row, point};
 
 use crate::pair_numbers::{PairNumbers, pair_of};
 use seat_nesting::{LimitRow, leg_pair_of};

@@ -1,5 +1,5 @@
 //! The flights of a data set, and the limit rows that go with them.
-ghost use Rattle.std.specs.Prelude.{◌≡◌, ◌≢◌, ◌<◌, ◌≤◌, IfErr, IfOk, length};
+ghost use Rattle.std.specs.Prelude.{◌≡◌, ◌<◌, ◌≤◌, IfErr, IfOk};
 ghost use Rattle.ssim_flights.specs.Right.{IsOfCentury};
 ghost use Rattle.seat_desk.specs.Desk.{IsOfInput};
 ghost use Rattle.seat_desk.specs.Loading.{HaveFailed, IsRefusedLoadOf, IsTooLargeLoadOf};

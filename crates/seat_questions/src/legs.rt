@@ -1,15 +1,15 @@
 //! The legs of a place as they stand after the lines so far.
-ghost use Rattle.std.specs.Prelude.{◌≡◌, ◌++◌, ◌*◌, ◌≤◌, ◌<◌, List, ℕ, IfSome, OnOk, length};
+ghost use Rattle.std.specs.Prelude.{◌≡◌, ◌++◌, ◌*◌, ◌≤◌, ◌<◌, IfSome, OnOk, length};
 ghost use Rattle.std.specs.List.{flat_map};
 ghost use Rattle.seat_nesting.specs.Nesting.{Fits, held_from, ladder_at};
 ghost use Rattle.seat_core.specs.Bookings.{held, seats_of, seats_on, waiting, waits_on};
 ghost use Rattle.seat_core.specs.Inventory.{state_now};
 ghost use Rattle.seat_desk.specs.AuditDesk.{most_lines};
-ghost use Rattle.seat_desk.specs.FlightsDesk.{IsLegText, IsPut};
+ghost use Rattle.seat_desk.specs.FlightsDesk.{IsPut};
 ghost use Rattle.seat_questions.specs.Why.{IsLegPart, IsLegPut, IsPlacePut, IsStandingPut, class_text, dated_legs, has_leg, held_line, held_texts, limit_line, limit_text, one_leg, room_line, room_text, standing_text, wait_line, wait_text};
 
 use seat_core::{Booking, Core, Status};
-use seat_desk::{put, put_number};
+use seat_desk::{put, put_number, put_way};
 use seat_nesting::Step;
 use ssim_flights::{DatedLeg, Flights};
 use ssim_records::{Class, Place};
@@ -110,18 +110,6 @@ fn put_covered(
     put_way(text, dated)?;
     put(text, b"\n")?;
     put_standing(text, core, flight, leg)
-}
-
-/// Adds BOARD/DAY/OFF behind a blank.
-fn put_way(text: &mut Vec<u8>, leg: &DatedLeg) -> Result<(), AllocError>
-    ensures { OnOk result ((part : List ℕ) × IsLegText 0 leg.now part × (text.new.items ≡ text.old.items ++ part)) }
-{
-    put(text, b" ")?;
-    put(text, &leg.board.letters())?;
-    put(text, b"/")?;
-    put(text, &leg.day.bytes())?;
-    put(text, b"/")?;
-    put(text, &leg.off.letters())
 }
 
 /// Adds the limits, the seats held, the room and the seats that wait.
@@ -266,7 +254,7 @@ fn waiting_by(bookings: &[Booking], flight: u32, leg: u8, class: Class) -> u64
 }
 
 /// The seats that a booking holds on a leg in a class.
-fn seats_on(booking: &Booking, flight: u32, leg: u8, class: Class) -> u16
+pub(crate) fn seats_on(booking: &Booking, flight: u32, leg: u8, class: Class) -> u16
     ensures { result ≡ seats_on flight leg class booking.now }
 {
     match booking.status {

@@ -1,5 +1,5 @@
 //! A number for each flight and city pair that has limit rows.
-ghost use Rattle.std.specs.Prelude.{◌≡◌, ◌≤◌, ◌<◌, length, IfOk, OnOk};
+ghost use Rattle.std.specs.Prelude.{◌≡◌, ◌<◌, length, IfOk, OnOk};
 ghost use Rattle.seat_nesting.specs.Authorised.{PutsRow, row_pair};
 ghost use Rattle.seat_questions.specs.PairNumbers.{AreNumbered, number_of};
 

@@ -1,28 +1,26 @@
 //! `rooms`: the seats that are left on each place of a flight, after a journal or before any line.
 ghost use Rattle.std.specs.Prelude.{◌≡◌, ◌≢◌, ◌++◌, ◌-◌, ◌<◌, ◌≤◌, ◌⊎◌, [], IfErr, IfOk, OnOk, drop, length};
 ghost use Rattle.ssim_flights.specs.Right.{IsOfCentury};
-ghost use Rattle.seat_nesting.specs.Nesting.{Fits, IsWithin, covers, held_from, ladder_at, legs_of};
-ghost use Rattle.seat_core.specs.Bookings.{held, seats_of, seats_on};
+ghost use Rattle.seat_nesting.specs.Nesting.{Fits, IsWithin, held_from, ladder_at, legs_of};
+ghost use Rattle.seat_core.specs.Bookings.{held};
 ghost use Rattle.seat_core.specs.Inventory.{state_now};
 ghost use Rattle.seat_core.specs.Journal.{replay};
 ghost use Rattle.seat_desk.specs.AuditDesk.{IsRefusedAuditOf, IsTooLargeOf, IsUnlawful, most_journal_bytes};
 ghost use Rattle.seat_desk.specs.Desk.{HasFailed, InputFailed, IsOfInput, IsWritten, OutputFailed};
-ghost use Rattle.seat_desk.specs.FlightsDesk.{IsPut, head_text};
+ghost use Rattle.seat_desk.specs.FlightsDesk.{IsPut};
 ghost use Rattle.seat_desk.specs.Loading.{HaveFailed, IsGridOf, IsRefusedLoadOf, IsTooLargeLoadOf};
 ghost use Rattle.seat_questions.specs.Rooms.{AreOpeningRoomsOf, AreRoomsAfter, AreRoomsOf, IsAdded, IsFirstPart, IsLastPart, IsPlaceText, IsRoomsText, IsRunText, bar, bar_line, bar_lines, bar_share, bars_text, block_bar, filled, has_half, keeps, keeps_day, keeps_pair, leg_bars, place_bars, plain_bar, room_text, rooms_part, rooms_text, run_of, times};
 
-use crate::cover::{put_designator, put_way};
-use seat_core::{Booking, Core, Status};
+use crate::legs::seats_on;
+use seat_core::{Booking, Core};
 use seat_desk::{
-    DeskFault, Inputs, Loaded, MOST_JOURNAL_BYTES, load, put, put_number, read_input, replayed,
+    DeskFault, Inputs, Loaded, MOST_JOURNAL_BYTES, MOST_LINES, load, put, put_head, put_number,
+    put_way, read_input, replayed,
 };
 use seat_nesting::{Grid, Step};
 use ssim_flights::{DatedLeg, Flight, Flights};
 use ssim_records::{Class, Day, NotedRead, NotedWrite, Place, Station, put_all};
 use std::alloc::{AllocError, Global};
-
-/// The most lines of a journal.
-const MOST_LINES: u32 = 999_999;
 
 /// Two stations: a board point and an off point.
 #[derive(Clone, Copy)]
@@ -309,15 +307,6 @@ fn put_place(
     put_bars(text, core, bars, place)
 }
 
-/// Adds INDEX DESIGNATOR.
-fn put_head(text: &mut Vec<u8>, index: u32, flight: &Flight) -> Result<(), AllocError>
-    ensures { OnOk result (text.new.items ≡ text.old.items ++ head_text index flight.now) }
-{
-    put_number(text, u64::from(index))?;
-    put(text, b" ")?;
-    put_designator(text, flight)
-}
-
 /// Adds ROOM and the rooms.
 fn put_room_list(text: &mut Vec<u8>, core: &Core, place: Place) -> Result<(), AllocError>
     requires { Fits core.now.grid place }
@@ -462,32 +451,6 @@ fn held_in(bookings: &[Booking], flight: u32, leg: u8, class: Class) -> u16
         seats += seats_on(booking, flight, leg, class);
     }
     seats
-}
-
-/// The seats that a booking holds on a leg in a class.
-fn seats_on(booking: &Booking, flight: u32, leg: u8, class: Class) -> u16
-    ensures { result ≡ seats_on flight leg class booking.now }
-{
-    match booking.status {
-        Status::Held => seats_of(booking, flight, leg, class),
-        Status::Waiting => 0,
-    }
-}
-
-fn seats_of(booking: &Booking, flight: u32, leg: u8, class: Class) -> u16
-    ensures { result ≡ seats_of flight leg class booking.now }
-{
-    if covers(booking.place, flight, leg) && booking.class == class {
-        booking.seats
-    } else {
-        0
-    }
-}
-
-fn covers(place: Place, flight: u32, leg: u8) -> bool
-    ensures { result ≡ covers flight leg place }
-{
-    place.flight == flight && (place.from <= leg && leg <= place.to)
 }
 
 /// Adds the bar of a class, and its seats that are held of its limit.
