@@ -195,7 +195,7 @@ back_next grid base t u told b before shows =
 -- ---- booking by booking
 
 -- where none fits, nothing is told
-pub none_told : (grid : Legs) (t : Table) (queue : List Booking) → none_fits grid t queue ≡ true → advices_by grid t queue ≡ []
+none_told : (grid : Legs) (t : Table) (queue : List Booking) → none_fits grid t queue ≡ true → advices_by grid t queue ≡ []
 none_told grid t [] h = refl
 none_told grid t (b ∷ bs) h =
     let parts = both (nat_lt (room grid t b.place b.class) b.seats) (none_fits grid t bs) h in

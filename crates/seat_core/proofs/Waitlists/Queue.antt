@@ -1,5 +1,5 @@
 -- Waiting lists, booking by booking.
-use Rattle.std.proofs.Common.{◌≡◌, ◌==◌, ◌&&◌, ℕ, zero, suc, ◌+◌, ◌<◌, ◌≤◌, Bool, true, false, nat_le, List, [], ◌∷◌, ◌++◌, length, get_or, remove, position, Some, None, arith, refl, ap, sym, ◌∙◌}
+use Rattle.std.proofs.Common.{◌≡◌, ◌==◌, ℕ, zero, suc, ◌+◌, ◌<◌, ◌≤◌, Bool, true, false, nat_le, List, [], ◌∷◌, ◌++◌, length, get_or, remove, position, Some, None, arith, refl, ap, sym, ◌∙◌}
 use Rattle.std.proofs.lemmas.List.{append-nil}
 use Rattle.std.proofs.lemmas.List.Quantifiers.{position-Some}
 use Rattle.std.specs.List.{AllByRecursion}
@@ -147,17 +147,6 @@ queue_few (b ∷ bs) = cases (is_waiting b.status) refl (queue_few bs) where
   cases true e rest = rw e (omega (arith, rest))
   cases false e rest = rw e (omega (arith, rest))
 
--- memory for one booking more
-split : (t u : Bool) → (t && u) ≡ true → (t ≡ true) × (u ≡ true)
-split true true e = (refl, refl)
-split true false e = absurd cc
-split false u e = absurd cc
-
-pub spare_booking : (s : Spare) → suffices Waits s ≡ true → s.booking ≡ true
-spare_booking s e = (split s.booking s.waiting e).0
-
-pub spare_waiting : (s : Spare) → suffices Waits s ≡ true → s.waiting ≡ true
-spare_waiting s e = (split s.booking s.waiting e).1
-
+-- memory for one booking more that waits
 pub spare_both : (s : Spare) → s.booking ≡ true → s.waiting ≡ true → suffices Waits s ≡ true
 spare_both s a b = rw (a, b) refl
