@@ -12,7 +12,7 @@ use Rattle.seat_nesting.specs.Counting.{LegSeats, Counted, seats_on, leg_in, leg
 use Rattle.seat_nesting.specs.Changing.{with_limit, leg_with, limits_with, LegSets, FlightSets, Sets}
 
 -- the place that was written, and the others
-at_set : {X : Type 0} (xs : List X) (i j : ℕ) (x d : X) → i < length xs → unwrap_or (slice_get (set xs i x) j) d ≡ (if j == i then x else unwrap_or (slice_get xs j) d)
+pub at_set : {X : Type 0} (xs : List X) (i j : ℕ) (x d : X) → i < length xs → unwrap_or (slice_get (set xs i x) j) d ≡ (if j == i then x else unwrap_or (slice_get xs j) d)
 at_set xs i j x d h = of (j == i) refl
   where
     of : (b : Bool) → (j == i) ≡ b → unwrap_or (slice_get (set xs i x) j) d ≡ cond b x (unwrap_or (slice_get xs j) d)
@@ -24,7 +24,7 @@ at_set xs i j x d h = of (j == i) refl
         unwrap_or-slice_get (set xs i x) j d ∙ get_or-set_other xs i j x d other ∙ sym (unwrap_or-slice_get xs j d)
 
 -- a list of values is as it was where a value is written that looks the same
-map_set : {X Y : Type 0} (f : X → Y) (xs : List X) (i : ℕ) (x d : X) → f x ≡ f (unwrap_or (slice_get xs i) d) → i < length xs → map f (set xs i x) ≡ map f xs
+pub map_set : {X Y : Type 0} (f : X → Y) (xs : List X) (i : ℕ) (x d : X) → f x ≡ f (unwrap_or (slice_get xs i) d) → i < length xs → map f (set xs i x) ≡ map f xs
 map_set f xs i x d h lt =
     map-set f xs i x ∙ ap (set (map f xs) i) (h ∙ ap f (unwrap_or-slice_get xs i d)) ∙ sym (map-set f xs i (get_or xs i d)) ∙ ap (map f) (set-get_or xs i d)
 

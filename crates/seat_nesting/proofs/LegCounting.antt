@@ -8,7 +8,7 @@ use Rattle.std.proofs.lemmas.List.Quantifiers.{position-Some}
 use Rattle.std.proofs.lemmas.Bool.Decides.{nat_tests}
 use Rattle.seat_nesting.specs.declared.ladder.Step.{Step}
 use Rattle.seat_nesting.specs.Nesting.{Steps, held_from, room_on, has_class, IsDistinct, IsLegLadder, LacksClass}
-use Rattle.seat_nesting.specs.Counting.{LegSeats, count_at, seats_on, IsKept, IsFresh, IsRank, LegChanges, plus, less}
+use Rattle.seat_nesting.specs.Counting.{LegSeats, leg_of, count_at, seats_on, IsKept, IsFresh, IsRank, LegChanges, plus, less}
 use Rattle.seat_nesting.proofs.Rooms.{held_from_rank, within_rank, within_none, within_less, within_more, IsMore}
 
 -- ---- ladders
@@ -277,8 +277,12 @@ held_more_seen leg now i j e kept next inside =
     let h = held_seen leg now i j x e kept next inside (get_or_any now.steps i no_step x inside) in
     (h.0, omega (arith, h))
 
-abbrev pub leg_of : Steps → List ℕ → LegSeats
-leg_of steps held = record { steps = steps; held = held }
+-- what is known of the parts of a leg
+pub kept_now : (steps : Steps) (held : List ℕ) (now : LegSeats) → leg_of steps held ≡ now → IsKept (leg_of steps held) → IsKept now
+kept_now steps held now e kept = subst IsKept e kept
+
+pub steps_now : (steps : Steps) (held : List ℕ) (now : LegSeats) → leg_of steps held ≡ now → steps ≡ now.steps
+steps_now steps held now e = ap (λ (l : LegSeats). l.steps) e
 
 -- ---- what a search for the rank says
 

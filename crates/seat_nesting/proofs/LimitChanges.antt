@@ -1,14 +1,14 @@
 -- Limits that are set: what they change, and what stays.
-use Rattle.std.proofs.Common.{◌≡◌, ◌≢◌, ◌==◌, ℕ, zero, suc, ◌+◌, ◌-◌, ◌<◌, ◌≤◌, Bool, true, false, if◌then◌else◌, cond, ◌&&◌, ◌||◌, nat_le, Option, Some, None, List, [], ◌∷◌, length, drop, get_or, set, refl, ap, sym, subst, ◌∙◌, add-one, arith}
+use Rattle.std.proofs.Common.{◌≡◌, ◌≢◌, ◌==◌, ℕ, zero, suc, ◌+◌, ◌-◌, ◌<◌, ◌≤◌, Bool, true, false, if◌then◌else◌, cond, ◌&&◌, ◌||◌, nat_le, Option, Some, None, List, [], ◌∷◌, length, map, drop, get_or, set, refl, ap, sym, subst, ◌∙◌, add-one, arith}
 use Rattle.std.specs.List.{AllByRecursion, position, refill}
 use Rattle.std.proofs.lemmas.Bool.{eqb-true, eqb-false, eq-eqb, ne_eqb, le-leb, leb-true, and_parts, or_parts}
 use Rattle.std.proofs.lemmas.List.{length-set}
 use Rattle.seat_nesting.specs.declared.ladder.Step.{Step}
 use Rattle.seat_nesting.specs.Nesting.{Steps, Legs, ByClass, Table, LacksClass, has_class, IsDistinct, IsNotRising, IsLadder, IsLegLadder, HasLadders, steps_of, steps_at, legs_of, ladder_at, held_from, IsWithin}
-use Rattle.seat_nesting.specs.Counting.{LegSeats, count_at, seats_on, IsKept, IsRank}
+use Rattle.seat_nesting.specs.Counting.{LegSeats, Counted, leg_of, count_at, seats_on, leg_in, leg_at, limits_of, IsKept, IsRank}
 use Rattle.seat_nesting.specs.Changing.{with_limit, leg_with, limits_with, step_of, top_of, limit_above, may_have_below, may_have, can_set, LegSets}
 use Rattle.seat_nesting.proofs.Rooms.{held_cons, within_same}
-use Rattle.seat_nesting.proofs.LegCounting.{leg_of, is_rank, no_rank}
+use Rattle.seat_nesting.proofs.LegCounting.{is_rank, no_rank}
 
 -- ---- one step
 
@@ -479,3 +479,14 @@ can_set_back grid seats flight leg class limit wait old is w h =
     ap (λ (s : Steps). may_have s (seats flight leg) class old.limit) (ladder_at_with grid flight leg class limit wait) ∙ may in
     let most = le-leb old.wait 999 (step_bounded (ladder_at grid flight leg) class old is.bounded h).1 in
     rw (most, here) refl
+
+-- the limits that counters show of a leg are its steps
+pub ladder_seen : (counts : Counted) (flight leg : ℕ) → ladder_at (limits_of counts) flight leg ≡ (leg_at counts flight leg).steps
+ladder_seen [] flight leg = refl
+ladder_seen (legs ∷ flights) zero leg = at_leg legs leg
+  where
+    at_leg : (legs : List LegSeats) (leg : ℕ) → steps_at (map (λ (l : LegSeats). l.steps) legs) leg ≡ (leg_in legs leg).steps
+    at_leg [] leg = refl
+    at_leg (l ∷ legs) zero = refl
+    at_leg (l ∷ legs) (suc leg) = at_leg legs leg
+ladder_seen (legs ∷ flights) (suc flight) leg = ladder_seen flights flight leg

@@ -11,6 +11,9 @@ pub record LegSeats : Type 0 where
   pub steps : Steps
   pub held : List ℕ
 
+abbrev pub leg_of : Steps → List ℕ → LegSeats
+leg_of steps held = record { steps = steps; held = held }
+
 -- what stands at the rank of a class; 0 where the class is missing
 abbrev pub count_at : Steps → List ℕ → ByClass
 count_at [] held class = 0

@@ -7,6 +7,7 @@ pub mod LadderText
 pub mod Ladders
 pub mod LimitRows
 pub mod Nesting
+pub mod OwnLadders
 pub mod RowFields
 pub mod RowStretches
 pub mod RowTexts

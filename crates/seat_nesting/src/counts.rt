@@ -1,46 +1,38 @@
 //! The seats that are held on each leg of a grid, by rank: all that a step and a look need to know of the bookings.
-ghost use Rattle.std.specs.Prelude.{◌≡◌, ◌≤◌, ◌↔◌, ℕ, [], length, IfOk, IfSome, IfNone, IsTrue, map};
-ghost use Rattle.seat_nesting.specs.Nesting.{Fits, ladder_at, room, room_on};
-ghost use Rattle.seat_nesting.specs.Counting.{limits_of, seats_of, holds, leg_holds, Takes, Gives, OneLegChanges, FlightChanges, plus, less, IsWithinLimits, IsFresh, leg_in, leg_at, no_leg, seats_on};
-ghost use Rattle.seat_nesting.specs.Changing.{can_set, may_have, step_of, Sets, FlightSets};
+ghost use Rattle.std.specs.Prelude.{◌≡◌, ◌≤◌, ◌↔◌, ℕ, [], length, false, unwrap_or, slice_get, IfOk, IfSome, IfNone, IsTrue};
+ghost use Rattle.seat_nesting.specs.Nesting.{Fits, ladder_at, has_class, room, room_on};
+ghost use Rattle.seat_nesting.specs.Counting.{limits_of, seats_of, holds, leg_holds, Takes, Gives, OneLegChanges, plus, less, IsRank, IsWithinLimits, leg_at, no_leg};
+ghost use Rattle.seat_nesting.specs.Changing.{can_set, may_have, step_of, Sets};
+ghost use Rattle.seat_nesting.specs.OwnLadders.{counted_at, no_counted};
 
-use crate::grid::{FlightLegs, Grid, copy_of};
+use crate::counted_leg::CountedLeg;
+use crate::flight_counts::FlightCounts;
+use crate::grid::Grid;
 use crate::ladder::{Ladder, Step};
 use crate::leg_counts::LegCounts;
 use ssim_records::{Class, Memory, Place};
 use std::alloc::Global;
 use std::marker::Model;
 
-/// The counters of the legs of one flight.
-#[derive(Drop)]
-struct FlightCounts {
-    legs: Vec<LegCounts>,
-}
-
-impl Model for FlightCounts {
-    ghost use Rattle.std.specs.Prelude.{List};
-    ghost use Rattle.seat_nesting.specs.Counting.{LegSeats};
-
-    ghost Value = { List LegSeats };
-
-    ghost view = { λ f. f.legs.items };
-}
-
 /// How many seats are held on each leg in each rank, with the limits of the grid that it was made for.
 #[derive(Drop)]
 pub struct Counts {
     flights: Vec<FlightCounts>,
+    /// The ladders of the legs whose limits were changed. There is memory for one for each leg,
+    /// which is not touched before it is needed.
+    own: Vec<Ladder>,
 }
 
 impl Model for Counts {
-    ghost use Rattle.std.specs.Prelude.{List};
-    ghost use Rattle.seat_nesting.specs.Counting.{LegSeats, IsWithinLimits};
+    ghost use Rattle.std.specs.Prelude.{List, vec_capacity};
+    ghost use Rattle.seat_nesting.specs.Counting.{LegSeats};
+    ghost use Rattle.seat_nesting.specs.OwnLadders.{all_seen, AreCounters};
 
     ghost Value = { List (List LegSeats) };
 
-    ghost view = { λ c. c.flights.items };
+    ghost view = { λ c. all_seen c.own.items c.flights.items };
 
-    ghost invariant = { λ c. IsWithinLimits c.flights.items };
+    ghost invariant = { λ c. AreCounters c.own.items (vec_capacity c.own) c.flights.items };
 }
 
 impl Counts {
@@ -50,20 +42,21 @@ impl Counts {
         ensures seats { IfOk result (λ counts. (flight leg class : ℕ) → seats_of counts flight leg class ≡ 0) }
     {
         let mut flights = Vec::with_capacity(alloc, grid.flights().len())?;
+        let mut places = 0usize;
         for legs in grid.flights() {
-            flights.push(FlightCounts::new(alloc, legs)?)?;
+            let counts = FlightCounts::new(alloc, legs)?;
+            places = places.checked_add(counts.len()).ok_or(Memory)?;
+            flights.push(counts)?;
         }
-        Ok(Counts { flights })
+        let own = Vec::with_capacity(alloc, places)?;
+        Ok(Counts { flights, own })
     }
 
     /// Whether the flight and both legs are there, the second not before the first.
     pub fn fits(&self, place: Place) -> bool
         ensures { IsTrue result ↔ Fits (limits_of self.now) place }
     {
-        match self.flights.get(place.flight as usize) {
-            Some(legs) => { place.from <= place.to && usize::from(place.to) < legs.len() }
-            None => false,
-        }
+        place.from <= place.to && usize::from(place.to) < legs_on(&self.flights, place.flight)
     }
 
     /// The seats that are left on a place in a class; 0 where the place does not fit, or a leg lacks the class.
@@ -126,7 +119,8 @@ impl Counts {
         ensures found { IfSome result (λ l. l.now ≡ ladder_at (limits_of self.now) flight leg) }
         ensures none { IfNone result (ladder_at (limits_of self.now) flight leg ≡ []) }
     {
-        self.leg(flight, leg)?.ladder()
+        let counts = counted_at(&self.flights, flight, leg)?;
+        counts.limits.ladder(&self.own)
     }
 
     /// The limit and the wait of a class on a leg now, where the leg has the class.
@@ -152,7 +146,7 @@ impl Counts {
         let Some(counts) = self.flights.get_mut(flight as usize) else {
             return;
         };
-        counts.set(usize::from(leg), class, limit, wait);
+        counts.set(&mut self.own, usize::from(leg), class, limit, wait);
     }
 
     /// No leg holds more than a limit.
@@ -162,14 +156,21 @@ impl Counts {
         let _ = &self.flights;
     }
 
-    fn leg(&self, flight: u32, leg: u8) -> Option<&LegCounts>
-        ensures found { IfSome result (λ l. l.now ≡ leg_at self.now flight leg) }
+    /// The leg as it stands.
+    fn leg(&self, flight: u32, leg: u8) -> Option<LegCounts<'_>>
+        ensures found { IfSome result (λ l. l ≡ leg_at self.now flight leg) }
         ensures none { IfNone result (leg_at self.now flight leg ≡ no_leg) }
     {
-        self.flights
-            .get(flight as usize)?
-            .legs
-            .get(usize::from(leg))
+        let counts = counted_at(&self.flights, flight, leg)?;
+        Some(LegCounts::of(counts.limits.steps(&self.own), &counts.held))
+    }
+
+    /// The rank of a class on a leg, counted from 0.
+    fn rank_on(&self, flight: u32, leg: u8, class: Class) -> Option<usize>
+        ensures found { IfSome result (IsRank (leg_at self.now flight leg).steps class) }
+        ensures none { IfNone result (has_class (leg_at self.now flight leg).steps class ≡ false) }
+    {
+        self.leg(flight, leg)?.rank_of(class)
     }
 
     fn room_on(&self, flight: u32, leg: u8, class: Class) -> u16
@@ -203,69 +204,43 @@ impl Counts {
         requires { seats ≤ room_on (ladder_at (limits_of self.old) flight leg) (seats_of self.old flight leg) class }
         ensures { OneLegChanges plus self.old self.new flight leg class seats }
     {
+        let Some(rank) = self.rank_on(flight, leg, class) else {
+            return;
+        };
         let Some(counts) = self.flights.get_mut(flight as usize) else {
             return;
         };
-        counts.take(usize::from(leg), class, seats);
+        counts.take(usize::from(leg), rank, seats);
     }
 
     fn give_on(&mut self, flight: u32, leg: u8, class: Class, seats: u16)
         requires { seats ≤ seats_of self.old flight leg class }
         ensures { OneLegChanges less self.old self.new flight leg class seats }
     {
+        let Some(rank) = self.rank_on(flight, leg, class) else {
+            return;
+        };
         let Some(counts) = self.flights.get_mut(flight as usize) else {
             return;
         };
-        counts.give(usize::from(leg), class, seats);
+        counts.give(usize::from(leg), rank, seats);
     }
 }
 
-impl FlightCounts {
-    fn new(alloc: Global, legs: &FlightLegs) -> Result<FlightCounts, Memory>
-        ensures limits { IfOk result (λ f. map (λ l. l.steps) f ≡ legs.now) }
-        ensures fresh { IfOk result (λ f. (leg : ℕ) → IsFresh (leg_in f leg)) }
-    {
-        let mut counts = Vec::with_capacity(alloc, legs.ladders().len())?;
-        for ladder in legs.ladders() {
-            counts.push(LegCounts::new(copy_of(ladder)))?;
-        }
-        Ok(FlightCounts { legs: counts })
-    }
+/// What is kept of a leg, where it is there.
+fn counted_at(flights: &[FlightCounts], flight: u32, leg: u8) -> Option<&CountedLeg>
+    ensures found { IfSome result (λ l. l.now ≡ counted_at flights.now flight leg) }
+    ensures none { IfNone result (counted_at flights.now flight leg ≡ no_counted) }
+{
+    flights.get(flight as usize)?.leg(usize::from(leg))
+}
 
-    fn len(&self) -> usize
-        ensures { result ≡ length self.now }
-    {
-        self.legs.len()
-    }
-
-    fn take(&mut self, leg: usize, class: Class, seats: u16)
-        requires { seats ≤ room_on (leg_in self.old leg).steps (seats_on (leg_in self.old leg)) class }
-        ensures { FlightChanges plus self.old self.new leg class seats }
-    {
-        let Some(counts) = self.legs.get_mut(leg) else {
-            return;
-        };
-        counts.take(class, seats);
-    }
-
-    fn give(&mut self, leg: usize, class: Class, seats: u16)
-        requires { seats ≤ seats_on (leg_in self.old leg) class }
-        ensures { FlightChanges less self.old self.new leg class seats }
-    {
-        let Some(counts) = self.legs.get_mut(leg) else {
-            return;
-        };
-        counts.give(class, seats);
-    }
-
-    fn set(&mut self, leg: usize, class: Class, limit: u16, wait: u16)
-        requires may { IsTrue (may_have (leg_in self.old leg).steps (seats_on (leg_in self.old leg)) class limit) }
-        requires wait { wait ≤ 999 }
-        ensures { FlightSets self.old self.new leg class limit wait }
-    {
-        let Some(counts) = self.legs.get_mut(leg) else {
-            return;
-        };
-        counts.set(class, limit, wait);
+/// How many legs the flight has; none where it is not there.
+fn legs_on(flights: &[FlightCounts], flight: u32) -> usize
+    ensures { result ≡ length (unwrap_or (slice_get flights.now flight) []) }
+{
+    match flights.get(flight as usize) {
+        Some(legs) => legs.len(),
+        None => 0,
     }
 }

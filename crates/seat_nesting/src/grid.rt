@@ -201,16 +201,6 @@ impl FlightLegs {
     }
 }
 
-/// A copy of the ladder, if there is one.
-pub(crate) fn copy_of(ladder: &Option<SharedLadder>) -> Option<Ladder>
-    ensures { result ≡ ladder.now }
-{
-    match ladder {
-        Some(ladder) => Some(ladder.get().copy()),
-        None => None,
-    }
-}
-
 /// Room for the ladder of each row.
 fn no_shares(alloc: Global, rows: &[LimitRow]) -> Result<Vec<Option<SharedLadder>>, Memory>
     ensures { IfOk result (λ shares. AreShares shares.items rows.now) }

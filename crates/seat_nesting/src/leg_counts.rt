@@ -1,58 +1,44 @@
-//! The seats that are held on one leg, by rank.
-ghost use Rattle.std.specs.Prelude.{◌≡◌, ◌≤◌, ◌<◌, ◌+◌, ◌&&◌, nat_le, ℕ, false, IsTrue, [], length, drop, IfSome, IfNone};
-ghost use Rattle.seat_nesting.specs.Nesting.{room_on, held_from, steps_of, has_class, IsLegLadder};
-ghost use Rattle.seat_nesting.specs.Counting.{IsKept, IsRank, LegChanges, plus, less, leg_holds, seats_on};
-ghost use Rattle.seat_nesting.specs.Changing.{LegSets, limit_above, may_have, step_of, top_of};
+//! What the limits and the held seats of one leg say.
+ghost use Rattle.std.specs.Prelude.{◌≡◌, ◌<◌, ◌+◌, ◌&&◌, nat_le, false, [], length, drop, IfSome, IfNone};
+ghost use Rattle.seat_nesting.specs.Nesting.{room_on, held_from, has_class};
+ghost use Rattle.seat_nesting.specs.Counting.{IsKept, IsRank, leg_holds, leg_of, seats_on};
+ghost use Rattle.seat_nesting.specs.Changing.{limit_above, may_have, step_of, top_of};
 
-use crate::ladder::{Ladder, Step, rank_of};
+use crate::ladder::{Step, rank_of};
 use ssim_records::Class;
 use std::marker::Model;
 
-/// The limits of a leg, and how many seats are held in each of its ranks.
+/// The limits of a leg as they stand, and how many seats are held in each of its ranks.
 #[derive(Drop)]
-pub struct LegCounts {
-    ladder: Option<Ladder>,
-    held: [u16; 26],
+pub struct LegCounts<'a> {
+    steps: &'a [Step],
+    held: &'a [u16; 26],
 }
 
-impl Model for LegCounts {
-    ghost use Rattle.seat_nesting.specs.Nesting.{steps_of};
+impl<'a> Model for LegCounts<'a> {
     ghost use Rattle.seat_nesting.specs.Counting.{LegSeats, IsKept};
 
     ghost Value = { LegSeats };
 
-    ghost view = { λ l. record { steps = steps_of l.ladder; held = l.held } };
+    ghost view = { λ l. record { steps = l.steps.now; held = l.held.now } };
 
-    ghost invariant = { λ l. IsKept (record { steps = steps_of l.ladder; held = l.held }) };
+    ghost invariant = { λ l. IsKept (record { steps = l.steps.now; held = l.held.now }) };
 }
 
-impl LegCounts {
-    /// The leg with this ladder, or without limits, on which no seat is held.
-    pub fn new(ladder: Option<Ladder>) -> LegCounts
-        ensures steps { result.steps ≡ steps_of ladder }
-        ensures seats { (k : ℕ) → seats_on result k ≡ 0 }
-        ensures kept { IsKept result }
+impl<'a> LegCounts<'a> {
+    /// The leg with these steps and these held seats, which keep within their limits.
+    pub fn of(steps: &'a [Step], held: &'a [u16; 26]) -> LegCounts<'a>
+        requires { IsKept (leg_of steps.now held.now) }
+        ensures { result ≡ leg_of steps.now held.now }
     {
-        let _ = steps_of(&ladder);
-        LegCounts {
-            ladder,
-            held: [0; 26],
-        }
-    }
-
-    /// The steps from the highest rank to the lowest.
-    pub fn steps(&self) -> &[Step]
-        ensures value { result.now ≡ self.now.steps }
-        ensures kept { IsKept self.now }
-    {
-        steps_of(&self.ladder)
+        LegCounts { steps, held }
     }
 
     /// The seats that are left in a class; 0 where the leg lacks it.
     pub fn room(&self, class: Class) -> u16
         ensures { result ≡ room_on self.now.steps (seats_on self.now) class }
     {
-        let steps = self.steps();
+        let steps = self.steps;
         let mut held = 0u16;
         let mut room = 0u16;
         let mut rank = steps.len();
@@ -80,40 +66,12 @@ impl LegCounts {
         }
     }
 
-    /// Takes so many seats of the class.
-    pub fn take(&mut self, class: Class, seats: u16)
-        requires { seats ≤ room_on self.old.steps (seats_on self.old) class }
-        ensures { LegChanges plus self.old self.new class seats }
-    {
-        if let Some(rank) = self.rank_of(class) {
-            self.held[rank] += seats;
-        }
-    }
-
-    /// Gives back so many seats of the class.
-    pub fn give(&mut self, class: Class, seats: u16)
-        requires { seats ≤ seats_on self.old class }
-        ensures { LegChanges less self.old self.new class seats }
-    {
-        if let Some(rank) = self.rank_of(class) {
-            self.held[rank] -= seats;
-        }
-    }
-
-    /// The ladder of the leg, where it has one.
-    pub fn ladder(&self) -> Option<&Ladder>
-        ensures found { IfSome result (λ l. l.now ≡ self.now.steps) }
-        ensures none { IfNone result (self.now.steps ≡ []) }
-    {
-        self.ladder.as_ref()
-    }
-
     /// The limit and the wait of a class, where the leg has it.
     pub fn step(&self, class: Class) -> Option<Step>
         ensures { result ≡ step_of self.now.steps class }
     {
         let rank = self.rank_of(class)?;
-        Some(self.steps()[rank])
+        Some(self.steps[rank])
     }
 
     /// Whether the leg has the class, and its limit may be this one: in order among the ranks, and
@@ -122,21 +80,9 @@ impl LegCounts {
         ensures { result ≡ may_have self.now.steps (seats_on self.now) class limit }
     {
         match self.rank_of(class) {
-            Some(rank) => is_between(self.steps(), rank, limit) && self.held_from(rank) <= limit,
+            Some(rank) => is_between(self.steps, rank, limit) && self.held_from(rank) <= limit,
             None => false,
         }
-    }
-
-    /// Sets the limit and the wait of the class.
-    pub fn set(&mut self, class: Class, limit: u16, wait: u16)
-        requires may { IsTrue (may_have self.old.steps (seats_on self.old) class limit) }
-        requires wait { wait ≤ 999 }
-        ensures { LegSets self.old self.new class limit wait }
-    {
-        let Some(ladder) = &mut self.ladder else {
-            return;
-        };
-        ladder.set(class, limit, wait);
     }
 
     /// The seats that are held in a rank and below.
@@ -144,7 +90,7 @@ impl LegCounts {
         requires { rank < length self.now.steps }
         ensures { result ≡ held_from (seats_on self.now) (drop rank self.now.steps) }
     {
-        let steps = self.steps();
+        let steps = self.steps;
         let mut held = 0u16;
         let mut at = steps.len();
         while at > rank {
@@ -155,23 +101,12 @@ impl LegCounts {
     }
 
     /// The rank of a class, counted from 0.
-    fn rank_of(&self, class: Class) -> Option<usize>
+    pub fn rank_of(&self, class: Class) -> Option<usize>
         ensures found { IfSome result (IsRank self.now.steps class) }
         ensures none { IfNone result (has_class self.now.steps class ≡ false) }
         ensures kept { IsKept self.now }
     {
-        rank_of(self.steps(), class)
-    }
-}
-
-/// The steps of a leg; none where it has no ladder.
-fn steps_of(ladder: &Option<Ladder>) -> &[Step]
-    ensures value { result.now ≡ steps_of ladder.now }
-    ensures ladder { IsLegLadder result.now }
-{
-    match ladder {
-        Some(ladder) => ladder.steps(),
-        None => &[],
+        rank_of(self.steps, class)
     }
 }
 

@@ -4,7 +4,9 @@
 
 mod change_reading;
 mod change_row;
+mod counted_leg;
 mod counts;
+mod flight_counts;
 mod grid;
 mod ladder;
 mod ladder_text;

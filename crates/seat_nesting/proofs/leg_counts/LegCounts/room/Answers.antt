@@ -1,7 +1,6 @@
 use Rattle.std.proofs.Common.{◌≡◌, ◌+◌, ◌-◌, ◌<◌, length, arith}
-use Rattle.seat_nesting.specs.Nesting.{steps_of}
-use Rattle.seat_nesting.specs.Counting.{seats_on}
-use Rattle.seat_nesting.proofs.LegCounting.{leg_of, held_seen}
+use Rattle.seat_nesting.specs.Counting.{leg_of, seats_on}
+use Rattle.seat_nesting.proofs.LegCounting.{kept_now, steps_now, held_seen}
 use Rattle.seat_nesting.proofs.Rooms.{room_above, room_here}
 use Rattle.seat_nesting.proofs.leg_counts.LegCounts.room.Goals as goal
 
@@ -10,8 +9,8 @@ overflow_add-held c =
     let i = c.loop-rank.rank - 1 in
     let next : c.loop-rank.rank ≡ i + 1 = omega arith in
     let inside : i < length c.args.self.now.steps = omega (arith, c.loop-rank.invariant.inside) in
-    let is = rw c.steps-steps.ensures.value at c.index-steps-rank.is in
-    let seen = held_seen (leg_of (steps_of c.self.inside.ladder) c.self.inside.held) c.args.self.now i c.loop-rank.rank c.index-steps-rank.result c.self.view_is c.steps-steps.ensures.kept next inside is in
+    let is = rw (steps_now c.self.inside.steps.now c.self.inside.held.now c.args.self.now c.self.view_is) at c.index-steps-rank.is in
+    let seen = held_seen (leg_of c.self.inside.steps.now c.self.inside.held.now) c.args.self.now i c.loop-rank.rank c.index-steps-rank.result c.self.view_is (kept_now c.self.inside.steps.now c.self.inside.held.now c.args.self.now c.self.view_is c.self.invariant) next inside is in
     omega (arith, seen, c.loop-rank.invariant.carried)
 
 pub overflow_sub-here : goal.overflow_sub-here
@@ -19,8 +18,8 @@ overflow_sub-here c =
     let i = c.loop-rank.rank - 1 in
     let next : c.loop-rank.rank ≡ i + 1 = omega arith in
     let inside : i < length c.args.self.now.steps = omega (arith, c.loop-rank.invariant.inside) in
-    let is = rw c.steps-steps.ensures.value at c.index-steps-rank.is in
-    let seen = held_seen (leg_of (steps_of c.self.inside.ladder) c.self.inside.held) c.args.self.now i c.loop-rank.rank c.index-steps-rank.result c.self.view_is c.steps-steps.ensures.kept next inside is in
+    let is = rw (steps_now c.self.inside.steps.now c.self.inside.held.now c.args.self.now c.self.view_is) at c.index-steps-rank.is in
+    let seen = held_seen (leg_of c.self.inside.steps.now c.self.inside.held.now) c.args.self.now i c.loop-rank.rank c.index-steps-rank.result c.self.view_is (kept_now c.self.inside.steps.now c.self.inside.held.now c.args.self.now c.self.view_is c.self.invariant) next inside is in
     omega (arith, seen, c.loop-rank.invariant.carried)
 
 pub loop-rank-preserved-then-eq : goal.loop-rank-preserved-then-eq
@@ -28,8 +27,8 @@ loop-rank-preserved-then-eq c =
     let i = c.loop-rank.rank - 1 in
     let next : c.loop-rank.rank ≡ i + 1 = omega arith in
     let inside : i < length c.args.self.now.steps = omega (arith, c.loop-rank.invariant.inside) in
-    let is = rw c.steps-steps.ensures.value at c.index-steps-rank.is in
-    let seen = held_seen (leg_of (steps_of c.self.inside.ladder) c.self.inside.held) c.args.self.now i c.loop-rank.rank c.index-steps-rank.result c.self.view_is c.steps-steps.ensures.kept next inside is in
+    let is = rw (steps_now c.self.inside.steps.now c.self.inside.held.now c.args.self.now c.self.view_is) at c.index-steps-rank.is in
+    let seen = held_seen (leg_of c.self.inside.steps.now c.self.inside.held.now) c.args.self.now i c.loop-rank.rank c.index-steps-rank.result c.self.view_is (kept_now c.self.inside.steps.now c.self.inside.held.now c.args.self.now c.self.view_is c.self.invariant) next inside is in
     let here = room_here c.args.self.now.steps i c.loop-rank.rank c.index-steps-rank.result (seats_on c.args.self.now) c.args.class next inside is c.if-eq.ensures in
     record {
       inside = omega arith;
@@ -42,8 +41,8 @@ loop-rank-preserved c =
     let i = c.loop-rank.rank - 1 in
     let next : c.loop-rank.rank ≡ i + 1 = omega arith in
     let inside : i < length c.args.self.now.steps = omega (arith, c.loop-rank.invariant.inside) in
-    let is = rw c.steps-steps.ensures.value at c.index-steps-rank.is in
-    let seen = held_seen (leg_of (steps_of c.self.inside.ladder) c.self.inside.held) c.args.self.now i c.loop-rank.rank c.index-steps-rank.result c.self.view_is c.steps-steps.ensures.kept next inside is in
+    let is = rw (steps_now c.self.inside.steps.now c.self.inside.held.now c.args.self.now c.self.view_is) at c.index-steps-rank.is in
+    let seen = held_seen (leg_of c.self.inside.steps.now c.self.inside.held.now) c.args.self.now i c.loop-rank.rank c.index-steps-rank.result c.self.view_is (kept_now c.self.inside.steps.now c.self.inside.held.now c.args.self.now c.self.view_is c.self.invariant) next inside is in
     let above = room_above c.args.self.now.steps i c.loop-rank.rank c.index-steps-rank.result (seats_on c.args.self.now) c.args.class next inside is c.if-eq.ensures in
     record {
       inside = omega arith;
