@@ -1,55 +1,14 @@
 //! The days on which a leg operates (SSIM chapter 7, period and days of operation).
-ghost use Rattle.std.specs.Prelude.{◌≡◌, ◌+◌, ◌-◌, ◌≤◌, ◌<◌, ◌++◌, ◌∷◌, ◌↔◌, ℕ, List, [], All, Contains, IfOk, OnOk, OnErr, length, pos, unwrap_or};
+ghost use Rattle.std.specs.Prelude.{◌≡◌, ◌+◌, ◌-◌, ◌≤◌, ◌<◌, ◌↔◌, ℕ, All, Contains, IfOk, pos, unwrap_or};
 ghost use Rattle.std.specs.List.Sorted.{IsStrictlyIncreasing};
 ghost use Rattle.jiff_core.specs.Calendar.{weekday_number};
 ghost use Rattle.ssim_flights.specs.Operating.{Operates, days_among, last_day, operates, operating_days};
 
-use ssim_records::{Day, Leg, Memory};
+use ssim_records::{Day, Items, Leg, Memory};
 use std::alloc::Global;
-use std::marker::Model;
 
 /// Days in order.
-#[derive(Drop)]
-pub struct Days {
-    items: Vec<Day>,
-}
-
-impl Model for Days {
-    ghost Value = { List ℕ };
-
-    ghost view = { λ d. d.items.items };
-}
-
-impl Days {
-    pub fn as_slice(&self) -> &[Day]
-        ensures { result.now ≡ self.now }
-    {
-        self.items.as_slice()
-    }
-
-    pub fn len(&self) -> usize
-        ensures { result ≡ length self.now }
-    {
-        self.items.len()
-    }
-
-    pub(crate) fn new(alloc: Global) -> Self
-        ensures { result ≡ [] }
-    {
-        Days {
-            items: Vec::new(alloc),
-        }
-    }
-
-    /// Adds a day at the end.
-    pub(crate) fn push(&mut self, day: Day) -> Result<(), Memory>
-        ensures ok { OnOk result (self.new ≡ self.old ++ day ∷ []) }
-        ensures refused { OnErr result (self.new ≡ self.old) }
-    {
-        self.items.push(day)?;
-        Ok(())
-    }
-}
+pub type Days = Items<Day>;
 
 /// The days on which the leg operates, where `end` stands for an open end of its period.
 /// It refuses for want of memory alone.

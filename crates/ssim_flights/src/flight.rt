@@ -1,10 +1,5 @@
 //! A flight on its dates, and what a passenger asks for.
-ghost use Rattle.std.specs.Prelude.{◌≡◌, ◌++◌, ◌∷◌, ◌<◌, ℕ, List, [], IfOk, OnOk, OnErr, length, slice_get, Some};
-ghost use Rattle.ssim_flights.specs.declared.flight.DatedLeg.{DatedLeg as Dated};
-
-use ssim_records::{Airline, Day, Memory, Station};
-use std::alloc::Global;
-use std::marker::Model;
+use ssim_records::{Airline, Day, Items, Station};
 
 /// A leg on its local day of departure.
 #[derive(Clone, Copy)]
@@ -16,49 +11,7 @@ pub struct DatedLeg {
 }
 
 /// The legs of a flight, in order.
-#[derive(Drop)]
-pub struct DatedLegs {
-    items: Vec<DatedLeg>,
-}
-
-impl Model for DatedLegs {
-    ghost Value = { List Dated };
-
-    ghost view = { λ l. l.items.items };
-}
-
-impl DatedLegs {
-    pub fn as_slice(&self) -> &[DatedLeg]
-        ensures { result.now ≡ self.now }
-    {
-        self.items.as_slice()
-    }
-
-    pub fn len(&self) -> usize
-        ensures { result ≡ length self.now }
-    {
-        self.items.len()
-    }
-
-    /// No legs, and room for `count`.
-    pub(crate) fn with_room(alloc: Global, count: usize) -> Result<Self, Memory>
-        ensures { IfOk result (λ legs. legs ≡ []) }
-    {
-        let items = Vec::with_capacity(alloc, count)?;
-        Ok(DatedLegs { items })
-    }
-
-    /// Adds a leg at the end.
-    pub(crate) fn push(&mut self, leg: DatedLeg) -> Result<(), Memory>
-        ensures ok { OnOk result (self.new ≡ self.old ++ leg ∷ []) }
-        ensures refused { OnErr result (self.new ≡ self.old) }
-    {
-        let _board: Station = leg.board;
-        let _day: Day = leg.day;
-        self.items.push(leg)?;
-        Ok(())
-    }
-}
+pub type DatedLegs = Items<DatedLeg>;
 
 /// A flight of the horizon, with its legs.
 #[derive(Drop)]

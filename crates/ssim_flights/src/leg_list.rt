@@ -2,53 +2,14 @@
 ghost use Rattle.std.specs.Prelude.{◌≡◌, ◌<◌, ◌++◌, ◌∷◌, List, [], OnOk, length, slice_set, slice_index_or};
 ghost use Rattle.ssim_records.specs.declared.carrier.Leg.{Leg as Flown};
 
-use ssim_records::{Day, Leg, Memory, Station};
+use ssim_records::{Day, Leg, Legs, Memory, Station};
 use std::alloc::Global;
 use std::marker::Model;
-
-/// Legs in some order.
-#[derive(Drop)]
-pub(crate) struct LegList {
-    items: Vec<Leg>,
-}
-
-impl Model for LegList {
-    ghost Value = { List Flown };
-
-    ghost view = { λ l. l.items.items };
-}
-
-impl LegList {
-    pub(crate) fn new(alloc: Global) -> Self
-        ensures { result ≡ [] }
-    {
-        LegList {
-            items: Vec::new(alloc),
-        }
-    }
-
-    pub(crate) fn as_slice(&self) -> &[Leg]
-        ensures { result.now ≡ self.now }
-    {
-        self.items.as_slice()
-    }
-
-    /// Adds a leg at the end.
-    pub(crate) fn push(&mut self, leg: Leg) -> Result<(), Memory>
-        ensures { OnOk result (self.new ≡ self.old ++ leg ∷ []) }
-    {
-        let _suffix: Option<u8> = leg.suffix;
-        let _from: Day = leg.from;
-        let _board: Station = leg.board;
-        self.items.push(leg)?;
-        Ok(())
-    }
-}
 
 /// The legs of several itineraries.
 #[derive(Drop)]
 pub(crate) struct LegLists {
-    items: Vec<LegList>,
+    items: Vec<Legs>,
 }
 
 impl Model for LegLists {
@@ -66,7 +27,7 @@ impl LegLists {
         }
     }
 
-    pub(crate) fn as_slice(&self) -> &[LegList]
+    pub(crate) fn as_slice(&self) -> &[Legs]
         ensures { result.now ≡ self.now }
     {
         self.items.as_slice()
@@ -76,7 +37,10 @@ impl LegLists {
     pub(crate) fn begin(&mut self, alloc: Global, leg: Leg) -> Result<(), Memory>
         ensures { OnOk result (self.new ≡ self.old ++ (leg ∷ []) ∷ []) }
     {
-        let mut legs = LegList::new(alloc);
+        let _suffix: Option<u8> = leg.suffix;
+        let _from: Day = leg.from;
+        let _board: Station = leg.board;
+        let mut legs = Legs::new(alloc);
         legs.push(leg)?;
         self.items.push(legs)?;
         Ok(())
@@ -87,7 +51,11 @@ impl LegLists {
         requires { i < length self.old }
         ensures { OnOk result (self.new ≡ slice_set self.old i (slice_index_or self.old i [] ++ leg ∷ [])) }
     {
+        let _suffix: Option<u8> = leg.suffix;
+        let _from: Day = leg.from;
+        let _board: Station = leg.board;
         let legs = &mut self.items[i];
-        legs.push(leg)
+        legs.push(leg)?;
+        Ok(())
     }
 }
