@@ -1,9 +1,5 @@
 //! Change rows: another limit and wait for one class of a flight's city pair on one day.
-ghost use Rattle.std.specs.Prelude.{◌≡◌, ◌++◌, ◌∷◌, [], OnOk, OnErr};
-
-use ssim_records::{Airline, Class, Day, Memory, Station};
-use std::alloc::Global;
-use std::marker::Model;
+use ssim_records::{Airline, Class, Day, Items, Station};
 
 /// The limit and the wait of a class on the leg of a flight between two cities on a local day.
 #[derive(Clone, Copy)]
@@ -24,41 +20,4 @@ pub struct ChangeRow {
 }
 
 /// Change rows in the order of their text.
-#[derive(Drop)]
-pub struct ChangeRows {
-    items: Vec<ChangeRow>,
-}
-
-impl Model for ChangeRows {
-    ghost use Rattle.std.specs.Prelude.{List};
-    ghost use Rattle.seat_nesting.specs.declared.change_row.ChangeRow.{ChangeRow as Row};
-
-    ghost Value = { List Row };
-
-    ghost view = { λ r. r.items.items };
-}
-
-impl ChangeRows {
-    pub fn as_slice(&self) -> &[ChangeRow]
-        ensures { result.now ≡ self.now }
-    {
-        self.items.as_slice()
-    }
-
-    pub(crate) fn new(alloc: Global) -> Self
-        ensures { result ≡ [] }
-    {
-        ChangeRows {
-            items: Vec::new(alloc),
-        }
-    }
-
-    /// Adds a row at the end.
-    pub(crate) fn push(&mut self, row: ChangeRow) -> Result<(), Memory>
-        ensures ok { OnOk result (self.new ≡ self.old ++ row ∷ []) }
-        ensures refused { OnErr result (self.new ≡ self.old) }
-    {
-        self.items.push(row)?;
-        Ok(())
-    }
-}
+pub type ChangeRows = Items<ChangeRow>;

@@ -3,7 +3,7 @@ ghost use Rattle.std.specs.Prelude.{◌≡◌};
 ghost use Rattle.seat_nesting.specs.declared.limit_fault.LimitKind.TheVariants.{Memory as Wanting};
 
 use crate::ladder::LadderFault;
-use ssim_records::Memory;
+use std::alloc::AllocError;
 use std::fmt;
 
 /// Why a line is no limit row or no change row, or a text no ladder: the first fault from left to right.
@@ -25,10 +25,10 @@ pub enum LimitKind {
     Memory,
 }
 
-impl From<Memory> for LimitKind {
+impl From<AllocError> for LimitKind {
     ghost from_gives = { λ _ e. e ≡ Wanting };
 
-    fn from(_e: Memory) -> LimitKind {
+    fn from(_e: AllocError) -> LimitKind {
         LimitKind::Memory
     }
 }
