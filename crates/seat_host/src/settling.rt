@@ -16,7 +16,7 @@ use crate::under_lock::UnderLock;
 use seat_core::Totals;
 use seat_journal::Entries;
 use seat_nesting::Grid;
-use ssim_records::Memory;
+use ssim_records::{Items, Memory};
 use std::alloc::Global;
 use std::marker::Model;
 use std::sync::Wait;
@@ -31,19 +31,7 @@ pub enum GatherFault {
 }
 
 /// The receipts of one session, in order.
-#[derive(Drop)]
-pub struct Receipts {
-    items: Vec<Receipt>,
-}
-
-impl Model for Receipts {
-    ghost use Rattle.std.specs.Prelude.{List};
-    ghost use Rattle.seat_journal.specs.declared.entry.Entry.{Entry};
-
-    ghost Value = { List Entry };
-
-    ghost view = { λ r. r.items.items };
-}
+pub type Receipts = Items<Receipt>;
 
 /// The journal of a host that is over, its totals, and the receipts by session number.
 #[derive(Drop)]
@@ -54,37 +42,7 @@ pub struct Settled {
 }
 
 /// The receipts of the manager, of session 1, of session 2, and so on.
-#[derive(Drop)]
-pub struct AllReceipts {
-    items: Vec<Receipts>,
-}
-
-impl Model for AllReceipts {
-    ghost use Rattle.std.specs.Prelude.{List};
-    ghost use Rattle.seat_journal.specs.declared.entry.Entry.{Entry};
-
-    ghost Value = { List (List Entry) };
-
-    ghost view = { λ r. r.items.items };
-}
-
-impl AllReceipts {
-    /// The receipts by session number.
-    pub fn as_slice(&self) -> &[Receipts]
-        ensures { result.now ≡ self.now }
-    {
-        self.items.as_slice()
-    }
-}
-
-impl Receipts {
-    /// The receipts, in order.
-    pub fn as_slice(&self) -> &[Receipt]
-        ensures { result.now ≡ self.now }
-    {
-        self.items.as_slice()
-    }
-}
+pub type AllReceipts = Items<Receipts>;
 
 /// A host that was not settled. Contracts see its journal. It is never dropped: `into_host` gives the host again.
 pub struct Unsettled<K: Hosting> {
@@ -148,7 +106,7 @@ pub fn gather<K: Hosting, R: Wait>(
     Ok(Settled {
         journal: under_lock.end(rt),
         totals,
-        receipts: AllReceipts { items },
+        receipts: AllReceipts::from_vec(items),
     })
 }
 
@@ -213,9 +171,7 @@ fn empty_lists(alloc: Global, sessions: u8) -> Result<Vec<Receipts>, Memory>
 {
     let mut lists = Vec::new(alloc);
     for _number in 0..usize::from(sessions) + 1 {
-        lists.push(Receipts {
-            items: Vec::new(alloc),
-        })?;
+        lists.push(Receipts::new(alloc))?;
     }
     Ok(lists)
 }
@@ -268,5 +224,5 @@ fn settle_one<K: Hosting, R: Wait>(
         viewer: _,
         receipts,
     } = party;
-    slots[usize::from(id)] = Receipts { items: receipts };
+    slots[usize::from(id)] = Receipts::from_vec(receipts);
 }
