@@ -1,54 +1,20 @@
 //! The scripts of `run`: the requests of each.
-ghost use Rattle.std.specs.Prelude.{◌≡◌, ◌≢◌, ◌+◌, ◌++◌, ◌∷◌, ◌<◌, ◌≤◌, [], List, IfErr, IfOk, IfSome, OnOk, length, map};
+ghost use Rattle.std.specs.Prelude.{◌≡◌, ◌≢◌, ◌+◌, ◌<◌, ◌≤◌, IfErr, IfOk, IfSome, OnOk, length, map};
 ghost use Rattle.std.specs.List.{AllByRecursion};
 ghost use Rattle.ssim_records.specs.Days.{IsCenturyDay};
-ghost use Rattle.airimp_lines.specs.declared.requests.Request.{Request as Said};
 ghost use Rattle.seat_desk.specs.Desk.{HasFailed, IsOfInput};
 ghost use Rattle.seat_run.specs.Requests.{AreReadOn, AreRight, AreScripts, HasFailedAmong, IsOfScript, IsRefusedAmong, IsRefusedScript, IsScriptOf, IsTooLargeAmong, most_script_bytes, script_refusal};
 
 use airimp_lines::{Requests, ScriptFault, ScriptKind, read_script};
 use seat_desk::{DeskFault, read_input};
-use ssim_records::{Day, NotedRead};
-use std::alloc::{AllocError, Global};
-use std::marker::Model;
+use ssim_records::{Day, Items, NotedRead};
+use std::alloc::Global;
 
 /// 16 MiB, the most bytes of a script.
 const MOST_SCRIPT_BYTES: u64 = 16_777_216;
 
 /// The requests of each script, in the order of the scripts.
-#[derive(Drop)]
-pub struct Scripts {
-    items: Vec<Requests>,
-}
-
-impl Model for Scripts {
-    ghost Value = { List (List Said) };
-
-    ghost view = { λ s. s.items.items };
-}
-
-impl Scripts {
-    pub fn as_slice(&self) -> &[Requests]
-        ensures { result.now ≡ self.now }
-    {
-        self.items.as_slice()
-    }
-
-    fn new(alloc: Global) -> Self
-        ensures { result ≡ [] }
-    {
-        Scripts {
-            items: Vec::new(alloc),
-        }
-    }
-
-    fn push(&mut self, requests: Requests) -> Result<(), AllocError>
-        ensures { OnOk result (self.new ≡ self.old ++ requests ∷ []) }
-    {
-        self.items.push(requests)?;
-        Ok(())
-    }
-}
+pub type Scripts = Items<Requests>;
 
 /// The requests of each script, of at most eight. Each is read and checked before the next is read.
 #[tactic(auto, using(crate::proofs::Reading::read_count))]
