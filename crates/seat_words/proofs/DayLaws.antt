@@ -1,38 +1,12 @@
 -- A date that is read is written so, and what is written so is read.
-use Rattle.std.proofs.Common.{◌≡◌, ◌∙◌, ap, sym, refl, ℕ, ◌+◌, ◌-◌, ◌/◌, ◌%◌, ◌<◌, ◌≤◌, ◌&&◌, ◌||◌, true, Bool, cond, eqb, leb, List, [], ◌∷◌, ◌++◌, Some, arith, ℤ, pos, negsuc, ◌≤ℤ◌, unsigned_abs, codes}
+use Rattle.std.proofs.Common.{◌≡◌, ◌∙◌, ap, sym, refl, ℕ, ◌+◌, ◌-◌, ◌/◌, ◌%◌, ◌<◌, ◌≤◌, ◌&&◌, ◌||◌, true, Bool, cond, eqb, List, [], ◌∷◌, ◌++◌, Some, arith, codes}
 use Rattle.std.proofs.lemmas.Bool.{eqb-true}
 use Rattle.std.proofs.lemmas.Bool.Decides.{nat_tests}
-use Rattle.jiff_core.specs.Calendar.{days_from_civil, days_in_month, IsCivilDate}
-use Rattle.jiff_core.proofs.SignedLemmas.{signed_arith}
 use Rattle.ssim_records.specs.Fields.{two_are, two_value}
-use Rattle.ssim_records.specs.Days.{IsDate, civil_in, is_civil, two_digits}
-use Rattle.ssim_records.proofs.DateLaws.{civil_is, two_again, two_small, two_takes}
-use Rattle.ssim_records.proofs.Years.{low_day}
-use Rattle.ssim_records.proofs.Tests.{both_are, both_true, guarded, kept, passed}
+use Rattle.ssim_records.specs.Days.{civil_in, two_digits}
+use Rattle.ssim_records.proofs.DateLaws.{civil_again, civil_takes, two_again, two_small, two_takes}
+use Rattle.ssim_records.proofs.Tests.{both_are, both_true, guarded, kept}
 use Rattle.seat_words.specs.DayWords.{IsDateWord, date_text, date_word_in}
-
--- ---- the calendar
-
-civil_again : (y m d n : ℕ) → 2000 ≤ y → y ≤ 2099 → IsDate y m d n → civil_in y m d ≡ Some n
-civil_again y m d n low high date = sym (civil_is y m d (Some n) low high (λ valid. refl) date)
-
-from_zero : (z : ℤ) → pos 10592 ≤ℤ z → z ≡ pos (unsigned_abs z)
-from_zero (pos n) low = refl
-from_zero (negsuc n) low = absurd (omega (arith, signed_arith))
-
-civil_takes : (y m d n : ℕ) → y < 100 → civil_in (2000 + y) m d ≡ Some n → IsDate (2000 + y) m d n
-unfolding civil_in
-civil_takes y m d n small e =
-    let p = passed (is_civil (2000 + y) m d) (unsigned_abs (days_from_civil (pos (2000 + y)) m d)) n e in
-    let t = both_true (leb 1 m && leb m 12) (leb 1 d && leb d (days_in_month (pos (2000 + y)) m)) p.0 in
-    let u = both_true (leb 1 m) (leb m 12) t.0 in
-    let v = both_true (leb 1 d) (leb d (days_in_month (pos (2000 + y)) m)) t.1 in
-    let civil : IsCivilDate (pos (2000 + y)) m d =
-    ((omega (arith, signed_arith), omega (arith, signed_arith)), (le_of 1 m u.0, le_of m 12 u.1), (le_of 1 d v.0, le_of d (days_in_month (pos (2000 + y)) m) v.1)) in
-    (civil, from_zero _ (low_day (pos (2000 + y)) m d civil (omega (arith, signed_arith))) ∙ ap (λ (x : ℕ). pos x) p.1)
-  where
-    le_of : (a b : ℕ) → leb a b ≡ true → a ≤ b
-    le_of a b h = grind (arith, nat_tests, h)
 
 -- ---- dates
 
@@ -123,4 +97,4 @@ date_again word n h =
     let text : date_text h.year h.month h.day ≡ 50 ∷ 48 ∷ two_digits y ++ 45 ∷ two_digits h.month ++ 45 ∷ two_digits h.day =
     ap (λ (x : ℕ). date_text x h.month h.day) year ∙ ap (λ (x : List ℕ). x ++ codes "-" ++ two_digits h.month ++ codes "-" ++ two_digits h.day) (century_of y small) in
     ap date_word_in (h.written ∙ text) ∙ date_of y h.month h.day small month day
-    ∙ ap (λ (x : ℕ). civil_in x h.month h.day) (sym year) ∙ civil_again h.year h.month h.day n h.first h.last h.date
+    ∙ ap (λ (x : ℕ). civil_in x h.month h.day) (sym year) ∙ civil_again h.year h.month h.day n h.date

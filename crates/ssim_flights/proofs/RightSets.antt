@@ -1,11 +1,9 @@
 -- The carrier and the legs of a data set are right in what dates are reckoned from.
-use Rattle.std.proofs.Common.{rules, ◌≡◌, ℕ, ◌+◌, ◌*◌, ◌<◌, ◌≤◌, List, [], ◌∷◌, Option, Some, None, All, ⊎_elim, refl, sym, subst, ℤ, pos, negsuc, ◌-ℤ◌, ◌≤ℤ◌, unwrap_or, arith}
+use Rattle.std.proofs.Common.{◌≡◌, ℕ, ◌+◌, ◌*◌, ◌<◌, ◌≤◌, List, [], ◌∷◌, Option, Some, None, All, ⊎_elim, sym, subst, ℤ, pos, negsuc, ◌-ℤ◌, ◌≤ℤ◌, unwrap_or, arith}
 use Rattle.std.proofs.lemmas.List.Elements.{All-nil, All-cons}
-use Rattle.jiff_core.specs.Calendar.{day_count, days_from_civil, IsCivilDate}
 use Rattle.jiff_core.proofs.SignedLemmas.{signed_arith}
-use Rattle.jiff_core.proofs.CalendarLemmas.{days_from_civil-day_count, day_count-lt_year}
-use Rattle.jiff_core.proofs.MarchLemmas.{day_count-early, day_count-late}
 use Rattle.ssim_records.specs.Days.{IsDate, IsDayField}
+use Rattle.ssim_records.proofs.Years.{high_century, low_century}
 use Rattle.ssim_records.specs.SetText.{IsBody, IsDataSet, IsLeg, IsOffset, IsShift, IsUntil}
 use Rattle.ssim_records.specs.declared.carrier.Leg.{Leg}
 use Rattle.ssim_records.specs.declared.set.DataSet.{DataSet}
@@ -13,27 +11,10 @@ use Rattle.ssim_flights.specs.Right.{IsOfCentury, IsRightCarrier, IsRightLeg}
 
 -- ---- the years 2000 to 2099
 
-count_2100 : day_count (pos 2100) 1 1 ≡ 4_419_435
-count_2100 = day_count-early (pos 2100) 12099 1 1 refl (omega arith) (omega arith) (omega arith)
-
-last_1999 : day_count (pos 1999) 12 31 ≡ 4_382_909
-last_1999 = day_count-late (pos 1999) 11999 12 31 refl (omega arith) (omega arith) (omega arith)
-
-date_1999 : IsCivilDate (pos 1999) 12 31
-date_1999 = search rules
-
-low_day : (y : ℤ) (m d : ℕ) → IsCivilDate y m d → pos 2000 ≤ℤ y → pos 10957 ≤ℤ days_from_civil y m d
-low_day y m d date low =
-    omega (arith, signed_arith, days_from_civil-day_count y m d, last_1999, day_count-lt_year (pos 1999) 12 31 y m d date_1999 date.2.0 (omega (arith, signed_arith)))
-
-high_day : (y : ℤ) (m d : ℕ) → IsCivilDate y m d → y ≤ℤ pos 2099 → days_from_civil y m d ≤ℤ pos 47481
-high_day y m d date high =
-    omega (arith, signed_arith, days_from_civil-day_count y m d, count_2100, day_count-lt_year y m d (pos 2100) 1 1 date (omega arith) (omega (arith, signed_arith)))
-
 pub of_century : (year m d n : ℕ) → year < 100 → IsDate (2000 + year) m d n → IsOfCentury n
 of_century year m d n small date =
-    let low = low_day (pos (2000 + year)) m d date.0 (omega (arith, signed_arith)) in
-    let high = high_day (pos (2000 + year)) m d date.0 (omega (arith, signed_arith)) in
+    let low = low_century (pos (2000 + year)) m d date.0 (omega (arith, signed_arith)) in
+    let high = high_century (pos (2000 + year)) m d date.0 (omega (arith, signed_arith)) in
     let number = date.1 in
     record { begun = omega (arith, signed_arith); lasts = omega (arith, signed_arith) }
 

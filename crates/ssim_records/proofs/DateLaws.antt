@@ -96,7 +96,7 @@ pub from_zero : (z : ℤ) → pos 10592 ≤ℤ z → z ≡ pos (unsigned_abs z)
 from_zero (pos n) low = refl
 from_zero (negsuc n) low = absurd (omega (arith, signed_arith))
 
-civil_takes : (y m d n : ℕ) → y < 100 → civil_in (2000 + y) m d ≡ Some n → IsDate (2000 + y) m d n
+pub civil_takes : (y m d n : ℕ) → y < 100 → civil_in (2000 + y) m d ≡ Some n → IsDate (2000 + y) m d n
 unfolding civil_in
 civil_takes y m d n small e =
     let p = passed (is_civil (2000 + y) m d) (unsigned_abs (days_from_civil (pos (2000 + y)) m d)) n e in
@@ -113,7 +113,7 @@ civil_takes y m d n small e =
     le_of : (a b : ℕ) → leb a b ≡ true → a ≤ b
     le_of a b h = grind (arith, nat_tests, h)
 
-civil_again : (y m d n : ℕ) → IsDate y m d n → civil_in y m d ≡ Some n
+pub civil_again : (y m d n : ℕ) → IsDate y m d n → civil_in y m d ≡ Some n
 unfolding civil_in
 civil_again y m d n h =
     let civil = h.0 in
