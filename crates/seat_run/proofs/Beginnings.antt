@@ -1,8 +1,8 @@
 -- A journal beside an older one that it goes on from.
-use Rattle.std.proofs.Common.{◌≡◌, inl, inr, ℕ, suc, ◌+◌, ◌<◌, ◌≤◌, Bool, true, false, List, [], ◌∷◌, ◌++◌, length, take, drop, get_or, refl, sym, ap, ◌∙◌, subst, arith, Option, Some, None}
+use Rattle.std.proofs.Common.{◌≡◌, inr, ℕ, suc, ◌+◌, ◌<◌, ◌≤◌, Bool, true, false, List, [], ◌∷◌, ◌++◌, length, take, drop, get_or, refl, sym, ap, ◌∙◌, subst, Option, Some, None}
 use Rattle.std.specs.Prelude.{IsTrue, slice_get}
 use Rattle.std.proofs.Math.Seq.{drop-cons}
-use Rattle.std.proofs.lemmas.List.{length-append, take-append-drop, take_all, take_more}
+use Rattle.std.proofs.lemmas.List.{take-append-drop, take_all, take_more}
 use Rattle.std.proofs.lemmas.Option.{get_or_from_slice_get, slice_get_within}
 use Rattle.seat_nesting.specs.Nesting.{Legs}
 use Rattle.seat_journal.specs.declared.entry.Command.{Command}
@@ -108,28 +108,11 @@ begins_all older journal i whole so_far = record {
   is = sym (take-append-drop i journal) ∙ ap (λ (l : List Entry). l ++ drop i journal) (so_far ∙ take_all i older whole);
 }
 
--- ---- the lines behind
-
-pub behind_older : (older journal : List Entry) → Begins older journal → journal ≡ older ++ drop (length older) journal
-behind_older older journal begins = begins.is ∙ ap (λ (l : List Entry). older ++ l) (sym (ap (drop (length older)) begins.is ∙ drop_front older begins.rest)) where
-  drop_front : (xs ys : List Entry) → drop (length xs) (xs ++ ys) ≡ ys
-  drop_front [] ys = refl
-  drop_front (x ∷ xs) ys = drop_front xs ys
-
-pub as_long : (older journal : List Entry) → Begins older journal → length older ≤ length journal
-as_long older journal begins = let n : length journal ≡ length older + length begins.rest = ap length begins.is ∙ length-append older begins.rest in omega (arith, n)
-
-pub few_behind : (older journal added : List Entry) → journal ≡ older ++ added → length added ≤ length journal
-few_behind older journal added is = let n : length journal ≡ length older + length added = ap length is ∙ length-append older added in omega (arith, n)
-
 -- ---- the whole
 
 pub all_behind : (grid : Legs) (lists : List (List Command)) (older journal added : List Entry) → IsLegal grid journal → journal ≡ older ++ added → length lists ≤ 8 → AreAskedBelow lists added 9
     → AreAskedBehind lists older journal
 all_behind grid lists older journal added legal is few below = record { goes_on = record { rest = added; is = is }; are_asked = all_asked grid lists older journal added legal is few below }
-
-pub no_beginning : (lists : List (List Command)) (older journal : List Entry) (session call : ℕ) → IsNoBeginning older journal session call → IsUnasked lists older journal (Unasked session call)
-no_beginning lists older journal session call parts = inl parts
 
 pub unasked_behind : (lists : List (List Command)) (older journal added : List Entry) (session place call : ℕ) → journal ≡ older ++ added → IsFirstUnasked lists added session place
     → call ≡ calls_of older session + place → IsUnasked lists older journal (Unasked session call)

@@ -14,16 +14,16 @@ use Rattle.seat_journal.specs.declared.entry.Command.{Command}
 use Rattle.seat_journal.specs.declared.entry.Entry.{Entry}
 use Rattle.seat_journal.specs.declared.entry.Work.{Work}
 use Rattle.seat_journal.specs.declared.entry.Work.TheVariants.{Seats, Limit}
-use Rattle.seat_core.specs.Journal.{IsLegal, MayAsk}
+use Rattle.seat_core.specs.Journal.{IsLegal}
 use Rattle.seat_core.specs.Bookings.{same_place}
 use Rattle.seat_core.proofs.History.Faults.{place_same}
 use Rattle.seat_core.proofs.History.Legal.{each_legal}
 use Rattle.seat_core.proofs.Step.Limits.{both}
 use Rattle.seat_host.specs.Histories.{of_session}
 use Rattle.seat_host.proofs.Own.{own_append, own_one, own_other}
-use Rattle.seat_run.specs.Against.{AreAsked, AreAskedBelow, DifferAt, asked_by, done_by, same_change, same_command, works_of_list}
+use Rattle.seat_run.specs.Against.{AreAsked, AreAskedBelow, DifferAt, asked_by, done_by, same_command, works_of_list}
 use Rattle.seat_run.specs.RunDesk.{works_in}
-use Rattle.seat_run.proofs.Rows.{place_below}
+use Rattle.seat_run.proofs.Going.{few_may}
 
 -- ---- tests
 
@@ -68,27 +68,6 @@ commands_same a b told e = (
   λ (same : a ≡ b). e ∙ (ap (same_command a) (sym same) ∙ command_itself a),
 )
 
-change_is : (a b : Change) → a.flight ≡ b.flight → a.leg ≡ b.leg → a.class ≡ b.class → a.limit ≡ b.limit → a.wait ≡ b.wait → a ≡ b
-change_is a b e f g h k = λ i. record { flight = e i; leg = f i; class = g i; limit = h i; wait = k i }
-
-change_same : (a b : Change) → same_change a b ≡ true → a ≡ b
-change_same a b e =
-    let four = both ((a.flight == b.flight) && (a.leg == b.leg) && (a.class == b.class) && (a.limit == b.limit)) (a.wait == b.wait) e in
-    let three = both ((a.flight == b.flight) && (a.leg == b.leg) && (a.class == b.class)) (a.limit == b.limit) four.0 in
-    let two = both ((a.flight == b.flight) && (a.leg == b.leg)) (a.class == b.class) three.0 in
-    let one = both (a.flight == b.flight) (a.leg == b.leg) two.0 in
-    change_is a b (nat_same a.flight b.flight one.0) (nat_same a.leg b.leg one.1) (nat_same a.class b.class two.1) (nat_same a.limit b.limit three.1) (nat_same a.wait b.wait four.1)
-
-change_itself : (a : Change) → same_change a a ≡ true
-change_itself a = rw (same_nat a.flight, same_nat a.leg, same_nat a.class, same_nat a.limit, same_nat a.wait) refl
-
--- and of two changes
-pub changes_same : (a b : Change) (told : Bool) → told ≡ same_change a b → (IsTrue told → a ≡ b) × (a ≡ b → IsTrue told)
-changes_same a b told e = (
-  λ (is : IsTrue told). change_same a b (sym e ∙ is),
-  λ (same : a ≡ b). e ∙ (ap (same_change a) (sym same) ∙ change_itself a),
-)
-
 pub limits_same : (a b : Change) (told : Bool) → (IsTrue told → a ≡ b) × (a ≡ b → IsTrue told) → (IsTrue told → Limit a ≡ Limit b) × (Limit a ≡ Limit b → IsTrue told)
 limits_same a b told same = (λ (is : IsTrue told). ap Limit (same.0 is), λ (e : Limit a ≡ Limit b). same.1 (one e)) where
   one : Limit a ≡ Limit b → a ≡ b
@@ -128,9 +107,6 @@ asked_past commands calls work past e =
 -- a list that was looked up at a session's place
 pub listed : (lists : List (List Command)) (session place : ℕ) (list : List Command) → place ≡ session → place - 1 < length lists → list ≡ get_or lists (place - 1) list → slice_get lists (session - 1) ≡ Some list
 listed lists session place list e lt is = subst (λ (k : ℕ). slice_get lists (k - 1) ≡ Some list) e (slice_get_read lists (length lists) (place - 1) list refl lt is)
-
-pub unlisted : (lists : List (List Command)) (session place : ℕ) → place ≡ session → length lists ≤ place - 1 → slice_get lists (session - 1) ≡ None
-unlisted lists session place e past = subst (λ (k : ℕ). slice_get lists (k - 1) ≡ None) e (slice_get_past lists (place - 1) past)
 
 pub untold : (told : Bool) (P : Type 0) → told ≡ false → (P → IsTrue told) → P → ⊥
 untold true P e says p = absurd cc
@@ -198,9 +174,6 @@ done_other session e not = ap works_in (own_other session e not)
 one_more : (journal : List Entry) (i : ℕ) (e : Entry) → i < length journal → e ≡ get_or journal i e → take (i + 1) journal ≡ take i journal ++ e ∷ []
 one_more journal i e lt is = take_more journal i e lt ∙ ap (λ (x : Entry). take i journal ++ x ∷ []) (sym is)
 
-pub agree_none : (session : ℕ) (commands : List Command) → AgreeSoFar session commands 0 []
-agree_none session commands = record { count = refl; begun = refl; few = omega arith }
-
 module _ (session : ℕ) (commands : List Command) (journal : List Entry) (calls i : ℕ) (e : Entry) (lt : i < length journal) (is : e ≡ get_or journal i e)
     (so_far : AgreeSoFar session commands calls (take i journal)) where
   longer : (xs : List Entry) → length (xs ++ e ∷ []) ≡ length xs + 1
@@ -254,9 +227,6 @@ module _ (session : ℕ) (commands : List Command) (journal : List Entry) (calls
   differ_end more =
       differ_over calls (done_by session journal) (map Seats commands) all_lines.count all_lines.begun (let n : length (map Seats commands) ≡ length commands = length-map commands Seats in omega (arith, more, n))
 
-  pub agree_all : length commands ≤ calls → done_by session journal ≡ map Seats commands
-  agree_all none = all_lines.begun ∙ take_all calls (map Seats commands) (let n : length (map Seats commands) ≡ length commands = length-map commands Seats in omega (arith, none, n))
-
 -- ---- a session that has a list
 
 module _ (lists : List (List Command)) (journal : List Entry) (session : ℕ) (list slice : List Command) (at : slice_get lists (session - 1) ≡ Some list) (same : slice ≡ list) where
@@ -269,37 +239,12 @@ module _ (lists : List (List Command)) (journal : List Entry) (session : ℕ) (l
   pub not_as_listed : (answer : Option ℕ) → IfSome answer (λ call. DifferAt call (done_by session journal) (map Seats slice)) → IfSome answer (λ call. DifferAt call (done_by session journal) (asked_by lists session))
   not_as_listed answer told = subst (λ (asked : List Work). IfSome answer (λ call. DifferAt call (done_by session journal) asked)) its_works told
 
--- ---- a session beyond the lists
-
-module _ (lists : List (List Command)) (journal : List Entry) (session : ℕ) (none : slice_get lists (session - 1) ≡ None) (slice : List Command) (empty : slice ≡ []) where
-  asks_nothing : map Seats slice ≡ asked_by lists session
-  asks_nothing = ap (λ (l : List Command). map Seats l) empty ∙ sym (ap works_of_list none)
-
-  pub as_nothing : (answer : Option ℕ) → IfNone answer (done_by session journal ≡ map Seats slice) → IfNone answer (done_by session journal ≡ asked_by lists session)
-  as_nothing answer told = subst (λ (asked : List Work). IfNone answer (done_by session journal ≡ asked)) asks_nothing told
-
-  pub not_as_nothing : (answer : Option ℕ) → IfSome answer (λ call. DifferAt call (done_by session journal) (map Seats slice)) → IfSome answer (λ call. DifferAt call (done_by session journal) (asked_by lists session))
-  not_as_nothing answer told = subst (λ (asked : List Work). IfSome answer (λ call. DifferAt call (done_by session journal) asked)) asks_nothing told
-
 -- ---- session by session
-
-pub none_below : (lists : List (List Command)) (journal : List Entry) → AreAskedBelow lists journal 1
-none_below lists journal = record { each = λ session low high. absurd (omega (arith, low, high)) }
-
-pub one_below : (lists : List (List Command)) (journal : List Entry) (session : ℕ) → AreAskedBelow lists journal session → done_by session journal ≡ asked_by lists session → AreAskedBelow lists journal (session + 1)
-one_below lists journal session below same = record {
-  each = λ k low high. ⊎_elim (λ (lt : k < session). below.each k low lt) (λ (is : session ≡ k). subst (λ (s : ℕ). done_by s journal ≡ asked_by lists s) is same) (place_below k session (omega (arith, high)));
-}
-
--- sessions are 0 to 8
-session_most : (session : ℕ) (w : Work) → MayAsk session w → session ≤ 8
-session_most session (Seats c) may = may.1
-session_most session (Limit c) may = omega (arith, may)
 
 none_beyond : (s : ℕ) → 8 < s → (grid : Legs) (journal : List Entry) → IsLegal grid journal → of_session s journal ≡ []
 none_beyond s beyond grid journal legal =
     each_legal grid (λ (j : List Entry). of_session s j ≡ [])
-    (λ past e l next h. own_append s past (e ∷ []) ∙ (ap (λ (lines : List Entry). lines ++ of_session s (e ∷ [])) h ∙ own_other s e (λ (is : e.session ≡ s). let most : e.session ≤ 8 = session_most e.session e.work next.session in absurd (omega (arith, is, most, beyond)))))
+    (λ past e l next h. own_append s past (e ∷ []) ∙ (ap (λ (lines : List Entry). lines ++ of_session s (e ∷ [])) h ∙ own_other s e (λ (is : e.session ≡ s). let most : e.session ≤ 8 = few_may e.session e.work next.session in absurd (omega (arith, is, most, beyond)))))
     [] journal refl legal
 
 none_added : (s : ℕ) (older added : List Entry) → of_session s (older ++ added) ≡ [] → of_session s added ≡ []

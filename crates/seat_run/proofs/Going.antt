@@ -157,7 +157,7 @@ no_lines_of [] e = refl
 no_lines_of (x ∷ xs) e = absurd (omega (arith, e))
 
 -- no line is of a session above 8
-few_may : (session : ℕ) (w : Work) → MayAsk session w → session ≤ 8
+pub few_may : (session : ℕ) (w : Work) → MayAsk session w → session ≤ 8
 few_may session (Seats c) may = may.1
 few_may session (Limit c) may = omega (arith, may)
 

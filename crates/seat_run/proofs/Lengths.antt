@@ -2,7 +2,7 @@
 use Rattle.std.proofs.Common.{◌≡◌, ℕ, ◌+◌, ◌*◌, ◌^◌, ◌<◌, ◌≤◌, Bool, true, false, nat_le, List, [], ◌∷◌, ◌++◌, length, refl, sym, ap, ◌∙◌, arith, length-append, Option, Some, None, IfSome, decimal, codes}
 use Rattle.std.specs.List.{AllByRecursion, flat_map}
 use Rattle.std.proofs.lemmas.Fmt.{length-decimal-le}
-use Rattle.ssim_records.specs.Names.{is_code, is_locator}
+use Rattle.ssim_records.proofs.LeadingFields.{length_code, length_locator}
 use Rattle.ssim_records.specs.declared.place.Place.{Place}
 use Rattle.seat_nesting.specs.Nesting.{Legs}
 use Rattle.seat_journal.specs.Text.{IsAdvice, IsChange, IsCommand, IsEntry, IsPlace, IsStem, IsWork, advice_text, blank, change_text, colon, dot, newline, command_text, end_text, entry_text, head_text, journal_text, place_text, stem_text, wanted_text, work_text}
@@ -128,22 +128,6 @@ five n lt = length-decimal-le 5 n (omega arith) (omega (arith, lt)) (omega (arit
 three : (n : ℕ) → n < 2 ^ 8 → length (decimal n) ≤ 3
 three n lt = length-decimal-le 3 n (omega arith) (omega (arith, lt)) (omega (arith, lt))
 
-code_two : (xs : List ℕ) → is_code xs ≡ true → length xs ≡ 2
-code_two [] h = absurd cc
-code_two (a ∷ []) h = absurd cc
-code_two (a ∷ b ∷ []) h = refl
-code_two (a ∷ b ∷ c ∷ xs) h = absurd cc
-
-locator_six : (xs : List ℕ) → is_locator xs ≡ true → length xs ≡ 6
-locator_six [] h = absurd cc
-locator_six (a ∷ []) h = absurd cc
-locator_six (a ∷ b ∷ []) h = absurd cc
-locator_six (a ∷ b ∷ c ∷ []) h = absurd cc
-locator_six (a ∷ b ∷ c ∷ d ∷ []) h = absurd cc
-locator_six (a ∷ b ∷ c ∷ d ∷ e ∷ []) h = absurd cc
-locator_six (a ∷ b ∷ c ∷ d ∷ e ∷ f ∷ []) h = refl
-locator_six (a ∷ b ∷ c ∷ d ∷ e ∷ f ∷ g ∷ xs) h = absurd cc
-
 -- two texts with a byte between
 between : (xs : List ℕ) (b : ℕ) (ys : List ℕ) → length (xs ++ (b ∷ ys)) ≡ length xs + 1 + length ys
 between xs b ys = omega (arith, length-append xs (b ∷ ys))
@@ -180,9 +164,9 @@ command_short c is =
       between c.locator blank (wanted_text c.place ++ (blank ∷ (c.class ∷ (blank ∷ (c.code ++ (blank ∷ seats)))))),
       between (wanted_text c.place) blank (c.class ∷ (blank ∷ (c.code ++ (blank ∷ seats)))),
       between c.code blank seats,
-      locator_six c.locator is.locator,
+      length_locator c.locator is.locator,
       wanted_short c.place is.place,
-      code_two c.code is.code,
+      length_code c.code is.code,
       five c.seats is.seats,
     )
 
@@ -224,7 +208,7 @@ stem_short e is =
       three e.session is.session,
       ten e.call is.call,
       work_short e.work is.work,
-      code_two e.reply is.reply,
+      length_code e.reply is.reply,
       five e.released is.released,
     )
 

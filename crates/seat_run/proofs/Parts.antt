@@ -18,7 +18,7 @@ use Rattle.seat_run.specs.declared.replies.Answered.{Answered}
 use Rattle.seat_run.specs.Answering.{AreAllAnswerable, AreAnswerable, HasRequest, IsAnswerable, IsBehind, IsBooked}
 use Rattle.seat_run.specs.Going.{behind}
 use Rattle.seat_run.specs.RunDesk.{AreAnswers, IsAdviceLine, IsAnswer, IsLineReply, IsReply, IsSeatsReply, at_any, booked_by, change_reply, made_by, of_command, of_request, of_work, reply_head, request_of, requested}
-use Rattle.seat_desk.proofs.Texts.{put_more, text_whole}
+use Rattle.seat_desk.proofs.Texts.{assoc_four, put_more, text_whole}
 
 -- ---- what can be answered
 
@@ -128,16 +128,13 @@ booked_there flights past scripts history number b none = by (nat_le number past
 pub line_behind : (s : Segment) (old new part : List ℕ) → IsPlainLine s part → new ≡ old ++ part → IsBehind (IsPlainLine s) old new
 line_behind s old new part line added = record { part = part; is_part = line; written = added }
 
-joined : (a b c d : List ℕ) → ((a ++ b) ++ c) ++ d ≡ a ++ ((b ++ c) ++ d)
-joined a b c d = simp append_assoc
-
 pub reply_put : (e : Entry) (answered : Answered) (code : List ℕ) (seats : ℕ) (old head mid new : List ℕ)
     → head ≡ old ++ reply_head e answered → IsBehind (IsPlainLine (reply_of answered.segment code seats)) head mid → new ≡ mid ++ 10 ∷ []
     → IsBehind (IsReply e answered code seats) old new
 reply_put e answered code seats old head mid new begun line ended = record {
   part = reply_head e answered ++ line.part ++ 10 ∷ [];
   is_part = record { text = line.part; is_text = line.is_part; written = refl };
-  written = ended ∙ (ap (λ (l : List ℕ). l ++ 10 ∷ []) (line.written ∙ ap (λ (l : List ℕ). l ++ line.part) begun) ∙ joined old (reply_head e answered) line.part (10 ∷ []));
+  written = ended ∙ (ap (λ (l : List ℕ). l ++ 10 ∷ []) (line.written ∙ ap (λ (l : List ℕ). l ++ line.part) begun) ∙ assoc_four old (reply_head e answered) line.part (10 ∷ []));
 }
 
 pub advices_more : (flights : List Flown) (past : Past) (scripts : List (List Request)) (history : List Entry) (e : Entry) (i : ℕ) (xs : List Advice) (a : Advice) (old mid new : List ℕ)

@@ -1,7 +1,6 @@
 //! The changes of limits that `run` takes: rows, each for the one leg that serves it.
 ghost use Rattle.std.specs.Prelude.{◌≡◌, ◌≢◌, ◌<◌, ◌≤◌, IfErr, IfOk, IfSome, length};
 ghost use Rattle.std.specs.List.{AllByRecursion};
-ghost use Rattle.std.specs.Str.Lines.{lines};
 ghost use Rattle.seat_nesting.specs.ChangeRows.{IsChangeText};
 ghost use Rattle.seat_desk.specs.Desk.{HasFailed, IsOfInput};
 ghost use Rattle.seat_run.specs.Changes.{AreChanges, AreServed, IsOfChanges, IsOnLeg, IsUnchanged, change_of, change_refusal, most_change_bytes, wanted_by};

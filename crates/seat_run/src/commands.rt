@@ -1,5 +1,5 @@
 //! What requests ask of the inventory.
-ghost use Rattle.std.specs.Prelude.{◌≡◌, ◌≤◌, ◌-◌, ◌++◌, IfOk, OnOk, length, map};
+ghost use Rattle.std.specs.Prelude.{◌≡◌, ◌-◌, ◌++◌, IfOk, OnOk, length, map};
 ghost use Rattle.seat_run.specs.Going.{idle, lists_over};
 ghost use Rattle.seat_run.specs.Requests.{command_of, commands_of, wanted_of};
 

@@ -1,9 +1,10 @@
 //! What a run goes on from: the inventory of an older journal, and what the texts of the run need to know of it.
-ghost use Rattle.std.specs.Prelude.{◌≡◌, ◌≢◌, ◌<◌, ◌≤◌, [], IfErr, IfOk, IfSome, length};
+ghost use Rattle.std.specs.Prelude.{◌≡◌, ◌<◌, ◌≤◌, [], IfErr, IfOk, IfSome, length};
 ghost use Rattle.seat_core.specs.Journal.{IsLegal};
 ghost use Rattle.seat_desk.specs.AuditDesk.{IsUnlawful, most_journal_bytes, most_lines};
 ghost use Rattle.seat_desk.specs.Desk.{HasFailed, IsOfInput};
 ghost use Rattle.seat_journal.specs.Text.{IsJournalText};
+ghost use Rattle.seat_run.specs.Against.{IsReplayWithin};
 ghost use Rattle.seat_run.specs.Going.{IsPast, highest_to, past_of};
 
 use seat_core::Core;
@@ -29,36 +30,23 @@ pub(crate) struct Past {
     pub calls: [u32; 9],
 }
 
-/// The inventory that an older journal comes to over these limits.
-pub(crate) fn read_past<A: NotedRead>(
+/// The inventory that a journal comes to over these limits.
+pub(crate) fn replayed_from<J: NotedRead>(
     alloc: Global,
     grid: Grid,
-    after: &mut A,
+    journal: &mut J,
 ) -> Result<Core, DeskFault>
-    ensures ok { IfOk result (λ core. IfSome (A.remaining after.old) (IsPast grid core.journal)) }
+    ensures ok { IfOk result (λ core. IfSome (J.remaining journal.old) (IsReplayWithin grid core)) }
+    ensures past { IfOk result (λ core. IfSome (J.remaining journal.old) (IsPast grid core.journal)) }
     ensures grid { IfOk result (λ core. core.grid ≡ grid) }
     ensures cap { IfOk result (λ core. core.cap ≡ most_lines) }
-    ensures fault { IfErr result (λ f. IsOfInput f → IfSome (A.remaining after.old) (IsUnlawful grid f)) }
-    ensures large { IfErr result (λ f. f ≡ DeskFault.TooLarge → IfSome (A.remaining after.old) (λ bytes. most_journal_bytes < length bytes)) }
-    ensures device { IfErr result (λ f. f ≡ DeskFault.Device → HasFailed A.failure_count after.old after.new) }
+    ensures few { IfOk result (λ core. length core.journal ≤ most_lines) }
+    ensures fault { IfErr result (λ f. IsOfInput f → IfSome (J.remaining journal.old) (IsUnlawful grid f)) }
+    ensures large { IfErr result (λ f. f ≡ DeskFault.TooLarge → IfSome (J.remaining journal.old) (λ bytes. most_journal_bytes < length bytes)) }
+    ensures device { IfErr result (λ f. f ≡ DeskFault.Device → HasFailed J.failure_count journal.old journal.new) }
 {
-    let bytes = read_input(alloc, after, MOST_JOURNAL_BYTES)?;
-    past_in(alloc, grid, bytes)
-}
-
-/// The inventory that these bytes come to.
-fn past_in(alloc: Global, grid: Grid, bytes: Vec<u8>) -> Result<Core, DeskFault>
-    requires { length bytes.items ≤ most_journal_bytes }
-    ensures ok { IfOk result (λ core. IsPast grid core.journal bytes.items) }
-    ensures grid { IfOk result (λ core. core.grid ≡ grid) }
-    ensures cap { IfOk result (λ core. core.cap ≡ most_lines) }
-    ensures fault { IfErr result (λ f. f ≢ DeskFault.Memory → IsUnlawful grid f bytes.items) }
-    ensures kind { IfErr result (λ f. (f ≢ DeskFault.Device) × (f ≢ DeskFault.TooLarge)) }
-{
-    match replayed(alloc, grid, bytes) {
-        Ok(core) => Ok(core),
-        Err(fault) => Err(fault),
-    }
+    let bytes = read_input(alloc, journal, MOST_JOURNAL_BYTES)?;
+    replayed(alloc, grid, bytes)
 }
 
 /// What the texts of a run need to know of the lines so far.

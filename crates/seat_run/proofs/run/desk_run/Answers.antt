@@ -26,7 +26,7 @@ returns-clause-ok g c =
     c.in_ok-past.ensures.grid c.in_ok-answer.ensures.ok in
     run_written c.args.inputs.now.first c.args.inputs.now.days c.args.today after texts changing c.in_ok-flights.field-0.flights c.in_ok-flights.field-0.grid c.in_ok-past.past.journal c.as_slice.result.now c.deref.result.now
     c.in_ok-answer.answer.settled.journal c.in_ok-answer.answer.replies.items
-    (record { are_scripts = scripts; are_changes = changes; is_history = history; are_entries = c.in_ok-answer.ensures.entries; is_replied = c.in_ok-answer.ensures.replies }) c.in_ok-past.ensures.ok
+    (record { are_scripts = scripts; are_changes = changes; is_history = history; are_entries = c.in_ok-answer.ensures.entries; is_replied = c.in_ok-answer.ensures.replies }) c.in_ok-past.ensures.past
     (g.S.Read.remaining c.args.inputs.now.set) (g.L.Read.remaining c.args.inputs.now.limits) (g.J.Write.contents c.args.journal.now) (g.J.Write.contents c.write_both.new.journal) (g.W.Write.contents c.args.out.now) (g.W.Write.contents c.write_both.new.out)
     c.as_slice-2.result.now c.deref-2.result.now c.write_both.result
     c.in_ok-flights.ensures.ok c.as_slice-2.ensures c.deref-2.ensures.value c.write_both.ensures.ok
@@ -42,9 +42,9 @@ returns-clause-device g c =
     c.in_ok-past.ensures.grid c.in_ok-answer.ensures.ok in
     run_stopped c.args.inputs.now.first c.args.inputs.now.days c.args.today after texts changing c.in_ok-flights.field-0.flights c.in_ok-flights.field-0.grid c.in_ok-past.past.journal c.as_slice.result.now c.deref.result.now
     c.in_ok-answer.answer.settled.journal c.in_ok-answer.answer.replies.items
-    (record { are_scripts = scripts; are_changes = changes; is_history = history; are_entries = c.in_ok-answer.ensures.entries; is_replied = c.in_ok-answer.ensures.replies }) c.in_ok-past.ensures.ok
+    (record { are_scripts = scripts; are_changes = changes; is_history = history; are_entries = c.in_ok-answer.ensures.entries; is_replied = c.in_ok-answer.ensures.replies }) c.in_ok-past.ensures.past
     ((((HasFailed g.S.Failures.failure_count c.args.inputs.now.set c.load.new.inputs.set ⊎ HasFailed g.L.Failures.failure_count c.args.inputs.now.limits c.load.new.inputs.limits)
-    ⊎ HasFailed g.A.Failures.failure_count c.args.after.now c.read_past.new.after)
+    ⊎ HasFailed g.A.Failures.failure_count c.args.after.now c.replayed_from.new.journal)
     ⊎ HasFailedAmong g.C.Failures.failure_count c.args.scripts.now c.read_scripts.new.scripts)
     ⊎ HasFailed g.D.Failures.failure_count c.args.changes.now c.limit_changes.new.changes)
     g.J.Failures.failure_count g.J.Write.contents c.args.journal.now c.write_both.new.journal g.W.Failures.failure_count g.W.Write.contents c.args.out.now c.write_both.new.out
@@ -63,4 +63,4 @@ returns-in_err-answer-clause-fault g c =
     let p = err_from_is_err_and c.from_residual-in_err-answer.result c.from_residual-in_err-answer.ensures.1 in
     rw (p.1, p.2) (run_unbooked (g.S.Read.remaining c.args.inputs.now.set) (g.L.Read.remaining c.args.inputs.now.limits) after c.args.inputs.now.first c.args.inputs.now.days c.args.today texts changing
     c.in_ok-flights.field-0.flights c.in_ok-flights.field-0.grid c.in_ok-past.past.journal c.as_slice.result.now c.deref.result.now c.in_err-answer.field-0.0
-    c.in_ok-flights.ensures.ok c.in_ok-past.ensures.ok scripts changes unbooked)
+    c.in_ok-flights.ensures.ok c.in_ok-past.ensures.past scripts changes unbooked)
