@@ -1,5 +1,5 @@
 -- What was read of each input is all of it, and the rooms are those of the inputs.
-use Rattle.std.proofs.Common.{◌≡◌, ℕ, List, [], ◌≤◌, length, Option, Some, None, IfSome, subst, ◌∙◌}
+use Rattle.std.proofs.Common.{◌≡◌, ℕ, List, [], ◌≤◌, length, Option, Some, None, IfSome, subst}
 use Rattle.ssim_flights.specs.declared.flight.Flight.{Flight}
 use Rattle.seat_nesting.specs.Nesting.{Legs}
 use Rattle.seat_core.specs.Journal.{replay}
