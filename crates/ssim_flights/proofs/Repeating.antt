@@ -34,7 +34,6 @@ keep_none q (x ∷ xs) all = rw (All-head (λ x. q x ≡ false) x xs all) (keep_
 -- ---- the days from a on that pass a test
 
 module _ (p : ℕ → Bool) (a : ℕ) where
-
   parts : (m n t b : ℕ) → t ≡ m + n → b ≡ a + m → filter p (range_with_len a t) ≡ filter p (range_with_len a m) ++ filter p (range_with_len b n)
   parts m n t b e f = ap (filter p) (range_parts a m n t b e f) ∙ filter-append p (range_with_len a m) (range_with_len b n)
 
