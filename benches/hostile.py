@@ -17,16 +17,9 @@ import itertools
 import random
 import sys
 
-LETTERS = "0123456789ABCDEFGHIJKLMNOPQRSTUVWXYZ"
+from ladder import locator
+
 CLASSES = "ABCDEFGHIJKLMNOPQRSTUVWXYZ"
-
-
-def locator(number):
-    text = ""
-    for _ in range(6):
-        number, digit = divmod(number, 36)
-        text = LETTERS[digit] + text
-    return text
 
 
 def held(chance):

@@ -8,15 +8,7 @@ turn: nine of ten lines are needs that are confirmed, the others cancel a bookin
 import random
 import sys
 
-LETTERS = "0123456789ABCDEFGHIJKLMNOPQRSTUVWXYZ"
-
-
-def locator(number):
-    text = ""
-    for _ in range(6):
-        number, digit = divmod(number, 36)
-        text = LETTERS[digit] + text
-    return text
+from ladder import locator
 
 
 def pairs_of(season):

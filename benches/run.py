@@ -23,19 +23,12 @@ import subprocess
 import sys
 import time
 
+from ladder import locator
+
 ROOT = os.path.dirname(os.path.dirname(os.path.abspath(__file__)))
-LETTERS = "0123456789ABCDEFGHIJKLMNOPQRSTUVWXYZ"
 MONTHS = "JAN FEB MAR APR MAY JUN JUL AUG SEP OCT NOV DEC".split()
 FIRST, DAYS, PARTS = datetime.date(2024, 3, 1), 200, 8
 LADDER = "F030/004 Y026/010 M018/008"
-
-
-def locator(number):
-    text = ""
-    for _ in range(6):
-        number, digit = divmod(number, 36)
-        text = LETTERS[digit] + text
-    return text
 
 
 def chains_of(season):
