@@ -6,10 +6,10 @@ use Rattle.jiff_core.specs.Calendar.{day_count, days_from_civil, days_in_month, 
 use Rattle.jiff_core.proofs.SignedLemmas.{signed_arith}
 use Rattle.jiff_core.proofs.CalendarLemmas.{days_from_civil-day_count, day_count-lt_year}
 use Rattle.jiff_core.proofs.MarchLemmas.{day_count-late}
-use Rattle.ssim_records.specs.Days.{IsDate}
-use Rattle.ssim_records.proofs.Years.{low_day, pos_inj}
-use Rattle.ssim_records.proofs.DateLaws.{from_zero}
-use Rattle.ssim_records.proofs.Tests.{both_true, both_are}
+use Rattle.airline_base.specs.Days.{IsDate}
+use Rattle.airline_base.proofs.Years.{low_day, pos_inj}
+use Rattle.airline_base.proofs.DateLaws.{from_zero}
+use Rattle.airline_base.proofs.Tests.{both_true, both_are}
 use Rattle.airimp_lines.specs.Fields.{in_month}
 use Rattle.airimp_lines.specs.Grammar.{IsNextDate}
 

@@ -7,12 +7,12 @@ use Rattle.std.proofs.lemmas.Bool.{eqb-true, leb-true}
 use Rattle.std.proofs.lemmas.Bool.Decides.{nat_tests}
 use Rattle.std.proofs.lemmas.List.{take-append-drop}
 use Rattle.jiff_core.specs.Calendar.{days_in_month, is_leap_year}
-use Rattle.ssim_records.specs.Days.{two_digits, month_name, day_month}
-use Rattle.ssim_records.specs.Fields.{suffix_text, two_are, two_value, month_of}
-use Rattle.ssim_records.proofs.Tests.{passed, guarded, both_true, some_is}
-use Rattle.ssim_records.proofs.DateLaws.{month_takes, reads_month, month_again, two_takes, two_again}
+use Rattle.airline_base.specs.Days.{two_digits, month_name, day_month}
+use Rattle.airline_base.specs.Fields.{suffix_text, two_are, two_value, month_of}
+use Rattle.airline_base.proofs.Tests.{passed, guarded, both_true, some_is}
+use Rattle.airline_base.proofs.DateLaws.{month_takes, reads_month, month_again, two_takes, two_again}
 use Rattle.airimp_lines.specs.Fields.{letters_in, letters_at, in_month, day_in, day_at, is_tail}
-use Rattle.ssim_records.proofs.LeadingRuns.{Stops, run_all, prefix_run}
+use Rattle.airline_base.proofs.LeadingRuns.{Stops, run_all, prefix_run}
 use Rattle.airimp_lines.specs.Grammar.{letters_text}
 
 -- ---- a suffix and a class

@@ -3,10 +3,10 @@ use Rattle.std.proofs.Common.{◌≡◌, ℕ, true, cond, eqb, List, ◌∷◌, 
 use Rattle.std.specs.List.{list_all}
 use Rattle.std.proofs.lemmas.Bool.{eqb-true}
 use Rattle.std.proofs.lemmas.List.{take_at, drop_at, take-append-drop}
-use Rattle.ssim_records.specs.Names.{is_locator, is_name_byte}
-use Rattle.ssim_records.proofs.Tests.{passed, both_true}
-use Rattle.ssim_records.specs.Fields.{fixed_at, byte_at}
-use Rattle.ssim_records.proofs.LeadingFields.{with_some, fixed_takes, fixed_again, byte_takes, length_locator}
+use Rattle.airline_base.specs.Names.{is_locator, is_name_byte}
+use Rattle.airline_base.proofs.Tests.{passed, both_true}
+use Rattle.airline_base.specs.Fields.{fixed_at, byte_at}
+use Rattle.airline_base.proofs.LeadingFields.{with_some, fixed_takes, fixed_again, byte_takes, length_locator}
 use Rattle.airimp_lines.specs.Messages.{is_address, address_at, is_remark, heading_at}
 use Rattle.airimp_lines.specs.Script.{IsHeading}
 

@@ -1,14 +1,14 @@
 -- A segment line that is read is spelled so, and what is spelled so is read.
 use Rattle.std.proofs.Common.{◌≡◌, ℕ, ◌≤◌, true, leb, ◌&&◌, List, ◌∷◌, ◌++◌, length, Option, Some, Ok, refl, ap, subst, ◌∙◌, arith, append_assoc}
 use Rattle.std.proofs.lemmas.Bool.Decides.{nat_tests}
-use Rattle.ssim_records.specs.Names.{is_airline, is_station, is_code}
-use Rattle.ssim_records.specs.Days.{two_digits, month_name, day_month}
+use Rattle.airline_base.specs.Names.{is_airline, is_station, is_code}
+use Rattle.airline_base.specs.Days.{two_digits, month_name, day_month}
 use Rattle.airimp_lines.specs.declared.fault.LineFault.TheVariants as faults
 use Rattle.airimp_lines.specs.declared.segment.Undated.{Undated}
-use Rattle.ssim_records.specs.Fields.{fixed_at, byte_at, numeral_at, IsNumberText}
-use Rattle.ssim_records.proofs.Chains.{with_want, with_check, with_step}
-use Rattle.ssim_records.proofs.LeadingFields.{fixed_takes, fixed_again, byte_takes, numeral_takes, numeral_again, length_airline, length_station, length_code}
-use Rattle.ssim_records.proofs.Reaches.{ok_is}
+use Rattle.airline_base.specs.Fields.{fixed_at, byte_at, numeral_at, IsNumberText}
+use Rattle.airline_base.proofs.Chains.{with_want, with_check, with_step}
+use Rattle.airline_base.proofs.LeadingFields.{fixed_takes, fixed_again, byte_takes, numeral_takes, numeral_again, length_airline, length_station, length_code}
+use Rattle.airline_base.proofs.Reaches.{ok_is}
 use Rattle.airimp_lines.specs.Fields.{letters_at, in_month, day_at, is_tail}
 use Rattle.airimp_lines.specs.Reading.{asked_at, undated_at}
 use Rattle.airimp_lines.specs.Grammar.{letters_text, Spells}

@@ -1,7 +1,7 @@
 -- One line of a script, and what remains behind it.
 use Rattle.std.proofs.Common.{◌≡◌, ℕ, ◌+◌, Bool, true, false, cond, not, ◌==◌, List, [], ◌∷◌, ◌++◌, length, Option, Some, None, Result, Ok, Err, inr, refl, sym, ap, subst, ◌∙◌}
 use Rattle.std.specs.Result.{IsErrAnd, IfErr}
-use Rattle.ssim_records.proofs.Tests.{some_is, none_some, nothing}
+use Rattle.airline_base.proofs.Tests.{some_is, none_some, nothing}
 use Rattle.airimp_lines.specs.declared.fault.LineFault.{LineFault}
 use Rattle.airimp_lines.specs.declared.fault.ScriptKind.{ScriptKind}
 use Rattle.airimp_lines.specs.declared.fault.ScriptKind.TheVariants as kinds

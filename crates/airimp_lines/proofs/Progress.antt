@@ -6,13 +6,13 @@ use Rattle.std.proofs.lemmas.List.{nil_from_length}
 use Rattle.airimp_lines.specs.declared.fault.ScriptKind.{ScriptKind}
 use Rattle.airimp_lines.specs.declared.fault.ScriptKind.TheVariants as kinds
 use Rattle.airimp_lines.specs.declared.requests.Request.{Request}
-use Rattle.ssim_records.specs.Lines.{line_at}
-use Rattle.ssim_records.specs.Reach.{reach, fault_at}
+use Rattle.airline_base.specs.Lines.{line_at}
+use Rattle.airline_base.specs.Reach.{reach, fault_at}
 use Rattle.airimp_lines.specs.Script.{IsScript}
 use Rattle.airimp_lines.specs.Steps.{Message, step, next, at_end, Adds, IsStop, IsFirstFault, WantsRoom}
-use Rattle.ssim_records.proofs.LineCuts.{Cut, lines_are}
+use Rattle.airline_base.proofs.LineCuts.{Cut, lines_are}
 use Rattle.airimp_lines.proofs.Passing.{Behind, onward, behind, none_remain, never_memory}
-use Rattle.ssim_records.proofs.Reaches.{reach_one}
+use Rattle.airline_base.proofs.Reaches.{reach_one}
 use Rattle.airimp_lines.proofs.Remaining.{Remain}
 
 -- these requests are those of the first lines, so many; the message goes on; the rest is left

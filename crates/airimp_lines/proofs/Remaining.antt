@@ -8,7 +8,7 @@ use Rattle.airimp_lines.specs.Grammar.{SpellsSegment, undated_of}
 use Rattle.airimp_lines.specs.Messages.{is_passed_over}
 use Rattle.airimp_lines.specs.Script.{Line, runs_of, segment_lines, IsHeading, IsRequest, AreRequests, AreMessages}
 use Rattle.airimp_lines.specs.Steps.{Message}
-use Rattle.ssim_records.proofs.LineCuts.{IsSplit, is_split}
+use Rattle.airline_base.proofs.LineCuts.{IsSplit, is_split}
 use Rattle.airimp_lines.proofs.Segments.{is_only, is_read}
 
 -- the rest of the message with this locator, and the messages behind it

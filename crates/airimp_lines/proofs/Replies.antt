@@ -6,16 +6,16 @@ use Rattle.std.proofs.lemmas.Bool.Decides.{nat_tests}
 use Rattle.std.proofs.lemmas.Fmt.{length-decimal-le, decimal_by_steps, decimal_is_IsNumeral, decimal_nonempty}
 use Rattle.std.proofs.lemmas.List.{append-nil, take_at, length-append}
 use Rattle.std.proofs.lemmas.List.Folds.{list_all-append}
-use Rattle.ssim_records.specs.Names.{is_code}
-use Rattle.ssim_records.specs.Days.{day_month, two_digits, month_name}
-use Rattle.ssim_records.proofs.Years.{same_parts}
+use Rattle.airline_base.specs.Names.{is_code}
+use Rattle.airline_base.specs.Days.{day_month, two_digits, month_name}
+use Rattle.airline_base.proofs.Years.{same_parts}
 use Rattle.airimp_lines.specs.Fields.{is_tail}
 use Rattle.airimp_lines.specs.declared.segment.Segment.{Segment}
-use Rattle.ssim_records.specs.Fields.{IsNumberText}
+use Rattle.airline_base.specs.Fields.{IsNumberText}
 use Rattle.airimp_lines.specs.Grammar.{letters_text, SpellsSegment, plain_line, IsPlainLine, reply_of}
 use Rattle.airimp_lines.proofs.RightLines.{right_segment}
-use Rattle.ssim_records.proofs.DateLaws.{length_name}
-use Rattle.ssim_records.proofs.LeadingFields.{length_airline, length_station, length_code}
+use Rattle.airline_base.proofs.DateLaws.{length_name}
+use Rattle.airline_base.proofs.LeadingFields.{length_airline, length_station, length_code}
 
 one : (n : ℕ) → n < 10 → list_all is_ascii_digit ((48 + n) ∷ []) ≡ true
 one n lt =

@@ -5,8 +5,8 @@ use Rattle.std.proofs.lemmas.List.Elements.{All-nil, All-cons, All-append}
 use Rattle.ssim_records.proofs.RightLaws.{all_digits}
 use Rattle.airimp_lines.specs.declared.requests.Request.{Request}
 use Rattle.airimp_lines.specs.declared.segment.Segment.{Segment}
-use Rattle.ssim_records.specs.Fields.{IsNumberText}
-use Rattle.ssim_records.proofs.Digits.{below_power}
+use Rattle.airline_base.specs.Fields.{IsNumberText}
+use Rattle.airline_base.proofs.Digits.{below_power}
 use Rattle.airimp_lines.specs.Grammar.{IsRightSegment, SpellsSegment}
 use Rattle.airimp_lines.specs.Script.{Line, segment_lines, AreRequests, IsMessage, AreMessages, IsScript}
 

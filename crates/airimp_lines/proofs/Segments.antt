@@ -1,6 +1,6 @@
 -- What is read is a segment that the line spells, and the only one.
 use Rattle.std.proofs.Common.{◌≡◌, ℕ, Result, Ok, Err, sym, ap, subst, ◌∙◌, List}
-use Rattle.ssim_records.proofs.Reaches.{ok_is}
+use Rattle.airline_base.proofs.Reaches.{ok_is}
 use Rattle.airimp_lines.specs.declared.fault.LineFault.{LineFault}
 use Rattle.airimp_lines.specs.declared.segment.Segment.{Segment}
 use Rattle.airimp_lines.specs.declared.segment.Undated.{Undated}

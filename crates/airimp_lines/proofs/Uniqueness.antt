@@ -1,6 +1,6 @@
 -- No script has two lists of requests.
 use Rattle.std.proofs.Common.{◌≡◌, ℕ, List, [], ◌∷◌, ◌++◌, sym, ap, subst, ◌∙◌}
-use Rattle.ssim_records.proofs.Tests.{some_is}
+use Rattle.airline_base.proofs.Tests.{some_is}
 use Rattle.airimp_lines.specs.declared.requests.Request.{Request}
 use Rattle.airimp_lines.specs.Grammar.{OneSegment}
 use Rattle.airimp_lines.specs.Script.{Line, segment_lines, AreRequests, IsMessage, AreMessages, OneScript}

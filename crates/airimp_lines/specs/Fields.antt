@@ -3,8 +3,8 @@ use Rattle.std.specs.Prelude.{ℕ, Bool, true, ◌&&◌, ◌==◌, nat_le, if◌
 use Rattle.std.specs.Char.{is_ascii_uppercase}
 use Rattle.std.specs.List.{prefix_len, list_all}
 use Rattle.jiff_core.specs.Calendar.{days_in_month}
-use Rattle.ssim_records.specs.Bytes.{is_printable}
-use Rattle.ssim_records.specs.Fields.{Field, two_are, two_value, month_of}
+use Rattle.airline_base.specs.Bytes.{is_printable}
+use Rattle.airline_base.specs.Fields.{Field, two_are, two_value, month_of}
 
 -- the run of letters: a class, or a suffix and a class
 abbrev pub letters_in : List ℕ → List ℕ → Field (Option ℕ × ℕ)

@@ -2,9 +2,9 @@
 -- choice of the year are this product's own.
 use Rattle.std.specs.Prelude.{◌^◌, decimal, ◌≡◌, ℕ, ◌≤◌, ◌<◌, IsTrue, List, [], ◌∷◌, ◌++◌, length, Option, IfSome}
 use Rattle.std.specs.Char.{is_ascii_uppercase}
-use Rattle.ssim_records.specs.Names.{is_airline, is_station, is_code}
-use Rattle.ssim_records.specs.Days.{IsDate, day_month}
-use Rattle.ssim_records.specs.Fields.{IsNumberText, suffix_text}
+use Rattle.airline_base.specs.Names.{is_airline, is_station, is_code}
+use Rattle.airline_base.specs.Days.{IsDate, day_month}
+use Rattle.airline_base.specs.Fields.{IsNumberText, suffix_text}
 use Rattle.airimp_lines.specs.Fields.{is_tail}
 use Rattle.airimp_lines.specs.declared.segment.Segment.{Segment}
 use Rattle.airimp_lines.specs.declared.segment.Undated.{Undated}

@@ -2,8 +2,8 @@
 use Rattle.std.specs.Prelude.{ℕ, Bool, true, false, not, ◌&&◌, ◌||◌, ◌==◌, nat_eq, if◌then◌else◌, List, [], ◌∷◌, length, take, drop, Option, Some, None, codes}
 use Rattle.std.specs.Char.{is_ascii_digit}
 use Rattle.std.specs.List.{list_all, starts_with}
-use Rattle.ssim_records.specs.Names.{is_name_byte, is_locator}
-use Rattle.ssim_records.specs.Fields.{◌>>=◌, fixed_at, byte_at}
+use Rattle.airline_base.specs.Names.{is_name_byte, is_locator}
+use Rattle.airline_base.specs.Fields.{◌>>=◌, fixed_at, byte_at}
 
 -- five of A to Z and 0 to 9
 abbrev pub is_address : List ℕ → Bool

@@ -1,11 +1,11 @@
 -- Reading a segment line from left to right, with the first fault that is met.
 use Rattle.std.specs.Prelude.{ℕ, ◌&&◌, nat_le, List, length, Result, Ok}
-use Rattle.ssim_records.specs.Names.{is_airline, is_station, is_code}
+use Rattle.airline_base.specs.Names.{is_airline, is_station, is_code}
 use Rattle.airimp_lines.specs.declared.fault.LineFault.{LineFault}
 use Rattle.airimp_lines.specs.declared.fault.LineFault.TheVariants as faults
 use Rattle.airimp_lines.specs.declared.segment.Undated.{Undated}
-use Rattle.ssim_records.specs.Chains.{◌>>=◌, want, check}
-use Rattle.ssim_records.specs.Fields.{fixed_at, byte_at, numeral_at}
+use Rattle.airline_base.specs.Chains.{◌>>=◌, want, check}
+use Rattle.airline_base.specs.Fields.{fixed_at, byte_at, numeral_at}
 use Rattle.airimp_lines.specs.Fields.{letters_at, day_at, is_tail}
 
 -- the pair, the code, the seats and the tail

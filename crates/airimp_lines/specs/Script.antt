@@ -2,7 +2,7 @@
 use Rattle.std.specs.Prelude.{◌≡◌, ℕ, IsTrue, not, ◌==◌, List, [], ◌∷◌, ◌++◌, length, filter}
 use Rattle.std.specs.List.{slice_split, enumerate_from}
 use Rattle.std.specs.Str.Lines.{lines}
-use Rattle.ssim_records.specs.Names.{is_locator}
+use Rattle.airline_base.specs.Names.{is_locator}
 use Rattle.airimp_lines.specs.Grammar.{SpellsSegment}
 use Rattle.airimp_lines.specs.Messages.{is_address, is_remark, is_passed_over}
 use Rattle.airimp_lines.specs.declared.requests.Request.{Request}

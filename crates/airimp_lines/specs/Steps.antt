@@ -1,8 +1,8 @@
 -- Reading a script line by line, with the first fault that is met.
 use Rattle.std.specs.Prelude.{◌≡◌, ◌⊎◌, ℕ, IsTrue, not, ◌-◌, ◌≤◌, ◌++◌, if◌then◌else◌, List, [], ◌∷◌, Option, Some, None, Result, Ok, Err}
-use Rattle.ssim_records.specs.Reach.{reach, IsFirst}
+use Rattle.airline_base.specs.Reach.{reach, IsFirst}
 use Rattle.std.specs.Result.{IsOk}
-use Rattle.ssim_records.specs.Lines.{line_at}
+use Rattle.airline_base.specs.Lines.{line_at}
 use Rattle.airimp_lines.specs.Messages.{heading_at, is_passed_over}
 use Rattle.airimp_lines.specs.Reading.{undated_at}
 use Rattle.airimp_lines.specs.declared.fault.LineFault.{LineFault}

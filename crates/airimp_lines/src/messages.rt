@@ -1,11 +1,11 @@
 //! The lines of a booking message.
 ghost use Rattle.std.specs.Prelude.{◌≡◌, option_map};
 ghost use Rattle.std.specs.List.{list_all};
-ghost use Rattle.ssim_records.specs.Names.{is_name_byte};
+ghost use Rattle.airline_base.specs.Names.{is_name_byte};
 ghost use Rattle.airimp_lines.specs.Messages.{address_at, heading_at, is_address, is_remark, is_service_line, is_name_line, is_passed_over};
 
-use ssim_records::Locator;
-use ssim_records::fields::{byte_of, locator_of};
+use airline_base::Locator;
+use airline_base::fields::{byte_of, locator_of};
 
 /// The locator on the first line of a message.
 #[tactic(auto, unfolding(crate::specs::Messages::heading_at))]

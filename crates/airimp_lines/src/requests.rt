@@ -1,6 +1,6 @@
 //! The requests of a script.
 use crate::segment::Segment;
-use ssim_records::{Items, Locator};
+use airline_base::{Items, Locator};
 
 /// A request for seats, in the message of a booking.
 #[derive(Clone, Copy)]

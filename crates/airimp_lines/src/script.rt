@@ -1,7 +1,7 @@
 //! Scripts: booking messages with empty lines between them.
 ghost use Rattle.std.specs.Prelude.{◌≢◌, All, ◌≡◌, ◌<◌, ◌^◌, List, length, Ok, IfOk, IfErr};
 ghost use Rattle.std.specs.Result.{MatchResult};
-ghost use Rattle.ssim_records.specs.Days.{IsCenturyDay};
+ghost use Rattle.airline_base.specs.Days.{IsCenturyDay};
 ghost use Rattle.airimp_lines.specs.Grammar.{IsRightSegment};
 ghost use Rattle.airimp_lines.specs.Script.{IsScript};
 ghost use Rattle.airimp_lines.specs.Steps.{step, Adds, IsFirstFault, IsStop, WantsRoom};
@@ -12,8 +12,8 @@ use crate::fault::{ScriptFault, ScriptKind};
 use crate::messages::{heading_of, is_passed_over};
 use crate::reading::read_segment;
 use crate::requests::{Request, Requests};
-use ssim_records::lines::cut_line;
-use ssim_records::{Day, Locator};
+use airline_base::lines::cut_line;
+use airline_base::{Day, Locator};
 use std::alloc::Global;
 
 /// The requests of a script of booking messages (AIRIMP), of less than 4 GiB. Their days are the earliest such dates on or

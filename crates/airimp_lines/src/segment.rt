@@ -1,5 +1,5 @@
 //! What a segment line says.
-use ssim_records::{Airline, Class, Code, Day, Station};
+use airline_base::{Airline, Class, Code, Day, Station};
 
 /// A request for seats from one city or airport to another on a dated flight (AIRIMP segment line).
 #[derive(Clone, Copy)]

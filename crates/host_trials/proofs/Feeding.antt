@@ -3,8 +3,8 @@ use Rattle.std.proofs.Common.{◌≡◌, ◌<◌, ◌+◌, ℕ, List, [], ◌∷
 use Rattle.std.proofs.lemmas.List.{take-append-drop, take_more}
 use Rattle.seat_nesting.specs.Nesting.{Legs}
 use Rattle.seat_journal.specs.declared.entry.Entry.{Entry}
-use Rattle.seat_core.specs.Journal.{IsLegal}
-use Rattle.seat_core.proofs.History.Legal.{legal_prefix}
+use Rattle.seat_rules.specs.Journal.{IsLegal}
+use Rattle.seat_rules.proofs.History.Legal.{legal_prefix}
 
 -- one line more is the next front
 pub fed_more : (journal front : List Entry) (i : ℕ) (e : Entry) → front ≡ take i journal → i < length journal → e ≡ get_or journal i e → front ++ e ∷ [] ≡ take (i + 1) journal

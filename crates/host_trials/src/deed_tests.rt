@@ -1,15 +1,12 @@
 //! The manager and the sessions of a host, one call after the other, and what gathering gives.
 ghost use Rattle.std.specs.Prelude.{◌≡◌, ◌↔◌, IsTrue};
-ghost use Rattle.seat_core.specs.Journal.{FitsCommand};
+ghost use Rattle.seat_rules.specs.Journal.{FitsCommand};
 
 use crate::inventories::{LEG, grid_of};
 use crate::steps::{Row, STEP, Step, lines_of, same, same_line, step_of};
-use seat_host::{
-    BookFault, GatherFault, Host, HostFault, Hosting, Manager, Parts, Receipt, Session, Settled,
-    gather,
-};
+use seat_host::{BookFault, GatherFault, Host, HostFault, Hosting, Manager, Parts, Receipt, Session, Settled, gather};
 use seat_journal::{Change, Command, Entry, Work};
-use ssim_records::Class;
+use airline_base::Class;
 use std::alloc::Global;
 use std::marker::Brand;
 use std::process::Abort;

@@ -6,7 +6,7 @@ use crate::inventories::{LEG, core_of, sold_and_cancelled};
 use crate::scene::{Scene, same_look};
 use crate::steps::{Row, STEP, same, step_of};
 use seat_display::Viewer;
-use ssim_records::Class;
+use airline_base::Class;
 use std::alloc::Global;
 use std::process::Abort;
 use std::sync::Wait;

@@ -1,11 +1,12 @@
 //! A publisher that is given the lines of a journal, one after the other.
 ghost use Rattle.std.specs.Prelude.{◌≡◌, ◌<◌, ◌+◌, ◌++◌, ◌∷◌, [], length, IfSome, All};
-ghost use Rattle.seat_core.specs.Journal.{IsLegal};
+ghost use Rattle.seat_rules.specs.Journal.{IsLegal};
 ghost use Rattle.seat_display.specs.Faces.{opened};
 
-use seat_core::{Core, Entry};
+use seat_core::Core;
+use seat_journal::Entry;
 use seat_display::{Publisher, Told, Viewer, open};
-use ssim_records::Memory;
+use airline_base::Memory;
 use std::alloc::Global;
 use std::marker::Model;
 use std::process::Abort;

@@ -1,5 +1,5 @@
 //! A gate that holds up sessions 1 and 2 before their calls.
-use seat_host::Gate;
+use seat_workers::Gate;
 use std::sync::Wait;
 use std::sync::atomic::{AtomicBool, Ordering};
 use std::thread;

@@ -8,7 +8,7 @@ use crate::steps::same;
 use seat_display::Viewer;
 use seat_host::{Host, Hosting, Manager, Parts, Session, gather};
 use seat_journal::Change;
-use ssim_records::Class;
+use airline_base::Class;
 use std::alloc::Global;
 use std::marker::Brand;
 use std::process::Abort;

@@ -7,7 +7,7 @@ use crate::inventories::LEG;
 use crate::steps::{Step, same};
 use seat_core::Core;
 use seat_display::Viewer;
-use ssim_records::Class;
+use airline_base::Class;
 use std::alloc::Global;
 use std::process::Abort;
 use std::sync::Wait;

@@ -1,7 +1,6 @@
 //! The rows of the tables: the lines of a journal, and steps of eight letters each.
-use seat_core::Entry;
-use seat_journal::{Entries, read_journal};
-use ssim_records::Class;
+use seat_journal::{Entries, Entry, read_journal};
+use airline_base::Class;
 use std::alloc::Global;
 use std::process::Abort;
 

@@ -1,17 +1,15 @@
 //! The manager and the sessions side by side, each with a list of its own.
 ghost use Rattle.std.specs.Prelude.{◌≡◌, ◌≤◌, All, IfOk, IsTrue};
-ghost use Rattle.seat_core.specs.Journal.{FitsChange, FitsCommand};
+ghost use Rattle.seat_rules.specs.Journal.{FitsChange, FitsCommand};
 
 use crate::inventories::{change, command, grid_of};
 use crate::meeting::{Holds, Meeting};
 use crate::steps::same;
-use seat_host::{
-    BookFault, Gate, Host, Hosting, Parts, Receipt, RequestList, RunFault, Settled, gather,
-    run_sessions,
-};
-use seat_journal::{Change, Command, Work};
+use seat_workers::{Gate, RunFault, run_sessions};
+use seat_host::{BookFault, Host, Hosting, Parts, Receipt, Settled, gather};
+use seat_journal::{Change, Command, CommandList, Work};
 use seat_nesting::Grid;
-use ssim_records::{Memory, Place};
+use airline_base::{Memory, Place};
 use std::alloc::Global;
 use std::marker::Brand;
 use std::process::Abort;
@@ -157,7 +155,7 @@ fn lists_of(
     alloc: Global,
     grid: &Grid,
     lengths: &[usize],
-) -> Result<Vec<RequestList>, Memory>
+) -> Result<Vec<CommandList>, Memory>
     ensures { IfOk result (λ lists. All (λ list. All (λ command. FitsCommand grid.now command) list) lists.items) }
 {
     let mut lists = Vec::new(alloc);
@@ -173,14 +171,14 @@ fn list_of(
     grid: &Grid,
     length: usize,
     initial: u8,
-) -> Result<RequestList, Memory>
+) -> Result<CommandList, Memory>
     ensures { IfOk result (λ list. All (λ command. FitsCommand grid.now command) list) }
 {
     let mut items = Vec::new(alloc);
     for nth in 0..length {
         items.push(nth_command(rt, grid, nth, initial)?)?;
     }
-    Ok(RequestList::from_vec(items))
+    Ok(CommandList::from_vec(items))
 }
 
 /// Locators differ by a letter and five digits.
@@ -265,7 +263,7 @@ fn run<K: Hosting + Send + Sync, R: Threads + Wait + Sync, G: Gate>(
     alloc: Global,
     parts: Parts,
     changes: &[Change],
-    lists: &[RequestList],
+    lists: &[CommandList],
     gate: &G,
 ) -> Option<(Result<(), RunFault>, Settled)>
     requires parts { (parts.grid ≡ K.grid) × (parts.cap ≡ K.cap) × (parts.book ≡ K.book) × (parts.sessions ≡ K.sessions) × (parts.names ≡ K.names) }
@@ -343,7 +341,7 @@ fn compare_named(rt: &impl Abort, answer: Result<(), RunFault>, row: &Row) {
 }
 
 /// Each session has a receipt for each command of its list, in order, as far as the row says.
-fn compare(rt: &impl Abort, lists: &[RequestList], settled: &Settled, row: &Row) -> Option<()> {
+fn compare(rt: &impl Abort, lists: &[CommandList], settled: &Settled, row: &Row) -> Option<()> {
     let lines = settled.journal.as_slice();
     same(rt, lines.len() as u64, row.lines, row.shows);
     if row.holds == Holds::FirstUntilAnswer {

@@ -1,6 +1,3 @@
 -- The pass over those that wait.
-pub mod Quiet
-pub mod Weights
-pub mod ByTable
 pub mod Undone
 pub mod Changed

@@ -3,21 +3,18 @@ use Rattle.std.specs.Prelude.{◌≡◌, ℕ, ◌-◌, ◌≤◌, nat_le, List, 
 use Rattle.std.specs.List.{AllByRecursion}
 use Rattle.seat_nesting.specs.Nesting.{Legs, has_class, ladder_at}
 use Rattle.seat_nesting.specs.Counting.{Counted, limits_of, seats_of}
-use Rattle.seat_core.specs.declared.booking.Booking.{Booking}
-use Rattle.seat_core.specs.declared.books.FlightBook.{FlightBook}
+use Rattle.seat_rules.specs.declared.booking.Booking.{Booking}
+use Rattle.seat_bookings.specs.declared.books.FlightBook.{FlightBook}
 use Rattle.seat_core.specs.declared.reply.Answer.{Answer}
 use Rattle.seat_journal.specs.declared.entry.Advice.{Advice}
 use Rattle.seat_journal.specs.declared.entry.Command.{Command}
 use Rattle.seat_journal.specs.declared.entry.Work.{Work}
 use Rattle.seat_journal.specs.declared.entry.Work.TheVariants.{Seats, Limit}
-use Rattle.seat_core.specs.Bookings.{held}
-use Rattle.seat_core.specs.Books.{book_at, queue_at}
-use Rattle.seat_core.specs.Queues.{queue_of}
-use Rattle.seat_core.specs.Sequential.{Outcome, NoneFits, advice_of}
-
--- no seat is held in a class that a leg lacks
-abbrev pub Lacks : Legs → List Booking → Type 0
-Lacks grid bookings = (flight leg class : ℕ) → has_class (ladder_at grid flight leg) class ≡ false → held bookings flight leg class ≡ 0
+use Rattle.seat_rules.specs.Bookings.{held}
+use Rattle.seat_bookings.specs.Books.{book_at, queue_at}
+use Rattle.seat_bookings.specs.Queues.{queue_of}
+use Rattle.seat_rules.specs.Tables.{Lacks}
+use Rattle.seat_rules.specs.Sequential.{Outcome, NoneFits, advice_of}
 
 -- the bookings of a flight: the counters hold what they hold, none of those that wait fits, and the waiting list is theirs
 pub record IsFlight (counts : Counted) (books : List FlightBook) (flight : ℕ) : Type 0 where

@@ -4,7 +4,7 @@ use Rattle.std.specs.Borrow.{follows_so, Fml, Bor, MutBor}
 use mathlib.Core.Option.{none}
 use Rattle.seat_journal.specs.declared.entry.Work.{Work}
 use Rattle.seat_journal.specs.declared.entry.Entry.{Entry}
-use Rattle.seat_core.specs.Inventory.{Inventory, HasLine, IsCommitted, IsUnchanged}
+use Rattle.seat_rules.specs.Inventory.{Inventory, HasLine, IsCommitted, IsUnchanged}
 use Rattle.seat_core.specs.contracts.inventory.Core.{the_row}
 
 -- one more line where it is Ok, and else nothing

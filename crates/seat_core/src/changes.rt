@@ -3,18 +3,18 @@ ghost use Rattle.std.specs.Prelude.{◌≡◌, ◌==◌, true, IfOk, None, Some}
 ghost use Rattle.seat_nesting.specs.Changing.{can_set, step_of};
 ghost use Rattle.seat_nesting.specs.Counting.{limits_of, seats_of};
 ghost use Rattle.seat_core.specs.Answers.{IsFlight, Says};
-ghost use Rattle.seat_core.specs.Books.{book_at, queue_at};
-ghost use Rattle.seat_core.specs.Sequential.{changed_by, set, state_of};
-ghost use Rattle.seat_core.specs.Tables.{advices_by};
+ghost use Rattle.seat_bookings.specs.Books.{book_at, queue_at};
+ghost use Rattle.seat_rules.specs.Sequential.{changed_by, set, state_of};
+ghost use Rattle.seat_rules.specs.Tables.{advices_by};
 
-use crate::books::{FlightBook, queue_at};
+use seat_bookings::{FlightBook, queue_at};
 use crate::pass::advices_of;
 use crate::reply::{Answer, reply};
-use crate::rooms::steps_at;
-use crate::waiting_list::WaitingList;
+use seat_bookings::steps_at;
+use seat_bookings::WaitingList;
 use seat_journal::{Advice, Change};
 use seat_nesting::{Counts, Step};
-use ssim_records::{Class, Code, Memory};
+use airline_base::{Class, Code, Memory};
 use std::alloc::Global;
 
 /// Answers a change of a limit, from the counters and the bookings of its flight. The counters are left as they were.

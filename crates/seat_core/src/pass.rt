@@ -3,16 +3,16 @@ ghost use Rattle.std.specs.Prelude.{◌≡◌, ◌++◌, ◌∷◌, [], IfOk, If
 ghost use Rattle.seat_nesting.specs.Counting.{limits_of, seats_of};
 ghost use Rattle.seat_nesting.specs.Nesting.{room};
 ghost use Rattle.seat_core.specs.Answers.{rest_advised};
-ghost use Rattle.seat_core.specs.Sequential.{advice_of};
-ghost use Rattle.seat_core.specs.Showing.{given_back, shown_advices, taken_back};
-ghost use Rattle.seat_core.specs.Tables.{advices_by, told_of};
+ghost use Rattle.seat_rules.specs.Sequential.{advice_of};
+ghost use Rattle.seat_rules.specs.Showing.{given_back, shown_advices, taken_back};
+ghost use Rattle.seat_rules.specs.Tables.{advices_by, told_of};
 
-use crate::booking::Booking;
-use crate::showing::give_back;
-use crate::waiting_list::WaitingList;
+use seat_rules::Booking;
+use seat_rules::give_back;
+use seat_bookings::WaitingList;
 use seat_journal::Advice;
 use seat_nesting::Counts;
-use ssim_records::{Class, Memory, Place};
+use airline_base::{Class, Memory, Place};
 use std::alloc::Global;
 
 /// A room that was looked up in the counters as they are.
@@ -119,7 +119,7 @@ fn consider(
 }
 
 /// The room of a place, as it is known or else looked up.
-#[tactic(auto, using(crate::proofs::History::Faults::place_same))]
+#[tactic(auto, using(seat_rules::proofs::History::Faults::place_same))]
 fn look(counts: &Counts, place: Place, class: Class, known: Option<Known>) -> u16
     requires known { IfSome known (λ k. k.room ≡ room (limits_of counts.now) (seats_of counts.now) k.place k.class) }
     ensures { result ≡ room (limits_of counts.now) (seats_of counts.now) place class }

@@ -1,26 +1,26 @@
 //! What a line is answered: the table of replies to a command (AIRIMP codes).
 ghost use Rattle.std.specs.Prelude.{◌≡◌, ◌∷◌, ◌≤◌, ◌&&◌, [], find, position, slice_get, None, Some, IfOk, IfSome, IsTrue, length, codes, if◌then◌else◌};
-ghost use Rattle.ssim_records.specs.Names.{is_code};
+ghost use Rattle.airline_base.specs.Names.{is_code};
 ghost use Rattle.seat_journal.specs.declared.entry.Work.TheVariants.{Seats};
 ghost use Rattle.seat_nesting.specs.Counting.{limits_of, seats_of};
 ghost use Rattle.seat_nesting.specs.Nesting.{is_listed, may_wait};
-ghost use Rattle.seat_core.specs.Bookings.{is_for, waiting};
-ghost use Rattle.seat_core.specs.Books.{book_at, book_for, book_of, queue_at};
-ghost use Rattle.seat_core.specs.Queues.{queue_of};
-ghost use Rattle.seat_core.specs.Sequential.{advice_of, answer, booking_of, cancel, pass, reduced, state_of, want};
-ghost use Rattle.seat_core.specs.declared.booking.Status.TheVariants.{Waiting};
-ghost use Rattle.seat_core.specs.Journal.{line_of};
+ghost use Rattle.seat_rules.specs.Bookings.{is_for, waiting};
+ghost use Rattle.seat_bookings.specs.Books.{book_at, book_for, book_of, queue_at};
+ghost use Rattle.seat_bookings.specs.Queues.{queue_of};
+ghost use Rattle.seat_rules.specs.Sequential.{advice_of, answer, booking_of, cancel, pass, reduced, state_of, want};
+ghost use Rattle.seat_rules.specs.declared.booking.Status.TheVariants.{Waiting};
+ghost use Rattle.seat_rules.specs.Journal.{line_of};
 ghost use Rattle.seat_core.specs.Answers.{IsAsked, IsFlight, IsReply, Says};
 
-use crate::action::{Action, Wish, action_of};
-use crate::booking::Booking;
-use crate::books::{FlightBook, book_at, find_in, queue_at};
+use seat_rules::{Action, Wish, action_of};
+use seat_rules::Booking;
+use seat_bookings::{FlightBook, book_at, find_in, queue_at};
 use crate::changes::answer_change;
 use crate::pass::{advices_after, advices_of_rest};
-use crate::rooms::{is_listed_at, may_wait_at};
+use seat_bookings::{is_listed_at, may_wait_at};
 use seat_journal::{Advice, Advices, Command, Entry, Work};
 use seat_nesting::Counts;
-use ssim_records::{Code, Memory, Place};
+use airline_base::{Code, Memory, Place};
 use std::alloc::Global;
 
 /// What a line was answered.
@@ -170,7 +170,7 @@ fn may_list(counts: &Counts, books: &[FlightBook], command: &Command, place: Pla
 }
 
 /// Whether the seats of a command may wait on its flight's waiting list.
-#[tactic(auto, using(crate::proofs::Step::Reply::may_wait_is, crate::proofs::Waitlists::Queue::queue_few))]
+#[tactic(auto, using(crate::proofs::Step::Reply::may_wait_is, seat_bookings::proofs::Waitlists::Queue::queue_few))]
 fn may_queue(counts: &Counts, books: &[FlightBook], command: &Command, place: Place) -> bool
     requires few { length (book_at books.now place.flight) ≤ 999999 }
     requires queue { queue_at books.now place.flight ≡ queue_of (book_at books.now place.flight) }

@@ -4,7 +4,7 @@ use Rattle.std.proofs.lemmas.List.{drop_more, length_push}
 use Rattle.seat_nesting.specs.Nesting.{Legs}
 use Rattle.seat_journal.specs.declared.entry.Entry.{Entry}
 use Rattle.seat_journal.specs.declared.entry.Work.{Work}
-use Rattle.seat_core.specs.Inventory.{Inventory}
+use Rattle.seat_rules.specs.Inventory.{Inventory}
 use Rattle.seat_desk.specs.LadderDesk.{line_for, lines_after}
 
 -- the journal holds the lines of the first i orders, and the others come after them

@@ -2,15 +2,15 @@
 use Rattle.std.proofs.Common.{◌≡◌, ◌≢◌, ℕ, List, ◌≤◌, length, Option, Some, None, IfSome, Err, refl, sym, subst, ◌∙◌}
 use Rattle.std.specs.Str.Lines.{lines}
 use Rattle.ssim_flights.specs.declared.flight.Flight.{Flight as Flown}
-use Rattle.seat_nesting.specs.Authorised.{authorised_grid}
-use Rattle.seat_nesting.specs.LimitRows.{IsLimitText, rows_in}
-use Rattle.seat_nesting.specs.declared.limit_fault.LimitFault.{LimitFault}
-use Rattle.seat_nesting.specs.declared.limit_fault.LimitKind.{LimitKind}
-use Rattle.seat_nesting.specs.declared.limit_fault.LimitKind.TheVariants as limit_kinds
-use Rattle.seat_nesting.specs.declared.limit_row.LimitRow.{LimitRow}
-use Rattle.seat_nesting.proofs.Grids.{limit_text_ladders}
+use Rattle.seat_limits.specs.Authorised.{authorised_grid}
+use Rattle.seat_limits.specs.LimitRows.{IsLimitText, rows_in}
+use Rattle.seat_limits.specs.declared.limit_fault.LimitFault.{LimitFault}
+use Rattle.seat_limits.specs.declared.limit_fault.LimitKind.{LimitKind}
+use Rattle.seat_limits.specs.declared.limit_fault.LimitKind.TheVariants as limit_kinds
+use Rattle.seat_limits.specs.declared.limit_row.LimitRow.{LimitRow}
+use Rattle.seat_limits.proofs.Grids.{limit_text_ladders}
 use Rattle.seat_nesting.specs.Nesting.{Legs, HasLadders}
-use Rattle.seat_core.proofs.History.Replays.{replay_holds_within}
+use Rattle.seat_rules.proofs.History.Replays.{replay_holds_within}
 use Rattle.seat_desk.specs.Laws.{LoadedLaddersDiffer, LoadedReplaysKeepLimits}
 use Rattle.seat_desk.specs.CheckDesk.{most_bytes}
 use Rattle.seat_desk.specs.FlightsDesk.{IsSchedule}

@@ -8,14 +8,14 @@ use Rattle.seat_journal.specs.declared.entry.Entry.{Entry}
 use Rattle.seat_journal.specs.declared.fault.JournalFault.{JournalFault}
 use Rattle.seat_journal.specs.declared.fault.JournalKind.{JournalKind}
 use Rattle.seat_journal.specs.declared.fault.JournalKind.TheVariants as journal_kinds
-use Rattle.seat_core.specs.declared.fault.ReplayFault.{ReplayFault}
-use Rattle.seat_core.specs.declared.fault.ReplayKind.{ReplayKind}
-use Rattle.seat_core.specs.declared.fault.ReplayKind.TheVariants as replay_kinds
-use Rattle.seat_core.specs.Inventory.{Inventory, HoldsWithinLimits}
-use Rattle.seat_core.specs.Journal.{IsLegal}
-use Rattle.seat_core.specs.Replaying.{replay_fault}
-use Rattle.seat_core.specs.Totals.{totals_of}
-use Rattle.seat_core.specs.declared.totals.Totals.{Totals}
+use Rattle.seat_rules.specs.declared.fault.ReplayFault.{ReplayFault}
+use Rattle.seat_rules.specs.declared.fault.ReplayKind.{ReplayKind}
+use Rattle.seat_rules.specs.declared.fault.ReplayKind.TheVariants as replay_kinds
+use Rattle.seat_rules.specs.Inventory.{Inventory, HoldsWithinLimits}
+use Rattle.seat_rules.specs.Journal.{IsLegal}
+use Rattle.seat_rules.specs.Replaying.{replay_fault}
+use Rattle.seat_rules.specs.Totals.{totals_of}
+use Rattle.seat_rules.specs.declared.totals.Totals.{Totals}
 use Rattle.seat_desk.specs.declared.fault.DeskFault.{DeskFault}
 use Rattle.seat_desk.specs.declared.fault.DeskFault.TheVariants.{Journal, Replay, Memory}
 use Rattle.seat_desk.specs.declared.inputs.Inputs.{Inputs}

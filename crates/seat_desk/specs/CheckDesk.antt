@@ -1,6 +1,6 @@
 -- What `check` writes: one line that sums up a data set.
 use Rattle.std.specs.Prelude.{◌≡◌, ◌≤◌, ℕ, Bool, List, ◌∷◌, [], ◌++◌, length, decimal, codes, Option, Some, None, if◌then◌else◌}
-use Rattle.ssim_records.specs.Days.{IsDateText}
+use Rattle.airline_base.specs.Days.{IsDateText}
 use Rattle.ssim_records.specs.SetFaults.{IsFirstFault}
 use Rattle.ssim_records.specs.SetText.{IsDataSet}
 use Rattle.ssim_records.specs.declared.set.DataSet.{DataSet}

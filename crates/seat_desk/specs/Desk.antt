@@ -1,7 +1,7 @@
 -- What a command does to its output: it writes a text that answers its inputs, or a beginning of one.
 use Rattle.std.specs.Prelude.{◌≡◌, ℕ, List, Option, IfSome}
 use Rattle.std.specs.Io.KnownBytes.{Appends}
-use Rattle.ssim_records.specs.Noting.{noted, TookFront}
+use Rattle.airline_base.specs.Noting.{noted, TookFront}
 use Rattle.seat_desk.specs.declared.fault.DeskFault.{DeskFault}
 use Rattle.seat_desk.specs.declared.fault.DeskFault.TheVariants.{TooLarge, Device, Memory}
 

@@ -3,10 +3,10 @@ use Rattle.std.specs.Prelude.{ℕ, List, ◌++◌, codes}
 use Rattle.std.specs.Fmt.{decimal}
 use Rattle.ssim_records.specs.FaultText.{fault_text as set_text}
 use Rattle.ssim_flights.specs.FaultText.{fault_text as flight_text}
-use Rattle.seat_nesting.specs.FaultText.{fault_text as limit_text}
+use Rattle.seat_limits.specs.FaultText.{fault_text as limit_text}
 use Rattle.airimp_lines.specs.FaultText.{kind_text}
 use Rattle.seat_journal.specs.FaultText.{fault_text as journal_text}
-use Rattle.seat_core.specs.FaultText.{fault_text as replay_text}
+use Rattle.seat_rules.specs.FaultText.{fault_text as replay_text}
 use Rattle.seat_desk.specs.declared.fault.DeskFault.{DeskFault}
 use Rattle.seat_desk.specs.declared.fault.DeskFault.TheVariants as faults
 

@@ -1,7 +1,7 @@
 -- What `flights` writes: one line for each dated flight.
 use Rattle.std.specs.Prelude.{◌≡◌, ◌≤◌, ℕ, ◌+◌, List, [], ◌∷◌, ◌++◌, length, decimal, codes, Option, Some, None}
-use Rattle.ssim_records.specs.Days.{IsDateText}
-use Rattle.ssim_records.specs.Fields.{suffix_text}
+use Rattle.airline_base.specs.Days.{IsDateText}
+use Rattle.airline_base.specs.Fields.{suffix_text}
 use Rattle.ssim_records.specs.SetText.{IsDataSet}
 use Rattle.ssim_records.specs.declared.set.DataSet.{DataSet}
 use Rattle.ssim_flights.specs.Flown.{dated_flights, first_fault}

@@ -6,11 +6,11 @@ use Rattle.seat_journal.specs.declared.entry.Entry.{Entry}
 use Rattle.seat_journal.specs.declared.entry.Work.{Work}
 use Rattle.seat_journal.specs.declared.entry.Work.TheVariants.{Seats, Limit}
 use Rattle.seat_nesting.specs.declared.ladder.Step.{Step}
-use Rattle.seat_nesting.specs.declared.limit_fault.LimitKind.{LimitKind}
-use Rattle.seat_nesting.specs.LadderText.{ladder_in}
+use Rattle.seat_limits.specs.declared.limit_fault.LimitKind.{LimitKind}
+use Rattle.seat_limits.specs.LadderText.{ladder_in}
 use Rattle.seat_nesting.specs.Nesting.{Steps, Legs}
-use Rattle.seat_core.specs.Sequential.{State, room_left}
-use Rattle.seat_core.specs.Journal.{calls_of, next_line, replay}
+use Rattle.seat_rules.specs.Sequential.{State, room_left}
+use Rattle.seat_rules.specs.Journal.{calls_of, next_line, replay}
 use Rattle.seat_desk.specs.declared.fault.DeskFault.{DeskFault}
 use Rattle.seat_desk.specs.declared.fault.DeskFault.TheVariants as faults
 use Rattle.seat_desk.specs.AuditDesk.{most_lines}

@@ -3,7 +3,7 @@ use Rattle.std.specs.Prelude.{ℕ, List}
 use Rattle.ssim_flights.specs.declared.flight.Flight.{Flight as Flown}
 use Rattle.seat_nesting.specs.Nesting.{Legs, HasLadders}
 use Rattle.seat_journal.specs.declared.entry.Entry.{Entry}
-use Rattle.seat_core.specs.Inventory.{HoldsWithinLimits}
+use Rattle.seat_rules.specs.Inventory.{HoldsWithinLimits}
 use Rattle.seat_desk.specs.Loading.{IsLoaded}
 
 -- no leg of a loaded grid has a class twice

@@ -2,13 +2,13 @@
 use Rattle.std.specs.Prelude.{◌≡◌, ◌≤◌, ◌<◌, ◌⊎◌, ℕ, List, length, Option, IfSome, Err}
 use Rattle.std.specs.Str.Lines.{lines}
 use Rattle.ssim_flights.specs.declared.flight.Flight.{Flight as Flown}
-use Rattle.seat_nesting.specs.Authorised.{authorised_grid}
-use Rattle.seat_nesting.specs.LimitRows.{IsLimitText, rows_in}
+use Rattle.seat_limits.specs.Authorised.{authorised_grid}
+use Rattle.seat_limits.specs.LimitRows.{IsLimitText, rows_in}
 use Rattle.seat_nesting.specs.Nesting.{Legs}
-use Rattle.seat_nesting.specs.declared.limit_fault.LimitFault.{LimitFault}
-use Rattle.seat_nesting.specs.declared.limit_fault.LimitKind.{LimitKind}
-use Rattle.seat_nesting.specs.declared.limit_fault.LimitKind.TheVariants as limit_kinds
-use Rattle.seat_nesting.specs.declared.limit_row.LimitRow.{LimitRow}
+use Rattle.seat_limits.specs.declared.limit_fault.LimitFault.{LimitFault}
+use Rattle.seat_limits.specs.declared.limit_fault.LimitKind.{LimitKind}
+use Rattle.seat_limits.specs.declared.limit_fault.LimitKind.TheVariants as limit_kinds
+use Rattle.seat_limits.specs.declared.limit_row.LimitRow.{LimitRow}
 use Rattle.seat_desk.specs.CheckDesk.{most_bytes}
 use Rattle.seat_desk.specs.FlightsDesk.{IsSchedule, IsUnscheduled}
 use Rattle.seat_desk.specs.Desk.{HasFailed}

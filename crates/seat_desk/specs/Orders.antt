@@ -3,18 +3,18 @@ use Rattle.std.specs.Prelude.{◌≡◌, ◌≤◌, ℕ, ◌-◌, Bool, ◌&&◌
 use Rattle.std.specs.Char.{is_ascii_digit, is_ascii_uppercase}
 use Rattle.std.specs.List.{list_all}
 use Rattle.std.specs.Str.Parse.{digits_value}
-use Rattle.ssim_records.specs.Bytes.{field}
-use Rattle.ssim_records.specs.Fields.{word_at}
-use Rattle.ssim_records.specs.Names.{is_locator, is_code}
-use Rattle.ssim_records.specs.declared.place.Place.{Place}
+use Rattle.airline_base.specs.Bytes.{field}
+use Rattle.airline_base.specs.Fields.{word_at}
+use Rattle.airline_base.specs.Names.{is_locator, is_code}
+use Rattle.airline_base.specs.declared.place.Place.{Place}
 use Rattle.seat_journal.specs.declared.entry.Change.{Change}
 use Rattle.seat_journal.specs.declared.entry.Command.{Command}
 use Rattle.seat_journal.specs.declared.entry.Work.{Work}
 use Rattle.seat_journal.specs.declared.entry.Work.TheVariants.{Seats, Limit}
-use Rattle.seat_nesting.specs.LadderText.{ladder_in}
+use Rattle.seat_limits.specs.LadderText.{ladder_in}
 use Rattle.seat_nesting.specs.Nesting.{Steps}
 use Rattle.seat_nesting.specs.declared.ladder.Step.{Step}
-use Rattle.seat_nesting.specs.declared.limit_fault.LimitKind.{LimitKind}
+use Rattle.seat_limits.specs.declared.limit_fault.LimitKind.{LimitKind}
 
 -- one to three digits of value 1 or more
 unfoldable pub seats_in : List ℕ → Option ℕ

@@ -7,7 +7,8 @@ ghost use Rattle.seat_desk.specs.Desk.{HasFailed, InputFailed, IsOfInput, IsWrit
 use crate::fault::DeskFault;
 use crate::streams::read_input;
 use crate::text::{put, put_number};
-use ssim_records::{DataSet, Day, NotedRead, NotedWrite, SetKind, put_all, read_set};
+use airline_base::{Day, NotedRead, NotedWrite, put_all};
+use ssim_records::{DataSet, SetKind, read_set};
 use std::alloc::{AllocError, Global};
 
 /// 256 MiB, the most bytes of a data set.

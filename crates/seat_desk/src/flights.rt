@@ -1,6 +1,6 @@
 //! `flights`: a data set on the dates of a horizon, and one line for each flight.
 ghost use Rattle.std.specs.Prelude.{◌≡◌, ◌≢◌, ◌++◌, ◌<◌, ◌≤◌, ◌⊎◌, ℕ, List, IfErr, IfOk, IfSome, OnOk, length};
-ghost use Rattle.ssim_records.specs.Fields.{suffix_text};
+ghost use Rattle.airline_base.specs.Fields.{suffix_text};
 ghost use Rattle.ssim_flights.specs.Right.{IsOfCentury};
 ghost use Rattle.seat_desk.specs.CheckDesk.{most_bytes};
 ghost use Rattle.seat_desk.specs.Desk.{HasFailed, InputFailed, IsOfInput, IsWritten, OfInput, OutputFailed};
@@ -11,7 +11,7 @@ use crate::fault::DeskFault;
 use crate::streams::read_input;
 use crate::text::{put, put_number};
 use ssim_flights::{DatedLeg, Flight, FlightFault, FlightKind, Flights, expand};
-use ssim_records::{Day, NotedRead, NotedWrite, put_all};
+use airline_base::{Day, NotedRead, NotedWrite, put_all};
 use std::alloc::{AllocError, Global};
 
 /// The most dated flights.

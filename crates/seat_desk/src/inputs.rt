@@ -1,5 +1,5 @@
 //! What every command over an inventory reads first.
-use ssim_records::Day;
+use airline_base::Day;
 
 /// A data set and limit rows, to be read, and the dates on which the flights are wanted.
 #[derive(Drop)]

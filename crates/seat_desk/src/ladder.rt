@@ -2,7 +2,7 @@
 ghost use Rattle.std.specs.Prelude.{◌≡◌, ◌≢◌, ◌+◌, ◌++◌, ◌∷◌, ◌<◌, ◌≤◌, ◌⊎◌, [], IfErr, IfOk, IfSome, OnOk, Ok, Err, length};
 ghost use Rattle.std.specs.List.{All, flat_map};
 ghost use Rattle.seat_nesting.specs.Nesting.{Fits, ladder_at};
-ghost use Rattle.seat_core.specs.Inventory.{state_now};
+ghost use Rattle.seat_rules.specs.Inventory.{state_now};
 ghost use Rattle.seat_desk.specs.Desk.{HasFailed, InputFailed, IsOfInput, IsWritten, OfInput, OutputFailed};
 ghost use Rattle.seat_desk.specs.LadderDesk.{IsLadderText, IsRefusedLadder, class_text, first_line, ladder_text, later_lines, line_for, lines_after, most_bytes, reply_text, room_text};
 ghost use Rattle.seat_desk.specs.Lines.{lines_of};
@@ -14,9 +14,11 @@ use crate::lines::cut_at_feed;
 use crate::orders::{ONLY_LEG, read_orders};
 use crate::streams::read_input;
 use crate::text::{put, put_entries, put_number};
-use seat_core::{Core, Work};
-use seat_nesting::{Grid, Ladder, LimitFault, Step, read_ladder};
-use ssim_records::{Class, NotedRead, NotedWrite, put_all};
+use seat_core::Core;
+use seat_journal::Work;
+use seat_limits::{LimitFault, read_ladder};
+use seat_nesting::{Grid, Ladder, Step};
+use airline_base::{Class, NotedRead, NotedWrite, put_all};
 use std::alloc::{AllocError, Global};
 
 /// 16 MiB.

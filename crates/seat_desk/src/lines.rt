@@ -2,7 +2,7 @@
 ghost use Rattle.std.specs.Prelude.{◌≡◌, ◌<◌, ◌∷◌, length};
 ghost use Rattle.seat_desk.specs.Lines.{lines_of};
 
-use ssim_records::lines::line_end;
+use airline_base::lines::line_end;
 
 /// The first line, which ends at an LF alone (a CR ahead of it belongs to the line), and the bytes behind that LF.
 #[tactic(auto, using(crate::proofs::Cuts::lines_cut, crate::proofs::Cuts::lines_last))]

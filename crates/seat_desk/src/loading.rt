@@ -1,8 +1,8 @@
 //! The flights of a data set, and the grid that limit rows give them on the dates of a horizon.
 ghost use Rattle.std.specs.Prelude.{◌≡◌, ◌≢◌, ◌<◌, ◌≤◌, IfErr, IfOk, length};
 ghost use Rattle.ssim_flights.specs.Right.{IsOfCentury};
-ghost use Rattle.seat_nesting.specs.Authorised.{authorised_grid};
-ghost use Rattle.seat_nesting.specs.LimitRows.{IsLimitText};
+ghost use Rattle.seat_limits.specs.Authorised.{authorised_grid};
+ghost use Rattle.seat_limits.specs.LimitRows.{IsLimitText};
 ghost use Rattle.seat_desk.specs.Desk.{IsOfInput};
 ghost use Rattle.seat_desk.specs.Loading.{HaveFailed, IsGridOf, IsLoadedOf, IsRefusedLoadOf, IsTooLargeLoadOf, IsUnlimited, limit_refusal, most_limit_bytes};
 
@@ -11,9 +11,11 @@ use crate::fault::DeskFault;
 use crate::flights::scheduled;
 use crate::inputs::Inputs;
 use crate::streams::read_input;
-use seat_nesting::{Grid, LimitFault, LimitKind, LimitRows, read_limits};
+use seat_limits::{LimitFault, LimitKind, LimitRows, read_limits};
+use seat_limits::build_grid;
+use seat_nesting::Grid;
 use ssim_flights::Flights;
-use ssim_records::NotedRead;
+use airline_base::NotedRead;
 use std::alloc::Global;
 
 /// 16 MiB, the most bytes of limit rows.
@@ -81,7 +83,7 @@ pub fn grid_of(alloc: Global, flights: &Flights, rows: &LimitRows) -> Result<Gri
     ensures rows { IfOk result (IsGridOf flights.now) }
     ensures memory { IfErr result (λ f. f ≡ DeskFault.Memory) }
 {
-    match Grid::build(alloc, flights, rows.as_slice()) {
+    match build_grid(alloc, flights, rows.as_slice()) {
         Ok(grid) => Ok(grid),
         Err(_) => Err(DeskFault::Memory),
     }

@@ -3,7 +3,7 @@ ghost use Rattle.std.specs.Prelude.{◌≡◌, ◌⊎◌, ◌<◌, ◌≤◌, If
 ghost use Rattle.seat_desk.specs.Desk.{HasFailed};
 
 use crate::fault::DeskFault;
-use ssim_records::{NotedRead, ReadFault, read_all};
+use airline_base::{NotedRead, ReadFault, read_all};
 use std::alloc::Global;
 
 /// All bytes of an input, at most `most`.

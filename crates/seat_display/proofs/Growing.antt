@@ -6,7 +6,7 @@ use mathlib.Core.List.{IsPrefix}
 use prog.Atomic.{either}
 use Rattle.logbook.specs.Pages.{Cell, cell, keeps, no_nib, step, Moves, Goes}
 use Rattle.seat_journal.specs.declared.entry.Entry.{Entry}
-use Rattle.seat_core.proofs.History.Prefixes.{begins_whole}
+use Rattle.seat_rules.proofs.History.Prefixes.{begins_whole}
 use Rattle.seat_display.proofs.Fronts.{begins_of}
 use Rattle.seat_display.specs.History.{IsCounted, Adds}
 

@@ -7,22 +7,22 @@ use lib.ListN.{get_elem?}
 use Rattle.logbook.specs.Pages.{Book}
 use Rattle.crossbeam_utils.specs.Register.{Admits, Turns, TurnsAt, Forks, Merges}
 use Rattle.atomic_table.proofs.Lists.{at_set, at_snoc}
-use Rattle.ssim_records.specs.declared.place.Place.{Place}
+use Rattle.airline_base.specs.declared.place.Place.{Place}
 use Rattle.seat_nesting.specs.Nesting.{Legs, room}
 use Rattle.seat_nesting.specs.Counting.{Counted, limits_of, seats_of}
 use Rattle.seat_journal.specs.declared.entry.Entry.{Entry}
-use Rattle.seat_core.specs.Sequential.{room_left}
-use Rattle.seat_core.specs.Journal.{IsLegal, replay}
-use Rattle.seat_core.proofs.History.Prefixes.{begins_longer}
-use Rattle.seat_core.proofs.History.Legal.{legal_nil, legal_prefix}
-use Rattle.seat_core.specs.Showing.{Standing, shown, standing_of, unsold}
+use Rattle.seat_rules.specs.Sequential.{room_left}
+use Rattle.seat_rules.specs.Journal.{IsLegal, replay}
+use Rattle.seat_rules.proofs.History.Prefixes.{begins_longer}
+use Rattle.seat_rules.proofs.History.Legal.{legal_nil, legal_prefix}
+use Rattle.seat_rules.specs.Showing.{Standing, shown, standing_of, unsold}
 use Rattle.std.proofs.lemmas.List.Sums.{fold_push}
 use Rattle.seat_display.specs.declared.table.Table.{Table}
 use Rattle.seat_display.specs.declared.table.Op.{Op}
 use Rattle.seat_display.specs.declared.table.Op.TheVariants.{Line, Mark}
 use Rattle.seat_display.specs.declared.table.View.{View}
 use Rattle.seat_display.specs.Shown.{counters_of, tidied, left_by, counts_after, one_more, apply, entries_of, nobody, Leaves, IsEmptyTable, KnowsRight, Follows, Kept, Sees, Ready, informed}
-use Rattle.seat_core.proofs.Counters.Shown.{lacks_replay, shown_is_held}
+use Rattle.seat_rules.proofs.Counters.Shown.{lacks_replay, shown_is_held}
 use Rattle.seat_display.proofs.Tidy.{IsOnLadders, written, own}
 
 off : false ≡ true → ⊥

@@ -5,7 +5,7 @@ use Rattle.std.proofs.lemmas.Bool.Decides.{nat_tests}
 use Rattle.seat_nesting.specs.Nesting.{Legs, Steps, ByClass, Table as HeldSeats, ladder_at, legs_of, steps_at, has_class}
 use Rattle.seat_nesting.specs.Counting.{LegSeats, Counted, count_at, seats_on, leg_in, legs_in, leg_at, limits_of, seats_of}
 use Rattle.seat_journal.specs.declared.entry.Entry.{Entry}
-use Rattle.seat_core.specs.Showing.{Standing, shown, standing_of}
+use Rattle.seat_rules.specs.Showing.{Standing, shown, standing_of}
 use Rattle.seat_display.specs.declared.table.Table.{Table}
 use Rattle.seat_display.specs.declared.table.Op.TheVariants.{Line}
 use Rattle.seat_display.specs.Shown.{flight_seats, all_seats, counters_of, counts_after, tidied, apply, ShowsEntry}

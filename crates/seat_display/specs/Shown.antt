@@ -6,8 +6,8 @@ use Rattle.logbook.specs.Pages.{Book}
 use Rattle.seat_nesting.specs.Nesting.{Legs, Steps, ByClass, Table as HeldSeats}
 use Rattle.seat_nesting.specs.Counting.{LegSeats, Counted, limits_of}
 use Rattle.seat_journal.specs.declared.entry.Entry.{Entry}
-use Rattle.seat_core.specs.Journal.{IsLegal, replay}
-use Rattle.seat_core.specs.Showing.{Standing, shown, standing_left, standing_of}
+use Rattle.seat_rules.specs.Journal.{IsLegal, replay}
+use Rattle.seat_rules.specs.Showing.{Standing, shown, standing_left, standing_of}
 use Rattle.seat_display.specs.declared.table.Table.{Table}
 use Rattle.seat_display.specs.declared.table.Op.{Op}
 use Rattle.seat_display.specs.declared.table.Op.TheVariants.{Line, Mark}

@@ -13,7 +13,7 @@ use crate::table::{Op, Table};
 use crate::viewer::Viewer;
 use left_right::writer::Writer;
 use seat_nesting::{Counts, Grid};
-use ssim_records::Memory;
+use airline_base::Memory;
 use std::alloc::Global;
 use std::sync::Wait;
 

@@ -1,8 +1,8 @@
 //! The one publisher.
 ghost use Rattle.std.specs.Prelude.{◌≡◌, ◌+◌, ◌<◌, ◌≤◌, ◌^◌, ◌++◌, [], ◌∷◌, length, drop, fold, IfOk, MatchResult, true};
 ghost use Rattle.left_right.specs.Sides.{view};
-ghost use Rattle.seat_core.specs.Prefixes.{Begins};
-ghost use Rattle.seat_core.specs.Journal.{IsLegal};
+ghost use Rattle.seat_rules.specs.Prefixes.{Begins};
+ghost use Rattle.seat_rules.specs.Journal.{IsLegal};
 ghost use Rattle.seat_display.specs.Shown.{Follows, IsEmptyTable, Sees, apply, entries_of, tidied};
 ghost use Rattle.seat_display.specs.History.{head_of};
 ghost use Rattle.seat_display.specs.declared.table.Op.TheVariants.{Mark};
@@ -13,7 +13,7 @@ use crate::table::{Op, Table};
 use crate::viewer::Viewer;
 use core::mem::replace_with;
 use seat_journal::Entry;
-use ssim_records::Memory;
+use airline_base::Memory;
 use std::marker::{Brand, Model};
 use std::sync::Wait;
 

@@ -8,7 +8,7 @@ use crossbeam_utils::rule::{Outcome, Protocol};
 use left_right::Absorb;
 use left_right::reader::Reader;
 use left_right::writer::Writer;
-use seat_core::show;
+use seat_rules::show;
 use seat_journal::Entry;
 use std::alloc::AllocError;
 

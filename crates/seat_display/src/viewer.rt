@@ -1,16 +1,16 @@
 //! Readers that take no lock.
 ghost use Rattle.std.specs.Prelude.{◌≡◌, ◌≤◌, ◌⊎◌, length, IfSome, IfNone, true, []};
 ghost use Rattle.left_right.specs.Sides.{view};
-ghost use Rattle.seat_core.specs.Prefixes.{Begins};
-ghost use Rattle.seat_core.specs.Sequential.{room_left};
-ghost use Rattle.seat_core.specs.Journal.{IsLegal, replay};
+ghost use Rattle.seat_rules.specs.Prefixes.{Begins};
+ghost use Rattle.seat_rules.specs.Sequential.{room_left};
+ghost use Rattle.seat_rules.specs.Journal.{IsLegal, replay};
 ghost use Rattle.seat_display.specs.Faces.{opened};
 
 use crate::book::Trace;
 use crate::publisher::Told;
 use crate::rule::{Looks, TableReader};
 use core::mem::replace_with;
-use ssim_records::{Class, Place};
+use airline_base::{Class, Place};
 use std::marker::Model;
 
 /// A reader, and what it has seen. Contracts see that as a list of entries; the code keeps its length.
@@ -24,7 +24,7 @@ pub struct Viewer {
 impl Model for Viewer {
     ghost use Rattle.std.specs.Prelude.{◌≡◌, length, true};
     ghost use Rattle.left_right.specs.Sides.{view as known};
-    ghost use Rattle.seat_core.specs.Journal.{IsLegal};
+    ghost use Rattle.seat_rules.specs.Journal.{IsLegal};
     ghost use Rattle.seat_display.specs.Faces.{Viewed};
 
     ghost Value = { Viewed };
@@ -95,7 +95,7 @@ impl Viewer {
     }
 
     /// A viewer that has seen nothing.
-    #[tactic(auto, using(seat_core::proofs::History::Legal::legal_nil))]
+    #[tactic(auto, using(seat_rules::proofs::History::Legal::legal_nil))]
     pub(crate) fn over(reader: TableReader, seen: &Trace) -> Viewer
         requires knows { ((view reader.place).knows ≡ true) × ((view reader.place).seen.book ≡ seen.now.book) }
         requires empty { seen.now.log ≡ [] }

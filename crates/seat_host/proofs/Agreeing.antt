@@ -8,15 +8,15 @@ use Rattle.std.proofs.lemmas.Bool.Decides.{nat_tests}
 use Rattle.std.proofs.lemmas.Option.{same_Some}
 use Rattle.seat_nesting.specs.Nesting.{Legs}
 use Rattle.seat_journal.specs.declared.entry.Entry.{Entry}
-use Rattle.seat_core.specs.declared.totals.Totals.{Totals}
-use Rattle.seat_core.specs.Totals.{confirmed_by, released_by, totals_of}
-use Rattle.seat_core.specs.Inventory.{HoldsWithinLimits}
-use Rattle.seat_core.specs.Journal.{IsNext, IsLegal}
-use Rattle.seat_host.specs.Histories.{of_session, by_session, OnlyFirst}
-use Rattle.seat_host.specs.Headline.{Headline}
-use Rattle.seat_host.specs.Agreement.{nth, receipts_of, receipt_of, receipts_in, totals_in, HasReceipt, HasLine, Agrees}
+use Rattle.seat_rules.specs.declared.totals.Totals.{Totals}
+use Rattle.seat_rules.specs.Totals.{confirmed_by, released_by, totals_of}
+use Rattle.seat_rules.specs.Inventory.{HoldsWithinLimits}
+use Rattle.seat_rules.specs.Journal.{IsNext, IsLegal}
+use Rattle.seat_rules.specs.Histories.{of_session, by_session, OnlyFirst}
+use Rattle.seat_rules.specs.Headline.{Headline}
+use Rattle.seat_rules.specs.Agreement.{nth, receipts_of, receipt_of, receipts_in, totals_in, HasReceipt, HasLine, Agrees}
 use Rattle.seat_host.proofs.Booking.{dec_nat}
-use Rattle.seat_host.proofs.Own.{own_append, own_one, calls_own}
+use Rattle.seat_rules.proofs.Own.{own_append, own_one, calls_own}
 
 -- ---- an entry and those round it
 

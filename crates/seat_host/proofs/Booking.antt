@@ -8,18 +8,18 @@ use Rattle.seat_nesting.specs.Nesting.{Legs}
 use Rattle.seat_journal.specs.declared.entry.Work.{Work}
 use Rattle.seat_journal.specs.declared.entry.Entry.{Entry}
 use Rattle.logbook.specs.Pages.{Book}
-use Rattle.seat_core.specs.Inventory.{Inventory, HoldsWithinLimits}
-use Rattle.seat_core.specs.Prefixes.{Begins}
-use Rattle.seat_core.specs.Journal.{IsNext, IsLegal}
-use Rattle.seat_core.proofs.History.Prefixes.{begins_trans, begins_length, begins_longer, begins_itself}
-use Rattle.seat_core.proofs.History.Legal.{legal_push}
-use Rattle.seat_host.specs.Histories.{of_session}
+use Rattle.seat_rules.specs.Inventory.{Inventory, HoldsWithinLimits}
+use Rattle.seat_rules.specs.Prefixes.{Begins}
+use Rattle.seat_rules.specs.Journal.{IsNext, IsLegal}
+use Rattle.seat_rules.proofs.History.Prefixes.{begins_trans, begins_length, begins_longer, begins_itself}
+use Rattle.seat_rules.proofs.History.Legal.{legal_push}
+use Rattle.seat_rules.specs.Histories.{of_session}
 use Rattle.seat_display.specs.Faces.{Published}
 use Rattle.seat_host.specs.Lawful.{IsTied, Shows, LawfulUnderLock, AddsLine}
 use Rattle.seat_host.specs.Ledgers.{Staked, counted}
 use Rattle.seat_host.specs.Sessions.{Stands, Booked, Waits, Seat}
 use Rattle.seat_host.specs.Settling.{IsConfirmed}
-use Rattle.seat_host.proofs.Own.{own_append, own_length, own_one, own_other, calls_own}
+use Rattle.seat_rules.proofs.Own.{own_append, own_length, own_one, own_other, calls_own}
 
 -- a front that the old journal begins with becomes the new journal
 pub front_is : (front front' journal : List Entry) (e : Entry) → Begins front journal → Begins (journal ++ e ∷ []) front' → (front' ≡ front) ⊎ (front' ≡ journal ++ e ∷ []) → front' ≡ journal ++ e ∷ []

@@ -5,7 +5,7 @@ use Rattle.std.specs.List.{AllByRecursion, slice_index_or}
 use Rattle.std.proofs.lemmas.List.{append-nil}
 use Rattle.std.proofs.lemmas.Bool.Decides.{nat_tests}
 use Rattle.seat_journal.specs.declared.entry.Entry.{Entry}
-use Rattle.seat_host.specs.Histories.{of_session, by_session}
+use Rattle.seat_rules.specs.Histories.{of_session, by_session}
 use Rattle.seat_host.specs.Sessions.{Seat}
 use Rattle.seat_host.specs.Settling.{has_id, has_up_to, has_all, IsConfirmed}
 use Rattle.seat_host.proofs.Booking.{dec_nat}

@@ -8,16 +8,16 @@ use Rattle.seat_nesting.specs.Nesting.{Legs}
 use Rattle.seat_journal.specs.declared.entry.Work.{Work}
 use Rattle.seat_journal.specs.declared.entry.Work.TheVariants.{Seats, Limit}
 use Rattle.seat_journal.specs.declared.entry.Entry.{Entry}
-use Rattle.seat_core.specs.Prefixes.{Begins}
-use Rattle.seat_core.specs.Journal.{IsLegal, IsNext, MayAsk}
-use Rattle.seat_core.proofs.History.Legal.{each_legal, legal_prefix}
-use Rattle.seat_core.proofs.History.Prefixes.{begins_itself, begins_length}
+use Rattle.seat_rules.specs.Prefixes.{Begins}
+use Rattle.seat_rules.specs.Journal.{IsLegal, IsNext, MayAsk}
+use Rattle.seat_rules.proofs.History.Legal.{each_legal, legal_prefix}
+use Rattle.seat_rules.proofs.History.Prefixes.{begins_itself, begins_length}
 use Rattle.seat_display.specs.Faces.{Viewed, opened}
-use Rattle.seat_host.specs.Histories.{of_session, OnlyFirst}
+use Rattle.seat_rules.specs.Histories.{of_session, OnlyFirst}
 use Rattle.seat_host.specs.Lawful.{IsTied, CountsFirst}
 use Rattle.seat_host.specs.Ledgers.{Staked, counted}
 use Rattle.seat_host.specs.Sessions.{Seat, Stands, seated, seated_sessions}
-use Rattle.seat_host.proofs.Own.{own_append, own_length, own_one, own_other}
+use Rattle.seat_rules.proofs.Own.{own_append, own_length, own_one, own_other}
 use Rattle.seat_host.proofs.Booking.{at_set_here, at_set_else, set_length, dec_nat, no_calls}
 
 -- without lines no session has one

@@ -2,7 +2,7 @@
 use Rattle.std.proofs.Common.{◌≡◌, ℕ, suc, ◌+◌, ◌-◌, ◌≤◌, List, [], ◌∷◌, ◌++◌, Option, Some, None, length, length-append, ap, sym, ◌∙◌, arith}
 use Rattle.std.specs.Prelude.{option_to_list, IsSome, ◌<◌}
 use Rattle.seat_host.specs.Ledgers.{Staked, counted, stakes_left}
-use Rattle.seat_core.proofs.History.Prefixes.{push_same}
+use Rattle.seat_rules.proofs.History.Prefixes.{push_same}
 
 -- the last of the shares that are left is that of the next number
 pub left_next : (n : ℕ) → n ≤ 8 → stakes_left (9 - n) ≡ stakes_left (9 - (n + 1)) ++ counted n 0 ∷ []

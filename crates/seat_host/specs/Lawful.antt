@@ -4,10 +4,10 @@ use Rattle.logbook.specs.Pages.{Book}
 use Rattle.seat_nesting.specs.Nesting.{Legs}
 use Rattle.seat_journal.specs.declared.entry.Work.{Work}
 use Rattle.seat_journal.specs.declared.entry.Entry.{Entry}
-use Rattle.seat_core.specs.Inventory.{Inventory, HoldsWithinLimits}
-use Rattle.seat_core.specs.Journal.{IsLegal, IsNext, calls_of, next_line}
+use Rattle.seat_rules.specs.Inventory.{Inventory, HoldsWithinLimits}
+use Rattle.seat_rules.specs.Journal.{IsLegal, IsNext, calls_of, next_line}
 use Rattle.seat_display.specs.Faces.{Published}
-use Rattle.seat_host.specs.Histories.{of_session, OnlyFirst}
+use Rattle.seat_rules.specs.Histories.{of_session, OnlyFirst}
 
 -- the journal beside the counts of lines of n sessions
 pub record IsTied (grid : Legs) (cap n : ℕ) (line_counts : List ℕ) (journal : List Entry) : Type 0 where

@@ -1,11 +1,7 @@
-pub mod Agreement
 pub mod Answering
-pub mod Headline
-pub mod Histories
 pub mod Lawful
 pub mod Ledgers
 pub mod Named
 pub mod Sessions
 pub mod Settling
 pub mod Shares
-pub mod Working

@@ -3,10 +3,10 @@ use Rattle.std.specs.Prelude.{◌≡◌, ℕ, zero, suc, ◌+◌, ◌<◌, ◌�
 use Rattle.seat_nesting.specs.Nesting.{Legs}
 use Rattle.seat_journal.specs.declared.entry.Work.{Work}
 use Rattle.seat_journal.specs.declared.entry.Entry.{Entry}
-use Rattle.seat_core.specs.Prefixes.{Begins}
-use Rattle.seat_core.specs.Inventory.{HoldsWithinLimits}
-use Rattle.seat_core.specs.Journal.{IsLegal}
-use Rattle.seat_host.specs.Histories.{of_session}
+use Rattle.seat_rules.specs.Prefixes.{Begins}
+use Rattle.seat_rules.specs.Inventory.{HoldsWithinLimits}
+use Rattle.seat_rules.specs.Journal.{IsLegal}
+use Rattle.seat_rules.specs.Histories.{of_session}
 
 -- what contracts see of a session: its number, which is 0 for the manager, the lines that it was given, and what it has seen
 pub record Seat : Type 0 where

@@ -2,8 +2,8 @@
 use Rattle.std.specs.Prelude.{◌≡◌, ℕ, zero, suc, ◌==◌, ◌&&◌, ◌≤◌, Bool, true, List, length}
 use Rattle.std.specs.List.{list_any}
 use Rattle.seat_journal.specs.declared.entry.Entry.{Entry}
-use Rattle.seat_core.specs.Prefixes.{Begins}
-use Rattle.seat_host.specs.Histories.{of_session}
+use Rattle.seat_rules.specs.Prefixes.{Begins}
+use Rattle.seat_rules.specs.Histories.{of_session}
 use Rattle.seat_host.specs.Sessions.{Seat}
 
 -- one of them has this number

@@ -3,7 +3,7 @@ ghost use Rattle.std.specs.Prelude.{◌≡◌, ◌+◌, ◌-◌, ◌<◌, ◌≤
 ghost use Rattle.seat_host.specs.Ledgers.{counted};
 ghost use Rattle.seat_host.specs.Shares.{staked};
 
-use ssim_records::Memory;
+use airline_base::Memory;
 use std::alloc::Global;
 use std::marker::{Brand, Model, PhantomData};
 use std::sync::ledger::{Blank, Book, Ledger, Share};

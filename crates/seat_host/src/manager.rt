@@ -1,8 +1,8 @@
 //! The manager of the limits.
 ghost use Rattle.std.specs.Prelude.{◌≡◌, ◌+◌, ◌<◌, length, IfSome, IfNone};
-ghost use Rattle.seat_core.specs.Prefixes.{Begins};
-ghost use Rattle.seat_core.specs.Sequential.{room_left};
-ghost use Rattle.seat_core.specs.Journal.{FitsChange, IsLegal, replay};
+ghost use Rattle.seat_rules.specs.Prefixes.{Begins};
+ghost use Rattle.seat_rules.specs.Sequential.{room_left};
+ghost use Rattle.seat_rules.specs.Journal.{FitsChange, IsLegal, replay};
 ghost use Rattle.seat_journal.specs.declared.entry.Work.TheVariants.{Limit};
 
 use crate::host::Host;
@@ -11,7 +11,7 @@ use crate::party::Party;
 use crate::receipt::Receipt;
 use crate::under_lock::BookFault;
 use seat_journal::Change;
-use ssim_records::{Class, Place};
+use airline_base::{Class, Place};
 use std::alloc::Global;
 use std::marker::Model;
 use std::sync::Wait;
@@ -19,7 +19,7 @@ use std::sync::Wait;
 /// Session 0, which changes limits. It keeps its own lines as receipts, and looks without the lock.
 #[derive(Drop)]
 pub struct Manager<K: Hosting> {
-    pub(crate) party: Party<K>,
+    pub party: Party<K>,
 }
 
 impl<K: Hosting> Model for Manager<K> {

@@ -1,7 +1,7 @@
 //! The parts of a host, which no type names yet.
 ghost use Rattle.std.specs.Prelude.{◌≡◌, ◌<◌, ◌≤◌, ◌⊎◌, ◌↔◌, [], IsTrue, OnOk, IfOk, IfErr, length};
-ghost use Rattle.seat_core.specs.Journal.{IsLegal};
-ghost use Rattle.seat_host.specs.Histories.{OnlyFirst};
+ghost use Rattle.seat_rules.specs.Journal.{IsLegal};
+ghost use Rattle.seat_rules.specs.Histories.{OnlyFirst};
 ghost use Rattle.seat_host.specs.declared.parts.HostFault.TheVariants.{Sessions, Memory as NoMemory};
 
 use crate::ledgers::Blanks;
@@ -9,7 +9,7 @@ use seat_core::Core;
 use seat_display::{Publisher, Viewer, open as open_display};
 use seat_journal::Entry;
 use seat_nesting::Grid;
-use ssim_records::Memory;
+use airline_base::Memory;
 use std::alloc::Global;
 use std::marker::Model;
 use std::sync::Wait;
@@ -36,7 +36,7 @@ pub struct Parts {
 impl Model for Parts {
     ghost use Rattle.std.specs.Prelude.{◌≡◌, ◌+◌, ◌<◌, ◌≤◌, [], All, vec_len};
     ghost use Rattle.seat_display.specs.Faces.{opened};
-    ghost use Rattle.seat_host.specs.Histories.{OnlyFirst};
+    ghost use Rattle.seat_rules.specs.Histories.{OnlyFirst};
     ghost use Rattle.seat_host.specs.Named.{Named};
 
     ghost Value = { Named };

@@ -1,16 +1,16 @@
 //! What a session and the manager are: a number, and what its calls have left.
 ghost use Rattle.std.specs.Prelude.{◌≡◌, ◌+◌, ◌-◌, ◌<◌, ◌≤◌, length, Some, IfSome, IfNone, slice_get};
-ghost use Rattle.seat_core.specs.Prefixes.{Begins};
-ghost use Rattle.seat_core.specs.Sequential.{room_left};
-ghost use Rattle.seat_core.specs.Journal.{IsLegal, replay};
+ghost use Rattle.seat_rules.specs.Prefixes.{Begins};
+ghost use Rattle.seat_rules.specs.Sequential.{room_left};
+ghost use Rattle.seat_rules.specs.Journal.{IsLegal, replay};
 ghost use Rattle.seat_host.specs.Ledgers.{counted};
-ghost use Rattle.seat_host.specs.Histories.{of_session};
+ghost use Rattle.seat_rules.specs.Histories.{of_session};
 ghost use Rattle.seat_host.specs.Sessions.{seated};
 
 use crate::ledgers::{Hosting, Stake};
 use crate::receipt::Receipt;
 use seat_display::Viewer;
-use ssim_records::{Class, Place};
+use airline_base::{Class, Place};
 use std::marker::Model;
 
 /// It keeps its own lines as receipts, the one share of its ledger, and a viewer.

@@ -1,8 +1,8 @@
 //! Seating: the manager and the sessions that a host begins with, and the lines that they were given before.
 ghost use Rattle.std.specs.Prelude.{◌≡◌, ◌+◌, ◌<◌, ◌≤◌, [], ◌∷◌, length, All, vec_len, IsSome, IfSome, IfOk, OnOk};
 ghost use Rattle.seat_display.specs.Faces.{opened};
-ghost use Rattle.seat_core.specs.Journal.{IsLegal};
-ghost use Rattle.seat_host.specs.Histories.{of_session};
+ghost use Rattle.seat_rules.specs.Journal.{IsLegal};
+ghost use Rattle.seat_rules.specs.Histories.{of_session};
 ghost use Rattle.seat_host.specs.Lawful.{CountsFirst};
 ghost use Rattle.seat_host.specs.Sessions.{seated, seated_sessions};
 
@@ -13,7 +13,7 @@ use crate::receipt::Receipt;
 use crate::session::Session;
 use seat_display::{Publisher, Viewer};
 use seat_journal::Entry;
-use ssim_records::Memory;
+use airline_base::Memory;
 use std::alloc::Global;
 
 /// The manager, and a session for each of the first numbers. They go on from these lines, which are visible, and their

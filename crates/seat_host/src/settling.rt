@@ -1,8 +1,8 @@
 //! Gathering: what a host, its manager and all its sessions come to.
 ghost use Rattle.std.specs.Prelude.{◌≡◌, ◌+◌, ◌↔◌, ◌<◌, ◌∷◌, length, false, true, slice_set, IfOk, IfErr, OnOk};
 ghost use Rattle.std.specs.List.{AllByRecursion};
-ghost use Rattle.seat_host.specs.Histories.{by_session};
-ghost use Rattle.seat_host.specs.Headline.{Headline};
+ghost use Rattle.seat_rules.specs.Histories.{by_session};
+ghost use Rattle.seat_rules.specs.Headline.{Headline};
 ghost use Rattle.seat_host.specs.Settling.{has_all, has_id, IsConfirmed};
 ghost use Rattle.seat_host.specs.declared.settling.GatherFault.TheVariants.{Missing};
 
@@ -13,10 +13,10 @@ use crate::party::Party;
 use crate::receipt::Receipt;
 use crate::session::Session;
 use crate::under_lock::UnderLock;
-use seat_core::Totals;
+use seat_rules::Totals;
 use seat_journal::Entries;
 use seat_nesting::Grid;
-use ssim_records::{Items, Memory};
+use airline_base::{Items, Memory};
 use std::alloc::Global;
 use std::marker::Model;
 use std::sync::Wait;

@@ -6,7 +6,7 @@ use Rattle.std.proofs.lemmas.Bool.Decides.{nat_tests}
 use Rattle.std.proofs.lemmas.List.{map-set, set-get_or, get_or-set_same, get_or-set_other, map-append, length-map, get_or-map, take_more}
 use Rattle.std.proofs.lemmas.Option.{unwrap_or-slice_get}
 use Rattle.seat_nesting.specs.Nesting.{Steps, Legs, steps_of, ladder_at, room, room_on, least, each_leg, covers, has_class}
-use Rattle.ssim_records.specs.declared.place.Place.{Place}
+use Rattle.airline_base.specs.declared.place.Place.{Place}
 use Rattle.seat_nesting.proofs.Rooms.{least_le, room_same}
 use Rattle.seat_nesting.specs.Counting.{LegSeats, Counted, seats_on, leg_in, legs_in, leg_at, limits_of, seats_of, no_leg, IsKept, IsFresh, IsWithinLimits, LegChanges, FlightChanges, OneLegChanges, Changes, plus, less, leg_holds, holds}
 use Rattle.seat_nesting.specs.Changing.{with_limit, leg_with, limits_with, LegSets, FlightSets, Sets}

@@ -5,7 +5,7 @@ use Rattle.std.proofs.lemmas.Bool.Decides.{nat_tests}
 use Rattle.std.proofs.lemmas.List.Sums.{sum_by-cons, sum_by_push}
 use Rattle.std.proofs.lemmas.List.{map-set, map-append, length-map, take_all}
 use Rattle.std.proofs.lemmas.Option.{unwrap_or-slice_get}
-use Rattle.ssim_records.specs.declared.place.Place.{Place}
+use Rattle.airline_base.specs.declared.place.Place.{Place}
 use Rattle.seat_nesting.specs.Nesting.{Steps, Legs, Fits, IsLegLadder, steps_of, has_class, room_on, ladder_at, legs_of}
 use Rattle.seat_nesting.specs.Counting.{LegSeats, Counted, leg_of, leg_in, legs_in, leg_at, limits_of, seats_of, no_leg, IsKept, IsFresh, IsRank, IsWithinLimits, LegChanges, FlightChanges, OneLegChanges, plus, less}
 use Rattle.seat_nesting.specs.OwnLadders.{steps_by, may_come, may_come_on, AreShared, leg_seen, held_at, with_held, no_counted, counted_in, counted_at, legs_seen, all_seen, limits_in, all_limits, limits_at, AreCounters, HaveOwn}

@@ -2,7 +2,7 @@
 use Rattle.std.specs.Prelude.{◌≡◌, ◌<◌, ◌≤◌, ℕ, true, length, slice_index_or, ◌+◌, ◌-◌, ◌==◌, ◌&&◌, nat_le, Bool, List, [], ◌∷◌, map, unwrap_or, slice_get, if◌then◌else◌}
 use Rattle.seat_nesting.specs.Nesting.{Steps, Legs, ByClass, Table, IsWithin, IsLegLadder, ladder_at, has_class, each_leg, seats_at}
 use Rattle.seat_nesting.specs.declared.ladder.Step.{Step}
-use Rattle.ssim_records.specs.declared.place.Place.{Place}
+use Rattle.airline_base.specs.declared.place.Place.{Place}
 
 -- ---- one leg
 

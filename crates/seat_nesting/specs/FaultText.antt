@@ -1,28 +1,10 @@
--- The printed text of a refused ladder or limit row.
-use Rattle.std.specs.Prelude.{ℕ, List, ◌++◌, codes}
-use Rattle.std.specs.Fmt.{decimal}
+-- The printed text of a refused ladder.
+use Rattle.std.specs.Prelude.{ℕ, List, codes}
 use Rattle.seat_nesting.specs.declared.ladder.LadderFault.{LadderFault}
 use Rattle.seat_nesting.specs.declared.ladder.LadderFault.TheVariants as faults
-use Rattle.seat_nesting.specs.declared.limit_fault.LimitKind.{LimitKind}
-use Rattle.seat_nesting.specs.declared.limit_fault.LimitKind.TheVariants as kinds
-use Rattle.seat_nesting.specs.declared.limit_fault.LimitFault.{LimitFault}
 
 abbrev pub ladder_code : LadderFault → List ℕ
 ladder_code faults.Empty = codes "L1"
 ladder_code faults.RepeatedClass = codes "L2"
 ladder_code faults.Rising = codes "L3"
 ladder_code faults.TooLarge = codes "L4"
-
--- the code, and behind M6 the ladder's own
-abbrev pub kind_text : LimitKind → List ℕ
-kind_text kinds.Head = codes "M1"
-kind_text kinds.Flight = codes "M2"
-kind_text kinds.Period = codes "M3"
-kind_text kinds.Pair = codes "M4"
-kind_text kinds.Entry = codes "M5"
-kind_text (kinds.Ladder fault) = codes "M6 " ++ ladder_code fault
-kind_text kinds.Memory = codes "M7"
-
--- the kind, a blank and the line
-abbrev pub fault_text : LimitFault → List ℕ
-fault_text f = kind_text f.kind ++ codes " " ++ decimal f.line

@@ -1,13 +1,6 @@
-pub mod Authorised
-pub mod ChangeRows
 pub mod Changing
 pub mod Counting
 pub mod FaultText
-pub mod LadderText
 pub mod Ladders
-pub mod LimitRows
 pub mod Nesting
 pub mod OwnLadders
-pub mod RowFields
-pub mod RowStretches
-pub mod RowTexts

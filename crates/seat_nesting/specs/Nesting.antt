@@ -3,7 +3,7 @@ use Rattle.std.specs.Prelude.{◌≢◌, ℕ, zero, suc, ◌+◌, ◌-◌, ◌<�
 use Rattle.std.specs.Char.{is_ascii_uppercase}
 use Rattle.std.specs.List.{sum_by, list_any, AllByRecursion}
 use Rattle.seat_nesting.specs.declared.ladder.Step.{Step}
-use Rattle.ssim_records.specs.declared.place.Place.{Place}
+use Rattle.airline_base.specs.declared.place.Place.{Place}
 
 -- the steps of a leg, highest rank first; a leg without limits has none
 abbrev pub Steps : Type 0

@@ -8,7 +8,7 @@ ghost use Rattle.seat_nesting.specs.declared.counted_leg.Limits.TheVariants.{Own
 
 use crate::ladder::{Ladder, Step};
 use crate::shared::SharedLadder;
-use ssim_records::{Class, Memory};
+use airline_base::{Class, Memory};
 
 /// Where the limits of a leg stand.
 #[derive(Drop)]

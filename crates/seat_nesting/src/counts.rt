@@ -10,7 +10,7 @@ use crate::flight_counts::FlightCounts;
 use crate::grid::Grid;
 use crate::ladder::{Ladder, Step};
 use crate::leg_counts::LegCounts;
-use ssim_records::{Class, Memory, Place};
+use airline_base::{Class, Memory, Place};
 use std::alloc::Global;
 use std::marker::Model;
 

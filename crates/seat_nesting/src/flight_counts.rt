@@ -9,7 +9,7 @@ ghost use Rattle.seat_nesting.specs.declared.counted_leg.Limits.TheVariants.{Own
 use crate::counted_leg::CountedLeg;
 use crate::grid::FlightLegs;
 use crate::ladder::Ladder;
-use ssim_records::{Class, Memory};
+use airline_base::{Class, Memory};
 use std::alloc::Global;
 use std::marker::Model;
 

@@ -2,15 +2,10 @@
 ghost use Rattle.std.specs.Prelude.{◌≡◌, ◌≤◌, ◌<◌, ℕ, length, [], ◌∷◌, Some, IfOk, OnOk, IfSome, IfNone, IsTrue, map, ◌↔◌};
 ghost use Rattle.seat_nesting.specs.Nesting.{Fits, ladder_at, IsDistinct, HasLadders, steps_at, steps_of};
 ghost use Rattle.seat_nesting.specs.Changing.{FitsLimit};
-ghost use Rattle.seat_nesting.specs.Authorised.{authorised_grid, authorised_legs, row_steps, AreShares};
-ghost use Rattle.seat_nesting.specs.RowStretches.{IsRowIndex};
 
 use crate::ladder::{Ladder, Step};
-use crate::limit_row::LimitRow;
-use crate::row_index::{RowIndex, leg_pair_of};
 use crate::shared::SharedLadder;
-use ssim_flights::{Flight, Flights};
-use ssim_records::{Memory, Place};
+use airline_base::{Memory, Place};
 use std::alloc::Global;
 use std::marker::Model;
 use std::sync::Arc;
@@ -73,20 +68,12 @@ impl Grid {
         Ok(Grid { flights })
     }
 
-    /// The ladders that limit rows give to the legs of flights: each leg has that of the last row
-    /// with its airline, number, suffix and city pair whose period holds its local day.
-    #[tactic(auto, using(crate::proofs::Grids::built_ladders))]
-    pub fn build(alloc: Global, flights: &Flights, rows: &[LimitRow]) -> Result<Grid, Memory>
-        ensures { IfOk result (λ grid. grid ≡ authorised_grid rows.now flights.now) }
+    /// A grid of the ladders of each flight's legs, none of which names a class twice.
+    pub fn of(alloc: Global, flights: Vec<FlightLegs>) -> Result<Grid, Memory>
+        requires distinct { HasLadders flights.items }
+        ensures { IfOk result (λ grid. grid ≡ flights.items) }
     {
-        let index = RowIndex::new(alloc, rows)?;
-        let mut shares = no_shares(alloc, rows)?;
-        let mut grid = Vec::with_capacity(alloc, flights.len() as usize)?;
-        for i in 0..flights.len() {
-            let flight = flights.flight(i);
-            grid.push(FlightLegs::build(alloc, flight, rows, &index, &mut shares)?)?;
-        }
-        let flights = Arc::new(alloc, grid)?;
+        let flights = Arc::new(alloc, flights)?;
         Ok(Grid { flights })
     }
 
@@ -156,6 +143,13 @@ impl Grid {
 }
 
 impl FlightLegs {
+    /// The legs of a flight with these ladders, one a leg, where it has one.
+    pub fn of(ladders: Vec<Option<SharedLadder>>) -> FlightLegs
+        ensures { result ≡ map steps_of ladders.items }
+    {
+        FlightLegs { ladders }
+    }
+
     /// The ladder of each leg, where it has one.
     pub(crate) fn ladders(&self) -> &[Option<SharedLadder>]
         ensures { self.now ≡ map steps_of result.now }
@@ -178,78 +172,4 @@ impl FlightLegs {
             _ => None,
         }
     }
-
-    fn build(
-        alloc: Global,
-        flight: &Flight,
-        rows: &[LimitRow],
-        index: &RowIndex,
-        shares: &mut Vec<Option<SharedLadder>>,
-    ) -> Result<FlightLegs, Memory>
-        requires index { IsRowIndex index.now.last index.now.edges.items index.now.found.items rows.now }
-        requires shares { AreShares shares.old.items rows.now }
-        ensures legs { IfOk result (λ legs. legs ≡ authorised_legs rows.now flight.now) }
-        ensures distinct { IfOk result (λ legs. (leg : ℕ) → IsDistinct (steps_at legs leg)) }
-        ensures shares { OnOk result (AreShares shares.new.items rows.now) }
-    {
-        let mut ladders = Vec::with_capacity(alloc, flight.legs.len())?;
-        for leg in flight.legs.as_slice() {
-            let row = index.row(rows, leg_pair_of(flight, leg), leg.day);
-            ladders.push(shared_of(alloc, rows, shares, row)?)?;
-        }
-        Ok(FlightLegs { ladders })
-    }
-}
-
-/// Room for the ladder of each row.
-fn no_shares(alloc: Global, rows: &[LimitRow]) -> Result<Vec<Option<SharedLadder>>, Memory>
-    ensures { IfOk result (λ shares. AreShares shares.items rows.now) }
-{
-    let mut shares = Vec::with_capacity(alloc, rows.len())?;
-    for _row in rows {
-        shares.push(None)?;
-    }
-    Ok(shares)
-}
-
-/// The ladder of a row, if there is a row.
-fn shared_of(
-    alloc: Global,
-    rows: &[LimitRow],
-    shares: &mut Vec<Option<SharedLadder>>,
-    row: Option<u32>,
-) -> Result<Option<SharedLadder>, Memory>
-    requires inside { IfSome row (λ i. i < length rows.now) }
-    requires shares { AreShares shares.old.items rows.now }
-    ensures steps { IfOk result (λ ladder. steps_of ladder ≡ row_steps rows.now row) }
-    ensures distinct { IfOk result (λ ladder. IsDistinct (steps_of ladder)) }
-    ensures shares { OnOk result (AreShares shares.new.items rows.now) }
-{
-    let Some(i) = row else {
-        return Ok(None);
-    };
-    let ladder = share(alloc, rows, shares, i as usize)?;
-    let _ = ladder.get().steps();
-    Ok(Some(ladder))
-}
-
-/// The ladder of a row, which all legs share that have it.
-fn share(
-    alloc: Global,
-    rows: &[LimitRow],
-    shares: &mut Vec<Option<SharedLadder>>,
-    i: usize,
-) -> Result<SharedLadder, Memory>
-    requires inside { i < length rows.now }
-    requires shares { AreShares shares.old.items rows.now }
-    ensures steps { IfOk result (λ ladder. ladder ≡ row_steps rows.now (Some i)) }
-    ensures shares { OnOk result (AreShares shares.new.items rows.now) }
-{
-    if let Some(ladder) = &shares[i] {
-        return ladder.again();
-    }
-    let ladder = SharedLadder::of(alloc, rows[i].ladder.copy())?;
-    let kept = ladder.again()?;
-    shares[i] = Some(kept);
-    Ok(ladder)
 }

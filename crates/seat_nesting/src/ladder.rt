@@ -8,7 +8,7 @@ ghost use Rattle.seat_nesting.specs.Ladders.{ladder_fault, repeats_class, is_bel
 ghost use Rattle.seat_nesting.specs.Changing.{with_limit};
 
 use arrayvec::ArrayVec;
-use ssim_records::Class;
+use airline_base::Class;
 use std::fmt;
 use std::marker::Model;
 

@@ -5,7 +5,7 @@ ghost use Rattle.seat_nesting.specs.Counting.{IsKept, IsRank, leg_holds, leg_of,
 ghost use Rattle.seat_nesting.specs.Changing.{limit_above, may_have, step_of, top_of};
 
 use crate::ladder::{Step, rank_of};
-use ssim_records::Class;
+use airline_base::Class;
 use std::marker::Model;
 
 /// The limits of a leg as they stand, and how many seats are held in each of its ranks.

@@ -2,7 +2,7 @@
 ghost use Rattle.std.specs.Prelude.{◌≡◌, IfOk};
 
 use crate::ladder::Ladder;
-use ssim_records::Memory;
+use airline_base::Memory;
 use std::alloc::Global;
 use std::marker::Model;
 use std::sync::Arc;

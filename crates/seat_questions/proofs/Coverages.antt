@@ -13,12 +13,12 @@ use Rattle.std.proofs.lemmas.List.Sums.{sum_by-cons}
 use Rattle.std.proofs.lemmas.List.Sorted.{IsNonDecreasingBy-from_sort, list_any-IsPermutation, sum_by-IsPermutation}
 use Rattle.std.proofs.lemmas.List.Folds.{list_any-append}
 use Rattle.std.proofs.lemmas.Option.{get_or_from_slice_get, slice_get_within}
-use Rattle.ssim_records.specs.Days.{IsDay}
+use Rattle.airline_base.specs.Days.{IsDay}
 use Rattle.ssim_flights.specs.declared.flight.DatedLeg.{DatedLeg}
 use Rattle.ssim_flights.specs.declared.flight.Flight.{Flight}
-use Rattle.seat_nesting.specs.Authorised.{holds_day, leg_pair, row_pair, same_pair}
-use Rattle.seat_nesting.specs.declared.limit_row.LimitRow.{LimitRow}
-use Rattle.seat_nesting.proofs.RowIndexing.{pair_is}
+use Rattle.seat_limits.specs.Authorised.{holds_day, leg_pair, row_pair, same_pair}
+use Rattle.seat_limits.specs.declared.limit_row.LimitRow.{LimitRow}
+use Rattle.seat_limits.proofs.RowIndexing.{pair_is}
 use Rattle.seat_questions.specs.Cover.{IsCoverText, IsFlightPartBy, IsRowPartBy, covered_by, has_leg, has_row, is_on, is_row_of, leg_count, row_text, sums_text}
 use Rattle.seat_desk.specs.FlightsDesk.{IsPut, IsText}
 use Rattle.seat_desk.proofs.Texts.{each_more}

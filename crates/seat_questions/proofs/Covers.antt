@@ -7,7 +7,7 @@ use Rattle.std.proofs.lemmas.List.Sums.{sum_by_more}
 use Rattle.std.proofs.lemmas.Option.{get_or_from_slice_get, slice_get_cases}
 use Rattle.ssim_flights.specs.declared.flight.DatedLeg.{DatedLeg}
 use Rattle.ssim_flights.specs.declared.flight.Flight.{Flight}
-use Rattle.seat_nesting.specs.declared.limit_row.LimitRow.{LimitRow}
+use Rattle.seat_limits.specs.declared.limit_row.LimitRow.{LimitRow}
 use Rattle.seat_desk.specs.FlightsDesk.{IsLegText, IsPut}
 use Rattle.seat_desk.proofs.Texts.{assoc_four, missing}
 use Rattle.seat_questions.specs.Cover.{IsBarePut, IsCoverText, IsFlightPart, IsLegPut, IsLegTextBy, IsRowPart, bare_head, covered_legs, covered_line, has_leg, leg_count, share_text, sums_text}

@@ -1,8 +1,8 @@
 -- What was read of each input is all of it.
 use Rattle.std.proofs.Common.{◌≡◌, ℕ, List, ◌≤◌, length, Option, Some, None, IfSome, subst, ◌∙◌}
 use Rattle.ssim_flights.specs.declared.flight.Flight.{Flight as Flown}
-use Rattle.seat_nesting.specs.LimitRows.{IsLimitText}
-use Rattle.seat_nesting.specs.declared.limit_row.LimitRow.{LimitRow}
+use Rattle.seat_limits.specs.LimitRows.{IsLimitText}
+use Rattle.seat_limits.specs.declared.limit_row.LimitRow.{LimitRow}
 use Rattle.seat_desk.specs.CheckDesk.{most_bytes}
 use Rattle.seat_desk.specs.FlightsDesk.{IsSchedule}
 use Rattle.seat_desk.specs.Loading.{most_limit_bytes}

@@ -2,18 +2,18 @@
 use Rattle.std.proofs.Common.{◌≡◌, ◌<◌, ◌≤◌, ℕ, ◌+◌, ◌%◌, arith, get_or, slice_get, List, [], ◌∷◌, ◌++◌, take, Option, Some, None, IfSome, length, refl, sym, ap, subst, ◌∙◌, append_assoc, decimal}
 use Rattle.std.proofs.lemmas.List.{append-nil}
 use Rattle.std.proofs.lemmas.Option.{same_Some, slice_get_read}
-use Rattle.ssim_records.specs.Days.{IsDateText, day_month}
-use Rattle.ssim_records.specs.Fields.{suffix_text}
-use Rattle.ssim_records.specs.declared.place.Place.{Place}
+use Rattle.airline_base.specs.Days.{IsDateText, day_month}
+use Rattle.airline_base.specs.Fields.{suffix_text}
+use Rattle.airline_base.specs.declared.place.Place.{Place}
 use Rattle.ssim_flights.specs.declared.flight.DatedLeg.{DatedLeg}
 use Rattle.ssim_flights.specs.declared.flight.Flight.{Flight as Flown}
 use Rattle.airimp_lines.specs.Grammar.{plain_line}
 use Rattle.airimp_lines.specs.declared.segment.Segment.{Segment}
 use Rattle.airimp_lines.proofs.Replies.{day_front}
 use Rattle.seat_nesting.specs.Nesting.{Legs}
-use Rattle.seat_core.specs.declared.booking.Booking.{Booking}
-use Rattle.seat_core.specs.Inventory.{Inventory}
-use Rattle.seat_core.specs.Journal.{replay}
+use Rattle.seat_rules.specs.declared.booking.Booking.{Booking}
+use Rattle.seat_rules.specs.Inventory.{Inventory}
+use Rattle.seat_rules.specs.Journal.{replay}
 use Rattle.seat_desk.specs.AuditDesk.{IsRefusedAudit, IsReplayOf, most_journal_bytes}
 use Rattle.seat_desk.specs.FlightsDesk.{IsText}
 use Rattle.seat_desk.specs.Loading.{IsGridOf, IsLoaded, IsRefusedLoad}

@@ -3,26 +3,26 @@ use Rattle.std.proofs.Common.{◌≡◌, ◌≤◌, ◌<◌, ◌+◌, ◌-◌, �
 use Rattle.std.specs.List.{AllByRecursion}
 use Rattle.std.proofs.lemmas.List.{length-map}
 use Rattle.std.proofs.lemmas.Option.{slice_get-map}
-use Rattle.ssim_records.specs.declared.place.Place.{Place}
+use Rattle.airline_base.specs.declared.place.Place.{Place}
 use Rattle.ssim_flights.specs.declared.flight.Flight.{Flight as Flown}
-use Rattle.seat_nesting.specs.Authorised.{authorised_grid, authorised_legs}
+use Rattle.seat_limits.specs.Authorised.{authorised_grid, authorised_legs}
 use Rattle.seat_nesting.specs.Nesting.{Fits, Legs, Steps}
-use Rattle.seat_nesting.specs.declared.limit_row.LimitRow.{LimitRow}
+use Rattle.seat_limits.specs.declared.limit_row.LimitRow.{LimitRow}
 use Rattle.seat_journal.specs.declared.entry.Command.{Command}
 use Rattle.seat_journal.specs.declared.entry.Entry.{Entry}
 use Rattle.seat_journal.specs.declared.entry.Work.TheVariants.{Seats}
-use Rattle.seat_core.specs.Bookings.{is_for}
-use Rattle.seat_core.specs.Journal.{FitsWork, IsLegal, IsNext, replay}
-use Rattle.seat_core.specs.Sequential.{State, answer, booking_of, changed_by, confirmed, pass, reduced}
-use Rattle.seat_core.specs.declared.booking.Booking.{Booking}
-use Rattle.seat_core.specs.declared.booking.Status.{Status}
-use Rattle.seat_core.specs.declared.booking.Status.TheVariants.{Held, Waiting}
-use Rattle.seat_core.proofs.History.Legal.{each_legal}
-use Rattle.seat_core.proofs.History.Lines.{replay_next}
-use Rattle.seat_core.proofs.Passes.Quiet.{all_map, all_push}
-use Rattle.seat_core.proofs.Step.Apart.{all_confirmed, all_reduced}
-use Rattle.seat_core.proofs.Step.Limits.{each_pass}
-use Rattle.seat_core.proofs.Step.Outcomes.{each_outcome}
+use Rattle.seat_rules.specs.Bookings.{is_for}
+use Rattle.seat_rules.specs.Journal.{FitsWork, IsLegal, IsNext, replay}
+use Rattle.seat_rules.specs.Sequential.{State, answer, booking_of, changed_by, confirmed, pass, reduced}
+use Rattle.seat_rules.specs.declared.booking.Booking.{Booking}
+use Rattle.seat_rules.specs.declared.booking.Status.{Status}
+use Rattle.seat_rules.specs.declared.booking.Status.TheVariants.{Held, Waiting}
+use Rattle.seat_rules.proofs.History.Legal.{each_legal}
+use Rattle.seat_rules.proofs.History.Lines.{replay_next}
+use Rattle.seat_rules.proofs.Passes.Quiet.{all_map, all_push}
+use Rattle.seat_rules.proofs.Step.Apart.{all_confirmed, all_reduced}
+use Rattle.seat_rules.proofs.Step.Limits.{each_pass}
+use Rattle.seat_rules.proofs.Step.Outcomes.{each_outcome}
 use Rattle.seat_questions.specs.LiveBookings.{HasPlace, IsMade}
 
 module _ {A : Type 0} where

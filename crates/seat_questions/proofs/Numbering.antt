@@ -7,10 +7,10 @@ use Rattle.std.specs.Cmp.Lexicographic.{pointwise}
 use Rattle.std.proofs.lemmas.Bool.{eqb-true, eq-eqb}
 use Rattle.std.proofs.lemmas.Bool.Decides.{nat_tests}
 use Rattle.std.proofs.lemmas.Option.{slice_get_within, same_Some}
-use Rattle.seat_nesting.specs.Authorised.{row_pair, same_pair, PutsRow}
-use Rattle.seat_nesting.specs.declared.limit_row.LimitRow.{LimitRow}
-use Rattle.seat_nesting.specs.declared.row_index.Pair.{Pair}
-use Rattle.seat_nesting.proofs.RowIndexing.{pair_is, row_here}
+use Rattle.seat_limits.specs.Authorised.{row_pair, same_pair, PutsRow}
+use Rattle.seat_limits.specs.declared.limit_row.LimitRow.{LimitRow}
+use Rattle.seat_limits.specs.declared.row_index.Pair.{Pair}
+use Rattle.seat_limits.proofs.RowIndexing.{pair_is, row_here}
 use Rattle.seat_questions.specs.PairNumbers.{AreNumbered, HasNumber, IsRowOf, Numbers, number_of}
 
 -- a pair is that of itself

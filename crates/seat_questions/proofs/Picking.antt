@@ -7,18 +7,18 @@ use Rattle.std.specs.Ordering.{nat_cmp, ordering_index}
 use Rattle.std.proofs.lemmas.Bool.Decides.{nat_tests}
 use Rattle.std.proofs.lemmas.Cmp.{ranked}
 use Rattle.std.proofs.lemmas.List.Elements.{All-from_recursion, recursion_from_All}
-use Rattle.ssim_records.specs.declared.place.Place.{Place}
+use Rattle.airline_base.specs.declared.place.Place.{Place}
 use Rattle.std.proofs.lemmas.Option.{same_Some, slice_get_read}
 use Rattle.seat_nesting.specs.Nesting.{Fits, Legs}
 use Rattle.seat_journal.specs.declared.entry.Entry.{Entry}
 use Rattle.seat_journal.specs.declared.entry.Work.TheVariants.{Seats}
-use Rattle.seat_core.specs.Applying.{IsOrdered}
-use Rattle.seat_core.specs.Flights.{bookings_on}
-use Rattle.seat_core.specs.Journal.{IsLegal, IsNext, replay}
-use Rattle.seat_core.specs.declared.booking.Booking.{Booking}
-use Rattle.seat_core.proofs.History.Legal.{each_legal}
-use Rattle.seat_core.proofs.Passes.Quiet.{all_map}
-use Rattle.seat_core.proofs.Step.Effect.{replay_is_numbered}
+use Rattle.seat_rules.specs.Applying.{IsOrdered}
+use Rattle.seat_rules.specs.Flights.{bookings_on}
+use Rattle.seat_rules.specs.Journal.{IsLegal, IsNext, replay}
+use Rattle.seat_rules.specs.declared.booking.Booking.{Booking}
+use Rattle.seat_rules.proofs.History.Legal.{each_legal}
+use Rattle.seat_rules.proofs.Passes.Quiet.{all_map}
+use Rattle.seat_rules.proofs.Step.Effect.{replay_is_numbered}
 use Rattle.seat_questions.proofs.Making.{replay_is_made}
 use Rattle.seat_questions.specs.LiveBookings.{IsLine, IsMade, asked_under, bookings_of, is_of, numbered, own, own_up_to}
 

@@ -2,7 +2,7 @@
 use Rattle.std.proofs.Common.{◌≡◌, ◌≢◌, ℕ, ◌-◌, ◌<◌, ◌≤◌, Bool, true, false, List, [], ◌++◌, length, take, Option, Some, None, IfSome, slice_get, get_or, codes, arith, refl, ap, sym, subst, ◌∙◌}
 use Rattle.std.proofs.lemmas.Option.{slice_get-get_or}
 use Rattle.ssim_flights.specs.declared.flight.Flight.{Flight as Flown}
-use Rattle.ssim_records.specs.declared.place.Place.{Place}
+use Rattle.airline_base.specs.declared.place.Place.{Place}
 use Rattle.seat_nesting.specs.Nesting.{Fits, Legs}
 use Rattle.seat_journal.specs.Reading.{IsFirstFault}
 use Rattle.seat_journal.specs.Text.{IsJournalText, entry_text}
@@ -13,9 +13,9 @@ use Rattle.seat_journal.specs.declared.fault.JournalFault.{JournalFault}
 use Rattle.seat_journal.specs.declared.fault.JournalKind.{JournalKind}
 use Rattle.seat_journal.specs.declared.fault.JournalKind.TheVariants as journal_kinds
 use Rattle.seat_journal.proofs.TextLaws.{one_text}
-use Rattle.seat_core.specs.Journal.{FitsWork, next_line, replay}
-use Rattle.seat_core.specs.Replaying.{replay_fault}
-use Rattle.seat_core.proofs.History.Faults.{legal_has_no_fault}
+use Rattle.seat_rules.specs.Journal.{FitsWork, next_line, replay}
+use Rattle.seat_rules.specs.Replaying.{replay_fault}
+use Rattle.seat_rules.proofs.History.Faults.{legal_has_no_fault}
 use Rattle.seat_desk.specs.AuditDesk.{journal_fault, journal_fault_of, most_journal_bytes, most_lines}
 use Rattle.seat_desk.specs.Loading.{IsLoaded}
 use Rattle.seat_desk.specs.declared.fault.DeskFault.{DeskFault}

@@ -2,7 +2,7 @@
 use Rattle.std.proofs.Common.{◌≡◌, ℕ, List, [], ◌≤◌, length, Option, Some, None, IfSome, subst}
 use Rattle.ssim_flights.specs.declared.flight.Flight.{Flight}
 use Rattle.seat_nesting.specs.Nesting.{Legs}
-use Rattle.seat_core.specs.Journal.{replay}
+use Rattle.seat_rules.specs.Journal.{replay}
 use Rattle.seat_desk.specs.AuditDesk.{most_journal_bytes}
 use Rattle.seat_desk.specs.Loading.{IsLoaded}
 use Rattle.seat_questions.specs.Rooms.{AreOpeningRooms, AreRooms, AreRoomsAfter, IsRoomsText}

@@ -5,20 +5,20 @@ use Rattle.std.specs.List.{sum_by}
 use Rattle.std.proofs.lemmas.List.{append-nil, length-map, take_all}
 use Rattle.std.proofs.lemmas.List.Sums.{sum_by_more, sum_by_more_le}
 use Rattle.std.proofs.lemmas.Option.{slice_get-map}
-use Rattle.ssim_records.specs.declared.place.Place.{Place}
+use Rattle.airline_base.specs.declared.place.Place.{Place}
 use Rattle.ssim_flights.specs.declared.flight.DatedLeg.{DatedLeg}
 use Rattle.ssim_flights.specs.declared.flight.Flight.{Flight}
-use Rattle.seat_nesting.specs.Authorised.{authorised_grid, authorised_legs}
+use Rattle.seat_limits.specs.Authorised.{authorised_grid, authorised_legs}
 use Rattle.seat_nesting.specs.Nesting.{ByClass, IsWithin, Legs, Steps, held_from, ladder_at, legs_of}
 use Rattle.seat_nesting.specs.declared.ladder.Step.{Step}
 use Rattle.seat_journal.specs.declared.entry.Entry.{Entry}
-use Rattle.seat_core.specs.Bookings.{held}
-use Rattle.seat_core.specs.Flights.{bookings_on}
-use Rattle.seat_core.specs.Inventory.{HoldsWithinLimits, Inventory, IsOpened, state_now}
-use Rattle.seat_core.specs.Journal.{replay}
-use Rattle.seat_core.specs.Sequential.{State}
-use Rattle.seat_core.specs.declared.booking.Booking.{Booking}
-use Rattle.seat_core.proofs.Flight.View.{bookings_view, held_view}
+use Rattle.seat_rules.specs.Bookings.{held}
+use Rattle.seat_rules.specs.Flights.{bookings_on}
+use Rattle.seat_rules.specs.Inventory.{HoldsWithinLimits, Inventory, IsOpened, state_now}
+use Rattle.seat_rules.specs.Journal.{replay}
+use Rattle.seat_rules.specs.Sequential.{State}
+use Rattle.seat_rules.specs.declared.booking.Booking.{Booking}
+use Rattle.seat_rules.proofs.Flight.View.{bookings_view, held_view}
 use Rattle.seat_desk.specs.AuditDesk.{IsReplayOf}
 use Rattle.seat_desk.specs.FlightsDesk.{IsLegText, head_text}
 use Rattle.seat_desk.specs.Loading.{IsGridOf}

@@ -3,18 +3,18 @@ use Rattle.std.proofs.Common.{◌≡◌, ◌==◌, ◌&&◌, ℕ, ◌+◌, ◌�
 use Rattle.std.proofs.lemmas.List.{append-nil}
 use Rattle.std.proofs.lemmas.Bool.Decides.{nat_tests}
 use Rattle.std.proofs.lemmas.Option.{slice_get_past}
-use Rattle.ssim_records.specs.declared.place.Place.{Place}
+use Rattle.airline_base.specs.declared.place.Place.{Place}
 use Rattle.ssim_flights.specs.declared.flight.DatedLeg.{DatedLeg}
 use Rattle.ssim_flights.specs.declared.flight.Flight.{Flight}
 use Rattle.seat_nesting.specs.Nesting.{Fits, Legs}
-use Rattle.seat_core.specs.declared.booking.Booking.{Booking}
+use Rattle.seat_rules.specs.declared.booking.Booking.{Booking}
 use Rattle.seat_journal.specs.declared.entry.Entry.{Entry}
-use Rattle.seat_core.specs.Bookings.{held, waiting}
-use Rattle.seat_core.specs.Flights.{bookings_on}
-use Rattle.seat_core.specs.Journal.{after, replay}
-use Rattle.seat_core.specs.Sequential.{State}
-use Rattle.seat_core.proofs.Flight.View.{bookings_view, held_view, waiting_view}
-use Rattle.seat_core.proofs.Step.Limits.{few_answer}
+use Rattle.seat_rules.specs.Bookings.{held, waiting}
+use Rattle.seat_rules.specs.Flights.{bookings_on}
+use Rattle.seat_rules.specs.Journal.{after, replay}
+use Rattle.seat_rules.specs.Sequential.{State}
+use Rattle.seat_rules.proofs.Flight.View.{bookings_view, held_view, waiting_view}
+use Rattle.seat_rules.proofs.Step.Limits.{few_answer}
 use Rattle.seat_desk.specs.AuditDesk.{most_lines}
 use Rattle.seat_desk.specs.FlightsDesk.{IsLegText, IsPut}
 use Rattle.seat_desk.proofs.Texts.{put_none}

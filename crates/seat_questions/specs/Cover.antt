@@ -3,8 +3,8 @@ use Rattle.std.specs.Prelude.{◌≡◌, ℕ, Bool, true, false, List, [], ◌�
 use Rattle.std.specs.List.{list_any, sum_by}
 use Rattle.ssim_flights.specs.declared.flight.DatedLeg.{DatedLeg}
 use Rattle.ssim_flights.specs.declared.flight.Flight.{Flight as Flown}
-use Rattle.seat_nesting.specs.Authorised.{is_for, leg_pair}
-use Rattle.seat_nesting.specs.declared.limit_row.LimitRow.{LimitRow}
+use Rattle.seat_limits.specs.Authorised.{is_for, leg_pair}
+use Rattle.seat_limits.specs.declared.limit_row.LimitRow.{LimitRow}
 use Rattle.seat_desk.specs.FlightsDesk.{IsLegText, IsText, designator_text}
 use Rattle.seat_desk.specs.Loading.{Bytes}
 use Rattle.seat_desk.specs.declared.inputs.Inputs.{Inputs}

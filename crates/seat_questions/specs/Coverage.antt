@@ -2,11 +2,11 @@
 use Rattle.std.specs.Prelude.{◌≡◌, ◌+◌, ◌*◌, ℕ, Bool, min, max, nat_lt, List, map, count_by, length}
 use Rattle.std.specs.List.{All, flat_map}
 use Rattle.std.specs.List.Sorted.{IsNonDecreasing, IsPermutation}
-use Rattle.ssim_records.specs.Days.{IsDay}
+use Rattle.airline_base.specs.Days.{IsDay}
 use Rattle.ssim_flights.specs.declared.flight.DatedLeg.{DatedLeg}
 use Rattle.ssim_flights.specs.declared.flight.Flight.{Flight as Flown}
-use Rattle.seat_nesting.specs.Authorised.{leg_pair, row_pair}
-use Rattle.seat_nesting.specs.declared.limit_row.LimitRow.{LimitRow}
+use Rattle.seat_limits.specs.Authorised.{leg_pair, row_pair}
+use Rattle.seat_limits.specs.declared.limit_row.LimitRow.{LimitRow}
 use Rattle.seat_questions.specs.PairNumbers.{AreNumbered, number_of}
 use Rattle.seat_questions.specs.declared.pair_numbers.PairNumbers.{PairNumbers}
 use Rattle.seat_questions.specs.declared.coverage.Coverage.{Coverage}

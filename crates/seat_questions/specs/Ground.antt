@@ -1,8 +1,8 @@
 -- The flights of a data set, and the limit rows that go with them.
 use Rattle.std.specs.Prelude.{◌≤◌, ℕ, List, length, IfSome}
 use Rattle.ssim_flights.specs.declared.flight.Flight.{Flight as Flown}
-use Rattle.seat_nesting.specs.LimitRows.{IsLimitText}
-use Rattle.seat_nesting.specs.declared.limit_row.LimitRow.{LimitRow}
+use Rattle.seat_limits.specs.LimitRows.{IsLimitText}
+use Rattle.seat_limits.specs.declared.limit_row.LimitRow.{LimitRow}
 use Rattle.seat_desk.specs.CheckDesk.{most_bytes}
 use Rattle.seat_desk.specs.FlightsDesk.{IsSchedule}
 use Rattle.seat_desk.specs.Loading.{Bytes, most_limit_bytes}

@@ -3,7 +3,7 @@ use Rattle.std.specs.Prelude.{◌≡◌, ◌≤◌, ◌<◌, ◌+◌, ◌==◌, 
 use Rattle.std.specs.Cmp.Lexicographic.{pointwise}
 use Rattle.airimp_lines.specs.Grammar.{IsPlainLine}
 use Rattle.airimp_lines.specs.declared.segment.Segment.{Segment}
-use Rattle.ssim_records.specs.declared.place.Place.{Place}
+use Rattle.airline_base.specs.declared.place.Place.{Place}
 use Rattle.ssim_flights.specs.declared.flight.DatedLeg.{DatedLeg}
 use Rattle.ssim_flights.specs.declared.flight.Flight.{Flight as Flown}
 use Rattle.seat_nesting.specs.Nesting.{Fits, Legs}
@@ -12,10 +12,10 @@ use Rattle.seat_journal.specs.declared.entry.Command.{Command}
 use Rattle.seat_journal.specs.declared.entry.Entry.{Entry}
 use Rattle.seat_journal.specs.declared.entry.Work.{Work}
 use Rattle.seat_journal.specs.declared.entry.Work.TheVariants.{Seats, Limit}
-use Rattle.seat_core.specs.Journal.{IsLegal, replay}
-use Rattle.seat_core.specs.declared.booking.Booking.{Booking}
-use Rattle.seat_core.specs.declared.booking.Status.{Status}
-use Rattle.seat_core.specs.declared.booking.Status.TheVariants.{Held, Waiting}
+use Rattle.seat_rules.specs.Journal.{IsLegal, replay}
+use Rattle.seat_rules.specs.declared.booking.Booking.{Booking}
+use Rattle.seat_rules.specs.declared.booking.Status.{Status}
+use Rattle.seat_rules.specs.declared.booking.Status.TheVariants.{Held, Waiting}
 use Rattle.seat_desk.specs.AuditDesk.{most_journal_bytes, most_lines}
 use Rattle.seat_desk.specs.FlightsDesk.{IsText}
 use Rattle.seat_desk.specs.Loading.{Bytes, IsLoaded}

@@ -3,9 +3,9 @@ use Rattle.std.specs.Prelude.{◌≡◌, ◌<◌, ℕ, true, List, slice_get, So
 use Rattle.std.specs.HashMap.{HashMap, get}
 use Rattle.std.specs.declared.hash.FoldHasher.{FoldHasher}
 use Rattle.std.specs.declared.hash.BuildHasherDefault.{BuildHasherDefault}
-use Rattle.seat_nesting.specs.Authorised.{row_pair, same_pair}
-use Rattle.seat_nesting.specs.declared.limit_row.LimitRow.{LimitRow}
-use Rattle.seat_nesting.specs.declared.row_index.Pair.{Pair}
+use Rattle.seat_limits.specs.Authorised.{row_pair, same_pair}
+use Rattle.seat_limits.specs.declared.limit_row.LimitRow.{LimitRow}
+use Rattle.seat_limits.specs.declared.row_index.Pair.{Pair}
 
 abbrev pub Numbers : Type 0
 Numbers = HashMap Pair ℕ (BuildHasherDefault FoldHasher)

@@ -1,7 +1,7 @@
 -- What `why` writes: a line of the journal, its legs as they stood before it, and the right answer beside the one that was given.
 use Rattle.std.specs.Prelude.{◌≡◌, ◌≤◌, ◌&&◌, ℕ, ◌-◌, nat_le, nat_lt, Bool, true, false, List, [], ◌∷◌, ◌++◌, length, take, slice_get, decimal, codes, Option, Some, None, IfSome}
 use Rattle.std.specs.List.{flat_map}
-use Rattle.ssim_records.specs.declared.place.Place.{Place}
+use Rattle.airline_base.specs.declared.place.Place.{Place}
 use Rattle.ssim_flights.specs.declared.flight.DatedLeg.{DatedLeg}
 use Rattle.ssim_flights.specs.declared.flight.Flight.{Flight as Flown}
 use Rattle.seat_nesting.specs.Nesting.{ByClass, Legs, Steps, held_from, ladder_at}
@@ -11,10 +11,10 @@ use Rattle.seat_journal.specs.Text.{IsJournalText, advice_text, entry_text}
 use Rattle.seat_journal.specs.declared.entry.Entry.{Entry}
 use Rattle.seat_journal.specs.declared.entry.Work.{Work}
 use Rattle.seat_journal.specs.declared.entry.Work.TheVariants.{Seats, Limit}
-use Rattle.seat_core.specs.Bookings.{held, waiting}
-use Rattle.seat_core.specs.Journal.{IsLegal, next_line, replay}
-use Rattle.seat_core.specs.Replaying.{fits_work, replay_fault}
-use Rattle.seat_core.specs.Sequential.{State, room_left}
+use Rattle.seat_rules.specs.Bookings.{held, waiting}
+use Rattle.seat_rules.specs.Journal.{IsLegal, next_line, replay}
+use Rattle.seat_rules.specs.Replaying.{fits_work, replay_fault}
+use Rattle.seat_rules.specs.Sequential.{State, room_left}
 use Rattle.seat_desk.specs.AuditDesk.{most_journal_bytes, most_lines}
 use Rattle.seat_desk.specs.FlightsDesk.{IsLegText, IsText}
 use Rattle.seat_desk.specs.Loading.{Bytes, IsLoaded, IsRefusedLoad}

@@ -8,9 +8,9 @@ ghost use Rattle.seat_questions.specs.Ground.{IsGroundOf};
 use seat_desk::{
     DeskFault, Inputs, MOST_LIMIT_BYTES, MOST_SET_BYTES, limit_rows, read_input, scheduled,
 };
-use seat_nesting::LimitRows;
+use seat_limits::LimitRows;
 use ssim_flights::Flights;
-use ssim_records::NotedRead;
+use airline_base::NotedRead;
 use std::alloc::Global;
 
 /// Flights, and the limit rows that authorise their ladders.

@@ -2,17 +2,18 @@
 ghost use Rattle.std.specs.Prelude.{◌≡◌, ◌++◌, ◌*◌, ◌≤◌, ◌<◌, IfSome, OnOk, length};
 ghost use Rattle.std.specs.List.{flat_map};
 ghost use Rattle.seat_nesting.specs.Nesting.{Fits, held_from, ladder_at};
-ghost use Rattle.seat_core.specs.Bookings.{held, seats_of, seats_on, waiting, waits_on};
-ghost use Rattle.seat_core.specs.Inventory.{state_now};
+ghost use Rattle.seat_rules.specs.Bookings.{held, seats_of, seats_on, waiting, waits_on};
+ghost use Rattle.seat_rules.specs.Inventory.{state_now};
 ghost use Rattle.seat_desk.specs.AuditDesk.{most_lines};
 ghost use Rattle.seat_desk.specs.FlightsDesk.{IsPut};
 ghost use Rattle.seat_questions.specs.Why.{IsLegPart, IsLegPut, IsPlacePut, IsStandingPut, class_text, dated_legs, has_leg, held_line, held_texts, limit_line, limit_text, one_leg, room_line, room_text, standing_text, wait_line, wait_text};
 
-use seat_core::{Booking, Core, Status};
+use seat_rules::{Booking, Status};
+use seat_core::Core;
 use seat_desk::{put, put_number, put_way};
 use seat_nesting::Step;
 use ssim_flights::{DatedLeg, Flights};
-use ssim_records::{Class, Place};
+use airline_base::{Class, Place};
 use std::alloc::AllocError;
 
 /// Adds the lines of each leg of a place; no place has none.

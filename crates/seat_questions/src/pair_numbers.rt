@@ -1,10 +1,10 @@
 //! A number for each flight and city pair that has limit rows.
 ghost use Rattle.std.specs.Prelude.{◌≡◌, ◌<◌, length, IfOk, OnOk};
-ghost use Rattle.seat_nesting.specs.Authorised.{PutsRow, row_pair};
+ghost use Rattle.seat_limits.specs.Authorised.{PutsRow, row_pair};
 ghost use Rattle.seat_questions.specs.PairNumbers.{AreNumbered, number_of};
 
-use seat_nesting::{LimitRow, Pair};
-use ssim_records::Memory;
+use seat_limits::{LimitRow, Pair};
+use airline_base::Memory;
 use std::alloc::Global;
 use std::collections::HashMap;
 

@@ -2,9 +2,9 @@
 ghost use Rattle.std.specs.Prelude.{◌≡◌, ◌≢◌, ◌++◌, ◌-◌, ◌<◌, ◌≤◌, ◌⊎◌, [], IfErr, IfOk, OnOk, drop, length};
 ghost use Rattle.ssim_flights.specs.Right.{IsOfCentury};
 ghost use Rattle.seat_nesting.specs.Nesting.{Fits, IsWithin, held_from, ladder_at, legs_of};
-ghost use Rattle.seat_core.specs.Bookings.{held};
-ghost use Rattle.seat_core.specs.Inventory.{state_now};
-ghost use Rattle.seat_core.specs.Journal.{replay};
+ghost use Rattle.seat_rules.specs.Bookings.{held};
+ghost use Rattle.seat_rules.specs.Inventory.{state_now};
+ghost use Rattle.seat_rules.specs.Journal.{replay};
 ghost use Rattle.seat_desk.specs.AuditDesk.{IsRefusedAuditOf, IsTooLargeOf, IsUnlawful, most_journal_bytes};
 ghost use Rattle.seat_desk.specs.Desk.{HasFailed, InputFailed, IsOfInput, IsWritten, OutputFailed};
 ghost use Rattle.seat_desk.specs.FlightsDesk.{IsPut};
@@ -12,14 +12,15 @@ ghost use Rattle.seat_desk.specs.Loading.{HaveFailed, IsGridOf, IsRefusedLoadOf,
 ghost use Rattle.seat_questions.specs.Rooms.{AreOpeningRoomsOf, AreRoomsAfter, AreRoomsOf, IsAdded, IsFirstPart, IsLastPart, IsPlaceText, IsRoomsText, IsRunText, bar, bar_line, bar_lines, bar_share, bars_text, block_bar, filled, has_half, keeps, keeps_day, keeps_pair, leg_bars, place_bars, plain_bar, room_text, rooms_part, rooms_text, run_of, times};
 
 use crate::legs::seats_on;
-use seat_core::{Booking, Core};
+use seat_rules::Booking;
+use seat_core::Core;
 use seat_desk::{
     DeskFault, Inputs, Loaded, MOST_JOURNAL_BYTES, MOST_LINES, load, put, put_head, put_number,
     put_way, read_input, replayed,
 };
 use seat_nesting::{Grid, Step};
 use ssim_flights::{DatedLeg, Flight, Flights};
-use ssim_records::{Class, Day, NotedRead, NotedWrite, Place, Station, put_all};
+use airline_base::{Class, Day, NotedRead, NotedWrite, Place, Station, put_all};
 use std::alloc::{AllocError, Global};
 
 /// Two stations: a board point and an off point.

@@ -3,21 +3,21 @@ use Rattle.std.proofs.Common.{◌≡◌, ℕ, zero, suc, ◌+◌, ◌-◌, ◌<�
 use Rattle.std.specs.Prelude.{slice_get}
 use Rattle.std.specs.List.{AllByRecursion}
 use Rattle.std.proofs.lemmas.List.{take_more}
-use Rattle.ssim_records.specs.declared.place.Place.{Place}
+use Rattle.airline_base.specs.declared.place.Place.{Place}
 use Rattle.seat_nesting.specs.Nesting.{Fits, Legs}
 use Rattle.seat_journal.specs.declared.entry.Advice.{Advice}
 use Rattle.seat_journal.specs.declared.entry.Command.{Command}
 use Rattle.seat_journal.specs.declared.entry.Entry.{Entry}
 use Rattle.seat_journal.specs.declared.entry.Work.{Work}
 use Rattle.seat_journal.specs.declared.entry.Work.TheVariants.{Seats}
-use Rattle.seat_core.specs.declared.booking.Booking.{Booking}
-use Rattle.seat_core.specs.declared.booking.Status.TheVariants.{Held, Waiting}
-use Rattle.seat_core.specs.Bookings.{is_for}
-use Rattle.seat_core.specs.Sequential.{State, Outcome, answer, pass, may_confirm, confirmed, advice_of, reduced, booking_of, changed_by}
-use Rattle.seat_core.specs.Journal.{replay, FitsWork, IsLegal, IsNext}
-use Rattle.seat_core.proofs.History.Lines.{replay_next}
-use Rattle.seat_core.proofs.History.Legal.{each_legal}
-use Rattle.seat_core.proofs.Step.Outcomes.{each_outcome}
+use Rattle.seat_rules.specs.declared.booking.Booking.{Booking}
+use Rattle.seat_rules.specs.declared.booking.Status.TheVariants.{Held, Waiting}
+use Rattle.seat_rules.specs.Bookings.{is_for}
+use Rattle.seat_rules.specs.Sequential.{State, Outcome, answer, pass, may_confirm, confirmed, advice_of, reduced, booking_of, changed_by}
+use Rattle.seat_rules.specs.Journal.{replay, FitsWork, IsLegal, IsNext}
+use Rattle.seat_rules.proofs.History.Lines.{replay_next}
+use Rattle.seat_rules.proofs.History.Legal.{each_legal}
+use Rattle.seat_rules.proofs.Step.Outcomes.{each_outcome}
 
 module _ {A : Type 0} where
   pub all_push : (P : A → Type 0) (xs : List A) (x : A) → AllByRecursion P xs → P x → AllByRecursion P (xs ++ x ∷ [])

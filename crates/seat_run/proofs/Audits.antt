@@ -4,18 +4,18 @@ use Rattle.std.specs.Str.Lines.{lines}
 use Rattle.ssim_records.specs.declared.set.DataSet.{DataSet}
 use Rattle.ssim_records.proofs.SetLaws.{one_data_set}
 use Rattle.ssim_flights.specs.declared.flight.Flight.{Flight as Flown}
-use Rattle.seat_nesting.specs.Authorised.{authorised_grid}
-use Rattle.seat_nesting.specs.LimitRows.{SpellsRows, rows_in}
+use Rattle.seat_limits.specs.Authorised.{authorised_grid}
+use Rattle.seat_limits.specs.LimitRows.{SpellsRows, rows_in}
 use Rattle.seat_nesting.specs.Nesting.{Legs}
-use Rattle.seat_nesting.specs.declared.limit_fault.LimitFault.{LimitFault}
-use Rattle.seat_nesting.specs.declared.limit_row.LimitRow.{LimitRow}
-use Rattle.seat_nesting.proofs.RowLaws.{row_again}
+use Rattle.seat_limits.specs.declared.limit_fault.LimitFault.{LimitFault}
+use Rattle.seat_limits.specs.declared.limit_row.LimitRow.{LimitRow}
+use Rattle.seat_limits.proofs.RowLaws.{row_again}
 use Rattle.seat_journal.specs.Text.{IsJournalText}
 use Rattle.seat_journal.specs.declared.entry.Entry.{Entry}
 use Rattle.seat_journal.proofs.TextLaws.{one_text}
-use Rattle.seat_core.specs.Journal.{IsLegal}
-use Rattle.seat_core.specs.Totals.{totals_of}
-use Rattle.seat_host.specs.Histories.{by_session}
+use Rattle.seat_rules.specs.Journal.{IsLegal}
+use Rattle.seat_rules.specs.Totals.{totals_of}
+use Rattle.seat_rules.specs.Histories.{by_session}
 use Rattle.seat_desk.specs.AuditDesk.{IsAudit, IsAudited, IsRefusedOver, AuditRefusal, IsTooLarge, audit_line, most_journal_bytes}
 use Rattle.seat_desk.specs.CheckDesk.{most_bytes, most_records}
 use Rattle.seat_desk.specs.FlightsDesk.{set_flights}

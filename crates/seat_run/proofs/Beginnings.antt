@@ -8,8 +8,8 @@ use Rattle.seat_nesting.specs.Nesting.{Legs}
 use Rattle.seat_journal.specs.declared.entry.Command.{Command}
 use Rattle.seat_journal.specs.declared.entry.Entry.{Entry}
 use Rattle.seat_journal.specs.declared.entry.Work.{Work}
-use Rattle.seat_core.specs.Journal.{IsLegal, IsNext, calls_of, next_line}
-use Rattle.seat_core.specs.Prefixes.{Begins}
+use Rattle.seat_rules.specs.Journal.{IsLegal, IsNext, calls_of, next_line}
+use Rattle.seat_rules.specs.Prefixes.{Begins}
 use Rattle.seat_desk.specs.declared.fault.DeskFault.TheVariants.{Unasked}
 use Rattle.seat_run.specs.Against.{AreAskedBehind, AreAskedBelow, IsFirstUnasked, IsNoBeginning, IsUnasked, line_there}
 use Rattle.seat_run.proofs.Comparing.{all_asked}

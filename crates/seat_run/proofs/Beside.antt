@@ -3,8 +3,8 @@ use Rattle.std.proofs.Common.{◌≡◌, ◌≢◌, inr, ℕ, List, Option, Some
 use Rattle.airimp_lines.specs.declared.requests.Request.{Request}
 use Rattle.ssim_flights.specs.declared.flight.Flight.{Flight as Flown}
 use Rattle.seat_nesting.specs.Nesting.{Legs}
-use Rattle.seat_core.specs.Inventory.{Inventory}
-use Rattle.seat_core.specs.Totals.{totals_of}
+use Rattle.seat_rules.specs.Inventory.{Inventory}
+use Rattle.seat_rules.specs.Totals.{totals_of}
 use Rattle.seat_desk.specs.AuditDesk.{IsUnlawful, audit_line}
 use Rattle.seat_desk.specs.Desk.{IsOfInput}
 use Rattle.seat_desk.specs.Loading.{IsLoaded}

@@ -4,14 +4,14 @@ use Rattle.std.specs.List.{AllByRecursion}
 use Rattle.std.specs.Str.Lines.{lines}
 use Rattle.std.proofs.lemmas.Bool.Decides.{nat_tests}
 use Rattle.std.proofs.lemmas.List.{map_push, take_more}
-use Rattle.ssim_records.specs.declared.place.Place.{Place}
+use Rattle.airline_base.specs.declared.place.Place.{Place}
 use Rattle.ssim_flights.specs.Places.{place_wanted}
 use Rattle.ssim_flights.specs.declared.flight.Flight.{Flight as Flown}
-use Rattle.seat_nesting.specs.ChangeRows.{IsChangeText, SpellsChanges, changes_in}
-use Rattle.seat_nesting.specs.declared.change_row.ChangeRow.{ChangeRow}
-use Rattle.seat_nesting.specs.declared.limit_fault.LimitFault.{LimitFault}
-use Rattle.seat_nesting.specs.declared.limit_fault.LimitKind.{LimitKind}
-use Rattle.seat_nesting.specs.declared.limit_fault.LimitKind.TheVariants as limit_kinds
+use Rattle.seat_limits.specs.ChangeRows.{IsChangeText, SpellsChanges, changes_in}
+use Rattle.seat_limits.specs.declared.change_row.ChangeRow.{ChangeRow}
+use Rattle.seat_limits.specs.declared.limit_fault.LimitFault.{LimitFault}
+use Rattle.seat_limits.specs.declared.limit_fault.LimitKind.{LimitKind}
+use Rattle.seat_limits.specs.declared.limit_fault.LimitKind.TheVariants as limit_kinds
 use Rattle.seat_journal.specs.declared.entry.Change.{Change}
 use Rattle.seat_desk.specs.declared.fault.DeskFault.TheVariants.{Memory}
 use Rattle.seat_run.specs.Changes.{AreServed, IsOnLeg, IsUnchanged, IsUnserved, change_of, change_refusal, change_refusal_of, most_change_bytes, on_leg, on_place, wanted_by}

@@ -8,19 +8,19 @@ use Rattle.std.proofs.lemmas.Bool.Decides.{nat_tests}
 use Rattle.std.proofs.lemmas.List.{map-append, length-append, length-map, take-append-drop, take_all, take_more}
 use Rattle.std.proofs.lemmas.Option.{get_or_from_slice_get, slice_get_cases, slice_get-map, slice_get_past, slice_get_read, slice_get_within}
 use Rattle.seat_nesting.specs.Nesting.{Legs}
-use Rattle.ssim_records.specs.declared.place.Place.{Place}
+use Rattle.airline_base.specs.declared.place.Place.{Place}
 use Rattle.seat_journal.specs.declared.entry.Change.{Change}
 use Rattle.seat_journal.specs.declared.entry.Command.{Command}
 use Rattle.seat_journal.specs.declared.entry.Entry.{Entry}
 use Rattle.seat_journal.specs.declared.entry.Work.{Work}
 use Rattle.seat_journal.specs.declared.entry.Work.TheVariants.{Seats, Limit}
-use Rattle.seat_core.specs.Journal.{IsLegal}
-use Rattle.seat_core.specs.Bookings.{same_place}
-use Rattle.seat_core.proofs.History.Faults.{place_same}
-use Rattle.seat_core.proofs.History.Legal.{each_legal}
-use Rattle.seat_core.proofs.Step.Limits.{both}
-use Rattle.seat_host.specs.Histories.{of_session}
-use Rattle.seat_host.proofs.Own.{own_append, own_one, own_other}
+use Rattle.seat_rules.specs.Journal.{IsLegal}
+use Rattle.seat_rules.specs.Bookings.{same_place}
+use Rattle.seat_rules.proofs.History.Faults.{place_same}
+use Rattle.seat_rules.proofs.History.Legal.{each_legal}
+use Rattle.seat_rules.proofs.Step.Limits.{both}
+use Rattle.seat_rules.specs.Histories.{of_session}
+use Rattle.seat_rules.proofs.Own.{own_append, own_one, own_other}
 use Rattle.seat_run.specs.Against.{AreAsked, AreAskedBelow, DifferAt, asked_by, done_by, same_command, works_of_list}
 use Rattle.seat_run.specs.RunDesk.{works_in}
 use Rattle.seat_run.proofs.Going.{few_may}

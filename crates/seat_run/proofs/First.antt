@@ -4,7 +4,7 @@ use Rattle.std.proofs.lemmas.List.{append-nil}
 use Rattle.seat_journal.specs.declared.entry.Command.{Command}
 use Rattle.seat_journal.specs.declared.entry.Entry.{Entry}
 use Rattle.seat_journal.proofs.TextLaws.{one_text}
-use Rattle.seat_host.specs.Histories.{by_session}
+use Rattle.seat_rules.specs.Histories.{by_session}
 use Rattle.seat_run.specs.First.{RunsFromNoLines}
 use Rattle.seat_run.specs.Going.{highest_to, idle, lists_over}
 use Rattle.seat_run.specs.Requests.{commands_of}

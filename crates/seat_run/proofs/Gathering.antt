@@ -12,23 +12,23 @@ use Rattle.seat_journal.specs.declared.entry.Entry.{Entry}
 use Rattle.seat_journal.specs.declared.entry.Work.{Work}
 use Rattle.seat_journal.specs.declared.entry.Work.TheVariants.{Seats}
 use Rattle.seat_nesting.specs.Nesting.{Legs}
-use Rattle.seat_core.specs.Prefixes.{Begins}
-use Rattle.seat_core.specs.declared.totals.Totals.{Totals}
-use Rattle.seat_core.specs.Totals.{totals_of}
-use Rattle.seat_host.specs.Histories.{OnlyFirst, of_session, by_session}
+use Rattle.seat_rules.specs.Prefixes.{Begins}
+use Rattle.seat_rules.specs.declared.totals.Totals.{Totals}
+use Rattle.seat_rules.specs.Totals.{totals_of}
+use Rattle.seat_rules.specs.Histories.{OnlyFirst, of_session, by_session}
 use Rattle.seat_host.proofs.Agreeing.{lists_count}
-use Rattle.seat_host.proofs.Own.{calls_own, own_append}
-use Rattle.seat_core.specs.Journal.{IsLegal, calls_of}
+use Rattle.seat_rules.proofs.Own.{calls_own, own_append}
+use Rattle.seat_rules.specs.Journal.{IsLegal, calls_of}
 use Rattle.seat_host.specs.Sessions.{Seat, seated, seated_sessions}
 use Rattle.seat_host.specs.Settling.{IsConfirmed}
-use Rattle.seat_host.specs.Headline.{Headline}
+use Rattle.seat_rules.specs.Headline.{Headline}
 use Rattle.seat_desk.specs.AuditDesk.{most_lines}
-use Rattle.seat_host.specs.Agreement.{receipts_in}
-use Rattle.seat_host.specs.Working.{AllHaveBegun, AllHaveRun, HasRun, IsRefused, NamesFirst, works_of}
+use Rattle.seat_rules.specs.Agreement.{receipts_in}
+use Rattle.seat_workers.specs.Working.{AllHaveBegun, AllHaveRun, HasRun, IsRefused, NamesFirst, works_of}
 use Rattle.seat_host.specs.declared.under_lock.BookFault.{BookFault}
 use Rattle.seat_host.specs.declared.under_lock.BookFault.TheVariants.{JournalFull as Full, Memory as NoRoom}
-use Rattle.seat_host.specs.declared.workers.RunFault.{RunFault}
-use Rattle.seat_host.specs.declared.workers.RunFault.TheVariants as run_faults
+use Rattle.seat_workers.specs.declared.workers.RunFault.{RunFault}
+use Rattle.seat_workers.specs.declared.workers.RunFault.TheVariants as run_faults
 use Rattle.seat_desk.specs.declared.fault.DeskFault.{DeskFault}
 use Rattle.seat_desk.specs.declared.fault.DeskFault.TheVariants.{Memory}
 use Rattle.seat_run.specs.RunDesk.{asked_in, IsBookedTo, IsFull, IsHistoryOf, IsUnbooked, run_refusal, works_in}

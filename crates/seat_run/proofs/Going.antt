@@ -10,10 +10,10 @@ use Rattle.seat_journal.specs.declared.entry.Command.{Command}
 use Rattle.seat_journal.specs.declared.entry.Entry.{Entry}
 use Rattle.seat_journal.specs.declared.entry.Work.{Work}
 use Rattle.seat_journal.specs.declared.entry.Work.TheVariants.{Seats, Limit}
-use Rattle.seat_core.specs.Journal.{IsLegal, IsLegalAfter, MayAsk, calls_of}
-use Rattle.seat_core.proofs.History.Legal.{legal_to_after}
-use Rattle.seat_host.specs.Histories.{OnlyFirst, by_session, of_session}
-use Rattle.seat_host.proofs.Own.{calls_own, own_append, own_other}
+use Rattle.seat_rules.specs.Journal.{IsLegal, IsLegalAfter, MayAsk, calls_of}
+use Rattle.seat_rules.proofs.History.Legal.{legal_to_after}
+use Rattle.seat_rules.specs.Histories.{OnlyFirst, by_session, of_session}
+use Rattle.seat_rules.proofs.Own.{calls_own, own_append, own_other}
 use Rattle.seat_run.specs.Going.{behind, calls_to, highest_to, idle, lists_over, past_of}
 use Rattle.seat_run.proofs.Rows.{place_below, row_at, row_count}
 

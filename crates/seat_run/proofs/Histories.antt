@@ -8,7 +8,7 @@ use Rattle.std.proofs.lemmas.List.{append-nil, get_or_past, length-map, length-t
 use Rattle.std.proofs.lemmas.Option.{slice_get-get_or, slice_get-map, slice_get_cases}
 use Rattle.airimp_lines.specs.declared.requests.Request.{Request}
 use Rattle.airimp_lines.specs.declared.segment.Segment.{Segment}
-use Rattle.ssim_records.specs.declared.place.Place.{Place}
+use Rattle.airline_base.specs.declared.place.Place.{Place}
 use Rattle.ssim_flights.specs.declared.flight.DatedLeg.{DatedLeg}
 use Rattle.ssim_flights.specs.declared.flight.Flight.{Flight as Flown}
 use Rattle.seat_journal.specs.declared.entry.Advice.{Advice}
@@ -17,14 +17,14 @@ use Rattle.seat_journal.specs.declared.entry.Command.{Command}
 use Rattle.seat_journal.specs.declared.entry.Entry.{Entry}
 use Rattle.seat_journal.specs.declared.entry.Work.{Work}
 use Rattle.seat_journal.specs.declared.entry.Work.TheVariants.{Seats, Limit}
-use Rattle.seat_nesting.specs.Authorised.{authorised_grid, authorised_legs}
+use Rattle.seat_limits.specs.Authorised.{authorised_grid, authorised_legs}
 use Rattle.seat_nesting.specs.Nesting.{Fits, Legs, Steps, legs_of}
-use Rattle.seat_nesting.specs.declared.limit_row.LimitRow.{LimitRow}
-use Rattle.seat_core.specs.Journal.{IsLegal, IsLegalAfter, IsNext, MayAsk, calls_of}
-use Rattle.seat_core.proofs.History.Legal.{legal_to_after}
-use Rattle.seat_host.specs.Histories.{of_session, by_session}
-use Rattle.seat_host.specs.Working.{works_of}
-use Rattle.seat_host.proofs.Own.{own_append, own_one, calls_own}
+use Rattle.seat_limits.specs.declared.limit_row.LimitRow.{LimitRow}
+use Rattle.seat_rules.specs.Journal.{IsLegal, IsLegalAfter, IsNext, MayAsk, calls_of}
+use Rattle.seat_rules.proofs.History.Legal.{legal_to_after}
+use Rattle.seat_rules.specs.Histories.{of_session, by_session}
+use Rattle.seat_workers.specs.Working.{works_of}
+use Rattle.seat_rules.proofs.Own.{own_append, own_one, calls_own}
 use Rattle.seat_desk.specs.FlightsDesk.{IsText}
 use Rattle.seat_desk.specs.Loading.{IsGridOf}
 use Rattle.seat_run.specs.declared.past.Past.{Past}

@@ -2,8 +2,8 @@
 use Rattle.std.proofs.Common.{◌≡◌, ℕ, ◌+◌, ◌*◌, ◌^◌, ◌<◌, ◌≤◌, Bool, true, false, nat_le, List, [], ◌∷◌, ◌++◌, length, refl, sym, ap, ◌∙◌, arith, length-append, Option, Some, None, IfSome, decimal, codes}
 use Rattle.std.specs.List.{AllByRecursion, flat_map}
 use Rattle.std.proofs.lemmas.Fmt.{length-decimal-le}
-use Rattle.ssim_records.proofs.LeadingFields.{length_code, length_locator}
-use Rattle.ssim_records.specs.declared.place.Place.{Place}
+use Rattle.airline_base.proofs.LeadingFields.{length_code, length_locator}
+use Rattle.airline_base.specs.declared.place.Place.{Place}
 use Rattle.seat_nesting.specs.Nesting.{Legs}
 use Rattle.seat_journal.specs.Text.{IsAdvice, IsChange, IsCommand, IsEntry, IsPlace, IsStem, IsWork, advice_text, blank, change_text, colon, dot, newline, command_text, end_text, entry_text, head_text, journal_text, place_text, stem_text, wanted_text, work_text}
 use Rattle.seat_journal.specs.declared.entry.Advice.{Advice}
@@ -12,16 +12,16 @@ use Rattle.seat_journal.specs.declared.entry.Command.{Command}
 use Rattle.seat_journal.specs.declared.entry.Entry.{Entry}
 use Rattle.seat_journal.specs.declared.entry.Work.{Work}
 use Rattle.seat_journal.specs.declared.entry.Work.TheVariants.{Seats, Limit}
-use Rattle.seat_core.specs.declared.booking.Booking.{Booking}
-use Rattle.seat_core.specs.declared.booking.Status.{Status}
-use Rattle.seat_core.specs.declared.booking.Status.TheVariants.{Held, Waiting}
-use Rattle.seat_core.specs.Bookings.{is_for, is_waiting}
-use Rattle.seat_core.specs.Sequential.{State, Outcome, answer, pass, may_confirm, confirmed, advice_of, reduced, booking_of, changed_by}
-use Rattle.seat_core.specs.Journal.{replay, IsLegal, IsNext}
+use Rattle.seat_rules.specs.declared.booking.Booking.{Booking}
+use Rattle.seat_rules.specs.declared.booking.Status.{Status}
+use Rattle.seat_rules.specs.declared.booking.Status.TheVariants.{Held, Waiting}
+use Rattle.seat_rules.specs.Bookings.{is_for, is_waiting}
+use Rattle.seat_rules.specs.Sequential.{State, Outcome, answer, pass, may_confirm, confirmed, advice_of, reduced, booking_of, changed_by}
+use Rattle.seat_rules.specs.Journal.{replay, IsLegal, IsNext}
 use Rattle.seat_desk.specs.AuditDesk.{most_journal_bytes, most_lines}
-use Rattle.seat_core.proofs.History.Lines.{replay_next}
-use Rattle.seat_core.proofs.History.Legal.{each_legal}
-use Rattle.seat_core.proofs.Step.Outcomes.{each_outcome}
+use Rattle.seat_rules.proofs.History.Lines.{replay_next}
+use Rattle.seat_rules.proofs.History.Legal.{each_legal}
+use Rattle.seat_rules.proofs.Step.Outcomes.{each_outcome}
 
 -- ---- a line makes at most one waiting booking, and an advice ends one
 

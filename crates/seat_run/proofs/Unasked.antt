@@ -12,7 +12,7 @@ use Rattle.seat_journal.specs.declared.entry.Command.{Command}
 use Rattle.seat_journal.specs.declared.entry.Entry.{Entry}
 use Rattle.seat_journal.specs.declared.entry.Work.{Work}
 use Rattle.seat_journal.proofs.TextLaws.{one_text}
-use Rattle.seat_core.specs.Prefixes.{Begins}
+use Rattle.seat_rules.specs.Prefixes.{Begins}
 use Rattle.seat_desk.specs.CheckDesk.{most_records}
 use Rattle.seat_desk.specs.FlightsDesk.{set_flights}
 use Rattle.seat_desk.specs.Loading.{IsLoadedGrid}

@@ -11,11 +11,11 @@ use Rattle.seat_journal.specs.declared.entry.Command.{Command}
 use Rattle.seat_journal.specs.declared.entry.Entry.{Entry}
 use Rattle.seat_journal.specs.declared.entry.Work.{Work}
 use Rattle.seat_journal.specs.declared.entry.Work.TheVariants.{Seats}
-use Rattle.seat_core.specs.Bookings.{same_place}
-use Rattle.seat_core.specs.Inventory.{Inventory}
-use Rattle.seat_core.specs.Journal.{calls_of}
-use Rattle.seat_core.specs.Prefixes.{Begins}
-use Rattle.seat_host.specs.Histories.{of_session}
+use Rattle.seat_rules.specs.Bookings.{same_place}
+use Rattle.seat_rules.specs.Inventory.{Inventory}
+use Rattle.seat_rules.specs.Journal.{calls_of}
+use Rattle.seat_rules.specs.Prefixes.{Begins}
+use Rattle.seat_rules.specs.Histories.{of_session}
 use Rattle.seat_desk.specs.AuditDesk.{IsAudited, IsRefusedOver, IsReplayOf, IsTooLarge, IsUnlawful, most_journal_bytes}
 use Rattle.seat_desk.specs.Loading.{Bytes, IsLoaded, IsRefusedLoad}
 use Rattle.seat_desk.specs.declared.inputs.Inputs.{Inputs}

@@ -2,10 +2,10 @@
 use Rattle.std.specs.Prelude.{◌≡◌, ℕ, List, length, map, Option}
 use Rattle.seat_journal.specs.Text.{IsJournalText}
 use Rattle.seat_journal.specs.declared.entry.Entry.{Entry}
-use Rattle.seat_core.specs.Totals.{totals_of}
-use Rattle.seat_core.specs.declared.totals.Totals.{Totals}
-use Rattle.seat_host.specs.Agreement.{totals_in}
-use Rattle.seat_host.specs.Histories.{by_session}
+use Rattle.seat_rules.specs.Totals.{totals_of}
+use Rattle.seat_rules.specs.declared.totals.Totals.{Totals}
+use Rattle.seat_rules.specs.Agreement.{totals_in}
+use Rattle.seat_rules.specs.Histories.{by_session}
 use Rattle.seat_desk.specs.AuditDesk.{IsAudit, IsRefusedAudit, IsTooLarge, audit_line}
 use Rattle.seat_desk.specs.declared.fault.DeskFault.{DeskFault}
 use Rattle.seat_run.specs.Going.{lists_over}

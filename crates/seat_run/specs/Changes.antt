@@ -1,15 +1,15 @@
 -- The rows of changes, and what they ask of the inventory.
 use Rattle.std.specs.Prelude.{◌≡◌, ◌≤◌, ◌==◌, ℕ, List, ◌∷◌, ◌++◌, length, map, Option, Some, None, Err, if◌then◌else◌}
 use Rattle.std.specs.Str.Lines.{lines}
-use Rattle.ssim_records.specs.declared.place.Place.{Place}
+use Rattle.airline_base.specs.declared.place.Place.{Place}
 use Rattle.ssim_flights.specs.Places.{place_wanted}
 use Rattle.ssim_flights.specs.declared.flight.Flight.{Flight as Flown}
 use Rattle.ssim_flights.specs.declared.flight.Wanted.{Wanted}
-use Rattle.seat_nesting.specs.ChangeRows.{IsChangeText, changes_in}
-use Rattle.seat_nesting.specs.declared.change_row.ChangeRow.{ChangeRow}
-use Rattle.seat_nesting.specs.declared.limit_fault.LimitFault.{LimitFault}
-use Rattle.seat_nesting.specs.declared.limit_fault.LimitKind.{LimitKind}
-use Rattle.seat_nesting.specs.declared.limit_fault.LimitKind.TheVariants as limit_kinds
+use Rattle.seat_limits.specs.ChangeRows.{IsChangeText, changes_in}
+use Rattle.seat_limits.specs.declared.change_row.ChangeRow.{ChangeRow}
+use Rattle.seat_limits.specs.declared.limit_fault.LimitFault.{LimitFault}
+use Rattle.seat_limits.specs.declared.limit_fault.LimitKind.{LimitKind}
+use Rattle.seat_limits.specs.declared.limit_fault.LimitKind.TheVariants as limit_kinds
 use Rattle.seat_journal.specs.declared.entry.Change.{Change}
 use Rattle.seat_desk.specs.declared.fault.DeskFault.{DeskFault}
 use Rattle.seat_desk.specs.declared.fault.DeskFault.TheVariants.{Change as BadChange, NoLeg, Memory}

@@ -7,10 +7,10 @@ use Rattle.seat_journal.specs.declared.entry.Change.{Change}
 use Rattle.seat_journal.specs.declared.entry.Command.{Command}
 use Rattle.seat_journal.specs.declared.entry.Entry.{Entry}
 use Rattle.ssim_flights.specs.declared.flight.Flight.{Flight as Flown}
-use Rattle.seat_core.specs.Totals.{totals_of}
-use Rattle.seat_host.specs.Headline.{Headline}
-use Rattle.seat_host.specs.Histories.{by_session}
-use Rattle.seat_host.specs.Working.{works_of}
+use Rattle.seat_rules.specs.Totals.{totals_of}
+use Rattle.seat_rules.specs.Headline.{Headline}
+use Rattle.seat_rules.specs.Histories.{by_session}
+use Rattle.seat_workers.specs.Working.{works_of}
 use Rattle.seat_desk.specs.AuditDesk.{most_lines}
 use Rattle.seat_run.specs.Requests.{commands_of}
 use Rattle.seat_run.specs.RunDesk.{AreReplies, IsRun, works_in}

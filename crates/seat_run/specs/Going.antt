@@ -1,6 +1,6 @@
 -- What a run goes on from: the lines of an older journal, and what later texts need to know of them.
 use Rattle.std.specs.Prelude.{◌≤◌, ◌-◌, ◌==◌, ℕ, zero, suc, List, [], ◌∷◌, ◌++◌, drop, length, Option, Some, None, slice_get, if◌then◌else◌}
-use Rattle.ssim_records.specs.declared.place.Place.{Place}
+use Rattle.airline_base.specs.declared.place.Place.{Place}
 use Rattle.ssim_flights.specs.declared.flight.DatedLeg.{DatedLeg}
 use Rattle.ssim_flights.specs.declared.flight.Flight.{Flight as Flown}
 use Rattle.airimp_lines.specs.declared.segment.Segment.{Segment}
@@ -8,7 +8,7 @@ use Rattle.seat_journal.specs.Text.{IsJournalText}
 use Rattle.seat_journal.specs.declared.entry.Command.{Command}
 use Rattle.seat_journal.specs.declared.entry.Entry.{Entry}
 use Rattle.seat_nesting.specs.Nesting.{Legs}
-use Rattle.seat_core.specs.Journal.{IsLegal, calls_of}
+use Rattle.seat_rules.specs.Journal.{IsLegal, calls_of}
 use Rattle.seat_desk.specs.AuditDesk.{most_journal_bytes, most_lines}
 use Rattle.seat_run.specs.declared.past.Past.{Past}
 

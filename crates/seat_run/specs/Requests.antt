@@ -1,7 +1,7 @@
 -- The requests of scripts, and what they ask of the inventory.
 use Rattle.std.specs.Prelude.{◌≡◌, ◌≤◌, ◌<◌, ◌+◌, ◌⊎◌, ℕ, List, [], ◌∷◌, ◌++◌, length, map, Option, IfSome, All}
 use Rattle.std.specs.List.{AllZip, AllByRecursion}
-use Rattle.ssim_records.specs.Noting.{noted}
+use Rattle.airline_base.specs.Noting.{noted}
 use Rattle.ssim_flights.specs.Places.{place_wanted}
 use Rattle.ssim_flights.specs.declared.flight.Flight.{Flight as Flown}
 use Rattle.ssim_flights.specs.declared.flight.Wanted.{Wanted}

@@ -4,7 +4,7 @@ use Rattle.std.specs.Io.KnownBytes.{Appends}
 use Rattle.std.specs.List.{AllByRecursion, AllZip}
 use Rattle.std.specs.Option.{option_map}
 use Rattle.ssim_flights.specs.declared.flight.Flight.{Flight as Flown}
-use Rattle.ssim_records.specs.Noting.{TookFront}
+use Rattle.airline_base.specs.Noting.{TookFront}
 use Rattle.seat_nesting.specs.Nesting.{Legs}
 use Rattle.airimp_lines.specs.Grammar.{IsPlainLine, reply_of}
 use Rattle.airimp_lines.specs.declared.requests.Request.{Request}
@@ -16,12 +16,12 @@ use Rattle.seat_journal.specs.declared.entry.Command.{Command}
 use Rattle.seat_journal.specs.declared.entry.Entry.{Entry}
 use Rattle.seat_journal.specs.declared.entry.Work.{Work}
 use Rattle.seat_journal.specs.declared.entry.Work.TheVariants.{Seats, Limit}
-use Rattle.seat_core.specs.Journal.{calls_of}
-use Rattle.seat_core.specs.Prefixes.{Begins}
-use Rattle.seat_core.specs.Totals.{totals_of}
-use Rattle.seat_host.specs.Headline.{Headline}
-use Rattle.seat_host.specs.Histories.{by_session}
-use Rattle.seat_host.specs.Working.{works_of}
+use Rattle.seat_rules.specs.Journal.{calls_of}
+use Rattle.seat_rules.specs.Prefixes.{Begins}
+use Rattle.seat_rules.specs.Totals.{totals_of}
+use Rattle.seat_rules.specs.Headline.{Headline}
+use Rattle.seat_rules.specs.Histories.{by_session}
+use Rattle.seat_workers.specs.Working.{works_of}
 use Rattle.seat_desk.specs.AuditDesk.{IsRefusedOver, IsTooLarge, most_lines}
 use Rattle.seat_desk.specs.Desk.{HasFailed}
 use Rattle.seat_desk.specs.FlightsDesk.{IsText}
@@ -35,8 +35,8 @@ use Rattle.seat_run.specs.declared.replies.Answered.{Answered}
 use Rattle.seat_desk.specs.declared.fault.DeskFault.{DeskFault}
 use Rattle.seat_desk.specs.declared.fault.DeskFault.TheVariants.{Change as BadChange, NoLeg, Script, Book, Journal, Memory, Replay}
 use Rattle.seat_host.specs.declared.under_lock.BookFault.TheVariants.{JournalFull as Full, Memory as NoRoom}
-use Rattle.seat_host.specs.declared.workers.RunFault.{RunFault}
-use Rattle.seat_host.specs.declared.workers.RunFault.TheVariants as run_faults
+use Rattle.seat_workers.specs.declared.workers.RunFault.{RunFault}
+use Rattle.seat_workers.specs.declared.workers.RunFault.TheVariants as run_faults
 
 -- what these lines ask for, in order
 abbrev pub works_in : List Entry → List Work

@@ -1,15 +1,15 @@
 //! The changes of limits that `run` takes: rows, each for the one leg that serves it.
 ghost use Rattle.std.specs.Prelude.{◌≡◌, ◌≢◌, ◌<◌, ◌≤◌, IfErr, IfOk, IfSome, length};
 ghost use Rattle.std.specs.List.{AllByRecursion};
-ghost use Rattle.seat_nesting.specs.ChangeRows.{IsChangeText};
+ghost use Rattle.seat_limits.specs.ChangeRows.{IsChangeText};
 ghost use Rattle.seat_desk.specs.Desk.{HasFailed, IsOfInput};
 ghost use Rattle.seat_run.specs.Changes.{AreChanges, AreServed, IsOfChanges, IsOnLeg, IsUnchanged, change_of, change_refusal, most_change_bytes, wanted_by};
 
 use seat_desk::{DeskFault, read_input};
 use seat_journal::Change;
-use seat_nesting::{ChangeRow, LimitFault, LimitKind, read_changes};
+use seat_limits::{ChangeRow, LimitFault, LimitKind, read_changes};
 use ssim_flights::{Flights, Served, Wanted};
-use ssim_records::NotedRead;
+use airline_base::NotedRead;
 use std::alloc::Global;
 
 /// 16 MiB, the most bytes of changes.

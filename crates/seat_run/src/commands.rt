@@ -5,8 +5,8 @@ ghost use Rattle.seat_run.specs.Requests.{command_of, commands_of, wanted_of};
 
 use crate::past::highest;
 use airimp_lines::{Request, Requests, Segment};
-use seat_core::{Command, Core};
-use seat_host::RequestList;
+use seat_core::Core;
+use seat_journal::{Command, CommandList};
 use ssim_flights::{Flights, Served, Wanted};
 use std::alloc::{AllocError, Global};
 
@@ -16,7 +16,7 @@ pub fn lists_over(
     past: &Core,
     flights: &Flights,
     scripts: &[Requests],
-) -> Result<Vec<RequestList>, AllocError>
+) -> Result<Vec<CommandList>, AllocError>
     ensures { IfOk result (λ lists. lists.items ≡ lists_over past.now.journal (map (commands_of flights.now) scripts.now)) }
 {
     let mut lists = command_lists(alloc, flights, scripts)?;
@@ -26,11 +26,11 @@ pub fn lists_over(
 
 /// Adds lists of nothing, until there are as many lists as this.
 #[tactic(auto, using(crate::proofs::Going::idle_end))]
-fn add_idle(alloc: Global, lists: &mut Vec<RequestList>, sessions: u8) -> Result<(), AllocError>
+fn add_idle(alloc: Global, lists: &mut Vec<CommandList>, sessions: u8) -> Result<(), AllocError>
     ensures { OnOk result (lists.new.items ≡ lists.old.items ++ idle (sessions - length lists.old.items)) }
 {
     while lists.len() < usize::from(sessions) {
-        lists.push(RequestList::from_vec(Vec::new(alloc)))?;
+        lists.push(CommandList::from_vec(Vec::new(alloc)))?;
     }
     Ok(())
 }
@@ -40,7 +40,7 @@ pub fn command_lists(
     alloc: Global,
     flights: &Flights,
     scripts: &[Requests],
-) -> Result<Vec<RequestList>, AllocError>
+) -> Result<Vec<CommandList>, AllocError>
     ensures { IfOk result (λ lists. lists.items ≡ map (commands_of flights.now) scripts.now) }
 {
     let Ok(served) = Served::new(alloc, flights) else {
@@ -58,14 +58,14 @@ fn commands(
     alloc: Global,
     served: &Served<'_>,
     requests: &[Request],
-) -> Result<RequestList, AllocError>
+) -> Result<CommandList, AllocError>
     ensures { IfOk result (λ commands. commands ≡ commands_of served.now requests.now) }
 {
     let mut commands = Vec::with_capacity(alloc, requests.len())?;
     for request in requests {
         commands.push(command(served, request))?;
     }
-    Ok(RequestList::from_vec(commands))
+    Ok(CommandList::from_vec(commands))
 }
 
 fn command(served: &Served<'_>, request: &Request) -> Command

@@ -1,9 +1,9 @@
 //! A writer whose bytes can be kept.
 ghost use Rattle.std.specs.Prelude.{◌≡◌, Bool, IsTrue, MatchResult, OnOk};
 ghost use Rattle.std.specs.Io.KnownBytes.{Keeps};
-ghost use Rattle.ssim_records.specs.Noting.{noted};
+ghost use Rattle.airline_base.specs.Noting.{noted};
 
-use ssim_records::NotedWrite;
+use airline_base::NotedWrite;
 use std::io;
 
 /// A writer whose bytes can be brought to where they outlive a loss of power.

@@ -1,6 +1,6 @@
 //! What a run goes on from: the inventory of an older journal, and what the texts of the run need to know of it.
 ghost use Rattle.std.specs.Prelude.{◌≡◌, ◌<◌, ◌≤◌, [], IfErr, IfOk, IfSome, length};
-ghost use Rattle.seat_core.specs.Journal.{IsLegal};
+ghost use Rattle.seat_rules.specs.Journal.{IsLegal};
 ghost use Rattle.seat_desk.specs.AuditDesk.{IsUnlawful, most_journal_bytes, most_lines};
 ghost use Rattle.seat_desk.specs.Desk.{HasFailed, IsOfInput};
 ghost use Rattle.seat_journal.specs.Text.{IsJournalText};
@@ -10,7 +10,7 @@ ghost use Rattle.seat_run.specs.Going.{IsPast, highest_to, past_of};
 use seat_core::Core;
 use seat_desk::{DeskFault, MOST_JOURNAL_BYTES, read_input, replayed};
 use seat_nesting::Grid;
-use ssim_records::NotedRead;
+use airline_base::NotedRead;
 use std::alloc::Global;
 
 /// The text of a journal without lines, for a run that goes on from no other.

@@ -12,7 +12,7 @@ use seat_desk::{put, put_number};
 use seat_host::{Receipt, Receipts};
 use seat_journal::{Advice, Change, Command, Entry, Work};
 use ssim_flights::{Flight, Flights};
-use ssim_records::{Code, Locator, Place};
+use airline_base::{Code, Locator, Place};
 use std::alloc::{AllocError, Global};
 
 /// Whose seats a reply is for, and which.

@@ -1,13 +1,13 @@
 //! The scripts of `run`: the requests of each.
 ghost use Rattle.std.specs.Prelude.{◌≡◌, ◌≢◌, ◌+◌, ◌<◌, ◌≤◌, IfErr, IfOk, IfSome, OnOk, length, map};
 ghost use Rattle.std.specs.List.{AllByRecursion};
-ghost use Rattle.ssim_records.specs.Days.{IsCenturyDay};
+ghost use Rattle.airline_base.specs.Days.{IsCenturyDay};
 ghost use Rattle.seat_desk.specs.Desk.{HasFailed, IsOfInput};
 ghost use Rattle.seat_run.specs.Requests.{AreReadOn, AreRight, AreScripts, HasFailedAmong, IsOfScript, IsRefusedAmong, IsRefusedScript, IsScriptOf, IsTooLargeAmong, most_script_bytes, script_refusal};
 
 use airimp_lines::{Requests, ScriptFault, ScriptKind, read_script};
 use seat_desk::{DeskFault, read_input};
-use ssim_records::{Day, Items, NotedRead};
+use airline_base::{Day, Items, NotedRead};
 use std::alloc::Global;
 
 /// 16 MiB, the most bytes of a script.

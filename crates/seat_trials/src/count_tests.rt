@@ -2,7 +2,7 @@
 use crate::trial::{Legs, Why, place_of};
 use crate::worked_set::{grid, two_legs};
 use seat_nesting::{Counts, Ladder, LadderFault, Step};
-use ssim_records::{Class, Place};
+use airline_base::{Class, Place};
 use std::alloc::Global;
 use std::test::Fail;
 

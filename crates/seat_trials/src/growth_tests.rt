@@ -3,9 +3,9 @@
 use crate::texts::{lines_of_flight_1, no_lines, same_ladders, seven_lines};
 use crate::trial::{Trial, Why, are_same, entries, is_memory, is_same, is_text, place_of};
 use crate::worked_set::{grid, two_legs};
-use seat_core::Entry;
+use seat_journal::Entry;
 use seat_nesting::{Counts, Grid};
-use ssim_records::Class;
+use airline_base::Class;
 use std::alloc::Global;
 use std::test::Fail;
 

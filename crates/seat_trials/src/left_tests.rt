@@ -5,7 +5,7 @@ use crate::texts::{
 };
 use crate::trial::{Legs, Trial, Why, are_same, entries, is_same, place_of};
 use crate::worked_set::{grid, two_legs};
-use seat_core::Entry;
+use seat_journal::Entry;
 use std::alloc::Global;
 use std::test::Fail;
 

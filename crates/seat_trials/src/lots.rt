@@ -3,7 +3,7 @@ ghost use Rattle.std.specs.Prelude.{◌<◌, ◌≤◌};
 
 use crate::plain::Live;
 use seat_journal::{Change, Command, Work};
-use ssim_records::{Class, Code, Locator, Place};
+use airline_base::{Class, Code, Locator, Place};
 
 /// Numbers that are the same for the same seed (Knuth's linear congruential generator).
 #[derive(Drop)]

@@ -3,7 +3,7 @@ use crate::lots::Lots;
 use crate::plain::{Answer, Limit, Plain};
 use crate::trial::{Legs, Trial, Why, is_same, place_of};
 use crate::worked_set::{grid, three_legs};
-use seat_core::{Entry, Work};
+use seat_journal::{Entry, Work};
 use std::alloc::{AllocError, Global};
 use std::test::Fail;
 

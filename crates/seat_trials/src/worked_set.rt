@@ -2,9 +2,12 @@
 ghost use Rattle.std.specs.Prelude.{IfSome};
 ghost use Rattle.ssim_records.specs.RightSet.{IsRightSet};
 
-use seat_nesting::{Grid, LimitRows, read_limits};
+use seat_limits::{LimitRows, read_limits};
+use seat_limits::build_grid;
+use seat_nesting::Grid;
 use ssim_flights::{Flights, expand};
-use ssim_records::{DataSet, Day, read_set};
+use airline_base::Day;
+use ssim_records::{DataSet, read_set};
 use std::alloc::Global;
 
 /// London to New York and on to Los Angeles, on 15 and 16 June 2024: flights 0 and 1.
@@ -94,7 +97,7 @@ fn rows_of(alloc: Global, limits: &[u8]) -> Option<LimitRows> {
 fn try_grid(alloc: Global, set: &[u8], limits: &[u8]) -> Option<Grid> {
     let flights = flights(alloc, set)?;
     let rows = rows_of(alloc, limits)?;
-    match Grid::build(alloc, &flights, rows.as_slice()) {
+    match build_grid(alloc, &flights, rows.as_slice()) {
         Ok(grid) => Some(grid),
         Err(_) => None,
     }

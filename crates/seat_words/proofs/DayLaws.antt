@@ -2,10 +2,10 @@
 use Rattle.std.proofs.Common.{◌≡◌, ◌∙◌, ap, sym, refl, ℕ, ◌+◌, ◌-◌, ◌/◌, ◌%◌, ◌<◌, ◌≤◌, ◌&&◌, ◌||◌, true, Bool, cond, eqb, List, [], ◌∷◌, ◌++◌, Some, arith, codes}
 use Rattle.std.proofs.lemmas.Bool.{eqb-true}
 use Rattle.std.proofs.lemmas.Bool.Decides.{nat_tests}
-use Rattle.ssim_records.specs.Fields.{two_are, two_value}
-use Rattle.ssim_records.specs.Days.{civil_in, two_digits}
-use Rattle.ssim_records.proofs.DateLaws.{civil_again, civil_takes, two_again, two_small, two_takes}
-use Rattle.ssim_records.proofs.Tests.{both_are, both_true, guarded, kept}
+use Rattle.airline_base.specs.Fields.{two_are, two_value}
+use Rattle.airline_base.specs.Days.{civil_in, two_digits}
+use Rattle.airline_base.proofs.DateLaws.{civil_again, civil_takes, two_again, two_small, two_takes}
+use Rattle.airline_base.proofs.Tests.{both_are, both_true, guarded, kept}
 use Rattle.seat_words.specs.DayWords.{IsDateWord, date_text, date_word_in}
 
 -- ---- dates

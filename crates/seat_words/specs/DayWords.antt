@@ -3,8 +3,8 @@ use Rattle.std.specs.Prelude.{◌≡◌, ℕ, ◌+◌, ◌/◌, ◌%◌, ◌≤�
 use Rattle.std.specs.Char.{is_ascii_digit}
 use Rattle.std.specs.List.{list_all}
 use Rattle.std.specs.Str.Parse.{digits_value}
-use Rattle.ssim_records.specs.Fields.{two_are, two_value}
-use Rattle.ssim_records.specs.Days.{IsDate, civil_in, two_digits}
+use Rattle.airline_base.specs.Fields.{two_are, two_value}
+use Rattle.airline_base.specs.Days.{IsDate, civil_in, two_digits}
 
 -- YYYY-MM-DD (ISO 8601, the extended format of a calendar date)
 abbrev pub date_text : ℕ → ℕ → ℕ → List ℕ

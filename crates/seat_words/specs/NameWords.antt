@@ -3,7 +3,7 @@ use Rattle.std.specs.Prelude.{◌≡◌, ℕ, ◌≤◌, ◌&&◌, if◌then◌e
 use Rattle.std.specs.Char.{is_ascii_digit}
 use Rattle.std.specs.List.{list_all}
 use Rattle.std.specs.Str.Parse.{digits_value}
-use Rattle.ssim_records.specs.Names.{is_station}
+use Rattle.airline_base.specs.Names.{is_station}
 
 -- two stations, the board point and behind it the off point
 abbrev pub pair_word_in : List ℕ → Option (List ℕ × List ℕ)

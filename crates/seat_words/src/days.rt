@@ -1,10 +1,10 @@
 //! Words that name a day, or a number of days.
 ghost use Rattle.std.specs.Prelude.{◌≡◌, ◌+◌, ◌≤◌, ℕ, IfSome, Some};
-ghost use Rattle.ssim_records.specs.Days.{civil_in};
+ghost use Rattle.airline_base.specs.Days.{civil_in};
 ghost use Rattle.seat_words.specs.DayWords.{IsDateWord, IsDaysWord, date_word_in};
 
-use ssim_records::Day;
-use ssim_records::fields::{are_digits, two_are, two_value, value_of};
+use airline_base::Day;
+use airline_base::fields::{are_digits, two_are, two_value, value_of};
 
 /// The day that the word names: YYYY-MM-DD of the years 2000 to 2099 (ISO 8601).
 #[tactic(auto, using(crate::proofs::DayLaws::date_takes, crate::proofs::DayLaws::date_again))]

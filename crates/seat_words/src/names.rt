@@ -1,10 +1,10 @@
 //! Words that name a pair of stations, a locator or a line of a journal.
 ghost use Rattle.std.specs.Prelude.{◌≡◌, ℕ, IfSome, Some, None, if◌then◌else◌};
-ghost use Rattle.ssim_records.specs.Names.{is_locator};
+ghost use Rattle.airline_base.specs.Names.{is_locator};
 ghost use Rattle.seat_words.specs.NameWords.{IsLineWord, pair_word_in};
 
-use ssim_records::fields::{are_digits, value_of};
-use ssim_records::{Locator, Station};
+use airline_base::fields::{are_digits, value_of};
+use airline_base::{Locator, Station};
 
 /// The board and the off point that the word names: two stations of three letters A to Z, as `LHRJFK`.
 pub fn pair_word(word: &str) -> Option<(Station, Station)>

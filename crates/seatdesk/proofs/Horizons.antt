@@ -1,6 +1,6 @@
 -- A word that names a date of 2000 to 2099 names a day of that century.
 use Rattle.std.proofs.Common.{◌≡◌, ℕ, ◌+◌, ◌-◌, List, arith, subst}
-use Rattle.ssim_records.specs.Days.{IsCenturyDay, IsDate}
+use Rattle.airline_base.specs.Days.{IsCenturyDay, IsDate}
 use Rattle.ssim_flights.specs.Right.{IsOfCentury}
 use Rattle.ssim_flights.proofs.RightSets.{of_century}
 use Rattle.seat_words.specs.DayWords.{IsDateWord}

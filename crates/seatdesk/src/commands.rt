@@ -1,7 +1,7 @@
 //! The commands, each with its streams and dates.
 //! It knows which stream is which and which words name a day or a name, and nothing of what the commands do with them.
 ghost use Rattle.std.specs.Prelude.{◌≡◌, ◌≤◌, IfOk, length};
-ghost use Rattle.ssim_records.specs.Days.{IsCenturyDay};
+ghost use Rattle.airline_base.specs.Days.{IsCenturyDay};
 ghost use Rattle.ssim_flights.specs.Right.{IsOfCentury};
 
 use crate::guard::Guard;
@@ -11,13 +11,13 @@ use crate::streams::{
     Input, all_opened, made, opened, opened_or, standard_input, standard_output, taken,
 };
 use seat_desk::{DeskFault, Inputs, desk_audit, desk_check, desk_flights, desk_ladder};
-use seat_host::NoGate;
+use seat_workers::NoGate;
 use seat_questions::{
     Asked, Bars, CityPair, desk_bookings, desk_cover, desk_opening_rooms, desk_rooms, desk_why,
 };
 use seat_run::{NO_LINES, desk_audit_against, desk_run};
 use seat_words::{Horizon, date_word, days_word, line_word, locator_word, pair_word};
-use ssim_records::Day;
+use airline_base::Day;
 use std::sync::Wait;
 use std::thread::Threads;
 

@@ -4,7 +4,7 @@ use crate::refusal::Refusal;
 use crate::streams::standard_output;
 use seat_desk::DeskFault;
 use seat_words::wrong_value;
-use ssim_records::{WriteFault, put_all};
+use airline_base::{WriteFault, put_all};
 use std::alloc::AllocError;
 
 /// Why a fault line is not explained.

@@ -2,8 +2,8 @@
 use Rattle.std.proofs.Common.{◌≡◌, ℕ, ◌+◌, ◌*◌, ◌<◌, ◌≤◌, List, [], ◌∷◌, Option, Some, None, All, ⊎_elim, sym, subst, ℤ, pos, negsuc, ◌-ℤ◌, ◌≤ℤ◌, unwrap_or, arith}
 use Rattle.std.proofs.lemmas.List.Elements.{All-nil, All-cons}
 use Rattle.jiff_core.proofs.SignedLemmas.{signed_arith}
-use Rattle.ssim_records.specs.Days.{IsDate, IsDayField}
-use Rattle.ssim_records.proofs.Years.{high_century, low_century}
+use Rattle.airline_base.specs.Days.{IsDate, IsDayField}
+use Rattle.airline_base.proofs.Years.{high_century, low_century}
 use Rattle.ssim_records.specs.SetText.{IsBody, IsDataSet, IsLeg, IsOffset, IsShift, IsUntil}
 use Rattle.ssim_records.specs.declared.carrier.Leg.{Leg}
 use Rattle.ssim_records.specs.declared.set.DataSet.{DataSet}

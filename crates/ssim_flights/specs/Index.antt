@@ -5,7 +5,7 @@ use Rattle.std.specs.HashMap.{HashMap, get}
 use Rattle.std.specs.Map.{lookup}
 use Rattle.std.specs.declared.hash.FoldHasher.{FoldHasher}
 use Rattle.std.specs.declared.hash.BuildHasherDefault.{BuildHasherDefault}
-use Rattle.ssim_records.specs.declared.place.Place.{Place}
+use Rattle.airline_base.specs.declared.place.Place.{Place}
 use Rattle.ssim_flights.specs.declared.flight.Wanted.{Wanted}
 use Rattle.ssim_flights.specs.Places.{same_wanted}
 

@@ -4,7 +4,8 @@ ghost use Rattle.std.specs.List.Sorted.{IsStrictlyIncreasing};
 ghost use Rattle.jiff_core.specs.Calendar.{weekday_number};
 ghost use Rattle.ssim_flights.specs.Operating.{Operates, days_among, last_day, operates, operating_days};
 
-use ssim_records::{Day, Items, Leg, Memory};
+use airline_base::{Day, Items, Memory};
+use ssim_records::Leg;
 use std::alloc::Global;
 
 /// Days in order.

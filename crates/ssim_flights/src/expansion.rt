@@ -11,7 +11,8 @@ use crate::fault::FlightFault;
 use crate::flights::Flights;
 use crate::itinerary::itineraries;
 use crate::plan::Plan;
-use ssim_records::{Carrier, DataSet, Day};
+use airline_base::Day;
+use ssim_records::{Carrier, DataSet};
 use std::alloc::Global;
 use std::collections::HashSet;
 

@@ -1,7 +1,7 @@
 //! Why legs are no flights.
 ghost use Rattle.std.specs.Prelude.{◌≡◌};
 
-use ssim_records::Memory;
+use airline_base::Memory;
 use std::fmt;
 
 /// The first fault of the first itinerary that has one.

@@ -1,5 +1,5 @@
 //! A flight on its dates, and what a passenger asks for.
-use ssim_records::{Airline, Day, Items, Station};
+use airline_base::{Airline, Day, Items, Station};
 
 /// A leg on its local day of departure.
 #[derive(Clone, Copy)]

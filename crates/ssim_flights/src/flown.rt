@@ -9,7 +9,8 @@ use crate::flight::{DatedLegs, Flight};
 use crate::plan::Plan;
 use crate::rows::flight_on;
 use crate::schedule::Scheduled;
-use ssim_records::{Airline, Day, Leg, Memory};
+use airline_base::{Airline, Day, Memory};
+use ssim_records::Leg;
 use std::alloc::Global;
 use std::collections::HashSet;
 

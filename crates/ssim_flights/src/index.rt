@@ -5,7 +5,7 @@ ghost use Rattle.ssim_flights.specs.Places.{ends_from, places_from, places};
 ghost use Rattle.ssim_flights.specs.Index.{IsIndex, Puts};
 
 use crate::flight::{DatedLeg, Flight, Wanted};
-use ssim_records::{Memory, Place};
+use airline_base::{Memory, Place};
 use std::alloc::Global;
 use std::collections::HashMap;
 

@@ -4,7 +4,8 @@ ghost use Rattle.ssim_flights.specs.Itineraries.{itineraries, name_of};
 
 use crate::leg_list::LegLists;
 use indexmap::IndexSet;
-use ssim_records::{Leg, Memory};
+use airline_base::Memory;
+use ssim_records::Leg;
 use std::alloc::Global;
 
 /// What the legs of an itinerary share, the airline aside.

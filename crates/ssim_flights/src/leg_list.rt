@@ -2,7 +2,8 @@
 ghost use Rattle.std.specs.Prelude.{◌≡◌, ◌<◌, ◌++◌, ◌∷◌, List, [], OnOk, length, slice_set, slice_index_or};
 ghost use Rattle.ssim_records.specs.declared.carrier.Leg.{Leg as Flown};
 
-use ssim_records::{Day, Leg, Legs, Memory, Station};
+use airline_base::{Day, Memory, Station};
+use ssim_records::{Leg, Legs};
 use std::alloc::Global;
 use std::marker::Model;
 

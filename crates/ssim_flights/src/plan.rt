@@ -1,5 +1,5 @@
 //! What guides the expansion of a carrier's legs.
-use ssim_records::{Airline, Day};
+use airline_base::{Airline, Day};
 
 /// The carrier's airline and time mode, and the horizon.
 #[derive(Clone, Copy)]

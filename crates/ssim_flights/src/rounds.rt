@@ -5,7 +5,8 @@ ghost use Rattle.ssim_flights.specs.Right.{IsRightLeg};
 ghost use Rattle.ssim_flights.specs.Rounds.{AreBefore, round_days};
 
 use crate::days::{Days, days_among, days_of_period};
-use ssim_records::{Day, Leg, Memory};
+use airline_base::{Day, Memory};
+use ssim_records::Leg;
 use std::alloc::Global;
 use std::marker::Model;
 

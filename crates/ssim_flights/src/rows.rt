@@ -6,7 +6,8 @@ ghost use Rattle.ssim_flights.specs.Schedules.{differing, falling_after, falling
 use crate::flight::{DatedLeg, DatedLegs, Flight};
 use crate::plan::Plan;
 use crate::schedule::{Scheduled, shortest};
-use ssim_records::{Leg, Memory};
+use airline_base::Memory;
+use ssim_records::Leg;
 use std::alloc::Global;
 
 /// The indices at which all legs operate, and leg 1 within the horizon.

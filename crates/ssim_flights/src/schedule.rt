@@ -7,7 +7,8 @@ ghost use Rattle.ssim_flights.specs.Schedules.{day_at, days_after, local_at, sch
 
 use crate::plan::Plan;
 use crate::rounds::Rounds;
-use ssim_records::{Day, Leg, Memory, Station};
+use airline_base::{Day, Memory, Station};
+use ssim_records::Leg;
 use std::alloc::Global;
 use std::marker::Model;
 

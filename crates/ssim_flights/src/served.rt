@@ -5,7 +5,7 @@ ghost use Rattle.ssim_flights.specs.Places.{place_wanted};
 use crate::flight::Wanted;
 use crate::flights::Flights;
 use crate::index::index_of;
-use ssim_records::{Memory, Place};
+use airline_base::{Memory, Place};
 use std::alloc::Global;
 use std::collections::HashMap;
 use std::marker::Model;

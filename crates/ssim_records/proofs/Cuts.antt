@@ -7,8 +7,8 @@ use Rattle.std.proofs.lemmas.List.{take_at, drop_at, take-append-drop, length-ap
 use Rattle.ssim_records.specs.SetText.{IsCut, IsEnd}
 use Rattle.ssim_records.specs.declared.set_fault.SetKind.{SetKind}
 use Rattle.ssim_records.specs.declared.set_fault.SetKind.TheVariants as kinds
-use Rattle.ssim_records.specs.Bytes.{is_printable}
-use Rattle.ssim_records.proofs.Tests.{both_true}
+use Rattle.airline_base.specs.Bytes.{is_printable}
+use Rattle.airline_base.proofs.Tests.{both_true}
 use Rattle.ssim_records.specs.Cut.{newline_at, end_at, ended, cut_at}
 
 unless : {A : Type 0} (b : Bool) (kind : SetKind) (r : Result A SetKind) (y : A) → cond b (Err kind) r ≡ Ok y → (b ≡ false) × (r ≡ Ok y)

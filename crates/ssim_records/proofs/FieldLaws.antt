@@ -8,16 +8,16 @@ use Rattle.std.specs.Cmp.Lexicographic.{bytes_decides}
 use Rattle.std.proofs.lemmas.Bool.{eqb-true}
 use Rattle.std.proofs.lemmas.Bool.Decides.{nat_tests}
 use Rattle.std.proofs.lemmas.List.{drop_at, take-append-drop}
-use Rattle.ssim_records.specs.Names.{is_airline, is_station}
-use Rattle.ssim_records.specs.Days.{two_digits}
-use Rattle.ssim_records.specs.Bytes.{open_end, same_text}
-use Rattle.ssim_records.specs.Fields.{two_are, two_value}
-use Rattle.ssim_records.specs.Days.{date_in}
+use Rattle.airline_base.specs.Names.{is_airline, is_station}
+use Rattle.airline_base.specs.Days.{two_digits}
+use Rattle.airline_base.specs.Bytes.{open_end, same_text}
+use Rattle.airline_base.specs.Fields.{two_are, two_value}
+use Rattle.airline_base.specs.Days.{date_in}
 use Rattle.ssim_records.specs.RecordFields.{digits_in, padded_in, at_least_one, positive_in, six_in, not_before, until_in, mode_in, designator_in, station_in, suffix_in, byte_in, day_in, with_day, days_from, days_in, rate_in, time_is, time_in, signed_in, offset_is, offset_in, shift_in, continued_in}
 use Rattle.ssim_records.specs.SetText.{IsMode, IsUntil, IsPadded, IsSix, IsDesignator, IsSuffix, days_text, IsDays, IsRate, IsTime, IsOffset, IsShift}
-use Rattle.ssim_records.proofs.Tests.{passed, guarded, kept, second_of, both_true, both_are, some_is, none_some}
-use Rattle.ssim_records.proofs.LeadingRuns.{run_all, prefix_run}
-use Rattle.ssim_records.proofs.DateLaws.{two_takes, two_again, date_takes, date_again}
+use Rattle.airline_base.proofs.Tests.{passed, guarded, kept, second_of, both_true, both_are, some_is, none_some}
+use Rattle.airline_base.proofs.LeadingRuns.{run_all, prefix_run}
+use Rattle.airline_base.proofs.DateLaws.{two_takes, two_again, date_takes, date_again}
 
 -- ---- texts
 

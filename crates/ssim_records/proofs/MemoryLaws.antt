@@ -7,13 +7,13 @@ use Rattle.ssim_records.specs.declared.set_fault.SetKind.TheVariants as kinds
 use Rattle.ssim_records.specs.declared.state.Phase.{Phase}
 use Rattle.ssim_records.specs.declared.state.Phase.TheVariants.{Start, Open, Body, Done}
 use Rattle.ssim_records.specs.declared.state.Reader.{Reader}
-use Rattle.ssim_records.specs.Bytes.{field, same_text, is_printable, is_filler, set_title}
-use Rattle.ssim_records.specs.Days.{date_in}
+use Rattle.airline_base.specs.Bytes.{field, same_text, is_printable, is_filler, set_title}
+use Rattle.airline_base.specs.Days.{date_in}
 use Rattle.ssim_records.specs.RecordFields.{padded_in, positive_in, six_in, mode_in, designator_in, station_in, suffix_in, byte_in, until_in, days_in, rate_in, time_in, offset_in, shift_in, continued_in}
 use Rattle.ssim_records.specs.Cut.{cut_at, ended, end_at}
 use Rattle.ssim_records.specs.SetFaults.{missing}
 use Rattle.ssim_records.specs.SetSteps.{carrier_at, leg_at, leg_name_at, leg_period_at, leg_path_at, trailer_at, header_at, second_at, segment_at, numbered_at, header_step, carrier_step, leg_step, segment_step, trailer_step, body_step, type_of, has_serial, taken, within, is_start, step, moved, cut_then, next}
-use Rattle.ssim_records.proofs.Chains.{refusal, fault_is, want_none, check_none, step_none}
+use Rattle.airline_base.proofs.Chains.{refusal, fault_is, want_none, check_none, step_none}
 
 abbrev answer : {A : Type 0} → A → Result A SetKind
 answer x = Ok x

@@ -11,16 +11,16 @@ use Rattle.ssim_records.specs.declared.state.Reader.{Reader}
 use Rattle.ssim_records.specs.declared.records.LegName.{LegName}
 use Rattle.ssim_records.specs.declared.records.LegPeriod.{LegPeriod}
 use Rattle.ssim_records.specs.declared.records.LegPath.{LegPath}
-use Rattle.ssim_records.specs.Bytes.{field, set_title}
-use Rattle.ssim_records.specs.Days.{IsDayField}
-use Rattle.ssim_records.specs.Names.{is_station}
+use Rattle.airline_base.specs.Bytes.{field, set_title}
+use Rattle.airline_base.specs.Days.{IsDayField}
+use Rattle.airline_base.specs.Names.{is_station}
 use Rattle.ssim_records.specs.RecordFields.{six_in}
-use Rattle.ssim_records.specs.Chains.{◌>>=◌, check}
+use Rattle.airline_base.specs.Chains.{◌>>=◌, check}
 use Rattle.ssim_records.specs.SetSteps.{carrier_at, leg_at, leg_name_at, leg_period_at, leg_path_at, trailer_at, type_of, is_number, has_serial, header_at, second_at, segment_at, numbered_at, header_step, carrier_step, leg_step, segment_step, trailer_step, body_step}
 use Rattle.ssim_records.specs.SetText.{IsSix, IsTyped, IsHeader, IsCarrier, IsLeg, IsTrailer, IsDesignator, IsPadded, IsSuffix, IsUntil, IsDays, IsRate, IsTime, IsOffset, IsShift}
-use Rattle.ssim_records.proofs.Chains.{with_want, with_check, with_step}
+use Rattle.airline_base.proofs.Chains.{with_want, with_check, with_step}
 use Rattle.ssim_records.proofs.FieldLaws.{same_takes, same_again, padded_takes, padded_again, positive_takes, positive_again, six_takes, six_again, mode_takes, mode_again, designator_takes, designator_again, station_takes, station_again, suffix_takes, suffix_again, byte_takes, byte_again, days_takes, days_again, rate_takes, rate_again, time_takes, time_again, offset_takes, offset_again, shift_takes, shift_again, last_takes, last_again, until_takes, until_again}
-use Rattle.ssim_records.proofs.DateLaws.{date_takes, date_again}
+use Rattle.airline_base.proofs.DateLaws.{date_takes, date_again}
 
 unfoldable pub done : {A : Type 0} → A → Result A SetKind
 done x = Ok x

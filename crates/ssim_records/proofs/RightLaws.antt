@@ -13,13 +13,13 @@ use Rattle.ssim_records.specs.declared.carrier.Carrier.{Carrier}
 use Rattle.ssim_records.specs.declared.carrier.Leg.{Leg}
 use Rattle.ssim_records.specs.declared.set.DataSet.{DataSet}
 use Rattle.ssim_records.specs.declared.set_fault.SetFault.{SetFault}
-use Rattle.ssim_records.specs.Bytes.{field}
-use Rattle.ssim_records.specs.Days.{IsDayField}
+use Rattle.airline_base.specs.Bytes.{field}
+use Rattle.airline_base.specs.Days.{IsDayField}
 use Rattle.ssim_records.specs.RightSet.{IsPeriod, IsRightCarrier, IsRightLeg, IsRightSet, IsRising}
 use Rattle.ssim_records.specs.SetText.{IsPadded, IsUntil, IsSuffix, IsOffset, IsShift, IsCarrier, IsLeg, IsBody, IsDataSet}
-use Rattle.ssim_records.proofs.DateLaws.{century}
-use Rattle.ssim_records.proofs.Digits.{digit_is}
-use Rattle.ssim_records.proofs.Tests.{both_true}
+use Rattle.airline_base.proofs.DateLaws.{century}
+use Rattle.airline_base.proofs.Digits.{digit_is}
+use Rattle.airline_base.proofs.Tests.{both_true}
 
 -- ---- numbers
 

@@ -10,12 +10,12 @@ use Rattle.ssim_records.specs.declared.set.DataSet.{DataSet}
 use Rattle.ssim_records.specs.declared.state.Phase.{Phase}
 use Rattle.ssim_records.specs.declared.state.Phase.TheVariants.{Start, Open, Body, Done}
 use Rattle.ssim_records.specs.declared.state.Reader.{Reader}
-use Rattle.ssim_records.specs.Bytes.{field, is_filler}
+use Rattle.airline_base.specs.Bytes.{field, is_filler}
 use Rattle.ssim_records.specs.SetFaults.{set_of, ReadsAs}
-use Rattle.ssim_records.specs.Chains.{◌>>=◌}
+use Rattle.airline_base.specs.Chains.{◌>>=◌}
 use Rattle.ssim_records.specs.SetSteps.{type_of, taken, within, step, fresh, header_step, carrier_step, body_step}
 use Rattle.ssim_records.specs.SetText.{OneCut, OneDataSet, IsCut, IsSix, IsTyped, IsCarrier, IsLeg, IsTrailer, IsBody, IsNumbered, IsDataSet}
-use Rattle.ssim_records.proofs.Chains.{with_step}
+use Rattle.airline_base.proofs.Chains.{with_step}
 use Rattle.ssim_records.proofs.RecordLaws.{done, ok_is, with_leg, with_segment, closed, header_step_takes, header_step_again, carrier_step_takes, carrier_step_again, leg_step_takes, leg_step_again, segment_step_takes, segment_step_again, trailer_step_takes, trailer_step_again, typed_takes, typed_again, body_takes_one, body_leg, body_segment, body_trailer}
 use Rattle.ssim_records.proofs.Cuts.{cut_again}
 use Rattle.ssim_records.proofs.SetReaches.{one_set}

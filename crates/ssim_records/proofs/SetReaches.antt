@@ -12,10 +12,10 @@ use Rattle.ssim_records.specs.declared.state.Phase.{Phase}
 use Rattle.ssim_records.specs.declared.state.Phase.TheVariants.{Done}
 use Rattle.ssim_records.specs.declared.state.Reader.{Reader}
 use Rattle.ssim_records.specs.Cut.{cut_at}
-use Rattle.ssim_records.specs.Reach.{reach, fault_of, fault_at}
+use Rattle.airline_base.specs.Reach.{reach, fault_of, fault_at}
 use Rattle.ssim_records.specs.SetFaults.{OneFirstFault, at_end, missing, IsFirstFault, WantsRoom, IsRefusal, ReadsAs, set_of}
 use Rattle.ssim_records.specs.SetSteps.{next, step, fresh}
-use Rattle.ssim_records.proofs.Reaches.{reach_one, no_later, ok_is}
+use Rattle.airline_base.proofs.Reaches.{reach_one, no_later, ok_is}
 use Rattle.ssim_records.proofs.MemoryLaws.{next_none, missing_none}
 
 -- nothing is no record

@@ -7,16 +7,16 @@ use Rattle.ssim_records.specs.declared.set_fault.SetKind.TheVariants as kinds
 use Rattle.ssim_records.specs.declared.state.Phase.{Phase}
 use Rattle.ssim_records.specs.declared.state.Phase.TheVariants.{Start, Open, Body, Done}
 use Rattle.ssim_records.specs.declared.state.Reader.{Reader}
-use Rattle.ssim_records.specs.Bytes.{is_filler}
+use Rattle.airline_base.specs.Bytes.{is_filler}
 use Rattle.ssim_records.specs.Cut.{cut_at}
-use Rattle.ssim_records.specs.Reach.{reach}
-use Rattle.ssim_records.specs.Chains.{◌>>=◌}
+use Rattle.airline_base.specs.Reach.{reach}
+use Rattle.airline_base.specs.Chains.{◌>>=◌}
 use Rattle.ssim_records.specs.SetSteps.{type_of, taken, within, is_start, step, moved, cut_then, next}
 use Rattle.ssim_records.specs.SetText.{IsCut}
-use Rattle.ssim_records.proofs.Chains.{with_step}
+use Rattle.airline_base.proofs.Chains.{with_step}
 use Rattle.ssim_records.proofs.RecordLaws.{done, ok_is, carried, with_leg, with_segment, closed, carrier_step_takes, leg_step_takes, segment_step_takes, trailer_step_takes, typed_takes, body_takes_one}
 use Rattle.ssim_records.proofs.Cuts.{cut_takes, cut_again}
-use Rattle.ssim_records.proofs.Reaches.{reach_front, then_reach, then_takes}
+use Rattle.airline_base.proofs.Reaches.{reach_front, then_reach, then_takes}
 
 abbrev Bytes : Type 0
 Bytes = List ℕ

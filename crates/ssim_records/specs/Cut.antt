@@ -1,7 +1,7 @@
 -- A record of 200 printable bytes at the front, its end, and the bytes after it.
 use Rattle.std.specs.Prelude.{ℕ, ◌==◌, nat_lt, if◌then◌else◌, List, [], ◌∷◌, length, take, drop, Option, Some, None, Result, Ok, Err}
 use Rattle.std.specs.List.{list_all}
-use Rattle.ssim_records.specs.Bytes.{is_printable}
+use Rattle.airline_base.specs.Bytes.{is_printable}
 use Rattle.ssim_records.specs.declared.set_fault.SetKind.{SetKind}
 use Rattle.ssim_records.specs.declared.set_fault.SetKind.TheVariants as kinds
 

@@ -1,8 +1,6 @@
 -- The printed text of what is refused.
 use Rattle.std.specs.Prelude.{ℕ, List, [], ◌++◌, codes}
 use Rattle.std.specs.Fmt.{decimal}
-use Rattle.ssim_records.specs.declared.reading.ReadFault.{ReadFault}
-use Rattle.ssim_records.specs.declared.reading.ReadFault.TheVariants as reads
 use Rattle.ssim_records.specs.declared.set_fault.SetKind.{SetKind}
 use Rattle.ssim_records.specs.declared.set_fault.SetKind.TheVariants as kinds
 use Rattle.ssim_records.specs.declared.set_fault.SetFault.{SetFault}
@@ -32,8 +30,3 @@ byte_of_fault _ = []
 -- the code, the record and the byte of a wrong field, with single blanks between
 abbrev pub fault_text : SetFault → List ℕ
 fault_text f = code_of f.kind ++ codes " " ++ decimal f.nth ++ byte_of_fault f.kind
-
-abbrev pub read_code_of : ReadFault → List ℕ
-read_code_of reads.Device = codes "R1"
-read_code_of reads.TooLarge = codes "R2"
-read_code_of reads.Memory = codes "R3"

@@ -1,14 +1,5 @@
-pub mod Bytes
-pub mod Chains
-pub mod Counting
 pub mod Cut
-pub mod Days
 pub mod FaultText
-pub mod Fields
-pub mod Lines
-pub mod Names
-pub mod Noting
-pub mod Reach
 pub mod RecordFields
 pub mod RightSet
 pub mod SetFaults

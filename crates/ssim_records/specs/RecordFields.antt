@@ -3,10 +3,10 @@ use Rattle.std.specs.Prelude.{ℕ, ◌+◌, ◌-◌, ◌*◌, Bool, true, false,
 use Rattle.std.specs.Char.{is_ascii_digit, is_ascii_uppercase}
 use Rattle.std.specs.List.{prefix_len, list_all}
 use Rattle.std.specs.Str.Parse.{digits_value}
-use Rattle.ssim_records.specs.Names.{is_airline, is_station}
-use Rattle.ssim_records.specs.Bytes.{open_end, same_text}
-use Rattle.ssim_records.specs.Days.{date_in}
-use Rattle.ssim_records.specs.Fields.{two_are, two_value}
+use Rattle.airline_base.specs.Names.{is_airline, is_station}
+use Rattle.airline_base.specs.Bytes.{open_end, same_text}
+use Rattle.airline_base.specs.Days.{date_in}
+use Rattle.airline_base.specs.Fields.{two_are, two_value}
 
 -- ---- numbers
 

@@ -5,8 +5,8 @@ use Rattle.std.specs.List.{All}
 use Rattle.ssim_records.specs.declared.carrier.Carrier.{Carrier}
 use Rattle.ssim_records.specs.declared.carrier.Leg.{Leg}
 use Rattle.ssim_records.specs.declared.set.DataSet.{DataSet}
-use Rattle.ssim_records.specs.Names.{is_airline, is_station}
-use Rattle.ssim_records.specs.Days.{IsCenturyDay}
+use Rattle.airline_base.specs.Names.{is_airline, is_station}
+use Rattle.airline_base.specs.Days.{IsCenturyDay}
 
 -- a first day, and a last one that is not before it, where there is one
 pub record IsPeriod (from : ℕ) (to : Option ℕ) : Type 0 where

@@ -7,7 +7,7 @@ use Rattle.ssim_records.specs.declared.set.DataSet.{DataSet}
 use Rattle.ssim_records.specs.declared.state.Phase.{Phase}
 use Rattle.ssim_records.specs.declared.state.Phase.TheVariants.{Start, Open, Body, Done}
 use Rattle.ssim_records.specs.declared.state.Reader.{Reader}
-use Rattle.ssim_records.specs.Reach.{reach, IsFirst}
+use Rattle.airline_base.specs.Reach.{reach, IsFirst}
 use Rattle.ssim_records.specs.SetSteps.{next, fresh}
 
 -- ---- the end

@@ -10,10 +10,10 @@ use Rattle.ssim_records.specs.declared.records.LegPath.{LegPath}
 use Rattle.ssim_records.specs.declared.state.Phase.{Phase}
 use Rattle.ssim_records.specs.declared.state.Phase.TheVariants.{Start, Open, Body, Done}
 use Rattle.ssim_records.specs.declared.state.Reader.{Reader}
-use Rattle.ssim_records.specs.Bytes.{header_type, carrier_type, leg_type, segment_type, trailer_type, field, same_text, is_filler, set_title}
-use Rattle.ssim_records.specs.Chains.{◌>>=◌, want, check}
+use Rattle.airline_base.specs.Bytes.{header_type, carrier_type, leg_type, segment_type, trailer_type, field, same_text, is_filler, set_title}
+use Rattle.airline_base.specs.Chains.{◌>>=◌, want, check}
 use Rattle.ssim_records.specs.Cut.{cut_at}
-use Rattle.ssim_records.specs.Days.{date_in}
+use Rattle.airline_base.specs.Days.{date_in}
 use Rattle.ssim_records.specs.RecordFields.{padded_in, positive_in, six_in, mode_in, designator_in, station_in, suffix_in, byte_in, until_in, days_in, rate_in, time_in, offset_in, shift_in, continued_in}
 
 -- ---- records

@@ -3,12 +3,12 @@ use Rattle.std.specs.Prelude.{◌≡◌, ℕ, ◌+◌, ◌-◌, ◌*◌, ◌/◌
 use Rattle.std.specs.Char.{is_ascii_uppercase, is_ascii_digit}
 use Rattle.std.specs.List.{list_all, filter}
 use Rattle.std.specs.Str.Parse.{digits_value}
-use Rattle.ssim_records.specs.Names.{is_airline, is_station}
-use Rattle.ssim_records.specs.Days.{IsDayField, two_digits}
+use Rattle.airline_base.specs.Names.{is_airline, is_station}
+use Rattle.airline_base.specs.Days.{IsDayField, two_digits}
 use Rattle.ssim_records.specs.declared.carrier.Carrier.{Carrier}
 use Rattle.ssim_records.specs.declared.carrier.Leg.{Leg}
 use Rattle.ssim_records.specs.declared.set.DataSet.{DataSet}
-use Rattle.ssim_records.specs.Bytes.{header_type, carrier_type, leg_type, segment_type, trailer_type, field, is_filler, is_printable, set_title, open_end}
+use Rattle.airline_base.specs.Bytes.{header_type, carrier_type, leg_type, segment_type, trailer_type, field, is_filler, is_printable, set_title, open_end}
 
 -- ---- fields
 

@@ -3,7 +3,7 @@ ghost use Rattle.std.specs.Prelude.{◌≡◌, option_map};
 ghost use Rattle.std.specs.Result.{result_map_both};
 ghost use Rattle.ssim_records.specs.Cut.{end_at, cut_at};
 
-use crate::fields::are_printable;
+use airline_base::fields::are_printable;
 use crate::set_fault::SetKind;
 
 fn after_end(bytes: &[u8]) -> Option<&[u8]>

@@ -1,14 +1,6 @@
 //! Laws of the definitions, each on a function that does nothing.
-ghost use Rattle.ssim_records.specs.Days.{WrittenIsRead, ReadIsWritten, OneDateText};
 ghost use Rattle.ssim_records.specs.SetFaults.{OneFirstFault};
 ghost use Rattle.ssim_records.specs.SetText.{OneCut, OneDataSet};
-
-/// `Day::bytes` and `Day::read` undo each other in the years 2000 to 2099.
-pub fn day_texts_are_inverse()
-    ensures read { WrittenIsRead }
-    ensures written { ReadIsWritten }
-    ensures one { OneDateText }
-{}
 
 /// No bytes can be cut into records in two ways, none are two data sets, and none have two first faults.
 pub fn data_sets_are_unique()

@@ -1,6 +1,6 @@
 //! A data set, and the list of its legs.
 use crate::carrier::{Carrier, Leg};
-use crate::items::Items;
+use airline_base::Items;
 
 /// A data set of one airline (SSIM chapter 7).
 #[derive(Drop)]

@@ -1,6 +1,6 @@
 //! Segment lines on days that no flight can have, and a line without bytes.
 use airimp_lines::{LineFault, Segment, read_segment};
-use ssim_records::Day;
+use airline_base::Day;
 
 /// What a line says on 1 March 2096.
 fn read(line: &[u8]) -> Option<Result<Segment, LineFault>> {

@@ -1,5 +1,5 @@
 //! Names of other lengths than any text gives, and days of other years.
-use ssim_records::{Airline, Code, Day, Locator, Station};
+use airline_base::{Airline, Code, Day, Locator, Station};
 
 #[test]
 fn lengths_of_names(rt: HostRuntime) {

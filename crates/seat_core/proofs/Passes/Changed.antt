@@ -6,8 +6,8 @@ use Rattle.seat_nesting.specs.Counting.{Counted, IsWithinLimits, limits_of, seat
 use Rattle.seat_nesting.specs.Changing.{Sets, can_set, may_have_below, step_of}
 use Rattle.seat_nesting.proofs.LimitChanges.{can_parts, can_set_back, limits_back}
 use Rattle.seat_journal.specs.declared.entry.Change.{Change}
-use Rattle.seat_core.specs.Sequential.{changed_by}
-use Rattle.seat_core.proofs.Counters.Changes.{held_as_before}
+use Rattle.seat_rules.specs.Sequential.{changed_by}
+use Rattle.seat_rules.proofs.Counters.Changes.{held_as_before}
 use Rattle.seat_core.proofs.Passes.Undone.{ladder_is}
 
 missing_below : (above : ℕ) (steps : Steps) (seats : ByClass) (class limit : ℕ) → step_of steps class ≡ None → may_have_below above steps seats class limit ≡ false

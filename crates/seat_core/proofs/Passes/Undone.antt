@@ -2,24 +2,24 @@
 use Rattle.std.proofs.Common.{◌≡◌, ◌≢◌, ◌==◌, ◌&&◌, ℕ, zero, suc, ◌+◌, ◌-◌, ◌<◌, ◌≤◌, Bool, true, false, nat_le, nat_lt, List, [], ◌∷◌, ◌++◌, length, drop, get_or, map, arith, refl, ap, sym, subst, ◌∙◌, append_assoc}
 use Rattle.std.proofs.lemmas.Bool.Decides.{nat_tests}
 use Rattle.std.proofs.lemmas.List.Sums.{sum_by-cons}
-use Rattle.ssim_records.specs.declared.place.Place.{Place}
+use Rattle.airline_base.specs.declared.place.Place.{Place}
 use Rattle.seat_nesting.specs.declared.ladder.Step.{Step}
 use Rattle.seat_nesting.specs.Nesting.{Steps, Legs, Table, IsWithin, IsDistinct, held_from, has_class, ladder_at, steps_at, each_leg, least, room, room_on, covers, seats_at}
 use Rattle.seat_nesting.specs.Counting.{Counted, LegSeats, IsWithinLimits, leg_at, leg_in, limits_of, seats_of, holds, leg_holds, Takes}
 use Rattle.seat_nesting.proofs.CountChanges.{fits_each, fits_forwards, held_each, held_forwards}
-use Rattle.seat_core.specs.declared.booking.Booking.{Booking}
+use Rattle.seat_rules.specs.declared.booking.Booking.{Booking}
 use Rattle.seat_journal.specs.declared.entry.Advice.{Advice}
-use Rattle.seat_core.specs.Bookings.{is_waiting}
-use Rattle.seat_core.specs.Queues.{none_fits}
-use Rattle.seat_core.specs.Sequential.{advice_of}
-use Rattle.seat_core.specs.Showing.{given_back, taken_up, shown_advices, taken_back}
-use Rattle.seat_core.specs.Tables.{advices_by, told_of, with_advice}
-use Rattle.seat_core.proofs.History.Prefixes.{drop_at}
-use Rattle.seat_core.proofs.Counters.Limits.{IsMore, held_lacking}
-use Rattle.seat_core.proofs.Counters.Changes.{same_table, taken}
-use Rattle.seat_core.proofs.Counters.Shown.{room_missing, give_none, each_true, covers_at}
-use Rattle.seat_core.proofs.Step.Limits.{both}
-use Rattle.seat_core.proofs.Passes.ByTable.{if_zero}
+use Rattle.seat_rules.specs.Bookings.{is_waiting}
+use Rattle.seat_bookings.specs.Queues.{none_fits}
+use Rattle.seat_rules.specs.Sequential.{advice_of}
+use Rattle.seat_rules.specs.Showing.{given_back, taken_up, shown_advices, taken_back}
+use Rattle.seat_rules.specs.Tables.{advices_by, told_of, with_advice}
+use Rattle.seat_rules.proofs.History.Prefixes.{drop_at}
+use Rattle.seat_rules.proofs.Counters.Limits.{IsMore, held_lacking}
+use Rattle.seat_rules.proofs.Counters.Changes.{same_table, taken}
+use Rattle.seat_rules.proofs.Counters.Shown.{room_missing, give_none, each_true, covers_at}
+use Rattle.seat_rules.proofs.Step.Limits.{both}
+use Rattle.seat_rules.proofs.Passes.ByTable.{if_zero}
 
 -- ---- seats that were given back fit again
 

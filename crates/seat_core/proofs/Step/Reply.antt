@@ -3,36 +3,36 @@ use Rattle.std.proofs.Common.{◌≡◌, ◌==◌, ◌&&◌, ℕ, zero, suc, ◌
 use Rattle.std.specs.List.{AllByRecursion}
 use Rattle.std.proofs.lemmas.List.Sums.{sum_by-cons}
 use Rattle.std.proofs.lemmas.Bool.Decides.{nat_tests}
-use Rattle.ssim_records.specs.declared.place.Place.{Place}
+use Rattle.airline_base.specs.declared.place.Place.{Place}
 use Rattle.seat_nesting.specs.Nesting.{Legs, Table, ByClass, Fits, room, may_wait, ladder_at, each_leg, seats_at}
 use Rattle.seat_nesting.specs.Counting.{Counted, limits_of, seats_of, holds, leg_holds}
 use Rattle.seat_nesting.specs.Changing.{can_set, may_have}
-use Rattle.seat_core.specs.declared.action.Wish.TheVariants.{Need}
-use Rattle.seat_core.specs.declared.booking.Booking.{Booking}
-use Rattle.seat_core.specs.declared.booking.Status.TheVariants.{Held, Waiting}
-use Rattle.seat_core.specs.declared.books.FlightBook.{FlightBook}
+use Rattle.seat_rules.specs.declared.action.Wish.TheVariants.{Need}
+use Rattle.seat_rules.specs.declared.booking.Booking.{Booking}
+use Rattle.seat_rules.specs.declared.booking.Status.TheVariants.{Held, Waiting}
+use Rattle.seat_bookings.specs.declared.books.FlightBook.{FlightBook}
 use Rattle.seat_journal.specs.declared.entry.Advice.{Advice}
 use Rattle.seat_journal.specs.declared.entry.Change.{Change}
 use Rattle.seat_journal.specs.declared.entry.Command.{Command}
 use Rattle.seat_journal.specs.declared.entry.Work.{Work}
 use Rattle.seat_journal.specs.declared.entry.Work.TheVariants.{Seats, Limit}
 use Rattle.seat_journal.specs.declared.entry.Entry.{Entry}
-use Rattle.seat_core.specs.Answers.{IsAsked, IsFlight, Lacks, rest_advised}
-use Rattle.seat_core.specs.Bookings.{is_for, is_held, is_waiting, held, waiting, seats_on}
-use Rattle.seat_core.specs.Books.{book_at, queue_at, IsKept}
-use Rattle.seat_core.specs.Flights.{bookings_on}
-use Rattle.seat_core.specs.Journal.{replay, FitsWork}
-use Rattle.seat_core.specs.Queues.{queue_of, first_waits}
-use Rattle.seat_core.specs.Sequential.{State, state_of, want_new, refused, may_change, pass, reduced, advice_of, booking_of, may_confirm, NoneFits, NoneFitsAmong}
-use Rattle.seat_core.specs.Showing.{given_back}
-use Rattle.seat_core.specs.Tables.{advices_by, with_advice}
-use Rattle.seat_core.proofs.Flight.View.{room_same, may_wait_same, room_of_flight, held_view, bookings_view}
-use Rattle.seat_core.proofs.Kept.Books.{few_in_book, kept_queued}
-use Rattle.seat_core.proofs.Waitlists.Queue.{waiting_queue, reduced_holds}
-use Rattle.seat_core.proofs.Passes.Quiet.{room_less}
-use Rattle.seat_core.proofs.Counters.Shown.{held_waits, cancel_shown, give_none, lacks_replay}
-use Rattle.seat_core.proofs.Passes.ByTable.{pass_is_by_table, is_for_facts}
-use Rattle.seat_core.proofs.Passes.Weights.{found_passes}
+use Rattle.seat_core.specs.Answers.{IsAsked, IsFlight, rest_advised}
+use Rattle.seat_rules.specs.Tables.{Lacks, advices_by, with_advice}
+use Rattle.seat_rules.specs.Bookings.{is_for, is_held, is_waiting, held, waiting, seats_on}
+use Rattle.seat_bookings.specs.Books.{book_at, queue_at, IsKept}
+use Rattle.seat_rules.specs.Flights.{bookings_on}
+use Rattle.seat_rules.specs.Journal.{replay, FitsWork}
+use Rattle.seat_bookings.specs.Queues.{queue_of, first_waits}
+use Rattle.seat_rules.specs.Sequential.{State, state_of, want_new, refused, may_change, pass, reduced, advice_of, booking_of, may_confirm, NoneFits, NoneFitsAmong}
+use Rattle.seat_rules.specs.Showing.{given_back}
+use Rattle.seat_rules.proofs.Flight.View.{room_same, may_wait_same, room_of_flight, held_view, bookings_view}
+use Rattle.seat_bookings.proofs.Kept.Books.{few_in_book, kept_queued}
+use Rattle.seat_bookings.proofs.Waitlists.Queue.{waiting_queue, reduced_holds}
+use Rattle.seat_rules.proofs.Passes.Quiet.{room_less}
+use Rattle.seat_rules.proofs.Counters.Shown.{held_waits, cancel_shown, give_none, lacks_replay}
+use Rattle.seat_rules.proofs.Passes.ByTable.{pass_is_by_table, is_for_facts}
+use Rattle.seat_rules.proofs.Passes.Weights.{found_passes}
 
 -- ---- rooms and waiting lists
 

@@ -1,6 +1,6 @@
 use Rattle.std.proofs.Common.{◌∷◌, [], take, decimal}
-use Rattle.ssim_records.specs.Days.{day_month}
-use Rattle.ssim_records.specs.Fields.{suffix_text}
+use Rattle.airline_base.specs.Days.{day_month}
+use Rattle.airline_base.specs.Fields.{suffix_text}
 use Rattle.airimp_lines.proofs.Replies.{put_together, put_as, day_front, reply_spelled}
 use Rattle.airimp_lines.proofs.reply.reply_text.Goals as goal
 

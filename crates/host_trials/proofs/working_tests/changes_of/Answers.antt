@@ -1,5 +1,5 @@
 use Rattle.std.proofs.lemmas.List.Elements.{All-push}
-use Rattle.seat_core.specs.Journal.{FitsChange}
+use Rattle.seat_rules.specs.Journal.{FitsChange}
 use Rattle.host_trials.proofs.working_tests.changes_of.Goals as goal
 
 pub loop-nth-preserved : goal.loop-nth-preserved

@@ -1,5 +1,5 @@
 use Rattle.std.proofs.lemmas.List.Elements.{All-push}
-use Rattle.seat_core.specs.Journal.{FitsCommand}
+use Rattle.seat_rules.specs.Journal.{FitsCommand}
 use Rattle.host_trials.proofs.working_tests.list_of.Goals as goal
 
 pub loop-nth-preserved : goal.loop-nth-preserved

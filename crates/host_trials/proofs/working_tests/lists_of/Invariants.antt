@@ -1,5 +1,5 @@
 use Rattle.std.proofs.Common.{All}
-use Rattle.seat_core.specs.Journal.{FitsCommand}
+use Rattle.seat_rules.specs.Journal.{FitsCommand}
 use Rattle.host_trials.proofs.working_tests.lists_of.Given as goal
 
 abbrev pub invariant-loop-length : goal.invariant-loop-length

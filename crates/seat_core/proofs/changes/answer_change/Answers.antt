@@ -1,7 +1,7 @@
 use Rattle.std.proofs.Common.{◌≡◌, true, refl, sym, ◌∙◌}
 use Rattle.seat_nesting.specs.Counting.{limits_of}
-use Rattle.seat_core.specs.Books.{book_at}
-use Rattle.seat_core.specs.Sequential.{changed_by, may_change, state_of}
+use Rattle.seat_bookings.specs.Books.{book_at}
+use Rattle.seat_rules.specs.Sequential.{changed_by, may_change, state_of}
 use Rattle.seat_core.proofs.Step.Reply.{changed_told, may_is}
 use Rattle.seat_core.proofs.changes.answer_change.Goals as goal
 

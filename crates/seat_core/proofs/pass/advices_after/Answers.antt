@@ -1,7 +1,7 @@
 use Rattle.std.proofs.Common.{◌≡◌, ◌+◌, true, arith, ap, sym, ◌∙◌}
 use Rattle.seat_nesting.specs.Nesting.{Legs, Table, room, seats_at}
 use Rattle.seat_nesting.specs.Counting.{limits_of, seats_of, holds}
-use Rattle.seat_core.proofs.Counters.Changes.{given}
+use Rattle.seat_rules.proofs.Counters.Changes.{given}
 use Rattle.seat_core.proofs.Passes.Undone.{fits_again, given_and_taken}
 use Rattle.seat_core.proofs.pass.advices_after.Goals as goal
 

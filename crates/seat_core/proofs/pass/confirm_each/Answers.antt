@@ -3,10 +3,10 @@ use Rattle.std.proofs.lemmas.List.{append-nil}
 use Rattle.seat_nesting.specs.Nesting.{Legs, Table}
 use Rattle.seat_nesting.specs.Counting.{limits_of, seats_of}
 use Rattle.seat_journal.specs.declared.entry.Advice.{Advice}
-use Rattle.seat_core.specs.declared.booking.Booking.{Booking}
-use Rattle.seat_core.specs.Showing.{shown_advices, taken_back}
-use Rattle.seat_core.specs.Queues.{none_fits}
-use Rattle.seat_core.specs.Tables.{advices_by, told_of}
+use Rattle.seat_rules.specs.declared.booking.Booking.{Booking}
+use Rattle.seat_rules.specs.Showing.{shown_advices, taken_back}
+use Rattle.seat_bookings.specs.Queues.{none_fits}
+use Rattle.seat_rules.specs.Tables.{advices_by, told_of}
 use Rattle.seat_core.proofs.Passes.Undone.{back_next, none_left, told_next}
 use Rattle.seat_core.proofs.pass.confirm_each.Goals as goal
 

@@ -1,8 +1,8 @@
 use Rattle.std.proofs.Common.{◌≡◌, ◌++◌, drop, IfSome}
 use Rattle.seat_nesting.specs.Counting.{limits_of, seats_of}
 use Rattle.seat_nesting.specs.Nesting.{room}
-use Rattle.seat_core.specs.Showing.{taken_back}
-use Rattle.seat_core.specs.Tables.{advices_by}
+use Rattle.seat_rules.specs.Showing.{taken_back}
+use Rattle.seat_rules.specs.Tables.{advices_by}
 use Rattle.seat_core.proofs.pass.confirm_each.Given as goal
 
 abbrev pub invariant-loop-booking : goal.invariant-loop-booking

@@ -1,6 +1,6 @@
 use Rattle.std.proofs.Common.{◌≡◌, ◌≤◌, drop, length}
 use Rattle.seat_nesting.specs.Counting.{limits_of, seats_of}
-use Rattle.seat_core.specs.Showing.{taken_back}
+use Rattle.seat_rules.specs.Showing.{taken_back}
 use Rattle.seat_core.proofs.pass.take_back_each.Given as goal
 
 abbrev pub invariant-loop-at : goal.invariant-loop-at

@@ -1,8 +1,8 @@
 use Rattle.std.proofs.Common.{◌≡◌, rules, refl, ap}
 use Rattle.seat_nesting.specs.Counting.{limits_of}
-use Rattle.seat_core.specs.Books.{book_at, book_for}
-use Rattle.seat_core.specs.Sequential.{state_of}
-use Rattle.seat_core.proofs.Step.Found.{answers_want, answers_taken, answers_cancel, answers_missing}
+use Rattle.seat_bookings.specs.Books.{book_at, book_for}
+use Rattle.seat_rules.specs.Sequential.{state_of}
+use Rattle.seat_rules.proofs.Step.Found.{answers_want, answers_taken, answers_cancel, answers_missing}
 use Rattle.seat_core.proofs.reply.answer_command.Goals as goal
 
 pub returns-in-None : goal.returns-in-None

@@ -2,12 +2,12 @@ use Rattle.std.proofs.Common.{◌≡◌, ◌∷◌, [], true, false, nat_le, cod
 use Rattle.std.proofs.lemmas.Bool.{and_parts}
 use Rattle.seat_nesting.specs.Nesting.{room, may_wait, is_listed}
 use Rattle.seat_nesting.specs.Counting.{limits_of}
-use Rattle.seat_core.specs.declared.booking.Status.TheVariants.{Waiting}
-use Rattle.seat_core.specs.Bookings.{held, waiting}
-use Rattle.seat_core.specs.Books.{book_at}
-use Rattle.seat_core.specs.Sequential.{advice_of, booking_of, state_of, want_new, refused}
+use Rattle.seat_rules.specs.declared.booking.Status.TheVariants.{Waiting}
+use Rattle.seat_rules.specs.Bookings.{held, waiting}
+use Rattle.seat_bookings.specs.Books.{book_at}
+use Rattle.seat_rules.specs.Sequential.{advice_of, booking_of, state_of, want_new, refused}
 use Rattle.seat_core.proofs.Step.Reply.{fits_yes, fits_no, room_is, queued_is, need_closed}
-use Rattle.seat_core.specs.declared.action.Wish.TheVariants.{Need}
+use Rattle.seat_rules.specs.declared.action.Wish.TheVariants.{Need}
 use Rattle.seat_core.proofs.reply.book_seats.Goals as goal
 
 pub returns-then-fits : goal.returns-then-fits

@@ -1,8 +1,8 @@
 use Rattle.std.proofs.Common.{◌≡◌, ◌≤◌, nat_le, true, Some, slice_get, arith, sym, ◌∙◌}
 use Rattle.std.proofs.lemmas.Bool.Decides.{nat_tests}
-use Rattle.seat_core.specs.Bookings.{is_for}
-use Rattle.seat_core.specs.Books.{book_at}
-use Rattle.seat_core.proofs.Step.Found.{find_found, found_at}
+use Rattle.seat_rules.specs.Bookings.{is_for}
+use Rattle.seat_bookings.specs.Books.{book_at}
+use Rattle.seat_rules.proofs.Step.Found.{find_found, found_at}
 use Rattle.seat_core.proofs.reply.cancel_seats.Goals as goal
 
 pub advices_without-requires-clause-found : goal.advices_without-requires-clause-found

@@ -1,6 +1,6 @@
 use Rattle.std.proofs.Common.{[], sym, ◌∙◌}
 use Rattle.seat_nesting.specs.Counting.{limits_of}
-use Rattle.seat_core.specs.Books.{book_at}
+use Rattle.seat_bookings.specs.Books.{book_at}
 use Rattle.seat_core.proofs.Step.Reply.{may_wait_is}
 use Rattle.seat_core.proofs.reply.may_queue.Goals as goal
 

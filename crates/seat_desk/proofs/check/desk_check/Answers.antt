@@ -1,6 +1,6 @@
 use Rattle.std.proofs.Common.{ℕ, List, inr, subst}
 use Rattle.std.specs.Io.KnownBytes.{Appends}
-use Rattle.ssim_records.specs.Noting.{TookFront}
+use Rattle.airline_base.specs.Noting.{TookFront}
 use Rattle.seat_desk.specs.CheckDesk.{Sums}
 use Rattle.seat_desk.proofs.ReadWhole.{of_input}
 use Rattle.seat_desk.proofs.check.desk_check.Goals as goal

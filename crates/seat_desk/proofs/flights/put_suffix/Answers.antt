@@ -1,6 +1,6 @@
 use Rattle.std.proofs.Common.{◌∙◌, ◌++◌, ap, sym}
 use Rattle.std.proofs.lemmas.List.{append-nil}
-use Rattle.ssim_records.specs.Fields.{suffix_text}
+use Rattle.airline_base.specs.Fields.{suffix_text}
 use Rattle.seat_desk.proofs.flights.put_suffix.Goals as goal
 
 pub returns-in-None : goal.returns-in-None

@@ -1,4 +1,4 @@
-use Rattle.seat_core.specs.Inventory.{state_now}
+use Rattle.seat_rules.specs.Inventory.{state_now}
 use Rattle.seat_desk.specs.LadderDesk.{room_text}
 use Rattle.seat_desk.proofs.Texts.{each_more, each_whole}
 use Rattle.seat_desk.proofs.ladder.put_rooms.Goals as goal

@@ -1,7 +1,7 @@
 use Rattle.std.proofs.Common.{ap, subst, List}
 use Rattle.seat_journal.specs.declared.entry.Entry.{Entry}
 use mathlib.Core.List.{IsPrefix}
-use Rattle.seat_core.proofs.History.Prefixes.{begins_shorter}
+use Rattle.seat_rules.proofs.History.Prefixes.{begins_shorter}
 use Rattle.seat_display.proofs.Fronts.{begins_of}
 use Rattle.seat_display.proofs.viewer.compare.Goals as goal
 

@@ -1,5 +1,5 @@
 use Rattle.std.proofs.Common.{◌≡◌, take}
-use Rattle.seat_host.specs.Histories.{of_session}
+use Rattle.seat_rules.specs.Histories.{of_session}
 use Rattle.seat_host.proofs.seating.receipts_of.Given as goal
 
 abbrev pub invariant-loop-line : goal.invariant-loop-line

@@ -1,6 +1,6 @@
 use Rattle.std.proofs.Common.{ap, sym, ◌∙◌}
-use Rattle.seat_core.specs.Totals.{totals_of}
-use Rattle.seat_host.specs.Histories.{by_session}
+use Rattle.seat_rules.specs.Totals.{totals_of}
+use Rattle.seat_rules.specs.Histories.{by_session}
 use Rattle.seat_host.proofs.Agreeing.{headline_of}
 use Rattle.seat_host.proofs.settling.gather.Goals as goal
 

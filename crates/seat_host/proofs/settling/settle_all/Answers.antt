@@ -1,5 +1,5 @@
 use Rattle.std.proofs.Common.{◌≡◌, ◌∙◌, ap, arith, length}
-use Rattle.seat_host.specs.Histories.{by_session}
+use Rattle.seat_rules.specs.Histories.{by_session}
 use Rattle.seat_host.proofs.Gathered.{ends}
 use Rattle.seat_host.proofs.settling.settle_all.Goals as goal
 

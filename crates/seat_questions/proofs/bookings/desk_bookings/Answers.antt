@@ -1,7 +1,7 @@
 use Rattle.std.proofs.Common.{ℕ, List, inr, subst}
 use Rattle.std.specs.Io.KnownBytes.{Appends}
 use Rattle.std.proofs.lemmas.Result.{err_from_is_err_and}
-use Rattle.ssim_records.specs.Noting.{TookFront}
+use Rattle.airline_base.specs.Noting.{TookFront}
 use Rattle.seat_questions.proofs.LiveTexts.{bookings_of_all, load_is_refused}
 use Rattle.seat_questions.proofs.bookings.desk_bookings.Goals as goal
 

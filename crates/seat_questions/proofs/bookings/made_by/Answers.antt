@@ -1,6 +1,6 @@
 use Rattle.std.proofs.Common.{ap, subst, sym, ◌∙◌}
-use Rattle.seat_core.specs.Applying.{IsOrdered}
-use Rattle.seat_core.specs.Inventory.{state_now}
+use Rattle.seat_rules.specs.Applying.{IsOrdered}
+use Rattle.seat_rules.specs.Inventory.{state_now}
 use Rattle.seat_questions.specs.LiveBookings.{numbered, own}
 use Rattle.seat_questions.proofs.Picking.{in_order, made_asked, made_fits, made_found, made_none, made_unasked}
 use Rattle.seat_questions.proofs.bookings.made_by.Goals as goal

@@ -1,6 +1,6 @@
 use Rattle.std.proofs.Common.{rules}
 use Rattle.std.proofs.lemmas.List.Sorted.{answers_always}
-use Rattle.seat_core.specs.declared.booking.Booking.{Booking}
+use Rattle.seat_rules.specs.declared.booking.Booking.{Booking}
 use Rattle.seat_questions.proofs.Picking.{found_by_number, none_by_number}
 use Rattle.seat_questions.proofs.bookings.with_number.Goals as goal
 

@@ -1,8 +1,8 @@
 -- The classes so far are counted.
 use Rattle.std.proofs.Common.{◌≡◌, ◌≤◌, ◌*◌, take}
 use Rattle.seat_nesting.specs.Nesting.{held_from}
-use Rattle.seat_core.specs.Bookings.{held}
-use Rattle.seat_core.specs.Inventory.{state_now}
+use Rattle.seat_rules.specs.Bookings.{held}
+use Rattle.seat_rules.specs.Inventory.{state_now}
 use Rattle.seat_questions.proofs.legs.held_from.Given as goal
 
 abbrev pub invariant-loop-step : goal.invariant-loop-step

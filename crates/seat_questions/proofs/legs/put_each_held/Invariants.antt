@@ -1,7 +1,7 @@
 -- The classes so far are written, and those that are left make the text whole.
 use Rattle.std.proofs.Common.{◌≡◌, ◌++◌, drop}
-use Rattle.seat_core.specs.Bookings.{held}
-use Rattle.seat_core.specs.Inventory.{state_now}
+use Rattle.seat_rules.specs.Bookings.{held}
+use Rattle.seat_rules.specs.Inventory.{state_now}
 use Rattle.seat_questions.specs.Why.{held_texts}
 use Rattle.seat_questions.proofs.legs.put_each_held.Given as goal
 

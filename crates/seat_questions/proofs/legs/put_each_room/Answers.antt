@@ -1,5 +1,5 @@
 use Rattle.std.proofs.Common.{ℕ, ◌++◌, ap, ◌∙◌}
-use Rattle.seat_core.specs.Inventory.{state_now}
+use Rattle.seat_rules.specs.Inventory.{state_now}
 use Rattle.seat_desk.proofs.Texts.{each_more, each_whole}
 use Rattle.seat_questions.specs.Why.{class_text, room_text}
 use Rattle.seat_questions.proofs.legs.put_each_room.Goals as goal

@@ -1,7 +1,7 @@
 -- The rooms so far are written.
 use Rattle.std.proofs.Common.{◌≡◌, ◌++◌, take}
 use Rattle.std.specs.List.{flat_map}
-use Rattle.seat_core.specs.Inventory.{state_now}
+use Rattle.seat_rules.specs.Inventory.{state_now}
 use Rattle.seat_questions.specs.Why.{room_text}
 use Rattle.seat_questions.proofs.legs.put_each_room.Given as goal
 

@@ -1,5 +1,5 @@
-use Rattle.seat_core.specs.Bookings.{waiting}
-use Rattle.seat_core.specs.Inventory.{state_now}
+use Rattle.seat_rules.specs.Bookings.{waiting}
+use Rattle.seat_rules.specs.Inventory.{state_now}
 use Rattle.seat_desk.proofs.Texts.{each_more, each_whole}
 use Rattle.seat_questions.specs.Why.{wait_text}
 use Rattle.seat_questions.proofs.legs.put_each_wait.Goals as goal

@@ -1,8 +1,8 @@
 -- The classes so far are written.
 use Rattle.std.proofs.Common.{◌≡◌, ◌++◌, take}
 use Rattle.std.specs.List.{flat_map}
-use Rattle.seat_core.specs.Bookings.{waiting}
-use Rattle.seat_core.specs.Inventory.{state_now}
+use Rattle.seat_rules.specs.Bookings.{waiting}
+use Rattle.seat_rules.specs.Inventory.{state_now}
 use Rattle.seat_questions.specs.Why.{wait_text}
 use Rattle.seat_questions.proofs.legs.put_each_wait.Given as goal
 

@@ -1,5 +1,5 @@
 use Rattle.std.proofs.Common.{ℕ, subst, sym, zero-add}
-use Rattle.seat_core.specs.Inventory.{state_now}
+use Rattle.seat_rules.specs.Inventory.{state_now}
 use Rattle.seat_desk.proofs.Texts.{put_more}
 use Rattle.seat_questions.specs.Why.{IsLegPart}
 use Rattle.seat_questions.proofs.legs.put_legs.Goals as goal

@@ -1,6 +1,6 @@
 -- The legs so far are written.
 use Rattle.std.proofs.Common.{take}
-use Rattle.seat_core.specs.Inventory.{state_now}
+use Rattle.seat_rules.specs.Inventory.{state_now}
 use Rattle.seat_desk.specs.FlightsDesk.{IsPut}
 use Rattle.seat_questions.specs.Why.{IsLegPart}
 use Rattle.seat_questions.proofs.legs.put_legs.Given as goal

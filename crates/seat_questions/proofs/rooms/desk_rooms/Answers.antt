@@ -1,6 +1,6 @@
 use Rattle.std.proofs.Common.{ℕ, List, inr, subst}
 use Rattle.std.specs.Io.KnownBytes.{Appends}
-use Rattle.ssim_records.specs.Noting.{TookFront}
+use Rattle.airline_base.specs.Noting.{TookFront}
 use Rattle.seat_questions.proofs.RoomGrounds.{rooms_of}
 use Rattle.seat_questions.proofs.rooms.desk_rooms.Goals as goal
 

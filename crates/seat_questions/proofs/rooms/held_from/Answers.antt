@@ -1,6 +1,6 @@
 use Rattle.std.proofs.Common.{arith, ◌+◌, ◌≤◌}
 use Rattle.seat_nesting.specs.declared.ladder.Step.{Step}
-use Rattle.seat_core.specs.Bookings.{held}
+use Rattle.seat_rules.specs.Bookings.{held}
 use Rattle.seat_questions.proofs.RoomTexts.{part_fits, sum_counts, sum_fits, sum_whole}
 use Rattle.seat_questions.proofs.rooms.held_from.Goals as goal
 

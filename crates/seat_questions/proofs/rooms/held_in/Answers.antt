@@ -1,5 +1,5 @@
 use Rattle.std.proofs.Common.{arith, ◌+◌, ◌≤◌}
-use Rattle.seat_core.specs.Bookings.{seats_on}
+use Rattle.seat_rules.specs.Bookings.{seats_on}
 use Rattle.seat_questions.proofs.RoomTexts.{sum_counts, sum_fits, sum_whole}
 use Rattle.seat_questions.proofs.rooms.held_in.Goals as goal
 

@@ -1,5 +1,5 @@
 use Rattle.std.proofs.Common.{ℕ, subst, sym, zero-add}
-use Rattle.seat_core.specs.Inventory.{state_now}
+use Rattle.seat_rules.specs.Inventory.{state_now}
 use Rattle.seat_desk.proofs.Texts.{put_more}
 use Rattle.seat_questions.specs.Rooms.{IsFirstPart}
 use Rattle.seat_questions.proofs.rooms.put_flight.Goals as goal

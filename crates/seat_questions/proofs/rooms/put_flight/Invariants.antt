@@ -1,6 +1,6 @@
 -- The first legs so far are written.
 use Rattle.std.proofs.Common.{take}
-use Rattle.seat_core.specs.Inventory.{state_now}
+use Rattle.seat_rules.specs.Inventory.{state_now}
 use Rattle.seat_desk.specs.FlightsDesk.{IsPut}
 use Rattle.seat_questions.specs.Rooms.{IsFirstPart}
 use Rattle.seat_questions.proofs.rooms.put_flight.Given as goal

@@ -1,4 +1,4 @@
-use Rattle.seat_core.specs.Bookings.{held}
+use Rattle.seat_rules.specs.Bookings.{held}
 use Rattle.seat_questions.proofs.RoomTexts.{top_fits}
 use Rattle.seat_questions.proofs.rooms.put_ranks.Goals as goal
 

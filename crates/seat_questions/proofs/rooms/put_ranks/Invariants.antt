@@ -1,7 +1,7 @@
 -- The bars of the ranks so far are written, and those of the rest are still to come.
 use Rattle.std.proofs.Common.{◌≡◌, ◌++◌, length}
 use Rattle.seat_nesting.specs.Nesting.{IsWithin}
-use Rattle.seat_core.specs.Bookings.{held}
+use Rattle.seat_rules.specs.Bookings.{held}
 use Rattle.seat_questions.specs.Rooms.{bar_lines}
 use Rattle.seat_questions.proofs.rooms.put_ranks.Given as goal
 

@@ -1,4 +1,4 @@
-use Rattle.seat_core.specs.Inventory.{state_now}
+use Rattle.seat_rules.specs.Inventory.{state_now}
 use Rattle.seat_questions.specs.Rooms.{room_text}
 use Rattle.seat_desk.proofs.Texts.{each_more}
 use Rattle.seat_questions.proofs.rooms.put_rooms.Goals as goal

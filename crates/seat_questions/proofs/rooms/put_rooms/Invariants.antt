@@ -1,7 +1,7 @@
 -- The rooms so far are written.
 use Rattle.std.proofs.Common.{◌≡◌, ◌++◌, take}
 use Rattle.std.specs.List.{flat_map}
-use Rattle.seat_core.specs.Inventory.{state_now}
+use Rattle.seat_rules.specs.Inventory.{state_now}
 use Rattle.seat_questions.specs.Rooms.{room_text}
 use Rattle.seat_questions.proofs.rooms.put_rooms.Given as goal
 

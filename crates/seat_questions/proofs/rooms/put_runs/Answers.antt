@@ -1,6 +1,6 @@
 use Rattle.std.proofs.Common.{◌+◌, ◌-◌, length, take, drop, subst}
 use Rattle.ssim_flights.specs.declared.flight.DatedLeg.{DatedLeg}
-use Rattle.seat_core.specs.Inventory.{state_now}
+use Rattle.seat_rules.specs.Inventory.{state_now}
 use Rattle.seat_desk.proofs.Texts.{put_more}
 use Rattle.seat_questions.specs.Rooms.{IsLastPart, IsRunText, place_of}
 use Rattle.seat_questions.proofs.rooms.put_runs.Goals as goal

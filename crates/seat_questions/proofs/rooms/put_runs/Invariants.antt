@@ -1,6 +1,6 @@
 -- The last legs so far are written.
 use Rattle.std.proofs.Common.{take}
-use Rattle.seat_core.specs.Inventory.{state_now}
+use Rattle.seat_rules.specs.Inventory.{state_now}
 use Rattle.seat_desk.specs.FlightsDesk.{IsPut}
 use Rattle.seat_questions.specs.Rooms.{IsLastPart}
 use Rattle.seat_questions.proofs.rooms.put_runs.Given as goal

@@ -1,5 +1,5 @@
 use Rattle.std.proofs.Common.{ℕ, List, inr, subst}
-use Rattle.ssim_records.specs.Noting.{TookFront}
+use Rattle.airline_base.specs.Noting.{TookFront}
 use Rattle.seat_questions.proofs.Reasons.{why_of}
 use Rattle.seat_questions.proofs.why.desk_why.Goals as goal
 

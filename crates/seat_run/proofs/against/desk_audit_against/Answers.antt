@@ -1,7 +1,7 @@
 use Rattle.std.proofs.Common.{ℕ, List, inr, map, subst}
 use Rattle.std.proofs.lemmas.Result.{err_from_is_err_and}
 use Rattle.std.specs.Io.KnownBytes.{Appends}
-use Rattle.ssim_records.specs.Noting.{TookFront}
+use Rattle.airline_base.specs.Noting.{TookFront}
 use Rattle.seat_run.proofs.Beside.{audited, refused_journal, refused_script, refused_unasked}
 use Rattle.seat_run.proofs.against.desk_audit_against.Goals as goal
 

@@ -2,8 +2,8 @@ use Rattle.std.proofs.Common.{◌≡◌, ℕ, List, length, refl, subst, sym}
 use Rattle.std.proofs.lemmas.Option.{slice_get_past, slice_get_read}
 use Rattle.seat_nesting.specs.Nesting.{Legs}
 use Rattle.seat_journal.specs.declared.entry.Entry.{Entry}
-use Rattle.seat_core.specs.Journal.{IsLegal}
-use Rattle.seat_core.specs.Prefixes.{Begins}
+use Rattle.seat_rules.specs.Journal.{IsLegal}
+use Rattle.seat_rules.specs.Prefixes.{Begins}
 use Rattle.seat_run.specs.Against.{IsNoBeginning}
 use Rattle.seat_run.proofs.Beginnings.{begins_all, part_end, part_here, same_more}
 use Rattle.seat_run.proofs.against.parting.Goals as goal

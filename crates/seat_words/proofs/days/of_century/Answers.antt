@@ -1,5 +1,5 @@
 use Rattle.std.proofs.Common.{◌+◌, arith}
-use Rattle.ssim_records.proofs.DateLaws.{civil_is}
+use Rattle.airline_base.proofs.DateLaws.{civil_is}
 use Rattle.seat_words.proofs.days.of_century.Goals as goal
 
 pub returns : goal.returns

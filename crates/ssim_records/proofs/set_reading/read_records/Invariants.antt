@@ -1,5 +1,5 @@
 use Rattle.std.proofs.Common.{◌≡◌, ◌+◌, ◌-◌, ◌≤◌, length, Ok}
-use Rattle.ssim_records.specs.Reach.{reach}
+use Rattle.airline_base.specs.Reach.{reach}
 use Rattle.ssim_records.specs.SetSteps.{next, fresh, IsCounted}
 use Rattle.ssim_records.proofs.set_reading.read_records.Given as goal
 

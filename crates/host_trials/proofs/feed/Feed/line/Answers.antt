@@ -1,6 +1,6 @@
 use Rattle.std.proofs.Common.{◌≡◌, ◌<◌, ◌++◌, List, length, get_or, take, ap, sym, subst, ◌∙◌, arith}
 use Rattle.seat_journal.specs.declared.entry.Entry.{Entry}
-use Rattle.seat_core.specs.Journal.{IsLegal}
+use Rattle.seat_rules.specs.Journal.{IsLegal}
 use Rattle.host_trials.proofs.Feeding.{fed_legal}
 use Rattle.host_trials.proofs.feed.Feed.line.Goals as goal
 

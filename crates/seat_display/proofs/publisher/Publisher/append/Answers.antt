@@ -1,6 +1,6 @@
 use Rattle.std.proofs.Common.{◌+◌, ◌<◌, ◌^◌, ◌++◌, ◌∷◌, [], ap, ◌∙◌, sym, subst, arith, length, drop}
 use Rattle.left_right.specs.Sides.{view}
-use Rattle.seat_core.specs.Journal.{IsLegal}
+use Rattle.seat_rules.specs.Journal.{IsLegal}
 use Rattle.seat_display.specs.Faces.{Published}
 use Rattle.seat_display.specs.declared.table.View.{View}
 use Rattle.seat_display.specs.Shown.{entries_of}

@@ -1,6 +1,6 @@
 use Rattle.std.proofs.Common.{◌≤◌, ap, subst, List, length, arith}
 use Rattle.seat_journal.specs.declared.entry.Entry.{Entry}
-use Rattle.seat_core.specs.Prefixes.{Begins}
+use Rattle.seat_rules.specs.Prefixes.{Begins}
 use Rattle.seat_display.proofs.viewer.Viewer.look.Goals as goal
 
 pub returns-clause-front : goal.returns-clause-front

@@ -1,0 +1,11 @@
+pub mod Chains
+pub mod DateLaws
+pub mod Digits
+pub mod LeadingFields
+pub mod LeadingRuns
+pub mod LineCuts
+pub mod Reaches
+pub mod Sending
+pub mod Tests
+pub mod Turning
+pub mod Years

@@ -1,0 +1,10 @@
+pub mod Bytes
+pub mod Chains
+pub mod Counting
+pub mod Days
+pub mod FaultText
+pub mod Fields
+pub mod Lines
+pub mod Names
+pub mod Noting
+pub mod Reach

@@ -1,0 +1,3 @@
+-- What an inventory keeps.
+pub mod Books
+pub mod Entering

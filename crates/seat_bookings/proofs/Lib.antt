@@ -1,0 +1,3 @@
+pub mod Live
+pub mod Waitlists
+pub mod Kept

@@ -1,0 +1,28 @@
+use Rattle.std.proofs.Common.{◌≡◌, List, remove, ap, subst, sym, ◌∙◌}
+use Rattle.seat_rules.specs.declared.booking.Booking.{Booking}
+use Rattle.seat_bookings.specs.Demands.{least_with, smallest_of, demand_smallest, settled, IsIndexed}
+use Rattle.seat_bookings.proofs.Waitlists.Departures.{demand_enough, demand_least, left}
+use Rattle.seat_bookings.proofs.waiting_list.take_at.Goals as goal
+
+pub leave-requires-clause-enough : goal.leave-requires-clause-enough
+leave-requires-clause-enough c =
+    demand_enough c.args.bookings.now.items c.args.demands.now.items c.args.at c.remove-gone.result c.requires.indexed c.requires.within c.remove-gone.ensures.value
+
+pub leave-requires-clause-least : goal.leave-requires-clause-least
+leave-requires-clause-least c =
+    let b = c.remove-gone.result in
+    let ps = c.args.demands.now.items in
+    let P : List Booking → Type 0 = λ ys. demand_smallest b.place b.class ps ≡ least_with b.seats (smallest_of b.place b.class ys) in
+    subst P (sym (c.deref.ensures.value ∙ c.remove-gone.ensures.items)) (demand_least c.args.bookings.now.items ps c.args.at b c.requires.indexed c.requires.within c.remove-gone.ensures.value)
+
+pub returns-clause-indexed : goal.returns-clause-indexed
+returns-clause-indexed c =
+    let b = c.remove-gone.result in
+    let xs = c.args.bookings.now.items in
+    let ps = c.args.demands.now.items in
+    let same : c.deref.result.now ≡ remove xs c.args.at = c.deref.ensures.value ∙ c.remove-gone.ensures.items in
+    let new : c.leave.new.demands.items ≡ settled ps b.place b.class (smallest_of b.place b.class (remove xs c.args.at)) b.seats =
+    c.leave.ensures ∙ ap (λ (ys : List Booking). settled ps b.place b.class (smallest_of b.place b.class ys) b.seats) same in
+    let P : List Booking → Type 0 = λ ys. IsIndexed ys c.leave.new.demands.items in
+    subst P (sym c.remove-gone.ensures.items)
+    (subst (IsIndexed (remove xs c.args.at)) (sym new) (left xs ps c.args.at b c.requires.indexed c.requires.within c.remove-gone.ensures.value))

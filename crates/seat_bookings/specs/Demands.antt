@@ -1,0 +1,93 @@
+-- The demands of a waiting list: what waits for each place and class, kept beside the bookings.
+use Rattle.std.specs.Prelude.{◌≡◌, ℕ, ◌==◌, ◌&&◌, ◌+◌, ◌-◌, ◌<◌, ◌^◌, nat_lt, min, Bool, true, false, List, [], ◌∷◌, Option, Some, None, if◌then◌else◌}
+use Rattle.std.specs.List.{AllByRecursion, list_any, list_all}
+use Rattle.airline_base.specs.declared.place.Place.{Place}
+use Rattle.seat_nesting.specs.Nesting.{Legs, Table, room, covers}
+use Rattle.seat_rules.specs.declared.booking.Booking.{Booking}
+use Rattle.seat_bookings.specs.declared.demands.Demand.{Demand}
+use Rattle.seat_rules.specs.Bookings.{same_place, is_waiting}
+
+-- q and c are this place and class
+abbrev pub is_at : Place → ℕ → Place → ℕ → Bool
+is_at place class q c = same_place q place && (c == class)
+
+abbrev pub is_demand_of : Place → ℕ → Demand → Bool
+is_demand_of place class p = is_at place class p.place p.class
+
+abbrev pub is_booking_of : Place → ℕ → Booking → Bool
+is_booking_of place class b = is_at place class b.place b.class
+
+-- no two demands are of one place and class
+abbrev pub is_apart : List Demand → Bool
+is_apart [] = true
+is_apart (p ∷ ps) = (if list_any (is_demand_of p.place p.class) ps then false else is_apart ps)
+
+-- ---- what the bookings of a place and class ask for
+
+abbrev pub least_with : ℕ → Option ℕ → Option ℕ
+least_with n None = Some n
+least_with n (Some m) = Some (min n m)
+
+-- the least seats of a booking
+abbrev pub smallest_of : Place → ℕ → List Booking → Option ℕ
+smallest_of place class [] = None
+smallest_of place class (b ∷ bs) = (if is_booking_of place class b then least_with b.seats (smallest_of place class bs) else smallest_of place class bs)
+
+-- all their seats
+abbrev pub seats_for : Place → ℕ → List Booking → ℕ
+seats_for place class [] = 0
+seats_for place class (b ∷ bs) = (if is_booking_of place class b then b.seats + seats_for place class bs else seats_for place class bs)
+
+-- ---- what their demand tells
+
+abbrev pub demand_smallest : Place → ℕ → List Demand → Option ℕ
+demand_smallest place class [] = None
+demand_smallest place class (p ∷ ps) = (if is_demand_of place class p then Some p.smallest else demand_smallest place class ps)
+
+abbrev pub demand_seats : Place → ℕ → List Demand → ℕ
+demand_seats place class [] = 0
+demand_seats place class (p ∷ ps) = (if is_demand_of place class p then p.seats else demand_seats place class ps)
+
+-- the bookings all wait, and for each place and class there is one demand, with their least seats and the sum of their seats, or none where no booking is
+pub record IsIndexed (bookings : List Booking) (demands : List Demand) : Type 0 where
+  pub waits : AllByRecursion (λ b. is_waiting b.status ≡ true) bookings
+  pub small : AllByRecursion (λ b. b.seats < 65536) bookings
+  pub apart : is_apart demands ≡ true
+  pub smallest : (place : Place) (class : ℕ) → demand_smallest place class demands ≡ smallest_of place class bookings
+  pub seats : (place : Place) (class : ℕ) → demand_seats place class demands ≡ seats_for place class bookings
+
+-- there is a number and memory for one booking more, and memory for its demand
+abbrev pub has_spare : ℕ → ℕ → ℕ → ℕ → Bool
+has_spare bookings capacity demands memory = nat_lt bookings (2 ^ 32) && nat_lt bookings capacity && nat_lt demands memory
+
+-- ---- what the demands answer
+
+-- the seats of a demand on a leg in a class
+abbrev pub demand_waits : ℕ → ℕ → ℕ → Demand → ℕ
+demand_waits flight leg class p = (if covers flight leg p.place && (p.class == class) then p.seats else 0)
+
+-- the seats that wait on each leg in each class
+abbrev pub waits_of : List Demand → Table
+waits_of [] flight leg class = 0
+waits_of (p ∷ ps) flight leg class = demand_waits flight leg class p + waits_of ps flight leg class
+
+-- each demand's smallest is above the room on its place in its class
+abbrev pub no_demand_fits : Legs → Table → List Demand → Bool
+no_demand_fits grid seats demands = list_all (λ p. nat_lt (room grid seats p.place p.class) p.smallest) demands
+
+-- ---- changes
+
+-- a booking of n seats more
+abbrev pub joined : List Demand → Place → ℕ → ℕ → List Demand
+joined [] place class n = record { place = place; class = class; smallest = n; seats = n } ∷ []
+joined (p ∷ ps) place class n =
+    (if is_demand_of place class p then record p { smallest = min n p.smallest; seats = p.seats + n } ∷ ps else p ∷ joined ps place class n)
+
+-- the demand has n seats fewer, and this smallest; it goes where there is none
+abbrev pub with_smallest : Demand → Option ℕ → ℕ → List Demand → List Demand
+with_smallest p None n ps = ps
+with_smallest p (Some m) n ps = record p { smallest = m; seats = p.seats - n } ∷ ps
+
+abbrev pub settled : List Demand → Place → ℕ → Option ℕ → ℕ → List Demand
+settled [] place class smallest n = []
+settled (p ∷ ps) place class smallest n = (if is_demand_of place class p then with_smallest p smallest n ps else p ∷ settled ps place class smallest n)

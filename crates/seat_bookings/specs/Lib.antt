@@ -1,0 +1,5 @@
+pub mod Live
+pub mod Numbers
+pub mod Queues
+pub mod Demands
+pub mod Books

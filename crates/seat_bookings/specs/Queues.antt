@@ -1,0 +1,36 @@
+-- Waiting lists.
+use Rattle.std.specs.Prelude.{ℕ, Bool, false, ◌==◌, nat_lt, List, [], ◌∷◌, Option, Some, None, if◌then◌else◌}
+use Rattle.std.specs.Global.{Box}
+use Rattle.std.specs.List.{list_all}
+use Rattle.seat_nesting.specs.Nesting.{Legs, Table, room}
+use Rattle.seat_rules.specs.declared.booking.Booking.{Booking}
+use Rattle.seat_rules.specs.Bookings.{is_waiting}
+
+-- what a waiting list shows: its bookings in order of number, and whether there is memory for one more
+pub record Waitlist : Type 0 where
+  pub bookings : List Booking
+  pub spare : Bool
+
+-- the waiting list of a flight; none waits where it was never made
+abbrev pub list_in : Option (Box Waitlist) → Waitlist
+list_in None = record { bookings = []; spare = false }
+list_in (Some list) = list.value
+
+-- each booking has more seats than the table leaves room for
+abbrev pub none_fits : Legs → Table → List Booking → Bool
+none_fits grid seats queue = list_all (λ b. nat_lt (room grid seats b.place b.class) b.seats) queue
+
+-- the bookings that wait, in order
+abbrev pub queue_of : List Booking → List Booking
+queue_of [] = []
+queue_of (b ∷ bs) = (if is_waiting b.status then b ∷ queue_of bs else queue_of bs)
+
+-- the first booking that passes the test waits
+abbrev pub first_waits : (Booking → Bool) → List Booking → Bool
+first_waits test [] = false
+first_waits test (b ∷ bs) = (if test b then is_waiting b.status else first_waits test bs)
+
+-- the list without the booking of this number
+abbrev pub without : List Booking → ℕ → List Booking
+without [] number = []
+without (b ∷ bs) number = (if b.number == number then bs else b ∷ without bs number)

@@ -1,9 +1,0 @@
-use Rattle.std.proofs.Common.{◌+◌, ◌-◌, vec_len}
-use Rattle.seat_core.specs.Books.{SameBooks}
-use Rattle.seat_core.proofs.books.open_books.Given as goal
-
-abbrev pub invariant-opening : goal.invariant-opening
-invariant-opening l = SameBooks l.fn.books.items l.books.items
-
-abbrev pub decreases-opening : goal.decreases-opening
-decreases-opening l = l.flight + 1 - vec_len l.books

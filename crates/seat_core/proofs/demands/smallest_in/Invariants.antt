@@ -1,6 +1,0 @@
-use Rattle.std.proofs.Common.{◌≡◌, drop}
-use Rattle.seat_core.specs.Demands.{demand_smallest}
-use Rattle.seat_core.proofs.demands.smallest_in.Given as goal
-
-abbrev pub invariant-loop-demand : goal.invariant-loop-demand
-invariant-loop-demand l = demand_smallest l.place l.class (drop l.demand-index l.demands) ≡ demand_smallest l.place l.class l.demands

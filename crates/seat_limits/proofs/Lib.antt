@@ -1,0 +1,13 @@
+pub mod ChangeLaws
+pub mod ChangeTexts
+pub mod Grids
+pub mod LadderLaws
+pub mod LadderTexts
+pub mod LimitTexts
+pub mod Painting
+pub mod RowFieldLaws
+pub mod RowIndexing
+pub mod RowLaws
+pub mod RowSlots
+pub mod RowTexts
+pub mod Sharing

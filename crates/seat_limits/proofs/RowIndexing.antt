@@ -1,0 +1,129 @@
+-- Limit rows by flight and city pair.
+use Rattle.std.proofs.Common.{◌≡◌, ◌==◌, nat_eq, ℕ, zero, suc, ◌+◌, ◌<◌, ◌≤◌, Bool, true, false, ◌&&◌, cond, List, [], ◌∷◌, length, take, get_or, fold, Option, Some, None, refl, sym, ap, subst, ◌∙◌, arith}
+use Rattle.std.specs.List.{slice_get}
+use Rattle.std.specs.Option.{option_eq}
+use Rattle.std.specs.Cmp.Lexicographic.{pointwise}
+use Rattle.std.proofs.lemmas.Bool.{eqb-true, eq-eqb, and_parts}
+use Rattle.std.proofs.lemmas.List.{take_more}
+use Rattle.std.proofs.lemmas.List.Sums.{fold_push}
+use Rattle.std.proofs.lemmas.Option.{slice_get-get_or, slice_get_within, get_or_from_slice_get, same_Some}
+use Rattle.seat_nesting.specs.Nesting.{Steps}
+use Rattle.seat_limits.specs.Authorised.{row_pair, same_pair, holds_day, after_row, LastRows, is_of, last_below, PutsRow, HasLastRows}
+use Rattle.seat_limits.specs.declared.limit_row.LimitRow.{LimitRow}
+use Rattle.seat_limits.specs.declared.row_index.Pair.{Pair}
+
+-- ---- pairs that are equal
+
+same_text : (a b : List ℕ) → pointwise nat_eq a b ≡ true → a ≡ b
+same_text [] [] h = refl
+same_text [] (y ∷ ys) h = absurd cc
+same_text (x ∷ xs) [] h = absurd cc
+same_text (x ∷ xs) (y ∷ ys) h =
+    let p = and_parts (nat_eq x y) (pointwise nat_eq xs ys) h in
+    let first : x ≡ y = eqb-true x y p.0 in
+    let rest : xs ≡ ys = same_text xs ys p.1 in
+    rw (first, rest) refl
+
+same_letter : (a b : Option ℕ) → option_eq nat_eq a b ≡ true → a ≡ b
+same_letter None None h = refl
+same_letter None (Some y) h = absurd cc
+same_letter (Some x) None h = absurd cc
+same_letter (Some x) (Some y) h = ap (λ (n : ℕ). Some n) (eqb-true x y h)
+
+abbrev pair : List ℕ → ℕ → Option ℕ → List ℕ → List ℕ → Pair
+pair airline number suffix board off = record { airline = airline; number = number; suffix = suffix; board = board; off = off }
+
+pub pair_is : (a b : Pair) → same_pair a b ≡ true → a ≡ b
+pair_is a b h =
+    let p = and_parts (pointwise nat_eq a.airline b.airline) ((a.number == b.number) && (option_eq nat_eq a.suffix b.suffix && (pointwise nat_eq a.board b.board && pointwise nat_eq a.off b.off))) h in
+    let q = and_parts (a.number == b.number) (option_eq nat_eq a.suffix b.suffix && (pointwise nat_eq a.board b.board && pointwise nat_eq a.off b.off)) p.1 in
+    let r = and_parts (option_eq nat_eq a.suffix b.suffix) (pointwise nat_eq a.board b.board && pointwise nat_eq a.off b.off) q.1 in
+    let s = and_parts (pointwise nat_eq a.board b.board) (pointwise nat_eq a.off b.off) r.1 in
+    ap (λ (x : List ℕ). pair x a.number a.suffix a.board a.off) (same_text a.airline b.airline p.0)
+    ∙ ap (λ (x : ℕ). pair b.airline x a.suffix a.board a.off) (eqb-true a.number b.number q.0)
+    ∙ ap (λ (x : Option ℕ). pair b.airline b.number x a.board a.off) (same_letter a.suffix b.suffix r.0)
+    ∙ ap (λ (x : List ℕ). pair b.airline b.number b.suffix x a.off) (same_text a.board b.board s.0)
+    ∙ ap (λ (x : List ℕ). pair b.airline b.number b.suffix b.board x) (same_text a.off b.off s.1)
+
+text_same : (a : List ℕ) → pointwise nat_eq a a ≡ true
+text_same [] = refl
+text_same (x ∷ xs) = ap (λ (b : Bool). b && pointwise nat_eq xs xs) (eq-eqb x x refl) ∙ text_same xs
+
+letter_same : (a : Option ℕ) → option_eq nat_eq a a ≡ true
+letter_same None = refl
+letter_same (Some x) = eq-eqb x x refl
+
+pub pair_same : (a : Pair) → same_pair a a ≡ true
+pair_same a = rw (text_same a.airline, eq-eqb a.number a.number refl, letter_same a.suffix, text_same a.board, text_same a.off) refl
+
+-- ---- one row more
+
+pub row_here : (rows : List LimitRow) (i : ℕ) (row : LimitRow) → i < length rows → row ≡ get_or rows i row → slice_get rows i ≡ Some row
+row_here rows i row lt is = slice_get-get_or rows i row lt ∙ ap (λ (x : LimitRow). Some x) (sym is)
+
+pub last_more : (old new : LastRows) (rows : List LimitRow) (i : ℕ) (row : LimitRow) → HasLastRows old rows i → i < length rows → row ≡ get_or rows i row → PutsRow old new (row_pair row) i → HasLastRows new rows (i + 1)
+last_more old new rows i row h lt is puts =
+    let here = row_here rows i row lt is in
+    let one : i + 1 ≡ suc i = omega arith in
+    record {
+      last_is = λ p.
+          puts.at p ∙ ap (λ (o : Option ℕ). cond (same_pair (row_pair row) p) (Some i) o) (h.last_is p)
+          ∙ ap (λ (o : Option LimitRow). cond (is_of p o) (Some i) (last_below p rows i)) (sym here)
+          ∙ ap (last_below p rows) (sym one);
+    }
+
+-- ---- the rows so far
+
+pub none_within : (xs : List LimitRow) (k : ℕ) → k < length xs → slice_get xs k ≡ None → ⊥
+none_within [] k l e = absurd (omega arith)
+none_within (x ∷ xs) zero l e = cc
+none_within (x ∷ xs) (suc k) l e = none_within xs k (omega arith) e
+
+abbrev pub so_far : Pair → ℕ → List LimitRow → ℕ → Steps
+so_far p day rows n = fold (after_row p day) [] (take n rows)
+
+pub so_far_more : (p : Pair) (day : ℕ) (rows : List LimitRow) (n : ℕ) (row : LimitRow) → slice_get rows n ≡ Some row → so_far p day rows (suc n) ≡ after_row p day (so_far p day rows n) row
+so_far_more p day rows n row at =
+    let lt = slice_get_within rows n row at in
+    let one : suc n ≡ n + 1 = omega arith in
+    ap (λ (k : ℕ). fold (after_row p day) [] (take k rows)) one
+    ∙ ap (fold (after_row p day) []) (take_more rows n row lt)
+    ∙ fold_push (after_row p day) [] (take n rows) (get_or rows n row)
+    ∙ ap (after_row p day (so_far p day rows n)) (get_or_from_slice_get rows n row row at)
+
+not_of : (p : Pair) (day : ℕ) (rows : List LimitRow) (n : ℕ) (o : Option LimitRow) → slice_get rows n ≡ o → n < length rows → is_of p o ≡ false → so_far p day rows (suc n) ≡ so_far p day rows n
+not_of p day rows n None at lt h = absurd (none_within rows n lt at)
+not_of p day rows n (Some row) at lt h =
+    so_far_more p day rows n row at ∙ ap (λ (b : Bool). cond (b && holds_day row day) row.ladder (so_far p day rows n)) h
+
+-- no row of the pair: nothing so far
+pub nothing_of : (p : Pair) (day : ℕ) (rows : List LimitRow) (m : ℕ) → m ≤ length rows → last_below p rows m ≡ None → so_far p day rows m ≡ []
+nothing_of p day rows zero le e = refl
+nothing_of p day rows (suc m) le e = of (is_of p (slice_get rows m)) refl e (λ (h : last_below p rows m ≡ None). nothing_of p day rows m (omega arith) h)
+  where
+    of : (b : Bool) → is_of p (slice_get rows m) ≡ b → cond b (Some m) (last_below p rows m) ≡ None → (last_below p rows m ≡ None → so_far p day rows m ≡ []) → so_far p day rows (suc m) ≡ []
+    of true is h below = absurd cc
+    of false is h below = not_of p day rows m (slice_get rows m) refl (omega arith) is ∙ below h
+
+pub record LastRow (p : Pair) (day : ℕ) (rows : List LimitRow) (m i : ℕ) : Type 0 where
+  pub inside : i < m
+  pub row : LimitRow
+  pub at : slice_get rows i ≡ Some row
+  pub of_pair : same_pair (row_pair row) p ≡ true
+  pub same : so_far p day rows m ≡ so_far p day rows (suc i)
+
+there : (p : Pair) (day : ℕ) (rows : List LimitRow) (i : ℕ) (o : Option LimitRow) → slice_get rows i ≡ o → is_of p o ≡ true → LastRow p day rows (suc i) i
+there p day rows i None e h = absurd cc
+there p day rows i (Some row) e h = record { inside = omega arith; row = row; at = e; of_pair = h; same = refl }
+
+pub last_row : (p : Pair) (day : ℕ) (rows : List LimitRow) (m i : ℕ) → m ≤ length rows → last_below p rows m ≡ Some i → LastRow p day rows m i
+last_row p day rows zero i le e = absurd cc
+last_row p day rows (suc m) i le e = of (is_of p (slice_get rows m)) refl e (λ (h : last_below p rows m ≡ Some i). last_row p day rows m i (omega arith) h)
+  where
+    of : (b : Bool) → is_of p (slice_get rows m) ≡ b → cond b (Some m) (last_below p rows m) ≡ Some i → (last_below p rows m ≡ Some i → LastRow p day rows m i) → LastRow p day rows (suc m) i
+    of true is h below =
+        let same : m ≡ i = same_Some m i h in
+        subst (LastRow p day rows (suc m)) same (there p day rows m (slice_get rows m) refl is)
+    of false is h below =
+        let l = below h in
+        record { inside = omega (arith, l.inside); row = l.row; at = l.at; of_pair = l.of_pair; same = not_of p day rows m (slice_get rows m) refl (omega arith) is ∙ l.same }

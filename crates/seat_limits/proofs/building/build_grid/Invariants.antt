@@ -1,0 +1,11 @@
+use Rattle.std.proofs.Common.{◌≡◌, map, take}
+use Rattle.seat_nesting.specs.Nesting.{HasLadders}
+use Rattle.seat_limits.specs.Authorised.{authorised_legs, AreShares}
+use Rattle.seat_limits.proofs.building.build_grid.Given as goal
+
+abbrev pub invariant-loop-i : goal.invariant-loop-i
+invariant-loop-i l = record {
+  legs : l.grid.items ≡ map (authorised_legs l.rows) (take l.i l.flights);
+  shares : AreShares l.shares.items l.rows;
+  distinct : HasLadders l.grid.items;
+}

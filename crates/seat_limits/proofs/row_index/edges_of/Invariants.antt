@@ -1,0 +1,5 @@
+use Rattle.seat_limits.proofs.RowSlots.{EdgesUpTo}
+use Rattle.seat_limits.proofs.row_index.edges_of.Given as goal
+
+abbrev pub invariant-loop-row : goal.invariant-loop-row
+invariant-loop-row l = EdgesUpTo l.last l.rows l.edges.items l.row-index

@@ -1,0 +1,185 @@
+//! Limit rows by flight and city pair, so that a leg finds its row by bisection.
+ghost use Rattle.std.specs.Prelude.{◌≡◌, ◌<◌, ◌^◌, length, IfOk, IfSome, OnOk};
+ghost use Rattle.std.specs.HashMap.{get};
+ghost use Rattle.std.specs.List.Sorted.{IsNonDecreasing};
+ghost use Rattle.seat_limits.specs.Authorised.{row_pair, leg_pair, authorised, row_steps, PutsRow, HasLastRows};
+ghost use Rattle.seat_limits.specs.RowStretches.{slot, number_of, start_of, end_of, AreEdges, IsFirst, ShowRows, IsRowIndex};
+
+use crate::limit_row::LimitRow;
+use crate::stretches::Stretches;
+use ssim_flights::{DatedLeg, Flight};
+use airline_base::{Airline, Day, Memory, Station};
+use std::alloc::Global;
+use std::collections::HashMap;
+
+/// What a row and a leg have in common: the flight's name and the city pair.
+#[derive(Clone, Copy, Debug, PartialEq, Eq, Hash)]
+pub struct Pair {
+    pub airline: Airline,
+    pub number: u16,
+    pub suffix: Option<u8>,
+    pub board: Station,
+    pub off: Station,
+}
+
+/// The pairs' days in one order, cut where rows begin and end, and the row that counts on each stretch.
+#[derive(Drop)]
+pub struct RowIndex {
+    /// The last row of each pair, whose number is the pair's.
+    pub last: HashMap<Pair, u32>,
+    pub edges: Vec<u64>,
+    pub found: Vec<Option<u32>>,
+}
+
+impl RowIndex {
+    pub fn new(alloc: Global, rows: &[LimitRow]) -> Result<RowIndex, Memory>
+        ensures { IfOk result (λ x. IsRowIndex x.last x.edges.items x.found.items rows.now) }
+    {
+        let last = last_rows(alloc, rows)?;
+        let edges = edges_of(alloc, rows, &last)?;
+        let found = rows_found(alloc, rows, &last, &edges)?;
+        Ok(RowIndex { last, edges, found })
+    }
+
+    /// The last row that is for a pair on a day.
+    pub fn row(&self, _rows: &[LimitRow], pair: Pair, day: Day) -> Option<u32>
+        requires { IsRowIndex self.now.last self.now.edges.items self.now.found.items _rows.now }
+        ensures ladder { row_steps _rows.now result ≡ authorised _rows.now pair day }
+        ensures inside { IfSome result (λ i. i < length _rows.now) }
+    {
+        let number = *self.last.get(&pair)?;
+        let place = first_at(&self.edges, slot(number, day) + 1);
+        if place == 0 {
+            return None;
+        }
+        self.found[place - 1]
+    }
+}
+
+/// The last row of each pair.
+fn last_rows(alloc: Global, rows: &[LimitRow]) -> Result<HashMap<Pair, u32>, Memory>
+    ensures { IfOk result (λ last. HasLastRows last rows.now (length rows.now)) }
+{
+    let count = count_of(rows)?;
+    let mut last = HashMap::new(alloc);
+    for i in 0..count {
+        put(&mut last, pair_of(&rows[i as usize]), i)?;
+    }
+    Ok(last)
+}
+
+/// How many rows there are. No memory has room for 2³² of them.
+fn count_of(rows: &[LimitRow]) -> Result<u32, Memory>
+    ensures { IfOk result (λ count. count ≡ length rows.now) }
+{
+    match u32::try_from(rows.len()) {
+        Ok(count) => Ok(count),
+        Err(_) => Err(Memory),
+    }
+}
+
+/// Makes the row of this number the last one of its pair.
+fn put(last: &mut HashMap<Pair, u32>, pair: Pair, i: u32) -> Result<(), Memory>
+    ensures { OnOk result (PutsRow last.old last.new pair i) }
+{
+    let _ = last.insert(pair, i)?;
+    Ok(())
+}
+
+/// The slots on which rows begin or have ended.
+fn edges_of(alloc: Global, rows: &[LimitRow], last: &HashMap<Pair, u32>) -> Result<Vec<u64>, Memory>
+    ensures { IfOk result (λ edges. AreEdges last.now rows.now edges.items) }
+{
+    let mut edges = Vec::new(alloc);
+    for row in rows {
+        edges.push(start_of(last, row))?;
+        edges.push(end_of(last, row))?;
+    }
+    edges.sort_unstable();
+    Ok(edges)
+}
+
+/// For each edge the last row that holds it.
+fn rows_found(
+    alloc: Global,
+    rows: &[LimitRow],
+    last: &HashMap<Pair, u32>,
+    edges: &[u64],
+) -> Result<Vec<Option<u32>>, Memory>
+    requires { IsNonDecreasing edges.now }
+    ensures { IfOk result (λ found. ShowRows last.now rows.now edges.now found.items) }
+{
+    let mut stretches = Stretches::new(alloc, edges.len())?;
+    let mut i = count_of(rows)?;
+    while i > 0 {
+        i -= 1;
+        let row = &rows[i as usize];
+        let from = first_at(edges, start_of(last, row));
+        let to = first_at(edges, end_of(last, row));
+        stretches.paint(from, to, i);
+    }
+    Ok(stretches.rows)
+}
+
+/// The first edge that is not below a slot, or the number of edges.
+fn first_at(edges: &[u64], at: u64) -> usize
+    requires { IsNonDecreasing edges.now }
+    ensures { IsFirst edges.now at result }
+{
+    edges.partition_point(|edge| *edge < at)
+}
+
+fn slot(number: u32, day: Day) -> u64
+    ensures value { result ≡ slot number day }
+    ensures day { day < 131072 }
+    ensures small { result < 2 ^ 63 }
+{
+    u64::from(number) * 131_072 + u64::from(day.number())
+}
+
+fn number_of(last: &HashMap<Pair, u32>, pair: Pair) -> u32
+    ensures { result ≡ number_of last.now pair }
+{
+    match last.get(&pair) {
+        Some(number) => *number,
+        None => 0,
+    }
+}
+
+fn start_of(last: &HashMap<Pair, u32>, row: &LimitRow) -> u64
+    ensures { result ≡ start_of last.now row.now }
+{
+    slot(number_of(last, pair_of(row)), row.from)
+}
+
+fn end_of(last: &HashMap<Pair, u32>, row: &LimitRow) -> u64
+    ensures value { result ≡ end_of last.now row.now }
+    ensures day { row.now.to < 131072 }
+{
+    slot(number_of(last, pair_of(row)), row.to) + 1
+}
+
+fn pair_of(row: &LimitRow) -> Pair
+    ensures { result ≡ row_pair row.now }
+{
+    Pair {
+        airline: row.airline,
+        number: row.number,
+        suffix: row.suffix,
+        board: row.board,
+        off: row.off,
+    }
+}
+
+/// The pair of a leg.
+pub fn leg_pair_of(flight: &Flight, leg: &DatedLeg) -> Pair
+    ensures { result ≡ leg_pair flight.now leg.now }
+{
+    Pair {
+        airline: flight.airline,
+        number: flight.number,
+        suffix: flight.suffix,
+        board: leg.board,
+        off: leg.off,
+    }
+}

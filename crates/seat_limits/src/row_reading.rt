@@ -1,0 +1,64 @@
+//! Reading limit rows: `AU XX123 01JUN24 30JUN24 LHRJFK F112/004 Y100/010`.
+ghost use Rattle.std.specs.Prelude.{◌≡◌};
+ghost use Rattle.seat_limits.specs.LimitRows.{row_at};
+
+use crate::ladder_text::ladder_of;
+use crate::limit_fault::LimitKind;
+use crate::limit_row::LimitRow;
+use crate::row_fields::{date_of, suffix_of};
+use airline_base::fields::{airline_of, byte_of, numeral_of, station_of, word_of};
+
+/// The row that a line spells, or its first fault from left to right.
+#[tactic(auto, unfolding(crate::specs::LimitRows::row_at))]
+pub(crate) fn row_of(line: &[u8]) -> Result<LimitRow, LimitKind>
+    ensures { result ≡ row_at line.now }
+{
+    let Some(rest) = word_of(b"AU ", line) else {
+        return Err(LimitKind::Head);
+    };
+    let Some((airline, rest)) = airline_of(rest) else {
+        return Err(LimitKind::Flight);
+    };
+    let Some((number, rest)) = numeral_of(rest, 4) else {
+        return Err(LimitKind::Flight);
+    };
+    let (suffix, rest) = suffix_of(rest);
+    let Some(rest) = byte_of(b' ', rest) else {
+        return Err(LimitKind::Flight);
+    };
+    let Some((from, rest)) = date_of(rest) else {
+        return Err(LimitKind::Period);
+    };
+    let Some(rest) = byte_of(b' ', rest) else {
+        return Err(LimitKind::Period);
+    };
+    let Some((to, rest)) = date_of(rest) else {
+        return Err(LimitKind::Period);
+    };
+    let Some(rest) = byte_of(b' ', rest) else {
+        return Err(LimitKind::Period);
+    };
+    if from.number() > to.number() {
+        return Err(LimitKind::Period);
+    }
+    let Some((board, rest)) = station_of(rest) else {
+        return Err(LimitKind::Pair);
+    };
+    let Some((off, rest)) = station_of(rest) else {
+        return Err(LimitKind::Pair);
+    };
+    let Some(entries) = byte_of(b' ', rest) else {
+        return Err(LimitKind::Entry);
+    };
+    let ladder = ladder_of(entries)?;
+    Ok(LimitRow {
+        airline,
+        number,
+        suffix,
+        from,
+        to,
+        board,
+        off,
+        ladder,
+    })
+}

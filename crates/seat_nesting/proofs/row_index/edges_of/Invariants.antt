@@ -1,5 +1,0 @@
-use Rattle.seat_nesting.proofs.RowSlots.{EdgesUpTo}
-use Rattle.seat_nesting.proofs.row_index.edges_of.Given as goal
-
-abbrev pub invariant-loop-row : goal.invariant-loop-row
-invariant-loop-row l = EdgesUpTo l.last l.rows l.edges.items l.row-index

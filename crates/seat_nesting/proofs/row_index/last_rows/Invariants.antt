@@ -1,5 +1,0 @@
-use Rattle.seat_nesting.specs.Authorised.{HasLastRows}
-use Rattle.seat_nesting.proofs.row_index.last_rows.Given as goal
-
-abbrev pub invariant-loop-i : goal.invariant-loop-i
-invariant-loop-i l = HasLastRows l.last l.rows l.i

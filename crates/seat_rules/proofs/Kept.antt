@@ -1,0 +1,2 @@
+-- What an inventory keeps.
+pub mod Commits

@@ -1,0 +1,7 @@
+pub mod Counters
+pub mod History
+pub mod Flight
+pub mod Passes
+pub mod Step
+pub mod Kept
+pub mod Own

@@ -1,0 +1,17 @@
+pub mod Prefixes
+pub mod Codes
+pub mod Bookings
+pub mod Sequential
+pub mod Journal
+pub mod Inventory
+pub mod Totals
+pub mod Replaying
+pub mod FaultText
+pub mod Tables
+pub mod Applying
+pub mod Flights
+pub mod Laws
+pub mod Showing
+pub mod Histories
+pub mod Agreement
+pub mod Headline

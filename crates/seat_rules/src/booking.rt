@@ -1,0 +1,49 @@
+//! A booking of seats on a place.
+ghost use Rattle.std.specs.Prelude.{◌≡◌, if◌then◌else◌};
+ghost use Rattle.seat_rules.specs.Bookings.{is_for, is_held, is_waiting};
+
+use seat_journal::Command;
+use airline_base::{Class, Locator, Place};
+
+/// Whether a booking's seats are held or waited for.
+#[derive(Clone, Copy)]
+pub enum Status {
+    Held,
+    Waiting,
+}
+
+/// A live booking, under the number of the line that made it.
+#[derive(Clone, Copy)]
+pub struct Booking {
+    pub number: u32,
+    pub locator: Locator,
+    pub place: Place,
+    pub class: Class,
+    pub seats: u16,
+    pub status: Status,
+}
+
+impl Booking {
+    /// Whether it has this locator, place and class.
+    pub fn is_for(&self, locator: Locator, place: Place, class: Class) -> bool
+        ensures { result ≡ is_for locator place class self.now }
+    {
+        self.locator == locator && self.place == place && self.class == class
+    }
+
+    /// The seats that a cancellation of so many releases.
+    pub fn released(&self, seats: u16) -> u16
+        ensures { result ≡ (if is_held self.now.status then seats else 0) }
+    {
+        match self.status {
+            Status::Held => seats,
+            Status::Waiting => 0,
+        }
+    }
+
+    pub fn is_waiting(&self) -> bool
+        ensures { result ≡ is_waiting self.now.status }
+    {
+        matches!(self.status, Status::Waiting)
+    }
+}

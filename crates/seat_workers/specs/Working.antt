@@ -1,0 +1,70 @@
+-- What a run of sessions leaves.
+use Rattle.std.specs.Prelude.{◌≡◌, ◌⊎◌, ℕ, ◌+◌, ◌≤◌, List, [], ◌∷◌, ◌++◌, length, map, zip}
+use Rattle.std.specs.List.{AllZip}
+use Rattle.seat_journal.specs.declared.entry.Change.{Change}
+use Rattle.seat_journal.specs.declared.entry.Command.{Command}
+use Rattle.seat_journal.specs.declared.entry.Work.{Work}
+use Rattle.seat_journal.specs.declared.entry.Work.TheVariants.{Seats, Limit}
+use Rattle.seat_journal.specs.declared.entry.Entry.{Entry}
+use Rattle.seat_nesting.specs.Nesting.{Legs}
+use Rattle.seat_rules.specs.Prefixes.{Begins}
+use Rattle.seat_rules.specs.Journal.{FitsWork, MayAsk}
+use Rattle.seat_host.specs.Sessions.{Seat}
+use Rattle.seat_host.specs.declared.under_lock.BookFault.{BookFault}
+use Rattle.seat_host.specs.declared.under_lock.BookFault.TheVariants.{JournalFull}
+use Rattle.seat_workers.specs.declared.workers.RunFault.{RunFault}
+use Rattle.seat_workers.specs.declared.workers.RunFault.TheVariants.{Book}
+
+-- what the lists of sessions ask for
+abbrev pub seats_in : List (List Command) → List (List Work)
+seats_in lists = map (λ (list : List Command). map Seats list) lists
+
+-- what the manager and the sessions ask for, by number
+abbrev pub works_of : List Change → List (List Command) → List (List Work)
+works_of changes lists = map Limit changes ∷ seats_in lists
+
+-- a session may ask for this, which fits the limits
+pub record Asks (grid : Legs) (session : ℕ) (work : Work) : Type 0 where
+  pub may : MayAsk session work
+  pub fits : FitsWork grid work
+
+-- the session booked its whole list: it was given a line for each work, in order
+pub record HasRun (list : List Work) (s t : Seat) : Type 0 where
+  pub lines : List Entry
+  pub works : map (λ (e : Entry). e.work) lines ≡ list
+  pub id : t.id ≡ s.id
+  pub receipts : t.receipts ≡ s.receipts ++ lines
+  pub before : Begins s.front t.front
+
+-- the session booked a beginning of its list, which may be the whole
+pub record HasBegun (list : List Work) (s t : Seat) : Type 0 where
+  pub booked : List Work
+  pub begins : Begins booked list
+  pub run : HasRun booked s t
+
+-- the session booked its list as far as the work whose call the fault names
+pub record IsRefused (cap : ℕ) (fault : RunFault) (list : List Work) (s t : Seat) : Type 0 where
+  pub booked : List Work
+  pub refused : Work
+  pub left : List Work
+  pub parts : list ≡ booked ++ refused ∷ left
+  pub run : HasRun booked s t
+  pub why : BookFault
+  pub named : fault ≡ Book t.id (length t.receipts + 1) why
+  pub full : why ≡ JournalFull → cap ≤ length t.front
+
+-- each session booked its whole list
+abbrev pub AllHaveRun : List (List Work) → List Seat → List Seat → Type 0
+AllHaveRun lists olds news = AllZip (λ told t. HasRun told.0 told.1 t) (zip lists olds) news
+
+-- each session booked a beginning of its list
+abbrev pub AllHaveBegun : List (List Work) → List Seat → List Seat → Type 0
+AllHaveBegun lists olds news = AllZip (λ told t. HasBegun told.0 told.1 t) (zip lists olds) news
+
+-- the fault is that of the first session that was refused: those before it booked their whole lists
+abbrev pub NamesFirst : ℕ → RunFault → List (List Work) → List Seat → List Seat → Type 0
+NamesFirst cap fault (list ∷ lists) (s ∷ olds) (t ∷ news) =
+    IsRefused cap fault list s t ⊎ (HasRun list s t × NamesFirst cap fault lists olds news)
+NamesFirst cap fault (list ∷ lists) (s ∷ olds) [] = ⊥
+NamesFirst cap fault (list ∷ lists) [] news = ⊥
+NamesFirst cap fault [] olds news = ⊥

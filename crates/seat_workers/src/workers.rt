@@ -1,0 +1,267 @@
+//! Workers: one for the manager and one for each session, each with a list of its own.
+ghost use Rattle.std.specs.Prelude.{◌≡◌, ◌+◌, ◌<◌, ◌≤◌, [], ◌∷◌, All, length, map, IfErr, OnOk};
+ghost use Rattle.std.specs.Thread.{IsSync, IsSend};
+ghost use Rattle.seat_rules.specs.Journal.{FitsChange, FitsCommand};
+ghost use Rattle.seat_journal.specs.declared.entry.Work.TheVariants.{Limit, Seats};
+ghost use Rattle.seat_host.specs.declared.under_lock.BookFault.TheVariants.{JournalFull};
+ghost use Rattle.seat_workers.specs.Working.{Asks, HasRun, IsRefused, AllHaveRun, AllHaveBegun, NamesFirst, seats_in, works_of};
+
+use crate::asking::Asking;
+use crate::gate::Gate;
+use crate::turns::Turns;
+use seat_host::{BookFault, Host, Hosting, Manager, Party, Session};
+use seat_journal::{Change, Command, CommandList, Work};
+use std::alloc::Global;
+use std::sync::Wait;
+use std::thread::{Threads, join_mut};
+
+/// Why a run stopped short: the session, which is 0 for the manager, and the call that was refused.
+#[derive(Clone, Copy, PartialEq, Eq)]
+pub enum RunFault {
+    /// A call of a session gave no line.
+    Book {
+        session: u8,
+        call: u32,
+        fault: BookFault,
+    },
+}
+
+// The least calls of a turn.
+const SHORTEST: usize = 8;
+
+/// Has the manager make its changes in order and each session book its list, each on a worker of its own. A worker whose
+/// call is refused stops there, and the others finish.
+pub fn run_sessions<K: Hosting + Send + Sync, R: Threads + Wait + Sync, G: Gate>(
+    rt: &R,
+    alloc: Global,
+    host: &Host<K>,
+    manager: &mut Manager<K>,
+    changes: &[Change],
+    sessions: &mut [Session<K>],
+    lists: &[CommandList],
+    gate: &G,
+) -> Result<(), RunFault>
+    requires changes { All (λ change. FitsChange K.grid change) changes.now }
+    requires lists { length lists.now ≡ length sessions.old }
+    requires commands { All (λ list. All (λ command. FitsCommand K.grid command) list) lists.now }
+    ensures ok { OnOk result (AllHaveRun (works_of changes.now lists.now) (manager.old ∷ sessions.old) (manager.new ∷ sessions.new)) }
+    ensures refused { IfErr result (λ _. AllHaveBegun (works_of changes.now lists.now) (manager.old ∷ sessions.old) (manager.new ∷ sessions.new)) }
+    ensures named { IfErr result (λ f. NamesFirst K.cap f (works_of changes.now lists.now) (manager.old ∷ sessions.old) (manager.new ∷ sessions.new)) }
+{
+    let turns = Turns::new(lists.len().saturating_add(1));
+    let place = Workplace {
+        rt,
+        alloc,
+        host,
+        gate,
+        turns: &turns,
+    };
+    with_manager(&place, changes, &mut manager.party, lists, sessions)
+}
+
+// What a worker works with.
+#[derive(Drop)]
+struct Workplace<'a, K: Hosting, R, G> {
+    rt: &'a R,
+    alloc: Global,
+    host: &'a Host<K>,
+    gate: &'a G,
+    turns: &'a Turns,
+}
+
+// The manager's worker in this thread, and the sessions' beside it.
+#[tactic(auto, using(crate::proofs::Working::asks_limits, crate::proofs::Working::begun_run, crate::proofs::Working::begun_refused, crate::proofs::Working::all_begun, crate::proofs::Working::run_both))]
+fn with_manager<K: Hosting + Send + Sync, R: Threads + Wait + Sync, G: Gate>(
+    place: &Workplace<'_, K, R, G>,
+    changes: &[Change],
+    party: &mut Party<K>,
+    lists: &[CommandList],
+    sessions: &mut [Session<K>],
+) -> Result<(), RunFault>
+    requires manager { party.old.id ≡ 0 }
+    requires changes { All (λ change. FitsChange K.grid change) changes.now }
+    requires lists { length lists.now ≡ length sessions.old }
+    requires commands { All (λ list. All (λ command. FitsCommand K.grid command) list) lists.now }
+    ensures ok { OnOk result (AllHaveRun (works_of changes.now lists.now) (party.old ∷ sessions.old) (party.new ∷ sessions.new)) }
+    ensures refused { IfErr result (λ _. AllHaveBegun (works_of changes.now lists.now) (party.old ∷ sessions.old) (party.new ∷ sessions.new)) }
+    ensures named { IfErr result (λ f. NamesFirst K.cap f (works_of changes.now lists.now) (party.old ∷ sessions.old) (party.new ∷ sessions.new)) }
+{
+    let mut here = || -> Result<(), RunFault>
+        requires { IsSync R.row × IsSync K.row × IsSend K.row × IsSync G.row × (party.now.id ≡ 0) × All (λ change. FitsChange K.grid change) changes.now }
+        ensures ok { OnOk result (HasRun (map Limit changes.entry.now) party.entry.now party.exit.now) }
+        ensures refused { IfErr result (λ f. IsRefused K.cap f (map Limit changes.entry.now) party.entry.now party.exit.now) }
+    { place.work_off(changes, party) };
+    let mut there = || -> Result<(), RunFault>
+        requires { IsSync R.row × IsSync K.row × IsSend K.row × IsSync G.row × (length lists.now ≡ length sessions.now) × All (λ list. All (λ command. FitsCommand K.grid command) list) lists.now }
+        ensures ok { OnOk result (AllHaveRun (seats_in lists.entry.now) sessions.entry.now sessions.exit.now) }
+        ensures refused { IfErr result (λ _. AllHaveBegun (seats_in lists.entry.now) sessions.entry.now sessions.exit.now) }
+        ensures named { IfErr result (λ f. NamesFirst K.cap f (seats_in lists.entry.now) sessions.entry.now sessions.exit.now) }
+    { work_all(place, lists, sessions) };
+    let (rest, managed) = join_mut(place.rt, &mut there, &mut here);
+    managed.and(rest)
+}
+
+// A worker for each list.
+#[cycle(workers)]
+fn work_all<K: Hosting + Send + Sync, R: Threads + Wait + Sync, G: Gate>(
+    place: &Workplace<'_, K, R, G>,
+    lists: &[CommandList],
+    sessions: &mut [Session<K>],
+) -> Result<(), RunFault>
+    requires lists { length lists.now ≡ length sessions.old }
+    requires commands { All (λ list. All (λ command. FitsCommand K.grid command) list) lists.now }
+    ensures ok { OnOk result (AllHaveRun (seats_in lists.now) sessions.old sessions.new) }
+    ensures refused { IfErr result (λ _. AllHaveBegun (seats_in lists.now) sessions.old sessions.new) }
+    ensures named { IfErr result (λ f. NamesFirst K.cap f (seats_in lists.now) sessions.old sessions.new) }
+{
+    let Some((list, later)) = lists.split_first() else {
+        return Ok(());
+    };
+    let Some((session, others)) = sessions.split_first_mut() else {
+        return Ok(());
+    };
+    side_by_side(place, list.as_slice(), &mut session.party, later, others)
+}
+
+// The first session's worker in this thread, and the others' beside it.
+#[cycle(workers)]
+#[tactic(auto, using(crate::proofs::Working::asks_seats, crate::proofs::Working::begun_run, crate::proofs::Working::begun_refused, crate::proofs::Working::all_begun, crate::proofs::Working::run_both))]
+fn side_by_side<K: Hosting + Send + Sync, R: Threads + Wait + Sync, G: Gate>(
+    place: &Workplace<'_, K, R, G>,
+    list: &[Command],
+    party: &mut Party<K>,
+    later: &[CommandList],
+    others: &mut [Session<K>],
+) -> Result<(), RunFault>
+    requires session { (1 ≤ party.old.id) × (party.old.id ≤ 8) }
+    requires list { All (λ command. FitsCommand K.grid command) list.now }
+    requires lists { length later.now ≡ length others.old }
+    requires commands { All (λ list. All (λ command. FitsCommand K.grid command) list) later.now }
+    ensures ok { OnOk result (AllHaveRun (map Seats list.now ∷ seats_in later.now) (party.old ∷ others.old) (party.new ∷ others.new)) }
+    ensures refused { IfErr result (λ _. AllHaveBegun (map Seats list.now ∷ seats_in later.now) (party.old ∷ others.old) (party.new ∷ others.new)) }
+    ensures named { IfErr result (λ f. NamesFirst K.cap f (map Seats list.now ∷ seats_in later.now) (party.old ∷ others.old) (party.new ∷ others.new)) }
+{
+    let mut here = || -> Result<(), RunFault>
+        requires { IsSync R.row × IsSync K.row × IsSend K.row × IsSync G.row × (1 ≤ party.now.id) × (party.now.id ≤ 8) × All (λ command. FitsCommand K.grid command) list.now }
+        ensures ok { OnOk result (HasRun (map Seats list.entry.now) party.entry.now party.exit.now) }
+        ensures refused { IfErr result (λ f. IsRefused K.cap f (map Seats list.entry.now) party.entry.now party.exit.now) }
+    { place.work_off(list, party) };
+    let mut there = || -> Result<(), RunFault>
+        requires { IsSync R.row × IsSync K.row × IsSend K.row × IsSync G.row × (length later.now ≡ length others.now) × All (λ list. All (λ command. FitsCommand K.grid command) list) later.now }
+        ensures ok { OnOk result (AllHaveRun (seats_in later.entry.now) others.entry.now others.exit.now) }
+        ensures refused { IfErr result (λ _. AllHaveBegun (seats_in later.entry.now) others.entry.now others.exit.now) }
+        ensures named { IfErr result (λ f. NamesFirst K.cap f (seats_in later.entry.now) others.entry.now others.exit.now) }
+    { work_all(place, later, others) };
+    let (rest, first) = join_mut(place.rt, &mut there, &mut here);
+    first.and(rest)
+}
+
+// A turn has a quarter of the calls before it: short lists are booked side by side, and in a long one a worker rarely
+// waits for its turn.
+fn calls_after(booked: usize) -> usize
+    ensures { 0 < result }
+{
+    (booked / 4).max(SHORTEST)
+}
+
+impl<K: Hosting, R: Wait, G: Gate> Workplace<'_, K, R, G> {
+    // One worker: has its list made into lines in order, as far as the first refusal. Threads that meet at the lock at each
+    // call are slow, so where the gate lets them they take turns.
+    fn work_off<J: Asking>(&self, list: &[J], party: &mut Party<K>) -> Result<(), RunFault>
+        requires asks { All (Asks K.grid party.old.id) (map J.asks list.now) }
+        ensures ok { OnOk result (HasRun (map J.asks list.now) party.old party.new) }
+        ensures refused { IfErr result (λ f. IsRefused K.cap f (map J.asks list.now) party.old party.new) }
+    {
+        if self.gate.takes_turns() {
+            let mut turn = self.turns.come(self.rt);
+            let answer = self.book_by_turns(&mut turn, list, party);
+            self.turns.leave(self.rt, turn);
+            answer
+        } else {
+            self.book_all(list, party)
+        }
+    }
+
+    fn book_by_turns<J: Asking>(
+        &self,
+        turn: &mut u64,
+        list: &[J],
+        party: &mut Party<K>,
+    ) -> Result<(), RunFault>
+        requires asks { All (Asks K.grid party.old.id) (map J.asks list.now) }
+        ensures ok { OnOk result (HasRun (map J.asks list.now) party.old party.new) }
+        ensures refused { IfErr result (λ f. IsRefused K.cap f (map J.asks list.now) party.old party.new) }
+    {
+        let mut left = list;
+        while !left.is_empty() {
+            let booked = list.len().saturating_sub(left.len());
+            let (next, later) = left.split_at(left.len().min(calls_after(booked)));
+            self.take_turn(turn, next, party)?;
+            left = later;
+        }
+        Ok(())
+    }
+
+    fn take_turn<J: Asking>(
+        &self,
+        turn: &mut u64,
+        list: &[J],
+        party: &mut Party<K>,
+    ) -> Result<(), RunFault>
+        requires asks { All (Asks K.grid party.old.id) (map J.asks list.now) }
+        ensures ok { OnOk result (HasRun (map J.asks list.now) party.old party.new) }
+        ensures refused { IfErr result (λ f. IsRefused K.cap f (map J.asks list.now) party.old party.new) }
+    {
+        self.turns.begin(self.rt, *turn);
+        let answer = self.book_all(list, party);
+        *turn = self.turns.end();
+        answer
+    }
+
+    fn book_all<J: Asking>(&self, list: &[J], party: &mut Party<K>) -> Result<(), RunFault>
+        requires asks { All (Asks K.grid party.old.id) (map J.asks list.now) }
+        ensures ok { OnOk result (HasRun (map J.asks list.now) party.old party.new) }
+        ensures refused { IfErr result (λ f. IsRefused K.cap f (map J.asks list.now) party.old party.new) }
+    {
+        for wish in list {
+            self.book_next(wish.work(), party)?;
+        }
+        Ok(())
+    }
+
+    // One call, and the gate round it.
+    #[tactic(auto, using(crate::proofs::Working::refused_here))]
+    fn book_next(&self, work: Work, party: &mut Party<K>) -> Result<(), RunFault>
+        requires asks { Asks K.grid party.old.id work }
+        ensures ok { OnOk result (HasRun (work ∷ []) party.old party.new) }
+        ensures refused { IfErr result (λ f. IsRefused K.cap f (work ∷ []) party.old party.new) }
+    {
+        let id = party.id();
+        let call = party.next_call();
+        self.gate.before(self.rt, id, call);
+        let answer = book_one(self.rt, self.alloc, self.host, work, party);
+        self.gate.after(self.rt, id, call);
+        match answer {
+            Ok(()) => Ok(()),
+            Err(fault) => Err(RunFault::Book {
+                session: id,
+                call,
+                fault,
+            }),
+        }
+    }
+}
+
+fn book_one<K: Hosting, R: Wait>(
+    rt: &R,
+    alloc: Global,
+    host: &Host<K>,
+    work: Work,
+    party: &mut Party<K>,
+) -> Result<(), BookFault>
+    requires asks { Asks K.grid party.old.id work }
+    ensures ok { OnOk result (HasRun (work ∷ []) party.old party.new) }
+    ensures refused { IfErr result (λ f. HasRun [] party.old party.new × (f ≡ JournalFull → K.cap ≤ length party.new.front)) }
+{
+    host.answer(rt, alloc, party, work)
+}
