@@ -4,9 +4,12 @@ ghost use Rattle.seat_rules.specs.Journal.{FitsCommand};
 
 use crate::inventories::{LEG, grid_of};
 use crate::steps::{Row, STEP, Step, lines_of, same, same_line, step_of};
-use seat_host::{BookFault, GatherFault, Host, HostFault, Hosting, Manager, Parts, Receipt, Session, Settled, gather};
-use seat_journal::{Change, Command, Entry, Work};
 use airline_base::Class;
+use seat_host::{
+    BookFault, GatherFault, Host, HostFault, Hosting, Manager, Parts, Receipt, Session, Settled,
+    gather,
+};
+use seat_journal::{Change, Command, Entry, Work};
 use std::alloc::Global;
 use std::marker::Brand;
 use std::process::Abort;

@@ -5,8 +5,8 @@ ghost use Rattle.seat_bookings.specs.Demands.{waits_of};
 ghost use Rattle.seat_nesting.specs.Nesting.{ladder_at, is_listed, is_listed_on, may_wait, may_wait_on};
 
 use crate::demands::Demand;
-use seat_nesting::{Counts, Step};
 use airline_base::{Class, Place};
+use seat_nesting::{Counts, Step};
 
 /// Whether so many seats, with those that wait in this class on this leg, are at most `most`.
 fn fits_waiting(

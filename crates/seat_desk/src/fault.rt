@@ -4,9 +4,9 @@ ghost use Rattle.seat_desk.specs.AuditDesk.{journal_fault, replay_refusal};
 ghost use Rattle.seat_desk.specs.Status.{status_of};
 
 use airimp_lines::ScriptFault;
-use seat_rules::{ReplayFault, ReplayKind};
 use seat_journal::{JournalFault, JournalKind};
 use seat_limits::LimitFault;
+use seat_rules::{ReplayFault, ReplayKind};
 use ssim_flights::FlightFault;
 use ssim_records::SetFault;
 use std::fmt;

@@ -10,8 +10,8 @@ use crate::check::{MOST_SET_BYTES, data_set};
 use crate::fault::DeskFault;
 use crate::streams::read_input;
 use crate::text::{put, put_number};
-use ssim_flights::{DatedLeg, Flight, FlightFault, FlightKind, Flights, expand};
 use airline_base::{Day, NotedRead, NotedWrite, put_all};
+use ssim_flights::{DatedLeg, Flight, FlightFault, FlightKind, Flights, expand};
 use std::alloc::{AllocError, Global};
 
 /// The most dated flights.

@@ -14,11 +14,11 @@ use crate::lines::cut_at_feed;
 use crate::orders::{ONLY_LEG, read_orders};
 use crate::streams::read_input;
 use crate::text::{put, put_entries, put_number};
+use airline_base::{Class, NotedRead, NotedWrite, put_all};
 use seat_core::Core;
 use seat_journal::Work;
 use seat_limits::{LimitFault, read_ladder};
 use seat_nesting::{Grid, Ladder, Step};
-use airline_base::{Class, NotedRead, NotedWrite, put_all};
 use std::alloc::{AllocError, Global};
 
 /// 16 MiB.

@@ -11,11 +11,10 @@ use crate::fault::DeskFault;
 use crate::flights::scheduled;
 use crate::inputs::Inputs;
 use crate::streams::read_input;
-use seat_limits::{LimitFault, LimitKind, LimitRows, read_limits};
-use seat_limits::build_grid;
+use airline_base::NotedRead;
+use seat_limits::{LimitFault, LimitKind, LimitRows, build_grid, read_limits};
 use seat_nesting::Grid;
 use ssim_flights::Flights;
-use airline_base::NotedRead;
 use std::alloc::Global;
 
 /// 16 MiB, the most bytes of limit rows.

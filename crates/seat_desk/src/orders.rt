@@ -8,11 +8,11 @@ ghost use Rattle.seat_desk.specs.Orders.{IsChangeHere, IsOrder, change_in, chang
 use crate::audit::MOST_LINES;
 use crate::fault::DeskFault;
 use crate::lines::cut_at_feed;
+use airline_base::fields::{are_digits, value_of, word_of};
+use airline_base::{Class, Code, Locator, Place};
 use seat_journal::{Change, Command, Work};
 use seat_limits::read_ladder;
 use seat_nesting::Step;
-use airline_base::fields::{are_digits, value_of, word_of};
-use airline_base::{Class, Code, Locator, Place};
 use std::alloc::Global;
 
 /// The only leg of the only flight.

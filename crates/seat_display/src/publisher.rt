@@ -11,9 +11,9 @@ use crate::book::{Head, Pending, Trace, grow, is_whole};
 use crate::rule::{Looks, TableWriter};
 use crate::table::{Op, Table};
 use crate::viewer::Viewer;
+use airline_base::Memory;
 use core::mem::replace_with;
 use seat_journal::Entry;
-use airline_base::Memory;
 use std::marker::{Brand, Model};
 use std::sync::Wait;
 

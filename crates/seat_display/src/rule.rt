@@ -8,8 +8,8 @@ use crossbeam_utils::rule::{Outcome, Protocol};
 use left_right::Absorb;
 use left_right::reader::Reader;
 use left_right::writer::Writer;
-use seat_rules::show;
 use seat_journal::Entry;
+use seat_rules::show;
 use std::alloc::AllocError;
 
 impl Table {

@@ -9,8 +9,8 @@ ghost use Rattle.seat_display.specs.Faces.{opened};
 use crate::book::Trace;
 use crate::publisher::Told;
 use crate::rule::{Looks, TableReader};
-use core::mem::replace_with;
 use airline_base::{Class, Place};
+use core::mem::replace_with;
 use std::marker::Model;
 
 /// A reader, and what it has seen. Contracts see that as a list of entries; the code keeps its length.

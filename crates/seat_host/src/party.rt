@@ -9,8 +9,8 @@ ghost use Rattle.seat_host.specs.Sessions.{seated};
 
 use crate::ledgers::{Hosting, Stake};
 use crate::receipt::Receipt;
-use seat_display::Viewer;
 use airline_base::{Class, Place};
+use seat_display::Viewer;
 use std::marker::Model;
 
 /// It keeps its own lines as receipts, the one share of its ledger, and a viewer.

@@ -9,12 +9,12 @@ ghost use Rattle.seat_limits.specs.declared.change_row.ChangeRow.{ChangeRow as R
 ghost use Rattle.seat_limits.specs.declared.limit_fault.LimitKind.TheVariants.{Memory};
 
 use crate::change_row::{ChangeRow, ChangeRows};
-use seat_nesting::Step;
 use crate::ladder_text::entry_of;
 use crate::limit_fault::{LimitFault, LimitKind};
 use crate::row_fields::{date_of, suffix_of};
 use airline_base::fields::{airline_of, byte_of, numeral_of, station_of, word_of};
 use airline_base::lines::cut_line;
+use seat_nesting::Step;
 use std::alloc::Global;
 
 /// The change rows of a text. Lines end with LF, with CR LF or where the bytes end; empty ones are passed over.

@@ -3,11 +3,11 @@ ghost use Rattle.std.specs.Prelude.{◌≡◌, ◌≤◌, ◌+◌, ◌*◌, ◌<
 ghost use Rattle.seat_nesting.specs.Nesting.{Steps, IsLadder};
 ghost use Rattle.seat_limits.specs.LadderText.{SpellsSteps, IsLadderRefusal, three_in, mark_at, entry_at, steps_in, ladder_in};
 
-use seat_nesting::{Ladder, LadderFault, Step};
 use crate::limit_fault::LimitKind;
-use arrayvec::ArrayVec;
 use airline_base::Class;
 use airline_base::fields::byte_of;
+use arrayvec::ArrayVec;
+use seat_nesting::{Ladder, LadderFault, Step};
 
 /// 26 entries of nine bytes, and the 25 blanks between them.
 const LONGEST: usize = 259;

@@ -1,6 +1,6 @@
 //! Limit rows: the ladder of a flight's city pair over a period.
-use seat_nesting::Ladder;
 use airline_base::{Airline, Day, Items, Station};
+use seat_nesting::Ladder;
 
 /// The limits of the legs of a flight between two cities, on the local days from `from` to `to`.
 #[derive(Drop)]

@@ -7,8 +7,8 @@ ghost use Rattle.seat_limits.specs.RowStretches.{slot, number_of, start_of, end_
 
 use crate::limit_row::LimitRow;
 use crate::stretches::Stretches;
-use ssim_flights::{DatedLeg, Flight};
 use airline_base::{Airline, Day, Memory, Station};
+use ssim_flights::{DatedLeg, Flight};
 use std::alloc::Global;
 use std::collections::HashMap;
 

@@ -10,10 +10,10 @@ ghost use Rattle.seat_questions.specs.Coverage.{IsSearchable, finds_leg, finds_r
 
 use crate::coverage::Coverage;
 use crate::ground::load_rows;
+use airline_base::{Memory, NotedRead, NotedWrite, put_all};
 use seat_desk::{DeskFault, Inputs, put, put_designator, put_number, put_way};
 use seat_limits::LimitRow;
 use ssim_flights::{DatedLeg, Flight, Flights};
-use airline_base::{Memory, NotedRead, NotedWrite, put_all};
 use std::alloc::{AllocError, Global};
 
 /// Writes a line for each limit row that is for no leg, one for each dated leg without a row, and last how many

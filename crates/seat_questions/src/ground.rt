@@ -5,12 +5,12 @@ ghost use Rattle.seat_desk.specs.Desk.{IsOfInput};
 ghost use Rattle.seat_desk.specs.Loading.{HaveFailed, IsRefusedLoadOf, IsTooLargeLoadOf};
 ghost use Rattle.seat_questions.specs.Ground.{IsGroundOf};
 
+use airline_base::NotedRead;
 use seat_desk::{
     DeskFault, Inputs, MOST_LIMIT_BYTES, MOST_SET_BYTES, limit_rows, read_input, scheduled,
 };
 use seat_limits::LimitRows;
 use ssim_flights::Flights;
-use airline_base::NotedRead;
 use std::alloc::Global;
 
 /// Flights, and the limit rows that authorise their ladders.

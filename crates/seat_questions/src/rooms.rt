@@ -12,15 +12,15 @@ ghost use Rattle.seat_desk.specs.Loading.{HaveFailed, IsGridOf, IsRefusedLoadOf,
 ghost use Rattle.seat_questions.specs.Rooms.{AreOpeningRoomsOf, AreRoomsAfter, AreRoomsOf, IsAdded, IsFirstPart, IsLastPart, IsPlaceText, IsRoomsText, IsRunText, bar, bar_line, bar_lines, bar_share, bars_text, block_bar, filled, has_half, keeps, keeps_day, keeps_pair, leg_bars, place_bars, plain_bar, room_text, rooms_part, rooms_text, run_of, times};
 
 use crate::legs::seats_on;
-use seat_rules::Booking;
+use airline_base::{Class, Day, NotedRead, NotedWrite, Place, Station, put_all};
 use seat_core::Core;
 use seat_desk::{
     DeskFault, Inputs, Loaded, MOST_JOURNAL_BYTES, MOST_LINES, load, put, put_head, put_number,
     put_way, read_input, replayed,
 };
 use seat_nesting::{Grid, Step};
+use seat_rules::Booking;
 use ssim_flights::{DatedLeg, Flight, Flights};
-use airline_base::{Class, Day, NotedRead, NotedWrite, Place, Station, put_all};
 use std::alloc::{AllocError, Global};
 
 /// Two stations: a board point and an off point.

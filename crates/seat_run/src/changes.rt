@@ -5,11 +5,11 @@ ghost use Rattle.seat_limits.specs.ChangeRows.{IsChangeText};
 ghost use Rattle.seat_desk.specs.Desk.{HasFailed, IsOfInput};
 ghost use Rattle.seat_run.specs.Changes.{AreChanges, AreServed, IsOfChanges, IsOnLeg, IsUnchanged, change_of, change_refusal, most_change_bytes, wanted_by};
 
+use airline_base::NotedRead;
 use seat_desk::{DeskFault, read_input};
 use seat_journal::Change;
 use seat_limits::{ChangeRow, LimitFault, LimitKind, read_changes};
 use ssim_flights::{Flights, Served, Wanted};
-use airline_base::NotedRead;
 use std::alloc::Global;
 
 /// 16 MiB, the most bytes of changes.

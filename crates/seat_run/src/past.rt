@@ -7,10 +7,10 @@ ghost use Rattle.seat_journal.specs.Text.{IsJournalText};
 ghost use Rattle.seat_run.specs.Against.{IsReplayWithin};
 ghost use Rattle.seat_run.specs.Going.{IsPast, highest_to, past_of};
 
+use airline_base::NotedRead;
 use seat_core::Core;
 use seat_desk::{DeskFault, MOST_JOURNAL_BYTES, read_input, replayed};
 use seat_nesting::Grid;
-use airline_base::NotedRead;
 use std::alloc::Global;
 
 /// The text of a journal without lines, for a run that goes on from no other.

@@ -2,8 +2,8 @@
 ghost use Rattle.std.specs.List.{AllByRecursion};
 ghost use Rattle.seat_journal.specs.Text.{IsAdvice, IsChange, IsCommand, IsEntry, IsPlace, IsStem, IsWork};
 
-use seat_journal::{Advice, Change, Command, Entry, Work};
 use airline_base::Place;
+use seat_journal::{Advice, Change, Command, Entry, Work};
 
 /// Each line is an entry, whose text can be read again. It only reads them: their types say it, before anything is written.
 pub fn prove_entries(lines: &[Entry])

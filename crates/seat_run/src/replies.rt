@@ -8,11 +8,11 @@ ghost use Rattle.seat_run.specs.RunDesk.{AreAnswers, IsAdviceLine, IsAnswer, IsL
 
 use crate::past::Past;
 use airimp_lines::{Request, Requests, Segment, reply_text};
+use airline_base::{Code, Locator, Place};
 use seat_desk::{put, put_number};
 use seat_host::{Receipt, Receipts};
 use seat_journal::{Advice, Change, Command, Entry, Work};
 use ssim_flights::{Flight, Flights};
-use airline_base::{Code, Locator, Place};
 use std::alloc::{AllocError, Global};
 
 /// Whose seats a reply is for, and which.

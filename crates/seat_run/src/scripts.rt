@@ -6,8 +6,8 @@ ghost use Rattle.seat_desk.specs.Desk.{HasFailed, IsOfInput};
 ghost use Rattle.seat_run.specs.Requests.{AreReadOn, AreRight, AreScripts, HasFailedAmong, IsOfScript, IsRefusedAmong, IsRefusedScript, IsScriptOf, IsTooLargeAmong, most_script_bytes, script_refusal};
 
 use airimp_lines::{Requests, ScriptFault, ScriptKind, read_script};
-use seat_desk::{DeskFault, read_input};
 use airline_base::{Day, Items, NotedRead};
+use seat_desk::{DeskFault, read_input};
 use std::alloc::Global;
 
 /// 16 MiB, the most bytes of a script.

@@ -1,8 +1,8 @@
 //! Counters by themselves: seats that are taken and given back, limits that are set under them; ladders of given steps.
 use crate::trial::{Legs, Why, place_of};
 use crate::worked_set::{grid, two_legs};
-use seat_nesting::{Counts, Ladder, LadderFault, Step};
 use airline_base::{Class, Place};
+use seat_nesting::{Counts, Ladder, LadderFault, Step};
 use std::alloc::Global;
 use std::test::Fail;
 

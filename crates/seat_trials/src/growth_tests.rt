@@ -3,9 +3,9 @@
 use crate::texts::{lines_of_flight_1, no_lines, same_ladders, seven_lines};
 use crate::trial::{Trial, Why, are_same, entries, is_memory, is_same, is_text, place_of};
 use crate::worked_set::{grid, two_legs};
+use airline_base::Class;
 use seat_journal::Entry;
 use seat_nesting::{Counts, Grid};
-use airline_base::Class;
 use std::alloc::Global;
 use std::test::Fail;
 

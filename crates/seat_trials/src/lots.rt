@@ -2,8 +2,8 @@
 ghost use Rattle.std.specs.Prelude.{◌<◌, ◌≤◌};
 
 use crate::plain::Live;
-use seat_journal::{Change, Command, Work};
 use airline_base::{Class, Code, Locator, Place};
+use seat_journal::{Change, Command, Work};
 
 /// Numbers that are the same for the same seed (Knuth's linear congruential generator).
 #[derive(Drop)]

@@ -2,11 +2,10 @@
 ghost use Rattle.std.specs.Prelude.{IfSome};
 ghost use Rattle.ssim_records.specs.RightSet.{IsRightSet};
 
-use seat_limits::{LimitRows, read_limits};
-use seat_limits::build_grid;
+use airline_base::Day;
+use seat_limits::{LimitRows, build_grid, read_limits};
 use seat_nesting::Grid;
 use ssim_flights::{Flights, expand};
-use airline_base::Day;
 use ssim_records::{DataSet, read_set};
 use std::alloc::Global;
 

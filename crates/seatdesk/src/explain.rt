@@ -2,9 +2,9 @@
 use crate::explanations::{Explanation, row_behind, row_of};
 use crate::refusal::Refusal;
 use crate::streams::standard_output;
+use airline_base::{WriteFault, put_all};
 use seat_desk::DeskFault;
 use seat_words::wrong_value;
-use airline_base::{WriteFault, put_all};
 use std::alloc::AllocError;
 
 /// Why a fault line is not explained.

@@ -1,7 +1,7 @@
 //! What a command is refused with, and the file that it is refused for.
 use crate::streams::{Input, Output};
-use seat_desk::DeskFault;
 use airline_base::Failures;
+use seat_desk::DeskFault;
 use std::io;
 
 /// A fault, with the name of the file that failed or is too large where that is known, and the system's number for the failure.

@@ -3,8 +3,8 @@ ghost use Rattle.std.specs.Prelude.{◌≡◌, IfOk};
 ghost use Rattle.ssim_flights.specs.Itineraries.{itineraries, name_of};
 
 use crate::leg_list::LegLists;
-use indexmap::IndexSet;
 use airline_base::Memory;
+use indexmap::IndexSet;
 use ssim_records::Leg;
 use std::alloc::Global;
 

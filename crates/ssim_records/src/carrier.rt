@@ -1,6 +1,5 @@
 //! What a data set says: the carrier, and the legs of its flights.
-use airline_base::Day;
-use airline_base::{Airline, Station};
+use airline_base::{Airline, Day, Station};
 
 /// Whose flights these are, and when they are valid (SSIM chapter 7, carrier record).
 #[derive(Clone, Copy)]

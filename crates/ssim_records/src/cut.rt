@@ -3,8 +3,8 @@ ghost use Rattle.std.specs.Prelude.{◌≡◌, option_map};
 ghost use Rattle.std.specs.Result.{result_map_both};
 ghost use Rattle.ssim_records.specs.Cut.{end_at, cut_at};
 
-use airline_base::fields::are_printable;
 use crate::set_fault::SetKind;
+use airline_base::fields::are_printable;
 
 fn after_end(bytes: &[u8]) -> Option<&[u8]>
     ensures { option_map (λ x. x.now) result ≡ end_at bytes.now }

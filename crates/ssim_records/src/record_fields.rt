@@ -3,9 +3,8 @@ ghost use Rattle.std.specs.Prelude.{◌≡◌, ◌≤◌, ◌<◌, ◌^◌, IfSo
 ghost use Rattle.std.specs.List.{prefix_len};
 ghost use Rattle.ssim_records.specs.RecordFields.{padded_in, positive_in, six_in, mode_in, designator_in, station_in, suffix_in, byte_in, until_in, day_in, days_in, rate_in, time_in, signed_in, offset_in, shift_in, continued_in};
 
-use airline_base::Day;
 use airline_base::fields::{are_digits, two_are, two_value, value_of};
-use airline_base::{Airline, Station};
+use airline_base::{Airline, Day, Station};
 
 /// Whether the times are local: `L`, and not `U`.
 #[tactic(auto, unfolding(crate::specs::RecordFields::mode_in))]

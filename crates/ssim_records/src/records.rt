@@ -4,13 +4,12 @@ ghost use Rattle.airline_base.specs.Bytes.{same_text, set_title};
 ghost use Rattle.ssim_records.specs.SetSteps.{type_of, has_serial, header_at, carrier_at, second_at, leg_at, leg_name_at, leg_period_at, leg_path_at, numbered_at, segment_at, trailer_at};
 
 use crate::carrier::{Carrier, Leg};
-use airline_base::Day;
-use airline_base::{Airline, Station};
 use crate::record_fields::{
     byte_of, continued_of, days_of, designator_of, mode_of, number_of, offset_of, rate_of,
     sequence_of, shift_of, six_of, small_of, station_of, suffix_of, time_of, until_of,
 };
 use crate::set_fault::SetKind;
+use airline_base::{Airline, Day, Station};
 
 /// The first byte of a record.
 pub fn type_of(text: &[u8]) -> u8

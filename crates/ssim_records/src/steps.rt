@@ -4,11 +4,10 @@ ghost use Rattle.airline_base.specs.Bytes.{is_filler};
 ghost use Rattle.ssim_records.specs.SetSteps.{step, within, header_step, carrier_step, leg_step, segment_step, trailer_step, body_step, type_of, IsReady, IsCounted, Takes};
 
 use crate::carrier::Carrier;
-use airline_base::Day;
-use airline_base::Station;
 use crate::records::{carrier, header, leg, segment, trailer, type_of};
 use crate::set_fault::SetKind;
 use crate::state::{Phase, Reader};
+use airline_base::{Day, Station};
 
 /// The next record.
 #[tactic(auto, unfolding(crate::specs::SetSteps::step))]

@@ -1,7 +1,7 @@
 //! Reading and writing over devices that fail, stop early or take little at a time.
 use crate::worked_sets::no_legs;
-use failing_devices::{FailingReader, FailingWriter, Stop};
 use airline_base::{Counted, Failures, ReadFault, put_all, read_all};
+use failing_devices::{FailingReader, FailingWriter, Stop};
 use std::alloc::Global;
 use std::io::Write;
 use std::process::Abort;

@@ -1,7 +1,7 @@
 //! Data sets that end too early or have a wrong byte, wherever that is, and too many records or flights.
 use crate::worked_sets::{no_legs, one_leg};
-use ssim_flights::expand;
 use airline_base::Day;
+use ssim_flights::expand;
 use ssim_records::{DataSet, SetFault, SetKind, read_set};
 use std::alloc::{AllocError, Global};
 use std::test::Fail;
