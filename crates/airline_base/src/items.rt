@@ -44,12 +44,6 @@ impl<T> Items<T> {
         Items { items }
     }
 
-    pub fn into_vec(self) -> Vec<T>
-        ensures { result.items ≡ self }
-    {
-        self.items
-    }
-
     pub fn as_slice(&self) -> &[T]
         ensures { result.now ≡ self.now }
     {

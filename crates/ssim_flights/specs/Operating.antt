@@ -1,6 +1,7 @@
 -- SSIM chapter 7: the days on which a leg operates, by its period, days of operation and frequency rate.
-use Rattle.std.specs.Prelude.{ℕ, ◌+◌, ◌-◌, ◌/◌, ◌%◌, ◌≤◌, ◌==◌, ◌&&◌, ◌||◌, Bool, false, not, IsTrue, List, ℤ, pos, ◌+ℤ◌, unsigned_abs, unwrap_or, slice_index_or, filter}
+use Rattle.std.specs.Prelude.{◌↔◌, All, Contains, ℕ, ◌+◌, ◌-◌, ◌/◌, ◌%◌, ◌≤◌, ◌==◌, ◌&&◌, ◌||◌, Bool, false, not, IsTrue, List, ℤ, pos, ◌+ℤ◌, unsigned_abs, unwrap_or, slice_index_or, filter}
 use Rattle.std.specs.List.{range_with_len}
+use Rattle.std.specs.List.Sorted.{IsStrictlyIncreasing}
 use Rattle.jiff_core.specs.Calendar.{weekday_number}
 use Rattle.ssim_records.specs.declared.carrier.Leg.{Leg}
 
@@ -33,6 +34,16 @@ days_among leg n = filter (operates leg) (range_with_len leg.from n)
 -- those of the period, in order
 abbrev pub operating_days : Leg → ℕ → List ℕ
 operating_days leg end = days_among leg (last_day leg end + 1 - leg.from)
+
+-- they are exactly the days on which the leg operates
+abbrev pub OperatingDaysAreExact : Type 0
+OperatingDaysAreExact = (leg : Leg) (end d : ℕ) → Contains (operating_days leg end) d ↔ Operates leg end d
+
+abbrev pub OperatingDaysAscend : Type 0
+OperatingDaysAscend = (leg : Leg) (end : ℕ) → IsStrictlyIncreasing (operating_days leg end)
+
+abbrev pub OperatingDaysLieWithin : Type 0
+OperatingDaysLieWithin = (leg : Leg) (end : ℕ) → All (λ d. (leg.from ≤ d) × (d ≤ last_day leg end)) (operating_days leg end)
 
 -- a day on which a leg operates, and the local day of its departure
 pub record Operation : Type 0 where

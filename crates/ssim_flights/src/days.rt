@@ -1,8 +1,7 @@
 //! The days on which a leg operates (SSIM chapter 7, period and days of operation).
-ghost use Rattle.std.specs.Prelude.{◌≡◌, ◌+◌, ◌-◌, ◌≤◌, ◌<◌, ◌↔◌, ℕ, All, Contains, IfOk, pos, unwrap_or};
-ghost use Rattle.std.specs.List.Sorted.{IsStrictlyIncreasing};
+ghost use Rattle.std.specs.Prelude.{◌≡◌, ◌+◌, ◌-◌, ◌≤◌, ◌<◌, IfOk, pos, unwrap_or};
 ghost use Rattle.jiff_core.specs.Calendar.{weekday_number};
-ghost use Rattle.ssim_flights.specs.Operating.{Operates, days_among, last_day, operates, operating_days};
+ghost use Rattle.ssim_flights.specs.Operating.{days_among, last_day, operates};
 
 use airline_base::{Day, Items, Memory};
 use ssim_records::Leg;
@@ -10,17 +9,6 @@ use std::alloc::Global;
 
 /// Days in order.
 pub type Days = Items<Day>;
-
-/// The days on which the leg operates, where `end` stands for an open end of its period.
-/// It refuses for want of memory alone.
-pub fn operating_days(alloc: Global, leg: &Leg, end: Day) -> Result<Days, Memory>
-    ensures value { IfOk result (λ days. days ≡ operating_days leg.now end) }
-    ensures exact { IfOk result (λ days. (d : ℕ) → Contains days d ↔ Operates leg.now end d) }
-    ensures ascending { IfOk result IsStrictlyIncreasing }
-    ensures within { IfOk result (All (λ d. (leg.now.from ≤ d) × (d ≤ last_day leg.now end))) }
-{
-    days_among(alloc, leg, days_of_period(leg, end))
-}
 
 /// How many days the leg's period has.
 pub(crate) fn days_of_period(leg: &Leg, end: Day) -> u32

@@ -12,6 +12,7 @@ mod flights;
 mod flown;
 mod index;
 mod itinerary;
+mod laws;
 mod leg_list;
 mod plan;
 mod rounds;
@@ -19,7 +20,8 @@ mod rows;
 mod schedule;
 mod served;
 
-pub use days::{Days, operating_days};
+pub use days::Days;
+pub use laws::operating_days_are_exact;
 pub use expansion::expand;
 pub use fault::{FlightFault, FlightKind};
 pub use flight::{DatedLeg, DatedLegs, Flight, Wanted};
