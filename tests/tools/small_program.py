@@ -27,6 +27,7 @@ ITEM = re.compile(
     r"(?:pub(?:\([^)]*\))?\s+)?(?:(?:ghost|unsafe|async)\s+)?(?:const\s+(?=fn\b))?"
     r"(?P<kind>use|mod|fn|const|static|struct|enum|impl|trait|type)\b\s*(?P<name>\w*)"
 )
+ARROW = re.compile(r"\s*=>\s*")
 CLAUSES = re.compile(r"\s*(?:(?:requires|ensures|decreases)\b[^{;]*)?\{")
 ENDS_AT_SEMICOLON = ("use", "const", "static", "type")
 
@@ -50,6 +51,22 @@ def closing(code, at):
     raise ValueError(f"a bracket does not close: {code[at:at + 60]}")
 
 
+def behind_blanks(code, at):
+    while at < len(code) and code[at].isspace():
+        at += 1
+    return at
+
+
+def with_comments(text, begin):
+    """Where the comments right above this place begin, but for those that are of the whole file."""
+    while True:
+        above = text.rfind("\n", 0, max(begin - 1, 0)) + 1
+        line = text[above:begin].strip()
+        if above == begin or not line.startswith("//") or line.startswith("//!"):
+            return begin
+        begin = above
+
+
 class Item:
     """An item of a file: where it begins (with its comments and attributes) and ends, where its last block begins, and what it is."""
 
@@ -61,43 +78,29 @@ class Item:
 def items(text):
     """The items of a file, in order."""
     code = blanked(text)
-    at = 0
     found = []
-    while True:
-        at += len(code[at:]) - len(code[at:].lstrip())
-        if at == len(code):
-            return found
+    at = behind_blanks(code, 0)
+    while at < len(code):
         begin = at
-        while code[at] == "#":
-            at = closing(code, code.index("[", at)) + 1
-            at += len(code[at:]) - len(code[at:].lstrip())
-            if code[begin:at].startswith("#!"):
-                begin = at
-        if at != begin and code[at] == "#":
-            continue
+        while code.startswith("#", at):
+            is_of_file = code.startswith("#!", at)
+            at = behind_blanks(code, closing(code, code.index("[", at)) + 1)
+            begin = at if is_of_file else begin
         head = ITEM.match(code, at)
         kind = head["kind"] if head else ""
-        i, block = at, None
-        while True:
-            if code[i] == ";":
-                break
-            if code[i] in "([{":
-                is_block = code[i] == "{" and kind not in ENDS_AT_SEMICOLON
-                if is_block:
-                    block = i
-                i = closing(code, i)
-                if is_block and not CLAUSES.match(code, i + 1):
+        end, block = at, None
+        while end < len(code) and code[end] != ";":
+            if code[end] in "([{":
+                is_block = code[end] == "{" and kind not in ENDS_AT_SEMICOLON
+                block = end if is_block else block
+                end = closing(code, end)
+                if is_block and not CLAUSES.match(code, end + 1):
                     break
-            i += 1
-        end = i + 1
-        while True:
-            line = text.rfind("\n", 0, max(begin - 1, 0)) + 1
-            above = text[line:begin].strip()
-            if line == begin or not above.startswith("//") or above.startswith("//!"):
-                break
-            begin = line
-        found.append(Item(begin, at, block, end, kind, head["name"] if head else ""))
-        at = end
+            end += 1
+        if at < len(code):
+            found.append(Item(with_comments(text, begin), at, block, end + 1, kind, head["name"] if head else ""))
+        at = behind_blanks(code, end + 1)
+    return found
 
 
 def leaves(tree):
@@ -149,19 +152,17 @@ def without_arms(text, wanted):
     code = blanked(text)
     spans = []
     for arm in re.finditer(r"(?<![|\w])\s*\bJob::(\w+)\s*", code):
-        at = arm.end()
-        if code[at] in "({":
-            at = closing(code, at) + 1
-        arrow = re.compile(r"\s*=>\s*").match(code, at)
+        at = closing(code, arm.end()) + 1 if code[arm.end()] in "({" else arm.end()
+        arrow = ARROW.match(code, at)
         if arm[1].lower() == wanted or not arrow:
             continue
-        begin = at = arrow.end()
+        at = arrow.end()
         if code[at] == "{":
-            spans.append((begin, closing(code, at) + 1, NOTHING))
+            spans.append((at, closing(code, at) + 1, NOTHING))
             continue
         while code[at] not in ",}":
             at = closing(code, at) + 1 if code[at] in "([{" else at + 1
-        spans.append((begin, at, "unreachable!()"))
+        spans.append((arrow.end(), at, NOTHING))
     return cut(text, spans)
 
 
