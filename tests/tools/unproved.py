@@ -86,15 +86,19 @@ def lies(path):
         return None
 
 
-def copied(source, path):
-    """Copies what a pipe or a terminal gives, as far as any input is read."""
-    with open(path, "wb") as it:
-        left = MOST_BYTES + 1
-        while left > 0:
-            piece = source.read(min(left, 1 << 20))
-            if not piece:
-                break
-            left -= it.write(piece)
+def is_copied(source, path):
+    """Copies what a pipe or a terminal gives, as far as any input is read; says whether it could be read."""
+    try:
+        with open(source, "rb", buffering=0, closefd=source != 0) as given, open(path, "wb") as it:
+            left = MOST_BYTES + 1
+            while left > 0:
+                piece = given.read(min(left, 1 << 20))
+                if not piece:
+                    break
+                left -= it.write(piece)
+        return True
+    except OSError:
+        return False
 
 
 def hand_over(words, room):
@@ -109,16 +113,15 @@ def hand_over(words, room):
             name = "."
         elif kind == stat.S_IFREG and os.access(path, os.R_OK):
             handed[name] = os.path.abspath(path)
-        elif kind is not None and os.access(path, os.R_OK):
+        elif kind is not None and is_copied(path, f"{room}/{name}"):
             handed[name] = f"{room}/{name}"
-            with open(path, "rb", buffering=0) as source:
-                copied(source, handed[name])
         # (a file that does not open is none in the program's folder either)
         given[at] = ahead + name
         called[name] = path
     if words.command == "ladder" or words.standard:
+        if not is_copied(0, f"{room}/standard-input"):
+            fail("standard input can't be read")
         handed["-"] = f"{room}/standard-input"
-        copied(sys.stdin.buffer.raw, handed["-"])
     for at in words.standard:
         given[at] = f"file-{at}"
         handed[given[at]] = handed["-"]
@@ -133,7 +136,7 @@ def is_utf_8():
 
 
 def tried(words, given, handed, room):
-    """What rt try says: its status, and the program's output and faults with its own lines behind."""
+    """What the program writes to standard output, and to standard error with the lines of rt try behind."""
     small_program.make(ROOT, f"{room}/program", words.command, is_utf_8())
     how = ["rt", "try", "--seconds", SECONDS]
     for name, path in handed.items():
@@ -158,6 +161,8 @@ def tried(words, given, handed, room):
 
 
 def main():
+    # (Python has none of those that the caller closed)
+    sys.stderr = sys.stderr or open(os.devnull, "w", encoding="utf-8")
     words = Words(sys.argv[1:])
     refuse(words)
     if not shutil.which("rt"):
@@ -186,8 +191,8 @@ def main():
     try:
         sys.stdout.buffer.write(out)
         sys.stdout.buffer.flush()
-    except OSError:
-        # (as the program ends where its standard output is not written to)
+    except (OSError, AttributeError):
+        # (as the program ends where its standard output is closed or takes nothing)
         print("seatdesk: DEVICE", file=sys.stderr, flush=True)
         os._exit(3)
     sys.exit(int(ended[1]))
