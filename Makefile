@@ -1,4 +1,4 @@
-# Installs the built program, its man page and its completions, and takes them away again. ./seatdesk builds the program.
+# Proves, tests and formats the crates, installs the built program, its man page and its completions, and takes them away again.
 
 PREFIX = /usr/local
 DESTDIR =
@@ -13,12 +13,26 @@ bash = $(DATADIR)/bash-completion/completions/seatdesk
 zsh = $(DATADIR)/zsh/site-functions/_seatdesk
 fish = $(DATADIR)/fish/vendor_completions.d/seatdesk.fish
 
-.PHONY: help install uninstall
+.PHONY: help check test fmt install uninstall
 
 help:
+	@echo 'make check       proves what changed since it was last proved'
+	@echo 'make test        the test command, .ci/run: every proof from nothing, and every test'
+	@echo 'make fmt         formats the sources of each crate that crates.txt names'
 	@echo 'make install     the built program, its man page and its completions, below PREFIX ($(PREFIX))'
-	@echo 'make uninstall   takes them away again'
-	@echo 'Both take PREFIX=FOLDER, and DESTDIR=FOLDER ahead of it. ./seatdesk --version proves and builds the program.'
+	@echo 'make uninstall   takes them away again, with the folders below PREFIX that are then empty'
+	@echo 'The last two take PREFIX=FOLDER, and DESTDIR=FOLDER ahead of it. ./seatdesk --version proves and builds the program.'
+
+check:
+	rt all check
+
+test:
+	.ci/run
+
+fmt:
+	@for it in $$(sed -n 's/^\([a-z_]*\)[^:#]*:.*/\1/p' crates.txt); do \
+	    (cd "crates/$$it" && rt fmt) || exit; \
+	done
 
 install:
 	@test -x $(program) || { echo 'The program is not built: ./seatdesk --version proves and builds it.' >&2; exit 1; }
@@ -33,5 +47,10 @@ install:
 	install -m 644 completions/_seatdesk '$(DESTDIR)$(zsh)'
 	install -m 644 completions/seatdesk.fish '$(DESTDIR)$(fish)'
 
+# (rmdir leaves a folder that holds anything)
 uninstall:
 	rm -f '$(DESTDIR)$(installed)' '$(DESTDIR)$(page)' '$(DESTDIR)$(bash)' '$(DESTDIR)$(zsh)' '$(DESTDIR)$(fish)'
+	@for it in '$(installed)' '$(page)' '$(bash)' '$(zsh)' '$(fish)'; do \
+	    it=$${it%/*}; \
+	    while case $$it in '$(PREFIX)'/*) rmdir "$(DESTDIR)$$it" 2>/dev/null ;; *) false ;; esac; do it=$${it%/*}; done; \
+	done
