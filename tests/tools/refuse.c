@@ -1,5 +1,5 @@
-/* A library to preload into an executable: it refuses one growth, or fails one sync, or fails or shortens one read or
- * write, of those that the executable makes from the start of its `main` on. The environment says which; numbers count from 1.
+/* A library to preload into an executable: it refuses one growth, or fails one sync or one look at a file, or fails or shortens
+ * one read or write, of those that the executable makes from the start of its `main` on. The environment says which; numbers count from 1.
  *
  *   REFUSE_ALLOC=N   the Nth malloc, calloc, realloc, reallocarray, memalign, aligned_alloc or posix_memalign
  *                    answers that there is no memory
@@ -10,6 +10,7 @@
  *   ZERO_WRITE=N     the Nth write takes 0 bytes
  *   ONE_BYTE=1       every read gives, and every write takes, one byte at most
  *   FAIL_SYNC=N      the Nth fsync or fdatasync fails (EIO, or the number in FAIL_ERROR)
+ *   FAIL_STAT=N      the Nth statx, by which a file is looked at, fails (EIO, or the number in FAIL_ERROR)
  *   REFUSE_MET=FILE  FILE is made once the Nth call was met
  *
  * Writes to standard error are neither counted nor touched: the fault line goes there. A shortened call counts as met
@@ -25,6 +26,7 @@
 #include <stdatomic.h>
 #include <stdint.h>
 #include <stdlib.h>
+#include <sys/stat.h>
 #include <sys/syscall.h>
 #include <sys/uio.h>
 #include <unistd.h>
@@ -34,11 +36,11 @@ extern void *__libc_calloc(size_t, size_t);
 extern void *__libc_realloc(void *, size_t);
 extern void *__libc_memalign(size_t, size_t);
 
-static long refuse_alloc, fail_read, fail_write, short_read, short_write, zero_write, one_byte, fail_sync;
+static long refuse_alloc, fail_read, fail_write, short_read, short_write, zero_write, one_byte, fail_sync, fail_stat;
 static int fail_error = EIO;
 static const char *met_file;
 static atomic_bool in_main;
-static atomic_long allocs, reads, writes, syncs;
+static atomic_long allocs, reads, writes, syncs, looks;
 
 static long number_of(const char *name) {
     const char *text = getenv(name);
@@ -68,6 +70,7 @@ static int counted_main(int count, char **words, char **environment) {
     zero_write = number_of("ZERO_WRITE");
     one_byte = number_of("ONE_BYTE");
     fail_sync = number_of("FAIL_SYNC");
+    fail_stat = number_of("FAIL_STAT");
     met_file = getenv("REFUSE_MET");
     if (number_of("FAIL_ERROR"))
         fail_error = (int)number_of("FAIL_ERROR");
@@ -208,3 +211,11 @@ static int do_sync(long how, int file) {
 
 int fsync(int file) { return do_sync(SYS_fsync, file); }
 int fdatasync(int file) { return do_sync(SYS_fdatasync, file); }
+
+/* Looks at a file. */
+
+int statx(int folder, const char *path, int flags, unsigned mask, struct statx *file) {
+    if (atomic_load(&in_main) && atomic_fetch_add(&looks, 1) + 1 == fail_stat)
+        return (int)failed();
+    return (int)syscall(SYS_statx, folder, path, flags, mask, file);
+}
