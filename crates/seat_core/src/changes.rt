@@ -7,14 +7,12 @@ ghost use Rattle.seat_bookings.specs.Books.{book_at, queue_at};
 ghost use Rattle.seat_rules.specs.Sequential.{changed_by, set, state_of};
 ghost use Rattle.seat_rules.specs.Tables.{advices_by};
 
-use seat_bookings::{FlightBook, queue_at};
 use crate::pass::advices_of;
 use crate::reply::{Answer, reply};
-use seat_bookings::steps_at;
-use seat_bookings::WaitingList;
+use airline_base::{Class, Code, Memory};
+use seat_bookings::{FlightBook, WaitingList, queue_at, steps_at};
 use seat_journal::{Advice, Change};
 use seat_nesting::{Counts, Step};
-use airline_base::{Class, Code, Memory};
 use std::alloc::Global;
 
 /// Answers a change of a limit, from the counters and the bookings of its flight. The counters are left as they were.

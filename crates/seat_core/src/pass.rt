@@ -7,12 +7,11 @@ ghost use Rattle.seat_rules.specs.Sequential.{advice_of};
 ghost use Rattle.seat_rules.specs.Showing.{given_back, shown_advices, taken_back};
 ghost use Rattle.seat_rules.specs.Tables.{advices_by, told_of};
 
-use seat_rules::Booking;
-use seat_rules::give_back;
+use airline_base::{Class, Memory, Place};
 use seat_bookings::WaitingList;
 use seat_journal::Advice;
 use seat_nesting::Counts;
-use airline_base::{Class, Memory, Place};
+use seat_rules::{Booking, give_back};
 use std::alloc::Global;
 
 /// A room that was looked up in the counters as they are.

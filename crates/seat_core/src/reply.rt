@@ -12,15 +12,13 @@ ghost use Rattle.seat_rules.specs.declared.booking.Status.TheVariants.{Waiting};
 ghost use Rattle.seat_rules.specs.Journal.{line_of};
 ghost use Rattle.seat_core.specs.Answers.{IsAsked, IsFlight, IsReply, Says};
 
-use seat_rules::{Action, Wish, action_of};
-use seat_rules::Booking;
-use seat_bookings::{FlightBook, book_at, find_in, queue_at};
 use crate::changes::answer_change;
 use crate::pass::{advices_after, advices_of_rest};
-use seat_bookings::{is_listed_at, may_wait_at};
+use airline_base::{Code, Memory, Place};
+use seat_bookings::{FlightBook, book_at, find_in, is_listed_at, may_wait_at, queue_at};
 use seat_journal::{Advice, Advices, Command, Entry, Work};
 use seat_nesting::Counts;
-use airline_base::{Code, Memory, Place};
+use seat_rules::{Action, Booking, Wish, action_of};
 use std::alloc::Global;
 
 /// What a line was answered.

@@ -2,8 +2,8 @@
 ghost use Rattle.std.specs.Prelude.{◌≡◌, if◌then◌else◌};
 ghost use Rattle.seat_rules.specs.Bookings.{is_for, is_held, is_waiting};
 
-use seat_journal::Command;
 use airline_base::{Class, Locator, Place};
+use seat_journal::Command;
 
 /// Whether a booking's seats are held or waited for.
 #[derive(Clone, Copy)]
