@@ -4,7 +4,7 @@ ghost use Rattle.std.specs.Prelude.{◌≡◌};
 use crate::deed_tests::{Deeds, act_all, gather_all, parts_of, play};
 use crate::inventories::grid_of;
 use crate::steps::{Row, lines_of};
-use seat_core::replay;
+use seat_core::{Core, replay};
 use seat_host::{Host, Hosting, Parts, Settled};
 use seat_journal::Entry;
 use std::alloc::Global;
@@ -112,7 +112,8 @@ new line
 #[tactic(auto, using(seat_host::proofs::Opening::only_eight))]
 fn parts_after<R: Wait>(rt: &R, alloc: Global, lines: &[Entry], cap: u32) -> Option<Parts> {
     let grid = grid_of(alloc, b"F010/000 Y008/000 M005/004")?;
-    let core = replay(alloc, grid, cap.clamp(1, 999_999), lines).ok()?;
+    let opened = Core::new(alloc, grid, cap.clamp(1, 999_999)).ok()?;
+    let core = replay(alloc, opened, lines).ok()?;
     let _ = core.journal();
     Parts::over(rt, alloc, core, SESSIONS).ok()
 }

@@ -21,7 +21,8 @@ pub fn grid_of(alloc: Global, ladder: &[u8]) -> Option<Grid> {
 /// The inventory whose journal has this text.
 pub fn core_of(alloc: Global, ladder: &[u8], text: &[u8]) -> Option<Core> {
     let lines = lines_of(alloc, text)?;
-    replay(alloc, grid_of(alloc, ladder)?, 999, lines.as_slice()).ok()
+    let opened = Core::new(alloc, grid_of(alloc, ladder)?, 999).ok()?;
+    replay(alloc, opened, lines.as_slice()).ok()
 }
 
 /// An inventory of so many lines: a seat of class F is sold, and taken back, over and over.
@@ -30,7 +31,8 @@ pub fn sold_and_cancelled(alloc: Global, ladder: &[u8], lines: u32) -> Option<Co
     for line in 0..lines {
         entries.push(sold_or_cancelled(alloc, line + 1)?).ok()?;
     }
-    replay(alloc, grid_of(alloc, ladder)?, 999_999, entries.as_slice()).ok()
+    let opened = Core::new(alloc, grid_of(alloc, ladder)?, 999_999).ok()?;
+    replay(alloc, opened, entries.as_slice()).ok()
 }
 
 fn sold_or_cancelled(alloc: Global, line: u32) -> Option<Entry> {

@@ -10,7 +10,7 @@ use Rattle.seat_limits.specs.declared.limit_fault.LimitKind.{LimitKind}
 use Rattle.seat_limits.specs.LadderText.{ladder_in}
 use Rattle.seat_nesting.specs.Nesting.{Steps, Legs}
 use Rattle.seat_rules.specs.Sequential.{State, room_left}
-use Rattle.seat_rules.specs.Journal.{calls_of, next_line, replay}
+use Rattle.seat_rules.specs.Journal.{asker, calls_of, next_line, replay}
 use Rattle.seat_desk.specs.declared.fault.DeskFault.{DeskFault}
 use Rattle.seat_desk.specs.declared.fault.DeskFault.TheVariants as faults
 use Rattle.seat_desk.specs.AuditDesk.{most_lines}
@@ -39,11 +39,6 @@ orders_behind before texts = orders_after (length before + 2) before texts
 -- one flight of one leg
 abbrev pub one_leg : Steps → Legs
 one_leg steps = (steps ∷ []) ∷ []
-
--- who asks: session 1 for seats, and session 0, the manager, for another limit
-abbrev pub asker : Work → ℕ
-asker (Seats c) = 1
-asker (Limit c) = 0
 
 -- the line that an order makes after these, as the next call of who asks
 abbrev pub line_for : Legs → List Entry → Work → Entry

@@ -19,6 +19,7 @@ use seat_core::Core;
 use seat_journal::Work;
 use seat_limits::{LimitFault, read_ladder};
 use seat_nesting::{Grid, Ladder, Step};
+use seat_rules::asker;
 use std::alloc::{AllocError, Global};
 
 /// 16 MiB.
@@ -155,20 +156,10 @@ fn answer_next(alloc: Global, core: &mut Core, order: Work) -> Result<(), DeskFa
     ensures cap { core.new.cap ≡ core.old.cap }
     ensures memory { IfErr result (λ f. f ≡ DeskFault.Memory) }
 {
-    match order {
-        Work::Seats(command) => {
-            let call = core.calls_of(1) + 1;
-            match core.step(alloc, 1, call, command) {
-                Ok(_) => Ok(()),
-                Err(_) => Err(DeskFault::Memory),
-            }
-        }
-        Work::Limit(change) => {
-            let call = core.calls_of(0) + 1;
-            match core.change(alloc, call, change) {
-                Ok(_) => Ok(()),
-                Err(_) => Err(DeskFault::Memory),
-            }
-        }
+    let session = asker(&order);
+    let call = core.calls_of(session) + 1;
+    match core.step(alloc, session, call, order) {
+        Ok(_) => Ok(()),
+        Err(_) => Err(DeskFault::Memory),
     }
 }

@@ -49,7 +49,7 @@ impl fmt::Display for ReplayKind {
     }
 }
 
-/// The first entry with a fault, by its place from 1, and its first fault. Want of memory at the opening has the number 0.
+/// The first entry with a fault, by its place from 1, and its first fault.
 #[derive(Clone, Copy)]
 pub struct ReplayFault {
     pub number: u32,

@@ -3,6 +3,7 @@
 #![tactic(auto)]
 
 mod action;
+mod asking;
 mod booking;
 mod effect;
 mod fault;
@@ -12,6 +13,7 @@ mod showing;
 mod totals;
 
 pub use action::{Action, Wish, action_of};
+pub use asking::{asker, may_ask};
 pub use booking::{Booking, Status};
 pub use effect::{Effect, effect_of};
 pub use fault::{CoreFault, ReplayFault, ReplayKind};
