@@ -6,8 +6,8 @@ use Rattle.seat_workers.proofs.workers.Workplace.book_by_turns.Given as goal
 
 abbrev pub invariant-loop-left : goal.invariant-loop-left
 invariant-loop-left g l = record {
-  at : IsAt (map g.J.Job.asks l.list) (map g.J.Job.asks l.left) l.initial.party l.party;
-  asks : All (Asks g.K.Hosting.grid l.party.id) (map g.J.Job.asks l.left);
+  at : IsAt (map g.J.Asking.asks l.list) (map g.J.Asking.asks l.left) l.initial.party l.party;
+  asks : All (Asks g.K.Hosting.grid l.party.id) (map g.J.Asking.asks l.left);
 }
 
 abbrev pub decreases-loop-left : goal.decreases-loop-left
