@@ -15,7 +15,8 @@ use seat_desk::{DeskFault, Inputs, desk_audit, desk_check, desk_flights, desk_la
 use seat_questions::{
     Asked, Bars, CityPair, desk_bookings, desk_cover, desk_opening_rooms, desk_rooms, desk_why,
 };
-use seat_run::{NO_LINES, desk_audit_against, desk_run};
+use seat_run::desk_run;
+use seat_scripts::{NO_LINES, desk_audit_against};
 use seat_words::{Horizon, date_word, days_word, line_word, locator_word, pair_word};
 use seat_workers::NoGate;
 use std::sync::Wait;

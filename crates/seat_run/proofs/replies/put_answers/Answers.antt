@@ -1,8 +1,8 @@
 use Rattle.std.proofs.Common.{subst}
 use Rattle.seat_journal.specs.declared.entry.Entry.{Entry}
-use Rattle.seat_run.specs.Answering.{IsBehind}
-use Rattle.seat_run.specs.RunDesk.{IsAnswer}
-use Rattle.seat_run.proofs.Parts.{answers_more}
+use Rattle.seat_scripts.specs.Answering.{IsBehind}
+use Rattle.seat_scripts.specs.RunDesk.{IsAnswer}
+use Rattle.seat_scripts.proofs.Parts.{answers_more}
 use Rattle.seat_run.proofs.replies.put_answers.Goals as goal
 
 pub loop-receipt-preserved : goal.loop-receipt-preserved

@@ -4,12 +4,12 @@ use Rattle.seat_desk.specs.Desk.{HasFailed}
 use Rattle.seat_desk.specs.declared.fault.DeskFault.TheVariants.{Memory}
 use Rattle.seat_journal.specs.declared.entry.Change.{Change}
 use Rattle.seat_nesting.specs.Nesting.{Legs}
-use Rattle.seat_run.specs.Changes.{AreChanges}
-use Rattle.seat_run.specs.Going.{lists_over}
-use Rattle.seat_run.specs.Requests.{AreScripts, HasFailedAmong, commands_of}
-use Rattle.seat_run.specs.RunDesk.{IsHistoryOf, IsUnbooked}
-use Rattle.seat_run.proofs.Reading.{between}
-use Rattle.seat_run.proofs.Written.{run_stopped, run_unbooked, run_written}
+use Rattle.seat_scripts.specs.Changes.{AreChanges}
+use Rattle.seat_scripts.specs.Going.{lists_over}
+use Rattle.seat_scripts.specs.Requests.{AreScripts, HasFailedAmong, commands_of}
+use Rattle.seat_scripts.specs.RunDesk.{IsHistoryOf, IsUnbooked}
+use Rattle.seat_scripts.proofs.Reading.{between}
+use Rattle.seat_scripts.proofs.Written.{run_stopped, run_unbooked, run_written}
 use Rattle.seat_run.proofs.run.desk_run.Goals as goal
 
 pub answer-requires-clause-count : goal.answer-requires-clause-count

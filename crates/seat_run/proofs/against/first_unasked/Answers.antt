@@ -1,8 +1,0 @@
-use Rattle.std.proofs.Common.{◌≡◌, ℕ, arith, subst}
-use Rattle.seat_run.specs.Against.{AreAskedBelow}
-use Rattle.seat_run.proofs.against.first_unasked.Goals as goal
-
-pub returns-clause-same : goal.returns-clause-same
-returns-clause-same c =
-    let nine : c.loop-session.session ≡ 9 = omega (arith, c.loop-session-test.false, c.loop-session.invariant.within) in
-    subst (λ (s : ℕ). AreAskedBelow c.args.lists.now c.args.lines.now s) nine c.loop-session.invariant.below

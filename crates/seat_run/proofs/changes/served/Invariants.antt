@@ -1,6 +1,0 @@
-use Rattle.std.proofs.Common.{take}
-use Rattle.seat_run.specs.Changes.{AreServed}
-use Rattle.seat_run.proofs.changes.served.Given as goal
-
-abbrev pub invariant-loop-row : goal.invariant-loop-row
-invariant-loop-row l = AreServed l.flights (take l.row-index l.rows) l.changes.items

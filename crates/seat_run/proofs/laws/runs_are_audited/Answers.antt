@@ -1,5 +1,0 @@
-use Rattle.seat_run.proofs.Audits.{runs_are_audited}
-use Rattle.seat_run.proofs.laws.runs_are_audited.Goals as goal
-
-pub returns : goal.returns
-returns c = runs_are_audited

@@ -1,0 +1,120 @@
+-- A journal beside an older one that it goes on from.
+use Rattle.std.proofs.Common.{◌≡◌, inr, ℕ, suc, ◌+◌, ◌<◌, ◌≤◌, Bool, true, false, List, [], ◌∷◌, ◌++◌, length, take, drop, get_or, refl, sym, ap, ◌∙◌, subst, Option, Some, None}
+use Rattle.std.specs.Prelude.{IsTrue, slice_get}
+use Rattle.std.proofs.Math.Seq.{drop-cons}
+use Rattle.std.proofs.lemmas.List.{take-append-drop, take_all, take_more}
+use Rattle.std.proofs.lemmas.Option.{get_or_from_slice_get, slice_get_within}
+use Rattle.seat_nesting.specs.Nesting.{Legs}
+use Rattle.seat_journal.specs.declared.entry.Command.{Command}
+use Rattle.seat_journal.specs.declared.entry.Entry.{Entry}
+use Rattle.seat_journal.specs.declared.entry.Work.{Work}
+use Rattle.seat_rules.specs.Journal.{IsLegal, IsNext, calls_of, next_line}
+use Rattle.seat_rules.specs.Prefixes.{Begins}
+use Rattle.seat_desk.specs.declared.fault.DeskFault.TheVariants.{Unasked}
+use Rattle.seat_scripts.specs.Against.{AreAskedBehind, AreAskedBelow, IsFirstUnasked, IsNoBeginning, IsUnasked, line_there}
+use Rattle.seat_scripts.proofs.Comparing.{all_asked}
+
+-- ---- legal histories
+
+-- the front of a list and the line behind it
+parts_at : (lines : List Entry) (i : ℕ) (e : Entry) → slice_get lines i ≡ Some e → lines ≡ (take i lines ++ e ∷ []) ++ drop (suc i) lines
+parts_at lines i e at =
+    let lt : i < length lines = slice_get_within lines i e at in
+    let is : get_or lines i e ≡ e = get_or_from_slice_get lines i e e at in
+    sym (take-append-drop i lines) ∙ (ap (λ (l : List Entry). take i lines ++ l) (drop-cons lines i e lt ∙ ap (λ (x : Entry). x ∷ drop (suc i) lines) is)
+    ∙ behind (take i lines) (drop (suc i) lines))
+  where
+    behind : (xs ys : List Entry) → xs ++ e ∷ ys ≡ (xs ++ e ∷ []) ++ ys
+    behind [] ys = refl
+    behind (x ∷ xs) ys = ap (λ (l : List Entry). x ∷ l) (behind xs ys)
+
+next_at : (grid : Legs) (lines : List Entry) (i : ℕ) (e : Entry) → IsLegal grid lines → slice_get lines i ≡ Some e → IsNext grid (take i lines) e
+next_at grid lines i e legal at = legal.each (take i lines) e (record { rest = drop (suc i) lines; is = parts_at lines i e at })
+
+-- of two lines that may follow the same past, those of one session that ask for the same are one
+same_next : (grid : Legs) (past : List Entry) (a b : Entry) → IsNext grid past a → IsNext grid past b → a.session ≡ b.session → a.work ≡ b.work → a ≡ b
+same_next grid past a b one two session work =
+    let call : a.call ≡ b.call = one.call ∙ (ap (λ (s : ℕ). calls_of past s + 1) session ∙ sym two.call) in
+    one.line
+    ∙ (ap (λ (s : ℕ). next_line grid past s a.call a.work) session
+    ∙ (ap (λ (c : ℕ). next_line grid past b.session c a.work) call
+    ∙ (ap (λ (w : Work). next_line grid past b.session b.call w) work ∙ sym two.line)))
+
+-- ---- one line after the other
+
+module _ (grid : Legs) (older journal : List Entry) (old_legal : IsLegal grid older) (legal : IsLegal grid journal) (i : ℕ) (line : Entry) (at : slice_get older i ≡ Some line)
+    (so_far : take i journal ≡ take i older) where
+  within : i < length older
+  within = slice_get_within older i line at
+
+  module _ (there : Entry) (here : slice_get journal i ≡ Some there) where
+    -- two that are alike are one line
+    alike : there.session ≡ line.session → there.work ≡ line.work → there ≡ line
+    alike session work =
+        same_next grid (take i older) there line
+        (subst (λ (past : List Entry). IsNext grid past there) so_far (next_at grid journal i there legal here))
+        (next_at grid older i line old_legal at) session work
+
+    pub same_more : (there.session ≡ line.session) × (there.work ≡ line.work) → take (i + 1) journal ≡ take (i + 1) older
+    same_more both =
+        let is : there ≡ line = alike both.0 both.1 in
+        take_more journal i there (slice_get_within journal i there here)
+        ∙ (ap (λ (x : Entry). take i journal ++ x ∷ []) (get_or_from_slice_get journal i there there here ∙ is)
+        ∙ (ap (λ (l : List Entry). l ++ line ∷ []) so_far
+        ∙ (ap (λ (x : Entry). take i older ++ x ∷ []) (sym (get_or_from_slice_get older i line line at)) ∙ sym (take_more older i line within))))
+
+    pub part_here : (told : Bool) → told ≡ false → ((there.session ≡ line.session) × (there.work ≡ line.work) → IsTrue told) → IsNoBeginning older journal there.session there.call
+    part_here told no_told says = record {
+      place = i;
+      named = there;
+      part = record {
+        within = within;
+        before = so_far;
+        there = λ (same : slice_get journal i ≡ slice_get older i). untrue (says (agree (one (sym here ∙ (same ∙ at)))));
+        named_is = ap (λ (o : Option Entry). line_there o (slice_get older i)) here;
+      };
+      session_is = refl;
+      call_is = refl;
+    } where
+      one : Some there ≡ Some line → there ≡ line
+      one e = cc
+
+      agree : there ≡ line → (there.session ≡ line.session) × (there.work ≡ line.work)
+      agree e = (ap (λ (x : Entry). x.session) e, ap (λ (x : Entry). x.work) e)
+
+      untrue : IsTrue told → ⊥
+      untrue t = let bad : false ≡ true = sym no_told ∙ t in cc
+
+  -- the journal has ended
+  pub part_end : slice_get journal i ≡ None → IsNoBeginning older journal line.session line.call
+  part_end none = record {
+    place = i;
+    named = line;
+    part = record {
+      within = within;
+      before = so_far;
+      there = λ (same : slice_get journal i ≡ slice_get older i). some_is_none (sym (same ∙ at) ∙ none);
+      named_is = ap (λ (o : Option Entry). line_there o (slice_get older i)) none ∙ at;
+    };
+    session_is = refl;
+    call_is = refl;
+  } where
+    some_is_none : Some line ≡ None → ⊥
+    some_is_none e = cc
+
+pub begins_all : (older journal : List Entry) (i : ℕ) → length older ≤ i → take i journal ≡ take i older → Begins older journal
+begins_all older journal i whole so_far = record {
+  rest = drop i journal;
+  is = sym (take-append-drop i journal) ∙ ap (λ (l : List Entry). l ++ drop i journal) (so_far ∙ take_all i older whole);
+}
+
+-- ---- the whole
+
+pub all_behind : (grid : Legs) (lists : List (List Command)) (older journal added : List Entry) → IsLegal grid journal → journal ≡ older ++ added → length lists ≤ 8 → AreAskedBelow lists added 9
+    → AreAskedBehind lists older journal
+all_behind grid lists older journal added legal is few below = record { goes_on = record { rest = added; is = is }; are_asked = all_asked grid lists older journal added legal is few below }
+
+pub unasked_behind : (lists : List (List Command)) (older journal added : List Entry) (session place call : ℕ) → journal ≡ older ++ added → IsFirstUnasked lists added session place
+    → call ≡ calls_of older session + place → IsUnasked lists older journal (Unasked session call)
+unasked_behind lists older journal added session place call is first call_is =
+    inr (record { goes_on = record { rest = added; is = is }; place = place; first = first; call_is = call_is })

@@ -1,0 +1,111 @@
+-- What an audit with scripts writes or refuses is that of its inputs, where what was read of each is all of it.
+use Rattle.std.proofs.Common.{◌≡◌, ◌≢◌, inr, ℕ, List, Option, Some, None, IfSome, map, subst, sym}
+use Rattle.airimp_lines.specs.declared.requests.Request.{Request}
+use Rattle.ssim_flights.specs.declared.flight.Flight.{Flight as Flown}
+use Rattle.seat_nesting.specs.Nesting.{Legs}
+use Rattle.seat_rules.specs.Inventory.{Inventory}
+use Rattle.seat_rules.specs.Totals.{totals_of}
+use Rattle.seat_desk.specs.AuditDesk.{IsUnlawful, audit_line}
+use Rattle.seat_desk.specs.Desk.{IsOfInput}
+use Rattle.seat_desk.specs.Loading.{IsLoaded}
+use Rattle.seat_desk.specs.declared.fault.DeskFault.{DeskFault}
+use Rattle.seat_desk.specs.declared.fault.DeskFault.TheVariants.{Journal, Memory, Replay, Script, Unasked}
+use Rattle.seat_scripts.specs.Against.{AreAskedBehind, IsAuditAgainst, IsRefusedAgainst, IsReplayWithin, IsUnasked, OfFour}
+use Rattle.seat_scripts.specs.Requests.{AreScripts, IsOfScript, IsRefusedAmong, commands_of}
+
+-- what is said of known bytes is said of those that may be known
+if_known : (P : List ℕ → List ℕ → Type 0) (A Q : List ℕ → Type 0) (R : List ℕ → List ℕ → List ℕ → List ℕ → Type 0) (set limits after journal : Option (List ℕ))
+    → ((xs ys older zs : List ℕ) → P xs ys → A older → Q zs → R xs ys older zs)
+    → IfSome set (λ xs. IfSome limits (λ ys. P xs ys)) → IfSome after A → IfSome journal Q → OfFour set limits after journal R
+if_known P A Q R (Some xs) (Some ys) (Some older) (Some zs) give p a q = give xs ys older zs p a q
+if_known P A Q R (Some xs) (Some ys) (Some older) None give p a q = tt
+if_known P A Q R (Some xs) (Some ys) None journal give p a q = tt
+if_known P A Q R (Some xs) None after journal give p a q = tt
+if_known P A Q R None limits after journal give p a q = tt
+
+-- ---- refusals, where all is known
+
+module _ (set limits : List ℕ) (first days : ℕ) (after journal : List ℕ) (today : ℕ) (texts : List (Option (List ℕ))) where
+  abbrev Refused : DeskFault → Type 0
+  Refused fault = IsRefusedAgainst set limits first days after journal today texts fault
+
+  module _ (flights : List Flown) (grid : Legs) (loaded : IsLoaded set limits first days flights grid) (older : Inventory) (before : IsReplayWithin grid older after) where
+    of_journal : (fault : DeskFault) → IsUnlawful grid fault journal → Refused fault
+    of_journal (Journal fault) unlawful =
+        record { refusal = inr (record { flights = flights; grid = grid; is_loaded = loaded; older = older; is_older = before; is_unlawful = unlawful }) }
+    of_journal (Replay fault) unlawful =
+        record { refusal = inr (record { flights = flights; grid = grid; is_loaded = loaded; older = older; is_older = before; is_unlawful = unlawful }) }
+    of_journal _ unlawful = absurd unlawful.refused
+
+    module _ (core : Inventory) (replayed : IsReplayWithin grid core journal) where
+      of_scripts : (fault : DeskFault) → IsOfScript fault → IsRefusedAmong today 1 texts fault → Refused fault
+      of_scripts (Script session fault) script refused =
+          record { refusal = record { flights = flights; grid = grid; is_loaded = loaded; older = older; is_older = before; core = core; is_replay = replayed; is_refused = refused } }
+      of_scripts _ script refused = absurd script
+
+      of_lines : (scripts : List (List Request)) → AreScripts today texts scripts → (fault : DeskFault) → IsUnasked (map (commands_of flights) scripts) older.journal core.journal fault → Refused fault
+      of_lines scripts are (Unasked session call) unasked = record {
+        refusal = record {
+          flights = flights;
+          grid = grid;
+          is_loaded = loaded;
+          older = older;
+          is_older = before;
+          core = core;
+          is_replay = replayed;
+          scripts = scripts;
+          are_scripts = are;
+          is_unasked = unasked;
+        };
+      }
+      of_lines scripts are _ unasked = absurd unasked
+
+-- ---- refusals and lines, as far as the bytes are known
+
+module _ (set limits after journal : Option (List ℕ)) (first days today : ℕ) (texts : List (Option (List ℕ))) where
+  abbrev IsRefused : DeskFault → Type 0
+  IsRefused fault = OfFour set limits after journal (λ xs ys older zs. IsRefusedAgainst xs ys first days older zs today texts fault)
+
+  module _ (flights : List Flown) (grid : Legs) (loaded : IfSome set (λ xs. IfSome limits (λ ys. IsLoaded xs ys first days flights grid)))
+      (older : Inventory) (before : IfSome after (IsReplayWithin grid older)) where
+    -- of the journal
+    pub refused_journal : (fault : DeskFault) → (IsOfInput fault → IfSome journal (IsUnlawful grid fault)) → IsOfInput fault → IsRefused fault
+    refused_journal fault refused input =
+        if_known (λ xs ys. IsLoaded xs ys first days flights grid) (IsReplayWithin grid older) (IsUnlawful grid fault) (λ xs ys old zs. IsRefusedAgainst xs ys first days old zs today texts fault) set limits after journal
+        (λ xs ys old zs is was unlawful. of_journal xs ys first days old zs today texts flights grid is older was fault unlawful) loaded before (refused input)
+
+    module _ (core : Inventory) (replayed : IfSome journal (IsReplayWithin grid core)) where
+      -- of a script
+      pub refused_script : (fault : DeskFault) → (IsOfInput fault → IsOfScript fault) → (IsOfInput fault → IsRefusedAmong today 1 texts fault) → IsOfInput fault → IsRefused fault
+      refused_script fault script refused input =
+          if_known (λ xs ys. IsLoaded xs ys first days flights grid) (IsReplayWithin grid older) (IsReplayWithin grid core) (λ xs ys old zs. IsRefusedAgainst xs ys first days old zs today texts fault) set limits after journal
+          (λ xs ys old zs is was h. of_scripts xs ys first days old zs today texts flights grid is older was core h fault (script input) (refused input)) loaded before replayed
+
+      module _ (scripts slice : List (List Request)) (same : slice ≡ scripts) (are : AreScripts today texts scripts) where
+        here : AreScripts today texts slice
+        here = subst (AreScripts today texts) (sym same) are
+
+        -- of a line that is not asked
+        pub refused_unasked : (fault : DeskFault) → (fault ≢ Memory → IsUnasked (map (commands_of flights) slice) older.journal core.journal fault) → IsOfInput fault → IsRefused fault
+        refused_unasked fault unasked input =
+            if_known (λ xs ys. IsLoaded xs ys first days flights grid) (IsReplayWithin grid older) (IsReplayWithin grid core) (λ xs ys old zs. IsRefusedAgainst xs ys first days old zs today texts fault) set limits after journal
+            (λ xs ys old zs is was h. of_lines xs ys first days old zs today texts flights grid is older was core h slice here fault (unasked (λ (e : fault ≡ Memory). subst IsOfInput e input))) loaded before replayed
+
+        -- the line of the audit
+        pub audited : (line : List ℕ) → line ≡ audit_line (totals_of core.journal) → AreAskedBehind (map (commands_of flights) slice) older.journal core.journal
+            → OfFour set limits after journal (λ xs ys old zs. IsAuditAgainst xs ys first days old zs today texts line)
+        audited line sums asked =
+            if_known (λ xs ys. IsLoaded xs ys first days flights grid) (IsReplayWithin grid older) (IsReplayWithin grid core) (λ xs ys old zs. IsAuditAgainst xs ys first days old zs today texts line) set limits after journal
+            (λ xs ys old zs is was h. record {
+              flights = flights;
+              grid = grid;
+              is_loaded = is;
+              older = older;
+              is_older = was;
+              within = h.within;
+              is_audited = record { entries = core.journal; is_text = h.is_replay.is_text; legal = h.is_replay.legal; few = h.is_replay.few; within = h.is_replay.within; sums = sums };
+              scripts = slice;
+              are_scripts = here;
+              are_asked = asked;
+            })
+            loaded before replayed

@@ -1,0 +1,33 @@
+-- Behind a journal without lines all is new.
+use Rattle.std.proofs.Common.{◌≡◌, ℕ, ◌-◌, List, [], ◌++◌, length, map, refl, sym, ap, ◌∙◌, subst, arith}
+use Rattle.std.proofs.lemmas.List.{append-nil}
+use Rattle.seat_journal.specs.declared.entry.Command.{Command}
+use Rattle.seat_journal.specs.declared.entry.Entry.{Entry}
+use Rattle.seat_journal.proofs.TextLaws.{one_text}
+use Rattle.seat_rules.specs.Histories.{by_session}
+use Rattle.seat_scripts.specs.First.{RunsFromNoLines}
+use Rattle.seat_scripts.specs.Going.{highest_to, idle, lists_over}
+use Rattle.seat_scripts.specs.Requests.{commands_of}
+use Rattle.seat_scripts.specs.RunDesk.{AreReplies, IsHistoryOf, works_in}
+
+-- no session is opened but for the lists
+lists_alone : (past : List Entry) (lists : List (List Command)) → past ≡ [] → lists_over past lists ≡ lists
+lists_alone past lists nothing =
+    let lowest : highest_to 8 [] ≡ 0 = refl in
+    let none : highest_to 8 past - length lists ≡ 0 = omega (arith, ap (highest_to 8) nothing, lowest) in
+    ap (λ (k : ℕ). lists ++ idle k) none ∙ append-nil lists
+
+pub runs_from_no_lines : RunsFromNoLines
+runs_from_no_lines set limits first days today after texts changing journal replies empty run =
+    let lists = map (commands_of run.flights) run.scripts in
+    let nothing : run.past ≡ [] = one_text after run.past [] run.is_past.is_text empty in
+    let h = subst (λ (l : List (List Command)). IsHistoryOf run.grid run.past run.changes l run.history) (lists_alone run.past lists nothing) run.is_history in
+    let r = run.is_replied in
+    let history : run.history ≡ h.added = h.goes_on ∙ ap (λ (l : List Entry). l ++ h.added) nothing in
+    let answered : run.history ≡ r.added = r.goes_on ∙ ap (λ (l : List Entry). l ++ r.added) nothing in
+    record {
+      headline = h.headline;
+      asked = ap (λ (l : List Entry). map works_in (by_session (length lists) l)) history ∙ h.asked;
+      are_replies = subst (λ (l : List Entry). AreReplies run.flights l run.scripts run.history replies) nothing
+          (subst (λ (l : List Entry). AreReplies run.flights run.past run.scripts l replies) (sym answered) r.are_replies);
+    }

@@ -1,0 +1,292 @@
+-- The lines that a history adds to the past can be answered: what they and their advices answer is there.
+use Rattle.std.proofs.Common.{◌≡◌, ⊎_elim, ℕ, zero, suc, ◌+◌, ◌-◌, ◌<◌, ◌≤◌, List, [], ◌∷◌, ◌++◌, length, map, refl, sym, ap, ◌∙◌, subst, arith, get_or, Option, Some, None, length-append, append_assoc, take, ◌==◌}
+use Rattle.std.specs.Prelude.{slice_get, slice_index, unwrap_or}
+use Rattle.std.specs.List.{AllByRecursion}
+use Rattle.std.specs.Option.{option_map}
+use Rattle.std.proofs.lemmas.Bool.{cases_lt}
+use Rattle.std.proofs.lemmas.List.{append-nil, get_or_past, length-map, length-take-le}
+use Rattle.std.proofs.lemmas.Option.{slice_get-get_or, slice_get-map, slice_get_cases}
+use Rattle.airimp_lines.specs.declared.requests.Request.{Request}
+use Rattle.airimp_lines.specs.declared.segment.Segment.{Segment}
+use Rattle.airline_base.specs.declared.place.Place.{Place}
+use Rattle.ssim_flights.specs.declared.flight.DatedLeg.{DatedLeg}
+use Rattle.ssim_flights.specs.declared.flight.Flight.{Flight as Flown}
+use Rattle.seat_journal.specs.declared.entry.Advice.{Advice}
+use Rattle.seat_journal.specs.declared.entry.Change.{Change}
+use Rattle.seat_journal.specs.declared.entry.Command.{Command}
+use Rattle.seat_journal.specs.declared.entry.Entry.{Entry}
+use Rattle.seat_journal.specs.declared.entry.Work.{Work}
+use Rattle.seat_journal.specs.declared.entry.Work.TheVariants.{Seats, Limit}
+use Rattle.seat_limits.specs.Authorised.{authorised_grid, authorised_legs}
+use Rattle.seat_nesting.specs.Nesting.{Fits, Legs, Steps, legs_of}
+use Rattle.seat_limits.specs.declared.limit_row.LimitRow.{LimitRow}
+use Rattle.seat_rules.specs.Journal.{IsLegal, IsLegalAfter, IsNext, MayAsk, calls_of}
+use Rattle.seat_rules.proofs.History.Legal.{legal_to_after}
+use Rattle.seat_rules.specs.Histories.{of_session, by_session}
+use Rattle.seat_rules.proofs.Own.{own_append, own_one, calls_own}
+use Rattle.seat_desk.specs.FlightsDesk.{IsText}
+use Rattle.seat_desk.specs.Loading.{IsGridOf}
+use Rattle.seat_scripts.specs.declared.past.Past.{Past}
+use Rattle.seat_scripts.specs.Answering.{AreAllAnswerable, AreAnswerable, HasRequest, IsAnswerable, IsAsked, IsBooked}
+use Rattle.seat_scripts.specs.Going.{behind, idle, lists_over, past_of, segment_at, segment_between, segment_from, segment_of, segment_on}
+use Rattle.seat_scripts.specs.Requests.{commands_of}
+use Rattle.seat_scripts.specs.RunDesk.{AreAnswers, IsHistoryOf, IsReplied, at_any, works_in, works_of}
+use Rattle.seat_scripts.proofs.Advised.{AreAdvised, IsPlaced, all_push, legal_is_advised}
+use Rattle.seat_scripts.proofs.Going.{added_lines, idle_at, over_count, lines_at, past_calls, past_counts, sessions_count}
+use Rattle.seat_scripts.proofs.Rows.{all_kept, all_of}
+use Rattle.seat_scripts.proofs.Serving.{legs_are}
+
+same_some : {A : Type 0} → (x y : A) → Some x ≡ Some y → x ≡ y
+same_some x y e = cc e
+
+-- ---- the segment of a place on the grid
+
+record IsThere (legs : List DatedLeg) (i : ℕ) : Type 0 where
+  leg : DatedLeg
+  at : slice_get legs i ≡ Some leg
+
+leg_there : (legs : List DatedLeg) (i : ℕ) → i < length legs → IsThere legs i
+leg_there [] i lt = absurd (omega (arith, lt))
+leg_there (leg ∷ legs) zero lt = record { leg = leg; at = refl }
+leg_there (leg ∷ legs) (suc i) lt = let rest = leg_there legs i (omega (arith, lt)) in record { leg = rest.leg; at = rest.at }
+
+record IsFlown (flights : List Flown) (c : Command) : Type 0 where
+  segment : Segment
+  is : segment_of flights c ≡ Some segment
+
+flown_on : (flights : List Flown) (c : Command) (place : Place) (flight : Flown) → c.place ≡ Some place → slice_get flights place.flight ≡ Some flight
+    → place.from < length flight.legs → place.to < length flight.legs → IsFlown flights c
+flown_on flights c place flight on at from to =
+    let first = leg_there flight.legs place.from from in
+    let last = leg_there flight.legs place.to to in
+    record {
+      segment = segment_from c flight first.leg last.leg;
+      is = ap (segment_on flights c) on ∙ (ap (segment_at c place) at
+          ∙ (ap (λ (o : Option DatedLeg). segment_between c flight o (slice_get flight.legs place.to)) first.at
+          ∙ ap (λ (o : Option DatedLeg). segment_between c flight (Some first.leg) o) last.at));
+    }
+
+no_legs : (rows : List LimitRow) (flights : List Flown) (i : ℕ) → slice_get flights i ≡ None → length (legs_of (authorised_grid rows flights) i) ≡ 0
+no_legs rows flights i at =
+    let none : slice_get (authorised_grid rows flights) i ≡ None = slice_get-map (authorised_legs rows) flights i ∙ ap (λ (o : Option Flown). option_map (authorised_legs rows) o) at in
+    ap (λ (o : Option (List Steps)). length (unwrap_or o [])) none
+
+flown : (flights : List Flown) (grid : Legs) (c : Command) (place : Place) → IsGridOf flights grid → c.place ≡ Some place → Fits grid place → IsFlown flights c
+flown flights grid c place g on fits =
+    let i = place.flight in
+    let to : place.to < length (legs_of (authorised_grid g.rows flights) i) = subst (λ (l : Legs). place.to < length (legs_of l i)) g.is fits.1 in
+    ⊎_elim
+    (λ (s : (x : Flown) × (i < length flights) × (slice_get flights i ≡ Some x) × (get_or flights i x ≡ x)).
+    let same = legs_are g.rows flights i s.0 s.2 in
+    flown_on flights c place s.0 on s.2 (omega (arith, fits.0, to, same)) (omega (arith, to, same)))
+    (λ (n : (length flights ≤ i) × (slice_get flights i ≡ None)). absurd (omega (arith, to, no_legs g.rows flights i n.1)))
+    (slice_get_cases flights i).1
+
+-- ---- each line's request
+
+-- the list of each session is that of its script, and none beyond the scripts
+list_of : (flights : List Flown) (scripts : List (List Request)) (k i : ℕ) → get_or (map (commands_of flights) scripts ++ idle k) i [] ≡ commands_of flights (get_or scripts i [])
+list_of flights [] k i = idle_at k i
+list_of flights (script ∷ scripts) k zero = refl
+list_of flights (script ∷ scripts) k (suc i) = list_of flights scripts k i
+
+module _ (grid : Legs) (past : List Entry) (flights : List Flown) (changes : List Change) (scripts : List (List Request)) (history : List Entry)
+    (h : IsHistoryOf grid past changes (lists_over past (map (commands_of flights) scripts)) history) where
+  abbrev lists : List (List Command)
+  lists = lists_over past (map (commands_of flights) scripts)
+
+  -- a session has a line behind the past for each request of its script
+  own_count : (i : ℕ) → i < length lists → length (of_session (suc i) h.added) ≡ length (get_or scripts i [])
+  own_count i lt =
+      let within : suc i < length (by_session (length lists) h.added) = omega (arith, lt, sessions_count (length lists) h.added) in
+      let here : slice_get (by_session (length lists) h.added) (suc i) ≡ Some (of_session (suc i) h.added) =
+      slice_get-get_or (by_session (length lists) h.added) (suc i) [] within ∙ ap Some (lines_at (length lists) (suc i) h.added (omega (arith, lt))) in
+      let lines : slice_get (works_of changes lists) (suc i) ≡ Some (works_in (of_session (suc i) h.added)) =
+      ap (λ (l : List (List Work)). slice_get l (suc i)) (sym h.asked) ∙ (slice_get-map works_in (by_session (length lists) h.added) (suc i) ∙ ap (option_map works_in) here) in
+      let asked : slice_get (works_of changes lists) (suc i) ≡ Some (map Seats (get_or lists i [])) =
+      slice_get-map (map Seats) lists i ∙ ap (option_map (map Seats)) (slice_get-get_or lists i [] lt) in
+      let same : works_in (of_session (suc i) h.added) ≡ map Seats (get_or lists i []) = same_some _ _ (sym lines ∙ asked) in
+      sym (length-map (of_session (suc i) h.added) (λ (e : Entry). e.work))
+      ∙ (ap length same ∙ (length-map (get_or lists i []) Seats
+      ∙ (ap length (list_of flights scripts _ i) ∙ length-map (get_or scripts i []) _)))
+
+  own_at : (s : ℕ) (front es : List Entry) (e : Entry) → e.session ≡ s → length (of_session s (front ++ e ∷ es)) ≡ length (of_session s front) + suc (length (of_session s es))
+  own_at s front es e is =
+      let later : of_session s (e ∷ es) ≡ e ∷ of_session s es = own_append s (e ∷ []) es ∙ ap (λ (l : List Entry). l ++ of_session s es) (own_one s e is) in
+      ap length (own_append s front (e ∷ es)) ∙ (length-append (of_session s front) (of_session s (e ∷ es)) ∙ ap (λ (l : List Entry). length (of_session s front) + length l) later)
+
+  -- a session that has a line behind the past is one of those that were opened
+  opened : (s n : ℕ) → length (of_session s h.added) ≡ suc n → s ≤ length lists
+  opened s n some =
+      ⊎_elim (λ (high : length lists < s).
+      let none : length (of_session s history) ≡ 0 = ap length (h.headline.only.none s high) in
+      let all : length (of_session s history) ≡ length (of_session s past) + length (of_session s h.added) =
+      ap (λ (l : List Entry). length (of_session s l)) h.goes_on ∙ (ap length (own_append s past h.added) ∙ length-append (of_session s past) (of_session s h.added)) in
+      absurd (omega (arith, none, all, some)))
+      (λ (le : s ≤ length lists). le)
+      (cases_lt (length lists) s)
+
+  -- and has a script
+  scripted : (s n : ℕ) → 1 ≤ s → length (of_session s h.added) ≡ suc n → s - 1 < length scripts
+  scripted s n low some =
+      let up : suc (s - 1) ≡ s = omega (arith, low) in
+      let own : length (of_session s h.added) ≡ length (get_or scripts (s - 1) []) =
+      ap (λ (k : ℕ). length (of_session k h.added)) (sym up) ∙ own_count (s - 1) (omega (arith, low, opened s n some)) in
+      ⊎_elim (λ (lt : s - 1 < length scripts). lt)
+      (λ (le : length scripts ≤ s - 1). let none : get_or scripts (s - 1) [] ≡ [] = get_or_past scripts (s - 1) [] le in absurd (omega (arith, own, some, ap length none)))
+      (cases_lt (s - 1) (length scripts))
+
+  has_request : (front es : List Entry) (e : Entry) → h.added ≡ front ++ e ∷ es → IsNext grid (past ++ front) e → 1 ≤ e.session → e.session ≤ 8 → HasRequest (past_of past) scripts e
+  has_request front es e is next low high =
+      let s = e.session in
+      let counted : length (of_session s h.added) ≡ length (of_session s front) + suc (length (of_session s es)) = ap (λ (l : List Entry). length (of_session s l)) is ∙ own_at s front es e refl in
+      let some : length (of_session s h.added) ≡ suc (length (of_session s front) + length (of_session s es)) = omega (arith, counted) in
+      let at : s - 1 < length scripts = scripted s (length (of_session s front) + length (of_session s es)) low some in
+      let up : suc (s - 1) ≡ s = omega (arith, low) in
+      let own : length (of_session s h.added) ≡ length (get_or scripts (s - 1) []) =
+      ap (λ (k : ℕ). length (of_session k h.added)) (sym up) ∙ own_count (s - 1) (omega (arith, low, opened s (length (of_session s front) + length (of_session s es)) some)) in
+      let before : calls_of (past ++ front) s ≡ calls_of past s + length (of_session s front) =
+      calls_own (past ++ front) s ∙ (ap length (own_append s past front) ∙ (length-append (of_session s past) (of_session s front) ∙ ap (λ (k : ℕ). k + length (of_session s front)) (sym (calls_own past s)))) in
+      let known : slice_index (past_of past).calls s ≡ calls_of past s = past_calls past s high in
+      record {
+        session = (low, omega (arith, at, low));
+        script = get_or scripts (s - 1) [];
+        at = slice_get-get_or scripts (s - 1) [] at;
+        counted = omega (arith, high, past_counts past);
+        call = (omega (arith, next.call, before, known), omega (arith, next.call, before, known, own, counted));
+      }
+
+  is_asked : (front es : List Entry) (e : Entry) → h.added ≡ front ++ e ∷ es → IsNext grid (past ++ front) e → (w : Work) → e.work ≡ w → IsAsked (past_of past) scripts e w
+  is_asked front es e is next (Seats c) work =
+      let may : MayAsk e.session (Seats c) = subst (MayAsk e.session) work next.session in
+      has_request front es e is next may.0 may.1
+  is_asked front es e is next (Limit c) work = tt
+
+  have_requests : (front es : List Entry) → h.added ≡ front ++ es → IsLegalAfter grid (past ++ front) es → AllByRecursion (λ (e : Entry). IsAsked (past_of past) scripts e e.work) es
+  have_requests front [] is legal = tt
+  have_requests front (e ∷ es) is legal = (
+    is_asked front es e is legal.0 e.work refl,
+    have_requests (front ++ e ∷ []) es (is ∙ sym (append_assoc front (e ∷ []) es))
+        (subst (λ (l : List Entry). IsLegalAfter grid l es) (append_assoc past front (e ∷ [])) legal.1),
+  )
+
+  all_asked : AllByRecursion (λ (e : Entry). IsAsked (past_of past) scripts e e.work) h.added
+  all_asked =
+      let none : past ++ [] ≡ past = append-nil past in
+      have_requests [] h.added refl (subst (λ (l : List Entry). IsLegalAfter grid l h.added) (sym none)
+      (legal_to_after grid past h.added (subst (IsLegal grid) h.goes_on h.headline.legal)))
+
+  -- ---- each advice's booking
+
+  booked : IsGridOf flights grid → (number : ℕ) → IsPlaced grid history number → IsBooked flights history number
+  booked of_grid number placed =
+      let on : IsFlown flights placed.command = flown flights grid placed.command placed.place of_grid placed.place_is placed.fits in
+      record {
+        within = placed.within;
+        line = placed.line;
+        at = placed.at;
+        command = placed.command;
+        work_is = placed.work_is;
+        segment = on.segment;
+        flown = on.is;
+      }
+
+  -- ---- all lines that were added
+
+  each_advised : IsGridOf flights grid → (advices : List Advice) → AllByRecursion (λ (a : Advice). IsPlaced grid history a.number) advices
+      → AllByRecursion (λ (a : Advice). IsBooked flights history a.number) advices
+  each_advised g [] told = tt
+  each_advised g (a ∷ advices) told = (booked g a.number told.0, each_advised g advices told.1)
+
+  answer_each : IsGridOf flights grid → (lines : List Entry) → AllByRecursion (λ (e : Entry). IsAsked (past_of past) scripts e e.work) lines → AreAdvised grid history lines
+      → AllByRecursion (IsAnswerable flights (past_of past) scripts history) lines
+  answer_each g [] asked told = tt
+  answer_each g (e ∷ es) asked told = (
+    record { asked = asked.0; advised = record { each = all_of (λ (a : Advice). IsBooked flights history a.number) e.advices (each_advised g e.advices told.0) } },
+    answer_each g es asked.1 told.1,
+  )
+
+  added_advised : (xs ys : List Entry) → AreAdvised grid history (xs ++ ys) → AreAdvised grid history ys
+  added_advised [] ys all = all
+  added_advised (x ∷ xs) ys all = added_advised xs ys all.1
+
+  all_lines : IsGridOf flights grid → AllByRecursion (IsAnswerable flights (past_of past) scripts history) h.added
+  all_lines g =
+      answer_each g h.added all_asked
+      (added_advised past h.added (subst (λ (l : List Entry). AreAdvised grid history l) h.goes_on (legal_is_advised grid history h.headline.legal)))
+
+  answer_sessions : (n : ℕ) (lines : List Entry) → AllByRecursion (IsAnswerable flights (past_of past) scripts history) lines
+      → AllByRecursion (AreAnswerable flights (past_of past) scripts history) (by_session n lines)
+  answer_sessions zero lines all =
+      let is = IsAnswerable flights (past_of past) scripts history in
+      (record { each = all_of is (of_session 0 lines) (all_kept is (λ (e : Entry). e.session == 0) lines all) }, tt)
+  answer_sessions (suc n) lines all =
+      let is = IsAnswerable flights (past_of past) scripts history in
+      all_push (AreAnswerable flights (past_of past) scripts history) (by_session n lines) (of_session (suc n) lines) (answer_sessions n lines all)
+      (record { each = all_of is (of_session (suc n) lines) (all_kept is (λ (e : Entry). e.session == suc n) lines all) })
+
+  -- session by session
+  answerable : (n : ℕ) → IsGridOf flights grid → AreAllAnswerable flights (past_of past) scripts history (by_session n h.added)
+  answerable n g = record {
+    each = all_of (AreAnswerable flights (past_of past) scripts history) (by_session n h.added) (answer_sessions n h.added (all_lines g));
+  }
+
+  -- what the receipts of the scripts' sessions have behind the past
+  receipts_behind : length scripts ≤ 8 → behind (past_of past).calls (take (length scripts + 1) (by_session (length lists) history)) ≡ by_session (length scripts) h.added
+  receipts_behind few =
+      let enough : length scripts ≤ length lists = omega (arith, over_count past (map (commands_of flights) scripts), length-map scripts (commands_of flights)) in
+      let up : length scripts + 1 ≡ suc (length scripts) = omega arith in
+      ap (λ (k : ℕ). behind (past_of past).calls (take k (by_session (length lists) history))) up
+      ∙ (ap (λ (l : List Entry). behind (past_of past).calls (take (suc (length scripts)) (by_session (length lists) l))) h.goes_on
+      ∙ added_lines (length scripts) (length lists) past h.added enough few)
+
+  -- so these can be answered, and their answers are the replies
+  behind_answerable : IsGridOf flights grid → length scripts ≤ 8
+      → AreAllAnswerable flights (past_of past) scripts history (behind (past_of past).calls (take (length scripts + 1) (by_session (length lists) history)))
+  behind_answerable g few = subst (λ (rows : List (List Entry)). AreAllAnswerable flights (past_of past) scripts history rows) (sym (receipts_behind few)) (answerable (length scripts) g)
+
+  replied : (text : List ℕ) → length scripts ≤ 8
+      → IsText (at_any (AreAnswers flights (past_of past) scripts history)) 0 (behind (past_of past).calls (take (length scripts + 1) (by_session (length lists) history))) text
+      → IsReplied flights past scripts history text
+  replied text few said =
+      let rows = subst (λ (rows : List (List Entry)). IsText (at_any (AreAnswers flights (past_of past) scripts history)) 0 rows text) (receipts_behind few) said in
+      record {
+        added = h.added;
+        goes_on = h.goes_on;
+        are_replies = subst (λ (l : List Entry). IsText (at_any (AreAnswers flights (past_of past) scripts l)) 0 (by_session (length scripts) h.added) text) h.goes_on rows;
+      }
+
+-- ---- the same, said of what the host was asked and what it gave
+
+module _ (grid : Legs) (past : List Entry) (flights : List Flown) (changes : List Change) (scripts : List (List Request)) (history slice : List Entry) (before : Past)
+    (lists : List (List Command)) (receipts : List (List Entry)) (few : length scripts ≤ 8) (known : before ≡ past_of past) (asked : lists ≡ lists_over past (map (commands_of flights) scripts))
+    (same : slice ≡ history) (own : receipts ≡ by_session (length lists) history) where
+  abbrev opened_lists : List (List Command)
+  opened_lists = lists_over past (map (commands_of flights) scripts)
+
+  own_rows : receipts ≡ by_session (length opened_lists) history
+  own_rows = own ∙ ap (λ (l : List (List Command)). by_session (length l) history) asked
+
+  -- each script's session has its receipts
+  pub rows_enough : length scripts + 1 ≡ length (take (length scripts + 1) receipts)
+  rows_enough =
+      let rows : length receipts ≡ suc (length opened_lists) = ap length own_rows ∙ sessions_count (length opened_lists) history in
+      let enough : length scripts ≤ length opened_lists = omega (arith, over_count past (map (commands_of flights) scripts), length-map scripts (commands_of flights)) in
+      sym (length-take-le (length scripts + 1) receipts (omega (arith, rows, enough)))
+
+  pub lines_answerable : IsGridOf flights grid → IsHistoryOf grid past changes lists history → AreAllAnswerable flights before scripts slice (behind before.calls (take (length scripts + 1) receipts))
+  lines_answerable g h =
+      let on = subst (λ (l : List (List Command)). IsHistoryOf grid past changes l history) asked h in
+      subst (λ (b : Past). AreAllAnswerable flights b scripts slice (behind b.calls (take (length scripts + 1) receipts))) (sym known)
+      (subst (λ (l : List Entry). AreAllAnswerable flights (past_of past) scripts l (behind (past_of past).calls (take (length scripts + 1) receipts))) (sym same)
+      (subst (λ (rows : List (List Entry)). AreAllAnswerable flights (past_of past) scripts history (behind (past_of past).calls (take (length scripts + 1) rows))) (sym own_rows)
+      (behind_answerable grid past flights changes scripts history on g few)))
+
+  pub lines_replied : (text : List ℕ) → IsHistoryOf grid past changes lists history
+      → IsText (at_any (AreAnswers flights before scripts slice)) 0 (behind before.calls (take (length scripts + 1) receipts)) text → IsReplied flights past scripts history text
+  lines_replied text h said =
+      let on = subst (λ (l : List (List Command)). IsHistoryOf grid past changes l history) asked h in
+      replied grid past flights changes scripts history on text few
+      (subst (λ (rows : List (List Entry)). IsText (at_any (AreAnswers flights (past_of past) scripts history)) 0 (behind (past_of past).calls (take (length scripts + 1) rows)) text) own_rows
+      (subst (λ (l : List Entry). IsText (at_any (AreAnswers flights (past_of past) scripts l)) 0 (behind (past_of past).calls (take (length scripts + 1) receipts)) text) same
+      (subst (λ (b : Past). IsText (at_any (AreAnswers flights b scripts slice)) 0 (behind b.calls (take (length scripts + 1) receipts)) text) known said)))

@@ -1,0 +1,17 @@
+pub mod Advised
+mod Comparing
+pub mod Rows
+pub mod Going
+mod Beginnings
+pub mod Parts
+pub mod Serving
+pub mod Histories
+mod Changing
+pub mod Reading
+pub mod Written
+mod Keeping
+mod Lengths
+mod Audits
+mod Unasked
+mod Beside
+mod First

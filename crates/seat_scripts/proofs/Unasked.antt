@@ -1,0 +1,83 @@
+-- What is refused as unasked has no line of an audit.
+use Rattle.std.proofs.Common.{◌≡◌, ⊎_elim, ◌-◌, ◌<◌, ℕ, zero, suc, List, [], ◌∷◌, ◌++◌, length, map, refl, sym, ap, ◌∙◌, subst, arith, Some}
+use Rattle.std.specs.Prelude.{slice_get}
+use Rattle.std.proofs.lemmas.List.{append_cancel_left}
+use Rattle.ssim_records.specs.declared.set.DataSet.{DataSet}
+use Rattle.ssim_records.proofs.SetLaws.{one_data_set}
+use Rattle.airimp_lines.specs.declared.requests.Request.{Request}
+use Rattle.airimp_lines.proofs.Uniqueness.{one_script}
+use Rattle.ssim_flights.specs.declared.flight.Flight.{Flight as Flown}
+use Rattle.seat_nesting.specs.Nesting.{Legs}
+use Rattle.seat_journal.specs.declared.entry.Command.{Command}
+use Rattle.seat_journal.specs.declared.entry.Entry.{Entry}
+use Rattle.seat_journal.specs.declared.entry.Work.{Work}
+use Rattle.seat_journal.proofs.TextLaws.{one_text}
+use Rattle.seat_rules.specs.Prefixes.{Begins}
+use Rattle.seat_desk.specs.CheckDesk.{most_records}
+use Rattle.seat_desk.specs.FlightsDesk.{set_flights}
+use Rattle.seat_desk.specs.Loading.{IsLoadedGrid}
+use Rattle.seat_desk.specs.declared.fault.DeskFault.{DeskFault}
+use Rattle.seat_desk.specs.declared.fault.DeskFault.TheVariants.{Unasked}
+use Rattle.seat_scripts.specs.Against.{AreAsked, AreAskedBehind, AuditsBehindNoLines, DifferAt, IsNoBeginning, IsUnasked, IsUnaskedBehind, UnaskedIsNotAudited, done_by}
+use Rattle.seat_scripts.specs.Requests.{AreScripts, commands_of}
+
+one_schedule : (set limits : List ℕ) (first days : ℕ) (flights flights' : List Flown) (grid grid' : Legs)
+    → IsLoadedGrid set limits first days flights grid → IsLoadedGrid set limits first days flights' grid' → flights ≡ flights'
+one_schedule set limits first days flights flights' grid grid' a b =
+    let sets : a.is_schedule.set ≡ b.is_schedule.set = one_data_set most_records most_records set a.is_schedule.set b.is_schedule.set a.is_schedule.is_set b.is_schedule.is_set in
+    a.is_schedule.are_flights ∙ (ap (λ (s : DataSet). set_flights s first days) sets ∙ sym b.is_schedule.are_flights)
+
+same_scripts : (today : ℕ) (texts : List (List ℕ)) (a b : List (List Request)) → AreScripts today (map Some texts) a → AreScripts today (map Some texts) b → a ≡ b
+same_scripts today [] [] [] h k = refl
+same_scripts today [] [] (y ∷ b) h k = absurd k
+same_scripts today [] (x ∷ a) b h k = absurd h
+same_scripts today (text ∷ texts) [] b h k = absurd h
+same_scripts today (text ∷ texts) (x ∷ a) [] h k = absurd k
+same_scripts today (text ∷ texts) (x ∷ a) (y ∷ b) h k =
+    ap (λ (l : List (List Request)). x ∷ l) (same_scripts today texts a b h.1 k.1) ∙ ap (λ (r : List Request). r ∷ b) (one_script today text x y h.0.is_script k.0.is_script)
+
+differs : (call : ℕ) (done asked : List Work) → DifferAt call done asked → done ≡ asked → ⊥
+differs call done asked differ same = differ.there (ap (λ (l : List Work). slice_get l (call - 1)) same)
+
+-- a beginning has the same lines
+same_there : (xs ys : List Entry) (i : ℕ) → i < length xs → slice_get (xs ++ ys) i ≡ slice_get xs i
+same_there [] ys i lt = absurd (omega (arith, lt))
+same_there (x ∷ xs) ys zero lt = refl
+same_there (x ∷ xs) ys (suc i) lt = same_there xs ys i (omega (arith, lt))
+
+begins_not : (older journal : List Entry) (session call : ℕ) → IsNoBeginning older journal session call → Begins older journal → ⊥
+begins_not older journal session call parts begins =
+    parts.part.there (ap (λ (l : List Entry). slice_get l parts.place) begins.is ∙ same_there older begins.rest parts.place parts.part.within)
+
+behind_not : (lists : List (List Command)) (older journal : List Entry) (session call : ℕ) → IsUnaskedBehind lists older journal session call → AreAskedBehind lists older journal → ⊥
+behind_not lists older journal session call unasked asked =
+    let same : unasked.goes_on.rest ≡ asked.goes_on.rest = append_cancel_left older unasked.goes_on.rest asked.goes_on.rest (sym unasked.goes_on.is ∙ asked.goes_on.is) in
+    differs unasked.place _ _ unasked.first.differ (ap (done_by session) same ∙ asked.are_asked.each session unasked.first.from_one)
+
+not_asked : (lists : List (List Command)) (older journal : List Entry) (fault : DeskFault) → IsUnasked lists older journal fault → AreAskedBehind lists older journal → ⊥
+not_asked lists older journal (Unasked session call) unasked asked =
+    ⊎_elim
+    (λ (parts : IsNoBeginning older journal session call). begins_not older journal session call parts asked.goes_on)
+    (λ (behind : IsUnaskedBehind lists older journal session call). behind_not lists older journal session call behind asked)
+    unasked
+not_asked lists older journal _ none asked = none
+
+pub unasked_is_not_audited : UnaskedIsNotAudited
+unasked_is_not_audited set limits first days after journal today texts fault line refused audited =
+    let flown : refused.flights ≡ audited.flights = one_schedule set limits first days refused.flights audited.flights refused.grid audited.grid refused.is_loaded.loaded audited.is_loaded.loaded in
+    let entries : refused.core.journal ≡ audited.is_audited.entries = one_text journal refused.core.journal audited.is_audited.entries refused.is_replay.is_replay.is_text audited.is_audited.is_text in
+    let lines : refused.older.journal ≡ audited.older.journal = one_text after refused.older.journal audited.older.journal refused.is_older.is_replay.is_text audited.is_older.is_replay.is_text in
+    let scripts : refused.scripts ≡ audited.scripts = same_scripts today texts refused.scripts audited.scripts refused.are_scripts audited.are_scripts in
+    let lists : map (commands_of audited.flights) audited.scripts ≡ map (commands_of refused.flights) refused.scripts =
+    ap (λ (f : List Flown). map (commands_of f) audited.scripts) (sym flown) ∙ ap (λ (s : List (List Request)). map (commands_of refused.flights) s) (sym scripts) in
+    not_asked (map (commands_of refused.flights) refused.scripts) refused.older.journal refused.core.journal fault refused.is_unasked
+    (subst (λ (l : List (List Command)). AreAskedBehind l refused.older.journal refused.core.journal) lists
+    (subst (λ (es : List Entry). AreAskedBehind (map (commands_of audited.flights) audited.scripts) es refused.core.journal) (sym lines)
+    (subst (λ (es : List Entry). AreAskedBehind (map (commands_of audited.flights) audited.scripts) audited.older.journal es) (sym entries) audited.are_asked)))
+
+pub audits_behind_no_lines : AuditsBehindNoLines
+audits_behind_no_lines set limits first days after journal today texts line empty audit =
+    let nothing : audit.older.journal ≡ [] = one_text after audit.older.journal [] audit.is_older.is_replay.is_text empty in
+    let asked = audit.are_asked in
+    let all : audit.is_audited.entries ≡ asked.goes_on.rest = asked.goes_on.is ∙ ap (λ (lines : List Entry). lines ++ asked.goes_on.rest) nothing in
+    subst (AreAsked (map (commands_of audit.flights) audit.scripts)) (sym all) asked.are_asked

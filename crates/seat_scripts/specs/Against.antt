@@ -1,0 +1,207 @@
+-- What `audit` with scripts writes: the line of `audit`, where the journal has just what the scripts ask, behind the lines of an older one.
+use Rattle.std.specs.Prelude.{◌≡◌, ◌≢◌, ◌≤◌, ◌<◌, ◌+◌, ◌-◌, ◌⊎◌, ◌&&◌, ◌==◌, ℕ, Bool, nat_eq, List, [], length, map, take, Option, Some, None, IfSome, slice_get}
+use Rattle.std.specs.Cmp.Lexicographic.{pointwise}
+use Rattle.std.specs.Option.{option_eq}
+use Rattle.airimp_lines.specs.declared.requests.Request.{Request}
+use Rattle.ssim_flights.specs.declared.flight.Flight.{Flight as Flown}
+use Rattle.seat_nesting.specs.Nesting.{Legs}
+use Rattle.seat_journal.specs.Text.{IsJournalText}
+use Rattle.seat_journal.specs.declared.entry.Change.{Change}
+use Rattle.seat_journal.specs.declared.entry.Command.{Command}
+use Rattle.seat_journal.specs.declared.entry.Entry.{Entry}
+use Rattle.seat_journal.specs.declared.entry.Work.{Work}
+use Rattle.seat_journal.specs.declared.entry.Work.TheVariants.{Seats}
+use Rattle.seat_rules.specs.Bookings.{same_place}
+use Rattle.seat_rules.specs.Inventory.{Inventory}
+use Rattle.seat_rules.specs.Journal.{calls_of}
+use Rattle.seat_rules.specs.Prefixes.{Begins}
+use Rattle.seat_rules.specs.Histories.{of_session}
+use Rattle.seat_desk.specs.AuditDesk.{IsAudited, IsRefusedOver, IsReplayOf, IsTooLarge, IsUnlawful, most_journal_bytes}
+use Rattle.seat_desk.specs.Loading.{Bytes, IsLoaded, IsRefusedLoad}
+use Rattle.seat_desk.specs.declared.inputs.Inputs.{Inputs}
+use Rattle.seat_desk.specs.declared.fault.DeskFault.{DeskFault}
+use Rattle.seat_desk.specs.declared.fault.DeskFault.TheVariants.{Journal, Replay, Script, Unasked}
+use Rattle.seat_scripts.specs.Requests.{AreScripts, IsRefusedAmong, IsTooLargeAmong, commands_of}
+use Rattle.seat_scripts.specs.RunDesk.{works_in}
+
+-- ---- what is asked, and what is in the journal
+
+-- what the lines of a session ask for, in order
+abbrev pub done_by : ℕ → List Entry → List Work
+done_by session journal = works_in (of_session session journal)
+
+-- what a list asks for, in order; no list asks for nothing
+abbrev pub works_of_list : Option (List Command) → List Work
+works_of_list None = []
+works_of_list (Some commands) = map Seats commands
+
+-- what the list of a session asks for: that of session 1 is the first, and sessions beyond the lists have none
+abbrev pub asked_by : List (List Command) → ℕ → List Work
+asked_by lists session = works_of_list (slice_get lists (session - 1))
+
+-- the lines of each session below this one are what its list asks for, whatever the manager's are
+pub record AreAskedBelow (lists : List (List Command)) (journal : List Entry) (limit : ℕ) : Type 0 where
+  pub each : (session : ℕ) → 1 ≤ session → session < limit → done_by session journal ≡ asked_by lists session
+
+-- so are those of each session
+pub record AreAsked (lists : List (List Command)) (journal : List Entry) : Type 0 where
+  pub each : (session : ℕ) → 1 ≤ session → done_by session journal ≡ asked_by lists session
+
+-- the two are the same before this place, which counts from 1, and differ at it: one has another there, or has ended
+pub record DifferAt (call : ℕ) (done asked : List Work) : Type 0 where
+  pub from_one : 1 ≤ call
+  pub before : take (call - 1) done ≡ take (call - 1) asked
+  pub there : slice_get done (call - 1) ≢ slice_get asked (call - 1)
+
+-- the first session whose lines are not what its list asks for, and the first call at which they differ
+pub record IsFirstUnasked (lists : List (List Command)) (journal : List Entry) (session call : ℕ) : Type 0 where
+  pub from_one : 1 ≤ session
+  pub before : AreAskedBelow lists journal session
+  pub differ : DifferAt call (done_by session journal) (asked_by lists session)
+
+-- ---- behind an older journal
+
+-- the journal begins with the older lines, and the lines of each session behind them are what its list asks for. Behind no lines that is AreAsked of the journal
+pub record AreAskedBehind (lists : List (List Command)) (older journal : List Entry) : Type 0 where
+  pub goes_on : Begins older journal
+  pub are_asked : AreAsked lists goes_on.rest
+
+-- the line of the journal at a place, or the older one there where the journal has ended
+abbrev pub line_there : Option Entry → Option Entry → Option Entry
+line_there (Some line) older = Some line
+line_there None older = older
+
+-- the two are the same before this place, and at it stands another line than the older one, or none; this one is named
+pub record PartAt (place : ℕ) (older journal : List Entry) (named : Entry) : Type 0 where
+  pub within : place < length older
+  pub before : take place journal ≡ take place older
+  pub there : slice_get journal place ≢ slice_get older place
+  pub named_is : line_there (slice_get journal place) (slice_get older place) ≡ Some named
+
+-- the journal does not begin with the older lines: this is the call of the line that is named where the two part
+pub record IsNoBeginning (older journal : List Entry) (session call : ℕ) : Type 0 where
+  pub place : ℕ
+  pub named : Entry
+  pub part : PartAt place older journal named
+  pub session_is : session ≡ named.session
+  pub call_is : call ≡ named.call
+
+-- it does, and of the lines behind them this is the first that is not asked: its call, which goes on from those of the older lines
+pub record IsUnaskedBehind (lists : List (List Command)) (older journal : List Entry) (session call : ℕ) : Type 0 where
+  pub goes_on : Begins older journal
+  pub place : ℕ
+  pub first : IsFirstUnasked lists goes_on.rest session place
+  pub call_is : call ≡ calls_of older session + place
+
+-- the fault names that session and that call
+abbrev pub IsUnasked : List (List Command) → List Entry → List Entry → DeskFault → Type 0
+IsUnasked lists older journal (Unasked session call) = IsNoBeginning older journal session call ⊎ IsUnaskedBehind lists older journal session call
+IsUnasked lists older journal _ = ⊥
+
+-- a test of two commands, field by field
+abbrev pub same_command : Command → Command → Bool
+same_command a b = pointwise nat_eq a.locator b.locator && option_eq same_place a.place b.place && (a.class == b.class) && pointwise nat_eq a.code b.code && (a.seats == b.seats)
+
+-- and of two changes
+abbrev pub same_change : Change → Change → Bool
+same_change a b = (a.flight == b.flight) && (a.leg == b.leg) && (a.class == b.class) && (a.limit == b.limit) && (a.wait == b.wait)
+
+-- ---- the whole
+
+-- the bytes are not too large, and replay to this inventory
+pub record IsReplayWithin (grid : Legs) (core : Inventory) (bytes : List ℕ) : Type 0 where
+  pub within : length bytes ≤ most_journal_bytes
+  pub is_replay : IsReplayOf grid bytes core
+
+-- the line audits the journal over the loaded grid; the journal goes on from the older one, and behind its lines those of each session are the requests of its script, in order, each on the place that is wanted
+pub record IsAuditAgainst (set limits : List ℕ) (first days : ℕ) (after journal : List ℕ) (today : ℕ) (texts : List (Option (List ℕ))) (line : List ℕ) : Type 0 where
+  pub flights : List Flown
+  pub grid : Legs
+  pub is_loaded : IsLoaded set limits first days flights grid
+  pub older : Inventory
+  pub is_older : IsReplayWithin grid older after
+  pub within : length journal ≤ most_journal_bytes
+  pub is_audited : IsAudited grid journal line
+  pub scripts : List (List Request)
+  pub are_scripts : AreScripts today texts scripts
+  pub are_asked : AreAskedBehind (map (commands_of flights) scripts) older.journal is_audited.entries
+
+-- where the bytes of the set, of the limits and of both journals are known
+abbrev pub OfFour : Option (List ℕ) → Option (List ℕ) → Option (List ℕ) → Option (List ℕ) → (List ℕ → List ℕ → List ℕ → List ℕ → Type 0) → Type 0
+OfFour set limits after journal P = IfSome set (λ xs. IfSome limits (λ ys. IfSome after (λ older. IfSome journal (λ zs. P xs ys older zs))))
+
+abbrev pub IsAuditAgainstOf : {S L : Type 0} → Bytes S → Bytes L → Inputs S L → Option (List ℕ) → Option (List ℕ) → ℕ → List (Option (List ℕ)) → List ℕ → Type 0
+IsAuditAgainstOf set limits inputs after journal today texts line =
+    OfFour (set inputs.set) (limits inputs.limits) after journal (λ xs ys older zs. IsAuditAgainst xs ys inputs.first inputs.days older zs today texts line)
+
+-- the older journal is right, and the fault is that of the journal
+pub record IsUnlawfulBeside (set limits : List ℕ) (first days : ℕ) (after journal : List ℕ) (fault : DeskFault) : Type 0 where
+  pub flights : List Flown
+  pub grid : Legs
+  pub is_loaded : IsLoaded set limits first days flights grid
+  pub older : Inventory
+  pub is_older : IsReplayWithin grid older after
+  pub is_unlawful : IsUnlawful grid fault journal
+
+-- both journals are right, and the fault is that of the first script that is none
+pub record IsNoScriptBeside (set limits : List ℕ) (first days : ℕ) (after journal : List ℕ) (today : ℕ) (texts : List (Option (List ℕ))) (fault : DeskFault) : Type 0 where
+  pub flights : List Flown
+  pub grid : Legs
+  pub is_loaded : IsLoaded set limits first days flights grid
+  pub older : Inventory
+  pub is_older : IsReplayWithin grid older after
+  pub core : Inventory
+  pub is_replay : IsReplayWithin grid core journal
+  pub is_refused : IsRefusedAmong today 1 texts fault
+
+-- the journals and the scripts are right, but the journal does not begin with the older lines, or the lines behind them are not what the scripts ask for, and the fault names where they differ first
+pub record IsUnaskedBeside (set limits : List ℕ) (first days : ℕ) (after journal : List ℕ) (today : ℕ) (texts : List (Option (List ℕ))) (fault : DeskFault) : Type 0 where
+  pub flights : List Flown
+  pub grid : Legs
+  pub is_loaded : IsLoaded set limits first days flights grid
+  pub older : Inventory
+  pub is_older : IsReplayWithin grid older after
+  pub core : Inventory
+  pub is_replay : IsReplayWithin grid core journal
+  pub scripts : List (List Request)
+  pub are_scripts : AreScripts today texts scripts
+  pub is_unasked : IsUnasked (map (commands_of flights) scripts) older.journal core.journal fault
+
+-- a fault of a journal is that of the older one, or else of the one behind it. A script's is the first of the first script that is none, and
+-- one of a call stands where the journals, or the journal and the scripts, differ first. Any other is of the set, of its flights or of the limits
+abbrev pub AgainstRefusal : List ℕ → List ℕ → ℕ → ℕ → List ℕ → List ℕ → ℕ → List (Option (List ℕ)) → DeskFault → Type 0
+AgainstRefusal set limits first days after journal today texts (Journal fault) =
+    IsRefusedOver set limits first days (Journal fault) after ⊎ IsUnlawfulBeside set limits first days after journal (Journal fault)
+AgainstRefusal set limits first days after journal today texts (Replay fault) =
+    IsRefusedOver set limits first days (Replay fault) after ⊎ IsUnlawfulBeside set limits first days after journal (Replay fault)
+AgainstRefusal set limits first days after journal today texts (Script session fault) = IsNoScriptBeside set limits first days after journal today texts (Script session fault)
+AgainstRefusal set limits first days after journal today texts (Unasked session call) = IsUnaskedBeside set limits first days after journal today texts (Unasked session call)
+AgainstRefusal set limits first days after journal today texts fault = IsRefusedLoad set limits first days fault
+
+pub record IsRefusedAgainst (set limits : List ℕ) (first days : ℕ) (after journal : List ℕ) (today : ℕ) (texts : List (Option (List ℕ))) (fault : DeskFault) : Type 0 where
+  pub refusal : AgainstRefusal set limits first days after journal today texts fault
+
+-- the set, the limits, a journal or a script is too large
+abbrev pub IsTooLargeAgainst : List ℕ → List ℕ → List ℕ → List ℕ → List (Option (List ℕ)) → Type 0
+IsTooLargeAgainst set limits after journal texts = IsTooLarge set limits after ⊎ (most_journal_bytes < length journal ⊎ IsTooLargeAmong texts)
+
+-- where the bytes of the four inputs are known
+abbrev pub IsRefusedAgainstOf : {S L : Type 0} → Bytes S → Bytes L → Inputs S L → Option (List ℕ) → Option (List ℕ) → ℕ → List (Option (List ℕ)) → DeskFault → Type 0
+IsRefusedAgainstOf set limits inputs after journal today texts fault =
+    OfFour (set inputs.set) (limits inputs.limits) after journal (λ xs ys older zs. IsRefusedAgainst xs ys inputs.first inputs.days older zs today texts fault)
+
+abbrev pub IsTooLargeAgainstOf : {S L : Type 0} → Bytes S → Bytes L → Inputs S L → Option (List ℕ) → Option (List ℕ) → List (Option (List ℕ)) → Type 0
+IsTooLargeAgainstOf set limits inputs after journal texts =
+    OfFour (set inputs.set) (limits inputs.limits) after journal (λ xs ys older zs. IsTooLargeAgainst xs ys older zs texts)
+
+-- ---- the laws
+
+-- behind a journal without lines the lines of each session are what its script asks
+abbrev pub AuditsBehindNoLines : Type 0
+AuditsBehindNoLines = (set limits : List ℕ) (first days : ℕ) (after journal : List ℕ) (today : ℕ) (texts : List (Option (List ℕ))) (line : List ℕ) →
+    IsJournalText after [] → (audit : IsAuditAgainst set limits first days after journal today texts line) → AreAsked (map (commands_of audit.flights) audit.scripts) audit.is_audited.entries
+
+-- what is refused has no line: over the same inputs, each known, no journal that differs from the older one or from the scripts at a call also goes on from the one with just what the others ask
+abbrev pub UnaskedIsNotAudited : Type 0
+UnaskedIsNotAudited = (set limits : List ℕ) (first days : ℕ) (after journal : List ℕ) (today : ℕ) (texts : List (List ℕ)) (fault : DeskFault) (line : List ℕ) →
+    IsUnaskedBeside set limits first days after journal today (map Some texts) fault → IsAuditAgainst set limits first days after journal today (map Some texts) line → ⊥

@@ -1,0 +1,315 @@
+-- What `run` writes: an older journal and behind it what the scripts ask, and the replies to each script.
+use Rattle.std.specs.Prelude.{◌≡◌, ◌≤◌, ◌<◌, ◌+◌, ◌-◌, ◌⊎◌, nat_le, ℕ, List, [], ◌∷◌, ◌++◌, length, map, take, decimal, codes, Option, Some, None, IfSome, if◌then◌else◌, slice_get, slice_index}
+use Rattle.std.specs.Io.KnownBytes.{Appends}
+use Rattle.std.specs.List.{AllByRecursion, AllZip}
+use Rattle.std.specs.Option.{option_map}
+use Rattle.ssim_flights.specs.declared.flight.Flight.{Flight as Flown}
+use Rattle.airline_base.specs.Noting.{TookFront}
+use Rattle.seat_nesting.specs.Nesting.{Legs}
+use Rattle.airimp_lines.specs.Grammar.{IsPlainLine, reply_of}
+use Rattle.airimp_lines.specs.declared.requests.Request.{Request}
+use Rattle.airimp_lines.specs.declared.segment.Segment.{Segment}
+use Rattle.seat_journal.specs.Text.{IsEntry, journal_text}
+use Rattle.seat_journal.specs.declared.entry.Advice.{Advice}
+use Rattle.seat_journal.specs.declared.entry.Change.{Change}
+use Rattle.seat_journal.specs.declared.entry.Command.{Command}
+use Rattle.seat_journal.specs.declared.entry.Entry.{Entry}
+use Rattle.seat_journal.specs.declared.entry.Work.{Work}
+use Rattle.seat_journal.specs.declared.entry.Work.TheVariants.{Seats, Limit}
+use Rattle.seat_rules.specs.Journal.{calls_of}
+use Rattle.seat_rules.specs.Prefixes.{Begins}
+use Rattle.seat_rules.specs.Totals.{totals_of}
+use Rattle.seat_rules.specs.Headline.{Headline}
+use Rattle.seat_rules.specs.Histories.{by_session}
+use Rattle.seat_desk.specs.AuditDesk.{IsRefusedOver, IsTooLarge, most_lines}
+use Rattle.seat_desk.specs.Desk.{HasFailed}
+use Rattle.seat_desk.specs.FlightsDesk.{IsText}
+use Rattle.seat_desk.specs.Loading.{Bytes, IsLoaded, IsRefusedLoad}
+use Rattle.seat_desk.specs.declared.inputs.Inputs.{Inputs}
+use Rattle.seat_scripts.specs.Changes.{AreChanges, IsUnchanged, most_change_bytes}
+use Rattle.seat_scripts.specs.Going.{IsPast, lists_over, past_of, segment_of}
+use Rattle.seat_scripts.specs.Requests.{AreScripts, IsRefusedAmong, IsTooLargeAmong, commands_of}
+use Rattle.seat_scripts.specs.declared.past.Past.{Past}
+use Rattle.seat_scripts.specs.declared.replies.Answered.{Answered}
+use Rattle.seat_desk.specs.declared.fault.DeskFault.{DeskFault}
+use Rattle.seat_desk.specs.declared.fault.DeskFault.TheVariants.{Change as BadChange, NoLeg, Script, Book, Journal, Memory, Replay}
+
+-- what the manager and the sessions are asked, by number
+abbrev pub works_of : List Change → List (List Command) → List (List Work)
+works_of changes lists = map Limit changes ∷ map (λ (list : List Command). map Seats list) lists
+
+-- what these lines ask for, in order
+abbrev pub works_in : List Entry → List Work
+works_in lines = map (λ (e : Entry). e.work) lines
+
+-- a history that goes on from the past: the headline holds of it, with its lines by session as receipts, it begins with the past, and behind that the lines of session 0 are the changes, in order, those of session 1 the first list, and so on
+pub record IsHistoryOf (grid : Legs) (past : List Entry) (changes : List Change) (lists : List (List Command)) (history : List Entry) : Type 0 where
+  pub headline : Headline grid most_lines (length lists) history (by_session (length lists) history) (totals_of history)
+  pub added : List Entry
+  pub goes_on : history ≡ past ++ added
+  pub asked : map works_in (by_session (length lists) added) ≡ works_of changes lists
+
+-- ---- the replies
+
+-- a part of its kind, at whatever place
+abbrev pub at_any : {A : Type 0} → (A → List ℕ → Type 0) → ℕ → A → List ℕ → Type 0
+at_any IsPart n x text = IsPart x text
+
+-- SESSION NUMBER
+abbrev pub line_head : Entry → List ℕ
+line_head e = decimal e.session ++ codes " " ++ decimal e.number ++ codes " "
+
+-- and LOCATOR
+abbrev pub reply_head : Entry → Answered → List ℕ
+reply_head e answered = line_head e ++ answered.locator ++ codes " "
+
+-- and the segment with this code and these seats
+pub record IsReply (e : Entry) (answered : Answered) (code : List ℕ) (seats : ℕ) (line : List ℕ) : Type 0 where
+  pub text : List ℕ
+  pub is_text : IsPlainLine (reply_of answered.segment code seats) text
+  pub written : line ≡ reply_head e answered ++ text ++ 10 ∷ []
+
+-- FLIGHT.LEG
+abbrev pub leg_text : Change → List ℕ
+leg_text c = decimal c.flight ++ codes "." ++ decimal c.leg
+
+-- CLASSLIMIT/WAIT
+abbrev pub limit_text : Change → List ℕ
+limit_text c = (c.class ∷ []) ++ decimal c.limit ++ codes "/" ++ decimal c.wait
+
+-- SESSION NUMBER FLIGHT.LEG CLASSLIMIT/WAIT
+abbrev pub change_head : Entry → Change → List ℕ
+change_head e c = line_head e ++ leg_text c ++ codes " " ++ limit_text c
+
+-- and REPLY
+abbrev pub change_reply : Entry → Change → List ℕ
+change_reply e c = change_head e c ++ codes " " ++ e.reply ++ 10 ∷ []
+
+-- the request that a line answers: its call's, counted from the end of the past, in its session's script
+abbrev pub requested : Option (List Request) → ℕ → Option Request
+requested None call = None
+requested (Some script) call = slice_get script (call - 1)
+
+abbrev pub request_of : Past → List (List Request) → Entry → Option Request
+request_of past scripts e = requested (slice_get scripts (e.session - 1)) (e.call - slice_index past.calls e.session)
+
+-- the locator and the segment of a request
+abbrev pub of_request : Request → Answered
+of_request r = record { locator = r.locator; segment = r.segment }
+
+-- the locator of a command, and the segment on the flight of its place
+abbrev pub of_command : List Flown → Command → Option Answered
+of_command flights c = option_map (λ (s : Segment). record { locator = c.locator; segment = s }) (segment_of flights c)
+
+abbrev pub of_work : List Flown → Work → Option Answered
+of_work flights (Seats c) = of_command flights c
+of_work flights (Limit c) = None
+
+-- the locator and the segment of the booking of this number: those of the line that made it
+abbrev pub made_by : List Flown → Option Entry → Option Answered
+made_by flights None = None
+made_by flights (Some e) = of_work flights e.work
+
+abbrev pub booked_by : List Flown → List Entry → ℕ → Option Answered
+booked_by flights history number = made_by flights (slice_get history (number - 1))
+
+-- KL and its seats, with the locator and the segment of the booking
+pub record IsAdviceLine (flights : List Flown) (history : List Entry) (e : Entry) (a : Advice) (line : List ℕ) : Type 0 where
+  pub answered : Answered
+  pub booked : booked_by flights history a.number ≡ Some answered
+  pub is_reply : IsReply e answered (codes "KL") a.seats line
+
+-- the reply to a line's request, with the seats asked
+pub record IsSeatsReply (past : Past) (scripts : List (List Request)) (e : Entry) (line : List ℕ) : Type 0 where
+  pub request : Request
+  pub requested : request_of past scripts e ≡ Some request
+  pub is_reply : IsReply e (of_request request) e.reply request.segment.seats line
+
+-- the reply to what a line asks for
+abbrev pub IsLineReply : Past → List (List Request) → Entry → Work → List ℕ → Type 0
+IsLineReply past scripts e (Seats command) line = IsSeatsReply past scripts e line
+IsLineReply past scripts e (Limit change) line = line ≡ change_reply e change
+
+-- and then its advices
+pub record IsAnswer (flights : List Flown) (past : Past) (scripts : List (List Request)) (history : List Entry) (e : Entry) (text : List ℕ) : Type 0 where
+  pub line : List ℕ
+  pub advices : List ℕ
+  pub is_reply : IsLineReply past scripts e e.work line
+  pub are_advices : IsText (at_any (IsAdviceLine flights history e)) 0 e.advices advices
+  pub written : text ≡ line ++ advices
+
+-- the answers to the lines of one session, in order
+abbrev pub AreAnswers : List Flown → Past → List (List Request) → List Entry → List Entry → List ℕ → Type 0
+AreAnswers flights past scripts history lines text = IsText (at_any (IsAnswer flights past scripts history)) 0 lines text
+
+-- those to the lines that were added behind the past: of session 0, the manager, then of session 1, and so on
+abbrev pub AreReplies : List Flown → List Entry → List (List Request) → List Entry → List ℕ → Type 0
+AreReplies flights past scripts added text =
+    IsText (at_any (AreAnswers flights (past_of past) scripts (past ++ added))) 0 (by_session (length scripts) added) text
+
+-- the same of the lines that stand behind the past in the history
+pub record IsReplied (flights : List Flown) (past : List Entry) (scripts : List (List Request)) (history : List Entry) (text : List ℕ) : Type 0 where
+  pub added : List Entry
+  pub goes_on : history ≡ past ++ added
+  pub are_replies : AreReplies flights past scripts added text
+
+-- ---- the whole
+
+-- the texts of one history that goes on from the older journal with what the scripts and the changes ask, over the grid of the set and the limits
+pub record IsRun (set limits : List ℕ) (first days today : ℕ) (after : List ℕ) (texts : List (Option (List ℕ))) (changing : Option (List ℕ)) (journal replies : List ℕ) : Type 0 where
+  pub flights : List Flown
+  pub grid : Legs
+  pub past : List Entry
+  pub scripts : List (List Request)
+  pub changes : List Change
+  pub history : List Entry
+  pub is_loaded : IsLoaded set limits first days flights grid
+  pub is_past : IsPast grid past after
+  pub are_scripts : AreScripts today texts scripts
+  pub are_changes : IfSome changing (AreChanges flights changes)
+  pub is_history : IsHistoryOf grid past changes (lists_over past (map (commands_of flights) scripts)) history
+  pub are_entries : AllByRecursion IsEntry history
+  pub journal_is : journal ≡ journal_text history
+  pub is_replied : IsReplied flights past scripts history replies
+
+-- where the bytes of the set, of the limits and of the older journal are known
+abbrev pub IsRunOf : {S L : Type 0} → Bytes S → Bytes L → Inputs S L → ℕ → Option (List ℕ) → List (Option (List ℕ)) → Option (List ℕ) → List ℕ → List ℕ → Type 0
+IsRunOf set limits inputs today after texts changing journal replies =
+    IfSome (set inputs.set) (λ xs. IfSome (limits inputs.limits) (λ ys. IfSome after (λ zs. IsRun xs ys inputs.first inputs.days today zs texts changing journal replies)))
+
+-- both texts are written, whole
+pub record AreWritten (answers : List ℕ → List ℕ → Type 0) (journal_old journal_new out_old out_new : Option (List ℕ)) : Type 0 where
+  pub journal : List ℕ
+  pub replies : List ℕ
+  pub right : answers journal replies
+  pub first : Appends journal_old journal_new journal
+  pub second : Appends out_old out_new replies
+
+-- exactly these two texts
+pub record AreTexts (journal replies first second : List ℕ) : Type 0 where
+  pub first_is : first ≡ journal
+  pub second_is : second ≡ replies
+
+-- ---- devices that fail
+
+-- an input failed, and nothing was written, neither journal nor reply
+pub record InputFailed {J W : Type 0} (failed : Type 0) (journal_old journal_new : J) (out_old out_new : W) : Type 0 where
+  pub counted : failed
+  pub no_line : journal_new ≡ journal_old
+  pub no_reply : out_new ≡ out_old
+
+-- the journal failed: it took a beginning of the journal of two texts that answer, and no reply was written
+pub record JournalFailed {J W : Type 0} (failures : J → ℕ) (contents : J → Option (List ℕ)) (journal_old journal_new : J) (out_old out_new : W)
+    (answers : List ℕ → List ℕ → Type 0) : Type 0 where
+  pub counted : HasFailed failures journal_old journal_new
+  pub journal : List ℕ
+  pub replies : List ℕ
+  pub right : answers journal replies
+  pub begun : TookFront (contents journal_old) (contents journal_new) journal
+  pub no_reply : out_new ≡ out_old
+
+-- the output of the replies failed: the journal of two texts that answer is whole, and the replies are begun
+pub record RepliesFailed {J W : Type 0} (lines : J → Option (List ℕ)) (journal_old journal_new : J) (failures : W → ℕ) (contents : W → Option (List ℕ)) (out_old out_new : W)
+    (answers : List ℕ → List ℕ → Type 0) : Type 0 where
+  pub counted : HasFailed failures out_old out_new
+  pub journal : List ℕ
+  pub replies : List ℕ
+  pub right : answers journal replies
+  pub whole : Appends (lines journal_old) (lines journal_new) journal
+  pub begun : TookFront (contents out_old) (contents out_new) replies
+
+-- ---- refusals
+
+-- how much these lists have in all
+abbrev pub asked_in : {A : Type 0} → List (List A) → ℕ
+asked_in [] = 0
+asked_in (list ∷ lists) = length list + asked_in lists
+
+-- what was booked of lists, by session, where a call was refused: the lists of the sessions before its own whole, its own as far as
+-- the place of that call, from 1, and of each list a beginning
+pub record IsBookedTo (session place : ℕ) (lists booked : List (List Work)) : Type 0 where
+  pub before : take session booked ≡ take session lists
+  pub own : slice_get booked session ≡ option_map (take (place - 1)) (slice_get lists session)
+  pub each : AllZip Begins booked lists
+
+-- more is asked than a journal has lines behind the past, and a call of a session was refused, which counts on from the session's
+-- calls of the past: a history that has as many lines as a journal may goes on from the past with what was booked of all that was asked
+pub record IsFull (grid : Legs) (past : List Entry) (changes : List Change) (lists : List (List Command)) (session call : ℕ) : Type 0 where
+  pub many : most_lines < length past + asked_in (works_of changes lists)
+  pub list : List Work
+  pub at : slice_get (works_of changes lists) session ≡ Some list
+  pub call_is : (calls_of past session < call) × (call ≤ calls_of past session + length list)
+  pub history : List Entry
+  pub headline : Headline grid most_lines (length lists) history (by_session (length lists) history) (totals_of history)
+  pub full : length history ≡ most_lines
+  pub added : List Entry
+  pub goes_on : history ≡ past ++ added
+  pub booked : IsBookedTo session (call - calls_of past session) (works_of changes lists) (map works_in (by_session (length lists) added))
+
+-- the fault is that of the first session that was not booked whole, at the call that was refused
+abbrev pub IsUnbooked : Legs → List Entry → List Change → List (List Command) → DeskFault → Type 0
+IsUnbooked grid past changes lists (Book session call) = IsFull grid past changes lists session call
+IsUnbooked grid past changes lists _ = ⊥
+
+-- the set, the limits, the older journal, the scripts and the changes are right, and something that they ask was not booked
+pub record IsUnbookedOf (set limits : List ℕ) (first days today : ℕ) (after : List ℕ) (texts : List (Option (List ℕ))) (changing : Option (List ℕ)) (fault : DeskFault) : Type 0 where
+  pub flights : List Flown
+  pub grid : Legs
+  pub is_loaded : IsLoaded set limits first days flights grid
+  pub past : List Entry
+  pub is_past : IsPast grid past after
+  pub scripts : List (List Request)
+  pub are_scripts : AreScripts today texts scripts
+  pub changes : List Change
+  pub are_changes : IfSome changing (AreChanges flights changes)
+  pub is_unbooked : IsUnbooked grid past changes (lists_over past (map (commands_of flights) scripts)) fault
+
+-- the set, the limits, the older journal and the scripts are right, and the fault is that of the changes
+pub record IsUnchangedOf (set limits : List ℕ) (first days today : ℕ) (after : List ℕ) (texts : List (Option (List ℕ))) (changing : Option (List ℕ)) (fault : DeskFault) : Type 0 where
+  pub flights : List Flown
+  pub grid : Legs
+  pub is_loaded : IsLoaded set limits first days flights grid
+  pub past : List Entry
+  pub is_past : IsPast grid past after
+  pub scripts : List (List Request)
+  pub are_scripts : AreScripts today texts scripts
+  pub is_refused : IfSome changing (IsUnchanged flights fault)
+
+-- the set, the limits and the older journal are right, and the fault is that of the first script that is none
+pub record IsRefusedOf (set limits : List ℕ) (first days today : ℕ) (after : List ℕ) (texts : List (Option (List ℕ))) (fault : DeskFault) : Type 0 where
+  pub flights : List Flown
+  pub grid : Legs
+  pub is_loaded : IsLoaded set limits first days flights grid
+  pub past : List Entry
+  pub is_past : IsPast grid past after
+  pub is_refused : IsRefusedAmong today 1 texts fault
+
+-- a fault of the older journal is that of its audit. A script's fault is the first of the first script that is none. A fault of the
+-- changes is the first of their rows, or, where these are right, names the first that not one leg serves, and all scripts are read.
+-- A call's names the first session that was not booked whole, and all is read. Any other is the first of the set, of its flights or
+-- of the limits
+abbrev pub RunRefusal : List ℕ → List ℕ → ℕ → ℕ → ℕ → List ℕ → List (Option (List ℕ)) → Option (List ℕ) → DeskFault → Type 0
+RunRefusal set limits first days today after texts changing (Journal fault) = IsRefusedOver set limits first days (Journal fault) after
+RunRefusal set limits first days today after texts changing (Replay fault) = IsRefusedOver set limits first days (Replay fault) after
+RunRefusal set limits first days today after texts changing (Script session fault) = IsRefusedOf set limits first days today after texts (Script session fault)
+RunRefusal set limits first days today after texts changing (BadChange fault) = IsUnchangedOf set limits first days today after texts changing (BadChange fault)
+RunRefusal set limits first days today after texts changing (NoLeg line) = IsUnchangedOf set limits first days today after texts changing (NoLeg line)
+RunRefusal set limits first days today after texts changing (Book session call) = IsUnbookedOf set limits first days today after texts changing (Book session call)
+RunRefusal set limits first days today after texts changing fault = IsRefusedLoad set limits first days fault
+
+pub record IsRefusedRun (set limits : List ℕ) (first days today : ℕ) (after : List ℕ) (texts : List (Option (List ℕ))) (changing : Option (List ℕ)) (fault : DeskFault) : Type 0 where
+  pub refusal : RunRefusal set limits first days today after texts changing fault
+
+-- the set, the limits, the older journal, a script or the changes are too large
+abbrev pub IsTooLargeRun : List ℕ → List ℕ → List ℕ → List (Option (List ℕ)) → Option (List ℕ) → Type 0
+IsTooLargeRun set limits after texts changing =
+    IsTooLarge set limits after ⊎ (IsTooLargeAmong texts ⊎ IfSome changing (λ bytes. most_change_bytes < length bytes))
+
+-- where the bytes of the set, of the limits and of the older journal are known
+abbrev pub IsRefusedRunOf : {S L : Type 0} → Bytes S → Bytes L → Inputs S L → ℕ → Option (List ℕ) → List (Option (List ℕ)) → Option (List ℕ) → DeskFault → Type 0
+IsRefusedRunOf set limits inputs today after texts changing fault =
+    IfSome (set inputs.set) (λ xs. IfSome (limits inputs.limits) (λ ys. IfSome after (λ zs. IsRefusedRun xs ys inputs.first inputs.days today zs texts changing fault)))
+
+abbrev pub IsTooLargeRunOf : {S L : Type 0} → Bytes S → Bytes L → Inputs S L → Option (List ℕ) → List (Option (List ℕ)) → Option (List ℕ) → Type 0
+IsTooLargeRunOf set limits inputs after texts changing =
+    IfSome (set inputs.set) (λ xs. IfSome (limits inputs.limits) (λ ys. IfSome after (λ zs. IsTooLargeRun xs ys zs texts changing)))

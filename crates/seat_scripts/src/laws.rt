@@ -1,0 +1,27 @@
+//! The laws of the definitions, each the contract of a function that does nothing.
+ghost use Rattle.seat_scripts.specs.Against.{AuditsBehindNoLines, UnaskedIsNotAudited};
+ghost use Rattle.seat_scripts.specs.Audits.{RunsAreAudited};
+ghost use Rattle.seat_scripts.specs.First.{RunsFromNoLines};
+
+/// What `run` writes as a journal, `audit` accepts: over the same set, limits and days it finds no fault in it, it is not too
+/// large, and the one line that answers it has the totals of the receipts. Only memory or a device can stop it.
+pub fn runs_are_audited()
+    ensures { RunsAreAudited }
+{}
+
+/// A run behind a journal without lines, as [`NO_LINES`](crate::NO_LINES) is one, has no line but what the scripts and the
+/// changes ask, and answers them all.
+pub fn runs_from_no_lines()
+    ensures { RunsFromNoLines }
+{}
+
+/// What `audit` with scripts refuses as unasked has no line: the journal that differs from the older one, or behind its lines from
+/// the scripts, is none that goes on from the one with just what the others ask.
+pub fn unasked_is_not_audited()
+    ensures { UnaskedIsNotAudited }
+{}
+
+/// Behind a journal without lines `audit` with scripts is that of one journal: the lines of each session are what its script asks.
+pub fn audits_behind_no_lines()
+    ensures { AuditsBehindNoLines }
+{}

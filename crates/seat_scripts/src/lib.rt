@@ -1,0 +1,28 @@
+//! The texts of a run: the requests of scripts and what they ask of the inventory, changes of limits, an older journal, and the
+//! replies to each line; and `audit` with scripts, which compares a journal with what they ask. It knows texts and the order in
+//! which they are read and written, and nothing of sessions, locks or threads.
+#![tactic(auto)]
+
+mod against;
+mod changes;
+mod commands;
+mod kept_write;
+mod laws;
+mod past;
+mod readable;
+mod replies;
+mod scripts;
+mod writing;
+
+pub use against::desk_audit_against;
+pub use changes::limit_changes;
+pub use commands::lists_over;
+pub use kept_write::KeptWrite;
+pub use laws::{
+    audits_behind_no_lines, runs_are_audited, runs_from_no_lines, unasked_is_not_audited,
+};
+pub use past::{NO_LINES, Past, no_lines, past_of, replayed_from};
+pub use readable::prove_entries;
+pub use replies::put_answer;
+pub use scripts::{Scripts, read_scripts};
+pub use writing::write_both;

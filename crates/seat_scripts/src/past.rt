@@ -1,0 +1,85 @@
+//! What a run goes on from: the inventory of an older journal, and what the texts of the run need to know of it.
+ghost use Rattle.std.specs.Prelude.{◌≡◌, ◌<◌, ◌≤◌, [], IfErr, IfOk, IfSome, length};
+ghost use Rattle.seat_rules.specs.Journal.{IsLegal};
+ghost use Rattle.seat_desk.specs.AuditDesk.{IsUnlawful, most_journal_bytes, most_lines};
+ghost use Rattle.seat_desk.specs.Desk.{HasFailed, IsOfInput};
+ghost use Rattle.seat_journal.specs.Text.{IsJournalText};
+ghost use Rattle.seat_scripts.specs.Against.{IsReplayWithin};
+ghost use Rattle.seat_scripts.specs.Going.{IsPast, highest_to, past_of};
+
+use airline_base::NotedRead;
+use seat_core::Core;
+use seat_desk::{DeskFault, MOST_JOURNAL_BYTES, read_input, replayed};
+use seat_nesting::Grid;
+use std::alloc::Global;
+
+/// The text of a journal without lines, for a run that goes on from no other.
+pub const NO_LINES: [u8; 20] = *b"SEATJOURNAL 2\nEND 0\n";
+
+/// The text of a journal without lines, which it is: [`NO_LINES`].
+pub fn no_lines() -> [u8; 20]
+    ensures { IsJournalText result [] }
+{
+    NO_LINES
+}
+
+/// How many lines an older journal has of each session: 0, the manager, to 8.
+#[derive(Clone, Copy)]
+pub struct Past {
+    pub calls: [u32; 9],
+}
+
+/// The inventory that a journal comes to over these limits.
+pub fn replayed_from<J: NotedRead>(
+    alloc: Global,
+    grid: Grid,
+    journal: &mut J,
+) -> Result<Core, DeskFault>
+    ensures ok { IfOk result (λ core. IfSome (J.remaining journal.old) (IsReplayWithin grid core)) }
+    ensures past { IfOk result (λ core. IfSome (J.remaining journal.old) (IsPast grid core.journal)) }
+    ensures grid { IfOk result (λ core. core.grid ≡ grid) }
+    ensures legal { IfOk result (λ core. IsLegal core.grid core.journal) }
+    ensures cap { IfOk result (λ core. core.cap ≡ most_lines) }
+    ensures few { IfOk result (λ core. length core.journal ≤ most_lines) }
+    ensures fault { IfErr result (λ f. IsOfInput f → IfSome (J.remaining journal.old) (IsUnlawful grid f)) }
+    ensures large { IfErr result (λ f. f ≡ DeskFault.TooLarge → IfSome (J.remaining journal.old) (λ bytes. most_journal_bytes < length bytes)) }
+    ensures device { IfErr result (λ f. f ≡ DeskFault.Device → HasFailed J.failure_count journal.old journal.new) }
+{
+    let bytes = read_input(alloc, journal, MOST_JOURNAL_BYTES)?;
+    replayed(alloc, grid, bytes)
+}
+
+/// What the texts of a run need to know of the lines so far.
+pub fn past_of(core: &Core) -> Past
+    requires { core.now.cap ≡ most_lines }
+    ensures { result ≡ past_of core.now.journal }
+{
+    Past {
+        calls: [
+            core.calls_of(0),
+            core.calls_of(1),
+            core.calls_of(2),
+            core.calls_of(3),
+            core.calls_of(4),
+            core.calls_of(5),
+            core.calls_of(6),
+            core.calls_of(7),
+            core.calls_of(8),
+        ],
+    }
+}
+
+/// The highest session that has a line, or 0.
+#[tactic(auto, using(crate::proofs::Going::highest_less, crate::proofs::Going::highest_here))]
+pub(crate) fn highest(core: &Core) -> u8
+    ensures { result ≡ highest_to 8 core.now.journal }
+{
+    let mut session: u8 = 8;
+    while session > 0 {
+        if core.calls_of(session) > 0 {
+            return session;
+        }
+        session -= 1;
+    }
+    0
+}
