@@ -21,9 +21,9 @@ mod schedule;
 mod served;
 
 pub use days::Days;
-pub use laws::operating_days_are_exact;
 pub use expansion::expand;
 pub use fault::{FlightFault, FlightKind};
 pub use flight::{DatedLeg, DatedLegs, Flight, Wanted};
 pub use flights::Flights;
+pub use laws::operating_days_are_exact;
 pub use served::Served;
