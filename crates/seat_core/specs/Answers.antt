@@ -1,5 +1,5 @@
 -- What a line is answered from, and what its answer has of an outcome.
-use Rattle.std.specs.Prelude.{◌≡◌, ℕ, ◌-◌, ◌≤◌, nat_le, List, [], ◌∷◌, length, false, IfSome, if◌then◌else◌}
+use Rattle.std.specs.Prelude.{◌≡◌, ℕ, ◌-◌, ◌≤◌, nat_le, List, [], ◌∷◌, length, false, IfOk, IfSome, if◌then◌else◌}
 use Rattle.std.specs.List.{AllByRecursion}
 use Rattle.seat_nesting.specs.Nesting.{Legs, has_class, ladder_at}
 use Rattle.seat_nesting.specs.Counting.{Counted, limits_of, seats_of}
@@ -40,13 +40,13 @@ IsAsked counts books (Limit c) = IsFlight counts books c.flight
 pub record IsReply (code : List ℕ) (answer : Answer) : Type 0 where
   pub reply : answer.reply ≡ code
   pub released : answer.released ≡ 0
-  pub advices : answer.advices.items ≡ []
+  pub advices : IfOk answer.advices (λ told. [] ≡ told.items)
 
--- the outcome's reply, released seats and advices
+-- the outcome's reply and released seats, and its advices where there is memory for them
 pub record Says (outcome : Outcome) (answer : Answer) : Type 0 where
   pub reply : outcome.reply ≡ answer.reply
   pub released : outcome.released ≡ answer.released
-  pub advices : outcome.advices ≡ answer.advices.items
+  pub advices : IfOk answer.advices (λ told. outcome.advices ≡ told.items)
 
 -- the advice of a waiting booking that has n seats fewer, where those that are left fit this room
 abbrev pub rest_advised : ℕ → Booking → ℕ → List Advice

@@ -21,22 +21,21 @@ pub fn answer_change(
     counts: &mut Counts,
     books: &[FlightBook],
     change: &Change,
-) -> Result<Answer, Memory>
+) -> Answer
     requires flight { IsFlight counts.old books.now change.now.flight }
-    ensures says { IfOk result (λ a. Says (set (state_of (limits_of counts.old) (book_at books.now change.now.flight)) change.now) a) }
+    ensures says { Says (set (state_of (limits_of counts.old) (book_at books.now change.now.flight)) change.now) result }
     ensures limits { limits_of counts.new ≡ limits_of counts.old }
     ensures seats { seats_of counts.new ≡ seats_of counts.old }
 {
     let (flight, leg, class) = (change.flight, change.leg, change.class);
     if !counts.can_set(flight, leg, class, change.limit, change.wait) {
-        return Ok(reply(alloc, *b"NO"));
+        return reply(alloc, *b"NO");
     }
-    let advices = advices_under(alloc, counts, books, change)?;
-    Ok(Answer {
+    Answer {
         reply: Code::of(*b"OK"),
         released: 0,
-        advices,
-    })
+        advices: advices_under(alloc, counts, books, change),
+    }
 }
 
 /// The advices of the pass over the waiting list of a change's flight, under the limits with that change.

@@ -21,52 +21,25 @@ use seat_nesting::Counts;
 use seat_rules::{Action, Booking, Wish, action_of};
 use std::alloc::Global;
 
-/// What a line was answered.
+/// What a line was answered. Its advices take memory, which may be wanting.
 #[derive(Drop)]
 pub struct Answer {
     pub reply: Code,
     pub released: u16,
-    pub advices: Vec<Advice>,
+    pub advices: Result<Vec<Advice>, Memory>,
 }
 
-/// The line that a session's work makes, answered from the counters and the bookings of its flight. The counters are
-/// left as they were.
-pub fn make_line(
-    alloc: Global,
-    counts: &mut Counts,
-    books: &[FlightBook],
-    number: u32,
-    session: u8,
-    call: u32,
-    work: Work,
-) -> Result<Entry, Memory>
-    requires asked { IsAsked counts.old books.now work }
-    ensures line { IfOk result (λ line. line ≡ line_of (answer (state_of (limits_of counts.old) (book_of books.now work)) number work) number session call work) }
-    ensures limits { limits_of counts.new ≡ limits_of counts.old }
-    ensures seats { seats_of counts.new ≡ seats_of counts.old }
-{
-    let answer = answer_work(alloc, counts, books, number, &work)?;
-    Ok(Entry {
-        number,
-        session,
-        call,
-        work,
-        reply: answer.reply,
-        released: answer.released,
-        advices: Advices::from_vec(answer.advices),
-    })
-}
-
-// Answers what line `number` asks for.
-fn answer_work(
+/// Answers what line `number` asks for, from the counters and the bookings of its flight. The counters are left as they
+/// were.
+pub fn answer_work(
     alloc: Global,
     counts: &mut Counts,
     books: &[FlightBook],
     number: u32,
     work: &Work,
-) -> Result<Answer, Memory>
+) -> Answer
     requires asked { IsAsked counts.old books.now work.now }
-    ensures says { IfOk result (λ a. Says (answer (state_of (limits_of counts.old) (book_of books.now work.now)) number work.now) a) }
+    ensures says { Says (answer (state_of (limits_of counts.old) (book_of books.now work.now)) number work.now) result }
     ensures limits { limits_of counts.new ≡ limits_of counts.old }
     ensures seats { seats_of counts.new ≡ seats_of counts.old }
 {
@@ -83,32 +56,32 @@ fn answer_command(
     books: &[FlightBook],
     number: u32,
     command: &Command,
-) -> Result<Answer, Memory>
+) -> Answer
     requires flight { IfSome command.now.place (λ p. IsFlight counts.old books.now p.flight) }
     requires order { IfSome command.now.place (λ p. p.from ≤ p.to) }
     requires some { 1 ≤ command.now.seats }
-    ensures says { IfOk result (λ a. Says (answer (state_of (limits_of counts.old) (book_for books.now command.now.place)) number (Seats command.now)) a) }
+    ensures says { Says (answer (state_of (limits_of counts.old) (book_for books.now command.now.place)) number (Seats command.now)) result }
     ensures limits { limits_of counts.new ≡ limits_of counts.old }
     ensures seats { seats_of counts.new ≡ seats_of counts.old }
 {
     let action = action_of(command.code);
     if let Action::Other = action {
-        return Ok(reply(alloc, *b"NO"));
+        return reply(alloc, *b"NO");
     }
     let Some(place) = command.place else {
-        return Ok(reply(alloc, *b"UN"));
+        return reply(alloc, *b"UN");
     };
     let found = find_in(books, command, place);
     match action {
         Action::Want(wish) => match found {
             None => book_seats(alloc, counts, books, number, command, place, wish),
-            Some(_) => Ok(reply(alloc, *b"NO")),
+            Some(_) => reply(alloc, *b"NO"),
         },
         Action::Cancel => match found {
             Some(at) => cancel_seats(alloc, counts, books, at, command, place),
-            None => Ok(reply(alloc, *b"NO")),
+            None => reply(alloc, *b"NO"),
         },
-        Action::Other => Ok(reply(alloc, *b"NO")),
+        Action::Other => reply(alloc, *b"NO"),
     }
 }
 
@@ -121,36 +94,39 @@ fn book_seats(
     command: &Command,
     place: Place,
     wish: Wish,
-) -> Result<Answer, Memory>
+) -> Answer
     requires flight { IsFlight counts.now books.now place.flight }
-    ensures { IfOk result (λ a. Says (want wish (state_of (limits_of counts.now) (book_at books.now place.flight)) number command.now place None) a) }
+    ensures { Says (want wish (state_of (limits_of counts.now) (book_at books.now place.flight)) number command.now place None) result }
 {
     let fits = command.seats <= counts.room(place, command.class);
     match wish {
         Wish::Need => {
             if fits {
-                return Ok(reply(alloc, *b"KK"));
+                return reply(alloc, *b"KK");
             }
             if may_list(counts, books, command, place) {
-                return Ok(reply(alloc, *b"UU"));
+                return reply(alloc, *b"UU");
             }
-            Ok(reply(alloc, *b"UC"))
+            reply(alloc, *b"UC")
         }
         Wish::Sell => {
             if fits {
-                return Ok(reply(alloc, *b"KK"));
+                return reply(alloc, *b"KK");
             }
             if may_queue(counts, books, command, place) {
-                return Ok(reply(alloc, *b"US"));
+                return reply(alloc, *b"US");
             }
-            Ok(reply(alloc, *b"UC"))
+            reply(alloc, *b"UC")
         }
         Wish::Waitlist => {
             if !may_queue(counts, books, command, place) {
-                return Ok(reply(alloc, *b"UC"));
+                return reply(alloc, *b"UC");
             }
-            let answer = queued(alloc, number, command, place, fits)?;
-            Ok(answer)
+            Answer {
+                reply: Code::of(*b"HL"),
+                released: 0,
+                advices: advices_of_queued(alloc, number, command, place, fits),
+            }
         }
     }
 }
@@ -181,32 +157,26 @@ fn may_queue(counts: &Counts, books: &[FlightBook], command: &Command, place: Pl
     }
 }
 
-/// Answers LL with a booking that waits. Those before it wait in vain, so the pass confirms it alone, if it fits.
-fn queued(
+/// The advices where an LL's booking waits. Those before it wait in vain, so the pass confirms it alone, if it fits.
+fn advices_of_queued(
     alloc: Global,
     number: u32,
     command: &Command,
     place: Place,
     fits: bool,
-) -> Result<Answer, Memory>
-    ensures reply { IfOk result (λ a. a.reply ≡ codes "HL") }
-    ensures released { IfOk result (λ a. a.released ≡ 0) }
-    ensures advices { IfOk result (λ a. a.advices.items ≡ (if fits then advice_of (booking_of number command.now place Waiting) ∷ [] else [])) }
+) -> Result<Vec<Advice>, Memory>
+    ensures { IfOk result (λ told. told.items ≡ (if fits then advice_of (booking_of number command.now place Waiting) ∷ [] else [])) }
 {
-    let mut advices = Vec::new(alloc);
+    let mut told = Vec::new(alloc);
     if fits {
-        advices.push(Advice {
+        told.push(Advice {
             number,
             place,
             class: command.class,
             seats: command.seats,
         })?;
     }
-    Ok(Answer {
-        reply: Code::of(*b"HL"),
-        released: 0,
-        advices,
-    })
+    Ok(told)
 }
 
 /// Answers XX, where the booking of the same locator, place and class stands at this index.
@@ -217,26 +187,25 @@ fn cancel_seats(
     at: usize,
     command: &Command,
     place: Place,
-) -> Result<Answer, Memory>
+) -> Answer
     requires flight { IsFlight counts.old books.now place.flight }
     requires found { position (is_for command.now.locator place command.now.class) (book_at books.now place.flight) ≡ Some at }
     requires order { place.from ≤ place.to }
     requires some { 1 ≤ command.now.seats }
-    ensures says { IfOk result (λ a. Says (cancel (state_of (limits_of counts.old) (book_at books.now place.flight)) command.now place (slice_get (book_at books.now place.flight) at)) a) }
+    ensures says { Says (cancel (state_of (limits_of counts.old) (book_at books.now place.flight)) command.now place (slice_get (book_at books.now place.flight) at)) result }
     ensures limits { limits_of counts.new ≡ limits_of counts.old }
     ensures seats { seats_of counts.new ≡ seats_of counts.old }
 {
     let booking = book_at(books, place.flight)[at];
     let seats = command.seats;
     if seats > booking.seats {
-        return Ok(reply(alloc, *b"NO"));
+        return reply(alloc, *b"NO");
     }
-    let advices = advices_without(alloc, counts, books, &booking, command, place)?;
-    Ok(Answer {
+    Answer {
         reply: Code::of(*b"HX"),
         released: booking.released(seats),
-        advices,
-    })
+        advices: advices_without(alloc, counts, books, &booking, command, place),
+    }
 }
 
 /// The advices of the pass that runs once the seats of a command are off its booking.
@@ -275,6 +244,6 @@ pub fn reply(alloc: Global, letters: [u8; 2]) -> Answer
     Answer {
         reply: Code::of(letters),
         released: 0,
-        advices: Vec::new(alloc),
+        advices: Ok(Vec::new(alloc)),
     }
 }

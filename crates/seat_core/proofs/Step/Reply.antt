@@ -1,6 +1,7 @@
 -- What a line is answered from.
-use Rattle.std.proofs.Common.{◌≡◌, ◌==◌, ◌&&◌, ℕ, zero, suc, ◌+◌, ◌-◌, ◌<◌, ◌≤◌, Bool, true, false, nat_le, List, [], ◌∷◌, ◌++◌, find, Option, Some, None, IfSome, codes, if◌then◌else◌, arith, refl, ap, sym, subst, ◌∙◌}
+use Rattle.std.proofs.Common.{◌≡◌, ◌==◌, ◌&&◌, ℕ, zero, suc, ◌+◌, ◌-◌, ◌<◌, ◌≤◌, Bool, true, false, nat_le, List, [], ◌∷◌, ◌++◌, length, find, Option, Some, None, IfSome, Result, IfOk, codes, if◌then◌else◌, arith, refl, ap, sym, subst, ◌∙◌}
 use Rattle.std.specs.List.{AllByRecursion}
+use Rattle.std.proofs.lemmas.Result.{IfOk-weaker}
 use Rattle.std.proofs.lemmas.List.Sums.{sum_by-cons}
 use Rattle.std.proofs.lemmas.Bool.Decides.{nat_tests}
 use Rattle.airline_base.specs.declared.place.Place.{Place}
@@ -17,17 +18,18 @@ use Rattle.seat_journal.specs.declared.entry.Command.{Command}
 use Rattle.seat_journal.specs.declared.entry.Work.{Work}
 use Rattle.seat_journal.specs.declared.entry.Work.TheVariants.{Seats, Limit}
 use Rattle.seat_journal.specs.declared.entry.Entry.{Entry}
-use Rattle.seat_core.specs.Answers.{IsAsked, IsFlight, rest_advised}
+use Rattle.seat_core.specs.Answers.{IsAsked, IsFlight, Says, rest_advised}
+use Rattle.seat_core.specs.declared.reply.Answer.{Answer}
 use Rattle.seat_rules.specs.Tables.{Lacks, advices_by, with_advice}
 use Rattle.seat_rules.specs.Bookings.{is_for, is_held, is_waiting, held, waiting, seats_on}
-use Rattle.seat_bookings.specs.Books.{book_at, queue_at, IsKept}
+use Rattle.seat_bookings.specs.Books.{book_at, book_of, queue_at, IsKept}
 use Rattle.seat_rules.specs.Flights.{bookings_on}
-use Rattle.seat_rules.specs.Journal.{replay, FitsWork}
+use Rattle.seat_rules.specs.Journal.{replay, next_line, FitsWork}
 use Rattle.seat_bookings.specs.Queues.{queue_of, first_waits}
-use Rattle.seat_rules.specs.Sequential.{State, state_of, want_new, refused, may_change, pass, reduced, advice_of, booking_of, may_confirm, NoneFits, NoneFitsAmong}
+use Rattle.seat_rules.specs.Sequential.{State, Outcome, answer, state_of, want_new, refused, may_change, pass, reduced, advice_of, booking_of, may_confirm, NoneFits, NoneFitsAmong}
 use Rattle.seat_rules.specs.Showing.{given_back}
 use Rattle.seat_rules.proofs.Flight.View.{room_same, may_wait_same, room_of_flight, held_view, bookings_view}
-use Rattle.seat_bookings.proofs.Kept.Books.{few_in_book, kept_queued}
+use Rattle.seat_bookings.proofs.Kept.Books.{few_in_book, kept_queued, same_answer, SameAnswer}
 use Rattle.seat_bookings.proofs.Waitlists.Queue.{waiting_queue, reduced_holds}
 use Rattle.seat_rules.proofs.Passes.Quiet.{room_less}
 use Rattle.seat_rules.proofs.Counters.Shown.{held_waits, cancel_shown, give_none, lacks_replay}
@@ -338,3 +340,37 @@ asked_kept opening cap journal books calls counts (Seats c) k fits = record {
   some = fits.0;
 }
 asked_kept opening cap journal books calls counts (Limit c) k fits = flight_kept opening cap journal books calls counts c.flight k
+
+-- ---- the line that is said
+
+-- what is told, as the rule has it
+pub told_as : {T E : Type 0} (items : T → List Advice) (r : Result T E) (xs ys : List Advice) → ys ≡ xs → IfOk r (λ t. items t ≡ xs) → IfOk r (λ t. ys ≡ items t)
+told_as items r xs ys is h = IfOk-weaker r (λ t. items t ≡ xs) (λ t. ys ≡ items t) (λ t e. is ∙ sym e) h
+
+says_same : (a b : Outcome) (n : Answer) → SameAnswer a b → Says a n → Says b n
+says_same a b n same says = record {
+  reply = sym same.reply ∙ says.reply;
+  released = sym same.released ∙ says.released;
+  advices = IfOk-weaker n.advices (λ t. a.advices ≡ t.items) (λ t. b.advices ≡ t.items) (λ t h. sym same.advices ∙ h) says.advices;
+}
+
+-- what the flight's book says is what the replay says
+pub says_kept : (opening : Legs) (cap : ℕ) (journal : List Entry) (books : List FlightBook) (calls : List ℕ) (counts : Counted) (book : List Booking) (n : ℕ) (w : Work) (a : Answer)
+    → IsKept opening cap journal books calls counts → book ≡ book_of books w → n ≡ length journal + 1
+    → Says (answer (state_of (limits_of counts) book) n w) a → Says (answer (replay opening journal) (length journal + 1) w) a
+says_kept opening cap journal books calls counts book n w a k is number says =
+    let now : Legs = limits_of counts in
+    let P : List Booking → Type 0 = λ l. Says (answer (state_of now l) n w) a in
+    let here : Says (answer (state_of now (book_of books w)) n w) a = subst P is says in
+    let whole : Says (answer (state_of now (replay opening journal).bookings) n w) a =
+    says_same (answer (state_of now (book_of books w)) n w) (answer (state_of now (replay opening journal).bookings) n w) a (same_answer opening cap journal books calls counts n w k) here in
+    let Q : State → Type 0 = λ s. Says (answer s n w) a in
+    let R : ℕ → Type 0 = λ m. Says (answer (replay opening journal) m w) a in
+    subst R number (subst Q (sym k.lawful.left) whole)
+
+-- the line with that answer is the next
+pub line_said : (grid : Legs) (past : List Entry) (session call : ℕ) (w : Work) (a : Answer) (told : List Advice) (n : ℕ) → n ≡ length past + 1 → Says (answer (replay grid past) (length past + 1) w) a
+    → (answer (replay grid past) (length past + 1) w).advices ≡ told
+    → ◌≡◌ {A = Entry} (record { number = n; session = session; call = call; work = w; reply = a.reply; released = a.released; advices = told }) (next_line grid past session call w)
+line_said grid past session call w a told n number says advices =
+    λ i. record { number = number i; session = session; call = call; work = w; reply = sym says.reply i; released = sym says.released i; advices = sym advices i }

@@ -1,5 +1,6 @@
 use Rattle.std.proofs.Common.{◌≡◌, ◌≤◌, nat_le, true, Some, slice_get, arith, sym, ◌∙◌}
 use Rattle.std.proofs.lemmas.Bool.Decides.{nat_tests}
+use Rattle.std.proofs.lemmas.Result.{IfOk-weaker}
 use Rattle.seat_rules.specs.Bookings.{is_for}
 use Rattle.seat_bookings.specs.Books.{book_at}
 use Rattle.seat_rules.proofs.Step.Found.{find_found, found_at}
@@ -19,4 +20,4 @@ returns-clause-says c =
     c.book_at.ensures c.requires.found c.index-book_at-at.is in
     let enough : c.args.command.now.seats ≤ c.index-book_at-at.result.seats = c.if-seats-booking.false in
     let test : nat_le c.args.command.now.seats c.index-book_at-at.result.seats ≡ true = grind (arith, nat_tests) in
-    rw (here, test) (record { reply = sym c.of.ensures; released = sym c.released.ensures; advices = sym c.in_ok-advices.ensures.told })
+    rw (here, test) (record { reply = sym c.of.ensures; released = sym c.released.ensures; advices = IfOk-weaker c.advices_without.result _ _ (λ t e. sym e) c.advices_without.ensures.told })
