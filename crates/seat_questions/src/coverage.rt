@@ -6,9 +6,9 @@ ghost use Rattle.airline_base.specs.Days.{IsDay};
 ghost use Rattle.seat_questions.specs.Coverage.{AreSpans, IsCoverage, IsRanking, IsSearchable, begin_at, below, day_of, days_of, end_at, finds_leg, finds_row, point};
 
 use crate::pair_numbers::{PairNumbers, pair_of};
+use airline_base::{Day, Memory};
 use seat_limits::{LimitRow, leg_pair_of};
 use ssim_flights::{DatedLeg, Flight, Flights};
-use airline_base::{Day, Memory};
 use std::alloc::Global;
 
 /// Where limit rows begin and end, and where legs are.

@@ -8,12 +8,12 @@ ghost use Rattle.seat_desk.specs.AuditDesk.{most_lines};
 ghost use Rattle.seat_desk.specs.FlightsDesk.{IsPut};
 ghost use Rattle.seat_questions.specs.Why.{IsLegPart, IsLegPut, IsPlacePut, IsStandingPut, class_text, dated_legs, has_leg, held_line, held_texts, limit_line, limit_text, one_leg, room_line, room_text, standing_text, wait_line, wait_text};
 
-use seat_rules::{Booking, Status};
+use airline_base::{Class, Place};
 use seat_core::Core;
 use seat_desk::{put, put_number, put_way};
 use seat_nesting::Step;
+use seat_rules::{Booking, Status};
 use ssim_flights::{DatedLeg, Flights};
-use airline_base::{Class, Place};
 use std::alloc::AllocError;
 
 /// Adds the lines of each leg of a place; no place has none.

@@ -3,8 +3,8 @@ ghost use Rattle.std.specs.Prelude.{◌≡◌, ◌<◌, length, IfOk, OnOk};
 ghost use Rattle.seat_limits.specs.Authorised.{PutsRow, row_pair};
 ghost use Rattle.seat_questions.specs.PairNumbers.{AreNumbered, number_of};
 
-use seat_limits::{LimitRow, Pair};
 use airline_base::Memory;
+use seat_limits::{LimitRow, Pair};
 use std::alloc::Global;
 use std::collections::HashMap;
 
