@@ -14,7 +14,7 @@ use Rattle.seat_rules.proofs.History.Replays.{replay_holds_within}
 use Rattle.seat_desk.specs.Laws.{LoadedLaddersDiffer, LoadedReplaysKeepLimits}
 use Rattle.seat_desk.specs.CheckDesk.{most_bytes}
 use Rattle.seat_desk.specs.FlightsDesk.{IsSchedule}
-use Rattle.seat_desk.specs.Loading.{IsGridOf, IsLoaded, IsRefusedLoad, IsUnlimited, most_limit_bytes, limit_refusal, limit_refusal_of}
+use Rattle.seat_desk.specs.Loading.{IsGridOf, IsGround, IsLoaded, IsRefusedLoad, IsUnlimited, most_limit_bytes, limit_refusal, limit_refusal_of}
 use Rattle.seat_desk.specs.declared.fault.DeskFault.TheVariants.{Limit, Memory}
 use Rattle.seat_desk.specs.declared.fault.DeskFault.{DeskFault}
 use Rattle.seat_desk.specs.Desk.{IsOfInput}
@@ -63,6 +63,34 @@ loaded_whole (Some xs) (Some ys) first days bytes slice text text_slice flights 
 }
 loaded_whole (Some xs) None first days bytes slice text text_slice flights rows grid of_set set_is set_fits schedule of_limits limits_are limits_fit is_text grid_is = tt
 loaded_whole None limits first days bytes slice text text_slice flights rows grid of_set set_is set_fits schedule of_limits limits_are limits_fit is_text grid_is = tt
+
+-- and so for the rows themselves
+pub ground_whole : (set limits : Option (List ℕ)) (first days : ℕ) (bytes slice text text_slice : List ℕ) (flights : List Flown) (rows : List LimitRow)
+    → slice ≡ bytes → IfSome set (λ xs. bytes ≡ xs) → length bytes ≤ most_bytes → IsSchedule slice first days flights
+    → text_slice ≡ text → IfSome limits (λ ys. text ≡ ys) → length text ≤ most_limit_bytes → IsLimitText text_slice rows
+    → IfSome set (λ xs. IfSome limits (λ ys. IsGround xs ys first days flights rows))
+ground_whole (Some xs) (Some ys) first days bytes slice text text_slice flights rows of_set set_is set_fits schedule of_limits limits_are limits_fit is_text = record {
+  set_within = subst (λ (l : List ℕ). length l ≤ most_bytes) set_is set_fits;
+  limits_within = subst (λ (l : List ℕ). length l ≤ most_limit_bytes) limits_are limits_fit;
+  is_schedule = subst (λ (l : List ℕ). IsSchedule l first days flights) (of_set ∙ set_is) schedule;
+  are_rows = subst (λ (l : List ℕ). IsLimitText l rows) (of_limits ∙ limits_are) is_text;
+}
+ground_whole (Some xs) None first days bytes slice text text_slice flights rows of_set set_is set_fits schedule of_limits limits_are limits_fit is_text = tt
+ground_whole None limits first days bytes slice text text_slice flights rows of_set set_is set_fits schedule of_limits limits_are limits_fit is_text = tt
+
+-- flights and rows that are right make a loaded grid, and a loaded grid has such rows
+pub loaded_of_ground : (set limits : List ℕ) (first days : ℕ) (flights : List Flown) (rows : List LimitRow) → IsGround set limits first days flights rows
+    → IsLoaded set limits first days flights (authorised_grid rows flights)
+loaded_of_ground set limits first days flights rows is = record {
+  set_within = is.set_within;
+  limits_within = is.limits_within;
+  loaded = record { rows = rows; is_schedule = is.is_schedule; are_rows = is.are_rows; grid_is = refl };
+}
+
+pub ground_of_loaded : (set limits : List ℕ) (first days : ℕ) (flights : List Flown) (grid : Legs) (is : IsLoaded set limits first days flights grid)
+    → IsGround set limits first days flights is.loaded.rows
+ground_of_loaded set limits first days flights grid is =
+    record { set_within = is.set_within; limits_within = is.limits_within; is_schedule = is.loaded.is_schedule; are_rows = is.loaded.are_rows }
 
 -- a grid that limit rows give is one
 pub grid_of_rows : (rows : List LimitRow) (flights : List Flown) (grid : Legs) → grid ≡ authorised_grid rows flights → IsGridOf flights grid

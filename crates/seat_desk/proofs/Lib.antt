@@ -1,7 +1,6 @@
-mod Answering
-mod Cuts
+pub mod Answered
 pub mod Auditing
-mod ReadWhole
-pub mod Texts
-pub mod Schedules
 pub mod Grounds
+pub mod ReadWhole
+pub mod Schedules
+pub mod Texts

@@ -1,4 +1,4 @@
--- What `flights` writes: one line for each dated flight.
+-- Texts of parts, the names of flights and legs, and the dated flights of a data set.
 use Rattle.std.specs.Prelude.{◌≡◌, ◌≤◌, ℕ, ◌+◌, List, [], ◌∷◌, ◌++◌, length, decimal, codes, Option, Some, None}
 use Rattle.airline_base.specs.Days.{IsDateText}
 use Rattle.airline_base.specs.Fields.{suffix_text}
@@ -39,20 +39,6 @@ head_text index flight = decimal index ++ codes " " ++ designator_text flight
 abbrev pub IsLegText : ℕ → DatedLeg → List ℕ → Type 0
 IsLegText n leg text = (day : List ℕ) × IsDateText leg.day day
     × (text ≡ codes " " ++ leg.board ++ codes "/" ++ day ++ codes "/" ++ leg.off)
-
--- INDEX DESIGNATOR and each leg
-abbrev pub IsFlightLine : ℕ → Flown → List ℕ → Type 0
-IsFlightLine index flight line = (legs : List ℕ) × IsText IsLegText 0 flight.legs legs
-    × (line ≡ head_text index flight ++ legs ++ 10 ∷ [])
-
-abbrev pub IsFlightsText : List Flown → List ℕ → Type 0
-IsFlightsText flights text = IsText IsFlightLine 0 flights text
-
--- such a line is written behind what was there
-pub record IsLinePut (index : ℕ) (flight : Flown) (old new : List ℕ) : Type 0 where
-  pub line : List ℕ
-  pub is_line : IsFlightLine index flight line
-  pub written : new ≡ old ++ line
 
 -- ---- the flights of a data set
 
@@ -103,10 +89,3 @@ pub record IsUnscheduled (first days : ℕ) (fault : DeskFault) (bytes : List �
   pub within : length bytes ≤ most_bytes
   pub refused : IsRefusedSchedule first days fault bytes
   pub none : HasNoSchedule first days bytes
-
--- the bytes are not too large, and the text is a line for each of their flights
-pub record IsListing (first days : ℕ) (bytes text : List ℕ) : Type 0 where
-  pub within : length bytes ≤ most_bytes
-  pub flights : List Flown
-  pub is_schedule : IsSchedule bytes first days flights
-  pub is_text : IsFlightsText flights text

@@ -1,11 +1,9 @@
+pub mod Answering
 pub mod AuditDesk
 pub mod CheckDesk
 pub mod Desk
 pub mod FaultText
-pub mod LadderDesk
 pub mod FlightsDesk
 pub mod Laws
-pub mod Lines
 pub mod Loading
-pub mod Orders
 pub mod Status

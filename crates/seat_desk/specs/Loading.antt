@@ -96,3 +96,41 @@ IsTooLargeLoadOf set limits inputs = IfSome (set inputs.set) (λ xs. IfSome (lim
 -- one of the two has failed
 abbrev pub HaveFailed : {S L : Type 0} → (S → ℕ) → (L → ℕ) → Inputs S L → Inputs S L → Type 0
 HaveFailed of_set of_limits old new = HasFailed of_set old.set new.set ⊎ HasFailed of_limits old.limits new.limits
+
+-- ---- what is right ahead of what is not
+
+-- the set has these flights and the limits are these rows, and neither is too large
+pub record IsGround (set limits : List ℕ) (first days : ℕ) (flights : List Flown) (rows : List LimitRow) : Type 0 where
+  pub set_within : length set ≤ most_bytes
+  pub limits_within : length limits ≤ most_limit_bytes
+  pub is_schedule : IsSchedule set first days flights
+  pub are_rows : IsLimitText limits rows
+
+-- where the bytes of both are known
+abbrev pub IsGroundOf : {S L : Type 0} → Bytes S → Bytes L → Inputs S L → List Flown → List LimitRow → Type 0
+IsGroundOf set limits inputs flights rows =
+    IfSome (set inputs.set) (λ xs. IfSome (limits inputs.limits) (λ ys. IsGround xs ys inputs.first inputs.days flights rows))
+
+-- the set is not too large, and has flights
+pub record HasSchedule (first days : ℕ) (set : List ℕ) : Type 0 where
+  pub flights : List Flown
+  pub within : length set ≤ most_bytes
+  pub is_schedule : IsSchedule set first days flights
+
+-- something is wrong, behind what is right
+pub record IsBehind (right wrong : Type 0) : Type 0 where
+  pub ahead : right
+  pub here : wrong
+
+-- the set is too large, or the limits are behind a right set
+abbrev pub IsFirstTooLargeLoad : List ℕ → List ℕ → ℕ → ℕ → Type 0
+IsFirstTooLargeLoad set limits first days = (most_bytes < length set) ⊎ IsBehind (HasSchedule first days set) (most_limit_bytes < length limits)
+
+abbrev pub IsFirstTooLargeLoadOf : {S L : Type 0} → Bytes S → Bytes L → Inputs S L → Type 0
+IsFirstTooLargeLoadOf set limits inputs =
+    IfSome (set inputs.set) (λ xs. IfSome (limits inputs.limits) (λ ys. IsFirstTooLargeLoad xs ys inputs.first inputs.days))
+
+-- the set has failed, or the limits have behind a right set
+abbrev pub HasFirstLoadFailed : {S L : Type 0} → Bytes S → (S → ℕ) → (L → ℕ) → Inputs S L → Inputs S L → Type 0
+HasFirstLoadFailed set of_set of_limits old new =
+    HasFailed of_set old.set new.set ⊎ IsBehind (IfSome (set old.set) (HasSchedule old.first old.days)) (HasFailed of_limits old.limits new.limits)

@@ -44,8 +44,8 @@ pub enum DeskFault {
     BadDays,
     /// The day of reference is no day of 2000 to 2099.
     BadToday,
-    /// There are more scripts than sessions.
-    TooManyScripts,
+    /// There are no scripts where some are needed, or more than sessions.
+    BadScripts,
     /// The day of departure is no day of 2000 to 2099.
     BadDay,
     /// The pair is not two stations of three letters each.
@@ -94,7 +94,7 @@ impl fmt::Display for DeskFault {
             DeskFault::BadFirst => f.write_str("E2 first"),
             DeskFault::BadDays => f.write_str("E2 days"),
             DeskFault::BadToday => f.write_str("E2 today"),
-            DeskFault::TooManyScripts => f.write_str("E2 script"),
+            DeskFault::BadScripts => f.write_str("E2 script"),
             DeskFault::BadDay => f.write_str("E2 day"),
             DeskFault::BadPair => f.write_str("E2 pair"),
             DeskFault::BadLocator => f.write_str("E2 locator"),
@@ -137,7 +137,7 @@ impl DeskFault {
             DeskFault::BadFirst
             | DeskFault::BadDays
             | DeskFault::BadToday
-            | DeskFault::TooManyScripts
+            | DeskFault::BadScripts
             | DeskFault::BadDay
             | DeskFault::BadPair
             | DeskFault::BadLocator

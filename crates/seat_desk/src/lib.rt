@@ -1,27 +1,25 @@
-//! The commands of `seatdesk` that need no session, as functions over readers and writers, and what `run` shares with them.
-//! It knows the texts that come and go and the order in which they are checked, and leaves every answer to the crates below.
+//! What the commands of `seatdesk` stand on: the inputs that they read and check, their refusals, pieces of what they write,
+//! and the one function that answers a question about a journal. It knows the order in which inputs are checked, and no question.
 #![tactic(auto)]
 
-mod audit;
-mod check;
+mod answering;
 mod fault;
-mod flights;
 mod inputs;
-mod ladder;
 mod laws;
-mod lines;
 mod loading;
-mod orders;
+mod question;
+mod replaying;
+mod schedule;
 mod streams;
 mod text;
 
-pub use audit::{MOST_JOURNAL_BYTES, MOST_LINES, audit_line, desk_audit, replayed};
-pub use check::{MOST_SET_BYTES, desk_check};
+pub use answering::answer_question;
 pub use fault::DeskFault;
-pub use flights::{desk_flights, put_designator, put_head, put_way, scheduled};
 pub use inputs::Inputs;
-pub use ladder::desk_ladder;
 pub use laws::{loaded_ladders_differ, loaded_replays_keep_limits};
 pub use loading::{Loaded, MOST_LIMIT_BYTES, limit_rows, load};
+pub use question::Question;
+pub use replaying::{MOST_JOURNAL_BYTES, MOST_LINES, NO_LINES, audit_line, no_lines, replayed};
+pub use schedule::{MOST_SET_BYTES, data_set, scheduled};
 pub use streams::read_input;
-pub use text::{put, put_number};
+pub use text::{put, put_designator, put_head, put_number, put_way};

@@ -4,12 +4,11 @@ ghost use Rattle.ssim_flights.specs.Right.{IsOfCentury};
 ghost use Rattle.seat_limits.specs.Authorised.{authorised_grid};
 ghost use Rattle.seat_limits.specs.LimitRows.{IsLimitText};
 ghost use Rattle.seat_desk.specs.Desk.{IsOfInput};
-ghost use Rattle.seat_desk.specs.Loading.{HaveFailed, IsGridOf, IsLoadedOf, IsRefusedLoadOf, IsTooLargeLoadOf, IsUnlimited, limit_refusal, most_limit_bytes};
+ghost use Rattle.seat_desk.specs.Loading.{HasFirstLoadFailed, HaveFailed, IsFirstTooLargeLoadOf, IsGridOf, IsGroundOf, IsLoadedOf, IsRefusedLoadOf, IsTooLargeLoadOf, IsUnlimited, limit_refusal, most_limit_bytes};
 
-use crate::check::MOST_SET_BYTES;
 use crate::fault::DeskFault;
-use crate::flights::scheduled;
 use crate::inputs::Inputs;
+use crate::schedule::{MOST_SET_BYTES, scheduled};
 use crate::streams::read_input;
 use airline_base::NotedRead;
 use seat_limits::{LimitFault, LimitKind, LimitRows, build_grid, read_limits};
@@ -20,10 +19,11 @@ use std::alloc::Global;
 /// 16 MiB, the most bytes of limit rows.
 pub const MOST_LIMIT_BYTES: u64 = 16_777_216;
 
-/// Flights, and the ladders of their legs.
+/// Flights, limit rows, and the ladders that these give the flights' legs.
 #[derive(Drop)]
 pub struct Loaded {
     pub flights: Flights,
+    pub rows: LimitRows,
     pub grid: Grid,
 }
 
@@ -37,9 +37,15 @@ pub fn load<S: NotedRead, L: NotedRead>(
     requires days { (1 ≤ inputs.old.days) × (inputs.old.days ≤ 366) }
     ensures ok { IfOk result (λ loaded. IsLoadedOf S.remaining L.remaining inputs.old loaded.flights loaded.grid) }
     ensures grid { IfOk result (λ loaded. IsGridOf loaded.flights loaded.grid) }
+    ensures rows { IfOk result (λ loaded. IsGroundOf S.remaining L.remaining inputs.old loaded.flights loaded.rows) }
+    ensures ladders { IfOk result (λ loaded. loaded.grid ≡ authorised_grid loaded.rows loaded.flights) }
     ensures fault { IfErr result (λ f. IsOfInput f → IsRefusedLoadOf S.remaining L.remaining inputs.old f) }
     ensures large { IfErr result (λ f. f ≡ DeskFault.TooLarge → IsTooLargeLoadOf S.remaining L.remaining inputs.old) }
     ensures device { IfErr result (λ f. f ≡ DeskFault.Device → HaveFailed S.failure_count L.failure_count inputs.old inputs.new) }
+    // The limits are at fault only behind a set that is right.
+    ensures first_large { IfErr result (λ f. f ≡ DeskFault.TooLarge → IsFirstTooLargeLoadOf S.remaining L.remaining inputs.old) }
+    ensures first_failed { IfErr result (λ f. f ≡ DeskFault.Device →
+        HasFirstLoadFailed S.remaining S.failure_count L.failure_count inputs.old inputs.new) }
 {
     let bytes = read_input(alloc, &mut inputs.set, MOST_SET_BYTES)?;
     let flights = scheduled(alloc, &bytes, inputs.first, inputs.days)?;
@@ -49,7 +55,11 @@ pub fn load<S: NotedRead, L: NotedRead>(
         Err(fault) => return Err(fault),
     };
     let grid = grid_of(alloc, &flights, &rows)?;
-    Ok(Loaded { flights, grid })
+    Ok(Loaded {
+        flights,
+        rows,
+        grid,
+    })
 }
 
 /// Reads these bytes as limit rows.

@@ -1,10 +1,10 @@
 //! Pieces of the texts that commands write.
-ghost use Rattle.std.specs.Prelude.{◌≡◌, ◌++◌, decimal, OnOk};
-ghost use Rattle.std.specs.List.{flat_map};
-ghost use Rattle.seat_desk.specs.LadderDesk.{advice_text, asked_text, entry_text};
+ghost use Rattle.std.specs.Prelude.{◌≡◌, ◌++◌, ℕ, List, decimal, OnOk};
+ghost use Rattle.airline_base.specs.Fields.{suffix_text};
+ghost use Rattle.seat_desk.specs.FlightsDesk.{IsLegText, designator_text, head_text};
 
 use itoa::Buffer;
-use seat_journal::{Advice, Entry, Work};
+use ssim_flights::{DatedLeg, Flight};
 use std::alloc::AllocError;
 
 /// Adds bytes as they are.
@@ -22,52 +22,41 @@ pub fn put_number(text: &mut Vec<u8>, number: u64) -> Result<(), AllocError>
     put(text, buffer.format(number).as_bytes())
 }
 
-fn put_advice(text: &mut Vec<u8>, advice: &Advice) -> Result<(), AllocError>
-    ensures { OnOk result (text.new.items ≡ text.old.items ++ advice_text advice.now) }
+/// Adds INDEX DESIGNATOR.
+pub fn put_head(text: &mut Vec<u8>, index: u32, flight: &Flight) -> Result<(), AllocError>
+    ensures { OnOk result (text.new.items ≡ text.old.items ++ head_text index flight.now) }
 {
-    put(text, b" KL")?;
-    put_number(text, u64::from(advice.seats))?;
-    put(text, b"/")?;
-    put_number(text, u64::from(advice.number))
-}
-
-fn put_advices(text: &mut Vec<u8>, advices: &[Advice]) -> Result<(), AllocError>
-    ensures { OnOk result (text.new.items ≡ text.old.items ++ flat_map advice_text advices.now) }
-{
-    for advice in advices {
-        put_advice(text, advice)?;
-    }
-    Ok(())
-}
-
-/// Adds the seats that were asked; a change of a limit asks for none.
-fn put_asked(text: &mut Vec<u8>, work: &Work) -> Result<(), AllocError>
-    ensures { OnOk result (text.new.items ≡ text.old.items ++ asked_text work.now) }
-{
-    match work {
-        Work::Seats(command) => put_number(text, u64::from(command.seats)),
-        Work::Limit(_) => Ok(()),
-    }
-}
-
-/// Adds the line of an entry: its number, the reply with the seats asked, and its advices.
-pub fn put_entry(text: &mut Vec<u8>, entry: &Entry) -> Result<(), AllocError>
-    ensures { OnOk result (text.new.items ≡ text.old.items ++ entry_text entry.now) }
-{
-    put_number(text, u64::from(entry.number))?;
+    put_number(text, u64::from(index))?;
     put(text, b" ")?;
-    put(text, &entry.reply.letters())?;
-    put_asked(text, &entry.work)?;
-    put_advices(text, entry.advices.as_slice())?;
-    put(text, b"\n")
+    put_designator(text, flight)
 }
 
-/// Adds the lines of entries, in order.
-pub fn put_entries(text: &mut Vec<u8>, entries: &[Entry]) -> Result<(), AllocError>
-    ensures { OnOk result (text.new.items ≡ text.old.items ++ flat_map entry_text entries.now) }
+/// Adds the airline, the number without leading zeros, and the suffix of a flight.
+pub fn put_designator(text: &mut Vec<u8>, flight: &Flight) -> Result<(), AllocError>
+    ensures { OnOk result (text.new.items ≡ text.old.items ++ designator_text flight.now) }
 {
-    for entry in entries {
-        put_entry(text, entry)?;
+    put(text, &flight.airline.characters())?;
+    put_number(text, u64::from(flight.number))?;
+    put_suffix(text, flight.suffix)
+}
+
+fn put_suffix(text: &mut Vec<u8>, suffix: Option<u8>) -> Result<(), AllocError>
+    ensures { OnOk result (text.new.items ≡ text.old.items ++ suffix_text suffix) }
+{
+    match suffix {
+        Some(letter) => put(text, &[letter]),
+        None => Ok(()),
     }
-    Ok(())
+}
+
+/// Adds BOARD/DAY/OFF behind a blank.
+pub fn put_way(text: &mut Vec<u8>, leg: &DatedLeg) -> Result<(), AllocError>
+    ensures { OnOk result ((part : List ℕ) × IsLegText 0 leg.now part × (text.new.items ≡ text.old.items ++ part)) }
+{
+    put(text, b" ")?;
+    put(text, &leg.board.letters())?;
+    put(text, b"/")?;
+    put(text, &leg.day.bytes())?;
+    put(text, b"/")?;
+    put(text, &leg.off.letters())
 }

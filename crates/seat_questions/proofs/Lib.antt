@@ -1,11 +1,9 @@
 mod Coverages
 mod Covers
-mod Grounds
 mod Numbering
-mod RoomGrounds
+mod Reasons
 mod RoomTexts
+mod Standings
+pub mod LiveTexts
 pub mod Making
 pub mod Picking
-pub mod LiveTexts
-mod Reasons
-mod Standings

@@ -14,12 +14,10 @@ use Rattle.seat_nesting.specs.Nesting.{Legs}
 use Rattle.seat_rules.specs.declared.booking.Booking.{Booking}
 use Rattle.seat_rules.specs.Inventory.{Inventory}
 use Rattle.seat_rules.specs.Journal.{replay}
-use Rattle.seat_desk.specs.AuditDesk.{IsRefusedAudit, IsReplayOf, most_journal_bytes}
+use Rattle.seat_desk.specs.AuditDesk.{IsReplayOf}
 use Rattle.seat_desk.specs.FlightsDesk.{IsText}
-use Rattle.seat_desk.specs.Loading.{IsGridOf, IsLoaded, IsRefusedLoad}
-use Rattle.seat_desk.specs.declared.fault.DeskFault.{DeskFault}
-use Rattle.seat_desk.specs.declared.fault.DeskFault.TheVariants.{Journal, Replay}
-use Rattle.seat_questions.specs.LiveBookings.{AreBookingsPut, HasPlace, IsBookingLine, IsBookings, IsBookingsOver, IsBookingsText, IsSegmentPut, bookings_of, segment_of}
+use Rattle.seat_desk.specs.Loading.{IsGridOf}
+use Rattle.seat_questions.specs.LiveBookings.{AreBookingsPut, HasPlace, IsBookingLine, IsBookingsOver, IsBookingsText, IsSegmentPut, bookings_of, segment_of}
 
 pieces : (old a n s c d b o e m : List ℕ) → ((((((((old ++ ((a ++ n) ++ s)) ++ c) ++ d) ++ 32 ∷ []) ++ b) ++ o) ++ 32 ∷ []) ++ e) ++ m
     ≡ old ++ (a ++ (n ++ ((s ++ c) ++ (d ++ (32 ∷ (b ++ (o ++ (32 ∷ (e ++ m)))))))))
@@ -113,37 +111,6 @@ over_journal flights grid bytes locator text core r is = record {
   few = r.few;
   are_lines = subst (λ (g : Legs). IsBookingsText flights (bookings_of locator (replay g core.journal).bookings) text) r.grid_is is;
 }
-
--- where what was read of each input is all of it
-pub bookings_of_all : (set limits journal : Option (List ℕ)) (first days : ℕ) (flights : List Flown) (grid : Legs) (locator bytes text : List ℕ)
-    → IfSome set (λ xs. IfSome limits (λ ys. IsLoaded xs ys first days flights grid)) → IfSome journal (λ zs. bytes ≡ zs)
-    → length bytes ≤ most_journal_bytes → IsBookingsOver flights grid locator bytes text
-    → IfSome set (λ xs. IfSome limits (λ ys. IfSome journal (λ zs. IsBookings xs ys first days locator zs text)))
-bookings_of_all (Some xs) (Some ys) (Some zs) first days flights grid locator bytes text loaded whole within over = record {
-  flights = flights;
-  grid = grid;
-  is_loaded = loaded;
-  within = subst (λ (l : List ℕ). length l ≤ most_journal_bytes) whole within;
-  are_bookings = subst (λ (l : List ℕ). IsBookingsOver flights grid locator l text) whole over;
-}
-bookings_of_all (Some xs) (Some ys) None first days flights grid locator bytes text loaded whole within over = tt
-bookings_of_all (Some xs) None journal first days flights grid locator bytes text loaded whole within over = tt
-bookings_of_all None limits journal first days flights grid locator bytes text loaded whole within over = tt
-
--- ---- refusals
-
-refused_by : (set limits : List ℕ) (first days : ℕ) (journal : List ℕ) (fault : DeskFault) → IsRefusedLoad set limits first days fault → IsRefusedAudit set limits first days journal fault
-refused_by set limits first days journal (Journal f) r = absurd r.refusal
-refused_by set limits first days journal (Replay f) r = absurd r.refusal
-refused_by set limits first days journal _ r = record { refusal = r }
-
--- what is refused before the journal is read is refused as audit does
-pub load_is_refused : (set limits journal : Option (List ℕ)) (first days : ℕ) (fault : DeskFault) → IfSome set (λ xs. IfSome limits (λ ys. IsRefusedLoad xs ys first days fault))
-    → IfSome set (λ xs. IfSome limits (λ ys. IfSome journal (λ zs. IsRefusedAudit xs ys first days zs fault)))
-load_is_refused (Some xs) (Some ys) (Some zs) first days fault r = refused_by xs ys first days zs fault r
-load_is_refused (Some xs) (Some ys) None first days fault r = tt
-load_is_refused (Some xs) None journal first days fault r = tt
-load_is_refused None limits journal first days fault r = tt
 
 -- the grid that a replay began with
 pub grid_after : (flights : List Flown) (grid : Legs) (bytes : List ℕ) (core : Inventory) → IsGridOf flights grid → IsReplayOf grid bytes core → IsGridOf flights core.grid

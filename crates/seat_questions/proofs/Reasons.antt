@@ -17,10 +17,9 @@ use Rattle.seat_rules.specs.Journal.{FitsWork, next_line, replay}
 use Rattle.seat_rules.specs.Replaying.{replay_fault}
 use Rattle.seat_rules.proofs.History.Faults.{legal_has_no_fault}
 use Rattle.seat_desk.specs.AuditDesk.{journal_fault, journal_fault_of, most_journal_bytes, most_lines}
-use Rattle.seat_desk.specs.Loading.{IsLoaded}
 use Rattle.seat_desk.specs.declared.fault.DeskFault.{DeskFault}
 use Rattle.seat_desk.specs.declared.fault.DeskFault.TheVariants.{BadLine, Memory, Replay}
-use Rattle.seat_questions.specs.Why.{HasLine, IsExplained, IsPlacePut, IsReasoned, IsRefusedPast, IsUnexplained, IsUnreasoned, IsWhy, IsWhyBy, IsWhyText, answer_text, can_ask, lines_before, place_of_line, right_line, verdict_text}
+use Rattle.seat_questions.specs.Why.{HasLine, IsExplained, IsPlacePut, IsReasoned, IsRefusedPast, IsUnexplained, IsUnreasoned, IsWhyBy, IsWhyText, answer_text, can_ask, lines_before, place_of_line, right_line, verdict_text}
 
 -- ---- what is refused
 
@@ -108,21 +107,6 @@ explained_line flights grid n at bytes entries lines past entry text is same low
   there = ap (λ (l : List Entry). slice_get l (n - 1)) (sym same) ∙ ap (slice_get lines) (sym e) ∙ at_line lines at entry (omega (arith, low, high, e)) here;
   reasoned = subst (λ (l : List Entry). IsReasoned flights grid l entry text) (before ∙ ap (λ (k : ℕ). take k lines) e ∙ ap (λ (l : List Entry). take (n - 1) l) same) reasoned;
 }
-
--- the text explains the line of the journal over the loaded grid, where what was read of each input is all of it
-pub why_of : (set limits journal : Option (List ℕ)) (first days n : ℕ) (flights : List Flown) (grid : Legs) (bytes slice text : List ℕ)
-    → IfSome set (λ xs. IfSome limits (λ ys. IsLoaded xs ys first days flights grid)) → slice ≡ bytes → IfSome journal (λ zs. bytes ≡ zs)
-    → length bytes ≤ most_journal_bytes → IsExplained flights grid n slice text → IfSome set (λ xs. IfSome limits (λ ys. IfSome journal (λ zs. IsWhy xs ys first days n zs text)))
-why_of (Some xs) (Some ys) (Some zs) first days n flights grid bytes slice text loaded of_journal same within explained = record {
-  flights = flights;
-  grid = grid;
-  is_loaded = loaded;
-  within = subst (λ (l : List ℕ). length l ≤ most_journal_bytes) same within;
-  is_explained = subst (λ (l : List ℕ). IsExplained flights grid n l text) (of_journal ∙ same) explained;
-}
-why_of (Some xs) (Some ys) None first days n flights grid bytes slice text loaded of_journal same within explained = tt
-why_of (Some xs) None journal first days n flights grid bytes slice text loaded of_journal same within explained = tt
-why_of None limits journal first days n flights grid bytes slice text loaded of_journal same within explained = tt
 
 -- ---- the text of one line
 

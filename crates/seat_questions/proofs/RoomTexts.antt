@@ -12,9 +12,10 @@ use Rattle.seat_limits.specs.Authorised.{authorised_grid, authorised_legs}
 use Rattle.seat_nesting.specs.Nesting.{ByClass, IsWithin, Legs, Steps, held_from, ladder_at, legs_of}
 use Rattle.seat_nesting.specs.declared.ladder.Step.{Step}
 use Rattle.seat_journal.specs.declared.entry.Entry.{Entry}
+use Rattle.seat_journal.proofs.TextLaws.{one_text}
 use Rattle.seat_rules.specs.Bookings.{held}
 use Rattle.seat_rules.specs.Flights.{bookings_on}
-use Rattle.seat_rules.specs.Inventory.{HoldsWithinLimits, Inventory, IsOpened, state_now}
+use Rattle.seat_rules.specs.Inventory.{HoldsWithinLimits, Inventory, state_now}
 use Rattle.seat_rules.specs.Journal.{replay}
 use Rattle.seat_rules.specs.Sequential.{State}
 use Rattle.seat_rules.specs.declared.booking.Booking.{Booking}
@@ -24,7 +25,7 @@ use Rattle.seat_desk.specs.FlightsDesk.{IsLegText, head_text}
 use Rattle.seat_desk.specs.Loading.{IsGridOf}
 use Rattle.seat_desk.proofs.Texts.{assoc_four}
 use Rattle.seat_questions.proofs.Covers.{assoc_six}
-use Rattle.seat_questions.specs.Rooms.{AreRoomsAfter, IsAdded, IsPlaceText, IsPlaceTextBy, IsRoomsText, IsRunText, bar_line, bar_lines, bars_text, block_bar, keeps, leg_bars, rooms_part, times}
+use Rattle.seat_questions.specs.Rooms.{AreRoomsAfter, IsAdded, IsPlaceText, IsPlaceTextBy, IsRoomsText, IsRunText, OpeningRoomsAreOfNoLines, bar_line, bar_lines, bars_text, block_bar, keeps, leg_bars, rooms_part, times}
 use Rattle.seat_questions.specs.declared.rooms.Asked.{Asked}
 use Rattle.seat_questions.specs.declared.rooms.Bars.{Bars}
 
@@ -44,11 +45,10 @@ rooms_of_replay asked flights grid bytes text core is listed = record {
   listed = subst (λ (g : Legs). IsRoomsText asked (replay g core.journal) flights text) is.grid_is listed;
 }
 
-pub rooms_of_opening : (asked : Asked) (flights : List Flight) (grid : Legs) (cap : ℕ) (text : List ℕ) (core : Inventory) → IsOpened core grid cap
-    → IsRoomsText asked (state_now core) flights text → IsRoomsText asked (replay grid []) flights text
-rooms_of_opening asked flights grid cap text core is listed =
-    subst (λ (g : Legs). IsRoomsText asked (replay g []) flights text) is.grid_is
-    (subst (λ (l : List Entry). IsRoomsText asked (replay core.grid l) flights text) is.journal_is listed)
+-- a text without lines is that of no others
+pub opening_rooms_are_of_no_lines : OpeningRoomsAreOfNoLines
+opening_rooms_are_of_no_lines asked flights grid journal text none rooms =
+    subst (λ (l : List Entry). IsRoomsText asked (replay grid l) flights text) (one_text journal rooms.entries [] rooms.is_text none) rooms.listed
 
 -- a flight has as many ladders as legs
 pub legs_alike : (flights : List Flight) (grid : Legs) (i : ℕ) (flight : Flight) → IsGridOf flights grid → slice_get flights i ≡ Some flight

@@ -1,14 +1,11 @@
 -- What `cover` writes: the limit rows that are for no leg, the legs without a row, and how many there are of both.
-use Rattle.std.specs.Prelude.{◌≡◌, ℕ, Bool, true, false, List, [], ◌∷◌, ◌++◌, length, count_by, decimal, codes, IfSome}
+use Rattle.std.specs.Prelude.{◌≡◌, ℕ, Bool, true, false, List, [], ◌∷◌, ◌++◌, length, count_by, decimal, codes}
 use Rattle.std.specs.List.{list_any, sum_by}
 use Rattle.ssim_flights.specs.declared.flight.DatedLeg.{DatedLeg}
 use Rattle.ssim_flights.specs.declared.flight.Flight.{Flight as Flown}
 use Rattle.seat_limits.specs.Authorised.{is_for, leg_pair}
 use Rattle.seat_limits.specs.declared.limit_row.LimitRow.{LimitRow}
 use Rattle.seat_desk.specs.FlightsDesk.{IsLegText, IsText, designator_text}
-use Rattle.seat_desk.specs.Loading.{Bytes}
-use Rattle.seat_desk.specs.declared.inputs.Inputs.{Inputs}
-use Rattle.seat_questions.specs.Ground.{IsGround}
 
 -- the row is for the leg, as authorised seats have it
 abbrev pub is_row_of : LimitRow → Flown → DatedLeg → Bool
@@ -101,15 +98,3 @@ pub record IsCoverText (rows : List LimitRow) (flights : List Flown) (text : Lis
   pub are_rows : IsText (IsRowPart flights) 1 rows of_rows
   pub are_legs : IsText (IsFlightPart rows) 0 flights of_legs
   pub written : text ≡ of_rows ++ of_legs ++ covered_line rows flights
-
--- the text is that of the rows and flights of these inputs
-pub record IsCover (set limits : List ℕ) (first days : ℕ) (text : List ℕ) : Type 0 where
-  pub flights : List Flown
-  pub rows : List LimitRow
-  pub is_ground : IsGround set limits first days flights rows
-  pub is_text : IsCoverText rows flights text
-
--- where the bytes of both are known
-abbrev pub IsCoverOf : {S L : Type 0} → Bytes S → Bytes L → Inputs S L → List ℕ → Type 0
-IsCoverOf set limits inputs text =
-    IfSome (set inputs.set) (λ xs. IfSome (limits inputs.limits) (λ ys. IsCover xs ys inputs.first inputs.days text))

@@ -1,7 +1,6 @@
-pub mod PairNumbers
-pub mod Coverage
 pub mod Cover
-pub mod Ground
-pub mod Rooms
+pub mod Coverage
 pub mod LiveBookings
+pub mod PairNumbers
+pub mod Rooms
 pub mod Why

@@ -1,5 +1,5 @@
 -- What `bookings` writes: the live bookings of a locator, in order of number.
-use Rattle.std.specs.Prelude.{◌≡◌, ◌≤◌, ◌<◌, ◌+◌, ◌==◌, ◌&&◌, ℕ, nat_eq, nat_le, Bool, List, [], ◌∷◌, ◌++◌, filter, length, slice_get, decimal, codes, Option, Some, None, IfSome, if◌then◌else◌}
+use Rattle.std.specs.Prelude.{◌≡◌, ◌≤◌, ◌<◌, ◌+◌, ◌==◌, ◌&&◌, ℕ, nat_eq, nat_le, Bool, List, [], ◌∷◌, ◌++◌, filter, length, slice_get, decimal, codes, Option, Some, None, if◌then◌else◌}
 use Rattle.std.specs.Cmp.Lexicographic.{pointwise}
 use Rattle.airimp_lines.specs.Grammar.{IsPlainLine}
 use Rattle.airimp_lines.specs.declared.segment.Segment.{Segment}
@@ -16,10 +16,8 @@ use Rattle.seat_rules.specs.Journal.{IsLegal, replay}
 use Rattle.seat_rules.specs.declared.booking.Booking.{Booking}
 use Rattle.seat_rules.specs.declared.booking.Status.{Status}
 use Rattle.seat_rules.specs.declared.booking.Status.TheVariants.{Held, Waiting}
-use Rattle.seat_desk.specs.AuditDesk.{most_journal_bytes, most_lines}
+use Rattle.seat_desk.specs.AuditDesk.{most_lines}
 use Rattle.seat_desk.specs.FlightsDesk.{IsText}
-use Rattle.seat_desk.specs.Loading.{Bytes, IsLoaded}
-use Rattle.seat_desk.specs.declared.inputs.Inputs.{Inputs}
 
 -- the booking has the locator
 abbrev pub is_of : List ℕ → Booking → Bool
@@ -71,19 +69,6 @@ pub record IsBookingsOver (flights : List Flown) (grid : Legs) (locator bytes te
   pub legal : IsLegal grid entries
   pub few : length entries ≤ most_lines
   pub are_lines : IsBookingsText flights (bookings_of locator (replay grid entries).bookings) text
-
--- over the flights and the limits of these inputs
-pub record IsBookings (set limits : List ℕ) (first days : ℕ) (locator journal text : List ℕ) : Type 0 where
-  pub flights : List Flown
-  pub grid : Legs
-  pub is_loaded : IsLoaded set limits first days flights grid
-  pub within : length journal ≤ most_journal_bytes
-  pub are_bookings : IsBookingsOver flights grid locator journal text
-
--- where the bytes of the three inputs are known
-abbrev pub IsBookingsOf : {S L : Type 0} → Bytes S → Bytes L → Inputs S L → List ℕ → Option (List ℕ) → List ℕ → Type 0
-IsBookingsOf set limits inputs locator journal text =
-    IfSome (set inputs.set) (λ xs. IfSome (limits inputs.limits) (λ ys. IfSome journal (λ zs. IsBookings xs ys inputs.first inputs.days locator zs text)))
 
 -- ---- the parts of the text
 

@@ -1,5 +1,5 @@
 -- What `rooms` writes: one line for each place of a flight, with the seats that are left on it in each class.
-use Rattle.std.specs.Prelude.{◌≡◌, ◌≤◌, ℕ, zero, suc, ◌-◌, ◌*◌, ◌/◌, ◌%◌, ◌==◌, ◌&&◌, nat_eq, nat_le, Bool, true, false, if◌then◌else◌, List, [], ◌∷◌, ◌++◌, length, drop, decimal, codes, Option, Some, None, IfSome}
+use Rattle.std.specs.Prelude.{◌≡◌, ◌≤◌, ℕ, zero, suc, ◌-◌, ◌*◌, ◌/◌, ◌%◌, ◌==◌, ◌&&◌, nat_eq, nat_le, Bool, true, false, if◌then◌else◌, List, [], ◌∷◌, ◌++◌, length, drop, decimal, codes, Option, Some, None}
 use Rattle.std.specs.List.{flat_map}
 use Rattle.std.specs.Cmp.Lexicographic.{pointwise}
 use Rattle.airline_base.specs.declared.place.Place.{Place}
@@ -12,10 +12,8 @@ use Rattle.seat_journal.specs.declared.entry.Entry.{Entry}
 use Rattle.seat_rules.specs.Bookings.{held}
 use Rattle.seat_rules.specs.Journal.{IsLegal, replay}
 use Rattle.seat_rules.specs.Sequential.{State, room_left}
-use Rattle.seat_desk.specs.AuditDesk.{most_journal_bytes, most_lines}
+use Rattle.seat_desk.specs.AuditDesk.{most_lines}
 use Rattle.seat_desk.specs.FlightsDesk.{IsLegText, IsText, head_text}
-use Rattle.seat_desk.specs.Loading.{Bytes, IsLoaded}
-use Rattle.seat_desk.specs.declared.inputs.Inputs.{Inputs}
 use Rattle.seat_questions.specs.declared.rooms.Asked.{Asked}
 use Rattle.seat_questions.specs.declared.rooms.Bars.{Bars}
 use Rattle.seat_questions.specs.declared.rooms.Bars.TheVariants.{Plain, Blocks}
@@ -159,26 +157,7 @@ pub record AreRoomsAfter (asked : Asked) (flights : List Flown) (grid : Legs) (j
   pub few : length entries ≤ most_lines
   pub listed : IsRoomsText asked (replay grid entries) flights text
 
--- the text lists the rooms that the journal, which is not too large, leaves over the limits of these inputs
-pub record AreRooms (asked : Asked) (set limits : List ℕ) (first days : ℕ) (journal text : List ℕ) : Type 0 where
-  pub flights : List Flown
-  pub grid : Legs
-  pub is_loaded : IsLoaded set limits first days flights grid
-  pub within : length journal ≤ most_journal_bytes
-  pub are_rooms : AreRoomsAfter asked flights grid journal text
-
--- the text lists the rooms of the limits of these inputs before any line
-pub record AreOpeningRooms (asked : Asked) (set limits : List ℕ) (first days : ℕ) (text : List ℕ) : Type 0 where
-  pub flights : List Flown
-  pub grid : Legs
-  pub is_loaded : IsLoaded set limits first days flights grid
-  pub listed : IsRoomsText asked (replay grid []) flights text
-
--- where the bytes of the inputs are known
-abbrev pub AreRoomsOf : {S L : Type 0} → Bytes S → Bytes L → Inputs S L → Asked → Option (List ℕ) → List ℕ → Type 0
-AreRoomsOf set limits inputs asked journal text =
-    IfSome (set inputs.set) (λ xs. IfSome (limits inputs.limits) (λ ys. IfSome journal (λ zs. AreRooms asked xs ys inputs.first inputs.days zs text)))
-
-abbrev pub AreOpeningRoomsOf : {S L : Type 0} → Bytes S → Bytes L → Inputs S L → Asked → List ℕ → Type 0
-AreOpeningRoomsOf set limits inputs asked text =
-    IfSome (set inputs.set) (λ xs. IfSome (limits inputs.limits) (λ ys. AreOpeningRooms asked xs ys inputs.first inputs.days text))
+-- behind a journal without lines they are those of the limits themselves
+abbrev pub OpeningRoomsAreOfNoLines : Type 0
+OpeningRoomsAreOfNoLines = (asked : Asked) (flights : List Flown) (grid : Legs) (journal text : List ℕ) → IsJournalText journal [] →
+    AreRoomsAfter asked flights grid journal text → IsRoomsText asked (replay grid []) flights text

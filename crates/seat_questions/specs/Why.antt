@@ -1,5 +1,5 @@
 -- What `why` writes: a line of the journal, its legs as they stood before it, and the right answer beside the one that was given.
-use Rattle.std.specs.Prelude.{◌≡◌, ◌≤◌, ◌&&◌, ℕ, ◌-◌, nat_le, nat_lt, Bool, true, false, List, [], ◌∷◌, ◌++◌, length, take, slice_get, decimal, codes, Option, Some, None, IfSome}
+use Rattle.std.specs.Prelude.{◌≡◌, ◌≤◌, ◌&&◌, ℕ, ◌-◌, nat_le, nat_lt, Bool, true, false, List, [], ◌∷◌, ◌++◌, length, take, slice_get, decimal, codes, Option, Some, None}
 use Rattle.std.specs.List.{flat_map}
 use Rattle.airline_base.specs.declared.place.Place.{Place}
 use Rattle.ssim_flights.specs.declared.flight.DatedLeg.{DatedLeg}
@@ -17,10 +17,8 @@ use Rattle.seat_rules.specs.Replaying.{fits_work, replay_fault}
 use Rattle.seat_rules.specs.Sequential.{State, room_left}
 use Rattle.seat_desk.specs.AuditDesk.{most_journal_bytes, most_lines}
 use Rattle.seat_desk.specs.FlightsDesk.{IsLegText, IsText}
-use Rattle.seat_desk.specs.Loading.{Bytes, IsLoaded, IsRefusedLoad}
 use Rattle.seat_desk.specs.declared.fault.DeskFault.{DeskFault}
 use Rattle.seat_desk.specs.declared.fault.DeskFault.TheVariants.{Journal, Replay, BadLine}
-use Rattle.seat_desk.specs.declared.inputs.Inputs.{Inputs}
 
 -- ---- a leg, its classes in the ladder's order
 
@@ -211,38 +209,3 @@ pub record IsUnreasoned (grid : Legs) (n : ℕ) (fault : DeskFault) (bytes : Lis
   pub within : length bytes ≤ most_journal_bytes
   pub refused : IsRefusedLine grid n fault bytes
   pub none : IsUnexplained grid n bytes
-
--- the text explains line n of the journal, which is not too large, over the grid of these inputs
-pub record IsWhy (set limits : List ℕ) (first days n : ℕ) (journal text : List ℕ) : Type 0 where
-  pub flights : List Flown
-  pub grid : Legs
-  pub is_loaded : IsLoaded set limits first days flights grid
-  pub within : length journal ≤ most_journal_bytes
-  pub is_explained : IsExplained flights grid n journal text
-
--- where the bytes of the three inputs are known
-abbrev pub IsWhyOf : {S L : Type 0} → Bytes S → Bytes L → Inputs S L → ℕ → Option (List ℕ) → List ℕ → Type 0
-IsWhyOf set limits inputs n journal text =
-    IfSome (set inputs.set) (λ xs. IfSome (limits inputs.limits) (λ ys. IfSome journal (λ zs. IsWhy xs ys inputs.first inputs.days n zs text)))
-
--- a journal, or its line n, that is refused over that grid
-pub record IsRefusedOver (set limits : List ℕ) (first days n : ℕ) (fault : DeskFault) (journal : List ℕ) : Type 0 where
-  pub flights : List Flown
-  pub grid : Legs
-  pub is_loaded : IsLoaded set limits first days flights grid
-  pub is_unreasoned : IsUnreasoned grid n fault journal
-
--- that of the set, of its flights or of the limits, or else of the journal
-abbrev pub WhyRefusal : List ℕ → List ℕ → ℕ → ℕ → ℕ → List ℕ → DeskFault → Type 0
-WhyRefusal set limits first days n journal (Journal fault) = IsRefusedOver set limits first days n (Journal fault) journal
-WhyRefusal set limits first days n journal BadLine = IsRefusedOver set limits first days n BadLine journal
-WhyRefusal set limits first days n journal (Replay fault) = IsRefusedOver set limits first days n (Replay fault) journal
-WhyRefusal set limits first days n journal fault = IsRefusedLoad set limits first days fault
-
-pub record IsRefusedWhy (set limits : List ℕ) (first days n : ℕ) (journal : List ℕ) (fault : DeskFault) : Type 0 where
-  pub refusal : WhyRefusal set limits first days n journal fault
-
--- where the bytes of the three inputs are known
-abbrev pub IsRefusedWhyOf : {S L : Type 0} → Bytes S → Bytes L → Inputs S L → ℕ → Option (List ℕ) → DeskFault → Type 0
-IsRefusedWhyOf set limits inputs n journal fault =
-    IfSome (set inputs.set) (λ xs. IfSome (limits inputs.limits) (λ ys. IfSome journal (λ zs. IsRefusedWhy xs ys inputs.first inputs.days n zs fault)))

@@ -1,44 +1,37 @@
 //! `cover`: the limit rows that are for no leg, and the legs that have no row.
-ghost use Rattle.std.specs.Prelude.{if◌then◌else◌, ◌≡◌, ◌≢◌, ◌++◌, ◌+◌, ◌<◌, ◌≤◌, ◌⊎◌, IfErr, IfOk, OnOk, length, count_by};
+ghost use Rattle.std.specs.Prelude.{if◌then◌else◌, ◌≡◌, ◌++◌, ◌+◌, ◌<◌, ◌≤◌, IfErr, IfOk, OnOk, length, count_by};
 ghost use Rattle.std.specs.List.{sum_by};
-ghost use Rattle.ssim_flights.specs.Right.{IsOfCentury};
-ghost use Rattle.seat_desk.specs.Desk.{InputFailed, IsOfInput, IsWritten, OutputFailed};
 ghost use Rattle.seat_desk.specs.FlightsDesk.{IsPut};
-ghost use Rattle.seat_desk.specs.Loading.{HaveFailed, IsRefusedLoadOf, IsTooLargeLoadOf};
-ghost use Rattle.seat_questions.specs.Cover.{IsBarePut, IsCoverOf, IsCoverText, IsFlightPartBy, IsLegPartBy, IsLegPut, IsRowPartBy, bare_head, covered_by, leg_count, row_text, share_text, sums_text};
+ghost use Rattle.seat_questions.specs.Cover.{IsBarePut, IsCoverText, IsFlightPartBy, IsLegPartBy, IsLegPut, IsRowPartBy, bare_head, covered_by, leg_count, row_text, share_text, sums_text};
 ghost use Rattle.seat_questions.specs.Coverage.{IsSearchable, finds_leg, finds_row};
 
 use crate::coverage::Coverage;
-use crate::ground::load_rows;
-use airline_base::{Memory, NotedRead, NotedWrite, put_all};
-use seat_desk::{DeskFault, Inputs, put, put_designator, put_number, put_way};
+use airline_base::Memory;
+use seat_desk::{DeskFault, Loaded, Question, put, put_designator, put_number, put_way};
 use seat_limits::LimitRow;
 use ssim_flights::{DatedLeg, Flight, Flights};
 use std::alloc::{AllocError, Global};
 
-/// Writes a line for each limit row that is for no leg, one for each dated leg without a row, and last how many
-/// legs have a row and how many rows a leg. Each input is read and checked before the next is read.
-/// The first day is in 2000 to 2099, `days` is 1 to 366; a set has at most 256 MiB, limit rows at most 16 MiB.
-pub fn desk_cover<S: NotedRead, L: NotedRead, W: NotedWrite>(
-    alloc: Global,
-    inputs: &mut Inputs<S, L>,
-    out: &mut W,
-) -> Result<(), DeskFault>
-    requires first { IsOfCentury inputs.old.first }
-    requires days { (1 ≤ inputs.old.days) × (inputs.old.days ≤ 366) }
-    ensures ok { OnOk result (IsWritten (IsCoverOf S.remaining L.remaining inputs.old) (W.contents out.old) (W.contents out.new)) }
-    ensures fault { IfErr result (λ f. IsOfInput f → IsRefusedLoadOf S.remaining L.remaining inputs.old f) }
-    ensures large { IfErr result (λ f. f ≡ DeskFault.TooLarge → IsTooLargeLoadOf S.remaining L.remaining inputs.old) }
-    ensures device { IfErr result (λ f. f ≡ DeskFault.Device →
-        InputFailed (HaveFailed S.failure_count L.failure_count inputs.old inputs.new) out.old out.new
-        ⊎ OutputFailed W.failure_count W.contents out.old out.new (IsCoverOf S.remaining L.remaining inputs.old)) }
-    ensures untouched { IfErr result (λ f. f ≢ DeskFault.Device → out.new ≡ out.old) }
-{
-    let ground = load_rows(alloc, inputs)?;
-    let text = covered(alloc, &ground.flights, ground.rows.as_slice())?;
-    match put_all(out, &text) {
-        Ok(()) => Ok(()),
-        Err(_) => Err(DeskFault::Device),
+/// A line for each limit row that is for no leg, one for each dated leg without a row, and last how many legs have a row and
+/// how many rows a leg. It asks nothing of the journal.
+pub struct Cover;
+
+impl Question for Cover {
+    ghost use Rattle.seat_questions.specs.Cover.{IsCoverText};
+
+    ghost answers = { λ cover flights rows grid journal text. IsCoverText rows flights text };
+
+    ghost refuses = { λ cover grid fault journal. ⊥ };
+
+    fn text(&self, alloc: Global, loaded: Loaded, journal: Vec<u8>) -> Result<Vec<u8>, DeskFault> {
+        let Loaded {
+            flights,
+            rows,
+            grid,
+        } = loaded;
+        drop(grid);
+        drop(journal);
+        covered(alloc, &flights, rows.as_slice())
     }
 }
 

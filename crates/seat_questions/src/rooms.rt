@@ -1,23 +1,17 @@
-//! `rooms`: the seats that are left on each place of a flight, after a journal or before any line.
-ghost use Rattle.std.specs.Prelude.{◌≡◌, ◌≢◌, ◌++◌, ◌-◌, ◌<◌, ◌≤◌, ◌⊎◌, [], IfErr, IfOk, OnOk, drop, length};
-ghost use Rattle.ssim_flights.specs.Right.{IsOfCentury};
+//! `rooms`: the seats that are left on each place of a flight after a journal.
+ghost use Rattle.std.specs.Prelude.{◌≡◌, ◌≢◌, ◌++◌, ◌-◌, ◌<◌, ◌≤◌, [], IfErr, IfOk, OnOk, drop, length};
 ghost use Rattle.seat_nesting.specs.Nesting.{Fits, IsWithin, held_from, ladder_at, legs_of};
 ghost use Rattle.seat_rules.specs.Bookings.{held};
 ghost use Rattle.seat_rules.specs.Inventory.{state_now};
-ghost use Rattle.seat_rules.specs.Journal.{replay};
-ghost use Rattle.seat_desk.specs.AuditDesk.{IsRefusedAuditOf, IsTooLargeOf, IsUnlawful, most_journal_bytes};
-ghost use Rattle.seat_desk.specs.Desk.{HasFailed, InputFailed, IsOfInput, IsWritten, OutputFailed};
+ghost use Rattle.seat_desk.specs.AuditDesk.{IsUnlawful, most_journal_bytes};
 ghost use Rattle.seat_desk.specs.FlightsDesk.{IsPut};
-ghost use Rattle.seat_desk.specs.Loading.{HaveFailed, IsGridOf, IsRefusedLoadOf, IsTooLargeLoadOf};
-ghost use Rattle.seat_questions.specs.Rooms.{AreOpeningRoomsOf, AreRoomsAfter, AreRoomsOf, IsAdded, IsFirstPart, IsLastPart, IsPlaceText, IsRoomsText, IsRunText, bar, bar_line, bar_lines, bar_share, bars_text, block_bar, filled, has_half, keeps, keeps_day, keeps_pair, leg_bars, place_bars, plain_bar, room_text, rooms_part, rooms_text, run_of, times};
+ghost use Rattle.seat_desk.specs.Loading.{IsGridOf};
+ghost use Rattle.seat_questions.specs.Rooms.{AreRoomsAfter, IsAdded, IsFirstPart, IsLastPart, IsPlaceText, IsRoomsText, IsRunText, bar, bar_line, bar_lines, bar_share, bars_text, block_bar, filled, has_half, keeps, keeps_day, keeps_pair, leg_bars, place_bars, plain_bar, room_text, rooms_part, rooms_text, run_of, times};
 
 use crate::legs::seats_on;
-use airline_base::{Class, Day, NotedRead, NotedWrite, Place, Station, put_all};
+use airline_base::{Class, Day, Place, Station};
 use seat_core::Core;
-use seat_desk::{
-    DeskFault, Inputs, Loaded, MOST_JOURNAL_BYTES, MOST_LINES, load, put, put_head, put_number,
-    put_way, read_input, replayed,
-};
+use seat_desk::{DeskFault, Loaded, Question, put, put_head, put_number, put_way, replayed};
 use seat_nesting::{Grid, Step};
 use seat_rules::Booking;
 use ssim_flights::{DatedLeg, Flight, Flights};
@@ -50,60 +44,25 @@ pub struct Asked {
     pub bars: Option<Bars>,
 }
 
-/// Writes a line for each place of a flight, by flight, first leg and last leg, with the seats that are left on it after
-/// the journal in each class of its first leg. Each input is read and checked before the next is read, and refused as
-/// [`desk_audit`](seat_desk::desk_audit) refuses it. The first day is in 2000 to 2099, `days` is 1 to 366; a set and a
-/// journal have at most 256 MiB, limit rows at most 16 MiB.
-pub fn desk_rooms<S: NotedRead, L: NotedRead, J: NotedRead, W: NotedWrite>(
-    alloc: Global,
-    inputs: &mut Inputs<S, L>,
-    journal: &mut J,
-    asked: &Asked,
-    out: &mut W,
-) -> Result<(), DeskFault>
-    requires first { IsOfCentury inputs.old.first }
-    requires days { (1 ≤ inputs.old.days) × (inputs.old.days ≤ 366) }
-    ensures ok { OnOk result (IsWritten
-        (AreRoomsOf S.remaining L.remaining inputs.old asked.now (J.remaining journal.old)) (W.contents out.old) (W.contents out.new)) }
-    ensures fault { IfErr result (λ f. IsOfInput f → IsRefusedAuditOf S.remaining L.remaining inputs.old (J.remaining journal.old) f) }
-    ensures large { IfErr result (λ f. f ≡ DeskFault.TooLarge → IsTooLargeOf S.remaining L.remaining inputs.old (J.remaining journal.old)) }
-    ensures device { IfErr result (λ f. f ≡ DeskFault.Device →
-        InputFailed (HaveFailed S.failure_count L.failure_count inputs.old inputs.new ⊎ HasFailed J.failure_count journal.old journal.new) out.old out.new
-        ⊎ OutputFailed W.failure_count W.contents out.old out.new (AreRoomsOf S.remaining L.remaining inputs.old asked.now (J.remaining journal.old))) }
-    ensures untouched { IfErr result (λ f. f ≢ DeskFault.Device → out.new ≡ out.old) }
-{
-    let Loaded { flights, grid } = load(alloc, inputs)?;
-    let bytes = read_input(alloc, journal, MOST_JOURNAL_BYTES)?;
-    let text = rooms_after(alloc, &flights, grid, bytes, asked)?;
-    match put_all(out, &text) {
-        Ok(()) => Ok(()),
-        Err(_) => Err(DeskFault::Device),
-    }
-}
+/// A line for each place of a flight, by flight, first leg and last leg, with the seats that are left on it after the journal
+/// in each class of its first leg. A journal is refused as an audit refuses it.
+impl Question for Asked {
+    ghost use Rattle.seat_desk.specs.AuditDesk.{IsUnlawful};
+    ghost use Rattle.seat_questions.specs.Rooms.{AreRoomsAfter};
 
-/// The same before any line: the rooms of the limits themselves.
-pub fn desk_opening_rooms<S: NotedRead, L: NotedRead, W: NotedWrite>(
-    alloc: Global,
-    inputs: &mut Inputs<S, L>,
-    asked: &Asked,
-    out: &mut W,
-) -> Result<(), DeskFault>
-    requires first { IsOfCentury inputs.old.first }
-    requires days { (1 ≤ inputs.old.days) × (inputs.old.days ≤ 366) }
-    ensures ok { OnOk result (IsWritten
-        (AreOpeningRoomsOf S.remaining L.remaining inputs.old asked.now) (W.contents out.old) (W.contents out.new)) }
-    ensures fault { IfErr result (λ f. IsOfInput f → IsRefusedLoadOf S.remaining L.remaining inputs.old f) }
-    ensures large { IfErr result (λ f. f ≡ DeskFault.TooLarge → IsTooLargeLoadOf S.remaining L.remaining inputs.old) }
-    ensures device { IfErr result (λ f. f ≡ DeskFault.Device →
-        InputFailed (HaveFailed S.failure_count L.failure_count inputs.old inputs.new) out.old out.new
-        ⊎ OutputFailed W.failure_count W.contents out.old out.new (AreOpeningRoomsOf S.remaining L.remaining inputs.old asked.now)) }
-    ensures untouched { IfErr result (λ f. f ≢ DeskFault.Device → out.new ≡ out.old) }
-{
-    let Loaded { flights, grid } = load(alloc, inputs)?;
-    let text = opening_rooms(alloc, &flights, grid, asked)?;
-    match put_all(out, &text) {
-        Ok(()) => Ok(()),
-        Err(_) => Err(DeskFault::Device),
+    ghost answers = { λ asked flights rows grid journal text. AreRoomsAfter asked flights grid journal text };
+
+    ghost refuses = { λ asked grid fault journal. IsUnlawful grid fault journal };
+
+    #[tactic(auto, using(seat_desk::proofs::Grounds::grid_of_rows))]
+    fn text(&self, alloc: Global, loaded: Loaded, journal: Vec<u8>) -> Result<Vec<u8>, DeskFault> {
+        let Loaded {
+            flights,
+            rows,
+            grid,
+        } = loaded;
+        drop(rows);
+        rooms_after(alloc, &flights, grid, journal, self)
     }
 }
 
@@ -123,25 +82,6 @@ fn rooms_after(
     ensures kind { IfErr result (λ f. (f ≢ DeskFault.Device) × (f ≢ DeskFault.TooLarge)) }
 {
     let core = replayed(alloc, grid, bytes)?;
-    listed(alloc, flights, &core, asked)
-}
-
-/// The rooms of the limits before any line.
-#[tactic(auto, using(crate::proofs::RoomTexts::grid_kept, crate::proofs::RoomTexts::rooms_of_opening))]
-fn opening_rooms(
-    alloc: Global,
-    flights: &Flights,
-    grid: Grid,
-    asked: &Asked,
-) -> Result<Vec<u8>, DeskFault>
-    requires grid { IsGridOf flights.now grid }
-    ensures ok { IfOk result (λ text. IsRoomsText asked.now (replay grid []) flights.now text.items) }
-    ensures memory { IfErr result (λ f. f ≡ DeskFault.Memory) }
-{
-    let core = match Core::new(alloc, grid, MOST_LINES) {
-        Ok(core) => core,
-        Err(_) => return Err(DeskFault::Memory),
-    };
     listed(alloc, flights, &core, asked)
 }
 

@@ -1,8 +1,0 @@
-use Rattle.std.proofs.Common.{refl}
-use Rattle.seat_desk.proofs.check.mode.Goals as goal
-
-pub returns-then-local : goal.returns-then-local
-returns-then-local c = rw c.if-local.true refl
-
-pub returns-else-local : goal.returns-else-local
-returns-else-local c = rw c.if-local.false refl

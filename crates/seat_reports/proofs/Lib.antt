@@ -1,0 +1,4 @@
+mod Answering
+mod Audits
+mod Cuts
+mod FlightLines

@@ -1,0 +1,18 @@
+//! What the commands of `seatdesk` that look at one text report of it: `ladder`, `check`, `flights` and `audit`, over readers
+//! and writers. It knows the texts that come and go, and leaves every answer to the crates below.
+#![tactic(auto)]
+
+mod audit;
+mod check;
+mod flights;
+mod ladder;
+mod laws;
+mod lines;
+mod orders;
+mod text;
+
+pub use audit::Audit;
+pub use check::desk_check;
+pub use flights::desk_flights;
+pub use ladder::desk_ladder;
+pub use laws::audits_are_answered;
