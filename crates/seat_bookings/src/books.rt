@@ -6,14 +6,13 @@ ghost use Rattle.seat_rules.specs.Applying.{effect_of, suffices};
 ghost use Rattle.seat_rules.specs.Bookings.{is_for};
 ghost use Rattle.seat_bookings.specs.Books.{book_at, has_spare, has_spare_in, queue_at, spare_of, IsEntered, IsQueued, LeavesLive, SameBooks};
 
-use seat_rules::Booking;
 use crate::applying::{apply, confirm_all};
-use seat_rules::Effect;
 use crate::live_bookings::LiveBookings;
 use crate::queue::Queue;
 use crate::waiting_list::WaitingList;
-use seat_journal::{Change, Command, Entry, Work};
 use airline_base::{Memory, Place};
+use seat_journal::{Change, Command, Entry, Work};
+use seat_rules::{Booking, Effect};
 use std::alloc::Global;
 
 /// The bookings of one flight, and those of them that wait, each in order of number.

@@ -3,9 +3,9 @@ ghost use Rattle.std.specs.Prelude.{◌≡◌, ◌≤◌, ◌<◌, ◌+◌, ◌^
 ghost use Rattle.seat_nesting.specs.Counting.{limits_of, seats_of};
 ghost use Rattle.seat_bookings.specs.Demands.{is_demand_of, joined, least_with, no_demand_fits, demand_seats, demand_smallest, demand_waits, settled, smallest_of};
 
-use seat_rules::Booking;
-use seat_nesting::Counts;
 use airline_base::{Class, Place};
+use seat_nesting::Counts;
+use seat_rules::Booking;
 
 /// The bookings that wait for one place in one class: the seats of the smallest, and of all together.
 #[derive(Clone, Copy)]

@@ -8,10 +8,10 @@ ghost use Rattle.seat_bookings.specs.Numbers.{SameIndex, SameNumbers};
 ghost use Rattle.seat_bookings.specs.Queues.{first_waits};
 ghost use Rattle.seat_rules.specs.Sequential.{booking_of, reduced};
 
-use seat_rules::{Booking, Status};
 use crate::bookings::{add, find_booking, find_number, hold, number_waits, take_off};
-use seat_journal::Command;
 use airline_base::{Class, Locator, Memory, Place};
+use seat_journal::Command;
+use seat_rules::{Booking, Status};
 use std::alloc::Global;
 use std::collections::HashMap;
 use std::marker::Model;

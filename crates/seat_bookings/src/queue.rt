@@ -7,8 +7,8 @@ ghost use Rattle.seat_rules.specs.Sequential.{booking_of, reduced};
 ghost use Rattle.seat_rules.specs.declared.booking.Status.TheVariants.{Waiting};
 
 use crate::waiting_list::WaitingList;
-use seat_journal::Command;
 use airline_base::{Memory, Place};
+use seat_journal::Command;
 use std::alloc::Global;
 use std::marker::Model;
 

@@ -9,13 +9,13 @@ ghost use Rattle.seat_bookings.specs.Queues.{none_fits, without};
 ghost use Rattle.seat_rules.specs.Sequential.{booking_of, reduced};
 ghost use Rattle.seat_rules.specs.declared.booking.Status.TheVariants.{Waiting};
 
-use seat_rules::{Booking, Status};
 use crate::bookings::{add, find_number, take_off};
 use crate::demands::{Demand, are_too_large, join, leave, lessen};
 use crate::rooms::may_wait_at;
+use airline_base::{Class, Memory, Place};
 use seat_journal::Command;
 use seat_nesting::Counts;
-use airline_base::{Class, Memory, Place};
+use seat_rules::{Booking, Status};
 use std::alloc::Global;
 use std::marker::Model;
 

@@ -7,8 +7,8 @@ ghost use Rattle.seat_nesting.specs.Nesting.{IsLadder, HasLetters, has_class};
 ghost use Rattle.seat_nesting.specs.Ladders.{ladder_fault, repeats_class, is_below_next, is_rising, is_too_large};
 ghost use Rattle.seat_nesting.specs.Changing.{with_limit};
 
-use arrayvec::ArrayVec;
 use airline_base::Class;
+use arrayvec::ArrayVec;
 use std::fmt;
 use std::marker::Model;
 
