@@ -1,5 +1,5 @@
 //! Whether more may wait on a leg, and whether its class has the mark by which a need is listed.
-ghost use Rattle.std.specs.Prelude.{◌≡◌, ◌+◌, nat_le};
+ghost use Rattle.std.specs.Prelude.{◌≡◌, ◌+◌, ◌≤◌, length, nat_le};
 ghost use Rattle.seat_nesting.specs.Counting.{limits_of};
 ghost use Rattle.seat_bookings.specs.Demands.{waits_of};
 ghost use Rattle.seat_nesting.specs.Nesting.{ladder_at, is_listed, is_listed_on, may_wait, may_wait_on};
@@ -107,7 +107,8 @@ pub fn is_listed_at(counts: &Counts, place: Place, class: Class) -> bool
 
 /// The limits of a leg now; no step where it has none.
 pub fn steps_at(counts: &Counts, flight: u32, leg: u8) -> &[Step]
-    ensures { result.now ≡ ladder_at (limits_of counts.now) flight leg }
+    ensures value { result.now ≡ ladder_at (limits_of counts.now) flight leg }
+    ensures short { length result.now ≤ 26 }
 {
     match counts.ladder(flight, leg) {
         Some(ladder) => ladder.steps(),

@@ -1,6 +1,6 @@
 //! What a change of a limit is answered (AU): the pass under the new limit, or NO.
-ghost use Rattle.std.specs.Prelude.{◌≡◌, ◌==◌, true, IfOk, None, Some};
-ghost use Rattle.seat_nesting.specs.Changing.{can_set, step_of};
+ghost use Rattle.std.specs.Prelude.{◌≡◌, true, IfOk};
+ghost use Rattle.seat_nesting.specs.Changing.{can_set};
 ghost use Rattle.seat_nesting.specs.Counting.{limits_of, seats_of};
 ghost use Rattle.seat_core.specs.Answers.{IsFlight, Says};
 ghost use Rattle.seat_bookings.specs.Books.{book_at, queue_at};
@@ -9,10 +9,10 @@ ghost use Rattle.seat_rules.specs.Tables.{advices_by};
 
 use crate::pass::advices_of;
 use crate::reply::{Answer, reply};
-use airline_base::{Class, Code, Memory};
-use seat_bookings::{FlightBook, WaitingList, queue_at, steps_at};
+use airline_base::{Code, Memory};
+use seat_bookings::{FlightBook, WaitingList, queue_at};
 use seat_journal::{Advice, Change};
-use seat_nesting::{Counts, Step};
+use seat_nesting::Counts;
 use std::alloc::Global;
 
 /// Answers a change of a limit, from the counters and the bookings of its flight. The counters are left as they were.
@@ -70,23 +70,11 @@ fn advices_with(
 {
     counts.limits_are_kept();
     let (flight, leg, class) = (change.flight, change.leg, change.class);
-    let Some(before) = step_of(steps_at(counts, flight, leg), class) else {
+    let Some(before) = counts.step(flight, leg, class) else {
         return Ok(Vec::new(alloc));
     };
     counts.set(flight, leg, class, change.limit, change.wait);
     let told = advices_of(alloc, counts, queue);
     counts.set(flight, leg, class, before.limit, before.wait);
     told
-}
-
-/// The step of a class, where it is there.
-fn step_of(steps: &[Step], class: Class) -> Option<Step>
-    ensures { result ≡ step_of steps.now class }
-{
-    for step in steps {
-        if step.class == class {
-            return Some(*step);
-        }
-    }
-    None
 }

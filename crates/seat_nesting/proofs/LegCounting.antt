@@ -3,11 +3,11 @@ use Rattle.std.proofs.Common.{◌≡◌, ◌≢◌, ◌==◌, ℕ, zero, suc, �
 use Rattle.std.specs.Prelude.{IfSome, IfNone}
 use Rattle.std.specs.List.{AllByRecursion, list_all, list_any, position, position_or_len}
 use Rattle.std.proofs.lemmas.Bool.{eqb-true, eqb-false, eq-eqb, ne_eqb, and_parts, or_parts}
-use Rattle.std.proofs.lemmas.List.{length-set}
+use Rattle.std.proofs.lemmas.List.{drop_all, length-set}
 use Rattle.std.proofs.lemmas.List.Quantifiers.{position-Some}
 use Rattle.std.proofs.lemmas.Bool.Decides.{nat_tests}
 use Rattle.seat_nesting.specs.declared.ladder.Step.{Step}
-use Rattle.seat_nesting.specs.Nesting.{Steps, held_from, room_on, has_class, IsDistinct, IsLegLadder, LacksClass}
+use Rattle.seat_nesting.specs.Nesting.{ByClass, Steps, held_from, room_on, has_class, IsDistinct, IsLegLadder, LacksClass}
 use Rattle.seat_nesting.specs.Counting.{LegSeats, leg_of, count_at, seats_on, IsKept, IsFresh, IsRank, LegChanges, plus, less}
 use Rattle.seat_nesting.proofs.Rooms.{held_from_rank, within_rank, within_none, within_less, within_more, IsMore}
 
@@ -293,3 +293,7 @@ some_rank steps class (Some rank) e = is_rank steps class rank (sym e)
 pub none_rank : (steps : Steps) (class : ℕ) (o : Option ℕ) → o ≡ position (λ s. class == s.class) steps → IfNone o (has_class steps class ≡ false)
 none_rank steps class None e = no_rank steps class (sym e)
 none_rank steps class (Some rank) e = tt
+
+-- in no rank none is held
+pub held_past : (seats : ByClass) (steps : Steps) (rank : ℕ) → length steps ≤ rank → 0 ≡ held_from seats (drop rank steps)
+held_past seats steps rank past = sym (ap (held_from seats) (drop_all rank steps past))

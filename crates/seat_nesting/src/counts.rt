@@ -1,6 +1,6 @@
 //! The seats that are held on each leg of a grid, by rank: all that a step and a look need to know of the bookings.
-ghost use Rattle.std.specs.Prelude.{◌≡◌, ◌≤◌, ◌↔◌, ℕ, [], length, false, unwrap_or, slice_get, IfOk, IfSome, IfNone, IsTrue};
-ghost use Rattle.seat_nesting.specs.Nesting.{Fits, ladder_at, has_class, room, room_on};
+ghost use Rattle.std.specs.Prelude.{◌≡◌, ◌≤◌, ◌↔◌, ℕ, [], drop, length, false, unwrap_or, slice_get, IfOk, IfSome, IfNone, IsTrue};
+ghost use Rattle.seat_nesting.specs.Nesting.{Fits, held_from, ladder_at, has_class, room, room_on};
 ghost use Rattle.seat_nesting.specs.Counting.{limits_of, seats_of, holds, leg_holds, Takes, Gives, OneLegChanges, plus, less, IsRank, IsWithinLimits, leg_at, no_leg};
 ghost use Rattle.seat_nesting.specs.Changing.{can_set, may_have, step_of, Sets};
 ghost use Rattle.seat_nesting.specs.OwnLadders.{counted_at, no_counted};
@@ -128,6 +128,16 @@ impl Counts {
         ensures { result ≡ step_of (ladder_at (limits_of self.now) flight leg) class }
     {
         self.leg(flight, leg)?.step(class)
+    }
+
+    /// The seats held on a leg in a rank of its limits and below, by rank from 0; 0 where it has no such rank.
+    pub fn held_from(&self, flight: u32, leg: u8, rank: usize) -> u16
+        ensures { result ≡ held_from (seats_of self.now flight leg) (drop rank (ladder_at (limits_of self.now) flight leg)) }
+    {
+        match self.leg(flight, leg) {
+            Some(counts) => counts.held_from(rank),
+            None => 0,
+        }
     }
 
     /// Whether a class of a leg may have this limit and wait: each is at most 999, the leg has the

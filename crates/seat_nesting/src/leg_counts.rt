@@ -85,12 +85,15 @@ impl<'a> LegCounts<'a> {
         }
     }
 
-    /// The seats that are held in a rank and below.
-    fn held_from(&self, rank: usize) -> u16
-        requires { rank < length self.now.steps }
+    /// The seats that are held in a rank and below; 0 where the leg has no such rank.
+    #[tactic(auto, using(crate::proofs::LegCounting::held_past))]
+    pub fn held_from(&self, rank: usize) -> u16
         ensures { result ≡ held_from (seats_on self.now) (drop rank self.now.steps) }
     {
         let steps = self.steps;
+        if rank >= steps.len() {
+            return 0;
+        }
         let mut held = 0u16;
         let mut at = steps.len();
         while at > rank {

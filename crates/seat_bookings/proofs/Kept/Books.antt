@@ -1,11 +1,11 @@
 -- The books of an inventory, flight by flight, line by line.
-use Rattle.std.proofs.Common.{◌≡◌, ◌≢◌, ◌==◌, ℕ, zero, suc, ◌+◌, ◌<◌, ◌≤◌, Bool, true, false, List, [], ◌∷◌, ◌++◌, length, set, get_or, slice_get, map, cond, Option, Some, None, option_map, if◌then◌else◌, arith, refl, ap, sym, subst, ◌∙◌}
+use Rattle.std.proofs.Common.{◌≡◌, ◌≢◌, ◌==◌, ℕ, zero, suc, ◌+◌, ◌<◌, ◌≤◌, Bool, true, false, List, [], ◌∷◌, ◌++◌, drop, length, set, get_or, slice_get, map, cond, Option, Some, None, option_map, if◌then◌else◌, arith, refl, ap, sym, subst, ◌∙◌}
 use Rattle.std.specs.List.{AllByRecursion}
 use Rattle.std.proofs.lemmas.List.{get_or-set_same, get_or-set_other}
 use Rattle.std.proofs.lemmas.List.Sums.{sum_by_push, fold_push, count_by-le-length}
 use Rattle.std.proofs.lemmas.Bool.Decides.{nat_tests}
 use Rattle.airline_base.specs.declared.place.Place.{Place}
-use Rattle.seat_nesting.specs.Nesting.{Legs, Table, legs_of, room, HasLadders}
+use Rattle.seat_nesting.specs.Nesting.{Legs, Table, held_from, ladder_at, legs_of, room, HasLadders}
 use Rattle.seat_nesting.specs.Counting.{Counted, limits_of, seats_of}
 use Rattle.seat_rules.specs.declared.booking.Booking.{Booking}
 use Rattle.seat_bookings.specs.declared.books.FlightBook.{FlightBook}
@@ -301,22 +301,13 @@ pub memory_is : (books : List FlightBook) (o : Option Place) (effect : Effect) �
 memory_is books None effect = refl
 memory_is books (Some place) effect = spares_at books place.flight effect
 
--- the line that is answered from the flight's book is the next
-pub next_kept : (opening : Legs) (cap : ℕ) (journal : List Entry) (books : List FlightBook) (calls : List ℕ) (counts : Counted) (book : List Booking) (n session call : ℕ) (w : Work) (line : Entry) → IsKept opening cap journal books calls counts
-    → book ≡ book_of books w → n ≡ length journal + 1 → line ≡ line_of (answer (state_of (limits_of counts) book) n w) n session call w → line ≡ next_line opening journal session call w
-next_kept opening cap journal books calls counts book n session call w line k is number made =
-    let now : Legs = limits_of counts in
-    let here : Outcome = answer (state_of now (book_of books w)) n w in
-    let whole : Outcome = answer (state_of now (replay opening journal).bookings) n w in
-    let same : SameAnswer here whole = same_answer opening cap journal books calls counts n w k in
-    made
-    ∙ (ap (λ (l : List Booking). line_of (answer (state_of now l) n w) n session call w) is
-    ∙ (same_line here whole same
-    ∙ (ap (λ (s : State). line_of (answer s n w) n session call w) (sym k.lawful.left)
-    ∙ ap (λ x. line_of (answer (replay opening journal) x w) x session call w) number)))
-  where
-    same_line : (a b : Outcome) → SameAnswer a b → line_of a n session call w ≡ line_of b n session call w
-    same_line a b s = λ i. record { number = n; session = session; call = call; work = w; reply = s.reply i; released = s.released i; advices = s.advices i }
+-- the seats that the counters hold in a rank and below
+pub held_kept : (opening : Legs) (cap : ℕ) (journal : List Entry) (books : List FlightBook) (calls : List ℕ) (counts : Counted) (flight leg rank : ℕ) → IsKept opening cap journal books calls counts
+    → held_from (seats_of counts flight leg) (drop rank (ladder_at (limits_of counts) flight leg))
+    ≡ held_from (held (replay opening journal).bookings flight leg) (drop rank (ladder_at (replay opening journal).grid flight leg))
+held_kept opening cap journal books calls counts flight leg rank k =
+    ap (λ (t : Table). held_from (t flight leg) (drop rank (ladder_at (limits_of counts) flight leg))) (same_table (seats_of counts) (held (replay opening journal).bookings) k.seats)
+    ∙ ap (λ (s : State). held_from (held s.bookings flight leg) (drop rank (ladder_at s.grid flight leg))) (sym k.lawful.left)
 
 -- the room that the counters leave
 pub room_kept : (opening : Legs) (cap : ℕ) (journal : List Entry) (books : List FlightBook) (calls : List ℕ) (counts : Counted) (place : Place) (class : ℕ) → IsKept opening cap journal books calls counts
