@@ -1,5 +1,6 @@
 pub mod Against
 pub mod Answering
+pub mod Asked
 pub mod Audits
 pub mod Changes
 pub mod First
