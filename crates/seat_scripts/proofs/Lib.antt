@@ -17,3 +17,4 @@ mod Unasked
 mod Beside
 mod Accepted
 mod First
+mod Segments

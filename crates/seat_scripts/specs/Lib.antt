@@ -7,3 +7,4 @@ pub mod First
 pub mod Going
 pub mod Requests
 pub mod RunDesk
+pub mod Segments

@@ -20,8 +20,8 @@ pub use asked::{Asked, read_asked};
 pub use commands::lists_over;
 pub use kept_write::KeptWrite;
 pub use laws::{
-    audits_behind_no_lines, runs_are_audited, runs_are_audited_against, runs_from_no_lines,
-    unasked_is_not_audited,
+    audits_behind_no_lines, requests_are_flown, runs_are_audited, runs_are_audited_against,
+    runs_from_no_lines, unasked_is_not_audited,
 };
 pub use past::{NO_LINES, Past, no_lines, past_of};
 pub use readable::prove_entries;
