@@ -106,17 +106,13 @@ module _ (n : ℕ) (lists : List (List Work)) (news : List Seat) (past added : L
       ∙ (ap (λ (l : List (List Work)). l ++ works_in (of_session (suc k) added) ∷ []) (lists_to k (omega (arith, le)))
       ∙ (ap (λ (x : List Work). take (suc k) lists ++ x ∷ []) (list_at (suc k) (omega (arith, le))) ∙ sym (one_more (suc k) (omega (arith, le)))))
 
--- the headline, said of a journal alone
+-- the headline, said of a journal and its receipts
 of_journal : (grid : Legs) (cap n most count : ℕ) (journal : List Entry) (receipts : List (List Entry)) (totals : Totals) → cap ≡ most → n ≡ count
-    → Headline grid cap n journal receipts totals → Headline grid most count journal (by_session count journal) (totals_of journal)
+    → Headline grid cap n journal receipts totals → Headline grid most count journal receipts (totals_of journal)
 of_journal grid cap n most count journal receipts totals cap_is count_is h =
-    let own = subst (λ (r : List (List Entry)). Headline grid cap n journal r totals) h.own h in
-    let summed = subst (λ (t : Totals). Headline grid cap n journal (by_session n journal) t) h.totals_are own in
-    let capped = subst (λ (c : ℕ). Headline grid c n journal (by_session n journal) (totals_of journal)) cap_is summed in
-    subst (λ (k : ℕ). Headline grid most k journal (by_session k journal) (totals_of journal)) count_is capped
-
-pub own_receipts : (grid : Legs) (cap n : ℕ) (journal : List Entry) (receipts : List (List Entry)) (totals : Totals) → Headline grid cap n journal receipts totals → receipts ≡ by_session n journal
-own_receipts grid cap n journal receipts totals h = h.own
+    let summed = subst (λ (t : Totals). Headline grid cap n journal receipts t) h.totals_are h in
+    let capped = subst (λ (c : ℕ). Headline grid c n journal receipts (totals_of journal)) cap_is summed in
+    subst (λ (k : ℕ). Headline grid most k journal receipts (totals_of journal)) count_is capped
 
 works_count : (changes : List Change) (lists : List (List Command)) → length (works_of changes lists) ≡ suc (length lists)
 works_count changes lists = ap suc (length-map lists (λ (list : List Command). map Seats list))
@@ -131,7 +127,7 @@ first_run past journal n list lists sessions (t ∷ news) run confirmed = goes_o
 
 pub settled_history : (grid : Legs) (cap n : ℕ) (past : List Entry) (changes : List Change) (lists : List (List Command)) (manager : Seat) (sessions news : List Seat) (journal : List Entry) (receipts : List (List Entry)) (totals : Totals)
     → manager ≡ seated 0 past → sessions ≡ seated_sessions n past → length lists ≡ n → AllHaveRun (works_of changes lists) (manager ∷ sessions) news → AllByRecursion (IsConfirmed n journal) news
-    → cap ≡ most_lines → Headline grid cap n journal receipts totals → IsHistoryOf grid past changes lists journal
+    → cap ≡ most_lines → Headline grid cap n journal receipts totals → IsHistoryOf grid past changes lists journal receipts
 settled_history grid cap n past changes lists manager sessions news journal receipts totals begun opened count run confirmed most h =
     let works = works_of changes lists in
     let all : length works ≡ suc n = works_count changes lists ∙ ap suc count in
@@ -360,6 +356,7 @@ module _ (grid : Legs) (cap n : ℕ) (fault : RunFault) (past added : List Entry
         at = subst (λ (k : ℕ). slice_get (works_of changes lists) k ≡ Some t.list) (sym place_is) t.of_lists;
         call_is = (omega (arith, call_is), omega (arith, call_is, long));
         history = past ++ added;
+        receipts = receipts;
         headline = of_journal grid cap n most_lines (length lists) (past ++ added) receipts totals most (sym count) h;
         full = omega (arith, full, most, h.capped);
         added = added;

@@ -46,7 +46,7 @@ rows_read ((c ∷ text) ∷ texts) n (row ∷ rows) h = rw (row_again (c ∷ tex
 same_rows : (a b : List LimitRow) → ok_rows a ≡ ok_rows b → a ≡ b
 same_rows a b e = cc
 
-one_grid : (set limits : List ℕ) (first days : ℕ) (flights flights' : List Flown) (grid grid' : Legs)
+pub one_grid : (set limits : List ℕ) (first days : ℕ) (flights flights' : List Flown) (grid grid' : Legs)
     → IsLoadedGrid set limits first days flights grid → IsLoadedGrid set limits first days flights' grid' → grid ≡ grid'
 one_grid set limits first days flights flights' grid grid' a b =
     let sets : a.is_schedule.set ≡ b.is_schedule.set = one_data_set most_records most_records set a.is_schedule.set b.is_schedule.set a.is_schedule.is_set b.is_schedule.is_set in
@@ -58,7 +58,7 @@ no_limit_fault : (limits : List ℕ) (rows : List LimitRow) (fault : LimitFault)
 no_limit_fault limits rows fault h e = let read : rows_in 1 (lines limits) ≡ ok_rows rows = rows_read (lines limits) 1 rows h in cc
 
 -- what is loaded is not refused
-loads : (set limits : List ℕ) (first days : ℕ) (flights : List Flown) (grid : Legs) (fault : DeskFault) → IsLoadedGrid set limits first days flights grid → IsRefusedLoad set limits first days fault → ⊥
+pub loads : (set limits : List ℕ) (first days : ℕ) (flights : List Flown) (grid : Legs) (fault : DeskFault) → IsLoadedGrid set limits first days flights grid → IsRefusedLoad set limits first days fault → ⊥
 loads set limits first days flights grid (faults.Set fault) loaded refused = refused.refusal.none flights loaded.is_schedule
 loads set limits first days flights grid (faults.Flight fault) loaded refused = refused.refusal.none flights loaded.is_schedule
 loads set limits first days flights grid (faults.Limit fault) loaded refused = no_limit_fault limits loaded.rows fault loaded.are_rows.spelled refused.refusal.wrong.first
@@ -113,11 +113,11 @@ runs_are_audited set limits first days today after texts changing journal replie
     record { entries = run.history; is_text = text; legal = h.headline.legal; few = h.headline.capped; within = h.headline.within; sums = refl } in
     record {
       history = run.history;
-      receipts = by_session n run.history;
+      receipts = run.receipts;
       totals = totals_of run.history;
       is_text = text;
-      own = refl;
+      own = h.headline.own;
       totals_are = refl;
       sums = h.headline.sums;
-      is_accepted = accepted set limits first days journal run.flights run.grid run.history run.is_loaded audited text few;
+      is_accepted = accepted set limits first days journal run.flights run.grid run.history run.is_asked.is_loaded audited text few;
     }

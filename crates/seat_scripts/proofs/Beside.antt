@@ -1,17 +1,19 @@
 -- What an audit with scripts writes or refuses is that of its inputs, where what was read of each is all of it.
-use Rattle.std.proofs.Common.{◌≡◌, ◌≢◌, inr, ℕ, List, Option, Some, None, IfSome, map, subst, sym}
+use Rattle.std.proofs.Common.{◌≡◌, ◌≢◌, ◌⊎◌, ◌<◌, inl, inr, ℕ, List, Option, Some, None, IfSome, length, map, subst, sym}
 use Rattle.airimp_lines.specs.declared.requests.Request.{Request}
 use Rattle.ssim_flights.specs.declared.flight.Flight.{Flight as Flown}
 use Rattle.seat_nesting.specs.Nesting.{Legs}
 use Rattle.seat_rules.specs.Inventory.{Inventory}
 use Rattle.seat_rules.specs.Totals.{totals_of}
-use Rattle.seat_desk.specs.AuditDesk.{IsUnlawful, audit_line}
+use Rattle.seat_desk.specs.AuditDesk.{IsUnlawful, audit_line, most_journal_bytes}
 use Rattle.seat_desk.specs.Desk.{IsOfInput}
-use Rattle.seat_desk.specs.Loading.{IsLoaded}
+use Rattle.seat_desk.specs.Loading.{IsLoaded, IsTooLargeLoad}
 use Rattle.seat_desk.specs.declared.fault.DeskFault.{DeskFault}
 use Rattle.seat_desk.specs.declared.fault.DeskFault.TheVariants.{Journal, Memory, Replay, Script, Unasked}
-use Rattle.seat_scripts.specs.Against.{AreAskedBehind, IsAuditAgainst, IsRefusedAgainst, IsReplayWithin, IsUnasked, OfFour}
-use Rattle.seat_scripts.specs.Requests.{AreScripts, IsOfScript, IsRefusedAmong, commands_of}
+use Rattle.seat_scripts.specs.Against.{AreAskedBehind, HasBoth, HasOlder, IsAuditAgainst, IsRefusedAgainst, IsReplayWithin, IsTooLargeAgainst, IsUnasked, OfFour}
+use Rattle.seat_scripts.specs.Asked.{HasLoaded, OfThree}
+use Rattle.seat_scripts.specs.Requests.{AreScripts, IsOfScript, IsRefusedAmong, IsTooLargeAmong, commands_of}
+use Rattle.seat_scripts.proofs.Inputs.{if_known as if_three_known}
 
 -- what is said of known bytes is said of those that may be known
 if_known : (P : List ℕ → List ℕ → Type 0) (A Q : List ℕ → Type 0) (R : List ℕ → List ℕ → List ℕ → List ℕ → Type 0) (set limits after journal : Option (List ℕ))
@@ -109,3 +111,75 @@ module _ (set limits after journal : Option (List ℕ)) (first days today : ℕ)
               are_asked = asked;
             })
             loaded before replayed
+
+-- ---- inputs that are too large, or fail
+
+-- where the journals are not asked, and where the second is not
+four_load : (P : List ℕ → List ℕ → Type 0) (R : List ℕ → List ℕ → List ℕ → List ℕ → Type 0) (set limits after journal : Option (List ℕ)) → ((xs ys older zs : List ℕ) → P xs ys → R xs ys older zs)
+    → IfSome set (λ xs. IfSome limits (λ ys. P xs ys)) → OfFour set limits after journal R
+four_load P R (Some xs) (Some ys) (Some older) (Some zs) give p = give xs ys older zs p
+four_load P R (Some xs) (Some ys) (Some older) None give p = tt
+four_load P R (Some xs) (Some ys) None journal give p = tt
+four_load P R (Some xs) None after journal give p = tt
+four_load P R None limits after journal give p = tt
+
+four_older : (P : List ℕ → List ℕ → Type 0) (A : List ℕ → Type 0) (R : List ℕ → List ℕ → List ℕ → List ℕ → Type 0) (set limits after journal : Option (List ℕ)) → ((xs ys older zs : List ℕ) → P xs ys → A older → R xs ys older zs)
+    → IfSome set (λ xs. IfSome limits (λ ys. P xs ys)) → IfSome after A → OfFour set limits after journal R
+four_older P A R (Some xs) (Some ys) (Some older) (Some zs) give p a = give xs ys older zs p a
+four_older P A R (Some xs) (Some ys) (Some older) None give p a = tt
+four_older P A R (Some xs) (Some ys) None journal give p a = tt
+four_older P A R (Some xs) None after journal give p a = tt
+four_older P A R None limits after journal give p a = tt
+
+module _ (set limits after journal : Option (List ℕ)) (first days today : ℕ) (texts : List (Option (List ℕ))) where
+  abbrev IsLarge : Type 0
+  IsLarge = OfFour set limits after journal (λ xs ys older zs. IsTooLargeAgainst xs ys first days older zs today texts)
+
+  pub too_large_load : IfSome set (λ xs. IfSome limits (λ ys. IsTooLargeLoad xs ys)) → IsLarge
+  too_large_load over = four_load (λ xs ys. IsTooLargeLoad xs ys) (λ xs ys older zs. IsTooLargeAgainst xs ys first days older zs today texts) set limits after journal (λ xs ys older zs is. inl is) over
+
+  module _ (flights : List Flown) (grid : Legs) (loaded : IfSome set (λ xs. IfSome limits (λ ys. IsLoaded xs ys first days flights grid))) where
+    load_known : IfSome set (λ xs. IfSome limits (λ ys. HasLoaded xs ys first days))
+    load_known = by set limits loaded where
+      by : (s l : Option (List ℕ)) → IfSome s (λ xs. IfSome l (λ ys. IsLoaded xs ys first days flights grid)) → IfSome s (λ xs. IfSome l (λ ys. HasLoaded xs ys first days))
+      by (Some xs) (Some ys) is = record { flights = flights; grid = grid; is_loaded = is }
+      by (Some xs) None is = tt
+      by None l is = tt
+
+    pub too_large_older : IfSome after (λ older. most_journal_bytes < length older) → IsLarge
+    too_large_older over =
+        four_older (λ xs ys. IsLoaded xs ys first days flights grid) (λ older. most_journal_bytes < length older) (λ xs ys older zs. IsTooLargeAgainst xs ys first days older zs today texts) set limits after journal
+        (λ xs ys older zs is large. inr (inl (record { flights = flights; grid = grid; is_loaded = is }, large))) loaded over
+
+    pub older_fails : (load older rest : Type 0) → older → load ⊎ ((IfSome set (λ xs. IfSome limits (λ ys. HasLoaded xs ys first days)) × older) ⊎ rest)
+    older_fails load older rest failed = inr (inl (load_known, failed))
+
+    module _ (older : Inventory) (before : IfSome after (IsReplayWithin grid older)) where
+      abbrev an_older : (xs ys zs : List ℕ) → IsLoaded xs ys first days flights grid → IsReplayWithin grid older zs → HasOlder xs ys first days zs
+      an_older xs ys zs is was = record { flights = flights; grid = grid; is_loaded = is; older = older; is_older = was }
+
+      pub too_large_journal : IfSome journal (λ zs. most_journal_bytes < length zs) → IsLarge
+      too_large_journal over =
+          if_known (λ xs ys. IsLoaded xs ys first days flights grid) (IsReplayWithin grid older) (λ zs. most_journal_bytes < length zs) (λ xs ys old zs. IsTooLargeAgainst xs ys first days old zs today texts) set limits after journal
+          (λ xs ys old zs is was large. inr (inr (inl (an_older xs ys old is was, large)))) loaded before over
+
+      pub journal_fails : (load old own rest : Type 0) → own → load ⊎ (old ⊎ ((OfThree set limits after (λ xs ys zs. HasOlder xs ys first days zs) × own) ⊎ rest))
+      journal_fails load old own rest failed =
+          inr (inr (inl (if_three_known (λ xs ys. IsLoaded xs ys first days flights grid) (IsReplayWithin grid older) (λ xs ys zs. HasOlder xs ys first days zs) set limits after an_older loaded before, failed)))
+
+      module _ (core : Inventory) (replayed : IfSome journal (IsReplayWithin grid core)) where
+        abbrev a_both : (xs ys old zs : List ℕ) → IsLoaded xs ys first days flights grid → IsReplayWithin grid older old → IsReplayWithin grid core zs → HasBoth xs ys first days old zs
+        a_both xs ys old zs is was h = record { flights = flights; grid = grid; is_loaded = is; older = older; is_older = was; core = core; is_replay = h }
+
+        pub too_large_script : IsTooLargeAmong today texts → IsLarge
+        too_large_script over =
+            if_known (λ xs ys. IsLoaded xs ys first days flights grid) (IsReplayWithin grid older) (IsReplayWithin grid core) (λ xs ys old zs. IsTooLargeAgainst xs ys first days old zs today texts) set limits after journal
+            (λ xs ys old zs is was h. inr (inr (inr (a_both xs ys old zs is was h, over)))) loaded before replayed
+
+        pub script_fails : (load old own script : Type 0) → script → load ⊎ (old ⊎ (own ⊎ (OfFour set limits after journal (λ xs ys old zs. HasBoth xs ys first days old zs) × script)))
+        script_fails load old own script failed =
+            inr (inr (inr (
+              if_known (λ xs ys. IsLoaded xs ys first days flights grid) (IsReplayWithin grid older) (IsReplayWithin grid core) (λ xs ys old zs. HasBoth xs ys first days old zs) set limits after journal
+                  a_both loaded before replayed,
+              failed,
+            )))

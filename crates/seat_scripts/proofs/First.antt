@@ -5,6 +5,7 @@ use Rattle.seat_journal.specs.declared.entry.Command.{Command}
 use Rattle.seat_journal.specs.declared.entry.Entry.{Entry}
 use Rattle.seat_journal.proofs.TextLaws.{one_text}
 use Rattle.seat_rules.specs.Histories.{by_session}
+use Rattle.seat_scripts.proofs.Histories.{as_replies}
 use Rattle.seat_scripts.specs.First.{RunsFromNoLines}
 use Rattle.seat_scripts.specs.Going.{highest_to, idle, lists_over}
 use Rattle.seat_scripts.specs.Requests.{commands_of}
@@ -20,14 +21,16 @@ lists_alone past lists nothing =
 pub runs_from_no_lines : RunsFromNoLines
 runs_from_no_lines set limits first days today after texts changing journal replies empty run =
     let lists = map (commands_of run.flights) run.scripts in
-    let nothing : run.past ≡ [] = one_text after run.past [] run.is_past.is_text empty in
-    let h = subst (λ (l : List (List Command)). IsHistoryOf run.grid run.past run.changes l run.history) (lists_alone run.past lists nothing) run.is_history in
-    let r = run.is_replied in
+    let nothing : run.past ≡ [] = one_text after run.past [] run.is_asked.is_past.is_text empty in
+    let h = subst (λ (l : List (List Command)). IsHistoryOf run.grid run.past run.changes l run.history run.receipts) (lists_alone run.past lists nothing) run.is_history in
     let history : run.history ≡ h.added = h.goes_on ∙ ap (λ (l : List Entry). l ++ h.added) nothing in
-    let answered : run.history ≡ r.added = r.goes_on ∙ ap (λ (l : List Entry). l ++ r.added) nothing in
+    let added = run.is_history.added in
+    let answered : run.history ≡ added = run.is_history.goes_on ∙ ap (λ (l : List Entry). l ++ added) nothing in
+    let all : AreReplies run.flights run.past run.scripts added replies =
+    as_replies run.grid run.past run.flights run.changes run.scripts run.history run.receipts run.is_history replies run.is_replied in
     record {
       headline = h.headline;
       asked = ap (λ (l : List Entry). map works_in (by_session (length lists) l)) history ∙ h.asked;
       are_replies = subst (λ (l : List Entry). AreReplies run.flights l run.scripts run.history replies) nothing
-          (subst (λ (l : List Entry). AreReplies run.flights run.past run.scripts l replies) (sym answered) r.are_replies);
+          (subst (λ (l : List Entry). AreReplies run.flights run.past run.scripts l replies) (sym answered) all);
     }

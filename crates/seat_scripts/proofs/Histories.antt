@@ -30,7 +30,7 @@ use Rattle.seat_scripts.specs.declared.past.Past.{Past}
 use Rattle.seat_scripts.specs.Answering.{AreAllAnswerable, AreAnswerable, HasRequest, IsAnswerable, IsAsked, IsBooked}
 use Rattle.seat_scripts.specs.Going.{behind, idle, lists_over, past_of, segment_at, segment_between, segment_from, segment_of, segment_on}
 use Rattle.seat_scripts.specs.Requests.{commands_of}
-use Rattle.seat_scripts.specs.RunDesk.{AreAnswers, IsHistoryOf, IsReplied, at_any, works_in, works_of}
+use Rattle.seat_scripts.specs.RunDesk.{AreAnswers, AreReplies, IsHistoryOf, IsReplied, at_any, works_in, works_of}
 use Rattle.seat_scripts.proofs.Advised.{AreAdvised, IsPlaced, all_push, legal_is_advised}
 use Rattle.seat_scripts.proofs.Going.{added_lines, idle_at, over_count, lines_at, past_calls, past_counts, sessions_count}
 use Rattle.seat_scripts.proofs.Rows.{all_kept, all_of}
@@ -90,14 +90,14 @@ list_of flights [] k i = idle_at k i
 list_of flights (script ∷ scripts) k zero = refl
 list_of flights (script ∷ scripts) k (suc i) = list_of flights scripts k i
 
-module _ (grid : Legs) (past : List Entry) (flights : List Flown) (changes : List Change) (scripts : List (List Request)) (history : List Entry)
-    (h : IsHistoryOf grid past changes (lists_over past (map (commands_of flights) scripts)) history) where
+module _ (grid : Legs) (past : List Entry) (flights : List Flown) (changes : List Change) (scripts : List (List Request)) (history : List Entry) (told : List (List Entry))
+    (h : IsHistoryOf grid past changes (lists_over past (map (commands_of flights) scripts)) history told) where
   abbrev lists : List (List Command)
   lists = lists_over past (map (commands_of flights) scripts)
 
-  -- a session has a line behind the past for each request of its script
-  own_count : (i : ℕ) → i < length lists → length (of_session (suc i) h.added) ≡ length (get_or scripts i [])
-  own_count i lt =
+  -- the lines of a session behind the past are what its script asks
+  pub own_works : (i : ℕ) → i < length lists → works_in (of_session (suc i) h.added) ≡ map Seats (commands_of flights (get_or scripts i []))
+  own_works i lt =
       let within : suc i < length (by_session (length lists) h.added) = omega (arith, lt, sessions_count (length lists) h.added) in
       let here : slice_get (by_session (length lists) h.added) (suc i) ≡ Some (of_session (suc i) h.added) =
       slice_get-get_or (by_session (length lists) h.added) (suc i) [] within ∙ ap Some (lines_at (length lists) (suc i) h.added (omega (arith, lt))) in
@@ -105,10 +105,23 @@ module _ (grid : Legs) (past : List Entry) (flights : List Flown) (changes : Lis
       ap (λ (l : List (List Work)). slice_get l (suc i)) (sym h.asked) ∙ (slice_get-map works_in (by_session (length lists) h.added) (suc i) ∙ ap (option_map works_in) here) in
       let asked : slice_get (works_of changes lists) (suc i) ≡ Some (map Seats (get_or lists i [])) =
       slice_get-map (map Seats) lists i ∙ ap (option_map (map Seats)) (slice_get-get_or lists i [] lt) in
-      let same : works_in (of_session (suc i) h.added) ≡ map Seats (get_or lists i []) = same_some _ _ (sym lines ∙ asked) in
+      same_some _ _ (sym lines ∙ asked) ∙ ap (map Seats) (list_of flights scripts _ i)
+
+  -- so it has one for each request
+  own_count : (i : ℕ) → i < length lists → length (of_session (suc i) h.added) ≡ length (get_or scripts i [])
+  own_count i lt =
       sym (length-map (of_session (suc i) h.added) (λ (e : Entry). e.work))
-      ∙ (ap length same ∙ (length-map (get_or lists i []) Seats
-      ∙ (ap length (list_of flights scripts _ i) ∙ length-map (get_or scripts i []) _)))
+      ∙ (ap length (own_works i lt) ∙ (length-map (commands_of flights (get_or scripts i [])) Seats ∙ length-map (get_or scripts i []) _))
+
+  -- no line behind the past is of a session that was not opened
+  pub no_more : (s : ℕ) → length lists < s → of_session s h.added ≡ []
+  no_more s high =
+      let all : of_session s past ++ of_session s h.added ≡ [] = sym (ap (of_session s) h.goes_on ∙ own_append s past h.added) ∙ h.headline.only.none s high in
+      rest_nil (of_session s past) (of_session s h.added) all
+    where
+      rest_nil : (xs ys : List Entry) → xs ++ ys ≡ [] → ys ≡ []
+      rest_nil [] ys e = e
+      rest_nil (x ∷ xs) ys e = absurd cc
 
   own_at : (s : ℕ) (front es : List Entry) (e : Entry) → e.session ≡ s → length (of_session s (front ++ e ∷ es)) ≡ length (of_session s front) + suc (length (of_session s es))
   own_at s front es e is =
@@ -245,16 +258,11 @@ module _ (grid : Legs) (past : List Entry) (flights : List Flown) (changes : Lis
       → AreAllAnswerable flights (past_of past) scripts history (behind (past_of past).calls (take (length scripts + 1) (by_session (length lists) history)))
   behind_answerable g few = subst (λ (rows : List (List Entry)). AreAllAnswerable flights (past_of past) scripts history rows) (sym (receipts_behind few)) (answerable (length scripts) g)
 
-  replied : (text : List ℕ) → length scripts ≤ 8
-      → IsText (at_any (AreAnswers flights (past_of past) scripts history)) 0 (behind (past_of past).calls (take (length scripts + 1) (by_session (length lists) history))) text
-      → IsReplied flights past scripts history text
-  replied text few said =
-      let rows = subst (λ (rows : List (List Entry)). IsText (at_any (AreAnswers flights (past_of past) scripts history)) 0 rows text) (receipts_behind few) said in
-      record {
-        added = h.added;
-        goes_on = h.goes_on;
-        are_replies = subst (λ (l : List Entry). IsText (at_any (AreAnswers flights (past_of past) scripts l)) 0 (by_session (length scripts) h.added) text) h.goes_on rows;
-      }
+  pub as_replies : (text : List ℕ) → IsReplied flights past scripts history told text → AreReplies flights past scripts h.added text
+  as_replies text r =
+      let lines = subst (λ (rows : List (List Entry)). IsText (at_any (AreAnswers flights (past_of past) scripts history)) 0 (behind (past_of past).calls (take (length scripts + 1) rows)) text) h.headline.own r.are_answers in
+      let rows = subst (λ (rows : List (List Entry)). IsText (at_any (AreAnswers flights (past_of past) scripts history)) 0 rows text) (receipts_behind r.few) lines in
+      subst (λ (l : List Entry). IsText (at_any (AreAnswers flights (past_of past) scripts l)) 0 (by_session (length scripts) h.added) text) h.goes_on rows
 
 -- ---- the same, said of what the host was asked and what it gave
 
@@ -274,19 +282,19 @@ module _ (grid : Legs) (past : List Entry) (flights : List Flown) (changes : Lis
       let enough : length scripts ≤ length opened_lists = omega (arith, over_count past (map (commands_of flights) scripts), length-map scripts (commands_of flights)) in
       sym (length-take-le (length scripts + 1) receipts (omega (arith, rows, enough)))
 
-  pub lines_answerable : IsGridOf flights grid → IsHistoryOf grid past changes lists history → AreAllAnswerable flights before scripts slice (behind before.calls (take (length scripts + 1) receipts))
-  lines_answerable g h =
-      let on = subst (λ (l : List (List Command)). IsHistoryOf grid past changes l history) asked h in
+  pub lines_answerable : (told : List (List Entry)) → IsGridOf flights grid → IsHistoryOf grid past changes lists history told → AreAllAnswerable flights before scripts slice (behind before.calls (take (length scripts + 1) receipts))
+  lines_answerable told g h =
+      let on = subst (λ (l : List (List Command)). IsHistoryOf grid past changes l history told) asked h in
       subst (λ (b : Past). AreAllAnswerable flights b scripts slice (behind b.calls (take (length scripts + 1) receipts))) (sym known)
       (subst (λ (l : List Entry). AreAllAnswerable flights (past_of past) scripts l (behind (past_of past).calls (take (length scripts + 1) receipts))) (sym same)
       (subst (λ (rows : List (List Entry)). AreAllAnswerable flights (past_of past) scripts history (behind (past_of past).calls (take (length scripts + 1) rows))) (sym own_rows)
-      (behind_answerable grid past flights changes scripts history on g few)))
+      (behind_answerable grid past flights changes scripts history told on g few)))
 
-  pub lines_replied : (text : List ℕ) → IsHistoryOf grid past changes lists history
-      → IsText (at_any (AreAnswers flights before scripts slice)) 0 (behind before.calls (take (length scripts + 1) receipts)) text → IsReplied flights past scripts history text
-  lines_replied text h said =
-      let on = subst (λ (l : List (List Command)). IsHistoryOf grid past changes l history) asked h in
-      replied grid past flights changes scripts history on text few
-      (subst (λ (rows : List (List Entry)). IsText (at_any (AreAnswers flights (past_of past) scripts history)) 0 (behind (past_of past).calls (take (length scripts + 1) rows)) text) own_rows
-      (subst (λ (l : List Entry). IsText (at_any (AreAnswers flights (past_of past) scripts l)) 0 (behind (past_of past).calls (take (length scripts + 1) receipts)) text) same
-      (subst (λ (b : Past). IsText (at_any (AreAnswers flights b scripts slice)) 0 (behind b.calls (take (length scripts + 1) receipts)) text) known said)))
+  pub lines_replied : (told : List (List Entry)) (text : List ℕ) → receipts ≡ told
+      → IsText (at_any (AreAnswers flights before scripts slice)) 0 (behind before.calls (take (length scripts + 1) receipts)) text → IsReplied flights past scripts history told text
+  lines_replied told text given said = record {
+    few = few;
+    are_answers = subst (λ (rows : List (List Entry)). IsText (at_any (AreAnswers flights (past_of past) scripts history)) 0 (behind (past_of past).calls (take (length scripts + 1) rows)) text) given
+        (subst (λ (l : List Entry). IsText (at_any (AreAnswers flights (past_of past) scripts l)) 0 (behind (past_of past).calls (take (length scripts + 1) receipts)) text) same
+        (subst (λ (b : Past). IsText (at_any (AreAnswers flights b scripts slice)) 0 (behind b.calls (take (length scripts + 1) receipts)) text) known said));
+  }

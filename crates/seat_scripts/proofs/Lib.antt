@@ -3,6 +3,7 @@ mod Comparing
 pub mod Rows
 pub mod Going
 mod Beginnings
+pub mod Inputs
 pub mod Parts
 pub mod Serving
 pub mod Histories
@@ -14,4 +15,6 @@ mod Lengths
 mod Audits
 mod Unasked
 mod Beside
+mod Accepted
 mod First
+mod Segments

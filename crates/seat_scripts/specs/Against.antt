@@ -16,11 +16,12 @@ use Rattle.seat_rules.specs.Inventory.{Inventory}
 use Rattle.seat_rules.specs.Journal.{calls_of}
 use Rattle.seat_rules.specs.Prefixes.{Begins}
 use Rattle.seat_rules.specs.Histories.{of_session}
-use Rattle.seat_desk.specs.AuditDesk.{IsAudited, IsRefusedOver, IsReplayOf, IsTooLarge, IsUnlawful, most_journal_bytes}
-use Rattle.seat_desk.specs.Loading.{Bytes, IsLoaded, IsRefusedLoad}
+use Rattle.seat_desk.specs.AuditDesk.{IsAudited, IsRefusedOver, IsReplayOf, IsUnlawful, most_journal_bytes}
+use Rattle.seat_desk.specs.Loading.{Bytes, IsLoaded, IsRefusedLoad, IsTooLargeLoad}
 use Rattle.seat_desk.specs.declared.inputs.Inputs.{Inputs}
 use Rattle.seat_desk.specs.declared.fault.DeskFault.{DeskFault}
 use Rattle.seat_desk.specs.declared.fault.DeskFault.TheVariants.{Journal, Replay, Script, Unasked}
+use Rattle.seat_scripts.specs.Asked.{HasLoaded, OfThree}
 use Rattle.seat_scripts.specs.Requests.{AreScripts, IsRefusedAmong, IsTooLargeAmong, commands_of}
 use Rattle.seat_scripts.specs.RunDesk.{works_in}
 
@@ -181,18 +182,48 @@ AgainstRefusal set limits first days after journal today texts fault = IsRefused
 pub record IsRefusedAgainst (set limits : List ℕ) (first days : ℕ) (after journal : List ℕ) (today : ℕ) (texts : List (Option (List ℕ))) (fault : DeskFault) : Type 0 where
   pub refusal : AgainstRefusal set limits first days after journal today texts fault
 
--- the set, the limits, a journal or a script is too large
-abbrev pub IsTooLargeAgainst : List ℕ → List ℕ → List ℕ → List ℕ → List (Option (List ℕ)) → Type 0
-IsTooLargeAgainst set limits after journal texts = IsTooLarge set limits after ⊎ (most_journal_bytes < length journal ⊎ IsTooLargeAmong texts)
+-- as far as the inputs are right: the set, the limits and the older journal
+pub record HasOlder (set limits : List ℕ) (first days : ℕ) (after : List ℕ) : Type 0 where
+  pub flights : List Flown
+  pub grid : Legs
+  pub is_loaded : IsLoaded set limits first days flights grid
+  pub older : Inventory
+  pub is_older : IsReplayWithin grid older after
+
+-- and the journal
+pub record HasBoth (set limits : List ℕ) (first days : ℕ) (after journal : List ℕ) : Type 0 where
+  pub flights : List Flown
+  pub grid : Legs
+  pub is_loaded : IsLoaded set limits first days flights grid
+  pub older : Inventory
+  pub is_older : IsReplayWithin grid older after
+  pub core : Inventory
+  pub is_replay : IsReplayWithin grid core journal
+
+-- the set or the limits are too large, or the older journal behind a right set and limits, or the journal behind a right older one, or a script behind right journals and right scripts
+abbrev pub IsTooLargeAgainst : List ℕ → List ℕ → ℕ → ℕ → List ℕ → List ℕ → ℕ → List (Option (List ℕ)) → Type 0
+IsTooLargeAgainst set limits first days after journal today texts =
+    IsTooLargeLoad set limits
+    ⊎ ((HasLoaded set limits first days × (most_journal_bytes < length after))
+    ⊎ ((HasOlder set limits first days after × (most_journal_bytes < length journal))
+    ⊎ (HasBoth set limits first days after journal × IsTooLargeAmong today texts)))
+
+-- the set or the limits failed, or the older journal behind a right set and limits, or the journal behind a right older one, or a script behind right journals and right scripts
+abbrev pub FailsAgainst : {S L : Type 0} → Bytes S → Bytes L → Inputs S L → Option (List ℕ) → Option (List ℕ) → Type 0 → Type 0 → Type 0 → Type 0 → Type 0
+FailsAgainst set limits inputs after journal load_failed older_failed journal_failed script_failed =
+    load_failed
+    ⊎ ((IfSome (set inputs.set) (λ xs. IfSome (limits inputs.limits) (λ ys. HasLoaded xs ys inputs.first inputs.days)) × older_failed)
+    ⊎ ((OfThree (set inputs.set) (limits inputs.limits) after (λ xs ys older. HasOlder xs ys inputs.first inputs.days older) × journal_failed)
+    ⊎ (OfFour (set inputs.set) (limits inputs.limits) after journal (λ xs ys older zs. HasBoth xs ys inputs.first inputs.days older zs) × script_failed)))
 
 -- where the bytes of the four inputs are known
 abbrev pub IsRefusedAgainstOf : {S L : Type 0} → Bytes S → Bytes L → Inputs S L → Option (List ℕ) → Option (List ℕ) → ℕ → List (Option (List ℕ)) → DeskFault → Type 0
 IsRefusedAgainstOf set limits inputs after journal today texts fault =
     OfFour (set inputs.set) (limits inputs.limits) after journal (λ xs ys older zs. IsRefusedAgainst xs ys inputs.first inputs.days older zs today texts fault)
 
-abbrev pub IsTooLargeAgainstOf : {S L : Type 0} → Bytes S → Bytes L → Inputs S L → Option (List ℕ) → Option (List ℕ) → List (Option (List ℕ)) → Type 0
-IsTooLargeAgainstOf set limits inputs after journal texts =
-    OfFour (set inputs.set) (limits inputs.limits) after journal (λ xs ys older zs. IsTooLargeAgainst xs ys older zs texts)
+abbrev pub IsTooLargeAgainstOf : {S L : Type 0} → Bytes S → Bytes L → Inputs S L → Option (List ℕ) → Option (List ℕ) → ℕ → List (Option (List ℕ)) → Type 0
+IsTooLargeAgainstOf set limits inputs after journal today texts =
+    OfFour (set inputs.set) (limits inputs.limits) after journal (λ xs ys older zs. IsTooLargeAgainst xs ys inputs.first inputs.days older zs today texts)
 
 -- ---- the laws
 

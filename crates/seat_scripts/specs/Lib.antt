@@ -1,8 +1,10 @@
 pub mod Against
 pub mod Answering
+pub mod Asked
 pub mod Audits
 pub mod Changes
 pub mod First
 pub mod Going
 pub mod Requests
 pub mod RunDesk
+pub mod Segments

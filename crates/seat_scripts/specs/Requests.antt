@@ -96,16 +96,16 @@ script_refusal_of _ session fault = Script session fault
 abbrev pub script_refusal : ℕ → ScriptFault → DeskFault
 script_refusal session fault = script_refusal_of fault.kind session fault
 
--- one of the scripts is too large
-abbrev pub IsTooLargeAmong : List (Option (List ℕ)) → Type 0
-IsTooLargeAmong [] = ⊥
-IsTooLargeAmong (text ∷ texts) = IfSome text (λ bytes. most_script_bytes < length bytes) ⊎ IsTooLargeAmong texts
+-- one of the scripts is too large, and those before it are right
+abbrev pub IsTooLargeAmong : ℕ → List (Option (List ℕ)) → Type 0
+IsTooLargeAmong today [] = ⊥
+IsTooLargeAmong today (text ∷ texts) = IfSome text (λ bytes. most_script_bytes < length bytes) ⊎ (IsReadable today text × IsTooLargeAmong today texts)
 
--- one of the counts has risen by a failure
-abbrev pub HasRisenAmong : List ℕ → List ℕ → Type 0
-HasRisenAmong (old ∷ olds) (new ∷ news) = (new ≡ noted old) ⊎ HasRisenAmong olds news
-HasRisenAmong _ _ = ⊥
+-- one of the counts has risen by a failure, and the scripts before it are right
+abbrev pub HasRisenAmong : ℕ → List (Option (List ℕ)) → List ℕ → List ℕ → Type 0
+HasRisenAmong today (text ∷ texts) (old ∷ olds) (new ∷ news) = (new ≡ noted old) ⊎ (IsReadable today text × HasRisenAmong today texts olds news)
+HasRisenAmong today _ _ _ = ⊥
 
--- one of these devices has failed
-abbrev pub HasFailedAmong : {D : Type 0} → (D → ℕ) → List D → List D → Type 0
-HasFailedAmong failures olds news = HasRisenAmong (map failures olds) (map failures news)
+-- one of these devices has failed, and the scripts before it are right
+abbrev pub HasFailedAmong : {D : Type 0} → ℕ → List (Option (List ℕ)) → (D → ℕ) → List D → List D → Type 0
+HasFailedAmong today texts failures olds news = HasRisenAmong today texts (map failures olds) (map failures news)

@@ -21,14 +21,15 @@ use Rattle.seat_rules.specs.Prefixes.{Begins}
 use Rattle.seat_rules.specs.Totals.{totals_of}
 use Rattle.seat_rules.specs.Headline.{Headline}
 use Rattle.seat_rules.specs.Histories.{by_session}
-use Rattle.seat_desk.specs.AuditDesk.{IsRefusedOver, IsTooLarge, most_lines}
+use Rattle.seat_desk.specs.AuditDesk.{IsRefusedOver, most_lines}
 use Rattle.seat_desk.specs.Desk.{HasFailed}
 use Rattle.seat_desk.specs.FlightsDesk.{IsText}
 use Rattle.seat_desk.specs.Loading.{Bytes, IsLoaded, IsRefusedLoad}
 use Rattle.seat_desk.specs.declared.inputs.Inputs.{Inputs}
-use Rattle.seat_scripts.specs.Changes.{AreChanges, IsUnchanged, most_change_bytes}
-use Rattle.seat_scripts.specs.Going.{IsPast, lists_over, past_of, segment_of}
-use Rattle.seat_scripts.specs.Requests.{AreScripts, IsRefusedAmong, IsTooLargeAmong, commands_of}
+use Rattle.seat_scripts.specs.Asked.{IsAsked, OfThree}
+use Rattle.seat_scripts.specs.Changes.{IsUnchanged}
+use Rattle.seat_scripts.specs.Going.{IsPast, behind, lists_over, past_of, segment_of}
+use Rattle.seat_scripts.specs.Requests.{AreScripts, IsRefusedAmong, commands_of}
 use Rattle.seat_scripts.specs.declared.past.Past.{Past}
 use Rattle.seat_scripts.specs.declared.replies.Answered.{Answered}
 use Rattle.seat_desk.specs.declared.fault.DeskFault.{DeskFault}
@@ -42,9 +43,9 @@ works_of changes lists = map Limit changes ∷ map (λ (list : List Command). ma
 abbrev pub works_in : List Entry → List Work
 works_in lines = map (λ (e : Entry). e.work) lines
 
--- a history that goes on from the past: the headline holds of it, with its lines by session as receipts, it begins with the past, and behind that the lines of session 0 are the changes, in order, those of session 1 the first list, and so on
-pub record IsHistoryOf (grid : Legs) (past : List Entry) (changes : List Change) (lists : List (List Command)) (history : List Entry) : Type 0 where
-  pub headline : Headline grid most_lines (length lists) history (by_session (length lists) history) (totals_of history)
+-- a history that goes on from the past: the headline holds of it and of the receipts that the sessions were given, it begins with the past, and behind that the lines of session 0 are the changes, in order, those of session 1 the first list, and so on
+pub record IsHistoryOf (grid : Legs) (past : List Entry) (changes : List Change) (lists : List (List Command)) (history : List Entry) (receipts : List (List Entry)) : Type 0 where
+  pub headline : Headline grid most_lines (length lists) history receipts (totals_of history)
   pub added : List Entry
   pub goes_on : history ≡ past ++ added
   pub asked : map works_in (by_session (length lists) added) ≡ works_of changes lists
@@ -142,16 +143,15 @@ pub record IsAnswer (flights : List Flown) (past : Past) (scripts : List (List R
 abbrev pub AreAnswers : List Flown → Past → List (List Request) → List Entry → List Entry → List ℕ → Type 0
 AreAnswers flights past scripts history lines text = IsText (at_any (IsAnswer flights past scripts history)) 0 lines text
 
--- those to the lines that were added behind the past: of session 0, the manager, then of session 1, and so on
+-- those to lines that were added behind the past: of session 0, the manager, then of session 1, and so on
 abbrev pub AreReplies : List Flown → List Entry → List (List Request) → List Entry → List ℕ → Type 0
 AreReplies flights past scripts added text =
     IsText (at_any (AreAnswers flights (past_of past) scripts (past ++ added))) 0 (by_session (length scripts) added) text
 
--- the same of the lines that stand behind the past in the history
-pub record IsReplied (flights : List Flown) (past : List Entry) (scripts : List (List Request)) (history : List Entry) (text : List ℕ) : Type 0 where
-  pub added : List Entry
-  pub goes_on : history ≡ past ++ added
-  pub are_replies : AreReplies flights past scripts added text
+-- one to eight scripts: the answers to the receipts of the manager and of each script's session, but for those of the past
+pub record IsReplied (flights : List Flown) (past : List Entry) (scripts : List (List Request)) (history : List Entry) (receipts : List (List Entry)) (text : List ℕ) : Type 0 where
+  pub few : length scripts ≤ 8
+  pub are_answers : IsText (at_any (AreAnswers flights (past_of past) scripts history)) 0 (behind (past_of past).calls (take (length scripts + 1) receipts)) text
 
 -- ---- the whole
 
@@ -162,20 +162,18 @@ pub record IsRun (set limits : List ℕ) (first days today : ℕ) (after : List 
   pub past : List Entry
   pub scripts : List (List Request)
   pub changes : List Change
+  pub is_asked : IsAsked set limits first days today after texts changing flights grid past scripts changes
   pub history : List Entry
-  pub is_loaded : IsLoaded set limits first days flights grid
-  pub is_past : IsPast grid past after
-  pub are_scripts : AreScripts today texts scripts
-  pub are_changes : IfSome changing (AreChanges flights changes)
-  pub is_history : IsHistoryOf grid past changes (lists_over past (map (commands_of flights) scripts)) history
+  pub receipts : List (List Entry)
+  pub is_history : IsHistoryOf grid past changes (lists_over past (map (commands_of flights) scripts)) history receipts
   pub are_entries : AllByRecursion IsEntry history
   pub journal_is : journal ≡ journal_text history
-  pub is_replied : IsReplied flights past scripts history replies
+  pub is_replied : IsReplied flights past scripts history receipts replies
 
 -- where the bytes of the set, of the limits and of the older journal are known
 abbrev pub IsRunOf : {S L : Type 0} → Bytes S → Bytes L → Inputs S L → ℕ → Option (List ℕ) → List (Option (List ℕ)) → Option (List ℕ) → List ℕ → List ℕ → Type 0
 IsRunOf set limits inputs today after texts changing journal replies =
-    IfSome (set inputs.set) (λ xs. IfSome (limits inputs.limits) (λ ys. IfSome after (λ zs. IsRun xs ys inputs.first inputs.days today zs texts changing journal replies)))
+    OfThree (set inputs.set) (limits inputs.limits) after (λ xs ys zs. IsRun xs ys inputs.first inputs.days today zs texts changing journal replies)
 
 -- both texts are written, whole
 pub record AreWritten (answers : List ℕ → List ℕ → Type 0) (journal_old journal_new out_old out_new : Option (List ℕ)) : Type 0 where
@@ -240,7 +238,8 @@ pub record IsFull (grid : Legs) (past : List Entry) (changes : List Change) (lis
   pub at : slice_get (works_of changes lists) session ≡ Some list
   pub call_is : (calls_of past session < call) × (call ≤ calls_of past session + length list)
   pub history : List Entry
-  pub headline : Headline grid most_lines (length lists) history (by_session (length lists) history) (totals_of history)
+  pub receipts : List (List Entry)
+  pub headline : Headline grid most_lines (length lists) history receipts (totals_of history)
   pub full : length history ≡ most_lines
   pub added : List Entry
   pub goes_on : history ≡ past ++ added
@@ -255,13 +254,10 @@ IsUnbooked grid past changes lists _ = ⊥
 pub record IsUnbookedOf (set limits : List ℕ) (first days today : ℕ) (after : List ℕ) (texts : List (Option (List ℕ))) (changing : Option (List ℕ)) (fault : DeskFault) : Type 0 where
   pub flights : List Flown
   pub grid : Legs
-  pub is_loaded : IsLoaded set limits first days flights grid
   pub past : List Entry
-  pub is_past : IsPast grid past after
   pub scripts : List (List Request)
-  pub are_scripts : AreScripts today texts scripts
   pub changes : List Change
-  pub are_changes : IfSome changing (AreChanges flights changes)
+  pub is_asked : IsAsked set limits first days today after texts changing flights grid past scripts changes
   pub is_unbooked : IsUnbooked grid past changes (lists_over past (map (commands_of flights) scripts)) fault
 
 -- the set, the limits, the older journal and the scripts are right, and the fault is that of the changes
@@ -300,16 +296,7 @@ RunRefusal set limits first days today after texts changing fault = IsRefusedLoa
 pub record IsRefusedRun (set limits : List ℕ) (first days today : ℕ) (after : List ℕ) (texts : List (Option (List ℕ))) (changing : Option (List ℕ)) (fault : DeskFault) : Type 0 where
   pub refusal : RunRefusal set limits first days today after texts changing fault
 
--- the set, the limits, the older journal, a script or the changes are too large
-abbrev pub IsTooLargeRun : List ℕ → List ℕ → List ℕ → List (Option (List ℕ)) → Option (List ℕ) → Type 0
-IsTooLargeRun set limits after texts changing =
-    IsTooLarge set limits after ⊎ (IsTooLargeAmong texts ⊎ IfSome changing (λ bytes. most_change_bytes < length bytes))
-
 -- where the bytes of the set, of the limits and of the older journal are known
 abbrev pub IsRefusedRunOf : {S L : Type 0} → Bytes S → Bytes L → Inputs S L → ℕ → Option (List ℕ) → List (Option (List ℕ)) → Option (List ℕ) → DeskFault → Type 0
 IsRefusedRunOf set limits inputs today after texts changing fault =
-    IfSome (set inputs.set) (λ xs. IfSome (limits inputs.limits) (λ ys. IfSome after (λ zs. IsRefusedRun xs ys inputs.first inputs.days today zs texts changing fault)))
-
-abbrev pub IsTooLargeRunOf : {S L : Type 0} → Bytes S → Bytes L → Inputs S L → Option (List ℕ) → List (Option (List ℕ)) → Option (List ℕ) → Type 0
-IsTooLargeRunOf set limits inputs after texts changing =
-    IfSome (set inputs.set) (λ xs. IfSome (limits inputs.limits) (λ ys. IfSome after (λ zs. IsTooLargeRun xs ys zs texts changing)))
+    OfThree (set inputs.set) (limits inputs.limits) after (λ xs ys zs. IsRefusedRun xs ys inputs.first inputs.days today zs texts changing fault)

@@ -1,12 +1,19 @@
 //! The laws of the definitions, each the contract of a function that does nothing.
 ghost use Rattle.seat_scripts.specs.Against.{AuditsBehindNoLines, UnaskedIsNotAudited};
-ghost use Rattle.seat_scripts.specs.Audits.{RunsAreAudited};
+ghost use Rattle.seat_scripts.specs.Audits.{RunsAreAudited, RunsAreAuditedAgainst};
 ghost use Rattle.seat_scripts.specs.First.{RunsFromNoLines};
+ghost use Rattle.seat_scripts.specs.Segments.{RequestsAreFlown};
 
 /// What `run` writes as a journal, `audit` accepts: over the same set, limits and days it finds no fault in it, it is not too
 /// large, and the one line that answers it has the totals of the receipts. Only memory or a device can stop it.
 pub fn runs_are_audited()
     ensures { RunsAreAudited }
+{}
+
+/// With its scripts, and behind the journal that it went on from, `audit` accepts it too: the lines behind the older ones are what
+/// the scripts ask, there is no fault, no input is too large, and the one line has the totals of the history.
+pub fn runs_are_audited_against()
+    ensures { RunsAreAuditedAgainst }
 {}
 
 /// A run behind a journal without lines, as [`NO_LINES`](crate::NO_LINES) is one, has no line but what the scripts and the
@@ -24,4 +31,9 @@ pub fn unasked_is_not_audited()
 /// Behind a journal without lines `audit` with scripts is that of one journal: the lines of each session are what its script asks.
 pub fn audits_behind_no_lines()
     ensures { AuditsBehindNoLines }
+{}
+
+/// An advice names what its booking's request named: where a place serves a request, the segment on its flight is the request's own.
+pub fn requests_are_flown()
+    ensures { RequestsAreFlown }
 {}

@@ -4,6 +4,7 @@
 #![tactic(auto)]
 
 mod against;
+mod asked;
 mod changes;
 mod commands;
 mod kept_write;
@@ -15,14 +16,15 @@ mod scripts;
 mod writing;
 
 pub use against::desk_audit_against;
-pub use changes::limit_changes;
+pub use asked::{Asked, read_asked};
 pub use commands::lists_over;
 pub use kept_write::KeptWrite;
 pub use laws::{
-    audits_behind_no_lines, runs_are_audited, runs_from_no_lines, unasked_is_not_audited,
+    audits_behind_no_lines, requests_are_flown, runs_are_audited, runs_are_audited_against,
+    runs_from_no_lines, unasked_is_not_audited,
 };
-pub use past::{NO_LINES, Past, no_lines, past_of, replayed_from};
+pub use past::{NO_LINES, Past, no_lines, past_of};
 pub use readable::prove_entries;
 pub use replies::put_answer;
-pub use scripts::{Scripts, read_scripts};
+pub use scripts::Scripts;
 pub use writing::write_both;

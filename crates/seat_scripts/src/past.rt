@@ -51,7 +51,6 @@ pub fn replayed_from<J: NotedRead>(
 
 /// What the texts of a run need to know of the lines so far.
 pub fn past_of(core: &Core) -> Past
-    requires { core.now.cap ≡ most_lines }
     ensures { result ≡ past_of core.now.journal }
 {
     Past {

@@ -30,8 +30,8 @@ pub fn read_scripts<C: NotedRead>(
     ensures right { IfOk result (AllByRecursion AreRight) }
     ensures fault { IfErr result (λ f. IsOfInput f → IsRefusedAmong today 1 (map C.remaining scripts.old) f) }
     ensures script { IfErr result (λ f. IsOfInput f → IsOfScript f) }
-    ensures large { IfErr result (λ f. f ≡ DeskFault.TooLarge → IsTooLargeAmong (map C.remaining scripts.old)) }
-    ensures device { IfErr result (λ f. f ≡ DeskFault.Device → HasFailedAmong C.failure_count scripts.old scripts.new) }
+    ensures large { IfErr result (λ f. f ≡ DeskFault.TooLarge → IsTooLargeAmong today (map C.remaining scripts.old)) }
+    ensures device { IfErr result (λ f. f ≡ DeskFault.Device → HasFailedAmong today (map C.remaining scripts.old) C.failure_count scripts.old scripts.new) }
 {
     let mut read = Scripts::new(alloc);
     read_from(alloc, scripts, 1, today, &mut read)?;
@@ -52,8 +52,8 @@ fn read_from<C: NotedRead>(
     ensures ok { OnOk result (AreReadOn today (map C.remaining scripts.old) read.old read.new) }
     ensures fault { IfErr result (λ f. IsOfInput f → IsRefusedAmong today session (map C.remaining scripts.old) f) }
     ensures script { IfErr result (λ f. IsOfInput f → IsOfScript f) }
-    ensures large { IfErr result (λ f. f ≡ DeskFault.TooLarge → IsTooLargeAmong (map C.remaining scripts.old)) }
-    ensures device { IfErr result (λ f. f ≡ DeskFault.Device → HasFailedAmong C.failure_count scripts.old scripts.new) }
+    ensures large { IfErr result (λ f. f ≡ DeskFault.TooLarge → IsTooLargeAmong today (map C.remaining scripts.old)) }
+    ensures device { IfErr result (λ f. f ≡ DeskFault.Device → HasFailedAmong today (map C.remaining scripts.old) C.failure_count scripts.old scripts.new) }
 {
     let Some((script, later)) = scripts.split_first_mut() else {
         return Ok(());

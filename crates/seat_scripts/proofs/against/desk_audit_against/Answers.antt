@@ -1,8 +1,8 @@
-use Rattle.std.proofs.Common.{ℕ, List, inr, map, subst}
+use Rattle.std.proofs.Common.{ℕ, List, inl, inr, map, refl, subst}
 use Rattle.std.proofs.lemmas.Result.{err_from_is_err_and}
 use Rattle.std.specs.Io.KnownBytes.{Appends}
 use Rattle.airline_base.specs.Noting.{TookFront}
-use Rattle.seat_scripts.proofs.Beside.{audited, refused_journal, refused_script, refused_unasked}
+use Rattle.seat_scripts.proofs.Beside.{audited, journal_fails, refused_journal, refused_script, refused_unasked, script_fails}
 use Rattle.seat_scripts.proofs.against.desk_audit_against.Goals as goal
 
 pub returns-in_err-core-clause-fault : goal.returns-in_err-core-clause-fault
@@ -45,4 +45,22 @@ returns-clause-device g c = λ _. inr (record {
       c.in_ok-older.older c.in_ok-older.ensures.ok c.in_ok-core.core c.in_ok-core.ensures.ok c.in-Ok.scripts c.as_slice.result.now c.as_slice.ensures c.in-Ok.ensures.ok
       c.in_ok-line.line.items c.in_ok-line.ensures.ok c.in_ok-line.ensures.asked;
   begun = subst (λ (l : List ℕ). TookFront (g.W.Write.contents c.args.out.now) (g.W.Write.contents c.put_all.new.out) l) c.deref.ensures.value c.in-Err-put_all.ensures.front;
+})
+
+pub returns-in_err-core-clause-device : goal.returns-in_err-core-clause-device
+returns-in_err-core-clause-device g c =
+    let p = err_from_is_err_and c.from_residual-in_err-core.result c.from_residual-in_err-core.ensures.1 in
+    rw (p.1, p.2) (λ device. inl (record {
+      counted = journal_fails (g.S.Read.remaining c.args.inputs.now.set) (g.L.Read.remaining c.args.inputs.now.limits) (g.A.Read.remaining c.args.after.now) (g.J.Read.remaining c.args.journal.now)
+          c.args.inputs.now.first c.args.inputs.now.days c.args.today (map g.C.Read.remaining c.args.scripts.now) c.in_ok-loaded.loaded.flights c.in_ok-loaded.loaded.grid c.in_ok-loaded.ensures.ok
+          c.in_ok-older.older c.in_ok-older.ensures.ok _ _ _ _ (c.in_err-core.ensures.device device);
+      untouched = refl;
+    }))
+
+pub returns-in-Err-clause-device : goal.returns-in-Err-clause-device
+returns-in-Err-clause-device g c = λ device. inl (record {
+  counted = script_fails (g.S.Read.remaining c.args.inputs.now.set) (g.L.Read.remaining c.args.inputs.now.limits) (g.A.Read.remaining c.args.after.now) (g.J.Read.remaining c.args.journal.now)
+      c.args.inputs.now.first c.args.inputs.now.days c.args.today (map g.C.Read.remaining c.args.scripts.now) c.in_ok-loaded.loaded.flights c.in_ok-loaded.loaded.grid c.in_ok-loaded.ensures.ok
+      c.in_ok-older.older c.in_ok-older.ensures.ok c.in_ok-core.core c.in_ok-core.ensures.ok _ _ _ _ (c.in-Err.ensures.device device);
+  untouched = refl;
 })
