@@ -11,9 +11,9 @@ use crate::publisher::{Publisher, turn};
 use crate::rule::{Notes, TableWriter};
 use crate::table::{Op, Table};
 use crate::viewer::Viewer;
+use airline_base::Memory;
 use left_right::writer::Writer;
 use seat_nesting::{Counts, Grid};
-use airline_base::Memory;
 use std::alloc::Global;
 use std::sync::Wait;
 

@@ -11,9 +11,9 @@ use crate::book::{Head, Pending, Trace, grow, is_whole};
 use crate::rule::{Looks, TableWriter};
 use crate::table::{Op, Table};
 use crate::viewer::Viewer;
+use airline_base::Memory;
 use core::mem::replace_with;
 use seat_journal::Entry;
-use airline_base::Memory;
 use std::marker::{Brand, Model};
 use std::sync::Wait;
 
@@ -59,6 +59,13 @@ impl Model for Told {
 }
 
 impl Told {
+    /// How many lines were visible.
+    pub fn len(&self) -> u32
+        ensures { result ≡ length self.now.lines }
+    {
+        self.lines
+    }
+
     pub(crate) fn parts(self) -> (Trace, u32)
         ensures { (result.0.book ≡ self.book) × (result.0.log ≡ self.lines) × (result.1 ≡ length self.lines) }
     {

@@ -5,11 +5,11 @@ ghost use Rattle.seat_rules.specs.Histories.{OnlyFirst};
 ghost use Rattle.seat_host.specs.declared.parts.HostFault.TheVariants.{Sessions, Memory as NoMemory};
 
 use crate::ledgers::Blanks;
+use airline_base::Memory;
 use seat_core::Core;
 use seat_display::{Publisher, Viewer, open as open_display};
 use seat_journal::Entry;
 use seat_nesting::Grid;
-use airline_base::Memory;
 use std::alloc::Global;
 use std::marker::Model;
 use std::sync::Wait;

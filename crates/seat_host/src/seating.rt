@@ -11,9 +11,9 @@ use crate::manager::Manager;
 use crate::party::Party;
 use crate::receipt::Receipt;
 use crate::session::Session;
+use airline_base::Memory;
 use seat_display::{Publisher, Viewer};
 use seat_journal::Entry;
-use airline_base::Memory;
 use std::alloc::Global;
 
 /// The manager, and a session for each of the first numbers. They go on from these lines, which are visible, and their
