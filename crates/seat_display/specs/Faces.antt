@@ -22,6 +22,10 @@ pub record Note : Type 0 where
   pub book : Book
   pub lines : List Entry
 
+-- a viewer that has seen these lines
+abbrev pub viewed : Book → Legs → List Entry → Viewed
+viewed b g front = record { book = b; grid = g; front = front }
+
 -- a viewer that has seen nothing
 abbrev pub opened : Book → Legs → Viewed
 opened b g = record { book = b; grid = g; front = [] }

@@ -11,4 +11,4 @@ mod viewer;
 
 pub use opening::open;
 pub use publisher::{Publisher, Told};
-pub use viewer::Viewer;
+pub use viewer::{Sight, Viewer};

@@ -59,6 +59,13 @@ impl Model for Told {
 }
 
 impl Told {
+    /// How many lines were visible.
+    pub fn len(&self) -> u32
+        ensures { result ≡ length self.now.lines }
+    {
+        self.lines
+    }
+
     pub(crate) fn parts(self) -> (Trace, u32)
         ensures { (result.0.book ≡ self.book) × (result.0.log ≡ self.lines) × (result.1 ≡ length self.lines) }
     {

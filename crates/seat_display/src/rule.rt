@@ -6,7 +6,7 @@ use crate::table::{Op, Table, View};
 use atomic_table::{Join, Split};
 use crossbeam_utils::rule::{Outcome, Protocol};
 use left_right::Absorb;
-use left_right::reader::Reader;
+use left_right::reader::{Reader, Reading};
 use left_right::writer::Writer;
 use seat_journal::Entry;
 use seat_rules::show;
@@ -85,3 +85,5 @@ impl Join<View> for Notes {
 pub type TableWriter = Writer<Table, Op, View, Front>;
 
 pub type TableReader = Reader<Table, View, Front>;
+
+pub type TableReading = Reading<Table, View, Front>;

@@ -4,11 +4,12 @@ ghost use Rattle.left_right.specs.Sides.{view};
 ghost use Rattle.seat_rules.specs.Prefixes.{Begins};
 ghost use Rattle.seat_rules.specs.Sequential.{room_left};
 ghost use Rattle.seat_rules.specs.Journal.{IsLegal, replay};
-ghost use Rattle.seat_display.specs.Faces.{opened};
+ghost use Rattle.std.specs.Fn.{FnOnceReturnsAt};
+ghost use Rattle.seat_display.specs.Faces.{opened, viewed};
 
 use crate::book::Trace;
 use crate::publisher::Told;
-use crate::rule::{Looks, TableReader};
+use crate::rule::{Looks, TableReader, TableReading};
 use airline_base::{Class, Place};
 use core::mem::replace_with;
 use std::marker::Model;
@@ -34,33 +35,75 @@ impl Model for Viewer {
     ghost invariant = { λ s. ((known s.reader.place).knows ≡ true) × ((known s.reader.place).seen.book ≡ s.seen.book) × (s.lines ≡ length s.seen.log) × IsLegal (known s.reader.place).grid s.seen.log };
 }
 
+/// What a viewer sees while it is let in: the limits and the seats at one point of the history.
+pub struct Sight {
+    reading: TableReading,
+}
+
+impl Model for Sight {
+    ghost use Rattle.std.specs.Prelude.{◌≡◌, true};
+    ghost use Rattle.left_right.specs.Sides.{view as known};
+    ghost use Rattle.seat_display.specs.Faces.{Viewed};
+    ghost use Rattle.seat_display.specs.Shown.{Leaves};
+
+    ghost Value = { Viewed };
+
+    ghost view = { λ s. record { book = s.reading.part.value.seen.book; grid = (known s.reading.place).grid; front = s.reading.part.value.seen.log } };
+
+    ghost invariant = { λ s. ((known s.reading.place).knows ≡ true) × ((known s.reading.place).seen.book ≡ s.reading.part.value.seen.book) × Leaves (known s.reading.place).grid s.reading.part.value };
+}
+
+impl Sight {
+    /// The seats that are left on a place in a class after all that is seen, under the limits at that point.
+    #[tactic(auto, using(crate::proofs::Steps::room_shown))]
+    pub fn room(&self, place: Place, class: Class) -> u16
+        ensures { result ≡ room_left (replay self.now.grid self.now.front) place class }
+    {
+        self.reading.get().counts.room(place, class)
+    }
+
+    fn leave(self) -> (TableReader, Trace, u32)
+        ensures reader { ((view result.0.place).knows ≡ true) × ((view result.0.place).grid ≡ self.grid) × ((view result.0.place).seen.book ≡ self.book) }
+        ensures seen { (result.1.book ≡ self.book) × (result.1.log ≡ self.front) × IsLegal self.grid self.front }
+        ensures lines { result.2 ≡ length self.front }
+    {
+        let Sight { reading } = self;
+        let table = reading.get();
+        let seen = table.seen.again();
+        let lines = table.lines;
+        (reading.leave(), seen, lines)
+    }
+}
+
 // What a reader found.
 #[derive(Drop)]
-struct Glance {
-    room: u16,
-    lines: u32,
+struct Glance<T> {
+    found: T,
     seen: Trace,
+    lines: u32,
 }
 
 impl Viewer {
-    /// The seats that are left on a place in a class after all that is then seen, under the limits at that point. It waits
-    /// for nobody. None where no reader is let in, or where the table has fewer lines than this viewer has learnt of. The
-    /// latter never happens, since lines are told of only once they are published, but no clause says so.
-    pub fn look(&mut self, place: Place, class: Class) -> Option<u16>
-        ensures room { IfSome result (λ n. n ≡ room_left (replay self.new.grid self.new.front) place class) }
+    /// Goes in, has `at` look at what is then seen, and leaves. It waits for nobody. None where no reader is let in, which is
+    /// where the publisher has ended, or where the table has fewer lines than this viewer has learnt of. The latter never
+    /// happens, since lines are told of only once they are published, but no clause says so. What is looked at has no part in
+    /// it: that is known to `at` alone.
+    pub fn look<T: Drop, F: FnOnce(&Sight) -> T>(&mut self, at: F) -> Option<T>
+        requires { F.IsAlwaysCallable at }
+        ensures found { IfSome result (λ t. FnOnceReturnsAt F.FnOnce at self.new t) }
         ensures front { Begins self.old.front self.new.front }
         ensures legal { IsLegal self.new.grid self.new.front }
         ensures none { IfNone result (self.new ≡ self.old) }
         ensures same { (self.new.book ≡ self.old.book) × (self.new.grid ≡ self.old.grid) }
     {
-        let Glance { room, lines, seen } = enter(&mut self.reader, place, class)?;
+        let Glance { found, seen, lines } = enter(&mut self.reader, at)?;
         if lines < self.lines {
             return None;
         }
         compare(&self.seen, &seen);
         self.seen = seen;
         self.lines = lines;
-        Some(room)
+        Some(found)
     }
 
     /// Takes in a note of the same display: the front becomes the longer of the two.
@@ -119,38 +162,36 @@ fn compare(one: &Trace, other: &Trace)
     both.learn(other);
 }
 
-// Enters, and leaves at once.
-fn enter(reader: &mut TableReader, place: Place, class: Class) -> Option<Glance>
-    requires { (view reader.old.place).knows ≡ true }
+// Enters, and leaves once `at` has looked.
+fn enter<T, F: FnOnce(&Sight) -> T>(reader: &mut TableReader, at: F) -> Option<Glance<T>>
+    requires knows { (view reader.old.place).knows ≡ true }
+    requires at { F.IsAlwaysCallable at }
     ensures same { ((view reader.new.place).knows ≡ true) × ((view reader.new.place).grid ≡ (view reader.old.place).grid) × ((view reader.new.place).seen.book ≡ (view reader.old.place).seen.book) }
-    ensures some { IfSome result (λ t. (t.seen.book ≡ (view reader.old.place).seen.book) × IsLegal (view reader.old.place).grid t.seen.log × (t.lines ≡ length t.seen.log) × (t.room ≡ room_left (replay (view reader.old.place).grid t.seen.log) place class)) }
+    ensures some { IfSome result (λ g. (g.seen.book ≡ (view reader.old.place).seen.book) × IsLegal (view reader.old.place).grid g.seen.log × (g.lines ≡ length g.seen.log) × FnOnceReturnsAt F.FnOnce at (viewed g.seen.book (view reader.old.place).grid g.seen.log) g.found) }
 {
     replace_with(
         reader,
-        (place, class),
-        |reader: TableReader, wanted: (Place, Class)| -> (TableReader, Option<Glance>)
-            requires { (view reader.place).knows ≡ true }
+        at,
+        |reader: TableReader, at: F| -> (TableReader, Option<Glance<T>>)
+            requires { ((view reader.place).knows ≡ true) × F.IsAlwaysCallable at }
             ensures same { ((view result.0.place).knows ≡ true) × ((view result.0.place).grid ≡ (view reader.place).grid) × ((view result.0.place).seen.book ≡ (view reader.place).seen.book) }
-            ensures some { IfSome result.1 (λ t. (t.seen.book ≡ (view reader.place).seen.book) × IsLegal (view reader.place).grid t.seen.log × (t.lines ≡ length t.seen.log) × (t.room ≡ room_left (replay (view reader.place).grid t.seen.log) wanted.0 wanted.1)) }
-        { find(reader, wanted.0, wanted.1) },
+            ensures some { IfSome result.1 (λ g. (g.seen.book ≡ (view reader.place).seen.book) × IsLegal (view reader.place).grid g.seen.log × (g.lines ≡ length g.seen.log) × FnOnceReturnsAt F.FnOnce at (viewed g.seen.book (view reader.place).grid g.seen.log) g.found) }
+        { find(reader, at) },
     )
 }
 
-#[tactic(auto, using(crate::proofs::Steps::room_shown))]
-fn find(reader: TableReader, place: Place, class: Class) -> (TableReader, Option<Glance>)
-    requires { (view reader.place).knows ≡ true }
+fn find<T, F: FnOnce(&Sight) -> T>(reader: TableReader, at: F) -> (TableReader, Option<Glance<T>>)
+    requires knows { (view reader.place).knows ≡ true }
+    requires at { F.IsAlwaysCallable at }
     ensures same { ((view result.0.place).knows ≡ true) × ((view result.0.place).grid ≡ (view reader.place).grid) × ((view result.0.place).seen.book ≡ (view reader.place).seen.book) }
-    ensures some { IfSome result.1 (λ t. (t.seen.book ≡ (view reader.place).seen.book) × IsLegal (view reader.place).grid t.seen.log × (t.lines ≡ length t.seen.log) × (t.room ≡ room_left (replay (view reader.place).grid t.seen.log) place class)) }
+    ensures some { IfSome result.1 (λ g. (g.seen.book ≡ (view reader.place).seen.book) × IsLegal (view reader.place).grid g.seen.log × (g.lines ≡ length g.seen.log) × FnOnceReturnsAt F.FnOnce at (viewed g.seen.book (view reader.place).grid g.seen.log) g.found) }
 {
     match reader.enter_as::<Looks>() {
         Ok(reading) => {
-            let table = reading.get();
-            let found = Glance {
-                room: table.counts.room(place, class),
-                lines: table.lines,
-                seen: table.seen.again(),
-            };
-            (reading.leave(), Some(found))
+            let sight = Sight { reading };
+            let found = at(&sight);
+            let (reader, seen, lines) = sight.leave();
+            (reader, Some(Glance { found, seen, lines }))
         }
         Err(reader) => (reader, None),
     }

@@ -50,10 +50,3 @@ pub record Waits (s t : Seat) : Type 0 where
   pub id : t.id ≡ s.id
   pub receipts : t.receipts ≡ s.receipts
   pub before : Begins s.front t.front
-
--- the journal had a line left: it was a legal history of fewer than cap lines, and began with what the session had seen
-pub record HasLineLeft (grid : Legs) (cap : ℕ) (front : List Entry) : Type 0 where
-  pub journal : List Entry
-  pub legal : IsLegal grid journal
-  pub begins : Begins front journal
-  pub left : length journal < cap

@@ -21,4 +21,4 @@ pub use party::Party;
 pub use receipt::Receipt;
 pub use session::Session;
 pub use settling::{AllReceipts, GatherFault, Receipts, Settled, Unsettled, gather};
-pub use under_lock::BookFault;
+pub use under_lock::{BookFault, Refusal};

@@ -1,16 +1,20 @@
 //! The manager of the limits.
-ghost use Rattle.std.specs.Prelude.{◌≡◌, ◌+◌, ◌<◌, length, IfSome, IfNone};
+ghost use Rattle.std.specs.Prelude.{◌≡◌, ◌+◌, ◌-◌, ◌<◌, ◌≤◌, length, Some, IfSome, IfNone, IfErr, OnOk, slice_get};
+ghost use Rattle.std.specs.Fn.{FnOnceReturnsAt};
+ghost use Rattle.seat_display.specs.Faces.{viewed};
 ghost use Rattle.seat_rules.specs.Prefixes.{Begins};
-ghost use Rattle.seat_rules.specs.Sequential.{room_left};
-ghost use Rattle.seat_rules.specs.Journal.{FitsChange, IsLegal, replay};
+ghost use Rattle.seat_rules.specs.Journal.{FitsChange, IsLegal};
 ghost use Rattle.seat_journal.specs.declared.entry.Work.TheVariants.{Limit};
+ghost use Rattle.seat_host.specs.Refusing.{IsDue};
+ghost use Rattle.seat_host.specs.Sessions.{Booked, Waits};
+ghost use Rattle.seat_host.specs.declared.under_lock.BookFault.TheVariants.{JournalFull, Memory as NoMemory};
 
 use crate::host::Host;
 use crate::ledgers::Hosting;
 use crate::party::Party;
 use crate::receipt::Receipt;
-use crate::under_lock::BookFault;
-use airline_base::{Class, Place};
+use crate::under_lock::Refusal;
+use seat_display::Sight;
 use seat_journal::Change;
 use std::alloc::Global;
 use std::marker::Model;
@@ -34,12 +38,6 @@ impl<K: Hosting> Model for Manager<K> {
 }
 
 impl<K: Hosting> Manager<K> {
-    ghost use Rattle.std.specs.Prelude.{⊤};
-    ghost use Rattle.std.specs.Borrow.{sem, follows_so};
-    ghost use mathlib.Core.Option.{none};
-    ghost use Rattle.seat_host.specs.Answering.{Leaves};
-    ghost use Rattle.seat_host.specs.contracts.manager.Manager.{the_row};
-
     /// The lines of its calls, in order.
     pub fn receipts(&self) -> &[Receipt]
         ensures { result.now ≡ self.now.receipts }
@@ -54,20 +52,30 @@ impl<K: Hosting> Manager<K> {
         self.party.next_call()
     }
 
-    /// Has the host change a limit, as `Host::set_limit` does, and shows the receipt.
-    #[tactic(auto, using(crate::proofs::Lasting::some_receipt, crate::proofs::Lasting::last_answers))]
+    /// Has the host change a limit, as `Host::set_limit` does. `last` shows the receipt.
     pub fn set_limit<R: Wait>(
         &mut self,
         host: &Host<K>,
         rt: &R,
         alloc: Global,
         change: Change,
-    ) -> Result<&Receipt, BookFault>
+    ) -> Result<(), Refusal>
         requires { FitsChange K.grid change }
-        ensures* leaves { sem 𝓛 (follows_so (the_row K.row K.Hosting) (the_row K.row K.Hosting) self.entry.ghost_name none (λ _ _. ⊤) (λ n. Leaves K.grid K.cap (Limit change) self.old result n)) }
+        ensures booked { OnOk result (Booked K.grid (Limit change) self.old self.new) }
+        ensures waits { IfErr result (λ _. Waits self.old self.new) }
+        ensures full { IfErr result (λ r. r.fault ≡ JournalFull → K.cap ≤ length self.new.front) }
+        ensures due { IfErr result (IsDue K.grid K.book K.cap self.new.front) }
+        ensures memory { IfErr result (λ r. r.fault ≡ NoMemory → self.new ≡ self.old) }
     {
-        host.set_limit(rt, alloc, self, change)?;
-        Ok(self.party.last())
+        host.set_limit(rt, alloc, self, change)
+    }
+
+    /// The receipt of its last call that gave a line.
+    pub fn last(&self) -> &Receipt
+        requires { 0 < length self.now.receipts }
+        ensures { slice_get self.now.receipts (length self.now.receipts - 1) ≡ Some result.now }
+    {
+        self.party.last()
     }
 
     /// How many lines it has seen.
@@ -77,14 +85,15 @@ impl<K: Hosting> Manager<K> {
         self.party.front_len()
     }
 
-    /// The seats that are left on a place in a class, as `Session::look` says.
-    pub fn look(&mut self, place: Place, class: Class) -> Option<u16>
-        ensures room { IfSome result (λ n. n ≡ room_left (replay K.grid self.new.front) place class) }
+    /// Has `at` look at what is then seen, as `Session::look` does.
+    pub fn look<T: Drop, F: FnOnce(&Sight) -> T>(&mut self, at: F) -> Option<T>
+        requires { F.IsAlwaysCallable at }
+        ensures found { IfSome result (λ t. FnOnceReturnsAt F.FnOnce at (viewed K.book K.grid self.new.front) t) }
         ensures front { Begins self.old.front self.new.front }
         ensures legal { IsLegal K.grid self.new.front }
         ensures none { IfNone result (self.new ≡ self.old) }
         ensures same { (self.new.id ≡ self.old.id) × (self.new.receipts ≡ self.old.receipts) }
     {
-        self.party.look(place, class)
+        self.party.look(at)
     }
 }

@@ -1,16 +1,16 @@
 //! What a session and the manager are: a number, and what its calls have left.
 ghost use Rattle.std.specs.Prelude.{◌≡◌, ◌+◌, ◌-◌, ◌<◌, ◌≤◌, length, Some, IfSome, IfNone, slice_get};
+ghost use Rattle.std.specs.Fn.{FnOnceReturnsAt};
+ghost use Rattle.seat_display.specs.Faces.{viewed};
 ghost use Rattle.seat_rules.specs.Prefixes.{Begins};
-ghost use Rattle.seat_rules.specs.Sequential.{room_left};
-ghost use Rattle.seat_rules.specs.Journal.{IsLegal, replay};
+ghost use Rattle.seat_rules.specs.Journal.{IsLegal};
 ghost use Rattle.seat_host.specs.Ledgers.{counted};
 ghost use Rattle.seat_rules.specs.Histories.{of_session};
 ghost use Rattle.seat_host.specs.Sessions.{seated};
 
 use crate::ledgers::{Hosting, Stake};
 use crate::receipt::Receipt;
-use airline_base::{Class, Place};
-use seat_display::Viewer;
+use seat_display::{Sight, Viewer};
 use std::marker::Model;
 
 /// It keeps its own lines as receipts, the one share of its ledger, and a viewer.
@@ -71,15 +71,16 @@ impl<K: Hosting> Party<K> {
         self.viewer.seen()
     }
 
-    /// The seats that are left on a place in a class, after all that is then seen. None as `Viewer::look` says.
-    pub fn look(&mut self, place: Place, class: Class) -> Option<u16>
-        ensures room { IfSome result (λ n. n ≡ room_left (replay K.grid self.new.front) place class) }
+    /// Has `at` look at what is then seen. None as `Viewer::look` says.
+    pub fn look<T: Drop, F: FnOnce(&Sight) -> T>(&mut self, at: F) -> Option<T>
+        requires { F.IsAlwaysCallable at }
+        ensures found { IfSome result (λ t. FnOnceReturnsAt F.FnOnce at (viewed K.book K.grid self.new.front) t) }
         ensures front { Begins self.old.front self.new.front }
         ensures legal { IsLegal K.grid self.new.front }
         ensures none { IfNone result (self.new ≡ self.old) }
         ensures same { (self.new.id ≡ self.old.id) × (self.new.receipts ≡ self.old.receipts) }
     {
-        self.viewer.look(place, class)
+        self.viewer.look(at)
     }
 
     /// One that goes on from the lines that its viewer has seen. Its own among them are its receipts.

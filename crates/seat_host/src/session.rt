@@ -1,16 +1,20 @@
 //! A session of the host.
-ghost use Rattle.std.specs.Prelude.{◌≡◌, ◌+◌, ◌<◌, length, IfSome, IfNone};
+ghost use Rattle.std.specs.Prelude.{◌≡◌, ◌+◌, ◌-◌, ◌<◌, ◌≤◌, length, Some, IfSome, IfNone, IfErr, OnOk, slice_get};
+ghost use Rattle.std.specs.Fn.{FnOnceReturnsAt};
+ghost use Rattle.seat_display.specs.Faces.{viewed};
 ghost use Rattle.seat_rules.specs.Prefixes.{Begins};
-ghost use Rattle.seat_rules.specs.Sequential.{room_left};
-ghost use Rattle.seat_rules.specs.Journal.{FitsCommand, IsLegal, replay};
+ghost use Rattle.seat_rules.specs.Journal.{FitsCommand, IsLegal};
 ghost use Rattle.seat_journal.specs.declared.entry.Work.TheVariants.{Seats};
+ghost use Rattle.seat_host.specs.Refusing.{IsDue};
+ghost use Rattle.seat_host.specs.Sessions.{Booked, Waits};
+ghost use Rattle.seat_host.specs.declared.under_lock.BookFault.TheVariants.{JournalFull, Memory as NoMemory};
 
 use crate::host::Host;
 use crate::ledgers::Hosting;
 use crate::party::Party;
 use crate::receipt::Receipt;
-use crate::under_lock::BookFault;
-use airline_base::{Class, Place};
+use crate::under_lock::Refusal;
+use seat_display::Sight;
 use seat_journal::Command;
 use std::alloc::Global;
 use std::marker::Model;
@@ -34,12 +38,6 @@ impl<K: Hosting> Model for Session<K> {
 }
 
 impl<K: Hosting> Session<K> {
-    ghost use Rattle.std.specs.Prelude.{⊤};
-    ghost use Rattle.std.specs.Borrow.{sem, follows_so};
-    ghost use mathlib.Core.Option.{none};
-    ghost use Rattle.seat_host.specs.Answering.{Leaves};
-    ghost use Rattle.seat_host.specs.contracts.session.Session.{the_row};
-
     /// Its number, from 1.
     pub fn id(&self) -> u8
         ensures { result ≡ self.now.id }
@@ -61,20 +59,30 @@ impl<K: Hosting> Session<K> {
         self.party.next_call()
     }
 
-    /// Has the host answer a command, as `Host::book` does, and shows the receipt.
-    #[tactic(auto, using(crate::proofs::Lasting::some_receipt, crate::proofs::Lasting::last_answers))]
+    /// Has the host answer a command, as `Host::book` does. `last` shows the receipt.
     pub fn book<R: Wait>(
         &mut self,
         host: &Host<K>,
         rt: &R,
         alloc: Global,
         command: Command,
-    ) -> Result<&Receipt, BookFault>
+    ) -> Result<(), Refusal>
         requires { FitsCommand K.grid command }
-        ensures* leaves { sem 𝓛 (follows_so (the_row K.row K.Hosting) (the_row K.row K.Hosting) self.entry.ghost_name none (λ _ _. ⊤) (λ n. Leaves K.grid K.cap (Seats command) self.old result n)) }
+        ensures booked { OnOk result (Booked K.grid (Seats command) self.old self.new) }
+        ensures waits { IfErr result (λ _. Waits self.old self.new) }
+        ensures full { IfErr result (λ r. r.fault ≡ JournalFull → K.cap ≤ length self.new.front) }
+        ensures due { IfErr result (IsDue K.grid K.book K.cap self.new.front) }
+        ensures memory { IfErr result (λ r. r.fault ≡ NoMemory → self.new ≡ self.old) }
     {
-        host.book(rt, alloc, self, command)?;
-        Ok(self.party.last())
+        host.book(rt, alloc, self, command)
+    }
+
+    /// The receipt of its last call that gave a line.
+    pub fn last(&self) -> &Receipt
+        requires { 0 < length self.now.receipts }
+        ensures { slice_get self.now.receipts (length self.now.receipts - 1) ≡ Some result.now }
+    {
+        self.party.last()
     }
 
     /// How many lines it has seen.
@@ -84,15 +92,16 @@ impl<K: Hosting> Session<K> {
         self.party.front_len()
     }
 
-    /// The seats that are left on a place in a class, after all that is then seen. It takes no lock and waits for
+    /// Has `at` look at what is then seen: `Sight::room` has the seats that are left. It takes no lock and waits for
     /// nobody. None as `Viewer::look` says.
-    pub fn look(&mut self, place: Place, class: Class) -> Option<u16>
-        ensures room { IfSome result (λ n. n ≡ room_left (replay K.grid self.new.front) place class) }
+    pub fn look<T: Drop, F: FnOnce(&Sight) -> T>(&mut self, at: F) -> Option<T>
+        requires { F.IsAlwaysCallable at }
+        ensures found { IfSome result (λ t. FnOnceReturnsAt F.FnOnce at (viewed K.book K.grid self.new.front) t) }
         ensures front { Begins self.old.front self.new.front }
         ensures legal { IsLegal K.grid self.new.front }
         ensures none { IfNone result (self.new ≡ self.old) }
         ensures same { (self.new.id ≡ self.old.id) × (self.new.receipts ≡ self.old.receipts) }
     {
-        self.party.look(place, class)
+        self.party.look(at)
     }
 }

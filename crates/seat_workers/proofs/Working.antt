@@ -3,21 +3,21 @@ use Rattle.std.proofs.Common.{◌≡◌, ℕ, zero, suc, ◌+◌, ◌<◌, ◌�
 use Rattle.std.specs.Prelude.{Result, Ok, Err, OnOk, All, map}
 use Rattle.core.specs.Result.{result_and}
 use Rattle.std.proofs.Math.Seq.{split_at}
-use Rattle.std.proofs.lemmas.List.{append-nil, get_or-map, length-map, map_more, take-append-drop}
+use Rattle.std.proofs.lemmas.List.{get_or-map, length-map, map_more, take-append-drop}
 use Rattle.seat_journal.specs.declared.entry.Change.{Change}
 use Rattle.seat_journal.specs.declared.entry.Command.{Command}
 use Rattle.seat_journal.specs.declared.entry.Work.{Work}
 use Rattle.seat_journal.specs.declared.entry.Work.TheVariants.{Seats, Limit}
 use Rattle.seat_journal.specs.declared.entry.Entry.{Entry}
+use Rattle.logbook.specs.Pages.{Book}
 use Rattle.seat_nesting.specs.Nesting.{Legs}
 use Rattle.seat_rules.specs.Journal.{FitsChange, FitsCommand}
 use Rattle.seat_rules.proofs.History.Prefixes.{begins_trans, begins_itself}
+use Rattle.seat_host.specs.Refusing.{IsDue}
 use Rattle.seat_host.specs.Sessions.{Seat}
 use Rattle.seat_workers.specs.Working.{Asks, HasRun, HasBegun, IsRefused, AllHaveRun, AllHaveBegun}
-use Rattle.seat_host.specs.declared.under_lock.BookFault.{BookFault}
 use Rattle.seat_host.specs.declared.under_lock.BookFault.TheVariants.{JournalFull}
 use Rattle.seat_workers.specs.declared.workers.RunFault.{RunFault}
-use Rattle.seat_workers.specs.declared.workers.RunFault.TheVariants.{Book}
 
 map_append : {A : Type 0} (f : A → Work) (xs ys : List A) → map f (xs ++ ys) ≡ map f xs ++ map f ys
 map_append f [] ys = refl
@@ -34,16 +34,17 @@ run_more xs ys s t u p q = record {
 }
 
 -- a refusal after a run
-pub refused_more : (cap : ℕ) (fault : RunFault) (xs ys zs : List Work) (s t u : Seat) → HasRun xs s t → IsRefused cap fault ys t u → IsRefused cap fault (xs ++ (ys ++ zs)) s u
-refused_more cap fault xs ys zs s t u p q = record {
+pub refused_more : (grid : Legs) (book : Book) (cap : ℕ) (fault : RunFault) (xs ys zs : List Work) (s t u : Seat) → HasRun xs s t → IsRefused grid book cap fault ys t u → IsRefused grid book cap fault (xs ++ (ys ++ zs)) s u
+refused_more grid book cap fault xs ys zs s t u p q = record {
   booked = xs ++ q.booked;
   refused = q.refused;
   left = q.left ++ zs;
   parts = ap (λ l. xs ++ (l ++ zs)) q.parts ∙ ap (λ l. xs ++ l) (append_assoc q.booked (q.refused ∷ q.left) zs) ∙ sym (append_assoc xs q.booked (q.refused ∷ (q.left ++ zs)));
   run = run_more xs q.booked s t u p q.run;
-  why = q.why;
-  named = q.named;
+  session = q.session;
+  call = q.call;
   full = q.full;
+  due = q.due;
 }
 
 -- what holds of all holds of the first
@@ -83,31 +84,26 @@ asks_at f grid booked list i x work s t below is asked h p =
 
 -- ---- one call that is refused
 
-nothing : (f : Entry → Work) (lines : List Entry) → map f lines ≡ [] → lines ≡ []
-nothing f [] e = refl
-nothing f (x ∷ lines) e = absurd (cc e)
-
-pub refused_here : (cap : ℕ) (work : Work) (s t : Seat) (id call : ℕ) (why : BookFault) → id ≡ s.id → call ≡ length s.receipts + 1 → HasRun [] s t → (why ≡ JournalFull → cap ≤ length t.front) → IsRefused cap (Book id call why) (work ∷ []) s t
-refused_here cap work s t id call why number next p full =
-    let none : p.lines ≡ [] = nothing (λ (e : Entry). e.work) p.lines p.works in
-    let same : t.receipts ≡ s.receipts = p.receipts ∙ ap (λ (l : List Entry). s.receipts ++ l) none ∙ append-nil s.receipts in
-    let call_is : call ≡ length t.receipts + 1 = next ∙ sym (ap (λ (l : List Entry). length l + 1) same) in
+pub refused_here : (grid : Legs) (book : Book) (cap : ℕ) (work : Work) (s t : Seat) (fault : RunFault) → fault.session ≡ t.id → fault.call ≡ length t.receipts + 1 → HasRun [] s t → (fault.refusal.fault ≡ JournalFull → cap ≤ length t.front)
+    → IsDue grid book cap t.front fault.refusal → IsRefused grid book cap fault (work ∷ []) s t
+refused_here grid book cap work s t fault number next p full due =
     record {
       booked = [];
       refused = work;
       left = [];
       parts = refl;
       run = p;
-      why = why;
-      named = λ i. Book ((number ∙ sym p.id) i) (call_is i) why;
+      session = number;
+      call = next;
       full = full;
+      due = due;
     }
 
 pub begun_run : (list : List Work) (s t : Seat) → HasRun list s t → HasBegun list s t
 begun_run list s t p = record { booked = list; begins = begins_itself list; run = p }
 
-pub begun_refused : (cap : ℕ) (fault : RunFault) (list : List Work) (s t : Seat) → IsRefused cap fault list s t → HasBegun list s t
-begun_refused cap fault list s t p = record { booked = p.booked; begins = record { rest = p.refused ∷ p.left; is = p.parts }; run = p.run }
+pub begun_refused : (grid : Legs) (book : Book) (cap : ℕ) (fault : RunFault) (list : List Work) (s t : Seat) → IsRefused grid book cap fault list s t → HasBegun list s t
+begun_refused grid book cap fault list s t p = record { booked = p.booked; begins = record { rest = p.refused ∷ p.left; is = p.parts }; run = p.run }
 
 pub all_begun : (lists : List (List Work)) (olds news : List Seat) → AllHaveRun lists olds news → AllHaveBegun lists olds news
 all_begun [] olds [] p = p
@@ -124,12 +120,12 @@ run_at f list i x work s t u below is asked p q =
     subst (λ l. HasRun l s u) (sym more) (run_more (map f (take i list)) (work ∷ []) s t u p q)
 
 -- a list booked as far as a place, and the work there refused
-pub refused_at : {A : Type 0} (f : A → Work) (cap : ℕ) (fault : RunFault) (list : List A) (i : ℕ) (x : A) (work : Work) (s t u : Seat) → i < length list → x ≡ get_or list i x → work ≡ f x → HasRun (map f (take i list)) s t → IsRefused cap fault (work ∷ []) t u → IsRefused cap fault (map f list) s u
-refused_at f cap fault list i x work s t u below is asked p q =
+pub refused_at : {A : Type 0} (f : A → Work) (grid : Legs) (book : Book) (cap : ℕ) (fault : RunFault) (list : List A) (i : ℕ) (x : A) (work : Work) (s t u : Seat) → i < length list → x ≡ get_or list i x → work ≡ f x → HasRun (map f (take i list)) s t → IsRefused grid book cap fault (work ∷ []) t u → IsRefused grid book cap fault (map f list) s u
+refused_at f grid book cap fault list i x work s t u below is asked p q =
     let cut : list ≡ take i list ++ x ∷ drop (suc i) list = split_at list i x below ∙ ap (λ y. take i list ++ y ∷ drop (suc i) list) (sym is) in
     let parts : map f list ≡ map f (take i list) ++ work ∷ map f (drop (suc i) list) =
     ap (map f) cut ∙ map_append f (take i list) (x ∷ drop (suc i) list) ∙ ap (λ w. map f (take i list) ++ w ∷ map f (drop (suc i) list)) (sym asked) in
-    subst (λ l. IsRefused cap fault l s u) (sym parts) (refused_more cap fault (map f (take i list)) (work ∷ []) (map f (drop (suc i) list)) s t u p q)
+    subst (λ l. IsRefused grid book cap fault l s u) (sym parts) (refused_more grid book cap fault (map f (take i list)) (work ∷ []) (map f (drop (suc i) list)) s t u p q)
 
 -- the run of the first session beside the run of the others
 pub run_both : (l : List Work) (s t : Seat) (ls : List (List Work)) (ss ts : List Seat) (first rest both : Result (Unit {0}) RunFault)
@@ -168,6 +164,6 @@ at_more list left next later s t u is at q = record {
   run = run_more at.booked next s t u at.run q;
 }
 
-pub at_refused : (cap : ℕ) (fault : RunFault) (list left next later : List Work) (s t u : Seat) → left ≡ next ++ later → IsAt list left s t → IsRefused cap fault next t u → IsRefused cap fault list s u
-at_refused cap fault list left next later s t u is at q =
-    subst (λ l. IsRefused cap fault l s u) (sym (at.parts ∙ ap (λ l. at.booked ++ l) is)) (refused_more cap fault at.booked next later s t u at.run q)
+pub at_refused : (grid : Legs) (book : Book) (cap : ℕ) (fault : RunFault) (list left next later : List Work) (s t u : Seat) → left ≡ next ++ later → IsAt list left s t → IsRefused grid book cap fault next t u → IsRefused grid book cap fault list s u
+at_refused grid book cap fault list left next later s t u is at q =
+    subst (λ l. IsRefused grid book cap fault l s u) (sym (at.parts ∙ ap (λ l. at.booked ++ l) is)) (refused_more grid book cap fault at.booked next later s t u at.run q)

@@ -6,14 +6,14 @@ use Rattle.seat_journal.specs.declared.entry.Command.{Command}
 use Rattle.seat_journal.specs.declared.entry.Work.{Work}
 use Rattle.seat_journal.specs.declared.entry.Work.TheVariants.{Seats, Limit}
 use Rattle.seat_journal.specs.declared.entry.Entry.{Entry}
+use Rattle.logbook.specs.Pages.{Book}
 use Rattle.seat_nesting.specs.Nesting.{Legs}
 use Rattle.seat_rules.specs.Prefixes.{Begins}
 use Rattle.seat_rules.specs.Journal.{FitsWork, MayAsk}
+use Rattle.seat_host.specs.Refusing.{IsDue}
 use Rattle.seat_host.specs.Sessions.{Seat}
-use Rattle.seat_host.specs.declared.under_lock.BookFault.{BookFault}
 use Rattle.seat_host.specs.declared.under_lock.BookFault.TheVariants.{JournalFull}
 use Rattle.seat_workers.specs.declared.workers.RunFault.{RunFault}
-use Rattle.seat_workers.specs.declared.workers.RunFault.TheVariants.{Book}
 
 -- what the lists of sessions ask for
 abbrev pub seats_in : List (List Command) → List (List Work)
@@ -42,16 +42,17 @@ pub record HasBegun (list : List Work) (s t : Seat) : Type 0 where
   pub begins : Begins booked list
   pub run : HasRun booked s t
 
--- the session booked its list as far as the work whose call the fault names
-pub record IsRefused (cap : ℕ) (fault : RunFault) (list : List Work) (s t : Seat) : Type 0 where
+-- the session booked its list as far as the work whose call the fault names. The journal was full then, as the session has seen, or it had a line left and memory was wanting
+pub record IsRefused (grid : Legs) (book : Book) (cap : ℕ) (fault : RunFault) (list : List Work) (s t : Seat) : Type 0 where
   pub booked : List Work
   pub refused : Work
   pub left : List Work
   pub parts : list ≡ booked ++ refused ∷ left
   pub run : HasRun booked s t
-  pub why : BookFault
-  pub named : fault ≡ Book t.id (length t.receipts + 1) why
-  pub full : why ≡ JournalFull → cap ≤ length t.front
+  pub session : fault.session ≡ t.id
+  pub call : fault.call ≡ length t.receipts + 1
+  pub full : fault.refusal.fault ≡ JournalFull → cap ≤ length t.front
+  pub due : IsDue grid book cap t.front fault.refusal
 
 -- each session booked its whole list
 abbrev pub AllHaveRun : List (List Work) → List Seat → List Seat → Type 0
@@ -62,9 +63,9 @@ abbrev pub AllHaveBegun : List (List Work) → List Seat → List Seat → Type 
 AllHaveBegun lists olds news = AllZip (λ told t. HasBegun told.0 told.1 t) (zip lists olds) news
 
 -- the fault is that of the first session that was refused: those before it booked their whole lists
-abbrev pub NamesFirst : ℕ → RunFault → List (List Work) → List Seat → List Seat → Type 0
-NamesFirst cap fault (list ∷ lists) (s ∷ olds) (t ∷ news) =
-    IsRefused cap fault list s t ⊎ (HasRun list s t × NamesFirst cap fault lists olds news)
-NamesFirst cap fault (list ∷ lists) (s ∷ olds) [] = ⊥
-NamesFirst cap fault (list ∷ lists) [] news = ⊥
-NamesFirst cap fault [] olds news = ⊥
+abbrev pub NamesFirst : Legs → Book → ℕ → RunFault → List (List Work) → List Seat → List Seat → Type 0
+NamesFirst grid book cap fault (list ∷ lists) (s ∷ olds) (t ∷ news) =
+    IsRefused grid book cap fault list s t ⊎ (HasRun list s t × NamesFirst grid book cap fault lists olds news)
+NamesFirst grid book cap fault (list ∷ lists) (s ∷ olds) [] = ⊥
+NamesFirst grid book cap fault (list ∷ lists) [] news = ⊥
+NamesFirst grid book cap fault [] olds news = ⊥

@@ -1,8 +1,10 @@
 //! What surrounds each call of a worker.
 
+use seat_host::{Hosting, Party};
 use std::sync::Wait;
 
-/// A worker passes it before each call and after its answer. `call` counts the calls of the session from 1.
+/// A worker passes it before each call and after its answer, and shows whose call it is: a party knows its own number, its
+/// next call and its receipts.
 pub trait Gate: Sync {
     /// Whether a worker may keep the others waiting for many of its calls. It may not where the gate holds one worker
     /// until another has come.
@@ -10,9 +12,9 @@ pub trait Gate: Sync {
         false
     }
 
-    fn before<R: Wait>(&self, rt: &R, session: u8, call: u32);
+    fn before<K: Hosting, R: Wait>(&self, rt: &R, party: &Party<K>);
 
-    fn after<R: Wait>(&self, rt: &R, session: u8, call: u32);
+    fn after<K: Hosting, R: Wait>(&self, rt: &R, party: &Party<K>);
 }
 
 /// Holds nobody up.
@@ -23,7 +25,7 @@ impl Gate for NoGate {
         true
     }
 
-    fn before<R: Wait>(&self, _rt: &R, _session: u8, _call: u32) {}
+    fn before<K: Hosting, R: Wait>(&self, _rt: &R, _party: &Party<K>) {}
 
-    fn after<R: Wait>(&self, _rt: &R, _session: u8, _call: u32) {}
+    fn after<K: Hosting, R: Wait>(&self, _rt: &R, _party: &Party<K>) {}
 }

@@ -8,4 +8,5 @@ mod turns;
 mod workers;
 
 pub use gate::{Gate, NoGate};
+pub use turns::{Turn, Turns};
 pub use workers::{RunFault, run_sessions};

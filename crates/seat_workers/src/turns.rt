@@ -8,8 +8,13 @@ use std::time::Duration;
 // through.
 const PATIENCE: u64 = 100;
 
-/// The turns of the workers of a run: one at a time, in the order in which they were asked for. The number of a turn is how
-/// many were asked for before it.
+/// A turn that was asked for. It is never dropped: `leave` lets it pass, so no worker keeps one.
+pub struct Turn {
+    // How many were asked for before it.
+    number: u64,
+}
+
+/// The turns of the workers of a run: one at a time, in the order in which they were asked for.
 #[derive(Drop)]
 pub struct Turns {
     workers: u64,
@@ -29,40 +34,48 @@ impl Turns {
 
     /// A worker comes, and asks for its first turn. It waits until all workers have come, so that none is through before
     /// another begins; where no further one comes for a tenth of a second, it goes on without.
-    pub fn come<R: Wait>(&self, rt: &R) -> u64 {
+    pub fn come<R: Wait>(&self, rt: &R) -> Turn {
         let turn = self.ask();
         self.asked.wake_all();
-        self.wait_for_all(rt, turn.saturating_add(1));
+        self.wait_for_all(rt, turn.number.saturating_add(1));
         turn
     }
 
     /// Waits until all turns before this one have ended.
-    pub fn begin<R: Wait>(&self, rt: &R, turn: u64) {
+    pub fn begin<R: Wait>(&self, rt: &R, turn: &Turn) {
         for _ in rt.forever() {
             let ended = self.ended.load(Ordering::SeqCst);
-            if ended == turn {
+            if ended == turn.number {
                 return;
             }
             self.ended.park(rt, low_bits(ended));
         }
     }
 
+    /// Whether all turns before this one have ended. It waits for nobody.
+    pub fn is_up(&self, turn: &Turn) -> bool {
+        self.ended.load(Ordering::SeqCst) == turn.number
+    }
+
     /// Ends a turn that has begun, once the worker's next is asked for: else a worker that it wakes could go through all of
     /// its turns before this one asks again.
-    pub fn end(&self) -> u64 {
-        let next = self.ask();
+    pub fn end(&self, turn: &mut Turn) {
+        let Turn { number } = self.ask();
+        turn.number = number;
         self.give_up();
-        next
     }
 
     /// A worker leaves, and lets the turn that it has asked for pass.
-    pub fn leave<R: Wait>(&self, rt: &R, turn: u64) {
-        self.begin(rt, turn);
+    pub fn leave<R: Wait>(&self, rt: &R, turn: Turn) {
+        self.begin(rt, &turn);
+        let Turn { number: _ } = turn;
         self.give_up();
     }
 
-    fn ask(&self) -> u64 {
-        self.asked.fetch_add(1, Ordering::SeqCst)
+    fn ask(&self) -> Turn {
+        Turn {
+            number: self.asked.fetch_add(1, Ordering::SeqCst),
+        }
     }
 
     fn give_up(&self) {

@@ -4,26 +4,24 @@ ghost use Rattle.std.specs.Thread.{IsSync, IsSend};
 ghost use Rattle.seat_rules.specs.Journal.{FitsChange, FitsCommand};
 ghost use Rattle.seat_journal.specs.declared.entry.Work.TheVariants.{Limit, Seats};
 ghost use Rattle.seat_host.specs.declared.under_lock.BookFault.TheVariants.{JournalFull};
+ghost use Rattle.seat_host.specs.Refusing.{IsDue};
 ghost use Rattle.seat_workers.specs.Working.{Asks, HasRun, IsRefused, AllHaveRun, AllHaveBegun, NamesFirst, seats_in, works_of};
 
 use crate::asking::Asking;
 use crate::gate::Gate;
-use crate::turns::Turns;
-use seat_host::{BookFault, Host, Hosting, Manager, Party, Session};
+use crate::turns::{Turn, Turns};
+use seat_host::{Host, Hosting, Manager, Party, Refusal, Session};
 use seat_journal::{Change, Command, CommandList, Work};
 use std::alloc::Global;
 use std::sync::Wait;
 use std::thread::{Threads, join_mut};
 
-/// Why a run stopped short: the session, which is 0 for the manager, and the call that was refused.
-#[derive(Clone, Copy, PartialEq, Eq)]
-pub enum RunFault {
-    /// A call of a session gave no line.
-    Book {
-        session: u8,
-        call: u32,
-        fault: BookFault,
-    },
+/// Why a run stopped short: the session, which is 0 for the manager, and the call that gave no line.
+#[derive(Drop)]
+pub struct RunFault {
+    pub session: u8,
+    pub call: u32,
+    pub refusal: Refusal,
 }
 
 // The least calls of a turn.
@@ -46,7 +44,7 @@ pub fn run_sessions<K: Hosting + Send + Sync, R: Threads + Wait + Sync, G: Gate>
     requires commands { All (λ list. All (λ command. FitsCommand K.grid command) list) lists.now }
     ensures ok { OnOk result (AllHaveRun (works_of changes.now lists.now) (manager.old ∷ sessions.old) (manager.new ∷ sessions.new)) }
     ensures refused { IfErr result (λ _. AllHaveBegun (works_of changes.now lists.now) (manager.old ∷ sessions.old) (manager.new ∷ sessions.new)) }
-    ensures named { IfErr result (λ f. NamesFirst K.cap f (works_of changes.now lists.now) (manager.old ∷ sessions.old) (manager.new ∷ sessions.new)) }
+    ensures named { IfErr result (λ f. NamesFirst K.grid K.book K.cap f (works_of changes.now lists.now) (manager.old ∷ sessions.old) (manager.new ∷ sessions.new)) }
 {
     let turns = Turns::new(lists.len().saturating_add(1));
     let place = Workplace {
@@ -84,18 +82,18 @@ fn with_manager<K: Hosting + Send + Sync, R: Threads + Wait + Sync, G: Gate>(
     requires commands { All (λ list. All (λ command. FitsCommand K.grid command) list) lists.now }
     ensures ok { OnOk result (AllHaveRun (works_of changes.now lists.now) (party.old ∷ sessions.old) (party.new ∷ sessions.new)) }
     ensures refused { IfErr result (λ _. AllHaveBegun (works_of changes.now lists.now) (party.old ∷ sessions.old) (party.new ∷ sessions.new)) }
-    ensures named { IfErr result (λ f. NamesFirst K.cap f (works_of changes.now lists.now) (party.old ∷ sessions.old) (party.new ∷ sessions.new)) }
+    ensures named { IfErr result (λ f. NamesFirst K.grid K.book K.cap f (works_of changes.now lists.now) (party.old ∷ sessions.old) (party.new ∷ sessions.new)) }
 {
     let mut here = || -> Result<(), RunFault>
         requires { IsSync R.row × IsSync K.row × IsSend K.row × IsSync G.row × (party.now.id ≡ 0) × All (λ change. FitsChange K.grid change) changes.now }
         ensures ok { OnOk result (HasRun (map Limit changes.entry.now) party.entry.now party.exit.now) }
-        ensures refused { IfErr result (λ f. IsRefused K.cap f (map Limit changes.entry.now) party.entry.now party.exit.now) }
+        ensures refused { IfErr result (λ f. IsRefused K.grid K.book K.cap f (map Limit changes.entry.now) party.entry.now party.exit.now) }
     { place.work_off(changes, party) };
     let mut there = || -> Result<(), RunFault>
         requires { IsSync R.row × IsSync K.row × IsSend K.row × IsSync G.row × (length lists.now ≡ length sessions.now) × All (λ list. All (λ command. FitsCommand K.grid command) list) lists.now }
         ensures ok { OnOk result (AllHaveRun (seats_in lists.entry.now) sessions.entry.now sessions.exit.now) }
         ensures refused { IfErr result (λ _. AllHaveBegun (seats_in lists.entry.now) sessions.entry.now sessions.exit.now) }
-        ensures named { IfErr result (λ f. NamesFirst K.cap f (seats_in lists.entry.now) sessions.entry.now sessions.exit.now) }
+        ensures named { IfErr result (λ f. NamesFirst K.grid K.book K.cap f (seats_in lists.entry.now) sessions.entry.now sessions.exit.now) }
     { work_all(place, lists, sessions) };
     let (rest, managed) = join_mut(place.rt, &mut there, &mut here);
     managed.and(rest)
@@ -112,7 +110,7 @@ fn work_all<K: Hosting + Send + Sync, R: Threads + Wait + Sync, G: Gate>(
     requires commands { All (λ list. All (λ command. FitsCommand K.grid command) list) lists.now }
     ensures ok { OnOk result (AllHaveRun (seats_in lists.now) sessions.old sessions.new) }
     ensures refused { IfErr result (λ _. AllHaveBegun (seats_in lists.now) sessions.old sessions.new) }
-    ensures named { IfErr result (λ f. NamesFirst K.cap f (seats_in lists.now) sessions.old sessions.new) }
+    ensures named { IfErr result (λ f. NamesFirst K.grid K.book K.cap f (seats_in lists.now) sessions.old sessions.new) }
 {
     let Some((list, later)) = lists.split_first() else {
         return Ok(());
@@ -139,18 +137,18 @@ fn side_by_side<K: Hosting + Send + Sync, R: Threads + Wait + Sync, G: Gate>(
     requires commands { All (λ list. All (λ command. FitsCommand K.grid command) list) later.now }
     ensures ok { OnOk result (AllHaveRun (map Seats list.now ∷ seats_in later.now) (party.old ∷ others.old) (party.new ∷ others.new)) }
     ensures refused { IfErr result (λ _. AllHaveBegun (map Seats list.now ∷ seats_in later.now) (party.old ∷ others.old) (party.new ∷ others.new)) }
-    ensures named { IfErr result (λ f. NamesFirst K.cap f (map Seats list.now ∷ seats_in later.now) (party.old ∷ others.old) (party.new ∷ others.new)) }
+    ensures named { IfErr result (λ f. NamesFirst K.grid K.book K.cap f (map Seats list.now ∷ seats_in later.now) (party.old ∷ others.old) (party.new ∷ others.new)) }
 {
     let mut here = || -> Result<(), RunFault>
         requires { IsSync R.row × IsSync K.row × IsSend K.row × IsSync G.row × (1 ≤ party.now.id) × (party.now.id ≤ 8) × All (λ command. FitsCommand K.grid command) list.now }
         ensures ok { OnOk result (HasRun (map Seats list.entry.now) party.entry.now party.exit.now) }
-        ensures refused { IfErr result (λ f. IsRefused K.cap f (map Seats list.entry.now) party.entry.now party.exit.now) }
+        ensures refused { IfErr result (λ f. IsRefused K.grid K.book K.cap f (map Seats list.entry.now) party.entry.now party.exit.now) }
     { place.work_off(list, party) };
     let mut there = || -> Result<(), RunFault>
         requires { IsSync R.row × IsSync K.row × IsSend K.row × IsSync G.row × (length later.now ≡ length others.now) × All (λ list. All (λ command. FitsCommand K.grid command) list) later.now }
         ensures ok { OnOk result (AllHaveRun (seats_in later.entry.now) others.entry.now others.exit.now) }
         ensures refused { IfErr result (λ _. AllHaveBegun (seats_in later.entry.now) others.entry.now others.exit.now) }
-        ensures named { IfErr result (λ f. NamesFirst K.cap f (seats_in later.entry.now) others.entry.now others.exit.now) }
+        ensures named { IfErr result (λ f. NamesFirst K.grid K.book K.cap f (seats_in later.entry.now) others.entry.now others.exit.now) }
     { work_all(place, later, others) };
     let (rest, first) = join_mut(place.rt, &mut there, &mut here);
     first.and(rest)
@@ -170,7 +168,7 @@ impl<K: Hosting, R: Wait, G: Gate> Workplace<'_, K, R, G> {
     fn work_off<J: Asking>(&self, list: &[J], party: &mut Party<K>) -> Result<(), RunFault>
         requires asks { All (Asks K.grid party.old.id) (map J.asks list.now) }
         ensures ok { OnOk result (HasRun (map J.asks list.now) party.old party.new) }
-        ensures refused { IfErr result (λ f. IsRefused K.cap f (map J.asks list.now) party.old party.new) }
+        ensures refused { IfErr result (λ f. IsRefused K.grid K.book K.cap f (map J.asks list.now) party.old party.new) }
     {
         if self.gate.takes_turns() {
             let mut turn = self.turns.come(self.rt);
@@ -184,13 +182,13 @@ impl<K: Hosting, R: Wait, G: Gate> Workplace<'_, K, R, G> {
 
     fn book_by_turns<J: Asking>(
         &self,
-        turn: &mut u64,
+        turn: &mut Turn,
         list: &[J],
         party: &mut Party<K>,
     ) -> Result<(), RunFault>
         requires asks { All (Asks K.grid party.old.id) (map J.asks list.now) }
         ensures ok { OnOk result (HasRun (map J.asks list.now) party.old party.new) }
-        ensures refused { IfErr result (λ f. IsRefused K.cap f (map J.asks list.now) party.old party.new) }
+        ensures refused { IfErr result (λ f. IsRefused K.grid K.book K.cap f (map J.asks list.now) party.old party.new) }
     {
         let mut left = list;
         while !left.is_empty() {
@@ -204,24 +202,24 @@ impl<K: Hosting, R: Wait, G: Gate> Workplace<'_, K, R, G> {
 
     fn take_turn<J: Asking>(
         &self,
-        turn: &mut u64,
+        turn: &mut Turn,
         list: &[J],
         party: &mut Party<K>,
     ) -> Result<(), RunFault>
         requires asks { All (Asks K.grid party.old.id) (map J.asks list.now) }
         ensures ok { OnOk result (HasRun (map J.asks list.now) party.old party.new) }
-        ensures refused { IfErr result (λ f. IsRefused K.cap f (map J.asks list.now) party.old party.new) }
+        ensures refused { IfErr result (λ f. IsRefused K.grid K.book K.cap f (map J.asks list.now) party.old party.new) }
     {
-        self.turns.begin(self.rt, *turn);
+        self.turns.begin(self.rt, turn);
         let answer = self.book_all(list, party);
-        *turn = self.turns.end();
+        self.turns.end(turn);
         answer
     }
 
     fn book_all<J: Asking>(&self, list: &[J], party: &mut Party<K>) -> Result<(), RunFault>
         requires asks { All (Asks K.grid party.old.id) (map J.asks list.now) }
         ensures ok { OnOk result (HasRun (map J.asks list.now) party.old party.new) }
-        ensures refused { IfErr result (λ f. IsRefused K.cap f (map J.asks list.now) party.old party.new) }
+        ensures refused { IfErr result (λ f. IsRefused K.grid K.book K.cap f (map J.asks list.now) party.old party.new) }
     {
         for wish in list {
             self.book_next(wish.work(), party)?;
@@ -234,19 +232,17 @@ impl<K: Hosting, R: Wait, G: Gate> Workplace<'_, K, R, G> {
     fn book_next(&self, work: Work, party: &mut Party<K>) -> Result<(), RunFault>
         requires asks { Asks K.grid party.old.id work }
         ensures ok { OnOk result (HasRun (work ∷ []) party.old party.new) }
-        ensures refused { IfErr result (λ f. IsRefused K.cap f (work ∷ []) party.old party.new) }
+        ensures refused { IfErr result (λ f. IsRefused K.grid K.book K.cap f (work ∷ []) party.old party.new) }
     {
-        let id = party.id();
-        let call = party.next_call();
-        self.gate.before(self.rt, id, call);
+        self.gate.before(self.rt, party);
         let answer = book_one(self.rt, self.alloc, self.host, work, party);
-        self.gate.after(self.rt, id, call);
+        self.gate.after(self.rt, party);
         match answer {
             Ok(()) => Ok(()),
-            Err(fault) => Err(RunFault::Book {
-                session: id,
-                call,
-                fault,
+            Err(refusal) => Err(RunFault {
+                session: party.id(),
+                call: party.next_call(),
+                refusal,
             }),
         }
     }
@@ -258,10 +254,12 @@ fn book_one<K: Hosting, R: Wait>(
     host: &Host<K>,
     work: Work,
     party: &mut Party<K>,
-) -> Result<(), BookFault>
+) -> Result<(), Refusal>
     requires asks { Asks K.grid party.old.id work }
     ensures ok { OnOk result (HasRun (work ∷ []) party.old party.new) }
-    ensures refused { IfErr result (λ f. HasRun [] party.old party.new × (f ≡ JournalFull → K.cap ≤ length party.new.front)) }
+    ensures stays { IfErr result (λ _. HasRun [] party.old party.new) }
+    ensures full { IfErr result (λ r. r.fault ≡ JournalFull → K.cap ≤ length party.new.front) }
+    ensures due { IfErr result (IsDue K.grid K.book K.cap party.new.front) }
 {
     host.answer(rt, alloc, party, work)
 }

@@ -20,8 +20,8 @@ returns-in_err-take_turn-clause-refused g c =
     let later : List Work = map g.J.Asking.asks c.split_at.result.1.now in
     let left : List Work = map g.J.Asking.asks c.loop-left.left.now in
     let parts : left ≡ next ++ later = cut_there g.J.Asking.asks c.loop-left.left.now c.split_at.result.0.now c.split_at.result.1.now c.min.result c.split_at.ensures.front c.split_at.ensures.back in
-    let here : IsRefused g.K.Hosting.cap c.in_err-take_turn.field-0.0 list c.args.party.now c.take_turn.new.party =
-    at_refused g.K.Hosting.cap c.in_err-take_turn.field-0.0 list left next later c.args.party.now c.loop-left.party c.take_turn.new.party parts c.loop-left.invariant.at c.in_err-take_turn.ensures.refused in
+    let here : IsRefused g.K.Hosting.grid g.K.Hosting.book g.K.Hosting.cap c.in_err-take_turn.field-0.0 list c.args.party.now c.take_turn.new.party =
+    at_refused g.K.Hosting.grid g.K.Hosting.book g.K.Hosting.cap c.in_err-take_turn.field-0.0 list left next later c.args.party.now c.loop-left.party c.take_turn.new.party parts c.loop-left.invariant.at c.in_err-take_turn.ensures.refused in
     search rules
 
 pub loop-left-preserved : goal.loop-left-preserved
