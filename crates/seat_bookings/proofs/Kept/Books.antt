@@ -20,7 +20,7 @@ use Rattle.seat_rules.specs.declared.action.Action.TheVariants.{Want, Cancel, Ot
 use Rattle.seat_rules.specs.Codes.{action_of}
 use Rattle.seat_rules.specs.Bookings.{held, Differs, IsApart}
 use Rattle.seat_rules.specs.Sequential.{State, Outcome, state_of, room_left, answer, answer_to, NoneFits}
-use Rattle.seat_rules.specs.Journal.{replay, calls_of, line_of, next_line, IsNext, IsLegal, MayAsk}
+use Rattle.seat_rules.specs.Journal.{replay, calls_of, IsNext, IsLegal, MayAsk}
 use Rattle.seat_rules.specs.Applying.{applied, confirmed_each, replied, IsOrdered, IsNumbered}
 use Rattle.seat_rules.specs.Flights.{bookings_on, is_flight, is_on, advices_anew}
 use Rattle.seat_rules.specs.Inventory.{has_memory, has_memory_in, HoldsWithinLimits, IsLawful, KeepsLimits}

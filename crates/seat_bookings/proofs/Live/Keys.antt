@@ -9,7 +9,7 @@ use Rattle.seat_bookings.specs.declared.live_bookings.Key.{Key}
 use Rattle.seat_rules.specs.Bookings.{is_for, Differs, IsApart}
 use Rattle.seat_bookings.specs.Live.{key_for, key_of, same_key, number_of}
 use Rattle.seat_rules.proofs.Step.Limits.{both}
-use Rattle.seat_bookings.proofs.Waitlists.Index.{nat_same}
+use Rattle.seat_rules.proofs.History.Faults.{nat_same}
 
 -- ---- keys that are equal
 letters_is : (xs ys : List ℕ) → pointwise nat_eq xs ys ≡ true → xs ≡ ys

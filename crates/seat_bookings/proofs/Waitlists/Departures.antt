@@ -11,11 +11,11 @@ use Rattle.seat_rules.specs.Bookings.{same_place, is_waiting, is_for}
 use Rattle.seat_rules.specs.Sequential.{reduced}
 use Rattle.seat_bookings.specs.Demands.{is_at, is_demand_of, is_booking_of, is_apart, least_with, smallest_of, seats_for, demand_smallest, demand_seats, settled, has_spare, IsIndexed}
 use Rattle.seat_rules.proofs.Step.Limits.{both}
-use Rattle.seat_rules.proofs.History.Faults.{place_same}
+use Rattle.seat_rules.proofs.History.Faults.{nat_same, place_same}
 use Rattle.seat_rules.proofs.Step.Reduced.{reduced_less}
 use Rattle.seat_bookings.specs.Queues.{without}
 use Rattle.seat_bookings.proofs.Waitlists.Queue.{without_found}
-use Rattle.seat_bookings.proofs.Waitlists.Index.{nat_same, at_itself, at_turned, at_same, at_other, least_lower, least_twice, smallest_set, seats_set, smallest_get, seats_get, seats_few, all_remove, all_set, all_get, none_left, neither, no_seats, no_smallest, apart_rest, gone_at}
+use Rattle.seat_bookings.proofs.Waitlists.Index.{at_itself, at_turned, at_same, at_other, least_lower, least_twice, smallest_set, seats_set, smallest_get, seats_get, seats_few, all_remove, all_set, all_get, none_left, neither, no_seats, no_smallest, apart_rest, gone_at}
 
 -- ---- a booking has fewer seats, or is gone
 settled_smallest : (place : Place) (class : ℕ) (o : Option ℕ) (n : ℕ) (q : Place) (c : ℕ) (ps : List Demand) → is_at place class q c ≡ false

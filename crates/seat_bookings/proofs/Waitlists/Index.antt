@@ -9,16 +9,10 @@ use Rattle.seat_bookings.specs.declared.demands.Demand.{Demand}
 use Rattle.seat_rules.specs.Bookings.{same_place, is_waiting}
 use Rattle.seat_bookings.specs.Demands.{is_at, is_demand_of, is_booking_of, is_apart, least_with, smallest_of, seats_for, demand_smallest, demand_seats, joined, IsIndexed}
 use Rattle.seat_rules.proofs.Step.Limits.{both}
-use Rattle.seat_rules.proofs.History.Faults.{place_same}
+use Rattle.seat_rules.proofs.History.Faults.{nat_same, place_same, same_nat}
 use Rattle.seat_rules.proofs.Passes.Quiet.{all_push}
 
 -- ---- places and classes
-pub same_nat : (n : ℕ) → (n == n) ≡ true
-same_nat n = grind (arith, nat_tests)
-
-pub nat_same : (m n : ℕ) → (m == n) ≡ true → m ≡ n
-nat_same m n e = grind (arith, nat_tests)
-
 pub turned : (m n : ℕ) → (m == n) ≡ (n == m)
 turned m n = grind (arith, nat_tests)
 

@@ -13,6 +13,7 @@ use Rattle.seat_rules.specs.Bookings.{is_for, same_place, is_held, is_waiting, s
 use Rattle.seat_rules.specs.Sequential.{pass, reduced, confirmed, may_confirm, advice_of}
 use Rattle.seat_rules.specs.Tables.{with_advice, advices_by}
 use Rattle.seat_rules.specs.Laws.{PassIsByTable}
+use Rattle.seat_rules.proofs.Step.Limits.{both}
 use Rattle.seat_rules.proofs.Passes.Weights.{sum_in, reduced_weighs}
 
 pub waiting_light : (f l k : ℕ) (b : Booking) (s : Status) → b.status ≡ s → is_waiting s ≡ true → seats_on f l k b ≡ 0
@@ -34,11 +35,6 @@ cancels f l k n test xs b found le =
     (λ x le'. part_if (is_held x.status) (covers f l x.place && (x.class == k)) x.seats n le')
     (λ x same. let P : ℕ → Type 0 = λ m. (if is_held x.status then seats_at x.place x.class m f l k else 0) ≡ seats_on f l k x in subst P (sym same) refl)
     xs b found le
-
-both : (t u : Bool) → (t && u) ≡ true → (t ≡ true) × (u ≡ true)
-both true true e = (refl, refl)
-both true false e = absurd cc
-both false u e = absurd cc
 
 -- a booking that is for a command has its place and class
 pub is_for_facts : (locator : List ℕ) (p : Place) (class : ℕ) (b : Booking) → is_for locator p class b ≡ true → (b.place ≡ p) × (b.class ≡ class)
