@@ -20,6 +20,7 @@ use Rattle.seat_host.proofs.Agreeing.{lists_count}
 use Rattle.seat_rules.proofs.Own.{calls_own, own_append}
 use Rattle.seat_rules.specs.Journal.{IsLegal, calls_of}
 use Rattle.seat_host.specs.Sessions.{Seat, seated, seated_sessions}
+use Rattle.logbook.specs.Pages.{Book}
 use Rattle.seat_host.specs.Settling.{IsConfirmed}
 use Rattle.seat_rules.specs.Headline.{Headline}
 use Rattle.seat_desk.specs.AuditDesk.{most_lines}
@@ -28,11 +29,10 @@ use Rattle.seat_workers.specs.Working.{AllHaveBegun, AllHaveRun, HasRun, IsRefus
 use Rattle.seat_host.specs.declared.under_lock.BookFault.{BookFault}
 use Rattle.seat_host.specs.declared.under_lock.BookFault.TheVariants.{JournalFull as Full, Memory as NoRoom}
 use Rattle.seat_workers.specs.declared.workers.RunFault.{RunFault}
-use Rattle.seat_workers.specs.declared.workers.RunFault.TheVariants as run_faults
 use Rattle.seat_desk.specs.declared.fault.DeskFault.{DeskFault}
 use Rattle.seat_desk.specs.declared.fault.DeskFault.TheVariants.{Memory}
 use Rattle.seat_scripts.specs.RunDesk.{asked_in, IsBookedTo, IsFull, IsHistoryOf, IsUnbooked, works_in}
-use Rattle.seat_run.specs.Refusing.{run_refusal}
+use Rattle.seat_run.specs.Refusing.{call_refusal, run_refusal}
 use Rattle.seat_scripts.proofs.Rows.{all_of, row_at, row_count}
 
 -- the manager and n sessions that go on from the past
@@ -171,7 +171,7 @@ all_taken (list ∷ lists) (s ∷ olds) (t ∷ news) same h =
     }
 
 -- the same, where a call of the session at some place was refused: the lists before its own were booked whole
-record IsStopped (cap : ℕ) (fault : RunFault) (lists : List (List Work)) (olds news : List Seat) : Type 0 where
+record IsStopped (grid : Legs) (book : Book) (cap : ℕ) (fault : RunFault) (lists : List (List Work)) (olds news : List Seat) : Type 0 where
   taken : List (List Work)
   run : AllHaveRun taken olds news
   count : length taken ≡ length lists
@@ -184,20 +184,20 @@ record IsStopped (cap : ℕ) (fault : RunFault) (lists : List (List Work)) (olds
   new : Seat
   of_lists : slice_get lists place ≡ Some list
   of_olds : slice_get olds place ≡ Some old
-  refused : IsRefused cap fault list old new
+  refused : IsRefused grid book cap fault list old new
   of_taken : slice_get taken place ≡ Some refused.booked
 
 whole : (list : List Work) → Begins list list
 whole list = record { rest = []; is = sym (append-nil list) }
 
-stopped : (cap : ℕ) (fault : RunFault) (lists : List (List Work)) (olds news : List Seat) → length lists ≡ length olds → AllHaveBegun lists olds news
-    → NamesFirst cap fault lists olds news → IsStopped cap fault lists olds news
-stopped cap fault [] olds news same h named = absurd named
-stopped cap fault (list ∷ lists) [] news same h named = absurd named
-stopped cap fault (list ∷ lists) (s ∷ olds) [] same h named = absurd named
-stopped cap fault (list ∷ lists) (s ∷ olds) (t ∷ news) same h named =
-    ⊎_elim here (λ (later : HasRun list s t × NamesFirst cap fault lists olds news). there later.0 (stopped cap fault lists olds news (omega (arith, same)) h.1 later.1)) named where
-      here : IsRefused cap fault list s t → IsStopped cap fault (list ∷ lists) (s ∷ olds) (t ∷ news)
+stopped : (grid : Legs) (book : Book) (cap : ℕ) (fault : RunFault) (lists : List (List Work)) (olds news : List Seat) → length lists ≡ length olds → AllHaveBegun lists olds news
+    → NamesFirst grid book cap fault lists olds news → IsStopped grid book cap fault lists olds news
+stopped grid book cap fault [] olds news same h named = absurd named
+stopped grid book cap fault (list ∷ lists) [] news same h named = absurd named
+stopped grid book cap fault (list ∷ lists) (s ∷ olds) [] same h named = absurd named
+stopped grid book cap fault (list ∷ lists) (s ∷ olds) (t ∷ news) same h named =
+    ⊎_elim here (λ (later : HasRun list s t × NamesFirst grid book cap fault lists olds news). there later.0 (stopped grid book cap fault lists olds news (omega (arith, same)) h.1 later.1)) named where
+      here : IsRefused grid book cap fault list s t → IsStopped grid book cap fault (list ∷ lists) (s ∷ olds) (t ∷ news)
       here r =
           let rest = all_taken lists olds news (omega (arith, same)) h.1 in
           let long : length list ≡ length r.booked + suc (length r.left) = ap length r.parts ∙ length-append r.booked (r.refused ∷ r.left) in
@@ -218,7 +218,7 @@ stopped cap fault (list ∷ lists) (s ∷ olds) (t ∷ news) same h named =
             of_taken = refl;
           }
 
-      there : HasRun list s t → IsStopped cap fault lists olds news → IsStopped cap fault (list ∷ lists) (s ∷ olds) (t ∷ news)
+      there : HasRun list s t → IsStopped grid book cap fault lists olds news → IsStopped grid book cap fault (list ∷ lists) (s ∷ olds) (t ∷ news)
       there ran rest = record {
         taken = list ∷ rest.taken;
         run = (ran, rest.run);
@@ -236,21 +236,21 @@ stopped cap fault (list ∷ lists) (s ∷ olds) (t ∷ news) same h named =
         of_taken = rest.of_taken;
       }
 
-full_of : (session call : ℕ) (why : BookFault) → run_refusal (run_faults.Book session call why) ≢ Memory → why ≡ Full
+full_of : (session call : ℕ) (why : BookFault) → call_refusal session call why ≢ Memory → why ≡ Full
 full_of session call Full not = refl
 full_of session call NoRoom not = absurd (not refl)
 
 -- the journal in which a call was refused is full
-is_full : (cap n : ℕ) (fault : RunFault) (journal : List Entry) (lists : List (List Work)) (olds news : List Seat) → run_refusal fault ≢ Memory → NamesFirst cap fault lists olds news
+is_full : (grid : Legs) (book : Book) (cap n : ℕ) (fault : RunFault) (journal : List Entry) (lists : List (List Work)) (olds news : List Seat) → run_refusal fault ≢ Memory → NamesFirst grid book cap fault lists olds news
     → AllByRecursion (IsConfirmed n journal) news → cap ≤ length journal
-is_full cap n fault journal [] olds news not named confirmed = absurd named
-is_full cap n fault journal (list ∷ lists) [] news not named confirmed = absurd named
-is_full cap n fault journal (list ∷ lists) (s ∷ olds) [] not named confirmed = absurd named
-is_full cap n fault journal (list ∷ lists) (s ∷ olds) (t ∷ news) not named confirmed =
-    ⊎_elim here (λ (later : HasRun list s t × NamesFirst cap fault lists olds news). is_full cap n fault journal lists olds news not later.1 confirmed.1) named where
-      here : IsRefused cap fault list s t → cap ≤ length journal
+is_full grid book cap n fault journal [] olds news not named confirmed = absurd named
+is_full grid book cap n fault journal (list ∷ lists) [] news not named confirmed = absurd named
+is_full grid book cap n fault journal (list ∷ lists) (s ∷ olds) [] not named confirmed = absurd named
+is_full grid book cap n fault journal (list ∷ lists) (s ∷ olds) (t ∷ news) not named confirmed =
+    ⊎_elim here (λ (later : HasRun list s t × NamesFirst grid book cap fault lists olds news). is_full grid book cap n fault journal lists olds news not later.1 confirmed.1) named where
+      here : IsRefused grid book cap fault list s t → cap ≤ length journal
       here r =
-          let why : r.why ≡ Full = full_of t.id (length t.receipts + 1) r.why (subst (λ (f : RunFault). run_refusal f ≢ Memory) r.named not) in
+          let why : fault.refusal.fault ≡ Full = full_of fault.session fault.call fault.refusal.fault not in
           let seen = confirmed.0.front in
           omega (arith, r.full why, ap length seen.is, length-append t.front seen.rest)
 
@@ -263,7 +263,7 @@ receipts_are_asked [] = refl
 receipts_are_asked (list ∷ lists) = omega (arith, sum_by-cons (λ (receipts : List Entry). length receipts) list lists, receipts_are_asked lists)
 
 refusal_of : (grid : Legs) (past : List Entry) (changes : List Change) (lists : List (List Command)) (session call : ℕ) (why : BookFault) → IsFull grid past changes lists session call
-    → run_refusal (run_faults.Book session call why) ≢ Memory → IsUnbooked grid past changes lists (run_refusal (run_faults.Book session call why))
+    → call_refusal session call why ≢ Memory → IsUnbooked grid past changes lists (call_refusal session call why)
 refusal_of grid past changes lists session call Full is not = is
 refusal_of grid past changes lists session call NoRoom is not = absurd (not refl)
 
@@ -299,9 +299,9 @@ both_asked (suc n) past added =
       asked_push [] x = omega arith
       asked_push (y ∷ xs) x = omega (arith, asked_push xs x)
 
-module _ (grid : Legs) (cap n : ℕ) (fault : RunFault) (past added : List Entry) (changes : List Change) (lists : List (List Command)) (olds news : List Seat) (receipts : List (List Entry)) (totals : Totals)
+module _ (grid : Legs) (book : Book) (cap n : ℕ) (fault : RunFault) (past added : List Entry) (changes : List Change) (lists : List (List Command)) (olds news : List Seat) (receipts : List (List Entry)) (totals : Totals)
     (opened : olds ≡ all_seated past n) (count : length lists ≡ n) (confirmed : AllByRecursion (IsConfirmed n (past ++ added)) news) (most : cap ≡ most_lines)
-    (h : Headline grid cap n (past ++ added) receipts totals) (t : IsStopped cap fault (works_of changes lists) olds news) (full : cap ≤ length (past ++ added)) where
+    (h : Headline grid cap n (past ++ added) receipts totals) (t : IsStopped grid book cap fault (works_of changes lists) olds news) (full : cap ≤ length (past ++ added)) where
   own_lists : map works_in (by_session n added) ≡ t.taken
   own_lists =
       let as_all : length t.taken ≡ suc n = t.count ∙ (works_count changes lists ∙ ap suc count) in
@@ -371,11 +371,11 @@ first_begun past journal n list lists sessions [] begun confirmed = absurd begun
 first_begun past journal n list lists sessions (t ∷ news) begun confirmed = goes_on past journal n begun.0.booked t begun.0.run confirmed.0
 
 -- the fault of such a run
-pub refused_run : (grid : Legs) (cap n : ℕ) (fault : RunFault) (past : List Entry) (changes : List Change) (lists : List (List Command)) (manager : Seat) (sessions news : List Seat) (journal : List Entry) (receipts : List (List Entry)) (totals : Totals) (f : DeskFault)
+pub refused_run : (grid : Legs) (book : Book) (cap n : ℕ) (fault : RunFault) (past : List Entry) (changes : List Change) (lists : List (List Command)) (manager : Seat) (sessions news : List Seat) (journal : List Entry) (receipts : List (List Entry)) (totals : Totals) (f : DeskFault)
     → f ≡ run_refusal fault → manager ≡ seated 0 past → sessions ≡ seated_sessions n past → length lists ≡ n
-    → AllHaveBegun (works_of changes lists) (manager ∷ sessions) news → NamesFirst cap fault (works_of changes lists) (manager ∷ sessions) news
+    → AllHaveBegun (works_of changes lists) (manager ∷ sessions) news → NamesFirst grid book cap fault (works_of changes lists) (manager ∷ sessions) news
     → AllByRecursion (IsConfirmed n journal) news → cap ≡ most_lines → Headline grid cap n journal receipts totals → f ≢ Memory → IsUnbooked grid past changes lists f
-refused_run grid cap n fault past changes lists manager sessions news journal receipts totals f is one others count begun named confirmed most h =
+refused_run grid book cap n fault past changes lists manager sessions news journal receipts totals f is one others count begun named confirmed most h =
     subst (λ (x : DeskFault). x ≢ Memory → IsUnbooked grid past changes lists x) (sym is) refused where
       opened : manager ∷ sessions ≡ all_seated past n
       opened = both_seated past n manager sessions one others
@@ -387,13 +387,14 @@ refused_run grid cap n fault past changes lists manager sessions news journal re
       refused not =
           let works = works_of changes lists in
           let same : length works ≡ length (manager ∷ sessions) = works_count changes lists ∙ (ap suc count ∙ (sym (seat_count past n) ∙ ap length (sym opened))) in
-          let t = stopped cap fault works (manager ∷ sessions) news same begun named in
-          let full = is_full cap n fault journal works (manager ∷ sessions) news not named confirmed in
-          let all = is_full_journal grid cap n fault past on.added changes lists (manager ∷ sessions) news receipts totals opened count
+          let t = stopped grid book cap fault works (manager ∷ sessions) news same begun named in
+          let full = is_full grid book cap n fault journal works (manager ∷ sessions) news not named confirmed in
+          let all = is_full_journal grid book cap n fault past on.added changes lists (manager ∷ sessions) news receipts totals opened count
           (subst (λ (j : List Entry). AllByRecursion (IsConfirmed n j) news) on.is confirmed) most
           (subst (λ (j : List Entry). Headline grid cap n j receipts totals) on.is h) t (subst (λ (j : List Entry). cap ≤ length j) on.is full) in
-          subst (λ (x : RunFault). run_refusal x ≢ Memory → IsUnbooked grid past changes lists (run_refusal x)) (sym t.refused.named)
-          (refusal_of grid past changes lists t.new.id (length t.new.receipts + 1) t.refused.why all) not
+          let named_call : IsFull grid past changes lists fault.session fault.call =
+          subst (λ (k : ℕ). IsFull grid past changes lists k fault.call) (sym t.refused.session) (subst (IsFull grid past changes lists t.new.id) (sym t.refused.call) all) in
+          refusal_of grid past changes lists fault.session fault.call fault.refusal.fault named_call not
 
 -- the same of the commands that scripts ask
 pub unbooked : (grid : Legs) (past : List Entry) (changes : List Change) (asked lists : List (List Command)) (fault : DeskFault) → lists ≡ asked
