@@ -3,10 +3,10 @@ ghost use Rattle.std.specs.Prelude.{◌≡◌, ◌<◌, ◌+◌, ◌++◌, ◌�
 ghost use Rattle.seat_rules.specs.Journal.{IsLegal};
 ghost use Rattle.seat_display.specs.Faces.{opened};
 
-use seat_core::Core;
-use seat_journal::Entry;
-use seat_display::{Publisher, Told, Viewer, open};
 use airline_base::Memory;
+use seat_core::Core;
+use seat_display::{Publisher, Told, Viewer, open};
+use seat_journal::Entry;
 use std::alloc::Global;
 use std::marker::Model;
 use std::process::Abort;

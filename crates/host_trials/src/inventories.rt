@@ -1,10 +1,10 @@
 //! Inventories of one leg, whose lines a display shows.
 use crate::steps::lines_of;
+use airline_base::{Class, Code, Locator, Place};
 use seat_core::{Core, replay};
 use seat_journal::{Advices, Change, Command, Entry, Work};
 use seat_limits::read_ladder;
 use seat_nesting::Grid;
-use airline_base::{Class, Code, Locator, Place};
 use std::alloc::Global;
 
 pub const LEG: Place = Place {

@@ -5,9 +5,9 @@ ghost use Rattle.seat_display.specs.Faces.{opened};
 use crate::feed::Feed;
 use crate::inventories::LEG;
 use crate::steps::{Step, same};
+use airline_base::Class;
 use seat_core::Core;
 use seat_display::Viewer;
-use airline_base::Class;
 use std::alloc::Global;
 use std::process::Abort;
 use std::sync::Wait;
@@ -56,9 +56,15 @@ impl Scene {
     /// What a viewer finds, and how many lines it has then seen.
     pub fn look(&mut self, who: u8, class: Class) -> (Option<u16>, u32) {
         if who == 1 {
-            (self.one.look(LEG, class), self.one.seen())
+            (
+                self.one.look(|sight| sight.room(LEG, class)),
+                self.one.seen(),
+            )
         } else {
-            (self.two.look(LEG, class), self.two.seen())
+            (
+                self.two.look(|sight| sight.room(LEG, class)),
+                self.two.seen(),
+            )
         }
     }
 

@@ -1,6 +1,6 @@
 //! The rows of the tables: the lines of a journal, and steps of eight letters each.
-use seat_journal::{Entries, Entry, read_journal};
 use airline_base::Class;
+use seat_journal::{Entries, Entry, read_journal};
 use std::alloc::Global;
 use std::process::Abort;
 
