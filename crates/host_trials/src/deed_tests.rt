@@ -6,8 +6,8 @@ use crate::inventories::{LEG, grid_of};
 use crate::steps::{Row, STEP, Step, lines_of, same, same_line, step_of};
 use airline_base::Class;
 use seat_host::{
-    BookFault, GatherFault, Host, HostFault, Hosting, Manager, Parts, Receipt, Session, Settled,
-    gather,
+    BookFault, GatherFault, Host, HostFault, Hosting, Manager, Parts, Receipt, Refusal, Session,
+    Settled, gather,
 };
 use seat_journal::{Change, Command, Entry, Work};
 use std::alloc::Global;
@@ -190,12 +190,12 @@ fn book_once<K: Hosting, R: Wait + Abort>(
     host: &Host<K>,
     session: &mut Session<K>,
     command: &Command,
-) -> Result<(), BookFault> {
+) -> Result<(), Refusal> {
     assert!(rt; fits(host, command), "the command fits");
     host.book(rt, alloc, session, *command)
 }
 
-/// Has the session answer it, which shows the receipt. Whether that is the line.
+/// Has the session answer it, and looks at its receipt. Whether that is the line.
 fn book_again<K: Hosting, R: Wait + Abort>(
     rt: &R,
     alloc: Global,
@@ -206,14 +206,14 @@ fn book_again<K: Hosting, R: Wait + Abort>(
 ) -> bool {
     assert!(rt; fits(host, command), "the command fits");
     match session.book(host, rt, alloc, *command) {
-        Ok(receipt) => same_line(receipt.entry(), line),
+        Ok(()) => same_line(session.last().entry(), line),
         Err(_) => false,
     }
 }
 
 /// What a session finds in a class, its receipts and the lines that it has seen.
 fn stand<K: Hosting>(session: &mut Session<K>, class: Class) -> (Option<u16>, usize, u32) {
-    let room = session.look(LEG, class);
+    let room = session.look(|sight| sight.room(LEG, class));
     (room, session.receipts().len(), session.front_len())
 }
 
@@ -227,9 +227,15 @@ fn book<K: Hosting, R: Wait + Abort>(
     line: &Entry,
 ) -> Result<(), BookFault> {
     let before = stand(session, command.class);
-    match book_once(rt, alloc, host, session, command) {
-        Err(BookFault::Memory) => {}
-        answer => return answer,
+    let Err(refusal) = book_once(rt, alloc, host, session, command) else {
+        return Ok(());
+    };
+    assert!(rt;
+        refusal.held.len() == session.front_len(),
+        "the lock held what is seen"
+    );
+    if refusal.fault == BookFault::JournalFull {
+        return Err(refusal.fault);
     }
     let after = stand(session, command.class);
     assert!(rt; before == after, "a refusal changes nothing");
@@ -247,12 +253,12 @@ fn set_once<K: Hosting, R: Wait + Abort>(
     host: &Host<K>,
     manager: &mut Manager<K>,
     change: &Change,
-) -> Result<(), BookFault> {
+) -> Result<(), Refusal> {
     assert!(rt; host.fits_change(change), "the change fits");
     host.set_limit(rt, alloc, manager, *change)
 }
 
-/// Has the manager make it, which shows the receipt. Whether that is the line.
+/// Has the manager make it, and looks at its receipt. Whether that is the line.
 fn set_again<K: Hosting, R: Wait + Abort>(
     rt: &R,
     alloc: Global,
@@ -263,7 +269,7 @@ fn set_again<K: Hosting, R: Wait + Abort>(
 ) -> bool {
     assert!(rt; host.fits_change(change), "the change fits");
     match manager.set_limit(host, rt, alloc, *change) {
-        Ok(receipt) => same_line(receipt.entry(), line),
+        Ok(()) => same_line(manager.last().entry(), line),
         Err(_) => false,
     }
 }
@@ -273,7 +279,7 @@ fn stand_of_manager<K: Hosting>(
     manager: &mut Manager<K>,
     class: Class,
 ) -> (Option<u16>, usize, u32) {
-    let room = manager.look(LEG, class);
+    let room = manager.look(|sight| sight.room(LEG, class));
     (room, manager.receipts().len(), manager.front_len())
 }
 
@@ -287,9 +293,15 @@ fn set<K: Hosting, R: Wait + Abort>(
     line: &Entry,
 ) -> Result<(), BookFault> {
     let before = stand_of_manager(manager, change.class);
-    match set_once(rt, alloc, host, manager, change) {
-        Err(BookFault::Memory) => {}
-        answer => return answer,
+    let Err(refusal) = set_once(rt, alloc, host, manager, change) else {
+        return Ok(());
+    };
+    assert!(rt;
+        refusal.held.len() == manager.front_len(),
+        "the lock held what is seen"
+    );
+    if refusal.fault == BookFault::JournalFull {
+        return Err(refusal.fault);
     }
     let after = stand_of_manager(manager, change.class);
     assert!(rt; before == after, "a refusal changes nothing");
@@ -358,9 +370,9 @@ fn look_by<K: Hosting>(
     class: Class,
 ) -> Option<u16> {
     if who == 0 {
-        manager.look(LEG, class)
+        manager.look(|sight| sight.room(LEG, class))
     } else {
-        session_of(sessions, who)?.look(LEG, class)
+        session_of(sessions, who)?.look(|sight| sight.room(LEG, class))
     }
 }
 

@@ -132,7 +132,7 @@ fn shows_what_was_published(rt: HostRuntime) -> Result<(), Fail> {
 fn finders(viewers: &mut Vec<Viewer>, class: Class, room: u16, seen: u32) -> u64 {
     let mut found = 0u64;
     for viewer in viewers.as_mut_slice() {
-        if viewer.look(LEG, class) == Some(room) && viewer.seen() == seen {
+        if viewer.look(|sight| sight.room(LEG, class)) == Some(room) && viewer.seen() == seen {
             found = found.saturating_add(1);
         }
     }

@@ -13,6 +13,8 @@ mod going_on_tests;
 #[cfg(test)]
 mod inventories;
 #[cfg(test)]
+mod leg_tests;
+#[cfg(test)]
 mod meeting;
 #[cfg(test)]
 mod race_tests;
@@ -20,5 +22,7 @@ mod race_tests;
 mod scene;
 #[cfg(test)]
 mod steps;
+#[cfg(test)]
+mod turn_tests;
 #[cfg(test)]
 mod working_tests;

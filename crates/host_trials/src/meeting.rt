@@ -1,7 +1,8 @@
-//! A gate that holds up sessions 1 and 2 before their calls.
+//! A gate that holds up sessions 1 and 2 before their calls, and counts who passes it.
+use seat_host::{Hosting, Party};
 use seat_workers::Gate;
 use std::sync::Wait;
-use std::sync::atomic::{AtomicBool, Ordering};
+use std::sync::atomic::{AtomicBool, AtomicU32, Ordering};
 use std::thread;
 use std::time::{Clock, Duration};
 
@@ -26,6 +27,9 @@ pub struct Meeting<'a, C> {
     two_came: AtomicBool,
     two_answered: AtomicBool,
     held_too_long: AtomicBool,
+    // By number, how often a worker passed before a call and after one.
+    passed: [AtomicU32; 9],
+    told_wrong: AtomicBool,
 }
 
 impl<'a, C: Clock> Meeting<'a, C> {
@@ -37,6 +41,45 @@ impl<'a, C: Clock> Meeting<'a, C> {
             two_came: AtomicBool::new(false),
             two_answered: AtomicBool::new(false),
             held_too_long: AtomicBool::new(false),
+            passed: [
+                AtomicU32::new(0),
+                AtomicU32::new(0),
+                AtomicU32::new(0),
+                AtomicU32::new(0),
+                AtomicU32::new(0),
+                AtomicU32::new(0),
+                AtomicU32::new(0),
+                AtomicU32::new(0),
+                AtomicU32::new(0),
+            ],
+            told_wrong: AtomicBool::new(false),
+        }
+    }
+
+    /// How many calls a worker has passed with.
+    pub fn passes(&self, number: usize) -> u32 {
+        match self.passed.get(number) {
+            Some(passed) => passed.load(Ordering::SeqCst) / 2,
+            None => 0,
+        }
+    }
+
+    /// Whether one passed out of turn, or with other receipts than its calls have left.
+    pub fn told_wrong(&self) -> bool {
+        self.told_wrong.load(Ordering::SeqCst)
+    }
+
+    // A worker passes, for the first time, the second, and so on.
+    fn pass(&self, number: u8) -> u32 {
+        match self.passed.get(usize::from(number)) {
+            Some(passed) => passed.fetch_add(1, Ordering::SeqCst),
+            None => u32::MAX,
+        }
+    }
+
+    fn check(&self, is_right: bool) {
+        if !is_right {
+            self.told_wrong.store(true, Ordering::SeqCst);
         }
     }
 
@@ -76,16 +119,23 @@ impl<C: Clock + Sync> Gate for Meeting<'_, C> {
         self.holds == Holds::Nobody
     }
 
-    fn before<R: Wait>(&self, _rt: &R, session: u8, _call: u32) {
-        match session {
+    fn before<K: Hosting, R: Wait>(&self, _rt: &R, party: &Party<K>) {
+        let passed = self.pass(party.id());
+        self.check(passed % 2 == 0 && party.next_call() == passed / 2 + 1);
+        match party.id() {
             1 => self.one_comes(),
             2 => self.two_comes(),
             _ => {}
         }
     }
 
-    fn after<R: Wait>(&self, _rt: &R, session: u8, _call: u32) {
-        if session == 2 {
+    fn after<K: Hosting, R: Wait>(&self, _rt: &R, party: &Party<K>) {
+        let passed = self.pass(party.id());
+        let receipts = party.next_call() - 1;
+        let calls = passed / 2 + 1;
+        // (a call that was refused leaves no receipt)
+        self.check(passed % 2 == 1 && (receipts == calls || receipts + 1 == calls));
+        if party.id() == 2 {
             self.two_answered.store(true, Ordering::SeqCst);
         }
     }

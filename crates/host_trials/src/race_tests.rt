@@ -35,7 +35,7 @@ fn look_all_along<R: Wait>(rt: &R, viewer: &mut Viewer, class: Class) -> u32 {
         if before >= LINES {
             break;
         }
-        let found = viewer.look(LEG, class);
+        let found = viewer.look(|sight| sight.room(LEG, class));
         let seen = viewer.seen();
         if seen < before || found != Some(if seen % 2 == 0 { 999 } else { 998 }) {
             wrong = wrong.saturating_add(1);
@@ -131,7 +131,7 @@ fn look_beside_changes<K: Hosting, R: Wait>(rt: &R, session: &mut Session<K>, cl
         if before >= CHANGES {
             break;
         }
-        let found = session.look(LEG, class);
+        let found = session.look(|sight| sight.room(LEG, class));
         let seen = session.front_len();
         if seen < before || found != Some(if seen % 2 == 0 { 10 } else { 6 }) {
             wrong = wrong.saturating_add(1);

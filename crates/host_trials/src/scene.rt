@@ -56,9 +56,15 @@ impl Scene {
     /// What a viewer finds, and how many lines it has then seen.
     pub fn look(&mut self, who: u8, class: Class) -> (Option<u16>, u32) {
         if who == 1 {
-            (self.one.look(LEG, class), self.one.seen())
+            (
+                self.one.look(|sight| sight.room(LEG, class)),
+                self.one.seen(),
+            )
         } else {
-            (self.two.look(LEG, class), self.two.seen())
+            (
+                self.two.look(|sight| sight.room(LEG, class)),
+                self.two.seen(),
+            )
         }
     }
 

@@ -319,6 +319,7 @@ fn follow<R: Threads + Wait + Clock + Abort + Sync>(
         row.shows
     );
     compare_named(rt, answer, row);
+    compare_passes(rt, &meeting, row);
     compare(rt, &lists, &settled, row)
 }
 
@@ -326,18 +327,47 @@ fn follow<R: Threads + Wait + Clock + Abort + Sync>(
 fn compare_named(rt: &impl Abort, answer: Result<(), RunFault>, row: &Row) {
     let named = match answer {
         Ok(()) => (0, 0),
-        Err(
-            RunFault::Book {
-                session,
-                call,
-                fault,
-            },
-        ) => {
-            assert!(rt; fault == BookFault::JournalFull, "{}: the fault", row.shows);
-            (session, call)
+        Err(fault) => {
+            let refusal = &fault.refusal;
+            assert!(rt;
+                refusal.fault == BookFault::JournalFull,
+                "{}: the fault",
+                row.shows
+            );
+            assert!(rt;
+                refusal.held.len() == row.cap,
+                "{}: what the lock held",
+                row.shows
+            );
+            (fault.session, fault.call)
         }
     };
     assert!(rt; named == row.named, "{}: the call that is named", row.shows);
+}
+
+/// The gate was passed before and after each call: as often as there are receipts, and once more by a worker that was
+/// refused.
+fn compare_passes<C: Clock>(rt: &impl Abort, meeting: &Meeting<'_, C>, row: &Row) {
+    assert!(rt;
+        !meeting.told_wrong(),
+        "{}: what the gate was shown",
+        row.shows
+    );
+    let managed = (row.managed + 1).min(row.changes);
+    assert!(rt;
+        meeting.passes(0) == managed as u32,
+        "{}: the manager's calls",
+        row.shows
+    );
+    for (nth, (receipts, list)) in row.receipts.iter().zip(row.lists.iter()).enumerate() {
+        let calls = (*receipts + 1).min(*list);
+        assert!(rt;
+            meeting.passes(nth + 1) == calls as u32,
+            "{}: the calls of {}",
+            row.shows,
+            nth + 1
+        );
+    }
 }
 
 /// Each session has a receipt for each command of its list, in order, as far as the row says.
