@@ -112,7 +112,9 @@ new line
 #[tactic(auto, using(seat_host::proofs::Opening::only_eight))]
 fn parts_after<R: Wait>(rt: &R, alloc: Global, lines: &[Entry], cap: u32) -> Option<Parts> {
     let grid = grid_of(alloc, b"F010/000 Y008/000 M005/004")?;
-    let opened = Core::new(alloc, grid, cap.clamp(1, 999_999)).ok()?;
+    let Ok(opened) = Core::new(alloc, grid, cap.clamp(1, 999_999)) else {
+        return None;
+    };
     let core = replay(alloc, opened, lines).ok()?;
     let _ = core.journal();
     Parts::over(rt, alloc, core, SESSIONS).ok()

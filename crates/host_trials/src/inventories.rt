@@ -21,7 +21,9 @@ pub fn grid_of(alloc: Global, ladder: &[u8]) -> Option<Grid> {
 /// The inventory whose journal has this text.
 pub fn core_of(alloc: Global, ladder: &[u8], text: &[u8]) -> Option<Core> {
     let lines = lines_of(alloc, text)?;
-    let opened = Core::new(alloc, grid_of(alloc, ladder)?, 999).ok()?;
+    let Ok(opened) = Core::new(alloc, grid_of(alloc, ladder)?, 999) else {
+        return None;
+    };
     replay(alloc, opened, lines.as_slice()).ok()
 }
 
@@ -31,7 +33,9 @@ pub fn sold_and_cancelled(alloc: Global, ladder: &[u8], lines: u32) -> Option<Co
     for line in 0..lines {
         entries.push(sold_or_cancelled(alloc, line + 1)?).ok()?;
     }
-    let opened = Core::new(alloc, grid_of(alloc, ladder)?, 999_999).ok()?;
+    let Ok(opened) = Core::new(alloc, grid_of(alloc, ladder)?, 999_999) else {
+        return None;
+    };
     replay(alloc, opened, entries.as_slice()).ok()
 }
 
