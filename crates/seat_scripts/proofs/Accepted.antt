@@ -20,7 +20,7 @@ use Rattle.seat_rules.specs.Journal.{IsLegal}
 use Rattle.seat_rules.specs.Totals.{totals_of}
 use Rattle.seat_desk.specs.AuditDesk.{IsAudited, IsRefusedOver, audit_line, most_journal_bytes, most_lines}
 use Rattle.seat_desk.specs.CheckDesk.{most_bytes}
-use Rattle.seat_desk.specs.Loading.{IsTooLargeLoad, most_limit_bytes}
+use Rattle.seat_desk.specs.Loading.{HasSchedule, IsBehind, IsFirstTooLargeLoad, most_limit_bytes}
 use Rattle.seat_desk.specs.declared.fault.DeskFault.{DeskFault}
 use Rattle.seat_desk.specs.declared.fault.DeskFault.TheVariants as faults
 use Rattle.seat_desk.proofs.Grounds.{loaded_replays_keep_limits}
@@ -165,9 +165,9 @@ module _ (set limits : List ℕ) (first days today : ℕ) (after : List ℕ) (te
   faultless (faults.Limit fault) refused = loads set limits first days run.flights run.grid (faults.Limit fault) run.is_asked.is_loaded.loaded refused
   faultless _ refused = refused.refusal
 
-  load_small : IsTooLargeLoad set limits → ⊥
+  load_small : IsFirstTooLargeLoad set limits first days → ⊥
   load_small over =
-      ⊎_elim (λ (h : most_bytes < length set). absurd (omega (arith, h, run.is_asked.is_loaded.set_within))) (λ (h : most_limit_bytes < length limits). absurd (omega (arith, h, run.is_asked.is_loaded.limits_within))) over
+      ⊎_elim (λ (h : most_bytes < length set). absurd (omega (arith, h, run.is_asked.is_loaded.set_within))) (λ (h : IsBehind (HasSchedule first days set) (most_limit_bytes < length limits)). absurd (omega (arith, h.here, run.is_asked.is_loaded.limits_within))) over
 
   abbrev Last : Type 0
   Last = (HasOlder set limits first days after × (most_journal_bytes < length journal)) ⊎ (HasBoth set limits first days after journal × IsTooLargeAmong today (map Some texts))

@@ -7,7 +7,7 @@ use Rattle.seat_rules.specs.Inventory.{Inventory}
 use Rattle.seat_rules.specs.Totals.{totals_of}
 use Rattle.seat_desk.specs.AuditDesk.{IsUnlawful, audit_line, most_journal_bytes}
 use Rattle.seat_desk.specs.Desk.{IsOfInput}
-use Rattle.seat_desk.specs.Loading.{IsLoaded, IsTooLargeLoad}
+use Rattle.seat_desk.specs.Loading.{IsFirstTooLargeLoad, IsLoaded}
 use Rattle.seat_desk.specs.declared.fault.DeskFault.{DeskFault}
 use Rattle.seat_desk.specs.declared.fault.DeskFault.TheVariants.{Journal, Memory, Replay, Script, Unasked}
 use Rattle.seat_scripts.specs.Against.{AreAskedBehind, HasBoth, HasOlder, IsAuditAgainst, IsRefusedAgainst, IsReplayWithin, IsTooLargeAgainst, IsUnasked, OfFour}
@@ -135,8 +135,8 @@ module _ (set limits after journal : Option (List ℕ)) (first days today : ℕ)
   abbrev IsLarge : Type 0
   IsLarge = OfFour set limits after journal (λ xs ys older zs. IsTooLargeAgainst xs ys first days older zs today texts)
 
-  pub too_large_load : IfSome set (λ xs. IfSome limits (λ ys. IsTooLargeLoad xs ys)) → IsLarge
-  too_large_load over = four_load (λ xs ys. IsTooLargeLoad xs ys) (λ xs ys older zs. IsTooLargeAgainst xs ys first days older zs today texts) set limits after journal (λ xs ys older zs is. inl is) over
+  pub too_large_load : IfSome set (λ xs. IfSome limits (λ ys. IsFirstTooLargeLoad xs ys first days)) → IsLarge
+  too_large_load over = four_load (λ xs ys. IsFirstTooLargeLoad xs ys first days) (λ xs ys older zs. IsTooLargeAgainst xs ys first days older zs today texts) set limits after journal (λ xs ys older zs is. inl is) over
 
   module _ (flights : List Flown) (grid : Legs) (loaded : IfSome set (λ xs. IfSome limits (λ ys. IsLoaded xs ys first days flights grid))) where
     load_known : IfSome set (λ xs. IfSome limits (λ ys. HasLoaded xs ys first days))
@@ -183,3 +183,20 @@ module _ (set limits after journal : Option (List ℕ)) (first days today : ℕ)
                   a_both loaded before replayed,
               failed,
             )))
+
+-- ---- refusals of the older journal
+
+of_older : (set limits : List ℕ) (first days : ℕ) (after journal : List ℕ) (today : ℕ) (texts : List (Option (List ℕ))) (flights : List Flown) (grid : Legs) (fault : DeskFault)
+    → IsLoaded set limits first days flights grid → IsUnlawful grid fault after → IsRefusedAgainst set limits first days after journal today texts fault
+of_older set limits first days after journal today texts flights grid (Journal fault) loaded unlawful =
+    record { refusal = inl (record { flights = flights; grid = grid; is_loaded = loaded; is_unlawful = unlawful }) }
+of_older set limits first days after journal today texts flights grid (Replay fault) loaded unlawful =
+    record { refusal = inl (record { flights = flights; grid = grid; is_loaded = loaded; is_unlawful = unlawful }) }
+of_older set limits first days after journal today texts flights grid _ loaded unlawful = absurd unlawful.refused
+
+pub refused_older : (set limits after journal : Option (List ℕ)) (first days today : ℕ) (texts : List (Option (List ℕ))) (flights : List Flown) (grid : Legs)
+    → IfSome set (λ xs. IfSome limits (λ ys. IsLoaded xs ys first days flights grid)) → (fault : DeskFault) → (IsOfInput fault → IfSome after (IsUnlawful grid fault)) → IsOfInput fault
+    → OfFour set limits after journal (λ xs ys older zs. IsRefusedAgainst xs ys first days older zs today texts fault)
+refused_older set limits after journal first days today texts flights grid loaded fault refused input =
+    four_older (λ xs ys. IsLoaded xs ys first days flights grid) (IsUnlawful grid fault) (λ xs ys older zs. IsRefusedAgainst xs ys first days older zs today texts fault) set limits after journal
+    (λ xs ys older zs is unlawful. of_older xs ys first days older zs today texts flights grid fault is unlawful) loaded (refused input)

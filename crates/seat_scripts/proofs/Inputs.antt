@@ -6,7 +6,7 @@ use Rattle.seat_journal.specs.declared.entry.Change.{Change}
 use Rattle.seat_journal.specs.declared.entry.Entry.{Entry}
 use Rattle.seat_nesting.specs.Nesting.{Legs}
 use Rattle.seat_desk.specs.AuditDesk.{most_journal_bytes}
-use Rattle.seat_desk.specs.Loading.{IsLoaded, IsTooLargeLoad}
+use Rattle.seat_desk.specs.Loading.{IsFirstTooLargeLoad, IsLoaded}
 use Rattle.seat_scripts.specs.Asked.{HasLoaded, HasPast, HasScripts, IsAsked, IsTooLargeRun, OfThree}
 use Rattle.seat_scripts.specs.Changes.{AreChanges, most_change_bytes}
 use Rattle.seat_scripts.specs.Going.{IsPast}
@@ -32,8 +32,8 @@ module _ (set limits after : Option (List ℕ)) (first days today : ℕ) (texts 
   abbrev IsLarge : Type 0
   IsLarge = OfThree set limits after (λ xs ys zs. IsTooLargeRun xs ys first days today zs texts changing)
 
-  pub large_load : IfSome set (λ xs. IfSome limits (λ ys. IsTooLargeLoad xs ys)) → IsLarge
-  large_load over = if_loaded (λ xs ys. IsTooLargeLoad xs ys) (λ xs ys zs. IsTooLargeRun xs ys first days today zs texts changing) set limits after (λ xs ys zs is. inl is) over
+  pub large_load : IfSome set (λ xs. IfSome limits (λ ys. IsFirstTooLargeLoad xs ys first days)) → IsLarge
+  large_load over = if_loaded (λ xs ys. IsFirstTooLargeLoad xs ys first days) (λ xs ys zs. IsTooLargeRun xs ys first days today zs texts changing) set limits after (λ xs ys zs is. inl is) over
 
   module _ (flights : List Flown) (grid : Legs) (loaded : IfSome set (λ xs. IfSome limits (λ ys. IsLoaded xs ys first days flights grid))) where
     has_loaded : IfSome set (λ xs. IfSome limits (λ ys. HasLoaded xs ys first days))

@@ -17,7 +17,7 @@ use Rattle.seat_rules.specs.Journal.{calls_of}
 use Rattle.seat_rules.specs.Prefixes.{Begins}
 use Rattle.seat_rules.specs.Histories.{of_session}
 use Rattle.seat_desk.specs.AuditDesk.{IsAudited, IsRefusedOver, IsReplayOf, IsUnlawful, most_journal_bytes}
-use Rattle.seat_desk.specs.Loading.{Bytes, IsLoaded, IsRefusedLoad, IsTooLargeLoad}
+use Rattle.seat_desk.specs.Loading.{Bytes, IsLoaded, IsFirstTooLargeLoad, IsRefusedLoad}
 use Rattle.seat_desk.specs.declared.inputs.Inputs.{Inputs}
 use Rattle.seat_desk.specs.declared.fault.DeskFault.{DeskFault}
 use Rattle.seat_desk.specs.declared.fault.DeskFault.TheVariants.{Journal, Replay, Script, Unasked}
@@ -200,15 +200,15 @@ pub record HasBoth (set limits : List ℕ) (first days : ℕ) (after journal : L
   pub core : Inventory
   pub is_replay : IsReplayWithin grid core journal
 
--- the set or the limits are too large, or the older journal behind a right set and limits, or the journal behind a right older one, or a script behind right journals and right scripts
+-- the set is too large, or the limits behind a right set, or the older journal behind a right set and limits, or the journal behind a right older one, or a script behind right journals and right scripts
 abbrev pub IsTooLargeAgainst : List ℕ → List ℕ → ℕ → ℕ → List ℕ → List ℕ → ℕ → List (Option (List ℕ)) → Type 0
 IsTooLargeAgainst set limits first days after journal today texts =
-    IsTooLargeLoad set limits
+    IsFirstTooLargeLoad set limits first days
     ⊎ ((HasLoaded set limits first days × (most_journal_bytes < length after))
     ⊎ ((HasOlder set limits first days after × (most_journal_bytes < length journal))
     ⊎ (HasBoth set limits first days after journal × IsTooLargeAmong today texts)))
 
--- the set or the limits failed, or the older journal behind a right set and limits, or the journal behind a right older one, or a script behind right journals and right scripts
+-- the set or the limits failed, as the first says, or the older journal behind a right set and limits, or the journal behind a right older one, or a script behind right journals and right scripts
 abbrev pub FailsAgainst : {S L : Type 0} → Bytes S → Bytes L → Inputs S L → Option (List ℕ) → Option (List ℕ) → Type 0 → Type 0 → Type 0 → Type 0 → Type 0
 FailsAgainst set limits inputs after journal load_failed older_failed journal_failed script_failed =
     load_failed

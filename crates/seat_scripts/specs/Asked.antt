@@ -6,7 +6,7 @@ use Rattle.seat_nesting.specs.Nesting.{Legs}
 use Rattle.seat_journal.specs.declared.entry.Change.{Change}
 use Rattle.seat_journal.specs.declared.entry.Entry.{Entry}
 use Rattle.seat_desk.specs.AuditDesk.{most_journal_bytes}
-use Rattle.seat_desk.specs.Loading.{Bytes, IsLoaded, IsTooLargeLoad}
+use Rattle.seat_desk.specs.Loading.{Bytes, IsFirstTooLargeLoad, IsLoaded}
 use Rattle.seat_desk.specs.declared.inputs.Inputs.{Inputs}
 use Rattle.seat_scripts.specs.Changes.{AreChanges, most_change_bytes}
 use Rattle.seat_scripts.specs.Going.{IsPast}
@@ -52,10 +52,10 @@ pub record HasScripts (set limits : List ℕ) (first days today : ℕ) (after : 
 
 -- ---- inputs that are too large
 
--- the set or the limits are too large, or the older journal behind a right set and limits, or a script behind a right journal and right scripts, or the changes behind all scripts
+-- the set is too large, or the limits behind a right set, or the older journal behind a right set and limits, or a script behind a right journal and right scripts, or the changes behind all scripts
 abbrev pub IsTooLargeRun : List ℕ → List ℕ → ℕ → ℕ → ℕ → List ℕ → List (Option (List ℕ)) → Option (List ℕ) → Type 0
 IsTooLargeRun set limits first days today after texts changing =
-    IsTooLargeLoad set limits
+    IsFirstTooLargeLoad set limits first days
     ⊎ ((HasLoaded set limits first days × (most_journal_bytes < length after))
     ⊎ ((HasPast set limits first days after × IsTooLargeAmong today texts)
     ⊎ (HasScripts set limits first days today after texts × IfSome changing (λ bytes. most_change_bytes < length bytes))))
@@ -66,7 +66,7 @@ IsTooLargeRunOf set limits inputs today after texts changing =
 
 -- ---- inputs that fail
 
--- the set or the limits failed, or the older journal behind a right set and limits, or a script behind a right journal and right scripts, or the changes behind all scripts
+-- the set or the limits failed, as the first says, or the older journal behind a right set and limits, or a script behind a right journal and right scripts, or the changes behind all scripts
 abbrev pub FailsRun : {S L : Type 0} → Bytes S → Bytes L → Inputs S L → ℕ → Option (List ℕ) → List (Option (List ℕ)) → Type 0 → Type 0 → Type 0 → Type 0 → Type 0
 FailsRun set limits inputs today after texts load_failed past_failed script_failed changes_failed =
     load_failed

@@ -6,7 +6,7 @@ ghost use Rattle.ssim_flights.specs.Right.{IsOfCentury};
 ghost use Rattle.seat_rules.specs.Journal.{IsLegal};
 ghost use Rattle.seat_desk.specs.AuditDesk.{most_lines};
 ghost use Rattle.seat_desk.specs.Desk.{HasFailed, IsOfInput};
-ghost use Rattle.seat_desk.specs.Loading.{HaveFailed, IsGridOf};
+ghost use Rattle.seat_desk.specs.Loading.{HasFirstLoadFailed, IsGridOf};
 ghost use Rattle.seat_scripts.specs.Asked.{FailsRun, IsAskedOf, IsTooLargeRunOf};
 ghost use Rattle.seat_scripts.specs.Changes.{IsOnLeg};
 ghost use Rattle.seat_scripts.specs.Requests.{AreRight, HasFailedAmong};
@@ -59,7 +59,7 @@ pub fn read_asked<S: NotedRead, L: NotedRead, A: NotedRead, C: NotedRead, D: Not
         IsTooLargeRunOf S.remaining L.remaining inputs.old today (A.remaining after.old) (map C.remaining scripts.old) (D.remaining changes.old)) }
     ensures device { IfErr result (λ f. f ≡ DeskFault.Device →
         FailsRun S.remaining L.remaining inputs.old today (A.remaining after.old) (map C.remaining scripts.old)
-        (HaveFailed S.failure_count L.failure_count inputs.old inputs.new) (HasFailed A.failure_count after.old after.new)
+        (HasFirstLoadFailed S.remaining S.failure_count L.failure_count inputs.old inputs.new) (HasFailed A.failure_count after.old after.new)
         (HasFailedAmong today (map C.remaining scripts.old) C.failure_count scripts.old scripts.new) (HasFailed D.failure_count changes.old changes.new)) }
 {
     let Loaded {

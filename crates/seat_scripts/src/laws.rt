@@ -16,7 +16,7 @@ pub fn runs_are_audited_against()
     ensures { RunsAreAuditedAgainst }
 {}
 
-/// A run behind a journal without lines, as [`NO_LINES`](crate::NO_LINES) is one, has no line but what the scripts and the
+/// A run behind a journal without lines, as [`NO_LINES`](seat_desk::NO_LINES) is one, has no line but what the scripts and the
 /// changes ask, and answers them all.
 pub fn runs_from_no_lines()
     ensures { RunsFromNoLines }

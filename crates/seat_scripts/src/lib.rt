@@ -23,7 +23,7 @@ pub use laws::{
     audits_behind_no_lines, requests_are_flown, runs_are_audited, runs_are_audited_against,
     runs_from_no_lines, unasked_is_not_audited,
 };
-pub use past::{NO_LINES, Past, no_lines, past_of};
+pub use past::{Past, past_of};
 pub use readable::prove_entries;
 pub use replies::put_answer;
 pub use scripts::Scripts;

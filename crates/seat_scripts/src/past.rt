@@ -1,9 +1,8 @@
 //! What a run goes on from: the inventory of an older journal, and what the texts of the run need to know of it.
-ghost use Rattle.std.specs.Prelude.{◌≡◌, ◌<◌, ◌≤◌, [], IfErr, IfOk, IfSome, length};
+ghost use Rattle.std.specs.Prelude.{◌≡◌, ◌<◌, ◌≤◌, IfErr, IfOk, IfSome, length};
 ghost use Rattle.seat_rules.specs.Journal.{IsLegal};
 ghost use Rattle.seat_desk.specs.AuditDesk.{IsUnlawful, most_journal_bytes, most_lines};
 ghost use Rattle.seat_desk.specs.Desk.{HasFailed, IsOfInput};
-ghost use Rattle.seat_journal.specs.Text.{IsJournalText};
 ghost use Rattle.seat_scripts.specs.Against.{IsReplayWithin};
 ghost use Rattle.seat_scripts.specs.Going.{IsPast, highest_to, past_of};
 
@@ -12,16 +11,6 @@ use seat_core::Core;
 use seat_desk::{DeskFault, MOST_JOURNAL_BYTES, read_input, replayed};
 use seat_nesting::Grid;
 use std::alloc::Global;
-
-/// The text of a journal without lines, for a run that goes on from no other.
-pub const NO_LINES: [u8; 20] = *b"SEATJOURNAL 2\nEND 0\n";
-
-/// The text of a journal without lines, which it is: [`NO_LINES`].
-pub fn no_lines() -> [u8; 20]
-    ensures { IsJournalText result [] }
-{
-    NO_LINES
-}
 
 /// How many lines an older journal has of each session: 0, the manager, to 8.
 #[derive(Clone, Copy)]

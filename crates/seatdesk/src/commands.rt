@@ -11,12 +11,12 @@ use crate::streams::{
     Input, all_opened, made, opened, opened_or, standard_input, standard_output, taken,
 };
 use airline_base::Day;
-use seat_desk::{DeskFault, Inputs, desk_audit, desk_check, desk_flights, desk_ladder};
+use seat_desk::{DeskFault, Inputs, NO_LINES, desk_audit, desk_check, desk_flights, desk_ladder};
 use seat_questions::{
     Asked, Bars, CityPair, desk_bookings, desk_cover, desk_opening_rooms, desk_rooms, desk_why,
 };
 use seat_run::desk_run;
-use seat_scripts::{NO_LINES, desk_audit_against};
+use seat_scripts::desk_audit_against;
 use seat_words::{Horizon, date_word, days_word, line_word, locator_word, pair_word};
 use seat_workers::NoGate;
 use std::sync::Wait;

@@ -1,7 +1,7 @@
 use Rattle.std.proofs.Common.{map}
 use Rattle.std.proofs.lemmas.Result.{err_from_is_err_and}
 use Rattle.seat_desk.specs.Desk.{HasFailed}
-use Rattle.seat_desk.specs.Loading.{HaveFailed}
+use Rattle.seat_desk.specs.Loading.{HasFirstLoadFailed}
 use Rattle.seat_scripts.specs.Asked.{FailsRun}
 use Rattle.seat_scripts.specs.Requests.{HasFailedAmong}
 use Rattle.seat_scripts.proofs.Written.{run_stopped, run_unbooked, run_written}
@@ -25,7 +25,7 @@ returns-clause-device g c =
     c.in_ok-answer.answer.settled.journal c.in_ok-answer.answer.settled.receipts c.in_ok-answer.answer.replies.items
     (record { is_history = c.in_ok-answer.ensures.ok; are_entries = c.in_ok-answer.ensures.entries; is_replied = c.in_ok-answer.ensures.replies })
     (FailsRun g.S.Read.remaining g.L.Read.remaining c.args.inputs.now c.args.today (g.A.Read.remaining c.args.after.now) (map g.C.Read.remaining c.args.scripts.now)
-    (HaveFailed g.S.Failures.failure_count g.L.Failures.failure_count c.args.inputs.now c.read_asked.new.inputs) (HasFailed g.A.Failures.failure_count c.args.after.now c.read_asked.new.after)
+    (HasFirstLoadFailed g.S.Read.remaining g.S.Failures.failure_count g.L.Failures.failure_count c.args.inputs.now c.read_asked.new.inputs) (HasFailed g.A.Failures.failure_count c.args.after.now c.read_asked.new.after)
     (HasFailedAmong c.args.today (map g.C.Read.remaining c.args.scripts.now) g.C.Failures.failure_count c.args.scripts.now c.read_asked.new.scripts)
     (HasFailed g.D.Failures.failure_count c.args.changes.now c.read_asked.new.changes))
     g.J.Failures.failure_count g.J.Write.contents c.args.journal.now c.write_both.new.journal g.W.Failures.failure_count g.W.Write.contents c.args.out.now c.write_both.new.out

@@ -2,7 +2,7 @@ use Rattle.std.proofs.Common.{ℕ, List, inl, inr, map, refl, subst}
 use Rattle.std.proofs.lemmas.Result.{err_from_is_err_and}
 use Rattle.std.specs.Io.KnownBytes.{Appends}
 use Rattle.airline_base.specs.Noting.{TookFront}
-use Rattle.seat_scripts.proofs.Beside.{audited, journal_fails, refused_journal, refused_script, refused_unasked, script_fails}
+use Rattle.seat_scripts.proofs.Beside.{audited, journal_fails, older_fails, refused_journal, refused_older, refused_script, refused_unasked, script_fails}
 use Rattle.seat_scripts.proofs.against.desk_audit_against.Goals as goal
 
 pub returns-in_err-core-clause-fault : goal.returns-in_err-core-clause-fault
@@ -64,3 +64,20 @@ returns-in-Err-clause-device g c = λ device. inl (record {
       c.in_ok-older.older c.in_ok-older.ensures.ok c.in_ok-core.core c.in_ok-core.ensures.ok _ _ _ _ (c.in-Err.ensures.device device);
   untouched = refl;
 })
+
+pub returns-in_err-older-clause-fault : goal.returns-in_err-older-clause-fault
+returns-in_err-older-clause-fault g c =
+    let p = err_from_is_err_and c.from_residual-in_err-older.result c.from_residual-in_err-older.ensures.1 in
+    rw (p.1, p.2) (refused_older (g.S.Read.remaining c.args.inputs.now.set) (g.L.Read.remaining c.args.inputs.now.limits) (g.A.Read.remaining c.args.after.now) (g.J.Read.remaining c.args.journal.now)
+    c.args.inputs.now.first c.args.inputs.now.days c.args.today (map g.C.Read.remaining c.args.scripts.now) c.in_ok-loaded.loaded.flights c.in_ok-loaded.loaded.grid c.in_ok-loaded.ensures.ok
+    c.in_err-older.field-0.0 c.in_err-older.ensures.fault)
+
+pub returns-in_err-older-clause-device : goal.returns-in_err-older-clause-device
+returns-in_err-older-clause-device g c =
+    let p = err_from_is_err_and c.from_residual-in_err-older.result c.from_residual-in_err-older.ensures.1 in
+    rw (p.1, p.2) (λ device. inl (record {
+      counted = older_fails (g.S.Read.remaining c.args.inputs.now.set) (g.L.Read.remaining c.args.inputs.now.limits) (g.A.Read.remaining c.args.after.now) (g.J.Read.remaining c.args.journal.now)
+          c.args.inputs.now.first c.args.inputs.now.days c.args.today (map g.C.Read.remaining c.args.scripts.now) c.in_ok-loaded.loaded.flights c.in_ok-loaded.loaded.grid c.in_ok-loaded.ensures.ok
+          _ _ _ (c.in_err-older.ensures.device device);
+      untouched = refl;
+    }))
