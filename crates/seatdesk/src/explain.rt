@@ -1,27 +1,14 @@
 //! The command `explain`.
 use crate::explanations::{Explanation, row_behind, row_of};
-use crate::refusal::Refusal;
+use crate::refusal::{Refusal, Undone};
 use crate::streams::standard_output;
 use airline_base::{WriteFault, put_all};
 use seat_desk::DeskFault;
 use seat_words::wrong_value;
 use std::alloc::AllocError;
 
-/// Why a fault line is not explained.
-pub enum Unexplained<'a> {
-    /// One of its words is no code, or no number behind one.
-    Word(clap::Error),
-    Refused(Refusal<'a>),
-}
-
-impl<'a> From<AllocError> for Unexplained<'a> {
-    fn from(_error: AllocError) -> Unexplained<'a> {
-        Unexplained::Refused(Refusal::of(DeskFault::Memory))
-    }
-}
-
 /// Writes what a fault line means: its code, the code or word behind that, and what each number counts.
-pub fn explain<'a>(rt: &HostRuntime, code: &str, behind: &[&str]) -> Result<(), Unexplained<'a>> {
+pub fn explain<'a>(rt: &HostRuntime, code: &str, behind: &[&str]) -> Result<(), Undone<'a>> {
     let Some(first) = row_of(code) else {
         return Err(unknown(rt, code)?);
     };
@@ -54,7 +41,7 @@ fn put_numbers<'a>(
     text: &mut String,
     counted: &[&str],
     numbers: &[&str],
-) -> Result<(), Unexplained<'a>> {
+) -> Result<(), Undone<'a>> {
     for (i, word) in numbers.iter().enumerate() {
         let Some(what) = counted.get(i) else {
             return Err(unknown(rt, word)?);
@@ -81,20 +68,20 @@ fn put(text: &mut String, row: &Explanation) -> Result<(), AllocError> {
     text.push_str("\n")
 }
 
-fn unknown<'a>(rt: &HostRuntime, word: &str) -> Result<Unexplained<'a>, AllocError> {
+fn unknown<'a>(rt: &HostRuntime, word: &str) -> Result<Undone<'a>, AllocError> {
     let mut message = String::new(rt.alloc());
     message.push_str("invalid value '")?;
     message.push_str(word)?;
     message.push_str("' for a fault line")?;
-    Ok(Unexplained::Word(wrong_value(rt.alloc(), message.as_str())?))
+    Ok(Undone::Word(wrong_value(rt.alloc(), message.as_str())?))
 }
 
-fn write<'a>(rt: &HostRuntime, text: &str) -> Result<(), Unexplained<'a>> {
+fn write<'a>(rt: &HostRuntime, text: &str) -> Result<(), Undone<'a>> {
     let mut out = standard_output(rt);
     match put_all(&mut out, text.as_bytes()) {
         Ok(()) => Ok(()),
-        Err(WriteFault::Device) => Err(Unexplained::Refused(Refusal::of(
-            DeskFault::Device,
-        ).noting_output(&out))),
+        Err(WriteFault::Device) => Err(Undone::Refused(Refusal::of(DeskFault::Device).noting_output(
+            &out,
+        ))),
     }
 }

@@ -6,16 +6,17 @@ mod commands;
 mod explain;
 mod explanations;
 mod guard;
+mod keeping;
 mod locale;
 mod refusal;
+mod selling;
 mod streams;
 
 use clap::error::ErrorKind;
-use commands::Asking;
-use explain::Unexplained;
-use refusal::Refusal;
+use refusal::{Refusal, Undone};
 use seat_desk::DeskFault;
 use seat_words::{Job, read_words};
+use selling::Asking;
 use std::io;
 use std::process::ExitCode;
 use std::sync::Wait;
@@ -24,7 +25,7 @@ use std::thread::Threads;
 fn main(rt: HostRuntime) -> ExitCode {
     match start(&rt, &rt) {
         Ok(status) => status,
-        Err(error) => ended(&rt, false, Err(Refusal::of(unread(&error)))),
+        Err(error) => refused(&rt, false, &Refusal::of(unread(&error))),
     }
 }
 
@@ -48,32 +49,23 @@ fn start<T: Threads + Wait + Sync>(rt: &HostRuntime, threads: &T) -> io::Result<
         Ok(asked) => asked,
         Err(error) => return Ok(misread(rt, &error)),
     };
-    if let Job::Explain { code, numbers } = &asked.job {
-        return Ok(explained(rt, asked.is_verbose, code, numbers.as_slice()));
-    }
-    let outcome = carry_out(rt, threads, &asked.job);
-    Ok(ended(rt, asked.is_verbose, outcome))
-}
-
-/// The status of `explain`, of which an unknown code is a fault of the words.
-fn explained(rt: &HostRuntime, is_verbose: bool, code: &str, numbers: &[&str]) -> ExitCode {
-    match explain::explain(rt, code, numbers) {
+    Ok(match carry_out(rt, threads, &asked.job) {
         Ok(()) => ExitCode::SUCCESS,
-        Err(Unexplained::Word(error)) => misread(rt, &error),
-        Err(Unexplained::Refused(refusal)) => ended(rt, is_verbose, Err(refusal)),
-    }
+        Err(Undone::Word(error)) => misread(rt, &error),
+        Err(Undone::Refused(refusal)) => refused(rt, asked.is_verbose, &refusal),
+    })
 }
 
 fn carry_out<'a, T: Threads + Wait + Sync>(
     rt: &HostRuntime,
     threads: &T,
     job: &Job<'a>,
-) -> Result<(), Refusal<'a>> {
+) -> Result<(), Undone<'a>> {
     match job {
-        Job::Ladder => commands::ladder(rt),
-        Job::Check { set } => commands::check(rt, set),
-        Job::Flights { set, first, days } => commands::flights(rt, set, first, days),
-        Job::Cover { over } => commands::cover(rt, over),
+        Job::Ladder => commands::ladder(rt)?,
+        Job::Check { set } => commands::check(rt, set)?,
+        Job::Flights { set, first, days } => commands::flights(rt, set, first, days)?,
+        Job::Cover { over } => commands::cover(rt, over)?,
         Job::Run {
             over,
             after,
@@ -91,7 +83,7 @@ fn carry_out<'a, T: Threads + Wait + Sync>(
                 no_clobber: *no_clobber,
                 scripts: scripts.as_slice(),
             };
-            commands::run(rt, threads, over, &asking)
+            selling::run(rt, threads, over, &asking)?
         }
         Job::Audit {
             over,
@@ -99,47 +91,43 @@ fn carry_out<'a, T: Threads + Wait + Sync>(
             today,
             journal,
             scripts,
-        } => commands::audit(rt, over, *after, *today, journal, scripts.as_slice()),
+        } => selling::audit(rt, over, *after, *today, journal, scripts.as_slice())?,
         Job::Rooms {
             over,
             day,
             pair,
             bars,
             journal,
-        } => commands::rooms(rt, over, *day, *pair, *bars, *journal),
+        } => commands::rooms(rt, over, *day, *pair, *bars, *journal)?,
         Job::Bookings {
             over,
             locator,
             journal,
-        } => commands::bookings(rt, over, locator, journal),
+        } => commands::bookings(rt, over, locator, journal)?,
         Job::Why {
             over,
             line,
             journal,
-        } => commands::why(rt, over, line, journal),
-        Job::Explain { .. } => Ok(()),
+        } => commands::why(rt, over, line, journal)?,
+        Job::Explain { code, numbers } => explain::explain(rt, code, numbers.as_slice())?,
     }
+    Ok(())
 }
 
-/// The status of a command, whose fault is one line on standard error, with one more where the words ask for it.
-fn ended(rt: &HostRuntime, is_verbose: bool, outcome: Result<(), Refusal<'_>>) -> ExitCode {
-    match outcome {
-        Ok(()) => ExitCode::SUCCESS,
-        Err(refusal) => {
-            let fault = refusal.fault;
-            let _ = eprintln!(rt; "seatdesk: {fault}");
-            if is_verbose {
-                refusal.tell_more(rt);
-            }
-            ExitCode::from(fault.status())
-        }
+/// The status of a command that was refused: its fault is one line on standard error, with one more where the words ask for it.
+fn refused(rt: &HostRuntime, is_verbose: bool, refusal: &Refusal<'_>) -> ExitCode {
+    let fault = refusal.fault;
+    let _ = eprintln!(rt; "seatdesk: {fault}");
+    if is_verbose {
+        refusal.tell_more(rt);
     }
+    ExitCode::from(fault.status())
 }
 
 /// The status of words that name no command: help and version are clap's, and no fault.
 fn misread(rt: &HostRuntime, error: &clap::Error) -> ExitCode {
     if error.kind() == ErrorKind::OutOfMemory {
-        return ended(rt, false, Err(Refusal::of(DeskFault::Memory)));
+        return refused(rt, false, &Refusal::of(DeskFault::Memory));
     }
     let _ = error.print(rt);
     ExitCode::from(error.exit_code() as u8)

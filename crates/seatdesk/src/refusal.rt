@@ -2,6 +2,7 @@
 use crate::streams::{Input, Output};
 use airline_base::Failures;
 use seat_desk::DeskFault;
+use std::alloc::AllocError;
 use std::io;
 
 /// A fault, with the name of the file that failed or is too large where that is known, and the system's number for the failure.
@@ -35,7 +36,7 @@ impl<'a> Refusal<'a> {
 
     /// Names the input where it may be the one that the fault is of: of inputs that are read one behind the other, and noted in
     /// that order, the last one that was read is too large, and the last one that failed has failed.
-    pub fn noting(self, input: &Input<'a>) -> Refusal<'a> {
+    fn noting(self, input: &Input<'a>) -> Refusal<'a> {
         match self.fault {
             DeskFault::TooLarge if input.is_used() => self.at(input.name(), None),
             DeskFault::Device if input.failures() > 0 => self.at(input.name(), input.reason()),
@@ -44,10 +45,28 @@ impl<'a> Refusal<'a> {
     }
 
     /// The same for several, in order.
-    pub fn noting_all(self, inputs: &[Input<'a>]) -> Refusal<'a> {
+    pub fn noting_all(self, inputs: &[&Input<'a>]) -> Refusal<'a> {
         let mut refusal = self;
         for input in inputs {
             refusal = refusal.noting(input);
+        }
+        refusal
+    }
+
+    /// The same for inputs that are kept together.
+    pub fn noting_each(self, inputs: &[Input<'a>]) -> Refusal<'a> {
+        let mut refusal = self;
+        for input in inputs {
+            refusal = refusal.noting(input);
+        }
+        refusal
+    }
+
+    /// The same for outputs.
+    pub fn noting_outputs(self, outputs: &[&Output<'a>]) -> Refusal<'a> {
+        let mut refusal = self;
+        for output in outputs {
+            refusal = refusal.noting_output(output);
         }
         refusal
     }
@@ -92,5 +111,41 @@ impl<'a> Refusal<'a> {
 impl<'a> From<DeskFault> for Refusal<'a> {
     fn from(fault: DeskFault) -> Refusal<'a> {
         Refusal::of(fault)
+    }
+}
+
+/// What a command came to: done, or refused for one of the inputs, in the order in which they are read, or of the outputs.
+pub fn told<'a>(
+    outcome: Result<(), DeskFault>,
+    inputs: &[&Input<'a>],
+    outputs: &[&Output<'a>],
+) -> Result<(), Refusal<'a>> {
+    match outcome {
+        Ok(()) => Ok(()),
+        Err(fault) => Err(
+            Refusal::of(fault)
+                .noting_all(inputs)
+                .noting_outputs(outputs),
+        ),
+    }
+}
+
+/// Why a command was not done.
+#[derive(Drop)]
+pub enum Undone<'a> {
+    /// One of its words is not what it may be, which only the command could tell.
+    Word(clap::Error),
+    Refused(Refusal<'a>),
+}
+
+impl<'a> From<Refusal<'a>> for Undone<'a> {
+    fn from(refusal: Refusal<'a>) -> Undone<'a> {
+        Undone::Refused(refusal)
+    }
+}
+
+impl<'a> From<AllocError> for Undone<'a> {
+    fn from(_error: AllocError) -> Undone<'a> {
+        Undone::Refused(Refusal::of(DeskFault::Memory))
     }
 }
