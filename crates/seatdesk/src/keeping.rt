@@ -1,6 +1,6 @@
 //! Outputs whose bytes are brought to where they outlive a loss of power.
 use crate::streams::Output;
-use seat_run::KeptWrite;
+use seat_scripts::KeptWrite;
 use std::io;
 
 impl KeptWrite for Output<'_> {
