@@ -1,7 +1,7 @@
 use Rattle.std.proofs.Common.{◌≡◌, ◌+◌, ◌++◌, ◌∷◌, [], ap, ◌∙◌}
 use Rattle.seat_rules.specs.Inventory.{HasLine}
 use Rattle.seat_rules.specs.Journal.{calls_of, next_line}
-use Rattle.seat_desk.proofs.ladder.answer_next.Goals as goal
+use Rattle.seat_reports.proofs.ladder.answer_next.Goals as goal
 
 pub returns-in-Ok-clause-line : goal.returns-in-Ok-clause-line
 returns-in-Ok-clause-line c =
