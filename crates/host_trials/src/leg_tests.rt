@@ -1,5 +1,6 @@
 //! Looks at places of several legs, before and after changes of limits.
-ghost use Rattle.std.specs.Prelude.{◌≡◌};
+ghost use Rattle.std.specs.Prelude.{◌≡◌, ◌≤◌, IfSome, length};
+ghost use Rattle.seat_nesting.specs.Nesting.{IsDistinct};
 
 use crate::deed_tests::{act_all, gather_all};
 use crate::steps::{Row, lines_of, same};
@@ -13,9 +14,6 @@ use std::marker::Brand;
 use std::process::Abort;
 use std::sync::Wait;
 use std::test::Fail;
-
-/// The limits of the three legs of a flight.
-const LADDERS: [&[u8]; 3] = [b"F010/000", b"F008/000", b"F005/000"];
 
 const LINES: &[u8] = b"SEATJOURNAL 2
 1 1 1 A00001 0.0.1 F NN 3 KK 0
@@ -74,14 +72,24 @@ const PLACES: [Seen; 6] = [
     },
 ];
 
+fn ladder_of(alloc: Global, text: &[u8]) -> Option<SharedLadder>
+    requires { length text.now ≤ 9 }
+    ensures { IfSome result IsDistinct }
+{
+    let ladder = read_ladder(text).ok()?;
+    let _ = ladder.steps();
+    SharedLadder::of(alloc, ladder).ok()
+}
+
+#[tactic(auto, using(crate::proofs::Legs::three_ladders))]
 fn grid_of_legs(alloc: Global) -> Option<Grid> {
+    let first = ladder_of(alloc, b"F010/000")?;
+    let second = ladder_of(alloc, b"F008/000")?;
+    let third = ladder_of(alloc, b"F005/000")?;
     let mut ladders = Vec::new(alloc);
-    for text in &LADDERS {
-        let ladder = read_ladder(text).ok()?;
-        ladders
-            .push(Some(SharedLadder::of(alloc, ladder).ok()?))
-            .ok()?;
-    }
+    ladders.push(Some(first)).ok()?;
+    ladders.push(Some(second)).ok()?;
+    ladders.push(Some(third)).ok()?;
     let mut flights = Vec::new(alloc);
     flights.push(FlightLegs::of(ladders)).ok()?;
     Grid::of(alloc, flights).ok()

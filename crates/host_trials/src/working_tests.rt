@@ -353,16 +353,16 @@ fn compare_passes<C: Clock>(rt: &impl Abort, meeting: &Meeting<'_, C>, row: &Row
         "{}: what the gate was shown",
         row.shows
     );
-    let managed = (row.managed + 1).min(row.changes);
+    let managed = row.managed.saturating_add(1).min(row.changes);
     assert!(rt;
-        meeting.passes(0) == managed as u32,
+        u64::from(meeting.passes(0)) == managed as u64,
         "{}: the manager's calls",
         row.shows
     );
     for (nth, (receipts, list)) in row.receipts.iter().zip(row.lists.iter()).enumerate() {
-        let calls = (*receipts + 1).min(*list);
+        let calls = receipts.saturating_add(1).min(*list);
         assert!(rt;
-            meeting.passes(nth + 1) == calls as u32,
+            u64::from(meeting.passes(nth.saturating_add(1))) == calls as u64,
             "{}: the calls of {}",
             row.shows,
             nth + 1
