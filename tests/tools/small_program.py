@@ -300,16 +300,19 @@ def make(root, room, command, is_utf_8):
         sources.change(lambda text: cut(text, [(it.block, it.end, "{ true }") for it in items(text) if it.name == "is_utf_8"]))
     sources.without_unreached()
     named = sources.named(used)
-    sources.without_crates(set(used) - named)
-    os.makedirs(f"{room}/.git")
-    sources.write(f"{room}/crates/{PROGRAM}/src")
     below, to_do = [], sorted(named & set(crates))
     while to_do:
         name = to_do.pop()
         if name not in below:
             below.append(name)
             to_do += [it for it in crates[name][1] if it in crates]
-            shutil.copytree(f"{root}/crates/{name}/src", f"{room}/crates/{name}/src")
+    # what lies below a crate that stays is there, and so are the traits that it gives
+    named |= set(used) & set(below)
+    sources.without_crates(set(used) - named)
+    os.makedirs(f"{room}/.git")
+    sources.write(f"{room}/crates/{PROGRAM}/src")
+    for name in below:
+        shutil.copytree(f"{root}/crates/{name}/src", f"{room}/crates/{name}/src")
     with open(f"{room}/crates.txt", "w", encoding="utf-8") as it:
         it.write(f"{ahead}: {' '.join(n for n in used if n in named)}\n")
         it.writelines(f"{crates[name][0]}: {' '.join(crates[name][1])}\n" for name in below)
