@@ -1,8 +1,8 @@
 -- The live bookings, flight by flight.
 use Rattle.std.specs.Prelude.{◌≡◌, ℕ, ◌≤◌, Bool, true, false, List, [], Option, Some, None, slice_get, slice_index, if◌then◌else◌}
 use Rattle.airline_base.specs.declared.place.Place.{Place}
-use Rattle.seat_nesting.specs.Nesting.{Legs}
-use Rattle.seat_nesting.specs.Counting.{Counted, limits_of, seats_of}
+use Rattle.seat_nesting.specs.Nesting.{Ladders}
+use Rattle.seat_nesting.specs.Counting.{Counted, limits_of, table_of}
 use Rattle.seat_journal.specs.declared.entry.Entry.{Entry}
 use Rattle.seat_journal.specs.declared.entry.Work.{Work}
 use Rattle.seat_journal.specs.declared.entry.Work.TheVariants.{Seats, Limit}
@@ -73,9 +73,9 @@ pub record IsEntered (old new : List FlightBook) (e : Entry) : Type 0 where
   pub each : (flight : ℕ) → book_at new flight ≡ (if is_on flight e.work then applied (book_at old flight) e else book_at old flight)
 
 -- the books and the waiting lists are those of the replay, flight by flight; each session's calls are counted, sessions 1 to 8; and the counters, which know the limits now, hold what the replay holds
-pub record IsKept (opening : Legs) (cap : ℕ) (journal : List Entry) (books : List FlightBook) (calls : List ℕ) (counts : Counted) : Type 0 where
+pub record IsOfReplay (opening : Ladders) (cap : ℕ) (journal : List Entry) (books : List FlightBook) (calls : List ℕ) (counts : Counted) : Type 0 where
   pub lawful : IsLawful opening (limits_of counts) cap journal (replay opening journal).bookings
   pub by_flight : (flight : ℕ) → book_at books flight ≡ bookings_on flight (replay opening journal).bookings
   pub by_queue : (flight : ℕ) → queue_at books flight ≡ queue_on flight (replay opening journal).bookings
   pub by_session : (session : ℕ) → session ≤ 8 → slice_index calls session ≡ calls_of journal session
-  pub seats : (flight leg class : ℕ) → seats_of counts flight leg class ≡ held (replay opening journal).bookings flight leg class
+  pub seats : (flight leg class : ℕ) → table_of counts flight leg class ≡ held (replay opening journal).bookings flight leg class

@@ -2,7 +2,7 @@
 use Rattle.std.specs.Prelude.{◌≡◌, ℕ, ◌==◌, ◌&&◌, ◌+◌, ◌-◌, ◌<◌, ◌^◌, nat_lt, min, Bool, true, false, List, [], ◌∷◌, Option, Some, None, if◌then◌else◌}
 use Rattle.std.specs.List.{AllByRecursion, list_any, list_all}
 use Rattle.airline_base.specs.declared.place.Place.{Place}
-use Rattle.seat_nesting.specs.Nesting.{Legs, Table, room, covers}
+use Rattle.seat_nesting.specs.Nesting.{Ladders, Table, room, covers}
 use Rattle.seat_rules.specs.declared.booking.Booking.{Booking}
 use Rattle.seat_bookings.specs.declared.demands.Demand.{Demand}
 use Rattle.seat_rules.specs.Bookings.{same_place, is_waiting}
@@ -72,7 +72,7 @@ waits_of [] flight leg class = 0
 waits_of (p ∷ ps) flight leg class = demand_waits flight leg class p + waits_of ps flight leg class
 
 -- each demand's smallest is above the room on its place in its class
-abbrev pub no_demand_fits : Legs → Table → List Demand → Bool
+abbrev pub no_demand_fits : Ladders → Table → List Demand → Bool
 no_demand_fits grid seats demands = list_all (λ p. nat_lt (room grid seats p.place p.class) p.smallest) demands
 
 -- ---- changes

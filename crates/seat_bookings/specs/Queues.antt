@@ -2,7 +2,7 @@
 use Rattle.std.specs.Prelude.{ℕ, Bool, false, ◌==◌, nat_lt, List, [], ◌∷◌, Option, Some, None, if◌then◌else◌}
 use Rattle.std.specs.Global.{Box}
 use Rattle.std.specs.List.{list_all}
-use Rattle.seat_nesting.specs.Nesting.{Legs, Table, room}
+use Rattle.seat_nesting.specs.Nesting.{Ladders, Table, room}
 use Rattle.seat_rules.specs.declared.booking.Booking.{Booking}
 use Rattle.seat_rules.specs.Bookings.{is_waiting}
 
@@ -17,7 +17,7 @@ list_in None = record { bookings = []; spare = false }
 list_in (Some list) = list.value
 
 -- each booking has more seats than the table leaves room for
-abbrev pub none_fits : Legs → Table → List Booking → Bool
+abbrev pub none_fits : Ladders → Table → List Booking → Bool
 none_fits grid seats queue = list_all (λ b. nat_lt (room grid seats b.place b.class) b.seats) queue
 
 -- the bookings that wait, in order

@@ -1,6 +1,6 @@
 //! What waits for each place and class, so that a waiting list can answer without walking its bookings.
 ghost use Rattle.std.specs.Prelude.{◌≡◌, ◌≤◌, ◌<◌, ◌+◌, ◌^◌, ◌++◌, ◌∷◌, [], Some, position, vec_len, vec_capacity};
-ghost use Rattle.seat_nesting.specs.Counting.{limits_of, seats_of};
+ghost use Rattle.seat_nesting.specs.Counting.{limits_of, table_of};
 ghost use Rattle.seat_bookings.specs.Demands.{is_demand_of, joined, least_with, no_demand_fits, demand_seats, demand_smallest, demand_waits, settled, smallest_of};
 
 use airline_base::{Class, Place};
@@ -32,7 +32,7 @@ impl Demand {
 
 /// Whether the smallest booking of each demand has more seats than the counters leave room for.
 pub fn are_too_large(counts: &Counts, demands: &[Demand]) -> bool
-    ensures { result ≡ no_demand_fits (limits_of counts.now) (seats_of counts.now) demands.now }
+    ensures { result ≡ no_demand_fits (limits_of counts.now) (table_of counts.now) demands.now }
 {
     demands
         .iter()

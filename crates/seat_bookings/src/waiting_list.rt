@@ -1,6 +1,6 @@
 //! The waiting list of a flight.
 ghost use Rattle.std.specs.Prelude.{◌≡◌, ◌==◌, ◌<◌, ◌≤◌, ◌++◌, ◌∷◌, [], length, position, remove, true, vec_len, vec_capacity, OnOk, Some};
-ghost use Rattle.seat_nesting.specs.Counting.{limits_of, seats_of};
+ghost use Rattle.seat_nesting.specs.Counting.{limits_of, table_of};
 ghost use Rattle.seat_nesting.specs.Nesting.{may_wait};
 ghost use Rattle.seat_rules.specs.Applying.{IsOrdered};
 ghost use Rattle.seat_rules.specs.Bookings.{is_for, waiting};
@@ -118,7 +118,7 @@ impl WaitingList {
 
     /// Whether each waiting booking has more seats than the counters leave room for.
     pub fn none_fits(&self, counts: &Counts) -> bool
-        ensures { result ≡ none_fits (limits_of counts.now) (seats_of counts.now) self.now.bookings }
+        ensures { result ≡ none_fits (limits_of counts.now) (table_of counts.now) self.now.bookings }
     {
         are_too_large(counts, &self.demands)
     }

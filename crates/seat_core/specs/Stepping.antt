@@ -8,8 +8,8 @@ use Rattle.seat_rules.specs.Inventory.{Inventory, HasLine, IsCommitted, IsUnchan
 use Rattle.seat_core.specs.contracts.inventory.Core.{the_row}
 
 -- one more line where it is Ok, and else nothing
-abbrev pub Steps : {E : Type 0} → MutBor Inventory → ℕ → ℕ → Work → Result (Bor Entry) E → Fml
-Steps core session call work result =
+abbrev pub GivesLine : {E : Type 0} → MutBor Inventory → ℕ → ℕ → Work → Result (Bor Entry) E → Fml
+GivesLine core session call work result =
     follows_so the_row the_row core.ghost_name none (λ _ _. ⊤)
     (λ n. MatchResult result (λ _. HasLine core.now n session call work) (λ _. IsUnchanged core.now n))
 

@@ -1,8 +1,8 @@
 //! What a change of a limit is answered (AU): the pass under the new limit, or NO.
 ghost use Rattle.std.specs.Prelude.{◌≡◌, true, IfOk};
 ghost use Rattle.seat_nesting.specs.Changing.{can_set};
-ghost use Rattle.seat_nesting.specs.Counting.{limits_of, seats_of};
-ghost use Rattle.seat_core.specs.Answers.{IsFlight, Says};
+ghost use Rattle.seat_nesting.specs.Counting.{limits_of, table_of};
+ghost use Rattle.seat_core.specs.Answers.{CountsFlight, Says};
 ghost use Rattle.seat_bookings.specs.Books.{book_at, queue_at};
 ghost use Rattle.seat_rules.specs.Sequential.{changed_by, set, state_of};
 ghost use Rattle.seat_rules.specs.Tables.{advices_by};
@@ -22,10 +22,10 @@ pub fn answer_change(
     books: &[FlightBook],
     change: &Change,
 ) -> Answer
-    requires flight { IsFlight counts.old books.now change.now.flight }
+    requires flight { CountsFlight counts.old books.now change.now.flight }
     ensures says { Says (set (state_of (limits_of counts.old) (book_at books.now change.now.flight)) change.now) result }
     ensures limits { limits_of counts.new ≡ limits_of counts.old }
-    ensures seats { seats_of counts.new ≡ seats_of counts.old }
+    ensures seats { table_of counts.new ≡ table_of counts.old }
 {
     let (flight, leg, class) = (change.flight, change.leg, change.class);
     if !counts.can_set(flight, leg, class, change.limit, change.wait) {
@@ -45,10 +45,10 @@ fn advices_under(
     books: &[FlightBook],
     change: &Change,
 ) -> Result<Vec<Advice>, Memory>
-    requires may { can_set (limits_of counts.old) (seats_of counts.old) change.now.flight change.now.leg change.now.class change.now.limit change.now.wait ≡ true }
+    requires may { can_set (limits_of counts.old) (table_of counts.old) change.now.flight change.now.leg change.now.class change.now.limit change.now.wait ≡ true }
     ensures limits { limits_of counts.new ≡ limits_of counts.old }
-    ensures seats { seats_of counts.new ≡ seats_of counts.old }
-    ensures told { IfOk result (λ told. told.items ≡ advices_by (changed_by (limits_of counts.old) change.now) (seats_of counts.old) (queue_at books.now change.now.flight)) }
+    ensures seats { table_of counts.new ≡ table_of counts.old }
+    ensures told { IfOk result (λ told. told.items ≡ advices_by (changed_by (limits_of counts.old) change.now) (table_of counts.old) (queue_at books.now change.now.flight)) }
 {
     match queue_at(books, change.flight) {
         Some(queue) => advices_with(alloc, counts, queue, change),
@@ -63,10 +63,10 @@ fn advices_with(
     queue: &WaitingList,
     change: &Change,
 ) -> Result<Vec<Advice>, Memory>
-    requires may { can_set (limits_of counts.old) (seats_of counts.old) change.now.flight change.now.leg change.now.class change.now.limit change.now.wait ≡ true }
+    requires may { can_set (limits_of counts.old) (table_of counts.old) change.now.flight change.now.leg change.now.class change.now.limit change.now.wait ≡ true }
     ensures limits { limits_of counts.new ≡ limits_of counts.old }
-    ensures seats { seats_of counts.new ≡ seats_of counts.old }
-    ensures told { IfOk result (λ told. told.items ≡ advices_by (changed_by (limits_of counts.old) change.now) (seats_of counts.old) queue.now.bookings) }
+    ensures seats { table_of counts.new ≡ table_of counts.old }
+    ensures told { IfOk result (λ told. told.items ≡ advices_by (changed_by (limits_of counts.old) change.now) (table_of counts.old) queue.now.bookings) }
 {
     counts.limits_are_kept();
     let (flight, leg, class) = (change.flight, change.leg, change.class);

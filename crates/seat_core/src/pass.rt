@@ -1,6 +1,6 @@
 //! The pass over a flight's waiting list, by counters of held seats.
 ghost use Rattle.std.specs.Prelude.{◌≡◌, ◌++◌, ◌∷◌, [], IfOk, IfSome, OnErr, OnOk};
-ghost use Rattle.seat_nesting.specs.Counting.{limits_of, seats_of};
+ghost use Rattle.seat_nesting.specs.Counting.{limits_of, table_of};
 ghost use Rattle.seat_nesting.specs.Nesting.{room};
 ghost use Rattle.seat_core.specs.Answers.{rest_advised};
 ghost use Rattle.seat_rules.specs.Sequential.{advice_of};
@@ -32,8 +32,8 @@ pub fn advices_after(
     seats: u16,
 ) -> Result<Vec<Advice>, Memory>
     ensures limits { limits_of counts.new ≡ limits_of counts.old }
-    ensures seats { seats_of counts.new ≡ seats_of counts.old }
-    ensures told { IfOk result (λ told. told.items ≡ advices_by (limits_of counts.old) (given_back (limits_of counts.old) (seats_of counts.old) place class seats) queue.now.bookings) }
+    ensures seats { table_of counts.new ≡ table_of counts.old }
+    ensures told { IfOk result (λ told. told.items ≡ advices_by (limits_of counts.old) (given_back (limits_of counts.old) (table_of counts.old) place class seats) queue.now.bookings) }
 {
     counts.limits_are_kept();
     if !counts.holds(place, class, seats) {
@@ -52,8 +52,8 @@ pub fn advices_of(
     queue: &WaitingList,
 ) -> Result<Vec<Advice>, Memory>
     ensures limits { limits_of counts.new ≡ limits_of counts.old }
-    ensures seats { seats_of counts.new ≡ seats_of counts.old }
-    ensures told { IfOk result (λ told. told.items ≡ advices_by (limits_of counts.old) (seats_of counts.old) queue.now.bookings) }
+    ensures seats { table_of counts.new ≡ table_of counts.old }
+    ensures told { IfOk result (λ told. told.items ≡ advices_by (limits_of counts.old) (table_of counts.old) queue.now.bookings) }
 {
     let mut advices = Vec::new(alloc);
     let confirmed = confirm_each(counts, queue, &mut advices);
@@ -73,8 +73,8 @@ fn confirm_each(
 ) -> Result<(), Memory>
     requires none { advices.old.items ≡ [] }
     ensures limits { limits_of counts.new ≡ limits_of counts.old }
-    ensures advices { OnOk result (advices.new.items ≡ advices_by (limits_of counts.old) (seats_of counts.old) queue.now.bookings) }
-    ensures seats { taken_back (limits_of counts.old) (seats_of counts.new) advices.new.items ≡ seats_of counts.old }
+    ensures advices { OnOk result (advices.new.items ≡ advices_by (limits_of counts.old) (table_of counts.old) queue.now.bookings) }
+    ensures seats { taken_back (limits_of counts.old) (table_of counts.new) advices.new.items ≡ table_of counts.old }
 {
     let mut known = None;
     for booking in queue.as_slice() {
@@ -94,12 +94,12 @@ fn consider(
     advices: &mut Vec<Advice>,
     known: Option<Known>,
 ) -> Result<Option<Known>, Memory>
-    requires known { IfSome known (λ k. k.room ≡ room (limits_of counts.old) (seats_of counts.old) k.place k.class) }
+    requires known { IfSome known (λ k. k.room ≡ room (limits_of counts.old) (table_of counts.old) k.place k.class) }
     ensures limits { limits_of counts.new ≡ limits_of counts.old }
-    ensures advices { OnOk result (advices.new.items ≡ advices.old.items ++ told_of (limits_of counts.old) (seats_of counts.old) booking.now) }
-    ensures seats { OnOk result (seats_of counts.new ≡ shown_advices (limits_of counts.old) (seats_of counts.old) (told_of (limits_of counts.old) (seats_of counts.old) booking.now)) }
-    ensures known { IfOk result (λ known. IfSome known (λ k. k.room ≡ room (limits_of counts.new) (seats_of counts.new) k.place k.class)) }
-    ensures same { OnErr result (advices.new.items ≡ advices.old.items × seats_of counts.new ≡ seats_of counts.old) }
+    ensures advices { OnOk result (advices.new.items ≡ advices.old.items ++ told_of (limits_of counts.old) (table_of counts.old) booking.now) }
+    ensures seats { OnOk result (table_of counts.new ≡ shown_advices (limits_of counts.old) (table_of counts.old) (told_of (limits_of counts.old) (table_of counts.old) booking.now)) }
+    ensures known { IfOk result (λ known. IfSome known (λ k. k.room ≡ room (limits_of counts.new) (table_of counts.new) k.place k.class)) }
+    ensures same { OnErr result (advices.new.items ≡ advices.old.items × table_of counts.new ≡ table_of counts.old) }
 {
     if !booking.is_waiting() {
         return Ok(known);
@@ -120,8 +120,8 @@ fn consider(
 /// The room of a place, as it is known or else looked up.
 #[tactic(auto, using(seat_rules::proofs::History::Faults::place_same))]
 fn look(counts: &Counts, place: Place, class: Class, known: Option<Known>) -> u16
-    requires known { IfSome known (λ k. k.room ≡ room (limits_of counts.now) (seats_of counts.now) k.place k.class) }
-    ensures { result ≡ room (limits_of counts.now) (seats_of counts.now) place class }
+    requires known { IfSome known (λ k. k.room ≡ room (limits_of counts.now) (table_of counts.now) k.place k.class) }
+    ensures { result ≡ room (limits_of counts.now) (table_of counts.now) place class }
 {
     if let Some(known) = known {
         if known.class == class && known.place == place {
@@ -134,7 +134,7 @@ fn look(counts: &Counts, place: Place, class: Class, known: Option<Known>) -> u1
 /// Gives back the seats of advices, the last first.
 fn take_back_each(counts: &mut Counts, advices: &[Advice])
     ensures limits { limits_of counts.new ≡ limits_of counts.old }
-    ensures seats { seats_of counts.new ≡ taken_back (limits_of counts.old) (seats_of counts.old) advices.now }
+    ensures seats { table_of counts.new ≡ taken_back (limits_of counts.old) (table_of counts.old) advices.now }
 {
     let mut at = advices.len();
     while at > 0 {
@@ -152,7 +152,7 @@ pub fn advices_of_rest(
     booking: &Booking,
     seats: u16,
 ) -> Result<Vec<Advice>, Memory>
-    ensures { IfOk result (λ told. told.items ≡ rest_advised (room (limits_of counts.now) (seats_of counts.now) booking.now.place booking.now.class) booking.now seats) }
+    ensures { IfOk result (λ told. told.items ≡ rest_advised (room (limits_of counts.now) (table_of counts.now) booking.now.place booking.now.class) booking.now seats) }
 {
     let mut told = Vec::new(alloc);
     if booking.seats <= seats {

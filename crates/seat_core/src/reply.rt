@@ -2,7 +2,7 @@
 ghost use Rattle.std.specs.Prelude.{◌≡◌, ◌∷◌, ◌≤◌, ◌&&◌, [], find, position, slice_get, None, Some, IfOk, IfSome, IsTrue, length, codes, if◌then◌else◌};
 ghost use Rattle.airline_base.specs.Names.{is_code};
 ghost use Rattle.seat_journal.specs.declared.entry.Work.TheVariants.{Seats};
-ghost use Rattle.seat_nesting.specs.Counting.{limits_of, seats_of};
+ghost use Rattle.seat_nesting.specs.Counting.{limits_of, table_of};
 ghost use Rattle.seat_nesting.specs.Nesting.{is_listed, may_wait};
 ghost use Rattle.seat_rules.specs.Bookings.{is_for, waiting};
 ghost use Rattle.seat_bookings.specs.Books.{book_at, book_for, book_of, queue_at};
@@ -10,7 +10,7 @@ ghost use Rattle.seat_bookings.specs.Queues.{queue_of};
 ghost use Rattle.seat_rules.specs.Sequential.{advice_of, answer, booking_of, cancel, pass, reduced, state_of, want};
 ghost use Rattle.seat_rules.specs.declared.booking.Status.TheVariants.{Waiting};
 ghost use Rattle.seat_rules.specs.Journal.{line_of};
-ghost use Rattle.seat_core.specs.Answers.{IsAsked, IsFlight, IsReply, Says};
+ghost use Rattle.seat_core.specs.Answers.{CanAnswerWork, CountsFlight, IsReply, Says};
 
 use crate::changes::answer_change;
 use crate::pass::{advices_after, advices_of_rest};
@@ -38,10 +38,10 @@ pub fn answer_work(
     number: u32,
     work: &Work,
 ) -> Answer
-    requires asked { IsAsked counts.old books.now work.now }
+    requires asked { CanAnswerWork counts.old books.now work.now }
     ensures says { Says (answer (state_of (limits_of counts.old) (book_of books.now work.now)) number work.now) result }
     ensures limits { limits_of counts.new ≡ limits_of counts.old }
-    ensures seats { seats_of counts.new ≡ seats_of counts.old }
+    ensures seats { table_of counts.new ≡ table_of counts.old }
 {
     match work {
         Work::Seats(command) => answer_command(alloc, counts, books, number, command),
@@ -57,12 +57,12 @@ fn answer_command(
     number: u32,
     command: &Command,
 ) -> Answer
-    requires flight { IfSome command.now.place (λ p. IsFlight counts.old books.now p.flight) }
+    requires flight { IfSome command.now.place (λ p. CountsFlight counts.old books.now p.flight) }
     requires order { IfSome command.now.place (λ p. p.from ≤ p.to) }
     requires some { 1 ≤ command.now.seats }
     ensures says { Says (answer (state_of (limits_of counts.old) (book_for books.now command.now.place)) number (Seats command.now)) result }
     ensures limits { limits_of counts.new ≡ limits_of counts.old }
-    ensures seats { seats_of counts.new ≡ seats_of counts.old }
+    ensures seats { table_of counts.new ≡ table_of counts.old }
 {
     let action = action_of(command.code);
     if let Action::Other = action {
@@ -95,7 +95,7 @@ fn book_seats(
     place: Place,
     wish: Wish,
 ) -> Answer
-    requires flight { IsFlight counts.now books.now place.flight }
+    requires flight { CountsFlight counts.now books.now place.flight }
     ensures { Says (want wish (state_of (limits_of counts.now) (book_at books.now place.flight)) number command.now place None) result }
 {
     let fits = command.seats <= counts.room(place, command.class);
@@ -188,13 +188,13 @@ fn cancel_seats(
     command: &Command,
     place: Place,
 ) -> Answer
-    requires flight { IsFlight counts.old books.now place.flight }
+    requires flight { CountsFlight counts.old books.now place.flight }
     requires found { position (is_for command.now.locator place command.now.class) (book_at books.now place.flight) ≡ Some at }
     requires order { place.from ≤ place.to }
     requires some { 1 ≤ command.now.seats }
     ensures says { Says (cancel (state_of (limits_of counts.old) (book_at books.now place.flight)) command.now place (slice_get (book_at books.now place.flight) at)) result }
     ensures limits { limits_of counts.new ≡ limits_of counts.old }
-    ensures seats { seats_of counts.new ≡ seats_of counts.old }
+    ensures seats { table_of counts.new ≡ table_of counts.old }
 {
     let booking = book_at(books, place.flight)[at];
     let seats = command.seats;
@@ -218,14 +218,14 @@ fn advices_without(
     command: &Command,
     place: Place,
 ) -> Result<Vec<Advice>, Memory>
-    requires flight { IsFlight counts.old books.now place.flight }
+    requires flight { CountsFlight counts.old books.now place.flight }
     requires found { find (is_for command.now.locator place command.now.class) (book_at books.now place.flight) ≡ Some booking.now }
     requires order { place.from ≤ place.to }
     requires some { 1 ≤ command.now.seats }
     requires enough { command.now.seats ≤ booking.now.seats }
     ensures told { IfOk result (λ told. told.items ≡ (pass (limits_of counts.old) [] [] (reduced (is_for command.now.locator place command.now.class) command.now.seats (book_at books.now place.flight))).advices) }
     ensures limits { limits_of counts.new ≡ limits_of counts.old }
-    ensures seats { seats_of counts.new ≡ seats_of counts.old }
+    ensures seats { table_of counts.new ≡ table_of counts.old }
 {
     if booking.is_waiting() {
         return advices_of_rest(alloc, counts, booking, command.seats);

@@ -7,7 +7,7 @@ use Rattle.ssim_flights.specs.Flown.{IsRefusal, memory_fault}
 use Rattle.ssim_flights.specs.declared.fault.FlightFault.{FlightFault}
 use Rattle.ssim_flights.specs.declared.fault.FlightKind.{FlightKind}
 use Rattle.ssim_flights.specs.declared.fault.FlightKind.TheVariants as flight_kinds
-use Rattle.seat_desk.specs.CheckDesk.{IsRefusedSet, most_bytes, most_records}
+use Rattle.seat_desk.specs.CheckDesk.{IsRefusedSet, most_set_bytes, most_records}
 use Rattle.seat_desk.specs.FlightsDesk.{HasNoSchedule, IsUnscheduled, expansion_fault, expansion_fault_of, flights_fault}
 use Rattle.seat_desk.specs.declared.fault.DeskFault.{DeskFault}
 use Rattle.seat_desk.specs.declared.fault.DeskFault.TheVariants.{Memory, Set}
@@ -37,7 +37,7 @@ found : (fault : FlightFault) (first : Option FlightFault) → fault.kind ≢ fl
 found fault first not refused =
     ⊎_elim (λ (m : fault ≡ memory_fault). absurd (not (ap (λ (f : FlightFault). f.kind) m))) (λ (s : first ≡ Some fault). s) refused
 
-cases : (first days : ℕ) (bytes : List ℕ) (set : DataSet) (kind : FlightKind) (fault : FlightFault) → length bytes ≤ most_bytes → IsDataSet most_records bytes set
+cases : (first days : ℕ) (bytes : List ℕ) (set : DataSet) (kind : FlightKind) (fault : FlightFault) → length bytes ≤ most_set_bytes → IsDataSet most_records bytes set
     → (kind ≢ flight_kinds.Memory → flights_fault set first days ≡ Some fault) → expansion_fault_of kind fault ≢ Memory
     → IsUnscheduled first days (expansion_fault_of kind fault) bytes
 cases first days bytes set flight_kinds.Memory fault within is first_is not = absurd (not refl)
@@ -45,7 +45,7 @@ cases first days bytes set kind fault within is first_is not =
     let wrong : flights_fault set first days ≡ Some fault = first_is (λ e. cc) in
     record { within = within; refused = record { set = set; is_set = is; wrong = wrong }; none = faulty first days bytes set fault is wrong }
 
-pub refused_expansion : (first days : ℕ) (bytes : List ℕ) (set : DataSet) (fault : FlightFault) → length bytes ≤ most_bytes → IsDataSet most_records bytes set
+pub refused_expansion : (first days : ℕ) (bytes : List ℕ) (set : DataSet) (fault : FlightFault) → length bytes ≤ most_set_bytes → IsDataSet most_records bytes set
     → IsRefusal fault (flights_fault set first days) → expansion_fault fault ≢ Memory
     → IsUnscheduled first days (expansion_fault fault) bytes
 refused_expansion first days bytes set fault within is refused =

@@ -3,7 +3,7 @@ use Rattle.std.specs.Prelude.{◌≤◌, ◌<◌, ◌⊎◌, ℕ, List, length, 
 use Rattle.ssim_flights.specs.declared.flight.Flight.{Flight as Flown}
 use Rattle.seat_limits.specs.Authorised.{authorised_grid}
 use Rattle.seat_limits.specs.declared.limit_row.LimitRow.{LimitRow}
-use Rattle.seat_nesting.specs.Nesting.{Legs}
+use Rattle.seat_nesting.specs.Nesting.{Ladders}
 use Rattle.seat_desk.specs.AuditDesk.{most_journal_bytes}
 use Rattle.seat_desk.specs.Desk.{HasFailed}
 use Rattle.seat_desk.specs.Loading.{Bytes, HasFirstLoadFailed, IsBehind, IsFirstTooLargeLoad, IsGround, IsRefusedLoad}
@@ -11,7 +11,7 @@ use Rattle.seat_desk.specs.declared.fault.DeskFault.{DeskFault}
 use Rattle.seat_desk.specs.declared.inputs.Inputs.{Inputs}
 
 -- the text answers the journal, which is not too large, over the flights and limit rows of these inputs
-pub record IsAnswer (answers : List Flown → List LimitRow → Legs → List ℕ → List ℕ → Type 0) (set limits : List ℕ) (first days : ℕ) (journal text : List ℕ) : Type 0 where
+pub record IsAnswer (answers : List Flown → List LimitRow → Ladders → List ℕ → List ℕ → Type 0) (set limits : List ℕ) (first days : ℕ) (journal text : List ℕ) : Type 0 where
   pub flights : List Flown
   pub rows : List LimitRow
   pub is_ground : IsGround set limits first days flights rows
@@ -19,12 +19,12 @@ pub record IsAnswer (answers : List Flown → List LimitRow → Legs → List �
   pub is_answer : answers flights rows (authorised_grid rows flights) journal text
 
 -- where the bytes of the three inputs are known
-abbrev pub IsAnswerOf : {S L : Type 0} → (List Flown → List LimitRow → Legs → List ℕ → List ℕ → Type 0) → Bytes S → Bytes L → Inputs S L → Option (List ℕ) → List ℕ → Type 0
+abbrev pub IsAnswerOf : {S L : Type 0} → (List Flown → List LimitRow → Ladders → List ℕ → List ℕ → Type 0) → Bytes S → Bytes L → Inputs S L → Option (List ℕ) → List ℕ → Type 0
 IsAnswerOf answers set limits inputs journal text =
     IfSome (set inputs.set) (λ xs. IfSome (limits inputs.limits) (λ ys. IfSome journal (λ zs. IsAnswer answers xs ys inputs.first inputs.days zs text)))
 
 -- the journal, which is not too large, is refused over the ladders of these inputs
-pub record IsRefusedJournalOver (refuses : Legs → DeskFault → List ℕ → Type 0) (set limits : List ℕ) (first days : ℕ) (journal : List ℕ) (fault : DeskFault) : Type 0 where
+pub record IsRefusedJournalOver (refuses : Ladders → DeskFault → List ℕ → Type 0) (set limits : List ℕ) (first days : ℕ) (journal : List ℕ) (fault : DeskFault) : Type 0 where
   pub flights : List Flown
   pub rows : List LimitRow
   pub is_ground : IsGround set limits first days flights rows
@@ -32,11 +32,11 @@ pub record IsRefusedJournalOver (refuses : Legs → DeskFault → List ℕ → T
   pub refused : refuses (authorised_grid rows flights) fault journal
 
 -- the fault is that of the set, of its flights or of the limits, or else that of the journal
-abbrev pub IsRefusedAnswer : (Legs → DeskFault → List ℕ → Type 0) → List ℕ → List ℕ → ℕ → ℕ → List ℕ → DeskFault → Type 0
+abbrev pub IsRefusedAnswer : (Ladders → DeskFault → List ℕ → Type 0) → List ℕ → List ℕ → ℕ → ℕ → List ℕ → DeskFault → Type 0
 IsRefusedAnswer refuses set limits first days journal fault =
     IsRefusedLoad set limits first days fault ⊎ IsRefusedJournalOver refuses set limits first days journal fault
 
-abbrev pub IsRefusedAnswerOf : {S L : Type 0} → (Legs → DeskFault → List ℕ → Type 0) → Bytes S → Bytes L → Inputs S L → Option (List ℕ) → DeskFault → Type 0
+abbrev pub IsRefusedAnswerOf : {S L : Type 0} → (Ladders → DeskFault → List ℕ → Type 0) → Bytes S → Bytes L → Inputs S L → Option (List ℕ) → DeskFault → Type 0
 IsRefusedAnswerOf refuses set limits inputs journal fault =
     IfSome (set inputs.set) (λ xs. IfSome (limits inputs.limits) (λ ys. IfSome journal (λ zs. IsRefusedAnswer refuses xs ys inputs.first inputs.days zs fault)))
 

@@ -1,7 +1,7 @@
 -- What `audit` writes: one line that says that a journal is legal, and what it comes to.
 use Rattle.std.specs.Prelude.{◌≡◌, ◌≤◌, ◌<◌, ◌⊎◌, ℕ, List, [], ◌∷◌, ◌++◌, length, decimal, codes, Option, Some, IfSome}
 use Rattle.ssim_flights.specs.declared.flight.Flight.{Flight as Flown}
-use Rattle.seat_nesting.specs.Nesting.{Legs}
+use Rattle.seat_nesting.specs.Nesting.{Ladders}
 use Rattle.seat_journal.specs.Text.{IsJournalText}
 use Rattle.seat_journal.specs.Reading.{IsFirstFault}
 use Rattle.seat_journal.specs.declared.entry.Entry.{Entry}
@@ -36,7 +36,7 @@ abbrev pub most_journal_bytes : ℕ
 most_journal_bytes = 268_435_456
 
 -- the bytes are the text of a legal history over these limits, after which no leg holds more than the limits that it leaves, and the line says what it comes to
-pub record IsAudited (grid : Legs) (bytes line : List ℕ) : Type 0 where
+pub record IsAudited (grid : Ladders) (bytes line : List ℕ) : Type 0 where
   pub entries : List Entry
   pub is_text : IsJournalText bytes entries
   pub legal : IsLegal grid entries
@@ -45,7 +45,7 @@ pub record IsAudited (grid : Legs) (bytes line : List ℕ) : Type 0 where
   pub sums : line ≡ audit_line (totals_of entries)
 
 -- the bytes are the text of a legal history over these limits, and the inventory is what it comes to and takes as many lines as a journal has at most, after which no leg holds more than the limits that it leaves
-pub record IsReplayOf (grid : Legs) (bytes : List ℕ) (core : Inventory) : Type 0 where
+pub record IsReplayOf (grid : Ladders) (bytes : List ℕ) (core : Inventory) : Type 0 where
   pub grid_is : core.grid ≡ grid
   pub cap_is : core.cap ≡ most_lines
   pub is_text : IsJournalText bytes core.journal
@@ -54,18 +54,18 @@ pub record IsReplayOf (grid : Legs) (bytes : List ℕ) (core : Inventory) : Type
   pub within : HoldsWithinLimits grid core.journal
 
 -- the fault is the first of the text, or that of the entries that it is the text of
-abbrev pub IsRefusedJournal : Legs → DeskFault → List ℕ → Type 0
+abbrev pub IsRefusedJournal : Ladders → DeskFault → List ℕ → Type 0
 IsRefusedJournal grid (Journal fault) bytes = IsFirstFault bytes fault.line fault.kind
 IsRefusedJournal grid (Replay fault) bytes =
     (entries : List Entry) × IsJournalText bytes entries × (replay_fault grid most_lines entries ≡ Some fault)
 IsRefusedJournal grid _ bytes = ⊥
 
 -- and there is no such history
-abbrev pub IsUnaudited : Legs → List ℕ → Type 0
+abbrev pub IsUnaudited : Ladders → List ℕ → Type 0
 IsUnaudited grid bytes = (entries : List Entry) → IsJournalText bytes entries → IsLegal grid entries → length entries ≤ most_lines → ⊥
 
 -- the bytes are not too large, but they are refused
-pub record IsUnlawful (grid : Legs) (fault : DeskFault) (bytes : List ℕ) : Type 0 where
+pub record IsUnlawful (grid : Ladders) (fault : DeskFault) (bytes : List ℕ) : Type 0 where
   pub within : length bytes ≤ most_journal_bytes
   pub refused : IsRefusedJournal grid fault bytes
   pub none : IsUnaudited grid bytes
@@ -88,7 +88,7 @@ replay_refusal fault = replay_refusal_of fault.kind fault
 -- the line audits the journal, which is not too large, over that grid
 pub record IsAudit (set limits : List ℕ) (first days : ℕ) (journal line : List ℕ) : Type 0 where
   pub flights : List Flown
-  pub grid : Legs
+  pub grid : Ladders
   pub is_loaded : IsLoaded set limits first days flights grid
   pub within : length journal ≤ most_journal_bytes
   pub is_audited : IsAudited grid journal line
@@ -101,7 +101,7 @@ IsAuditOf set limits inputs journal line =
 -- a journal that is refused over that grid
 pub record IsRefusedOver (set limits : List ℕ) (first days : ℕ) (fault : DeskFault) (journal : List ℕ) : Type 0 where
   pub flights : List Flown
-  pub grid : Legs
+  pub grid : Ladders
   pub is_loaded : IsLoaded set limits first days flights grid
   pub is_unlawful : IsUnlawful grid fault journal
 

@@ -8,8 +8,8 @@ use Rattle.seat_desk.specs.declared.fault.DeskFault.{DeskFault}
 use Rattle.seat_desk.specs.declared.fault.DeskFault.TheVariants.{Set}
 
 -- 256 MiB
-abbrev pub most_bytes : ℕ
-most_bytes = 268_435_456
+abbrev pub most_set_bytes : ℕ
+most_set_bytes = 268_435_456
 
 -- the most numbered records, as many as six digits count
 abbrev pub most_records : ℕ
@@ -17,7 +17,7 @@ most_records = 999_999
 
 -- the bytes are not too large, but they are no data set, and the fault is their first
 pub record IsNoSet (fault : SetFault) (bytes : List ℕ) : Type 0 where
-  pub within : length bytes ≤ most_bytes
+  pub within : length bytes ≤ most_set_bytes
   pub first : IsFirstFault most_records bytes fault.nth fault.kind
   pub none : (set : DataSet) → IsDataSet most_records bytes set → ⊥
 

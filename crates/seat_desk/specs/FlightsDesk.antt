@@ -12,7 +12,7 @@ use Rattle.ssim_flights.specs.declared.fault.FlightKind.{FlightKind}
 use Rattle.ssim_flights.specs.declared.fault.FlightKind.TheVariants as flight_kinds
 use Rattle.ssim_flights.specs.declared.flight.DatedLeg.{DatedLeg}
 use Rattle.ssim_flights.specs.declared.flight.Flight.{Flight as Flown}
-use Rattle.seat_desk.specs.CheckDesk.{IsRefusedSet, most_bytes, most_records}
+use Rattle.seat_desk.specs.CheckDesk.{IsRefusedSet, most_set_bytes, most_records}
 use Rattle.seat_desk.specs.declared.fault.DeskFault.{DeskFault}
 use Rattle.seat_desk.specs.declared.fault.DeskFault.TheVariants.{Set, Flight, Memory}
 
@@ -86,6 +86,6 @@ HasNoSchedule first days bytes = (flights : List Flown) → IsSchedule bytes fir
 
 -- the bytes are not too large, but they are refused
 pub record IsUnscheduled (first days : ℕ) (fault : DeskFault) (bytes : List ℕ) : Type 0 where
-  pub within : length bytes ≤ most_bytes
+  pub within : length bytes ≤ most_set_bytes
   pub refused : IsRefusedSchedule first days fault bytes
   pub none : HasNoSchedule first days bytes

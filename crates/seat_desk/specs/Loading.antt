@@ -4,12 +4,12 @@ use Rattle.std.specs.Str.Lines.{lines}
 use Rattle.ssim_flights.specs.declared.flight.Flight.{Flight as Flown}
 use Rattle.seat_limits.specs.Authorised.{authorised_grid}
 use Rattle.seat_limits.specs.LimitRows.{IsLimitText, rows_in}
-use Rattle.seat_nesting.specs.Nesting.{Legs}
+use Rattle.seat_nesting.specs.Nesting.{Ladders}
 use Rattle.seat_limits.specs.declared.limit_fault.LimitFault.{LimitFault}
 use Rattle.seat_limits.specs.declared.limit_fault.LimitKind.{LimitKind}
 use Rattle.seat_limits.specs.declared.limit_fault.LimitKind.TheVariants as limit_kinds
 use Rattle.seat_limits.specs.declared.limit_row.LimitRow.{LimitRow}
-use Rattle.seat_desk.specs.CheckDesk.{most_bytes}
+use Rattle.seat_desk.specs.CheckDesk.{most_set_bytes}
 use Rattle.seat_desk.specs.FlightsDesk.{IsSchedule, IsUnscheduled}
 use Rattle.seat_desk.specs.Desk.{HasFailed}
 use Rattle.seat_desk.specs.declared.inputs.Inputs.{Inputs}
@@ -21,20 +21,20 @@ abbrev pub most_limit_bytes : ℕ
 most_limit_bytes = 16_777_216
 
 -- some limit rows authorise the ladder of each dated leg
-pub record IsGridOf (flights : List Flown) (grid : Legs) : Type 0 where
+pub record IsGridOf (flights : List Flown) (grid : Ladders) : Type 0 where
   pub rows : List LimitRow
   pub is : grid ≡ authorised_grid rows flights
 
 -- each dated leg of the data set's flights has the ladder that the limit rows authorise
-pub record IsLoadedGrid (set limits : List ℕ) (first days : ℕ) (flights : List Flown) (grid : Legs) : Type 0 where
+pub record IsLoadedGrid (set limits : List ℕ) (first days : ℕ) (flights : List Flown) (grid : Ladders) : Type 0 where
   pub rows : List LimitRow
   pub is_schedule : IsSchedule set first days flights
   pub are_rows : IsLimitText limits rows
   pub grid_is : grid ≡ authorised_grid rows flights
 
 -- and neither is too large
-pub record IsLoaded (set limits : List ℕ) (first days : ℕ) (flights : List Flown) (grid : Legs) : Type 0 where
-  pub set_within : length set ≤ most_bytes
+pub record IsLoaded (set limits : List ℕ) (first days : ℕ) (flights : List Flown) (grid : Ladders) : Type 0 where
+  pub set_within : length set ≤ most_set_bytes
   pub limits_within : length limits ≤ most_limit_bytes
   pub loaded : IsLoadedGrid set limits first days flights grid
 
@@ -43,7 +43,7 @@ abbrev pub Bytes : Type 0 → Type 0
 Bytes D = D → Option (List ℕ)
 
 -- where the bytes of both are known
-abbrev pub IsLoadedOf : {S L : Type 0} → Bytes S → Bytes L → Inputs S L → List Flown → Legs → Type 0
+abbrev pub IsLoadedOf : {S L : Type 0} → Bytes S → Bytes L → Inputs S L → List Flown → Ladders → Type 0
 IsLoadedOf set limits inputs flights grid =
     IfSome (set inputs.set) (λ xs. IfSome (limits inputs.limits) (λ ys. IsLoaded xs ys inputs.first inputs.days flights grid))
 
@@ -67,7 +67,7 @@ IsUnlimited limits _ = ⊥
 -- the set is not too large and has flights, but the limits are refused
 pub record IsRefusedLimits (set limits : List ℕ) (first days : ℕ) (fault : LimitFault) : Type 0 where
   pub flights : List Flown
-  pub set_within : length set ≤ most_bytes
+  pub set_within : length set ≤ most_set_bytes
   pub is_schedule : IsSchedule set first days flights
   pub wrong : AreNoRows limits fault
 
@@ -83,7 +83,7 @@ pub record IsRefusedLoad (set limits : List ℕ) (first days : ℕ) (fault : Des
 
 -- the set or the limits are too large
 abbrev pub IsTooLargeLoad : List ℕ → List ℕ → Type 0
-IsTooLargeLoad set limits = (most_bytes < length set) ⊎ (most_limit_bytes < length limits)
+IsTooLargeLoad set limits = (most_set_bytes < length set) ⊎ (most_limit_bytes < length limits)
 
 -- where the bytes of both are known
 abbrev pub IsRefusedLoadOf : {S L : Type 0} → Bytes S → Bytes L → Inputs S L → DeskFault → Type 0
@@ -101,7 +101,7 @@ HaveFailed of_set of_limits old new = HasFailed of_set old.set new.set ⊎ HasFa
 
 -- the set has these flights and the limits are these rows, and neither is too large
 pub record IsGround (set limits : List ℕ) (first days : ℕ) (flights : List Flown) (rows : List LimitRow) : Type 0 where
-  pub set_within : length set ≤ most_bytes
+  pub set_within : length set ≤ most_set_bytes
   pub limits_within : length limits ≤ most_limit_bytes
   pub is_schedule : IsSchedule set first days flights
   pub are_rows : IsLimitText limits rows
@@ -114,7 +114,7 @@ IsGroundOf set limits inputs flights rows =
 -- the set is not too large, and has flights
 pub record HasSchedule (first days : ℕ) (set : List ℕ) : Type 0 where
   pub flights : List Flown
-  pub within : length set ≤ most_bytes
+  pub within : length set ≤ most_set_bytes
   pub is_schedule : IsSchedule set first days flights
 
 -- something is wrong, behind what is right
@@ -124,7 +124,7 @@ pub record IsBehind (right wrong : Type 0) : Type 0 where
 
 -- the set is too large, or the limits are behind a right set
 abbrev pub IsFirstTooLargeLoad : List ℕ → List ℕ → ℕ → ℕ → Type 0
-IsFirstTooLargeLoad set limits first days = (most_bytes < length set) ⊎ IsBehind (HasSchedule first days set) (most_limit_bytes < length limits)
+IsFirstTooLargeLoad set limits first days = (most_set_bytes < length set) ⊎ IsBehind (HasSchedule first days set) (most_limit_bytes < length limits)
 
 abbrev pub IsFirstTooLargeLoadOf : {S L : Type 0} → Bytes S → Bytes L → Inputs S L → Type 0
 IsFirstTooLargeLoadOf set limits inputs =

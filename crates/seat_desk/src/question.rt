@@ -11,15 +11,15 @@ use std::alloc::Global;
 pub trait Question {
     ghost use Rattle.std.specs.Prelude.{ℕ, List};
     ghost use Rattle.seat_limits.specs.declared.limit_row.LimitRow.{LimitRow};
-    ghost use Rattle.seat_nesting.specs.Nesting.{Legs};
+    ghost use Rattle.seat_nesting.specs.Nesting.{Ladders};
     ghost use Rattle.ssim_flights.specs.declared.flight.Flight.{Flight};
     ghost use Rattle.seat_desk.specs.declared.fault.DeskFault.{DeskFault};
 
     // What the text says of the flights, the limit rows, the ladders that these give, and the bytes of the journal.
-    ghost answers: { Self → List Flight → List LimitRow → Legs → List ℕ → List ℕ → Type 0 };
+    ghost answers: { Self → List Flight → List LimitRow → Ladders → List ℕ → List ℕ → Type 0 };
 
     // Why the bytes of a journal over these ladders have no answer.
-    ghost refuses: { Self → Legs → DeskFault → List ℕ → Type 0 };
+    ghost refuses: { Self → Ladders → DeskFault → List ℕ → Type 0 };
 
     /// The answer, if the journal has one. What of the flights and limits is not needed can be dropped first.
     fn text(&self, alloc: Global, loaded: Loaded, journal: Vec<u8>) -> Result<Vec<u8>, DeskFault>

@@ -2,7 +2,7 @@
 ghost use Rattle.std.specs.Prelude.{◌≡◌, ◌≢◌, ◌<◌, ◌≤◌, IfErr, IfOk, length};
 ghost use Rattle.ssim_flights.specs.Right.{IsOfCentury};
 ghost use Rattle.ssim_records.specs.SetText.{IsDataSet};
-ghost use Rattle.seat_desk.specs.CheckDesk.{IsRefusedSet, most_bytes, most_records};
+ghost use Rattle.seat_desk.specs.CheckDesk.{IsRefusedSet, most_set_bytes, most_records};
 ghost use Rattle.seat_desk.specs.FlightsDesk.{IsSchedule, IsUnscheduled, expansion_fault};
 
 use crate::fault::DeskFault;
@@ -22,7 +22,7 @@ const MOST_FLIGHTS: u32 = 100_000;
 
 /// Reads these bytes as a data set.
 pub fn data_set(alloc: Global, bytes: &[u8]) -> Result<DataSet, DeskFault>
-    requires { length bytes.now ≤ most_bytes }
+    requires { length bytes.now ≤ most_set_bytes }
     ensures ok { IfOk result (IsDataSet most_records bytes.now) }
     ensures fault { IfErr result (λ f. f ≢ DeskFault.Memory → IsRefusedSet f bytes.now) }
     ensures kind { IfErr result (λ f. (f ≢ DeskFault.Device) × (f ≢ DeskFault.TooLarge)) }
@@ -39,7 +39,7 @@ pub fn data_set(alloc: Global, bytes: &[u8]) -> Result<DataSet, DeskFault>
 /// Reads these bytes as a data set, and expands its dated flights.
 #[tactic(auto, using(ssim_flights::proofs::RightSets::right_carrier, ssim_flights::proofs::RightSets::right_legs))]
 pub fn scheduled(alloc: Global, bytes: &[u8], first: Day, days: u16) -> Result<Flights, DeskFault>
-    requires size { length bytes.now ≤ most_bytes }
+    requires size { length bytes.now ≤ most_set_bytes }
     requires first { IsOfCentury first }
     requires days { (1 ≤ days) × (days ≤ 366) }
     ensures ok { IfOk result (IsSchedule bytes.now first days) }

@@ -8,8 +8,8 @@ use Rattle.logbook.specs.Pages.{Book}
 use Rattle.crossbeam_utils.specs.Register.{Admits, Turns, TurnsAt, Forks, Merges}
 use Rattle.atomic_table.proofs.Lists.{at_set, at_snoc}
 use Rattle.airline_base.specs.declared.place.Place.{Place}
-use Rattle.seat_nesting.specs.Nesting.{Legs, room}
-use Rattle.seat_nesting.specs.Counting.{Counted, limits_of, seats_of}
+use Rattle.seat_nesting.specs.Nesting.{Ladders, room}
+use Rattle.seat_nesting.specs.Counting.{Counted, limits_of, table_of}
 use Rattle.seat_journal.specs.declared.entry.Entry.{Entry}
 use Rattle.seat_rules.specs.Sequential.{room_left}
 use Rattle.seat_rules.specs.Journal.{IsLegal, replay}
@@ -28,22 +28,22 @@ use Rattle.seat_display.proofs.Tidy.{IsOnLadders, written, own}
 off : false ≡ true → ⊥
 off e = true≢false (sym e)
 
-right_nobody : (grid : Legs) (x : Table) → KnowsRight grid x nobody
+right_nobody : (grid : Ladders) (x : Table) → KnowsRight grid x nobody
 right_nobody grid x e = absurd (off e)
 
-right_set : (grid : Legs) (x : Table) (views : List View) (seat : ℕ) (w : View) → ((j : ℕ) (u : View) → get_elem? views j ≡ some u → KnowsRight grid x u) → KnowsRight grid x w
+right_set : (grid : Ladders) (x : Table) (views : List View) (seat : ℕ) (w : View) → ((j : ℕ) (u : View) → get_elem? views j ≡ some u → KnowsRight grid x u) → KnowsRight grid x w
     → (j : ℕ) (u : View) → get_elem? (set views seat w) j ≡ some u → KnowsRight grid x u
 right_set grid x views seat w others mine j u e =
     ⊎_elim (λ (t : (j ≡ seat) × (w ≡ u)). subst (KnowsRight grid x) t.1 mine) (λ (t : (j ≢ seat) × (get_elem? views j ≡ some u)). others j u t.1) (at_set views seat j w u e)
 
-right_snoc : (grid : Legs) (x : Table) (views : List View) (w : View) → ((j : ℕ) (u : View) → get_elem? views j ≡ some u → KnowsRight grid x u) → KnowsRight grid x w
+right_snoc : (grid : Ladders) (x : Table) (views : List View) (w : View) → ((j : ℕ) (u : View) → get_elem? views j ≡ some u → KnowsRight grid x u) → KnowsRight grid x w
     → (j : ℕ) (u : View) → get_elem? (views ++ w ∷ []) j ≡ some u → KnowsRight grid x u
 right_snoc grid x views w others mine j u e =
     ⊎_elim (λ was. others j u was) (λ (same : w ≡ u). subst (KnowsRight grid x) same mine) (at_snoc views w u j e)
 
 -- ---- the rule
 
-pub begins : (x : Table) (grid : Legs) (book : Book) → IsEmptyTable x grid book → Kept x (nobody ∷ [])
+pub begins : (x : Table) (grid : Ladders) (book : Book) → IsEmptyTable x grid book → Kept x (nobody ∷ [])
 begins x grid book h = record {
   grid = grid;
   leaves = h.leaves;
@@ -56,7 +56,7 @@ admits x views h = record { grid = h.grid; leaves = h.leaves; each = right_snoc 
 -- a change of the table to one that is right too
 pub turns : (seat : ℕ) (v : View) (x y : Table) → Follows v x y → TurnsAt Kept seat v x y Sees
 turns seat v x y f views h at =
-    let grid : Legs = h.grid in
+    let grid : Ladders = h.grid in
     let w : View = record { knows = true; grid = grid; seen = y.seen } in
     let mine : KnowsRight grid x v = h.each seat v at in
     let leaves : Leaves grid y = f.leaves grid (λ e. (mine e).0) h.leaves in
@@ -87,47 +87,47 @@ merges seat v other w x views h at apart there =
 -- ---- tables and histories
 
 -- the limits and the seats that a history leaves, entry after entry
-left_next : (grid : Legs) (past : List Entry) (e : Entry) → IsLegal grid (past ++ e ∷ []) → shown (left_by grid past) e ≡ left_by grid (past ++ e ∷ [])
+left_next : (grid : Ladders) (past : List Entry) (e : Entry) → IsLegal grid (past ++ e ∷ []) → shown (left_by grid past) e ≡ left_by grid (past ++ e ∷ [])
 left_next grid past e legal =
     let before = legal_prefix grid past (past ++ e ∷ []) (begins_longer past (e ∷ [])) legal in
     ap (λ (s : Standing). shown s e) (sym (shown_is_held grid past before)) ∙ sym (fold_push shown (unsold grid) past e) ∙ shown_is_held grid (past ++ e ∷ []) legal
 
 -- the seats stand at the classes of their legs
-left_on : (grid : Legs) (journal : List Entry) → IsOnLadders (left_by grid journal).limits (left_by grid journal).seats
+left_on : (grid : Ladders) (journal : List Entry) → IsOnLadders (left_by grid journal).limits (left_by grid journal).seats
 left_on grid journal = record { none = lacks_replay grid journal }
 
 -- the room in the counters that a history leaves
-pub room_shown : (x : Table) (grid : Legs) (place : Place) (class : ℕ) → Leaves grid x
-    → room (limits_of x.counts) (seats_of x.counts) place class ≡ room_left (replay grid x.seen.log) place class
+pub room_shown : (x : Table) (grid : Ladders) (place : Place) (class : ℕ) → Leaves grid x
+    → room (limits_of x.counts) (table_of x.counts) place class ≡ room_left (replay grid x.seen.log) place class
 room_shown x grid place class h = ap (λ (s : Standing). room s.limits s.seats place class) h.standing
 
 next_if : (n : ℕ) → n + 1 < 2 ^ 32 → one_more n ≡ n + 1
 next_if n lt = grind (arith, nat_tests)
 
 -- the table, so written, whose counters are those that a list leaves
-abbrev pub counted : Legs → Table → List Entry → Table
+abbrev pub counted : Ladders → Table → List Entry → Table
 counted grid t log = record { counts = counters_of (left_by grid log); lines = length log; seen = t.seen }
 
 table_is : (c d : Counted) (n m : ℕ) (t : Table) → c ≡ d → n ≡ m → let x : Table = record { counts = c; lines = n; seen = t.seen } in let y : Table = record { counts = d; lines = m; seen = t.seen } in x ≡ y
 table_is c d n m t p q i = record { counts = p i; lines = q i; seen = t.seen }
 
 -- a right table is the one that its history leaves
-counted_is : (grid : Legs) (x : Table) → Leaves grid x → tidied x ≡ counted grid x x.seen.log
+counted_is : (grid : Ladders) (x : Table) → Leaves grid x → tidied x ≡ counted grid x x.seen.log
 counted_is grid x h = table_is _ _ _ _ x (ap counters_of h.standing) h.lines
 
 -- one entry more, where it is the next one
-counts_next : (grid : Legs) (log : List Entry) (e : Entry) → IsLegal grid (log ++ e ∷ []) → counts_after (counters_of (left_by grid log)) e ≡ counters_of (left_by grid (log ++ e ∷ []))
+counts_next : (grid : Ladders) (log : List Entry) (e : Entry) → IsLegal grid (log ++ e ∷ []) → counts_after (counters_of (left_by grid log)) e ≡ counters_of (left_by grid (log ++ e ∷ []))
 counts_next grid log e legal =
     ap (λ (s : Standing). counters_of (shown s e)) (written (left_by grid log) (left_on grid log)) ∙ ap counters_of (left_next grid log e legal)
 
-show_next : (grid : Legs) (t : Table) (log : List Entry) (e : Entry) → IsLegal grid (log ++ e ∷ []) → length log + 1 < 2 ^ 32
+show_next : (grid : Ladders) (t : Table) (log : List Entry) (e : Entry) → IsLegal grid (log ++ e ∷ []) → length log + 1 < 2 ^ 32
     → apply (counted grid t log) (Line e) ≡ counted grid t (log ++ e ∷ [])
 show_next grid t log e legal short =
     let lines : one_more (length log) ≡ length (log ++ e ∷ []) = next_if (length log) short ∙ sym (omega (arith, length-append log (e ∷ []))) in
     table_is _ _ _ _ t (counts_next grid log e legal) lines
 
 -- the table of a legal history is what its entries leave, one after another
-shows : (grid : Legs) (t : Table) (log es : List Entry) → IsLegal grid (log ++ es) → length (log ++ es) < 2 ^ 32
+shows : (grid : Ladders) (t : Table) (log es : List Entry) → IsLegal grid (log ++ es) → length (log ++ es) < 2 ^ 32
     → fold apply (counted grid t log) (map Line es) ≡ counted grid t (log ++ es)
 shows grid t log [] legal short = ap (counted grid t) (sym (append-nil log))
 shows grid t log (e ∷ es) legal short =
@@ -146,14 +146,14 @@ fold-snoc t (p ∷ ops) o = fold-snoc (apply t p) ops o
 -- ---- a table and its so written form
 
 -- it is right where the form is, and the other way round
-leaves_tidied : (grid : Legs) (x : Table) → Leaves grid (tidied x) → Leaves grid x
+leaves_tidied : (grid : Ladders) (x : Table) → Leaves grid (tidied x) → Leaves grid x
 leaves_tidied grid x h = record { legal = h.legal; standing = sym (own x.counts) ∙ h.standing; lines = h.lines }
 
-leaves_of_tidied : (grid : Legs) (x : Table) → Leaves grid x → Leaves grid (tidied x)
+leaves_of_tidied : (grid : Ladders) (x : Table) → Leaves grid x → Leaves grid (tidied x)
 leaves_of_tidied grid x h = record { legal = h.legal; standing = own x.counts ∙ h.standing; lines = h.lines }
 
 -- a table with this form
-leaves_as : (grid : Legs) (x y : Table) → tidied x ≡ y → Leaves grid y → Leaves grid x
+leaves_as : (grid : Ladders) (x y : Table) → tidied x ≡ y → Leaves grid y → Leaves grid x
 leaves_as grid x y is h = leaves_tidied grid x (subst (Leaves grid) (sym is) h)
 
 pub follows_as : (v : View) (x y z : Table) → tidied z ≡ y → Follows v x y → Follows v x z
@@ -174,7 +174,7 @@ map-snoc [] e = refl
 map-snoc (x ∷ es) e = ap (λ l. Line x ∷ l) (map-snoc es e)
 
 -- an appended entry keeps the publisher ready
-pub ready_append : (grid : Legs) (shown : Table) (log : List Entry) (ops now : List Op) (lines more : ℕ) (e : Entry) → Ready grid shown log ops lines more → now ≡ ops ++ Line e ∷ []
+pub ready_append : (grid : Ladders) (shown : Table) (log : List Entry) (ops now : List Op) (lines more : ℕ) (e : Entry) → Ready grid shown log ops lines more → now ≡ ops ++ Line e ∷ []
     → IsLegal grid ((log ++ entries_of ops) ++ e ∷ []) → lines + more + 1 < 2 ^ 32 → Ready grid shown log now lines (more + 1)
 ready_append grid shown log ops now lines more e r is legal short =
     let es : entries_of now ≡ entries_of ops ++ e ∷ [] = ap entries_of is ∙ entries-snoc ops e in
@@ -189,7 +189,7 @@ ready_append grid shown log ops now lines more e r is legal short =
     }
 
 -- what is shown once the pending entries and the mark are applied
-pub applied_all : (grid : Legs) (shown : Table) (log : List Entry) (ops : List Op) (lines more : ℕ) → Ready grid shown log ops lines more → (m : Op)
+pub applied_all : (grid : Ladders) (shown : Table) (log : List Entry) (ops : List Op) (lines more : ℕ) → Ready grid shown log ops lines more → (m : Op)
     → fold apply (tidied shown) (ops ++ m ∷ []) ≡ apply (counted grid shown (log ++ entries_of ops)) m
 applied_all grid shown log ops lines more r m =
     let es = entries_of ops in
@@ -199,7 +199,7 @@ applied_all grid shown log ops lines more r m =
     ∙ ap (λ t. apply t m) (ap (λ l. fold apply (tidied shown) l) r.plain ∙ ap (λ t. fold apply t (map Line es)) is ∙ shows grid shown log es r.legal n)
 
 -- the table that is shown next: these counters, this count, and a history of all entries
-leaves_marked : (grid : Legs) (all : List Entry) (y : Table) → IsLegal grid all → y.counts ≡ counters_of (left_by grid all) → y.lines ≡ length all → y.seen.log ≡ all → Leaves grid y
+leaves_marked : (grid : Ladders) (all : List Entry) (y : Table) → IsLegal grid all → y.counts ≡ counters_of (left_by grid all) → y.lines ≡ length all → y.seen.log ≡ all → Leaves grid y
 leaves_marked grid all y legal counts lines log = record {
   legal = subst (IsLegal grid) (sym log) legal;
   standing = ap standing_of counts ∙ written (left_by grid all) (left_on grid all) ∙ ap (left_by grid) (sym log);
@@ -207,20 +207,20 @@ leaves_marked grid all y legal counts lines log = record {
 }
 
 -- it follows the one that was shown, for a side that knows the grid
-pub follows_marked : (grid : Legs) (shown : Table) (log : List Entry) (ops : List Op) (lines more : ℕ) → Ready grid shown log ops lines more
+pub follows_marked : (grid : Ladders) (shown : Table) (log : List Entry) (ops : List Op) (lines more : ℕ) → Ready grid shown log ops lines more
     → (v u : View) → v.knows ≡ true → v.grid ≡ grid → u.seen.log ≡ log ++ entries_of ops → u.seen.book ≡ shown.seen.book
     → (x y : Table) → x ≡ shown → y ≡ apply (counted grid shown (log ++ entries_of ops)) (Mark u.seen) → Follows v x y
 follows_marked grid shown log ops lines more r v u knows same all book x y was is =
     let right : Leaves grid y =
     leaves_marked grid (log ++ entries_of ops) y r.legal (ap (λ (t : Table). t.counts) is) (ap (λ (t : Table). t.lines) is) (ap (λ (t : Table). t.seen.log) is ∙ all) in
     record {
-      leaves = λ other may old. subst (λ (g : Legs). Leaves g y) (sym same ∙ may knows) right;
+      leaves = λ other may old. subst (λ (g : Ladders). Leaves g y) (sym same ∙ may knows) right;
       book = ap (λ (t : Table). t.seen.book) is ∙ book ∙ sym (ap (λ (t : Table). t.seen.book) was);
     }
 
 -- the publisher is ready again once all that was pending is shown
-pub ready_after : (grid : Legs) (shown : Table) (log : List Entry) (ops : List Op) (n k : ℕ) → Ready grid shown log ops n k
-    → (y : Table) (all : List Entry) (now : List Op) (grid' : Legs) → all ≡ log ++ entries_of ops → Leaves grid' y → y.seen.log ≡ all → now ≡ [] → Ready grid' y all now (n + k) 0
+pub ready_after : (grid : Ladders) (shown : Table) (log : List Entry) (ops : List Op) (n k : ℕ) → Ready grid shown log ops n k
+    → (y : Table) (all : List Entry) (now : List Op) (grid' : Ladders) → all ≡ log ++ entries_of ops → Leaves grid' y → y.seen.log ≡ all → now ≡ [] → Ready grid' y all now (n + k) 0
 ready_after grid shown log ops n k r y all now grid' is leaves seen none =
     subst (λ (l : List Op). Ready grid' y all l (n + k) 0) (sym none) (record {
       leaves = leaves;
@@ -232,7 +232,7 @@ ready_after grid shown log ops n k r y all now grid' is leaves seen none =
       short = omega (arith, r.short);
     })
 
-pub ready_open : (shown : Table) (grid : Legs) (book : Book) (log : List Entry) (ops : List Op) → IsEmptyTable shown grid book → log ≡ [] → ops ≡ [] → Ready grid shown log ops 0 0
+pub ready_open : (shown : Table) (grid : Ladders) (book : Book) (log : List Entry) (ops : List Op) → IsEmptyTable shown grid book → log ≡ [] → ops ≡ [] → Ready grid shown log ops 0 0
 ready_open shown grid book log ops h none plain =
     subst (λ (t : List Entry × List Op). Ready grid shown t.0 t.1 0 0) (λ i. (sym none i, sym plain i)) (record {
       leaves = h.leaves;
@@ -247,10 +247,10 @@ ready_open shown grid book log ops h none plain =
 -- ---- a table with no line
 
 -- what is left over the opening grid where there is no line
-left_none : (grid : Legs) (log : List Entry) → log ≡ [] → left_by grid log ≡ unsold grid
+left_none : (grid : Ladders) (log : List Entry) → log ≡ [] → left_by grid log ≡ unsold grid
 left_none grid log none = ap (left_by grid) none
 
-pub empty_leaves : (x : Table) (grid : Legs) (book : Book) → limits_of x.counts ≡ grid → ((f l k : ℕ) → seats_of x.counts f l k ≡ 0) → x.lines ≡ 0 → x.seen.log ≡ [] → x.seen.book ≡ book → IsEmptyTable x grid book
+pub empty_leaves : (x : Table) (grid : Ladders) (book : Book) → limits_of x.counts ≡ grid → ((f l k : ℕ) → table_of x.counts f l k ≡ 0) → x.lines ≡ 0 → x.seen.log ≡ [] → x.seen.book ≡ book → IsEmptyTable x grid book
 empty_leaves x grid book limits seats lines none book_is = record {
   limits = limits;
   book_is = book_is;
@@ -263,7 +263,7 @@ empty_leaves x grid book limits seats lines none book_is = record {
 }
 
 -- two of them with the same history have the same form
-pub empty_alike : (x y : Table) (grid : Legs) (book : Book) → IsEmptyTable x grid book → IsEmptyTable y grid book → x.seen ≡ y.seen → tidied x ≡ tidied y
+pub empty_alike : (x y : Table) (grid : Ladders) (book : Book) → IsEmptyTable x grid book → IsEmptyTable y grid book → x.seen ≡ y.seen → tidied x ≡ tidied y
 empty_alike x y grid book h k seen =
     let log : x.seen.log ≡ y.seen.log = h.none ∙ sym k.none in
     let standing : standing_of x.counts ≡ standing_of y.counts = h.leaves.standing ∙ ap (left_by grid) log ∙ sym k.leaves.standing in
@@ -271,7 +271,7 @@ empty_alike x y grid book h k seen =
     λ i. record { counts = counters_of (standing i); lines = lines i; seen = seen i }
 
 -- over whatever grid it is right, marks of its own history leave it so
-marked_leaves : (grid : Legs) (x : Table) (u : View) → Leaves grid x → x.seen.log ≡ u.seen.log → let y : Table = record { counts = (tidied x).counts; lines = x.lines; seen = u.seen } in Leaves grid y
+marked_leaves : (grid : Ladders) (x : Table) (u : View) → Leaves grid x → x.seen.log ≡ u.seen.log → let y : Table = record { counts = (tidied x).counts; lines = x.lines; seen = u.seen } in Leaves grid y
 marked_leaves grid x u h log =
     let was = leaves_of_tidied grid x h in
     record {
@@ -285,7 +285,7 @@ twice_marked : (x : Table) (u : View) (old ops : List Op) → old ≡ [] → ops
     → let y : Table = record { counts = (tidied x).counts; lines = x.lines; seen = u.seen } in fold apply (tidied x) ops ≡ y
 twice_marked x u old ops plain is = ap (fold apply (tidied x)) (is ∙ ap (λ (l : List Op). (l ++ Mark u.seen ∷ []) ++ Mark u.seen ∷ []) plain)
 
-pub warmed : (x : Table) (grid : Legs) (book : Book) (u : View) (old ops : List Op) → IsEmptyTable x grid book → u.seen.book ≡ book → u.seen.log ≡ [] → old ≡ [] → ops ≡ (old ++ Mark u.seen ∷ []) ++ Mark u.seen ∷ []
+pub warmed : (x : Table) (grid : Ladders) (book : Book) (u : View) (old ops : List Op) → IsEmptyTable x grid book → u.seen.book ≡ book → u.seen.log ≡ [] → old ≡ [] → ops ≡ (old ++ Mark u.seen ∷ []) ++ Mark u.seen ∷ []
     → IsEmptyTable (fold apply (tidied x) ops) grid book
 warmed x grid book u old ops h book_is none plain is =
     subst (λ (t : Table). IsEmptyTable t grid book) (sym (twice_marked x u old ops plain is)) (record {
@@ -295,7 +295,7 @@ warmed x grid book u old ops h book_is none plain is =
       leaves = marked_leaves grid x u h.leaves (h.none ∙ sym none);
     })
 
-pub follows_warmed : (x : Table) (grid : Legs) (book : Book) (v u : View) (old ops : List Op) → IsEmptyTable x grid book → u.seen.book ≡ book → u.seen.log ≡ [] → old ≡ [] → ops ≡ (old ++ Mark u.seen ∷ []) ++ Mark u.seen ∷ []
+pub follows_warmed : (x : Table) (grid : Ladders) (book : Book) (v u : View) (old ops : List Op) → IsEmptyTable x grid book → u.seen.book ≡ book → u.seen.log ≡ [] → old ≡ [] → ops ≡ (old ++ Mark u.seen ∷ []) ++ Mark u.seen ∷ []
     → Follows v x (fold apply (tidied x) ops)
 follows_warmed x grid book v u old ops h book_is none plain is =
     subst (Follows v x) (sym (twice_marked x u old ops plain is)) (record {
@@ -303,7 +303,7 @@ follows_warmed x grid book v u old ops h book_is none plain is =
       book = book_is ∙ sym h.book_is;
     })
 
-pub empty_as : (x y : Table) (grid : Legs) (book : Book) → tidied x ≡ y → IsEmptyTable y grid book → IsEmptyTable x grid book
+pub empty_as : (x y : Table) (grid : Ladders) (book : Book) → tidied x ≡ y → IsEmptyTable y grid book → IsEmptyTable x grid book
 empty_as x y grid book is h = record {
   limits = sym (ap (λ (s : Standing). s.limits) (own x.counts)) ∙ ap (λ (t : Table). limits_of t.counts) is ∙ h.limits;
   book_is = ap (λ (t : Table). t.seen.book) is ∙ h.book_is;
@@ -312,5 +312,5 @@ empty_as x y grid book is h = record {
 }
 
 -- the grid over which an empty table is right is that of its limits
-pub grid_of_empty : (x : Table) (grid : Legs) → Leaves grid x → x.seen.log ≡ [] → grid ≡ limits_of x.counts
+pub grid_of_empty : (x : Table) (grid : Ladders) → Leaves grid x → x.seen.log ≡ [] → grid ≡ limits_of x.counts
 grid_of_empty x grid h none = sym (ap (λ (s : Standing). s.limits) (h.standing ∙ left_none grid x.seen.log none))

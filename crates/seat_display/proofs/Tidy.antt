@@ -2,8 +2,8 @@
 use Rattle.std.proofs.Common.{◌≡◌, ◌==◌, ◌||◌, ℕ, zero, suc, Bool, true, false, cond, List, [], ◌∷◌, map, refl, ap, sym, ◌∙◌, arith}
 use Rattle.std.specs.Prelude.{if◌then◌else◌}
 use Rattle.std.proofs.lemmas.Bool.Decides.{nat_tests}
-use Rattle.seat_nesting.specs.Nesting.{Legs, Steps, ByClass, Table as HeldSeats, ladder_at, legs_of, steps_at, has_class}
-use Rattle.seat_nesting.specs.Counting.{LegSeats, Counted, count_at, seats_on, leg_in, legs_in, leg_at, limits_of, seats_of}
+use Rattle.seat_nesting.specs.Nesting.{Ladders, Steps, ByClass, Table as HeldSeats, ladder_at, legs_of, steps_at, has_class}
+use Rattle.seat_nesting.specs.Counting.{LegSeats, Counted, count_at, held_on, leg_in, legs_in, leg_at, limits_of, table_of}
 use Rattle.seat_journal.specs.declared.entry.Entry.{Entry}
 use Rattle.seat_rules.specs.Showing.{Standing, shown, standing_of}
 use Rattle.seat_display.specs.declared.table.Table.{Table}
@@ -29,7 +29,7 @@ limits_at counts flight leg =
     legs_at (legs ∷ flights) (suc i) = legs_at flights i
 
 -- no seats stand at a class that its leg lacks
-pub record IsOnLadders (grid : Legs) (seats : HeldSeats) : Type 0 where
+pub record IsOnLadders (grid : Ladders) (seats : HeldSeats) : Type 0 where
   pub none : (flight leg class : ℕ) → has_class (ladder_at grid flight leg) class ≡ false → seats flight leg class ≡ 0
 
 -- ---- the limits of what is written
@@ -38,7 +38,7 @@ leg_limits : (legs : List Steps) (seats : ℕ → ByClass) → map (λ (l : LegS
 leg_limits [] seats = refl
 leg_limits (steps ∷ legs) seats = ap (λ (l : List Steps). steps ∷ l) (leg_limits legs (λ leg. seats (suc leg)))
 
-limits_written : (grid : Legs) (seats : HeldSeats) → limits_of (all_seats grid seats) ≡ grid
+limits_written : (grid : Ladders) (seats : HeldSeats) → limits_of (all_seats grid seats) ≡ grid
 limits_written [] seats = refl
 limits_written (legs ∷ flights) seats =
     λ i. leg_limits legs (seats 0) i ∷ limits_written flights (λ flight. seats (suc flight)) i
@@ -58,27 +58,27 @@ count_written (s ∷ lower) seats class = cases (class == s.class) refl (count_w
     cases false e below = below
 
 leg_written : (legs : List Steps) (seats : ℕ → ByClass) (leg class : ℕ) → (leg_in (flight_seats legs seats) leg).steps ≡ (leg_in (flight_seats legs seats) leg).steps
-    → seats_on (leg_in (flight_seats legs seats) leg) class ≡ (if has_class (leg_in (flight_seats legs seats) leg).steps class then seats leg class else 0)
+    → held_on (leg_in (flight_seats legs seats) leg) class ≡ (if has_class (leg_in (flight_seats legs seats) leg).steps class then seats leg class else 0)
 leg_written [] seats leg class same = refl
 leg_written (steps ∷ legs) seats zero class same = count_written steps (seats 0) class
 leg_written (steps ∷ legs) seats (suc leg) class same = leg_written legs (λ l. seats (suc l)) leg class refl
 
-flight_written : (grid : Legs) (seats : HeldSeats) (flight leg class : ℕ)
-    → seats_of (all_seats grid seats) flight leg class ≡ (if has_class (leg_at (all_seats grid seats) flight leg).steps class then seats flight leg class else 0)
+flight_written : (grid : Ladders) (seats : HeldSeats) (flight leg class : ℕ)
+    → table_of (all_seats grid seats) flight leg class ≡ (if has_class (leg_at (all_seats grid seats) flight leg).steps class then seats flight leg class else 0)
 flight_written [] seats flight leg class = refl
 flight_written (legs ∷ flights) seats zero leg class = leg_written legs (seats 0) leg class refl
 flight_written (legs ∷ flights) seats (suc flight) leg class = flight_written flights (λ f. seats (suc f)) flight leg class
 
-ladder_written : (grid : Legs) (seats : HeldSeats) (flight leg : ℕ) → (leg_at (all_seats grid seats) flight leg).steps ≡ ladder_at grid flight leg
+ladder_written : (grid : Ladders) (seats : HeldSeats) (flight leg : ℕ) → (leg_at (all_seats grid seats) flight leg).steps ≡ ladder_at grid flight leg
 ladder_written grid seats flight leg =
-    sym (limits_at (all_seats grid seats) flight leg) ∙ ap (λ (g : Legs). ladder_at g flight leg) (limits_written grid seats)
+    sym (limits_at (all_seats grid seats) flight leg) ∙ ap (λ (g : Ladders). ladder_at g flight leg) (limits_written grid seats)
 
 if_on : (b : Bool) (n : ℕ) → (b ≡ false → n ≡ 0) → (if b then n else 0) ≡ n
 if_on true n h = refl
 if_on false n h = sym (h refl)
 
 -- seats that stand at the classes of their legs are those that were written
-seats_written : (grid : Legs) (seats : HeldSeats) → IsOnLadders grid seats → (flight leg class : ℕ) → seats_of (all_seats grid seats) flight leg class ≡ seats flight leg class
+seats_written : (grid : Ladders) (seats : HeldSeats) → IsOnLadders grid seats → (flight leg class : ℕ) → table_of (all_seats grid seats) flight leg class ≡ seats flight leg class
 seats_written grid seats on flight leg class =
     flight_written grid seats flight leg class
     ∙ ap (λ (s : Steps). if has_class s class then seats flight leg class else 0) (ladder_written grid seats flight leg)
@@ -95,7 +95,7 @@ count_lacking (s ∷ lower) (n ∷ more) class h = cases (class == s.class) h (c
     cases true e below = absurd cc
     cases false e below = below e
 
-own_on_ladders : (counts : Counted) → IsOnLadders (limits_of counts) (seats_of counts)
+own_on_ladders : (counts : Counted) → IsOnLadders (limits_of counts) (table_of counts)
 own_on_ladders counts = record {
   none = λ flight leg class h. count_lacking (leg_at counts flight leg).steps (leg_at counts flight leg).held class
       (ap (λ (s : Steps). has_class s class) (sym (limits_at counts flight leg)) ∙ h);

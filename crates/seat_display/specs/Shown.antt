@@ -3,7 +3,7 @@ use Rattle.std.specs.Prelude.{◌≡◌, ℕ, suc, ◌+◌, ◌<◌, ◌^◌, Li
 use mathlib.Core.Option.{some}
 use lib.ListN.{get_elem?}
 use Rattle.logbook.specs.Pages.{Book}
-use Rattle.seat_nesting.specs.Nesting.{Legs, Steps, ByClass, Table as HeldSeats}
+use Rattle.seat_nesting.specs.Nesting.{Ladders, Steps, ByClass, Table as HeldSeats}
 use Rattle.seat_nesting.specs.Counting.{LegSeats, Counted, limits_of}
 use Rattle.seat_journal.specs.declared.entry.Entry.{Entry}
 use Rattle.seat_rules.specs.Journal.{IsLegal, replay}
@@ -22,7 +22,7 @@ abbrev pub flight_seats : List Steps → (ℕ → ByClass) → List LegSeats
 flight_seats [] seats = []
 flight_seats (steps ∷ legs) seats = leg_seats steps (seats 0) ∷ flight_seats legs (λ leg. seats (suc leg))
 
-abbrev pub all_seats : Legs → HeldSeats → Counted
+abbrev pub all_seats : Ladders → HeldSeats → Counted
 all_seats [] seats = []
 all_seats (legs ∷ flights) seats = flight_seats legs (seats 0) ∷ all_seats flights (λ flight. seats (suc flight))
 
@@ -36,7 +36,7 @@ tidied t = record { counts = counters_of (standing_of t.counts); lines = t.lines
 -- ---- one entry more
 
 -- the limits and the seats that a history leaves
-abbrev pub left_by : Legs → List Entry → Standing
+abbrev pub left_by : Ladders → List Entry → Standing
 left_by grid journal = standing_left (replay grid journal)
 
 abbrev pub counts_after : Counted → Entry → Counted
@@ -65,31 +65,31 @@ entries_of (Mark s ∷ ops) = entries_of ops
 -- ---- the rule
 
 -- the counters know the limits and the seats that the seen history leaves, which is legal over this opening grid
-pub record Leaves (grid : Legs) (x : Table) : Type 0 where
+pub record Leaves (grid : Ladders) (x : Table) : Type 0 where
   pub legal : IsLegal grid x.seen.log
   pub standing : standing_of x.counts ≡ left_by grid x.seen.log
   pub lines : x.lines ≡ length x.seen.log
 
 -- a table with no line, over this grid
-pub record IsEmptyTable (x : Table) (grid : Legs) (book : Book) : Type 0 where
+pub record IsEmptyTable (x : Table) (grid : Ladders) (book : Book) : Type 0 where
   pub limits : limits_of x.counts ≡ grid
   pub book_is : x.seen.book ≡ book
   pub none : x.seen.log ≡ []
   pub leaves : Leaves grid x
 
 -- who knows its opening grid and its history is right
-abbrev pub KnowsRight : Legs → Table → View → Type 0
+abbrev pub KnowsRight : Ladders → Table → View → Type 0
 KnowsRight grid x v = v.knows ≡ true → (v.grid ≡ grid) × (v.seen.book ≡ x.seen.book)
 
 -- all speak of one opening grid, which no code keeps
 pub record Kept (x : Table) (views : List View) : Type 0 where
-  pub grid : Legs
+  pub grid : Ladders
   pub leaves : Leaves grid x
   pub each : (seat : ℕ) (v : View) → get_elem? views seat ≡ some v → KnowsRight grid x v
 
 -- over each opening grid that this view may know, y is right where x is, and y has the same history
 pub record Follows (v : View) (x y : Table) : Type 0 where
-  pub leaves : (grid : Legs) → (v.knows ≡ true → v.grid ≡ grid) → Leaves grid x → Leaves grid y
+  pub leaves : (grid : Ladders) → (v.knows ≡ true → v.grid ≡ grid) → Leaves grid x → Leaves grid y
   pub book : y.seen.book ≡ x.seen.book
 
 -- the table y is right, and who knew its opening grid and its history was right
@@ -110,7 +110,7 @@ abbrev pub informed : View → View → View
 informed v w = w
 
 -- what holds of the publisher between two calls: of the table shown, the history seen, and the operations that are not shown yet
-pub record Ready (grid : Legs) (shown : Table) (log : List Entry) (ops : List Op) (n k : ℕ) : Type 0 where
+pub record Ready (grid : Ladders) (shown : Table) (log : List Entry) (ops : List Op) (n k : ℕ) : Type 0 where
   pub leaves : Leaves grid shown
   pub whole : shown.seen.log ≡ log
   pub plain : ops ≡ map Line (entries_of ops)

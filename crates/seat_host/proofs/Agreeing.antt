@@ -6,7 +6,7 @@ use Rattle.std.proofs.lemmas.List.Sums.{sum_by-cons, sum_by_push}
 use Rattle.std.proofs.lemmas.Bool.{cases_lt}
 use Rattle.std.proofs.lemmas.Bool.Decides.{nat_tests}
 use Rattle.std.proofs.lemmas.Option.{same_Some}
-use Rattle.seat_nesting.specs.Nesting.{Legs}
+use Rattle.seat_nesting.specs.Nesting.{Ladders}
 use Rattle.seat_journal.specs.declared.entry.Entry.{Entry}
 use Rattle.seat_rules.specs.declared.totals.Totals.{Totals}
 use Rattle.seat_rules.specs.Totals.{confirmed_by, released_by, totals_of}
@@ -80,13 +80,13 @@ own_cut s (y ∷ ys) i x e = by (y.session == s) refl i e (own_cut s ys)
 
 -- ---- a legal history
 
-legal_at : (grid : Legs) (journal front rest : List Entry) (e : Entry) → IsLegal grid journal → journal ≡ front ++ e ∷ rest → IsNext grid front e
+legal_at : (grid : Ladders) (journal front rest : List Entry) (e : Entry) → IsLegal grid journal → journal ≡ front ++ e ∷ rest → IsNext grid front e
 legal_at grid journal front rest e h is = h.each front e (record { rest = rest; is = is ∙ sym (append_assoc front (e ∷ []) rest) })
 
-number_is : (grid : Legs) (front : List Entry) (e : Entry) → IsNext grid front e → e.number ≡ suc (length front)
+number_is : (grid : Ladders) (front : List Entry) (e : Entry) → IsNext grid front e → e.number ≡ suc (length front)
 number_is grid front e next = ap (λ (x : Entry). x.number) next.line ∙ omega arith
 
-call_own : (grid : Legs) (front : List Entry) (e : Entry) → IsNext grid front e → e.call ≡ suc (length (of_session e.session front))
+call_own : (grid : Ladders) (front : List Entry) (e : Entry) → IsNext grid front e → e.call ≡ suc (length (of_session e.session front))
 call_own grid front e next = omega (arith, next.call, calls_own front e.session)
 
 own_here : (front rest : List Entry) (e : Entry) → slice_get (of_session e.session (front ++ e ∷ rest)) (length (of_session e.session front)) ≡ Some e
@@ -140,7 +140,7 @@ few n journal front rest e only is = ⊎_elim
     (λ (le : e.session ≤ n). le)
     (cases_lt n e.session)
 
-agrees : (grid : Legs) (n : ℕ) (journal : List Entry) → IsLegal grid journal → OnlyFirst n journal → Agrees (by_session n journal) journal
+agrees : (grid : Ladders) (n : ℕ) (journal : List Entry) → IsLegal grid journal → OnlyFirst n journal → Agrees (by_session n journal) journal
 agrees grid n journal legal only = record {
   lines = line;
   receipts = receipt;
@@ -237,19 +237,19 @@ sums n journal all = λ i. record {
 
 -- ---- what gathering gives
 
-pub lists_agree : (grid : Legs) (n : ℕ) (journal : List Entry) (lists : List (List Entry)) → IsLegal grid journal → OnlyFirst n journal → lists ≡ by_session n journal → Agrees lists journal
+pub lists_agree : (grid : Ladders) (n : ℕ) (journal : List Entry) (lists : List (List Entry)) → IsLegal grid journal → OnlyFirst n journal → lists ≡ by_session n journal → Agrees lists journal
 lists_agree grid n journal lists legal only is = subst (λ (l : List (List Entry)). Agrees l journal) (sym is) (agrees grid n journal legal only)
 
-pub lists_sum : (grid : Legs) (n : ℕ) (journal : List Entry) (lists : List (List Entry)) (totals : Totals) → IsLegal grid journal → OnlyFirst n journal → lists ≡ by_session n journal → totals ≡ totals_of journal → totals ≡ totals_in lists
+pub lists_sum : (grid : Ladders) (n : ℕ) (journal : List Entry) (lists : List (List Entry)) (totals : Totals) → IsLegal grid journal → OnlyFirst n journal → lists ≡ by_session n journal → totals ≡ totals_of journal → totals ≡ totals_in lists
 lists_sum grid n journal lists totals legal only is are =
     are ∙ sums n journal (sessions_are n journal [] journal only refl) ∙ ap totals_in (sym is)
 
-pub lists_count : (grid : Legs) (n : ℕ) (journal : List Entry) (lists : List (List Entry)) → IsLegal grid journal → OnlyFirst n journal → lists ≡ by_session n journal → receipts_in lists ≡ length journal
+pub lists_count : (grid : Ladders) (n : ℕ) (journal : List Entry) (lists : List (List Entry)) → IsLegal grid journal → OnlyFirst n journal → lists ≡ by_session n journal → receipts_in lists ≡ length journal
 lists_count grid n journal lists legal only is =
     sym (ap (λ (t : Totals). t.lines) (lists_sum grid n journal lists (totals_of journal) legal only is refl))
 
 -- what is gathered keeps the headline
-pub headline_of : (grid : Legs) (cap n : ℕ) (journal given : List Entry) (lists : List (List Entry)) (totals : Totals) → IsLegal grid journal → length journal ≤ cap → HoldsWithinLimits grid journal → OnlyFirst n journal
+pub headline_of : (grid : Ladders) (cap n : ℕ) (journal given : List Entry) (lists : List (List Entry)) (totals : Totals) → IsLegal grid journal → length journal ≤ cap → HoldsWithinLimits grid journal → OnlyFirst n journal
     → lists ≡ by_session n journal → totals ≡ totals_of journal → given ≡ journal → Headline grid cap n given lists totals
 headline_of grid cap n journal given lists totals legal capped within only is are same =
     subst (λ (j : List Entry). Headline grid cap n j lists totals) (sym same) (record {

@@ -4,7 +4,7 @@ use Rattle.std.specs.Prelude.{slice_index, slice_set}
 use Rattle.std.proofs.lemmas.List.{append-nil}
 use mathlib.Core.Logic.{dite}
 use native.Mathlib.Decide.{ℕ_discrete}
-use Rattle.seat_nesting.specs.Nesting.{Legs}
+use Rattle.seat_nesting.specs.Nesting.{Ladders}
 use Rattle.seat_journal.specs.declared.entry.Work.{Work}
 use Rattle.seat_journal.specs.declared.entry.Entry.{Entry}
 use Rattle.logbook.specs.Pages.{Book}
@@ -59,7 +59,7 @@ no_calls (suc (suc (suc (suc (suc (suc (suc (suc zero)))))))) h = refl
 no_calls (suc (suc (suc (suc (suc (suc (suc (suc (suc n))))))))) h = absurd (omega arith)
 
 -- one line more in the journal and in its session's book
-pub tied_push : (grid : Legs) (cap n : ℕ) (line_counts now : List ℕ) (journal : List Entry) (e : Entry) → IsTied grid cap n line_counts journal → IsNext grid journal e → length journal < cap → e.session ≤ n → now ≡ slice_set line_counts e.session (slice_index line_counts e.session + 1) → IsTied grid cap n now (journal ++ e ∷ [])
+pub tied_push : (grid : Ladders) (cap n : ℕ) (line_counts now : List ℕ) (journal : List Entry) (e : Entry) → IsTied grid cap n line_counts journal → IsNext grid journal e → length journal < cap → e.session ≤ n → now ≡ slice_set line_counts e.session (slice_index line_counts e.session + 1) → IsTied grid cap n now (journal ++ e ∷ [])
 tied_push grid cap n line_counts now journal e t next room le is =
     let k = e.session in
     let here : (s : ℕ) → e.session ≡ s → of_session s (journal ++ e ∷ []) ≡ of_session s journal ++ e ∷ [] = λ s same. own_append s journal (e ∷ []) ∙ ap (λ l. of_session s journal ++ l) (own_one s e same) in
@@ -82,19 +82,19 @@ abbrev pub with_line : Seat → List Entry → List Entry → Seat
 with_line s kept front = record { id = s.id; receipts = kept; front = front }
 
 -- what a booking leaves a session with
-pub record AfterBooking (grid : Legs) (n : ℕ) (journal : List Entry) (work : Work) (s : Seat) (kept front : List Entry) : Type 0 where
+pub record AfterBooking (grid : Ladders) (n : ℕ) (journal : List Entry) (work : Work) (s : Seat) (kept front : List Entry) : Type 0 where
   pub is : front ≡ journal
   pub len : length kept ≡ length s.receipts + 1
   pub booked : Booked grid work s (with_line s kept front)
   pub stands : Stands grid n (with_line s kept front)
 
-pub booking : (grid : Legs) (cap n : ℕ) (core now : Inventory) (line_counts : List ℕ) (s : Seat) (work : Work) (kept front : List Entry)
+pub booking : (grid : Ladders) (cap n : ℕ) (core now : Inventory) (line_counts : List ℕ) (s : Seat) (work : Work) (kept front : List Entry)
     → core.grid ≡ grid → now.grid ≡ core.grid → IsTied grid cap n line_counts core.journal → Stands grid n s → IsConfirmed n core.journal s → AddsLine core now s.id work s.receipts kept
     → Begins now.journal front → (front ≡ s.front) ⊎ (front ≡ now.journal) → AfterBooking grid n now.journal work s kept front
 booking grid cap n core now line_counts s work kept front over same t stands c a more longer =
     let journal = core.journal in
     let e = a.line in
-    let next : IsNext grid journal e = subst (λ (h : Legs). IsNext h journal e) over a.next in
+    let next : IsNext grid journal e = subst (λ (h : Ladders). IsNext h journal e) over a.next in
     let session : e.session ≡ s.id = ap (λ (x : Entry). x.session) a.is in
     let more : Begins (journal ++ e ∷ []) front = subst (λ (l : List Entry). Begins l front) a.journal_is more in
     let is : front ≡ journal ++ e ∷ [] = front_is s.front front journal e c.front more (⊎_elim (λ b. inl b) (λ b. inr (b ∙ a.journal_is)) longer) in
@@ -102,7 +102,7 @@ booking grid cap n core now line_counts s work kept front over same t stands c a
     ap (of_session s.id) is ∙ own_append s.id journal (e ∷ []) ∙ (λ i. sym c.lines i ++ own_one s.id e session i) ∙ sym a.kept_is in
     let legal : IsLegal grid front = subst (IsLegal grid) (sym is) (legal_push grid journal e t.legal next) in
     let within : HoldsWithinLimits grid front =
-    subst (λ (x : Legs × List Entry). HoldsWithinLimits x.0 x.1) (λ i. ((same ∙ over) i, (a.journal_is ∙ sym is) i)) a.within in
+    subst (λ (x : Ladders × List Entry). HoldsWithinLimits x.0 x.1) (λ i. ((same ∙ over) i, (a.journal_is ∙ sym is) i)) a.within in
     let before : Begins s.front front = subst (λ (l : List Entry). Begins s.front l) (sym is) (begins_trans s.front journal (journal ++ e ∷ []) c.front (begins_longer journal (e ∷ []))) in
     let len : length kept ≡ length s.receipts + 1 = omega (arith, ap length a.kept_is, length-append s.receipts (e ∷ [])) in
     let few : length s.receipts ≤ 999999 = omega (arith, ap length c.lines, own_length s.id journal, t.capped, t.small) in
@@ -127,7 +127,7 @@ booking grid cap n core now line_counts s work kept front over same t stands c a
     }
 
 -- the same of what a call finds and is told
-pub after_call : (grid : Legs) (cap : ℕ) (book : Book) (n : ℕ) (core now : Inventory) (line_counts : List ℕ) (publisher shown : Published) (opened : ℕ) (s old : Seat) (work : Work) (kept front told : List Entry)
+pub after_call : (grid : Ladders) (cap : ℕ) (book : Book) (n : ℕ) (core now : Inventory) (line_counts : List ℕ) (publisher shown : Published) (opened : ℕ) (s old : Seat) (work : Work) (kept front told : List Entry)
     → LawfulUnderLock grid cap book n core line_counts publisher opened → Stands grid n s → s ≡ old → IsConfirmed n publisher.visible old → AddsLine core now s.id work s.receipts kept → now.grid ≡ core.grid → Shows now shown
     → told ≡ shown.visible → Begins told front → (front ≡ s.front) ⊎ (front ≡ told) → AfterBooking grid n now.journal work s kept front
 after_call grid cap book n core now line_counts publisher shown opened s old work kept front told l stands is c a same shows tells more longer =
@@ -140,10 +140,10 @@ after_call grid cap book n core now line_counts publisher shown opened s old wor
 pub legal_shown : (core : Inventory) (publisher : Published) (e shown : Entry) → Shows core publisher → shown ≡ e → IsLegal core.grid core.journal → IsNext core.grid core.journal e → IsLegal publisher.grid ((publisher.visible ++ publisher.pending) ++ shown ∷ [])
 legal_shown core publisher e shown s is legal next =
     let all : publisher.visible ++ publisher.pending ≡ core.journal = (λ i. s.visible i ++ s.pending i) ∙ append-nil core.journal in
-    subst (λ (x : Legs × (List Entry × Entry)). IsLegal x.0 (x.1.0 ++ x.1.1 ∷ [])) (λ i. (sym s.grid_is i, (sym all i, sym is i))) (legal_push core.grid core.journal e legal next)
+    subst (λ (x : Ladders × (List Entry × Entry)). IsLegal x.0 (x.1.0 ++ x.1.1 ∷ [])) (λ i. (sym s.grid_is i, (sym all i, sym is i))) (legal_push core.grid core.journal e legal next)
 
 -- what holds under the lock holds with one line more
-pub lawful_push : (grid : Legs) (cap : ℕ) (book : Book) (n : ℕ) (core now : Inventory) (line_counts audited more : List ℕ) (publisher shown : Published) (opened session many : ℕ) (stake : Staked) (work : Work) (receipts kept : List Entry)
+pub lawful_push : (grid : Ladders) (cap : ℕ) (book : Book) (n : ℕ) (core now : Inventory) (line_counts audited more : List ℕ) (publisher shown : Published) (opened session many : ℕ) (stake : Staked) (work : Work) (receipts kept : List Entry)
     → LawfulUnderLock grid cap book n core line_counts publisher opened → AddsLine core now session work receipts kept → now.grid ≡ core.grid → now.cap ≡ core.cap → shown.book ≡ publisher.book → Shows now shown
     → session ≤ n → audited ≡ line_counts → stake ≡ counted session many → more ≡ slice_set audited stake.number (slice_index audited stake.number + 1) → LawfulUnderLock grid cap book n now more shown opened
 lawful_push grid cap book n core now line_counts audited more publisher shown opened session many stake work receipts kept l a grid_same cap_same book_same shows le same staked added =
@@ -151,7 +151,7 @@ lawful_push grid cap book n core now line_counts audited more publisher shown op
     let mine : session ≡ e.session = sym (ap (λ (x : Entry). x.session) a.is) in
     let number : stake.number ≡ e.session = ap (λ (k : Staked). k.number) staked ∙ mine in
     let is : more ≡ slice_set line_counts e.session (slice_index line_counts e.session + 1) = added ∙ (λ i. slice_set (same i) (number i) (slice_index (same i) (number i) + 1)) in
-    let next : IsNext grid core.journal e = subst (λ (h : Legs). IsNext h core.journal e) l.grid_is a.next in
+    let next : IsNext grid core.journal e = subst (λ (h : Ladders). IsNext h core.journal e) l.grid_is a.next in
     let tied = tied_push grid cap n line_counts more core.journal e l.tied next (omega (arith, a.below, l.cap_is)) (omega (arith, le, mine)) is in
     record {
       grid_is = grid_same ∙ l.grid_is;

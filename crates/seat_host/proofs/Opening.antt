@@ -4,7 +4,7 @@ use Rattle.std.specs.Prelude.{slice_index, slice_set}
 use Rattle.std.proofs.lemmas.List.{append-nil, length-take-le, take-append-drop, take_more}
 use Rattle.std.proofs.lemmas.Bool.{cases_lt}
 use Rattle.logbook.specs.Pages.{Book}
-use Rattle.seat_nesting.specs.Nesting.{Legs}
+use Rattle.seat_nesting.specs.Nesting.{Ladders}
 use Rattle.seat_journal.specs.declared.entry.Work.{Work}
 use Rattle.seat_journal.specs.declared.entry.Work.TheVariants.{Seats, Limit}
 use Rattle.seat_journal.specs.declared.entry.Entry.{Entry}
@@ -25,7 +25,7 @@ pub only_none : (n : ℕ) (journal : List Entry) → journal ≡ [] → OnlyFirs
 only_none n journal is = record { none = λ s more. ap (of_session s) is }
 
 -- no session above 8 has a line of a legal history
-pub only_eight : (grid : Legs) (journal : List Entry) → IsLegal grid journal → OnlyFirst 8 journal
+pub only_eight : (grid : Ladders) (journal : List Entry) → IsLegal grid journal → OnlyFirst 8 journal
 only_eight grid journal legal = record { none = λ s more. each_legal grid (λ (past : List Entry). of_session s past ≡ []) (step s more) [] journal refl legal }
   where
     at_most : (e : Entry) → (w : Work) → MayAsk e.session w → e.session ≤ 8
@@ -75,12 +75,12 @@ stake_seated n was more receipts stake now staked next many is =
     is ∙ (λ i. counted (number i) (amount i))
 
 -- all lines are counted
-pub tied_over : (grid over : Legs) (cap most n m : ℕ) (line_counts : List ℕ) (journal : List Entry) → CountsFirst (m + 1) journal line_counts → OnlyFirst m journal → IsLegal over journal → length journal ≤ most → over ≡ grid → most ≡ cap → cap ≤ 999999 → m ≡ n → m < 9
+pub tied_over : (grid over : Ladders) (cap most n m : ℕ) (line_counts : List ℕ) (journal : List Entry) → CountsFirst (m + 1) journal line_counts → OnlyFirst m journal → IsLegal over journal → length journal ≤ most → over ≡ grid → most ≡ cap → cap ≤ 999999 → m ≡ n → m < 9
     → IsTied grid cap n line_counts journal
 tied_over grid over cap most n m line_counts journal c only legal capped same full small is few = record {
   wide = c.wide;
   few = omega (arith, few, is);
-  legal = subst (λ (g : Legs). IsLegal g journal) same legal;
+  legal = subst (λ (g : Ladders). IsLegal g journal) same legal;
   capped = omega (arith, capped, full);
   small = small;
   counts = λ s high. ⊎_elim
@@ -97,7 +97,7 @@ seated_more xs n m past is e =
     ap (λ (l : List Seat). l ++ seated m past ∷ []) is ∙ ap (λ (k : ℕ). seated_sessions n past ++ seated k past ∷ []) up ∙ sym (ap (λ (k : ℕ). seated_sessions k past) up)
 
 -- a session that goes on from these lines
-pub stands_seated : (grid : Legs) (n id : ℕ) (receipts past : List Entry) → id ≤ n → n < 9 → IsLegal grid past → length past ≤ 999999 → receipts ≡ of_session id past → Stands grid n (record { id = id; receipts = receipts; front = past })
+pub stands_seated : (grid : Ladders) (n id : ℕ) (receipts past : List Entry) → id ≤ n → n < 9 → IsLegal grid past → length past ≤ 999999 → receipts ≡ of_session id past → Stands grid n (record { id = id; receipts = receipts; front = past })
 stands_seated grid n id receipts past le few legal short own = record {
   number = (le, few);
   legal = legal;
@@ -113,7 +113,7 @@ none_if_short [] le = refl
 none_if_short (x ∷ xs) le = absurd (omega (arith, le))
 
 -- who had seen nothing has then seen all that he was told
-pub front_whole : (visible told front : List Entry) (b : Book) (g : Legs) (old : Viewed) → told ≡ visible → old ≡ opened b g → Begins told front → (front ≡ old.front) ⊎ (front ≡ told) → front ≡ visible
+pub front_whole : (visible told front : List Entry) (b : Book) (g : Ladders) (old : Viewed) → told ≡ visible → old ≡ opened b g → Begins told front → (front ≡ old.front) ⊎ (front ≡ told) → front ≡ visible
 front_whole visible told front b g old all new note longer = ⊎_elim
     (λ (same : front ≡ old.front).
     let none : front ≡ [] = same ∙ ap (λ (v : Viewed). v.front) new in
@@ -127,11 +127,11 @@ pub take_next : (lines : List Entry) (i : ℕ) (e : Entry) → i < length lines 
 take_next lines i e lt is = take_more lines i e lt ∙ ap (λ (x : Entry). take i lines ++ x ∷ []) (sym is)
 
 -- a line of a legal history may be shown behind those before it
-pub legal_at_end : (grid over : Legs) (visible pending lines : List Entry) (i : ℕ) (e shown : Entry) → IsLegal grid lines → over ≡ grid → visible ≡ [] → pending ≡ take i lines → i < length lines → e ≡ get_or lines i e → shown ≡ e → IsLegal over ((visible ++ pending) ++ shown ∷ [])
+pub legal_at_end : (grid over : Ladders) (visible pending lines : List Entry) (i : ℕ) (e shown : Entry) → IsLegal grid lines → over ≡ grid → visible ≡ [] → pending ≡ take i lines → i < length lines → e ≡ get_or lines i e → shown ≡ e → IsLegal over ((visible ++ pending) ++ shown ∷ [])
 legal_at_end grid over visible pending lines i e shown legal same none so_far lt is copied =
     let all : (visible ++ pending) ++ shown ∷ [] ≡ take (i + 1) lines = (λ k. (none k ++ so_far k) ++ copied k ∷ []) ∙ sym (take_next lines i e lt is) in
     let begins : IsLegal grid (take (i + 1) lines) = legal_prefix grid (take (i + 1) lines) lines (record { rest = drop (i + 1) lines; is = sym (take-append-drop (i + 1) lines) }) legal in
-    subst (λ (x : Legs × List Entry). IsLegal x.0 x.1) (λ k. (sym same k, sym all k)) begins
+    subst (λ (x : Ladders × List Entry). IsLegal x.0 x.1) (λ k. (sym same k, sym all k)) begins
 
 pub short_at_end : (visible pending lines : List Entry) (i : ℕ) → visible ≡ [] → pending ≡ take i lines → i < length lines → length lines ≤ 999999 → length visible + length pending < 1000000
 short_at_end visible pending lines i none so_far lt few = omega (arith, ap length none, ap length so_far, length-take-le i lines (omega (arith, lt)), lt, few)

@@ -1,7 +1,7 @@
 -- What holds of the inventory, the counts of lines and the publisher whenever the lock is free.
 use Rattle.std.specs.Prelude.{◌≡◌, ℕ, ◌+◌, ◌<◌, ◌≤◌, List, [], ◌∷◌, ◌++◌, length, slice_index}
 use Rattle.logbook.specs.Pages.{Book}
-use Rattle.seat_nesting.specs.Nesting.{Legs}
+use Rattle.seat_nesting.specs.Nesting.{Ladders}
 use Rattle.seat_journal.specs.declared.entry.Work.{Work}
 use Rattle.seat_journal.specs.declared.entry.Entry.{Entry}
 use Rattle.seat_rules.specs.Inventory.{Inventory, HoldsWithinLimits}
@@ -10,7 +10,7 @@ use Rattle.seat_display.specs.Faces.{Published}
 use Rattle.seat_rules.specs.Histories.{of_session, OnlyFirst}
 
 -- the journal beside the counts of lines of n sessions
-pub record IsTied (grid : Legs) (cap n : ℕ) (line_counts : List ℕ) (journal : List Entry) : Type 0 where
+pub record IsTied (grid : Ladders) (cap n : ℕ) (line_counts : List ℕ) (journal : List Entry) : Type 0 where
   -- there are at most 8 sessions beside the manager, which is number 0, and a count at each number up to 8
   pub wide : length line_counts ≡ 9
   pub few : n < 9
@@ -35,7 +35,7 @@ pub record Shows (core : Inventory) (publisher : Published) : Type 0 where
   pub visible : publisher.visible ≡ core.journal
   pub pending : publisher.pending ≡ []
 
-pub record LawfulUnderLock (grid : Legs) (cap : ℕ) (book : Book) (n : ℕ) (core : Inventory) (line_counts : List ℕ) (publisher : Published) (opened : ℕ) : Type 0 where
+pub record LawfulUnderLock (grid : Ladders) (cap : ℕ) (book : Book) (n : ℕ) (core : Inventory) (line_counts : List ℕ) (publisher : Published) (opened : ℕ) : Type 0 where
   -- the inventory is over the host's limits, and takes cap lines
   pub grid_is : core.grid ≡ grid
   pub cap_is : core.cap ≡ cap

@@ -1,6 +1,6 @@
 -- What a session knows, and what its calls leave.
 use Rattle.std.specs.Prelude.{◌≡◌, ℕ, zero, suc, ◌+◌, ◌<◌, ◌≤◌, List, [], ◌∷◌, ◌++◌, length}
-use Rattle.seat_nesting.specs.Nesting.{Legs}
+use Rattle.seat_nesting.specs.Nesting.{Ladders}
 use Rattle.seat_journal.specs.declared.entry.Work.{Work}
 use Rattle.seat_journal.specs.declared.entry.Entry.{Entry}
 use Rattle.seat_rules.specs.Prefixes.{Begins}
@@ -24,14 +24,14 @@ seated_sessions zero past = []
 seated_sessions (suc n) past = seated_sessions n past ++ seated (suc n) past ∷ []
 
 -- what holds of a session at any time, among n. Its receipts begin its own entries in its front
-pub record Stands (grid : Legs) (n : ℕ) (s : Seat) : Type 0 where
+pub record Stands (grid : Ladders) (n : ℕ) (s : Seat) : Type 0 where
   pub number : (s.id ≤ n) × (n < 9)
   pub legal : IsLegal grid s.front
   pub own : Begins s.receipts (of_session s.id s.front)
   pub few : length s.receipts ≤ 1000000
 
 -- the call gave one line more, of this session, its next call and this work. The session has then seen all lines so far, of which its receipts are its own, in order, and after which no leg holds more than authorised
-pub record Booked (grid : Legs) (work : Work) (s t : Seat) : Type 0 where
+pub record Booked (grid : Ladders) (work : Work) (s t : Seat) : Type 0 where
   pub line : Entry
   pub session : line.session ≡ s.id
   pub call : line.call ≡ length s.receipts + 1

@@ -12,9 +12,9 @@ use std::sync::ledger::{Blank, Book, Ledger, Share};
 pub trait Hosting {
     ghost use Rattle.std.specs.Prelude.{ℕ, List};
     ghost use Rattle.logbook.specs.Pages.{Book as HistoryBook};
-    ghost use Rattle.seat_nesting.specs.Nesting.{Legs};
+    ghost use Rattle.seat_nesting.specs.Nesting.{Ladders};
 
-    ghost grid: { Legs };
+    ghost grid: { Ladders };
 
     ghost cap: { ℕ };
 

@@ -9,7 +9,7 @@ use Rattle.ssim_flights.specs.declared.flight.Flight.{Flight}
 use Rattle.seat_nesting.proofs.CountChanges.{each_push}
 use Rattle.seat_limits.specs.Authorised.{after_row, authorised, authorised_grid, is_for, leg_pair}
 use Rattle.seat_limits.specs.LimitRows.{IsLimitText, SpellsRows}
-use Rattle.seat_nesting.specs.Nesting.{Steps, Legs, steps_of, steps_at, IsDistinct, HasLadders}
+use Rattle.seat_nesting.specs.Nesting.{Steps, Ladders, steps_of, steps_at, IsDistinct, HasLadders}
 use Rattle.seat_limits.specs.declared.limit_row.LimitRow.{LimitRow}
 use Rattle.seat_limits.specs.declared.row_index.Pair.{Pair}
 
@@ -26,13 +26,13 @@ distinct_more ladders o all here =
     subst P (sym (map-append steps_of ladders (o ∷ []))) (each_push (map steps_of ladders) (steps_of o) [] (λ (steps : Steps). IsDistinct steps) all here)
 
 -- one flight more
-pub flights_more : (grid : Legs) (legs : List Steps) (flights : List Flight) (f : Flight → List Steps) (i : ℕ) (flight : Flight) → grid ≡ map f (take i flights) → slice_get flights i ≡ Some flight → legs ≡ f flight → grid ++ legs ∷ [] ≡ map f (take (i + 1) flights)
+pub flights_more : (grid : Ladders) (legs : List Steps) (flights : List Flight) (f : Flight → List Steps) (i : ℕ) (flight : Flight) → grid ≡ map f (take i flights) → slice_get flights i ≡ Some flight → legs ≡ f flight → grid ++ legs ∷ [] ≡ map f (take (i + 1) flights)
 flights_more grid legs flights f i flight h at e =
     let lt = slice_get_within flights i flight at in
-    ap (λ (g : Legs). g ++ legs ∷ []) h ∙ ap (λ (l : List Steps). map f (take i flights) ++ l ∷ []) (e ∙ ap f (sym (get_or_from_slice_get flights i flight flight at)))
+    ap (λ (g : Ladders). g ++ legs ∷ []) h ∙ ap (λ (l : List Steps). map f (take i flights) ++ l ∷ []) (e ∙ ap f (sym (get_or_from_slice_get flights i flight flight at)))
     ∙ sym (map-append f (take i flights) (get_or flights i flight ∷ [])) ∙ ap (map f) (sym (take_more flights i flight lt))
 
-pub ladders_more : (grid : Legs) (legs : List Steps) → HasLadders grid → ((leg : ℕ) → IsDistinct (steps_at legs leg)) → HasLadders (grid ++ legs ∷ [])
+pub ladders_more : (grid : Ladders) (legs : List Steps) → HasLadders grid → ((leg : ℕ) → IsDistinct (steps_at legs leg)) → HasLadders (grid ++ legs ∷ [])
 ladders_more grid legs all here = each_push grid legs [] (λ (l : List Steps). (leg : ℕ) → IsDistinct (steps_at l leg)) all here
 
 pub built_ladders : HasLadders []

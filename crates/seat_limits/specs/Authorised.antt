@@ -7,7 +7,7 @@ use Rattle.std.specs.declared.hash.FoldHasher.{FoldHasher}
 use Rattle.std.specs.declared.hash.BuildHasherDefault.{BuildHasherDefault}
 use Rattle.ssim_flights.specs.declared.flight.DatedLeg.{DatedLeg}
 use Rattle.ssim_flights.specs.declared.flight.Flight.{Flight}
-use Rattle.seat_nesting.specs.Nesting.{Steps, Legs}
+use Rattle.seat_nesting.specs.Nesting.{Steps, Ladders}
 use Rattle.seat_limits.specs.declared.limit_row.LimitRow.{LimitRow}
 use Rattle.seat_limits.specs.declared.row_index.Pair.{Pair}
 
@@ -44,7 +44,7 @@ abbrev pub authorised_legs : List LimitRow → Flight → List Steps
 authorised_legs rows flight = map (λ (leg : DatedLeg). authorised rows (leg_pair flight leg) leg.day) flight.legs
 
 -- the ladder of each leg of each flight
-abbrev pub authorised_grid : List LimitRow → List Flight → Legs
+abbrev pub authorised_grid : List LimitRow → List Flight → Ladders
 authorised_grid rows flights = map (authorised_legs rows) flights
 
 -- ---- rows by their pairs

@@ -5,10 +5,10 @@ use Rattle.std.proofs.lemmas.Bool.{eqb-true, eqb-false, le-leb, leb-true, and_pa
 use Rattle.std.proofs.lemmas.Bool.Decides.{nat_tests}
 use Rattle.std.proofs.lemmas.List.{map-set, set-get_or, get_or-set_same, get_or-set_other, map-append, length-map, get_or-map, take_more}
 use Rattle.std.proofs.lemmas.Option.{unwrap_or-slice_get}
-use Rattle.seat_nesting.specs.Nesting.{Steps, Legs, steps_of, ladder_at, room, room_on, least, each_leg, covers, has_class}
+use Rattle.seat_nesting.specs.Nesting.{Steps, Ladders, steps_of, ladder_at, room, room_on, least, each_leg, covers, has_class}
 use Rattle.airline_base.specs.declared.place.Place.{Place}
 use Rattle.seat_nesting.proofs.Rooms.{least_le, room_same}
-use Rattle.seat_nesting.specs.Counting.{LegSeats, Counted, seats_on, leg_in, legs_in, leg_at, limits_of, seats_of, no_leg, IsKept, IsFresh, IsWithinLimits, LegChanges, FlightChanges, OneLegChanges, Changes, plus, less, leg_holds, holds}
+use Rattle.seat_nesting.specs.Counting.{LegSeats, Counted, held_on, leg_in, legs_in, leg_at, limits_of, table_of, no_leg, KeepsLimits, IsFresh, IsWithinLimits, LegChanges, FlightChanges, OneLegChanges, Changes, plus, less, leg_holds, holds}
 use Rattle.seat_nesting.specs.Changing.{with_limit, leg_with, limits_with, LegSets, FlightSets, Sets}
 
 -- the place that was written, and the others
@@ -37,19 +37,19 @@ pub flight_changes : (op : ℕ → ℕ → ℕ) → ((a : ℕ) → op a 0 ≡ a)
 flight_changes op none old leg x class n inside h = record {
   limits = map_set steps_in old leg x no_leg h.steps inside;
   seats = λ at k. seats_case at k (at == leg) refl;
-  kept = λ all at. let P : LegSeats → Type 0 = λ l. IsKept l in subst P (sym (at_set old leg at x no_leg inside)) (kept_case all at (at == leg));
+  kept = λ all at. let P : LegSeats → Type 0 = λ l. KeepsLimits l in subst P (sym (at_set old leg at x no_leg inside)) (kept_case all at (at == leg));
 }
   where
-    seats_case : (at k : ℕ) (b : Bool) → (at == leg) ≡ b → seats_on (leg_in (set old leg x) at) k ≡ op (seats_on (leg_in old at) k) (if b && (class == k) then n else 0)
+    seats_case : (at k : ℕ) (b : Bool) → (at == leg) ≡ b → held_on (leg_in (set old leg x) at) k ≡ op (held_on (leg_in old at) k) (if b && (class == k) then n else 0)
     seats_case at k true e =
         let same : at ≡ leg = eqb-true at leg e in
         let written : leg_in (set old leg x) at ≡ x = at_set old leg at x no_leg inside ∙ ap (λ (b : Bool). cond b x (leg_in old at)) e in
-        ap (λ (l : LegSeats). seats_on l k) written ∙ h.seats k ∙ ap (λ (i : ℕ). op (seats_on (leg_in old i) k) (if class == k then n else 0)) (sym same)
+        ap (λ (l : LegSeats). held_on l k) written ∙ h.seats k ∙ ap (λ (i : ℕ). op (held_on (leg_in old i) k) (if class == k then n else 0)) (sym same)
     seats_case at k false e =
         let other : leg_in (set old leg x) at ≡ leg_in old at = at_set old leg at x no_leg inside ∙ ap (λ (b : Bool). cond b x (leg_in old at)) e in
-        ap (λ (l : LegSeats). seats_on l k) other ∙ sym (none (seats_on (leg_in old at) k))
+        ap (λ (l : LegSeats). held_on l k) other ∙ sym (none (held_on (leg_in old at) k))
 
-    kept_case : ((i : ℕ) → IsKept (leg_in old i)) → (at : ℕ) (b : Bool) → IsKept (cond b x (leg_in old at))
+    kept_case : ((i : ℕ) → KeepsLimits (leg_in old i)) → (at : ℕ) (b : Bool) → KeepsLimits (cond b x (leg_in old at))
     kept_case all at true = h.kept
     kept_case all at false = all at
 
@@ -61,22 +61,22 @@ one_leg_changes op none old flight xs leg class n inside h = record {
   seats = λ f at k. seats_case f at k (f == flight) refl;
 }
   where
-    seats_case : (f at k : ℕ) (b : Bool) → (f == flight) ≡ b → seats_of (set old flight xs) f at k ≡ op (seats_of old f at k) (if b && (at == leg) && (class == k) then n else 0)
+    seats_case : (f at k : ℕ) (b : Bool) → (f == flight) ≡ b → table_of (set old flight xs) f at k ≡ op (table_of old f at k) (if b && (at == leg) && (class == k) then n else 0)
     seats_case f at k true e =
         let same : f ≡ flight = eqb-true f flight e in
         let written : legs_in (set old flight xs) f ≡ xs = at_set old flight f xs [] inside ∙ ap (λ (b : Bool). cond b xs (legs_in old f)) e in
-        ap (λ (l : List LegSeats). seats_on (leg_in l at) k) written ∙ h.seats at k ∙ ap (λ (i : ℕ). op (seats_of old i at k) (if (at == leg) && (class == k) then n else 0)) (sym same)
+        ap (λ (l : List LegSeats). held_on (leg_in l at) k) written ∙ h.seats at k ∙ ap (λ (i : ℕ). op (table_of old i at k) (if (at == leg) && (class == k) then n else 0)) (sym same)
     seats_case f at k false e =
         let other : legs_in (set old flight xs) f ≡ legs_in old f = at_set old flight f xs [] inside ∙ ap (λ (b : Bool). cond b xs (legs_in old f)) e in
-        ap (λ (l : List LegSeats). seats_on (leg_in l at) k) other ∙ sym (none (seats_of old f at k))
+        ap (λ (l : List LegSeats). held_on (leg_in l at) k) other ∙ sym (none (table_of old f at k))
 
 pub still_within : (op : ℕ → ℕ → ℕ) (old : Counted) (flight : ℕ) (xs : List LegSeats) (leg class n : ℕ) → flight < length old → FlightChanges op (legs_in old flight) xs leg class n
     → IsWithinLimits old → IsWithinLimits (set old flight xs)
 still_within op old flight xs leg class n inside h w = record {
-  leg_kept = λ f at. let P : List LegSeats → Type 0 = λ l. IsKept (leg_in l at) in subst P (sym (at_set old flight f xs [] inside)) (kept_case f at (f == flight));
+  leg_kept = λ f at. let P : List LegSeats → Type 0 = λ l. KeepsLimits (leg_in l at) in subst P (sym (at_set old flight f xs [] inside)) (kept_case f at (f == flight));
 }
   where
-    kept_case : (f at : ℕ) (b : Bool) → IsKept (leg_in (cond b xs (legs_in old f)) at)
+    kept_case : (f at : ℕ) (b : Bool) → KeepsLimits (leg_in (cond b xs (legs_in old f)) at)
     kept_case f at true = h.kept (λ i. w.leg_kept flight i) at
     kept_case f at false = w.leg_kept f at
 
@@ -143,7 +143,7 @@ pub changes_more : (op : ℕ → ℕ → ℕ) → ((a : ℕ) → op a 0 ≡ a) �
     → Changes op old new (part flight from (leg + 1)) class n
 changes_more op none old mid new flight from leg class n le before here = record {
   limits = here.limits ∙ before.limits;
-  seats = λ f at k. one_step op none (seats_of old f at k) (seats_of mid f at k) (seats_of new f at k) n
+  seats = λ f at k. one_step op none (table_of old f at k) (table_of mid f at k) (table_of new f at k) n
       (covers f at (part flight from leg)) ((f == flight) && (at == leg + 1)) (covers f at (part flight from (leg + 1))) (class == k)
       (before.seats f at k) (here.seats f at k) (covers_more flight from leg f at le) (covers_once flight from leg f at);
 }
@@ -152,20 +152,20 @@ covers_past : (flight from leg at : ℕ) → leg < at → covers flight at (part
 covers_past flight from leg at lt = grind (arith, nat_tests)
 
 -- the legs behind are as they were
-pub same_behind : (op : ℕ → ℕ → ℕ) → ((a : ℕ) → op a 0 ≡ a) → (old new : Counted) (flight from leg at class n : ℕ) → leg < at → Changes op old new (part flight from leg) class n → (k : ℕ) → seats_of new flight at k ≡ seats_of old flight at k
+pub same_behind : (op : ℕ → ℕ → ℕ) → ((a : ℕ) → op a 0 ≡ a) → (old new : Counted) (flight from leg at class n : ℕ) → leg < at → Changes op old new (part flight from leg) class n → (k : ℕ) → table_of new flight at k ≡ table_of old flight at k
 same_behind op none old new flight from leg at class n lt h k =
-    h.seats flight at k ∙ ap (λ (b : Bool). op (seats_of old flight at k) (cond (b && (class == k)) n 0)) (covers_past flight from leg at lt) ∙ none (seats_of old flight at k)
+    h.seats flight at k ∙ ap (λ (b : Bool). op (table_of old flight at k) (cond (b && (class == k)) n 0)) (covers_past flight from leg at lt) ∙ none (table_of old flight at k)
 
 -- ---- seats that fit, on each leg
 
-pub fits_forwards : (grid : Legs) (seats : ℕ → ℕ → ℕ → ℕ) (place : Place) (class n : ℕ) → n ≤ room grid seats place class → 0 < n → place.from ≤ place.to
+pub fits_forwards : (grid : Ladders) (seats : ℕ → ℕ → ℕ → ℕ) (place : Place) (class n : ℕ) → n ≤ room grid seats place class → 0 < n → place.from ≤ place.to
 fits_forwards grid seats place class n h some = of (nat_le place.from place.to) refl h
   where
     of : (b : Bool) → nat_le place.from place.to ≡ b → n ≤ cond b (least (λ leg. room_on (ladder_at grid place.flight leg) (seats place.flight leg) class) place.from (place.to - place.from)) 0 → place.from ≤ place.to
     of true e f = grind (arith, nat_tests, e)
     of false e f = absurd (omega (arith, f))
 
-pub fits_each : (grid : Legs) (seats : ℕ → ℕ → ℕ → ℕ) (place : Place) (class n leg : ℕ) → n ≤ room grid seats place class → place.from ≤ leg → leg ≤ place.to
+pub fits_each : (grid : Ladders) (seats : ℕ → ℕ → ℕ → ℕ) (place : Place) (class n leg : ℕ) → n ≤ room grid seats place class → place.from ≤ leg → leg ≤ place.to
     → n ≤ room_on (ladder_at grid place.flight leg) (seats place.flight leg) class
 fits_each grid seats place class n leg h low high =
     let forwards : nat_le place.from place.to ≡ true = le-leb place.from place.to (omega arith) in
@@ -174,10 +174,10 @@ fits_each grid seats place class n leg h low high =
     omega (arith, room_is, least_le f place.from (place.to - place.from) leg low (omega arith))
 
 -- room that is left on a leg behind
-pub fits_behind : (old new : Counted) (flight from leg at class n m : ℕ) → leg < at → Changes plus old new (part flight from leg) class m → n ≤ room_on (ladder_at (limits_of old) flight at) (seats_of old flight at) class
-    → n ≤ room_on (ladder_at (limits_of new) flight at) (seats_of new flight at) class
+pub fits_behind : (old new : Counted) (flight from leg at class n m : ℕ) → leg < at → Changes plus old new (part flight from leg) class m → n ≤ room_on (ladder_at (limits_of old) flight at) (table_of old flight at) class
+    → n ≤ room_on (ladder_at (limits_of new) flight at) (table_of new flight at) class
 fits_behind old new flight from leg at class n m lt h fits =
-    let same = room_same (ladder_at (limits_of old) flight at) (seats_of new flight at) (seats_of old flight at) class (same_behind plus plus_none old new flight from leg at class m lt h) in
+    let same = room_same (ladder_at (limits_of old) flight at) (table_of new flight at) (table_of old flight at) class (same_behind plus plus_none old new flight from leg at class m lt h) in
     rw (h.limits, same) fits
 
 -- ---- seats that are held, on each leg
@@ -192,17 +192,17 @@ each_leg_at p from (suc n) leg h low high =
     of true e last below = ap p (eqb-true leg (from + suc n) e) ∙ last
     of false e last below = let ne = eqb-false leg (from + suc n) e in below (omega arith)
 
-pub held_each : (grid : Legs) (seats : ℕ → ℕ → ℕ → ℕ) (place : Place) (class n leg : ℕ) → IsTrue (holds grid seats place class n) → place.from ≤ leg → leg ≤ place.to → n ≤ seats place.flight leg class
+pub held_each : (grid : Ladders) (seats : ℕ → ℕ → ℕ → ℕ) (place : Place) (class n leg : ℕ) → IsTrue (holds grid seats place class n) → place.from ≤ leg → leg ≤ place.to → n ≤ seats place.flight leg class
 held_each grid seats place class n leg h low high =
     let both = and_parts (nat_le place.from place.to) (each_leg (λ at. leg_holds (ladder_at grid place.flight at) (seats place.flight at) class n) place.from (place.to - place.from)) h in
     let here = each_leg_at (λ at. leg_holds (ladder_at grid place.flight at) (seats place.flight at) class n) place.from (place.to - place.from) leg both.1 low (omega arith) in
     leb-true n (seats place.flight leg class) (and_parts (has_class (ladder_at grid place.flight leg) class) (nat_le n (seats place.flight leg class)) here).1
 
-pub held_forwards : (grid : Legs) (seats : ℕ → ℕ → ℕ → ℕ) (place : Place) (class n : ℕ) → IsTrue (holds grid seats place class n) → place.from ≤ place.to
+pub held_forwards : (grid : Ladders) (seats : ℕ → ℕ → ℕ → ℕ) (place : Place) (class n : ℕ) → IsTrue (holds grid seats place class n) → place.from ≤ place.to
 held_forwards grid seats place class n h =
     leb-true place.from place.to (and_parts (nat_le place.from place.to) (each_leg (λ at. leg_holds (ladder_at grid place.flight at) (seats place.flight at) class n) place.from (place.to - place.from)) h).0
 
-pub held_behind : (old new : Counted) (flight from leg at class n m : ℕ) → leg < at → Changes less old new (part flight from leg) class m → n ≤ seats_of old flight at class → n ≤ seats_of new flight at class
+pub held_behind : (old new : Counted) (flight from leg at class n m : ℕ) → leg < at → Changes less old new (part flight from leg) class m → n ≤ table_of old flight at class → n ≤ table_of new flight at class
 held_behind old new flight from leg at class n m lt h fits = omega (arith, fits, same_behind less less_none old new flight from leg at class m lt h class)
 
 -- ---- one more leg, one more flight
@@ -216,9 +216,9 @@ steps_push xs x ladders i o h lt e is =
     here : steps_of o ≡ get_or (map steps_of ladders) i (steps_of o)
     here = ap steps_of is ∙ sym (get_or-map steps_of ladders i o (steps_of o) lt)
 
-pub flights_push : (xs : Counted) (x : List LegSeats) (grid : Legs) (i : ℕ) (legs : List Steps) → limits_of xs ≡ take i grid → i < length grid → map steps_in x ≡ legs → legs ≡ get_or grid i legs → limits_of (xs ++ x ∷ []) ≡ take (i + 1) grid
+pub flights_push : (xs : Counted) (x : List LegSeats) (grid : Ladders) (i : ℕ) (legs : List Steps) → limits_of xs ≡ take i grid → i < length grid → map steps_in x ≡ legs → legs ≡ get_or grid i legs → limits_of (xs ++ x ∷ []) ≡ take (i + 1) grid
 flights_push xs x grid i legs h lt e is =
-    map-append (λ (l : List LegSeats). map steps_in l) xs (x ∷ []) ∙ ap (λ (g : Legs). g ++ map steps_in x ∷ []) h ∙ ap (λ (l : List Steps). take i grid ++ l ∷ []) (e ∙ is) ∙ sym (take_more grid i legs lt)
+    map-append (λ (l : List LegSeats). map steps_in l) xs (x ∷ []) ∙ ap (λ (g : Ladders). g ++ map steps_in x ∷ []) h ∙ ap (λ (l : List Steps). take i grid ++ l ∷ []) (e ∙ is) ∙ sym (take_more grid i legs lt)
 
 pub fresh_push : (xs : Counted) (x : List LegSeats) → ((f at : ℕ) → IsFresh (leg_at xs f at)) → ((at : ℕ) → IsFresh (leg_in x at)) → (f at : ℕ) → IsFresh (leg_at (xs ++ x ∷ []) f at)
 fresh_push xs x all here = each_push xs x [] (λ (legs : List LegSeats). (at : ℕ) → IsFresh (leg_in legs at)) all here
@@ -233,20 +233,20 @@ map_leg_set (l ∷ items) (suc leg) x class limit wait inside h = ap (λ (s : Li
 map_flight_set : (items : Counted) (flight : ℕ) (xs : List LegSeats) (leg class limit wait : ℕ) → flight < length items → map steps_in xs ≡ leg_with (map steps_in (legs_in items flight)) leg class limit wait → limits_of (set items flight xs) ≡ limits_with (limits_of items) flight leg class limit wait
 map_flight_set [] flight xs leg class limit wait inside h = absurd (omega arith)
 map_flight_set (l ∷ items) zero xs leg class limit wait inside h = ap (λ (s : List Steps). s ∷ limits_of items) h
-map_flight_set (l ∷ items) (suc flight) xs leg class limit wait inside h = ap (λ (s : Legs). map steps_in l ∷ s) (map_flight_set items flight xs leg class limit wait (omega arith) h)
+map_flight_set (l ∷ items) (suc flight) xs leg class limit wait inside h = ap (λ (s : Ladders). map steps_in l ∷ s) (map_flight_set items flight xs leg class limit wait (omega arith) h)
 
 leg_sets_at : (items : List LegSeats) (leg : ℕ) (x : LegSeats) (class limit wait : ℕ) → leg < length items → LegSets (leg_in items leg) x class limit wait → FlightSets items (set items leg x) leg class limit wait
 leg_sets_at items leg x class limit wait inside h = record {
   limits = map_leg_set items leg x class limit wait inside h.steps;
-  seats = λ at k. ap (λ (l : LegSeats). seats_on l k) (at_set items leg at x no_leg inside) ∙ seats_case at k (at == leg) refl;
-  kept = λ all at. let P : LegSeats → Type 0 = λ l. IsKept l in subst P (sym (at_set items leg at x no_leg inside)) (kept_case all at (at == leg));
+  seats = λ at k. ap (λ (l : LegSeats). held_on l k) (at_set items leg at x no_leg inside) ∙ seats_case at k (at == leg) refl;
+  kept = λ all at. let P : LegSeats → Type 0 = λ l. KeepsLimits l in subst P (sym (at_set items leg at x no_leg inside)) (kept_case all at (at == leg));
 }
   where
-    seats_case : (at k : ℕ) (b : Bool) → (at == leg) ≡ b → seats_on (cond b x (leg_in items at)) k ≡ seats_on (leg_in items at) k
-    seats_case at k true e = h.seats k ∙ ap (λ (i : ℕ). seats_on (leg_in items i) k) (sym (eqb-true at leg e))
+    seats_case : (at k : ℕ) (b : Bool) → (at == leg) ≡ b → held_on (cond b x (leg_in items at)) k ≡ held_on (leg_in items at) k
+    seats_case at k true e = h.seats k ∙ ap (λ (i : ℕ). held_on (leg_in items i) k) (sym (eqb-true at leg e))
     seats_case at k false e = refl
 
-    kept_case : ((i : ℕ) → IsKept (leg_in items i)) → (at : ℕ) (b : Bool) → IsKept (cond b x (leg_in items at))
+    kept_case : ((i : ℕ) → KeepsLimits (leg_in items i)) → (at : ℕ) (b : Bool) → KeepsLimits (cond b x (leg_in items at))
     kept_case all at true = h.kept
     kept_case all at false = all at
 
@@ -264,11 +264,11 @@ sets_here items flight old new leg class limit wait is h =
 flight_sets_at : (items : Counted) (flight : ℕ) (new : List LegSeats) (leg class limit wait : ℕ) → flight < length items → FlightSets (legs_in items flight) new leg class limit wait → Sets items (set items flight new) flight leg class limit wait
 flight_sets_at items flight new leg class limit wait inside h = record {
   limits = map_flight_set items flight new leg class limit wait inside h.limits;
-  seats = λ f at k. ap (λ (l : List LegSeats). seats_on (leg_in l at) k) (at_set items flight f new [] inside) ∙ seats_case f at k (f == flight) refl;
+  seats = λ f at k. ap (λ (l : List LegSeats). held_on (leg_in l at) k) (at_set items flight f new [] inside) ∙ seats_case f at k (f == flight) refl;
 }
   where
-    seats_case : (f at k : ℕ) (b : Bool) → (f == flight) ≡ b → seats_on (leg_in (cond b new (legs_in items f)) at) k ≡ seats_of items f at k
-    seats_case f at k true e = h.seats at k ∙ ap (λ (i : ℕ). seats_of items i at k) (sym (eqb-true f flight e))
+    seats_case : (f at k : ℕ) (b : Bool) → (f == flight) ≡ b → held_on (leg_in (cond b new (legs_in items f)) at) k ≡ table_of items f at k
+    seats_case f at k true e = h.seats at k ∙ ap (λ (i : ℕ). table_of items i at k) (sym (eqb-true f flight e))
     seats_case f at k false e = refl
 
 pub all_sets : (items now : Counted) (flight : ℕ) (old new : List LegSeats) (leg class limit wait : ℕ) → items ≡ now → flight < length items → old ≡ get_or items flight [] → FlightSets old new leg class limit wait → Sets now (set items flight new) flight leg class limit wait
@@ -278,9 +278,9 @@ all_sets items now flight old new leg class limit wait same inside is h =
 
 pub within_sets : (items : Counted) (flight : ℕ) (old new : List LegSeats) (leg class limit wait : ℕ) → flight < length items → old ≡ get_or items flight [] → FlightSets old new leg class limit wait → IsWithinLimits items → IsWithinLimits (set items flight new)
 within_sets items flight old new leg class limit wait inside is h w = record {
-  leg_kept = λ f at. let P : List LegSeats → Type 0 = λ l. IsKept (leg_in l at) in subst P (sym (at_set items flight f new [] inside)) (kept_case f at (f == flight));
+  leg_kept = λ f at. let P : List LegSeats → Type 0 = λ l. KeepsLimits (leg_in l at) in subst P (sym (at_set items flight f new [] inside)) (kept_case f at (f == flight));
 }
   where
-    kept_case : (f at : ℕ) (b : Bool) → IsKept (leg_in (cond b new (legs_in items f)) at)
+    kept_case : (f at : ℕ) (b : Bool) → KeepsLimits (leg_in (cond b new (legs_in items f)) at)
     kept_case f at true = (sets_here items flight old new leg class limit wait is h).kept (λ i. w.leg_kept flight i) at
     kept_case f at false = w.leg_kept f at

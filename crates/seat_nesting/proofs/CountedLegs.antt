@@ -6,8 +6,8 @@ use Rattle.std.proofs.lemmas.List.Sums.{sum_by-cons, sum_by_push}
 use Rattle.std.proofs.lemmas.List.{map-set, map-append, length-map, take_all}
 use Rattle.std.proofs.lemmas.Option.{unwrap_or-slice_get}
 use Rattle.airline_base.specs.declared.place.Place.{Place}
-use Rattle.seat_nesting.specs.Nesting.{Steps, Legs, Fits, IsLegLadder, steps_of, has_class, room_on, ladder_at, legs_of}
-use Rattle.seat_nesting.specs.Counting.{LegSeats, Counted, leg_of, leg_in, legs_in, leg_at, limits_of, seats_of, no_leg, IsKept, IsFresh, IsRank, IsWithinLimits, LegChanges, FlightChanges, OneLegChanges, plus, less}
+use Rattle.seat_nesting.specs.Nesting.{Steps, Ladders, Fits, IsLegLadder, steps_of, has_class, room_on, ladder_at, legs_of}
+use Rattle.seat_nesting.specs.Counting.{LegSeats, Counted, leg_of, leg_in, legs_in, leg_at, limits_of, table_of, no_leg, KeepsLimits, IsFresh, IsRank, IsWithinLimits, LegChanges, FlightChanges, OneLegChanges, plus, less}
 use Rattle.seat_nesting.specs.OwnLadders.{steps_by, may_come, may_come_on, AreShared, leg_seen, held_at, with_held, no_counted, counted_in, counted_at, legs_seen, all_seen, limits_in, all_limits, limits_at, AreCounters, HaveOwn}
 use Rattle.seat_nesting.specs.declared.counted_leg.CountedLeg.{CountedLeg}
 use Rattle.seat_nesting.specs.declared.counted_leg.Limits.{Limits}
@@ -128,8 +128,8 @@ met_leg own places flights now flight legs at leg m =
     ap (λ (l : List CountedLeg). leg_seen own (counted_in l at)) m.legs_are ∙ ap (λ (i : ℕ). leg_seen own (counted_at flights flight i)) m.leg_is ∙ sym (leg_seen_at own flights flight leg)
     ∙ ap (λ (c : Counted). leg_at c flight leg) m.seen
 
-pub met_kept : (own : List Steps) (places : ℕ) (flights : List (List CountedLeg)) (now : Counted) (flight : ℕ) (legs : List CountedLeg) (at leg : ℕ) → Meets own places flights now flight legs at leg → IsKept (leg_at now flight leg)
-met_kept own places flights now flight legs at leg m = subst (λ (c : Counted). IsKept (leg_at c flight leg)) m.seen (m.counters.kept.leg_kept flight leg)
+pub met_kept : (own : List Steps) (places : ℕ) (flights : List (List CountedLeg)) (now : Counted) (flight : ℕ) (legs : List CountedLeg) (at leg : ℕ) → Meets own places flights now flight legs at leg → KeepsLimits (leg_at now flight leg)
+met_kept own places flights now flight legs at leg m = subst (λ (c : Counted). KeepsLimits (leg_at c flight leg)) m.seen (m.counters.kept.leg_kept flight leg)
 
 pub met_inside : (own : List Steps) (places : ℕ) (flights : List (List CountedLeg)) (now : Counted) (flight : ℕ) (legs : List CountedLeg) (at leg : ℕ) → Meets own places flights now flight legs at leg → 0 < length (leg_at now flight leg).steps → at < length legs
 met_inside own places flights now flight legs at leg m some =
@@ -150,16 +150,16 @@ met_here own places flights now flight legs at leg m inside = omega (arith, insi
 -- ---- taking
 
 pub take_fits : (own : List Steps) (places : ℕ) (flights : List (List CountedLeg)) (now : Counted) (flight : ℕ) (legs : List CountedLeg) (at leg class rank n : ℕ) → Meets own places flights now flight legs at leg → IsRank (leg_at now flight leg).steps class rank
-    → n ≤ room_on (ladder_at (limits_of now) flight leg) (seats_of now flight leg) class → held_at (counted_in legs at) rank + n ≤ 999
+    → n ≤ room_on (ladder_at (limits_of now) flight leg) (table_of now flight leg) class → held_at (counted_in legs at) rank + n ≤ 999
 take_fits own places flights now flight legs at leg class rank n m is fits =
-    let here : n ≤ room_on (leg_at now flight leg).steps (seats_of now flight leg) class = subst (λ (s : Steps). n ≤ room_on s (seats_of now flight leg) class) (ladder_seen now flight leg) fits in
+    let here : n ≤ room_on (leg_at now flight leg).steps (table_of now flight leg) class = subst (λ (s : Steps). n ≤ room_on s (table_of now flight leg) class) (ladder_seen now flight leg) fits in
     few_seen (leg_seen own (counted_in legs at)) (leg_at now flight leg) class rank n (met_leg own places flights now flight legs at leg m) (met_kept own places flights now flight legs at leg m) is here
 
 take_leg : (own : List Steps) (places : ℕ) (flights : List (List CountedLeg)) (now : Counted) (flight : ℕ) (legs : List CountedLeg) (at leg class rank n : ℕ) → Meets own places flights now flight legs at leg → IsRank (leg_at now flight leg).steps class rank
-    → n ≤ room_on (ladder_at (limits_of now) flight leg) (seats_of now flight leg) class
+    → n ≤ room_on (ladder_at (limits_of now) flight leg) (table_of now flight leg) class
     → LegChanges plus (leg_at now flight leg) (leg_seen own (with_held (counted_in legs at) rank (held_at (counted_in legs at) rank + n))) class n
 take_leg own places flights now flight legs at leg class rank n m is fits =
-    let here : n ≤ room_on (leg_at now flight leg).steps (seats_of now flight leg) class = subst (λ (s : Steps). n ≤ room_on s (seats_of now flight leg) class) (ladder_seen now flight leg) fits in
+    let here : n ≤ room_on (leg_at now flight leg).steps (table_of now flight leg) class = subst (λ (s : Steps). n ≤ room_on s (table_of now flight leg) class) (ladder_seen now flight leg) fits in
     takes_seen (leg_seen own (counted_in legs at)) (leg_at now flight leg) class rank n (met_leg own places flights now flight legs at leg m) (met_kept own places flights now flight legs at leg m) is here
 
 give_leg : (own : List Steps) (places : ℕ) (flights : List (List CountedLeg)) (now : Counted) (flight : ℕ) (legs : List CountedLeg) (at leg class rank n : ℕ) → Meets own places flights now flight legs at leg → IsRank (leg_at now flight leg).steps class rank
@@ -168,7 +168,7 @@ give_leg own places flights now flight legs at leg class rank n m is =
     gives_seen (leg_seen own (counted_in legs at)) (leg_at now flight leg) class rank n (met_leg own places flights now flight legs at leg m) (met_kept own places flights now flight legs at leg m) is
 
 pub give_fits : (own : List Steps) (places : ℕ) (flights : List (List CountedLeg)) (now : Counted) (flight : ℕ) (legs : List CountedLeg) (at leg class rank n : ℕ) → Meets own places flights now flight legs at leg → IsRank (leg_at now flight leg).steps class rank
-    → n ≤ seats_of now flight leg class → n ≤ held_at (counted_in legs at) rank
+    → n ≤ table_of now flight leg class → n ≤ held_at (counted_in legs at) rank
 give_fits own places flights now flight legs at leg class rank n m is fits =
     let held = seats_seen (leg_seen own (counted_in legs at)) (leg_at now flight leg) class rank (met_leg own places flights now flight legs at leg m) (met_kept own places flights now flight legs at leg m) is in
     omega (arith, held, fits)
@@ -211,13 +211,13 @@ pub rank_some : (steps : Steps) (class rank : ℕ) → IsRank steps class rank �
 rank_some steps class rank is = omega (arith, is.inside)
 
 pub takes_on : (own : List Steps) (places : ℕ) (flights : List (List CountedLeg)) (now : Counted) (flight : ℕ) (legs : List CountedLeg) (at leg class rank n : ℕ) (new : List CountedLeg) → Meets own places flights now flight legs at leg → IsRank (leg_at now flight leg).steps class rank
-    → n ≤ room_on (ladder_at (limits_of now) flight leg) (seats_of now flight leg) class → new ≡ taken_in legs at rank n → OneLegChanges plus now (all_seen own (set flights flight new)) flight leg class n
+    → n ≤ room_on (ladder_at (limits_of now) flight leg) (table_of now flight leg) class → new ≡ taken_in legs at rank n → OneLegChanges plus now (all_seen own (set flights flight new)) flight leg class n
 takes_on own places flights now flight legs at leg class rank n new m is fits e =
     let inside = met_inside own places flights now flight legs at leg m (rank_some (leg_at now flight leg).steps class rank is) in
     changed_on plus plus_none own places flights now flight legs at leg class n new (λ (c : CountedLeg). with_held c rank (held_at c rank + n)) m inside e (take_leg own places flights now flight legs at leg class rank n m is fits)
 
 pub taken_counters : (own : List Steps) (places : ℕ) (flights : List (List CountedLeg)) (now : Counted) (flight : ℕ) (legs : List CountedLeg) (at leg class rank n : ℕ) (new : List CountedLeg) → Meets own places flights now flight legs at leg → IsRank (leg_at now flight leg).steps class rank
-    → n ≤ room_on (ladder_at (limits_of now) flight leg) (seats_of now flight leg) class → new ≡ taken_in legs at rank n → AreCounters own places (set flights flight new)
+    → n ≤ room_on (ladder_at (limits_of now) flight leg) (table_of now flight leg) class → new ≡ taken_in legs at rank n → AreCounters own places (set flights flight new)
 taken_counters own places flights now flight legs at leg class rank n new m is fits e =
     let inside = met_inside own places flights now flight legs at leg m (rank_some (leg_at now flight leg).steps class rank is) in
     changed_counters plus plus_none own places flights now flight legs at leg class n new (λ (c : CountedLeg). with_held c rank (held_at c rank + n)) m inside e (λ c. refl) (take_leg own places flights now flight legs at leg class rank n m is fits)
@@ -246,7 +246,7 @@ past_none own flights now flight leg e past = subst (λ (c : Counted). (leg_at c
 
 pub none_changes : (op : ℕ → ℕ → ℕ) → ((a : ℕ) → op a 0 ≡ a) → (now new : Counted) (flight leg class n : ℕ) → new ≡ now → n ≡ 0 → OneLegChanges op now new flight leg class n
 none_changes op none now new flight leg class n e zero_is =
-    subst (λ (c : Counted). OneLegChanges op now c flight leg class n) (sym e) (record { limits = refl; seats = λ f at k. pick ((f == flight) && (at == leg) && (class == k)) (seats_of now f at k) })
+    subst (λ (c : Counted). OneLegChanges op now c flight leg class n) (sym e) (record { limits = refl; seats = λ f at k. pick ((f == flight) && (at == leg) && (class == k)) (table_of now f at k) })
   where
     pick : (b : Bool) (m : ℕ) → m ≡ op m (cond b n 0)
     pick true m = sym (none m) ∙ ap (op m) (sym zero_is)
@@ -286,7 +286,7 @@ leg_shared_push legs x all here leg =
     subst (λ (l : List Limits). may_come (unwrap_or (slice_get l leg) Absent) ≡ 1) (sym (map-append limits_by legs (x ∷ []))) (each_push (limits_in legs) x.limits Absent (λ (l : Limits). may_come l ≡ 1) all here leg)
 
 -- one flight more
-pub all_limits_push : (flights : List (List CountedLeg)) (x : List CountedLeg) (grid : Legs) (i : ℕ) (legs : List Steps) → limits_of (all_seen [] flights) ≡ take i grid → i < length grid → map (λ (l : LegSeats). l.steps) (legs_seen [] x) ≡ legs → legs ≡ get_or grid i legs
+pub all_limits_push : (flights : List (List CountedLeg)) (x : List CountedLeg) (grid : Ladders) (i : ℕ) (legs : List Steps) → limits_of (all_seen [] flights) ≡ take i grid → i < length grid → map (λ (l : LegSeats). l.steps) (legs_seen [] x) ≡ legs → legs ≡ get_or grid i legs
     → limits_of (all_seen [] (flights ++ x ∷ [])) ≡ take (i + 1) grid
 all_limits_push flights x grid i legs h lt e is =
     ap limits_of (map-append (legs_seen []) flights (x ∷ [])) ∙ flights_push (all_seen [] flights) (legs_seen [] x) grid i legs h lt e is
@@ -327,21 +327,21 @@ new_counters own places most flights e le fresh h =
     subst (λ (o : List Steps). AreCounters o most flights) (sym e)
     (record { kept = record { leg_kept = λ f at. (fresh f at).kept }; owned = record { there = h.there; apart = h.apart; reserved = omega (arith, h.reserved, le) } })
 
-pub new_limits : (own : List Steps) (flights : List (List CountedLeg)) (grid now : Legs) (i : ℕ) → own ≡ [] → limits_of (all_seen [] flights) ≡ take i grid → length grid ≤ i → grid ≡ now → limits_of (all_seen own flights) ≡ now
+pub new_limits : (own : List Steps) (flights : List (List CountedLeg)) (grid now : Ladders) (i : ℕ) → own ≡ [] → limits_of (all_seen [] flights) ≡ take i grid → length grid ≤ i → grid ≡ now → limits_of (all_seen own flights) ≡ now
 new_limits own flights grid now i e h past same = ap (λ (o : List Steps). limits_of (all_seen o flights)) e ∙ h ∙ take_all i grid past ∙ same
 
-pub new_seats : (own : List Steps) (flights : List (List CountedLeg)) → own ≡ [] → ((f at : ℕ) → IsFresh (leg_at (all_seen [] flights) f at)) → (flight leg class : ℕ) → seats_of (all_seen own flights) flight leg class ≡ 0
-new_seats own flights e fresh flight leg class = ap (λ (o : List Steps). seats_of (all_seen o flights) flight leg class) e ∙ (fresh flight leg).none class
+pub new_seats : (own : List Steps) (flights : List (List CountedLeg)) → own ≡ [] → ((f at : ℕ) → IsFresh (leg_at (all_seen [] flights) f at)) → (flight leg class : ℕ) → table_of (all_seen own flights) flight leg class ≡ 0
+new_seats own flights e fresh flight leg class = ap (λ (o : List Steps). table_of (all_seen o flights) flight leg class) e ∙ (fresh flight leg).none class
 
 -- ---- seats that are not there to take or give
 
-pub none_taken : (now new : Counted) (flight leg class n : ℕ) → new ≡ now → has_class (leg_at now flight leg).steps class ≡ false → n ≤ room_on (ladder_at (limits_of now) flight leg) (seats_of now flight leg) class → OneLegChanges plus now new flight leg class n
+pub none_taken : (now new : Counted) (flight leg class n : ℕ) → new ≡ now → has_class (leg_at now flight leg).steps class ≡ false → n ≤ room_on (ladder_at (limits_of now) flight leg) (table_of now flight leg) class → OneLegChanges plus now new flight leg class n
 none_taken now new flight leg class n e lacks fits =
-    let here : n ≤ room_on (leg_at now flight leg).steps (seats_of now flight leg) class = subst (λ (s : Steps). n ≤ room_on s (seats_of now flight leg) class) (ladder_seen now flight leg) fits in
-    let none = room_lacking (leg_at now flight leg).steps (seats_of now flight leg) class lacks in
+    let here : n ≤ room_on (leg_at now flight leg).steps (table_of now flight leg) class = subst (λ (s : Steps). n ≤ room_on s (table_of now flight leg) class) (ladder_seen now flight leg) fits in
+    let none = room_lacking (leg_at now flight leg).steps (table_of now flight leg) class lacks in
     none_changes plus plus_none now new flight leg class n e (omega (arith, none, here))
 
-pub none_given : (now new : Counted) (flight leg class n : ℕ) → new ≡ now → has_class (leg_at now flight leg).steps class ≡ false → n ≤ seats_of now flight leg class → OneLegChanges less now new flight leg class n
+pub none_given : (now new : Counted) (flight leg class n : ℕ) → new ≡ now → has_class (leg_at now flight leg).steps class ≡ false → n ≤ table_of now flight leg class → OneLegChanges less now new flight leg class n
 none_given now new flight leg class n e lacks fits =
     let none = count_lacking (leg_at now flight leg).steps (leg_at now flight leg).held class lacks in
     none_changes less less_none now new flight leg class n e (omega (arith, none, fits))
@@ -366,8 +366,8 @@ leg_found own flights now flight leg x all ladders steps a b is e seen =
     ∙ sym (leg_seen_at own flights flight leg) ∙ ap (λ (c : Counted). leg_at c flight leg) seen
 
 pub leg_kept : (own : List Steps) (flights : List (List CountedLeg)) (flight leg : ℕ) (x : CountedLeg) (all : List (List CountedLeg)) (ladders : List Steps) (steps : Steps) → all ≡ flights → ladders ≡ own → x ≡ counted_at all flight leg → steps ≡ steps_by ladders x.limits → IsWithinLimits (all_seen own flights)
-    → IsKept (leg_of steps x.held)
-leg_kept own flights flight leg x all ladders steps a b is e w = subst IsKept (sym (leg_found own flights (all_seen own flights) flight leg x all ladders steps a b is e refl)) (w.leg_kept flight leg)
+    → KeepsLimits (leg_of steps x.held)
+leg_kept own flights flight leg x all ladders steps a b is e w = subst KeepsLimits (sym (leg_found own flights (all_seen own flights) flight leg x all ladders steps a b is e refl)) (w.leg_kept flight leg)
 
 pub ladder_is : (own : List Steps) (flights : List (List CountedLeg)) (now : Counted) (flight leg : ℕ) (x : CountedLeg) (all : List (List CountedLeg)) (ladders : List Steps) → all ≡ flights → ladders ≡ own → x ≡ counted_at all flight leg → all_seen own flights ≡ now → steps_by ladders x.limits ≡ ladder_at (limits_of now) flight leg
 ladder_is own flights now flight leg x all ladders a b is seen =

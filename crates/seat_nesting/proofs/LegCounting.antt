@@ -8,7 +8,7 @@ use Rattle.std.proofs.lemmas.List.Quantifiers.{position-Some}
 use Rattle.std.proofs.lemmas.Bool.Decides.{nat_tests}
 use Rattle.seat_nesting.specs.declared.ladder.Step.{Step}
 use Rattle.seat_nesting.specs.Nesting.{ByClass, Steps, held_from, room_on, has_class, IsDistinct, IsLegLadder, LacksClass}
-use Rattle.seat_nesting.specs.Counting.{LegSeats, leg_of, count_at, seats_on, IsKept, IsFresh, IsRank, LegChanges, plus, less}
+use Rattle.seat_nesting.specs.Counting.{LegSeats, leg_of, count_at, held_on, KeepsLimits, IsFresh, IsRank, LegChanges, plus, less}
 use Rattle.seat_nesting.proofs.Rooms.{held_from_rank, within_rank, within_none, within_less, within_more, IsMore}
 
 -- ---- ladders
@@ -26,10 +26,10 @@ count_none (s ∷ lower) (n ∷ more) k h =
     of true here rest = here
     of false here rest = rest
 
-pub is_fresh : (leg : LegSeats) → IsKept leg → ((k : ℕ) → seats_on leg k ≡ 0) → IsFresh leg
+pub is_fresh : (leg : LegSeats) → KeepsLimits leg → ((k : ℕ) → held_on leg k ≡ 0) → IsFresh leg
 is_fresh leg kept none = record { kept = kept; none = none }
 
-pub kept_none : (steps : Steps) (held : List ℕ) → IsLegLadder steps → length held ≡ 26 → list_all (λ n. n == 0) held ≡ true → IsKept (record { steps = steps; held = held })
+pub kept_none : (steps : Steps) (held : List ℕ) → IsLegLadder steps → length held ≡ 26 → list_all (λ n. n == 0) held ≡ true → KeepsLimits (record { steps = steps; held = held })
 kept_none steps held ladder all h = record { ladder = ladder; counted = omega (arith, ladder.most); within = within_none steps (count_at steps held) (λ k. count_none steps held k h) }
 
 -- ---- a class and its rank
@@ -133,7 +133,7 @@ is_more new old class n h = record {
   others = λ k ne. let other : (class == k) ≡ false = ne_eqb class k (λ e. ne (sym e)) in omega (arith, h k, ap (λ (b : Bool). old k + cond b n 0) other);
 }
 
-pub leg_takes : (leg : LegSeats) (class rank n : ℕ) → IsKept leg → IsRank leg.steps class rank → n ≤ room_on leg.steps (seats_on leg) class
+pub leg_takes : (leg : LegSeats) (class rank n : ℕ) → KeepsLimits leg → IsRank leg.steps class rank → n ≤ room_on leg.steps (held_on leg) class
     → LegChanges plus leg (record { steps = leg.steps; held = set leg.held rank (get_or leg.held rank 0 + n) }) class n
 leg_takes leg class rank n kept is fits =
     let inside : rank < length leg.held = omega (arith, is.inside, kept.counted) in
@@ -142,10 +142,10 @@ leg_takes leg class rank n kept is fits =
     record {
       steps = refl;
       seats = after;
-      kept = record { ladder = kept.ladder; counted = rw length-set kept.counted; within = within_more leg.steps new (seats_on leg) class n (is_more new (seats_on leg) class n after) kept.ladder.distinct fits kept.within };
+      kept = record { ladder = kept.ladder; counted = rw length-set kept.counted; within = within_more leg.steps new (held_on leg) class n (is_more new (held_on leg) class n after) kept.ladder.distinct fits kept.within };
     }
 
-pub leg_gives : (leg : LegSeats) (class rank n : ℕ) → IsKept leg → IsRank leg.steps class rank
+pub leg_gives : (leg : LegSeats) (class rank n : ℕ) → KeepsLimits leg → IsRank leg.steps class rank
     → LegChanges less leg (record { steps = leg.steps; held = set leg.held rank (get_or leg.held rank 0 - n) }) class n
 leg_gives leg class rank n kept is =
     let inside : rank < length leg.held = omega (arith, is.inside, kept.counted) in
@@ -154,7 +154,7 @@ leg_gives leg class rank n kept is =
     record {
       steps = refl;
       seats = after;
-      kept = record { ladder = kept.ladder; counted = rw length-set kept.counted; within = within_less leg.steps new (seats_on leg) (λ k. omega (arith, after k)) kept.within };
+      kept = record { ladder = kept.ladder; counted = rw length-set kept.counted; within = within_less leg.steps new (held_on leg) (λ k. omega (arith, after k)) kept.within };
     }
 
 -- ---- a missing class
@@ -174,15 +174,15 @@ count_lacking (s ∷ lower) (n ∷ more) class h =
     rw (p.0, count_lacking lower more class p.1) refl
 
 -- no seat more or fewer is no change
-pub takes_none : (leg : LegSeats) (class n : ℕ) → IsKept leg → n ≡ 0 → LegChanges plus leg leg class n
-takes_none leg class n kept none = record { steps = refl; seats = λ k. of (class == k) (seats_on leg k); kept = kept }
+pub takes_none : (leg : LegSeats) (class n : ℕ) → KeepsLimits leg → n ≡ 0 → LegChanges plus leg leg class n
+takes_none leg class n kept none = record { steps = refl; seats = λ k. of (class == k) (held_on leg k); kept = kept }
   where
     of : (b : Bool) (m : ℕ) → m ≡ m + cond b n 0
     of true m = omega (arith, none)
     of false m = omega arith
 
-pub gives_none : (leg : LegSeats) (class n : ℕ) → IsKept leg → n ≡ 0 → LegChanges less leg leg class n
-gives_none leg class n kept none = record { steps = refl; seats = λ k. of (class == k) (seats_on leg k); kept = kept }
+pub gives_none : (leg : LegSeats) (class n : ℕ) → KeepsLimits leg → n ≡ 0 → LegChanges less leg leg class n
+gives_none leg class n kept none = record { steps = refl; seats = λ k. of (class == k) (held_on leg k); kept = kept }
   where
     of : (b : Bool) (m : ℕ) → m ≡ m - cond b n 0
     of true m = omega (arith, none)
@@ -210,76 +210,76 @@ get_or_any (x ∷ xs) zero d e h = refl
 get_or_any (x ∷ xs) (suc i) d e h = get_or_any xs i d e (omega arith)
 
 -- seats that fit the room are few with those held
-pub few_taken : (leg : LegSeats) (class rank n : ℕ) → IsKept leg → IsRank leg.steps class rank → n ≤ room_on leg.steps (seats_on leg) class → get_or leg.held rank 0 + n ≤ 999
+pub few_taken : (leg : LegSeats) (class rank n : ℕ) → KeepsLimits leg → IsRank leg.steps class rank → n ≤ room_on leg.steps (held_on leg) class → get_or leg.held rank 0 + n ≤ 999
 few_taken leg class rank n kept is fits =
     let inside : rank < length leg.held = omega (arith, is.inside, kept.counted) in
     let steps = leg.steps in
     let x = get_or steps rank no_step in
-    let more = held_from_rank steps rank (rank + 1) x (seats_on leg) refl is.inside (get_or_any steps rank no_step x is.inside) in
+    let more = held_from_rank steps rank (rank + 1) x (held_on leg) refl is.inside (get_or_any steps rank no_step x is.inside) in
     let here = count_rank steps leg.held rank no_step kept.ladder.distinct is.inside inside in
-    let within = within_rank steps (seats_on leg) rank no_step kept.within is.inside in
-    let room = room_at steps (seats_on leg) class rank no_step kept.ladder.distinct is.inside (is.class_is no_step) in
+    let within = within_rank steps (held_on leg) rank no_step kept.within is.inside in
+    let room = room_at steps (held_on leg) class rank no_step kept.ladder.distinct is.inside (is.class_is no_step) in
     let limit = limit_at steps rank no_step kept.ladder.bounded is.inside in
     omega (arith, more, here, within, room, limit, fits)
 
 -- the highest rank of the rest, when the lower ones are added up
-pub held_at : (leg : LegSeats) (i j : ℕ) (x : Step) → IsKept leg → j ≡ i + 1 → i < length leg.steps → x ≡ get_or leg.steps i x
-    → (held_from (seats_on leg) (drop i leg.steps) ≡ held_from (seats_on leg) (drop j leg.steps) + get_or leg.held i 0) × (held_from (seats_on leg) (drop i leg.steps) ≤ x.limit) × (x.limit ≤ 999)
+pub held_at : (leg : LegSeats) (i j : ℕ) (x : Step) → KeepsLimits leg → j ≡ i + 1 → i < length leg.steps → x ≡ get_or leg.steps i x
+    → (held_from (held_on leg) (drop i leg.steps) ≡ held_from (held_on leg) (drop j leg.steps) + get_or leg.held i 0) × (held_from (held_on leg) (drop i leg.steps) ≤ x.limit) × (x.limit ≤ 999)
 held_at leg i j x kept e inside is =
     let counted : i < length leg.held = omega (arith, inside, kept.counted) in
     let steps = leg.steps in
-    let more = held_from_rank steps i j x (seats_on leg) e inside is in
+    let more = held_from_rank steps i j x (held_on leg) e inside is in
     let here = ap (λ (s : Step). count_at steps leg.held s.class) is ∙ count_rank steps leg.held i x kept.ladder.distinct inside counted in
-    let within = within_rank steps (seats_on leg) i x kept.within inside in
+    let within = within_rank steps (held_on leg) i x kept.within inside in
     let small = limit_at steps i x kept.ladder.bounded inside in
     let limit : x.limit ≡ (get_or steps i x).limit = ap (λ (s : Step). s.limit) is in
     (omega (arith, more, here), omega (arith, within, limit), omega (arith, small, limit))
 
 -- what is held in a class stands at its rank
-pub seats_rank : (leg : LegSeats) (class rank : ℕ) → IsKept leg → IsRank leg.steps class rank → seats_on leg class ≡ get_or leg.held rank 0
+pub seats_rank : (leg : LegSeats) (class rank : ℕ) → KeepsLimits leg → IsRank leg.steps class rank → held_on leg class ≡ get_or leg.held rank 0
 seats_rank leg class rank kept is = count_class leg.steps leg.held class rank kept.ladder.distinct is (omega (arith, is.inside, kept.counted))
 
 -- ---- the same of a leg that is seen as another
 
-pub few_seen : (leg now : LegSeats) (class rank n : ℕ) → leg ≡ now → IsKept now → IsRank now.steps class rank → n ≤ room_on now.steps (seats_on now) class → get_or leg.held rank 0 + n ≤ 999
+pub few_seen : (leg now : LegSeats) (class rank n : ℕ) → leg ≡ now → KeepsLimits now → IsRank now.steps class rank → n ≤ room_on now.steps (held_on now) class → get_or leg.held rank 0 + n ≤ 999
 few_seen leg now class rank n e =
-    let P : LegSeats → Type 0 = λ x. IsKept x → IsRank x.steps class rank → n ≤ room_on x.steps (seats_on x) class → get_or leg.held rank 0 + n ≤ 999 in
+    let P : LegSeats → Type 0 = λ x. KeepsLimits x → IsRank x.steps class rank → n ≤ room_on x.steps (held_on x) class → get_or leg.held rank 0 + n ≤ 999 in
     subst P e (few_taken leg class rank n)
 
-pub takes_seen : (leg now : LegSeats) (class rank n : ℕ) → leg ≡ now → IsKept now → IsRank now.steps class rank → n ≤ room_on now.steps (seats_on now) class
+pub takes_seen : (leg now : LegSeats) (class rank n : ℕ) → leg ≡ now → KeepsLimits now → IsRank now.steps class rank → n ≤ room_on now.steps (held_on now) class
     → LegChanges plus now (record { steps = leg.steps; held = set leg.held rank (get_or leg.held rank 0 + n) }) class n
 takes_seen leg now class rank n e =
-    let P : LegSeats → Type 0 = λ x. IsKept x → IsRank x.steps class rank → n ≤ room_on x.steps (seats_on x) class → LegChanges plus x (record { steps = leg.steps; held = set leg.held rank (get_or leg.held rank 0 + n) }) class n in
+    let P : LegSeats → Type 0 = λ x. KeepsLimits x → IsRank x.steps class rank → n ≤ room_on x.steps (held_on x) class → LegChanges plus x (record { steps = leg.steps; held = set leg.held rank (get_or leg.held rank 0 + n) }) class n in
     subst P e (leg_takes leg class rank n)
 
-pub gives_seen : (leg now : LegSeats) (class rank n : ℕ) → leg ≡ now → IsKept now → IsRank now.steps class rank
+pub gives_seen : (leg now : LegSeats) (class rank n : ℕ) → leg ≡ now → KeepsLimits now → IsRank now.steps class rank
     → LegChanges less now (record { steps = leg.steps; held = set leg.held rank (get_or leg.held rank 0 - n) }) class n
 gives_seen leg now class rank n e =
-    let P : LegSeats → Type 0 = λ x. IsKept x → IsRank x.steps class rank → LegChanges less x (record { steps = leg.steps; held = set leg.held rank (get_or leg.held rank 0 - n) }) class n in
+    let P : LegSeats → Type 0 = λ x. KeepsLimits x → IsRank x.steps class rank → LegChanges less x (record { steps = leg.steps; held = set leg.held rank (get_or leg.held rank 0 - n) }) class n in
     subst P e (leg_gives leg class rank n)
 
-pub seats_seen : (leg now : LegSeats) (class rank : ℕ) → leg ≡ now → IsKept now → IsRank now.steps class rank → seats_on now class ≡ get_or leg.held rank 0
+pub seats_seen : (leg now : LegSeats) (class rank : ℕ) → leg ≡ now → KeepsLimits now → IsRank now.steps class rank → held_on now class ≡ get_or leg.held rank 0
 seats_seen leg now class rank e =
-    let P : LegSeats → Type 0 = λ x. IsKept x → IsRank x.steps class rank → seats_on x class ≡ get_or leg.held rank 0 in
+    let P : LegSeats → Type 0 = λ x. KeepsLimits x → IsRank x.steps class rank → held_on x class ≡ get_or leg.held rank 0 in
     subst P e (seats_rank leg class rank)
 
-pub held_seen : (leg now : LegSeats) (i j : ℕ) (x : Step) → leg ≡ now → IsKept now → j ≡ i + 1 → i < length now.steps → x ≡ get_or now.steps i x
-    → (held_from (seats_on now) (drop i now.steps) ≡ held_from (seats_on now) (drop j now.steps) + get_or leg.held i 0) × (held_from (seats_on now) (drop i now.steps) ≤ x.limit) × (x.limit ≤ 999)
+pub held_seen : (leg now : LegSeats) (i j : ℕ) (x : Step) → leg ≡ now → KeepsLimits now → j ≡ i + 1 → i < length now.steps → x ≡ get_or now.steps i x
+    → (held_from (held_on now) (drop i now.steps) ≡ held_from (held_on now) (drop j now.steps) + get_or leg.held i 0) × (held_from (held_on now) (drop i now.steps) ≤ x.limit) × (x.limit ≤ 999)
 held_seen leg now i j x e =
-    let P : LegSeats → Type 0 = λ y. IsKept y → j ≡ i + 1 → i < length y.steps → x ≡ get_or y.steps i x
-    → (held_from (seats_on y) (drop i y.steps) ≡ held_from (seats_on y) (drop j y.steps) + get_or leg.held i 0) × (held_from (seats_on y) (drop i y.steps) ≤ x.limit) × (x.limit ≤ 999) in
+    let P : LegSeats → Type 0 = λ y. KeepsLimits y → j ≡ i + 1 → i < length y.steps → x ≡ get_or y.steps i x
+    → (held_from (held_on y) (drop i y.steps) ≡ held_from (held_on y) (drop j y.steps) + get_or leg.held i 0) × (held_from (held_on y) (drop i y.steps) ≤ x.limit) × (x.limit ≤ 999) in
     subst P e (held_at leg i j x)
 
-pub held_more_seen : (leg now : LegSeats) (i j : ℕ) → leg ≡ now → IsKept now → j ≡ i + 1 → i < length now.steps
-    → (held_from (seats_on now) (drop i now.steps) ≡ held_from (seats_on now) (drop j now.steps) + get_or leg.held i 0) × (held_from (seats_on now) (drop i now.steps) ≤ 999)
+pub held_more_seen : (leg now : LegSeats) (i j : ℕ) → leg ≡ now → KeepsLimits now → j ≡ i + 1 → i < length now.steps
+    → (held_from (held_on now) (drop i now.steps) ≡ held_from (held_on now) (drop j now.steps) + get_or leg.held i 0) × (held_from (held_on now) (drop i now.steps) ≤ 999)
 held_more_seen leg now i j e kept next inside =
     let x = get_or now.steps i no_step in
     let h = held_seen leg now i j x e kept next inside (get_or_any now.steps i no_step x inside) in
     (h.0, omega (arith, h))
 
 -- what is known of the parts of a leg
-pub kept_now : (steps : Steps) (held : List ℕ) (now : LegSeats) → leg_of steps held ≡ now → IsKept (leg_of steps held) → IsKept now
-kept_now steps held now e kept = subst IsKept e kept
+pub kept_now : (steps : Steps) (held : List ℕ) (now : LegSeats) → leg_of steps held ≡ now → KeepsLimits (leg_of steps held) → KeepsLimits now
+kept_now steps held now e kept = subst KeepsLimits e kept
 
 pub steps_now : (steps : Steps) (held : List ℕ) (now : LegSeats) → leg_of steps held ≡ now → steps ≡ now.steps
 steps_now steps held now e = ap (λ (l : LegSeats). l.steps) e

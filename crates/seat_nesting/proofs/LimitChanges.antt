@@ -4,8 +4,8 @@ use Rattle.std.specs.List.{AllByRecursion, position, refill}
 use Rattle.std.proofs.lemmas.Bool.{eqb-true, eqb-false, eq-eqb, ne_eqb, le-leb, leb-true, and_parts, or_parts}
 use Rattle.std.proofs.lemmas.List.{length-set}
 use Rattle.seat_nesting.specs.declared.ladder.Step.{Step}
-use Rattle.seat_nesting.specs.Nesting.{Steps, Legs, ByClass, Table, LacksClass, has_class, IsDistinct, IsNotRising, IsLadder, IsLegLadder, HasLadders, steps_of, steps_at, legs_of, ladder_at, held_from, IsWithin}
-use Rattle.seat_nesting.specs.Counting.{LegSeats, Counted, leg_of, count_at, seats_on, leg_in, leg_at, limits_of, IsKept, IsRank}
+use Rattle.seat_nesting.specs.Nesting.{Steps, Ladders, ByClass, Table, LacksClass, has_class, IsDistinct, IsNotRising, IsLadder, IsLegLadder, HasLadders, steps_of, steps_at, legs_of, ladder_at, held_from, IsWithin}
+use Rattle.seat_nesting.specs.Counting.{LegSeats, Counted, leg_of, count_at, held_on, leg_in, leg_at, limits_of, KeepsLimits, IsRank}
 use Rattle.seat_nesting.specs.Changing.{with_limit, leg_with, limits_with, step_of, top_of, limit_above, may_have_below, may_have, can_set, LegSets}
 use Rattle.seat_nesting.proofs.Rooms.{held_cons, within_same}
 use Rattle.seat_nesting.proofs.LegCounting.{is_rank, no_rank}
@@ -335,24 +335,24 @@ ladder_of_leg (s ∷ lower) seats class limit is h = record { some = omega arith
 seen_leg : (o : Option Steps) (steps : Steps) (held : List ℕ) (now : LegSeats) → o ≡ Some steps → leg_of (steps_of o) held ≡ now → leg_of steps held ≡ now
 seen_leg o steps held now e f = ap (λ (x : Option Steps). leg_of (steps_of x) held) (sym e) ∙ f
 
-seen_kept : (o : Option Steps) (steps : Steps) (held : List ℕ) → o ≡ Some steps → IsKept (leg_of (steps_of o) held) → IsKept (leg_of steps held)
-seen_kept o steps held e kept = subst (λ (x : Option Steps). IsKept (leg_of (steps_of x) held)) e kept
+seen_kept : (o : Option Steps) (steps : Steps) (held : List ℕ) → o ≡ Some steps → KeepsLimits (leg_of (steps_of o) held) → KeepsLimits (leg_of steps held)
+seen_kept o steps held e kept = subst (λ (x : Option Steps). KeepsLimits (leg_of (steps_of x) held)) e kept
 
-pub ladder_may : (o : Option Steps) (steps : Steps) (held : List ℕ) (now : LegSeats) (class limit wait : ℕ) → o ≡ Some steps → leg_of (steps_of o) held ≡ now → IsKept (leg_of (steps_of o) held) → may_have now.steps (seats_on now) class limit ≡ true → wait ≤ 999
+pub ladder_may : (o : Option Steps) (steps : Steps) (held : List ℕ) (now : LegSeats) (class limit wait : ℕ) → o ≡ Some steps → leg_of (steps_of o) held ≡ now → KeepsLimits (leg_of (steps_of o) held) → may_have now.steps (held_on now) class limit ≡ true → wait ≤ 999
     → IsLadder (with_limit steps class limit wait)
 ladder_may o steps held now class limit wait e f kept may most =
     let is = seen_kept o steps held e kept in
-    let here : may_have steps (count_at steps held) class limit ≡ true = subst (λ (l : LegSeats). may_have l.steps (seats_on l) class limit ≡ true) (sym (seen_leg o steps held now e f)) may in
+    let here : may_have steps (count_at steps held) class limit ≡ true = subst (λ (l : LegSeats). may_have l.steps (held_on l) class limit ≡ true) (sym (seen_leg o steps held now e f)) may in
     ladder_with steps (count_at steps held) class limit wait (ladder_of_leg steps (count_at steps held) class limit is.ladder here) here most
 
 -- the counters of a leg whose limit is set
-pub leg_sets : (o : Option Steps) (steps : Steps) (held : List ℕ) (now : LegSeats) (new : Steps) (class limit wait : ℕ) → o ≡ Some steps → leg_of (steps_of o) held ≡ now → IsKept (leg_of (steps_of o) held) → may_have now.steps (seats_on now) class limit ≡ true → wait ≤ 999
+pub leg_sets : (o : Option Steps) (steps : Steps) (held : List ℕ) (now : LegSeats) (new : Steps) (class limit wait : ℕ) → o ≡ Some steps → leg_of (steps_of o) held ≡ now → KeepsLimits (leg_of (steps_of o) held) → may_have now.steps (held_on now) class limit ≡ true → wait ≤ 999
     → new ≡ with_limit steps class limit wait → LegSets now (leg_of new held) class limit wait
 leg_sets o steps held now new class limit wait e f all may most is =
     let same = seen_leg o steps held now e f in
-    subst (λ (l : LegSeats). LegSets l (leg_of new held) class limit wait) same (here (subst (λ (l : LegSeats). may_have l.steps (seats_on l) class limit ≡ true) (sym same) may) (seen_kept o steps held e all))
+    subst (λ (l : LegSeats). LegSets l (leg_of new held) class limit wait) same (here (subst (λ (l : LegSeats). may_have l.steps (held_on l) class limit ≡ true) (sym same) may) (seen_kept o steps held e all))
   where
-    here : may_have steps (count_at steps held) class limit ≡ true → IsKept (leg_of steps held) → LegSets (leg_of steps held) (leg_of new held) class limit wait
+    here : may_have steps (count_at steps held) class limit ≡ true → KeepsLimits (leg_of steps held) → LegSets (leg_of steps held) (leg_of new held) class limit wait
     here may kept = subst (λ (s : Steps). LegSets (leg_of steps held) (leg_of s held) class limit wait) (sym is) (record {
       steps = refl;
       seats = λ k. count_with steps held class limit wait k;
@@ -390,20 +390,20 @@ leg_back (steps ∷ legs) (suc leg) class limit wait old h = ap (λ (l : List St
 
 -- ---- one leg of one flight
 
-pub legs_with : (grid : Legs) (flight leg class limit wait : ℕ) → legs_of (limits_with grid flight leg class limit wait) flight ≡ leg_with (legs_of grid flight) leg class limit wait
+pub legs_with : (grid : Ladders) (flight leg class limit wait : ℕ) → legs_of (limits_with grid flight leg class limit wait) flight ≡ leg_with (legs_of grid flight) leg class limit wait
 legs_with [] flight leg class limit wait = refl
 legs_with (legs ∷ flights) zero leg class limit wait = refl
 legs_with (legs ∷ flights) (suc flight) leg class limit wait = legs_with flights flight leg class limit wait
 
 -- the legs of another flight stay
-pub legs_other : (grid : Legs) (flight leg class limit wait at : ℕ) → at ≢ flight → legs_of (limits_with grid flight leg class limit wait) at ≡ legs_of grid at
+pub legs_other : (grid : Ladders) (flight leg class limit wait at : ℕ) → at ≢ flight → legs_of (limits_with grid flight leg class limit wait) at ≡ legs_of grid at
 legs_other [] flight leg class limit wait at h = refl
 legs_other (legs ∷ flights) zero leg class limit wait zero h = absurd (h refl)
 legs_other (legs ∷ flights) zero leg class limit wait (suc at) h = refl
 legs_other (legs ∷ flights) (suc flight) leg class limit wait zero h = refl
 legs_other (legs ∷ flights) (suc flight) leg class limit wait (suc at) h = legs_other flights flight leg class limit wait at (λ e. h (ap suc e))
 
-pub length_legs : (grid : Legs) (flight leg class limit wait at : ℕ) → length (legs_of (limits_with grid flight leg class limit wait) at) ≡ length (legs_of grid at)
+pub length_legs : (grid : Ladders) (flight leg class limit wait at : ℕ) → length (legs_of (limits_with grid flight leg class limit wait) at) ≡ length (legs_of grid at)
 length_legs [] flight leg class limit wait at = refl
 length_legs (legs ∷ flights) zero leg class limit wait zero = length_leg_with legs leg class limit wait
 length_legs (legs ∷ flights) zero leg class limit wait (suc at) = refl
@@ -411,19 +411,19 @@ length_legs (legs ∷ flights) (suc flight) leg class limit wait zero = refl
 length_legs (legs ∷ flights) (suc flight) leg class limit wait (suc at) = length_legs flights flight leg class limit wait at
 
 -- the ladder of the leg, and of the others
-pub ladder_at_with : (grid : Legs) (flight leg class limit wait : ℕ) → ladder_at (limits_with grid flight leg class limit wait) flight leg ≡ with_limit (ladder_at grid flight leg) class limit wait
+pub ladder_at_with : (grid : Ladders) (flight leg class limit wait : ℕ) → ladder_at (limits_with grid flight leg class limit wait) flight leg ≡ with_limit (ladder_at grid flight leg) class limit wait
 ladder_at_with grid flight leg class limit wait =
     ap (λ (legs : List Steps). steps_at legs leg) (legs_with grid flight leg class limit wait) ∙ steps_with (legs_of grid flight) leg class limit wait
 
-pub ladder_other_leg : (grid : Legs) (flight leg class limit wait at : ℕ) → at ≢ leg → ladder_at (limits_with grid flight leg class limit wait) flight at ≡ ladder_at grid flight at
+pub ladder_other_leg : (grid : Ladders) (flight leg class limit wait at : ℕ) → at ≢ leg → ladder_at (limits_with grid flight leg class limit wait) flight at ≡ ladder_at grid flight at
 ladder_other_leg grid flight leg class limit wait at h =
     ap (λ (legs : List Steps). steps_at legs at) (legs_with grid flight leg class limit wait) ∙ steps_other (legs_of grid flight) leg class limit wait at h
 
-pub ladder_other_flight : (grid : Legs) (flight leg class limit wait f at : ℕ) → f ≢ flight → ladder_at (limits_with grid flight leg class limit wait) f at ≡ ladder_at grid f at
+pub ladder_other_flight : (grid : Ladders) (flight leg class limit wait f at : ℕ) → f ≢ flight → ladder_at (limits_with grid flight leg class limit wait) f at ≡ ladder_at grid f at
 ladder_other_flight grid flight leg class limit wait f at h = ap (λ (legs : List Steps). steps_at legs at) (legs_other grid flight leg class limit wait f h)
 
 -- what holds of the ladders as they were, and of the one that is set, holds of all
-pub each_ladder : (P : ℕ → ℕ → Steps → Type 0) (grid : Legs) (flight leg class limit wait : ℕ) → ((f at : ℕ) → P f at (ladder_at grid f at)) → P flight leg (with_limit (ladder_at grid flight leg) class limit wait)
+pub each_ladder : (P : ℕ → ℕ → Steps → Type 0) (grid : Ladders) (flight leg class limit wait : ℕ) → ((f at : ℕ) → P f at (ladder_at grid f at)) → P flight leg (with_limit (ladder_at grid flight leg) class limit wait)
     → (f at : ℕ) → P f at (ladder_at (limits_with grid flight leg class limit wait) f at)
 each_ladder P grid flight leg class limit wait all here f at = of (f == flight) (at == leg) refl refl
   where
@@ -441,24 +441,24 @@ each_ladder P grid flight leg class limit wait all here f at = of (f == flight) 
         (subst (λ (s : Steps). P flight at s) (sym (ladder_other_leg grid flight leg class limit wait at (eqb-false at leg g))) (all flight at))
     of false c e g = subst (λ (s : Steps). P f at s) (sym (ladder_other_flight grid flight leg class limit wait f at (eqb-false f flight e))) (all f at)
 
-pub has_ladders_with : (grid : Legs) (flight leg class limit wait : ℕ) → HasLadders grid → HasLadders (limits_with grid flight leg class limit wait)
+pub has_ladders_with : (grid : Ladders) (flight leg class limit wait : ℕ) → HasLadders grid → HasLadders (limits_with grid flight leg class limit wait)
 has_ladders_with grid flight leg class limit wait all =
     each_ladder (λ _ _ s. IsDistinct s) grid flight leg class limit wait all (distinct_with (ladder_at grid flight leg) class limit wait (all flight leg))
 
 -- the class stands on the same legs
-pub has_class_at : (grid : Legs) (flight leg class limit wait f at k : ℕ) → has_class (ladder_at (limits_with grid flight leg class limit wait) f at) k ≡ has_class (ladder_at grid f at) k
+pub has_class_at : (grid : Ladders) (flight leg class limit wait f at k : ℕ) → has_class (ladder_at (limits_with grid flight leg class limit wait) f at) k ≡ has_class (ladder_at grid f at) k
 has_class_at grid flight leg class limit wait f at k =
     each_ladder (λ f at s. has_class s k ≡ has_class (ladder_at grid f at) k) grid flight leg class limit wait (λ f at. refl) (has_class_with (ladder_at grid flight leg) class limit wait k) f at
 
 -- ---- what may be set
 
-pub can_parts : (grid : Legs) (seats : Table) (flight leg class limit wait : ℕ) → can_set grid seats flight leg class limit wait ≡ true → (wait ≤ 999) × (may_have (ladder_at grid flight leg) (seats flight leg) class limit ≡ true)
+pub can_parts : (grid : Ladders) (seats : Table) (flight leg class limit wait : ℕ) → can_set grid seats flight leg class limit wait ≡ true → (wait ≤ 999) × (may_have (ladder_at grid flight leg) (seats flight leg) class limit ≡ true)
 can_parts grid seats flight leg class limit wait h =
     let p = and_parts (nat_le wait 999) (may_have (ladder_at grid flight leg) (seats flight leg) class limit) h in
     (leb-true wait 999 p.0, p.1)
 
 -- no seat is held beyond the limits after a limit is set
-pub within_set : (grid : Legs) (seats : Table) (flight leg class limit wait : ℕ) → can_set grid seats flight leg class limit wait ≡ true → ((f at : ℕ) → IsWithin (ladder_at grid f at) (seats f at))
+pub within_set : (grid : Ladders) (seats : Table) (flight leg class limit wait : ℕ) → can_set grid seats flight leg class limit wait ≡ true → ((f at : ℕ) → IsWithin (ladder_at grid f at) (seats f at))
     → (f at : ℕ) → IsWithin (ladder_at (limits_with grid flight leg class limit wait) f at) (seats f at)
 within_set grid seats flight leg class limit wait h all =
     each_ladder (λ f at s. IsWithin s (seats f at)) grid flight leg class limit wait all
@@ -466,12 +466,12 @@ within_set grid seats flight leg class limit wait h all =
 
 -- ---- the old limit and wait again
 
-pub limits_back : (grid : Legs) (flight leg class limit wait : ℕ) (old : Step) → step_of (ladder_at grid flight leg) class ≡ Some old → limits_with (limits_with grid flight leg class limit wait) flight leg class old.limit old.wait ≡ grid
+pub limits_back : (grid : Ladders) (flight leg class limit wait : ℕ) (old : Step) → step_of (ladder_at grid flight leg) class ≡ Some old → limits_with (limits_with grid flight leg class limit wait) flight leg class old.limit old.wait ≡ grid
 limits_back [] flight leg class limit wait old h = refl
 limits_back (legs ∷ flights) zero leg class limit wait old h = ap (λ (l : List Steps). l ∷ flights) (leg_back legs leg class limit wait old h)
-limits_back (legs ∷ flights) (suc flight) leg class limit wait old h = ap (λ (g : Legs). legs ∷ g) (limits_back flights flight leg class limit wait old h)
+limits_back (legs ∷ flights) (suc flight) leg class limit wait old h = ap (λ (g : Ladders). legs ∷ g) (limits_back flights flight leg class limit wait old h)
 
-pub can_set_back : (grid : Legs) (seats : Table) (flight leg class limit wait : ℕ) (old : Step) → IsLegLadder (ladder_at grid flight leg) → IsWithin (ladder_at grid flight leg) (seats flight leg) → step_of (ladder_at grid flight leg) class ≡ Some old
+pub can_set_back : (grid : Ladders) (seats : Table) (flight leg class limit wait : ℕ) (old : Step) → IsLegLadder (ladder_at grid flight leg) → IsWithin (ladder_at grid flight leg) (seats flight leg) → step_of (ladder_at grid flight leg) class ≡ Some old
     → can_set (limits_with grid flight leg class limit wait) seats flight leg class old.limit old.wait ≡ true
 can_set_back grid seats flight leg class limit wait old is w h =
     let may = may_have_back (ladder_at grid flight leg) (seats flight leg) class limit wait old is w h in

@@ -6,7 +6,7 @@ use Rattle.std.proofs.lemmas.List.{map-set, set-get_or, length-map, length-set, 
 use Rattle.std.proofs.lemmas.List.Sums.{sum_by-set, get_or-le-sum_by}
 use Rattle.std.proofs.lemmas.Option.{unwrap_or-slice_get, slice_get-get_or}
 use Rattle.seat_nesting.specs.Nesting.{Steps, IsLadder, steps_at}
-use Rattle.seat_nesting.specs.Counting.{LegSeats, Counted, leg_of, seats_on, count_at, leg_at, limits_of, seats_of, no_leg, IsKept, IsWithinLimits}
+use Rattle.seat_nesting.specs.Counting.{LegSeats, Counted, leg_of, held_on, count_at, leg_at, limits_of, table_of, no_leg, KeepsLimits, IsWithinLimits}
 use Rattle.seat_nesting.specs.Changing.{with_limit, may_have, can_set, LegSets, Sets, FlightSets}
 use Rattle.seat_nesting.specs.OwnLadders.{steps_by, own_after, limits_after, may_come, leg_seen, with_limits, no_counted, counted_in, counted_at, legs_seen, all_seen, limits_in, all_limits, limits_at, may_come_on, yet_to_come, AreCounters, HaveOwn}
 use Rattle.seat_nesting.specs.declared.counted_leg.CountedLeg.{CountedLeg}
@@ -192,18 +192,18 @@ set_seen own flights flight leg class limit wait h =
 -- ---- what the setting of a limit needs, and what it gives
 
 abbrev pub May : Counted → ℕ → ℕ → ℕ → ℕ → ℕ → Type 0
-May now flight leg class limit wait = can_set (limits_of now) (seats_of now) flight leg class limit wait ≡ true
+May now flight leg class limit wait = can_set (limits_of now) (table_of now) flight leg class limit wait ≡ true
 
-may_leg : (now : Counted) (flight leg class limit wait : ℕ) → May now flight leg class limit wait → (wait ≤ 999) × (may_have (leg_at now flight leg).steps (seats_on (leg_at now flight leg)) class limit ≡ true)
+may_leg : (now : Counted) (flight leg class limit wait : ℕ) → May now flight leg class limit wait → (wait ≤ 999) × (may_have (leg_at now flight leg).steps (held_on (leg_at now flight leg)) class limit ≡ true)
 may_leg now flight leg class limit wait h =
-    let p = can_parts (limits_of now) (seats_of now) flight leg class limit wait h in
-    (p.0, subst (λ (s : Steps). may_have s (seats_of now flight leg) class limit ≡ true) (ladder_seen now flight leg) p.1)
+    let p = can_parts (limits_of now) (table_of now) flight leg class limit wait h in
+    (p.0, subst (λ (s : Steps). may_have s (table_of now flight leg) class limit ≡ true) (ladder_seen now flight leg) p.1)
 
 pub set_some : (own : List Steps) (places : ℕ) (flights : List (List CountedLeg)) (now : Counted) (flight : ℕ) (legs : List CountedLeg) (at leg class limit wait : ℕ) → Meets own places flights now flight legs at leg → May now flight leg class limit wait → at < length legs
 set_some own places flights now flight legs at leg class limit wait m may =
     let kept = met_kept own places flights now flight legs at leg m in
     let p = may_leg now flight leg class limit wait may in
-    let is = ladder_of_leg (leg_at now flight leg).steps (seats_on (leg_at now flight leg)) class limit kept.ladder p.1 in
+    let is = ladder_of_leg (leg_at now flight leg).steps (held_on (leg_at now flight leg)) class limit kept.ladder p.1 in
     met_inside own places flights now flight legs at leg m is.some
 
 pub set_ladder : (own : List Steps) (places : ℕ) (flights : List (List CountedLeg)) (now : Counted) (flight : ℕ) (legs : List CountedLeg) (at leg class limit wait : ℕ) → Meets own places flights now flight legs at leg → May now flight leg class limit wait
@@ -211,9 +211,9 @@ pub set_ladder : (own : List Steps) (places : ℕ) (flights : List (List Counted
 set_ladder own places flights now flight legs at leg class limit wait m may =
     let kept = met_kept own places flights now flight legs at leg m in
     let p = may_leg now flight leg class limit wait may in
-    let is = ladder_of_leg (leg_at now flight leg).steps (seats_on (leg_at now flight leg)) class limit kept.ladder p.1 in
+    let is = ladder_of_leg (leg_at now flight leg).steps (held_on (leg_at now flight leg)) class limit kept.ladder p.1 in
     let same : steps_by own (counted_in legs at).limits ≡ (leg_at now flight leg).steps = ap (λ (l : LegSeats). l.steps) (met_leg own places flights now flight legs at leg m) in
-    subst (λ (s : Steps). IsLadder (with_limit s class limit wait)) (sym same) (ladder_with (leg_at now flight leg).steps (seats_on (leg_at now flight leg)) class limit wait is p.1 p.0)
+    subst (λ (s : Steps). IsLadder (with_limit s class limit wait)) (sym same) (ladder_with (leg_at now flight leg).steps (held_on (leg_at now flight leg)) class limit wait is p.1 p.0)
 
 pub set_there : (own : List Steps) (places : ℕ) (flights : List (List CountedLeg)) (now : Counted) (flight : ℕ) (legs : List CountedLeg) (at leg : ℕ) → Meets own places flights now flight legs at leg → (i : ℕ) → (counted_in legs at).limits ≡ Own i → i < length own
 set_there own places flights now flight legs at leg m i e =
@@ -231,20 +231,20 @@ set_reserved own places flights now flight legs at leg class limit wait m may =
     omega (arith, one, same, m.counters.owned.reserved)
 
 -- the leg as it is seen, with the limit
-set_leg : (leg : LegSeats) (class limit wait : ℕ) → IsKept leg → may_have leg.steps (seats_on leg) class limit ≡ true → wait ≤ 999 → LegSets leg (leg_of (with_limit leg.steps class limit wait) leg.held) class limit wait
+set_leg : (leg : LegSeats) (class limit wait : ℕ) → KeepsLimits leg → may_have leg.steps (held_on leg) class limit ≡ true → wait ≤ 999 → LegSets leg (leg_of (with_limit leg.steps class limit wait) leg.held) class limit wait
 set_leg leg class limit wait kept may most = record {
   steps = refl;
   seats = λ k. count_with leg.steps leg.held class limit wait k;
   kept = record {
-    ladder = leg_ladder_with leg.steps (seats_on leg) class limit wait kept.ladder may most;
+    ladder = leg_ladder_with leg.steps (held_on leg) class limit wait kept.ladder may most;
     counted = omega (arith, kept.counted, length_with leg.steps class limit wait);
-    within = within_same (with_limit leg.steps class limit wait) (count_at (with_limit leg.steps class limit wait) leg.held) (seats_on leg) (λ k. count_with leg.steps leg.held class limit wait k)
-        (within_with leg.steps (seats_on leg) class limit wait may kept.within);
+    within = within_same (with_limit leg.steps class limit wait) (count_at (with_limit leg.steps class limit wait) leg.held) (held_on leg) (λ k. count_with leg.steps leg.held class limit wait k)
+        (within_with leg.steps (held_on leg) class limit wait may kept.within);
   };
 }
 
 -- the flight's legs as they are seen, and with the limit
-set_flight : (own : List Steps) (flights : List (List CountedLeg)) (now : Counted) (flight leg class limit wait : ℕ) → all_seen own flights ≡ now → IsKept (leg_at now flight leg) → leg < length (legs_at flights flight) → May now flight leg class limit wait
+set_flight : (own : List Steps) (flights : List (List CountedLeg)) (now : Counted) (flight leg class limit wait : ℕ) → all_seen own flights ≡ now → KeepsLimits (leg_at now flight leg) → leg < length (legs_at flights flight) → May now flight leg class limit wait
     → FlightSets (legs_seen own (legs_at flights flight)) (set (legs_seen own (legs_at flights flight)) leg (leg_of (with_limit (steps_by own (counted_at flights flight leg).limits) class limit wait) (counted_at flights flight leg).held)) leg class limit wait
 set_flight own flights now flight leg class limit wait e kept here may =
     let p = may_leg now flight leg class limit wait may in

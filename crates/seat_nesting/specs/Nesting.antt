@@ -10,8 +10,8 @@ abbrev pub Steps : Type 0
 Steps = List Step
 
 -- the steps of each leg of each flight
-abbrev pub Legs : Type 0
-Legs = List (List Steps)
+abbrev pub Ladders : Type 0
+Ladders = List (List Steps)
 
 -- the class does not stand in these steps
 abbrev pub LacksClass : ℕ → Steps → Type 0
@@ -58,15 +58,15 @@ pub record IsLegLadder (steps : Steps) : Type 0 where
   pub not_rising : IsNotRising steps
   pub bounded : AllByRecursion (λ s. (s.limit ≤ 999) × (s.wait ≤ 999)) steps
 
-abbrev pub legs_of : Legs → ℕ → List Steps
+abbrev pub legs_of : Ladders → ℕ → List Steps
 legs_of grid flight = unwrap_or (slice_get grid flight) []
 
 -- the steps of one leg; none where the flight or the leg is not there
-abbrev pub ladder_at : Legs → ℕ → ℕ → Steps
+abbrev pub ladder_at : Ladders → ℕ → ℕ → Steps
 ladder_at grid flight leg = steps_at (legs_of grid flight) leg
 
 -- the flight and both legs are there
-abbrev pub Fits : Legs → Place → Type 0
+abbrev pub Fits : Ladders → Place → Type 0
 Fits grid place = (place.from ≤ place.to) × (place.to < length (legs_of grid place.flight))
 
 -- how many seats are held on a leg in each class
@@ -107,14 +107,14 @@ abbrev pub seats_at : Place → ℕ → ℕ → Table
 seats_at place class n flight leg k = (if covers flight leg place && (class == k) then n else 0)
 
 -- Room(place, class): the least over the legs of the place
-abbrev pub room : Legs → Table → Place → ℕ → ℕ
+abbrev pub room : Ladders → Table → Place → ℕ → ℕ
 room grid seats place class =
     (if nat_le place.from place.to
     then least (λ leg. room_on (ladder_at grid place.flight leg) (seats place.flight leg) class) place.from (place.to - place.from)
     else 0)
 
 -- no class stands twice in a leg's steps
-abbrev pub HasLadders : Legs → Type 0
+abbrev pub HasLadders : Ladders → Type 0
 HasLadders grid = (flight leg : ℕ) → IsDistinct (ladder_at grid flight leg)
 
 -- n seats more may wait on a leg in a class: the class is there, and its waiting seats with these are at most its wait
@@ -133,11 +133,11 @@ is_listed_on [] class = false
 is_listed_on (s ∷ lower) class = (if s.class == class then s.listed else is_listed_on lower class)
 
 -- n seats more may wait on each leg of the place
-abbrev pub may_wait : Legs → Table → Place → ℕ → ℕ → Bool
+abbrev pub may_wait : Ladders → Table → Place → ℕ → ℕ → Bool
 may_wait grid waiting place class n =
     nat_le place.from place.to
     && each_leg (λ leg. may_wait_on (ladder_at grid place.flight leg) (waiting place.flight leg) class n) place.from (place.to - place.from)
 
 -- each leg of the place has the class with the mark
-abbrev pub is_listed : Legs → Place → ℕ → Bool
+abbrev pub is_listed : Ladders → Place → ℕ → Bool
 is_listed grid place class = nat_le place.from place.to && each_leg (λ leg. is_listed_on (ladder_at grid place.flight leg) class) place.from (place.to - place.from)

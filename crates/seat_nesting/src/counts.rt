@@ -1,7 +1,7 @@
 //! The seats that are held on each leg of a grid, by rank: all that a step and a look need to know of the bookings.
 ghost use Rattle.std.specs.Prelude.{◌≡◌, ◌≤◌, ◌↔◌, ℕ, [], drop, length, false, unwrap_or, slice_get, IfOk, IfSome, IfNone, IsTrue};
 ghost use Rattle.seat_nesting.specs.Nesting.{Fits, held_from, ladder_at, has_class, room, room_on};
-ghost use Rattle.seat_nesting.specs.Counting.{limits_of, seats_of, holds, leg_holds, Takes, Gives, OneLegChanges, plus, less, IsRank, IsWithinLimits, leg_at, no_leg};
+ghost use Rattle.seat_nesting.specs.Counting.{limits_of, table_of, holds, leg_holds, Takes, Gives, OneLegChanges, plus, less, IsRank, IsWithinLimits, leg_at, no_leg};
 ghost use Rattle.seat_nesting.specs.Changing.{can_set, may_have, step_of, Sets};
 ghost use Rattle.seat_nesting.specs.OwnLadders.{counted_at, no_counted};
 
@@ -39,7 +39,7 @@ impl Counts {
     /// The counters of a grid on which no seat is held.
     pub fn new(alloc: Global, grid: &Grid) -> Result<Counts, Memory>
         ensures limits { IfOk result (λ counts. limits_of counts ≡ grid.now) }
-        ensures seats { IfOk result (λ counts. (flight leg class : ℕ) → seats_of counts flight leg class ≡ 0) }
+        ensures seats { IfOk result (λ counts. (flight leg class : ℕ) → table_of counts flight leg class ≡ 0) }
     {
         let mut flights = Vec::with_capacity(alloc, grid.flights().len())?;
         let mut places = 0usize;
@@ -61,7 +61,7 @@ impl Counts {
 
     /// The seats that are left on a place in a class; 0 where the place does not fit, or a leg lacks the class.
     pub fn room(&self, place: Place, class: Class) -> u16
-        ensures { result ≡ room (limits_of self.now) (seats_of self.now) place class }
+        ensures { result ≡ room (limits_of self.now) (table_of self.now) place class }
     {
         if place.from > place.to {
             return 0;
@@ -76,7 +76,7 @@ impl Counts {
     /// Whether at least so many seats are held in the class on each leg of the place, which fits and
     /// whose legs have the class.
     pub fn holds(&self, place: Place, class: Class, seats: u16) -> bool
-        ensures { result ≡ holds (limits_of self.now) (seats_of self.now) place class seats }
+        ensures { result ≡ holds (limits_of self.now) (table_of self.now) place class seats }
     {
         if place.from > place.to {
             return false;
@@ -91,7 +91,7 @@ impl Counts {
 
     /// Takes so many seats of the class on each leg of the place.
     pub fn take(&mut self, place: Place, class: Class, seats: u16)
-        requires { seats ≤ room (limits_of self.old) (seats_of self.old) place class }
+        requires { seats ≤ room (limits_of self.old) (table_of self.old) place class }
         ensures { Takes self.old self.new place class seats }
     {
         if seats == 0 {
@@ -105,7 +105,7 @@ impl Counts {
 
     /// Gives back so many seats of the class on each leg of the place.
     pub fn give(&mut self, place: Place, class: Class, seats: u16)
-        requires { IsTrue (holds (limits_of self.old) (seats_of self.old) place class seats) }
+        requires { IsTrue (holds (limits_of self.old) (table_of self.old) place class seats) }
         ensures { Gives self.old self.new place class seats }
     {
         self.give_on(place.flight, place.from, class, seats);
@@ -132,7 +132,7 @@ impl Counts {
 
     /// The seats held on a leg in a rank of its limits and below, by rank from 0; 0 where it has no such rank.
     pub fn held_from(&self, flight: u32, leg: u8, rank: usize) -> u16
-        ensures { result ≡ held_from (seats_of self.now flight leg) (drop rank (ladder_at (limits_of self.now) flight leg)) }
+        ensures { result ≡ held_from (table_of self.now flight leg) (drop rank (ladder_at (limits_of self.now) flight leg)) }
     {
         match self.leg(flight, leg) {
             Some(counts) => counts.held_from(rank),
@@ -143,14 +143,14 @@ impl Counts {
     /// Whether a class of a leg may have this limit and wait: each is at most 999, the leg has the
     /// class, the limits stay in order, and no more seats are held in the class and below.
     pub fn can_set(&self, flight: u32, leg: u8, class: Class, limit: u16, wait: u16) -> bool
-        ensures { result ≡ can_set (limits_of self.now) (seats_of self.now) flight leg class limit wait }
+        ensures { result ≡ can_set (limits_of self.now) (table_of self.now) flight leg class limit wait }
     {
         wait <= 999 && self.may_have(flight, leg, class, limit)
     }
 
     /// Sets the limit and the wait of a class on a leg.
     pub fn set(&mut self, flight: u32, leg: u8, class: Class, limit: u16, wait: u16)
-        requires { IsTrue (can_set (limits_of self.old) (seats_of self.old) flight leg class limit wait) }
+        requires { IsTrue (can_set (limits_of self.old) (table_of self.old) flight leg class limit wait) }
         ensures { Sets self.old self.new flight leg class limit wait }
     {
         let Some(counts) = self.flights.get_mut(flight as usize) else {
@@ -184,7 +184,7 @@ impl Counts {
     }
 
     fn room_on(&self, flight: u32, leg: u8, class: Class) -> u16
-        ensures { result ≡ room_on (ladder_at (limits_of self.now) flight leg) (seats_of self.now flight leg) class }
+        ensures { result ≡ room_on (ladder_at (limits_of self.now) flight leg) (table_of self.now flight leg) class }
     {
         match self.leg(flight, leg) {
             Some(counts) => counts.room(class),
@@ -193,7 +193,7 @@ impl Counts {
     }
 
     fn holds_on(&self, flight: u32, leg: u8, class: Class, seats: u16) -> bool
-        ensures { result ≡ leg_holds (ladder_at (limits_of self.now) flight leg) (seats_of self.now flight leg) class seats }
+        ensures { result ≡ leg_holds (ladder_at (limits_of self.now) flight leg) (table_of self.now flight leg) class seats }
     {
         match self.leg(flight, leg) {
             Some(counts) => counts.holds(class, seats),
@@ -202,7 +202,7 @@ impl Counts {
     }
 
     fn may_have(&self, flight: u32, leg: u8, class: Class, limit: u16) -> bool
-        ensures { result ≡ may_have (ladder_at (limits_of self.now) flight leg) (seats_of self.now flight leg) class limit }
+        ensures { result ≡ may_have (ladder_at (limits_of self.now) flight leg) (table_of self.now flight leg) class limit }
     {
         match self.leg(flight, leg) {
             Some(counts) => counts.may_have(class, limit),
@@ -211,7 +211,7 @@ impl Counts {
     }
 
     fn take_on(&mut self, flight: u32, leg: u8, class: Class, seats: u16)
-        requires { seats ≤ room_on (ladder_at (limits_of self.old) flight leg) (seats_of self.old flight leg) class }
+        requires { seats ≤ room_on (ladder_at (limits_of self.old) flight leg) (table_of self.old flight leg) class }
         ensures { OneLegChanges plus self.old self.new flight leg class seats }
     {
         let Some(rank) = self.rank_on(flight, leg, class) else {
@@ -224,7 +224,7 @@ impl Counts {
     }
 
     fn give_on(&mut self, flight: u32, leg: u8, class: Class, seats: u16)
-        requires { seats ≤ seats_of self.old flight leg class }
+        requires { seats ≤ table_of self.old flight leg class }
         ensures { OneLegChanges less self.old self.new flight leg class seats }
     {
         let Some(rank) = self.rank_on(flight, leg, class) else {

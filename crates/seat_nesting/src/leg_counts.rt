@@ -1,7 +1,7 @@
 //! What the limits and the held seats of one leg say.
 ghost use Rattle.std.specs.Prelude.{◌≡◌, ◌<◌, ◌+◌, ◌&&◌, nat_le, false, [], length, drop, IfSome, IfNone};
 ghost use Rattle.seat_nesting.specs.Nesting.{room_on, held_from, has_class};
-ghost use Rattle.seat_nesting.specs.Counting.{IsKept, IsRank, leg_holds, leg_of, seats_on};
+ghost use Rattle.seat_nesting.specs.Counting.{KeepsLimits, IsRank, leg_holds, leg_of, held_on};
 ghost use Rattle.seat_nesting.specs.Changing.{limit_above, may_have, step_of, top_of};
 
 use crate::ladder::{Step, rank_of};
@@ -16,19 +16,19 @@ pub struct LegCounts<'a> {
 }
 
 impl<'a> Model for LegCounts<'a> {
-    ghost use Rattle.seat_nesting.specs.Counting.{LegSeats, IsKept};
+    ghost use Rattle.seat_nesting.specs.Counting.{LegSeats, KeepsLimits};
 
     ghost Value = { LegSeats };
 
     ghost view = { λ l. record { steps = l.steps.now; held = l.held.now } };
 
-    ghost invariant = { λ l. IsKept (record { steps = l.steps.now; held = l.held.now }) };
+    ghost invariant = { λ l. KeepsLimits (record { steps = l.steps.now; held = l.held.now }) };
 }
 
 impl<'a> LegCounts<'a> {
     /// The leg with these steps and these held seats, which keep within their limits.
     pub fn of(steps: &'a [Step], held: &'a [u16; 26]) -> LegCounts<'a>
-        requires { IsKept (leg_of steps.now held.now) }
+        requires { KeepsLimits (leg_of steps.now held.now) }
         ensures { result ≡ leg_of steps.now held.now }
     {
         LegCounts { steps, held }
@@ -36,7 +36,7 @@ impl<'a> LegCounts<'a> {
 
     /// The seats that are left in a class; 0 where the leg lacks it.
     pub fn room(&self, class: Class) -> u16
-        ensures { result ≡ room_on self.now.steps (seats_on self.now) class }
+        ensures { result ≡ room_on self.now.steps (held_on self.now) class }
     {
         let steps = self.steps;
         let mut held = 0u16;
@@ -58,7 +58,7 @@ impl<'a> LegCounts<'a> {
 
     /// Whether the leg has the class and at least so many seats are held in it.
     pub fn holds(&self, class: Class, seats: u16) -> bool
-        ensures { result ≡ leg_holds self.now.steps (seats_on self.now) class seats }
+        ensures { result ≡ leg_holds self.now.steps (held_on self.now) class seats }
     {
         match self.rank_of(class) {
             Some(rank) => seats <= self.held[rank],
@@ -77,7 +77,7 @@ impl<'a> LegCounts<'a> {
     /// Whether the leg has the class, and its limit may be this one: in order among the ranks, and
     /// not below the seats that are held.
     pub fn may_have(&self, class: Class, limit: u16) -> bool
-        ensures { result ≡ may_have self.now.steps (seats_on self.now) class limit }
+        ensures { result ≡ may_have self.now.steps (held_on self.now) class limit }
     {
         match self.rank_of(class) {
             Some(rank) => is_between(self.steps, rank, limit) && self.held_from(rank) <= limit,
@@ -88,7 +88,7 @@ impl<'a> LegCounts<'a> {
     /// The seats that are held in a rank and below; 0 where the leg has no such rank.
     #[tactic(auto, using(crate::proofs::LegCounting::held_past))]
     pub fn held_from(&self, rank: usize) -> u16
-        ensures { result ≡ held_from (seats_on self.now) (drop rank self.now.steps) }
+        ensures { result ≡ held_from (held_on self.now) (drop rank self.now.steps) }
     {
         let steps = self.steps;
         if rank >= steps.len() {
@@ -107,7 +107,7 @@ impl<'a> LegCounts<'a> {
     pub fn rank_of(&self, class: Class) -> Option<usize>
         ensures found { IfSome result (IsRank self.now.steps class) }
         ensures none { IfNone result (has_class self.now.steps class ≡ false) }
-        ensures kept { IsKept self.now }
+        ensures kept { KeepsLimits self.now }
     {
         rank_of(self.steps, class)
     }

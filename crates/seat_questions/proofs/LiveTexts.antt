@@ -10,7 +10,7 @@ use Rattle.ssim_flights.specs.declared.flight.Flight.{Flight as Flown}
 use Rattle.airimp_lines.specs.Grammar.{plain_line}
 use Rattle.airimp_lines.specs.declared.segment.Segment.{Segment}
 use Rattle.airimp_lines.proofs.Replies.{day_front}
-use Rattle.seat_nesting.specs.Nesting.{Legs}
+use Rattle.seat_nesting.specs.Nesting.{Ladders}
 use Rattle.seat_rules.specs.declared.booking.Booking.{Booking}
 use Rattle.seat_rules.specs.Inventory.{Inventory}
 use Rattle.seat_rules.specs.Journal.{replay}
@@ -102,16 +102,16 @@ puts_all flights xs ys old new empty same p =
 
 -- ---- the whole
 
-pub over_journal : (flights : List Flown) (grid : Legs) (bytes locator text : List ℕ) (core : Inventory) → IsReplayOf grid bytes core
+pub over_journal : (flights : List Flown) (grid : Ladders) (bytes locator text : List ℕ) (core : Inventory) → IsReplayOf grid bytes core
     → IsBookingsText flights (bookings_of locator (replay core.grid core.journal).bookings) text → IsBookingsOver flights grid locator bytes text
 over_journal flights grid bytes locator text core r is = record {
   entries = core.journal;
   is_text = r.is_text;
   legal = r.legal;
   few = r.few;
-  are_lines = subst (λ (g : Legs). IsBookingsText flights (bookings_of locator (replay g core.journal).bookings) text) r.grid_is is;
+  are_lines = subst (λ (g : Ladders). IsBookingsText flights (bookings_of locator (replay g core.journal).bookings) text) r.grid_is is;
 }
 
 -- the grid that a replay began with
-pub grid_after : (flights : List Flown) (grid : Legs) (bytes : List ℕ) (core : Inventory) → IsGridOf flights grid → IsReplayOf grid bytes core → IsGridOf flights core.grid
+pub grid_after : (flights : List Flown) (grid : Ladders) (bytes : List ℕ) (core : Inventory) → IsGridOf flights grid → IsReplayOf grid bytes core → IsGridOf flights core.grid
 grid_after flights grid bytes core is r = subst (IsGridOf flights) (sym r.grid_is) is

@@ -6,7 +6,7 @@ use Rattle.std.proofs.lemmas.Option.{slice_get-map}
 use Rattle.airline_base.specs.declared.place.Place.{Place}
 use Rattle.ssim_flights.specs.declared.flight.Flight.{Flight as Flown}
 use Rattle.seat_limits.specs.Authorised.{authorised_grid, authorised_legs}
-use Rattle.seat_nesting.specs.Nesting.{Fits, Legs, Steps}
+use Rattle.seat_nesting.specs.Nesting.{Fits, Ladders, Steps}
 use Rattle.seat_limits.specs.declared.limit_row.LimitRow.{LimitRow}
 use Rattle.seat_journal.specs.declared.entry.Command.{Command}
 use Rattle.seat_journal.specs.declared.entry.Entry.{Entry}
@@ -35,7 +35,7 @@ module _ {A : Type 0} where
   at_end [] x = refl
   at_end (y ∷ xs) x = at_end xs x
 
-made_longer : (grid : Legs) (past : List Entry) (e : Entry) (b : Booking) → IsMade grid past b → IsMade grid (past ++ e ∷ []) b
+made_longer : (grid : Ladders) (past : List Entry) (e : Entry) (b : Booking) → IsMade grid past b → IsMade grid (past ++ e ∷ []) b
 made_longer grid past e b m = record {
   line = m.line;
   entry = m.entry;
@@ -49,7 +49,7 @@ made_longer grid past e b m = record {
 }
 
 -- what no pass and no cancellation changes
-made_same : (grid : Legs) (journal : List Entry) (a b : Booking) → b.number ≡ a.number → b.locator ≡ a.locator → b.place ≡ a.place → IsMade grid journal a → IsMade grid journal b
+made_same : (grid : Ladders) (journal : List Entry) (a b : Booking) → b.number ≡ a.number → b.locator ≡ a.locator → b.place ≡ a.place → IsMade grid journal a → IsMade grid journal b
 made_same grid journal a b n l p m = record {
   line = m.line;
   entry = m.entry;
@@ -62,10 +62,10 @@ made_same grid journal a b n l p m = record {
   fits = subst (Fits grid) (sym p) m.fits;
 }
 
-fits_place : (grid : Legs) (c : Command) (place : Place) → c.place ≡ Some place → FitsWork grid (Seats c) → Fits grid place
+fits_place : (grid : Ladders) (c : Command) (place : Place) → c.place ≡ Some place → FitsWork grid (Seats c) → Fits grid place
 fits_place grid c place at f = subst (λ (o : Option Place). IfSome o (Fits grid)) at f.2
 
-made_new : (grid : Legs) (past : List Entry) (e : Entry) (c : Command) (place : Place) (status : Status) → Seats c ≡ e.work → c.place ≡ Some place → FitsWork grid e.work
+made_new : (grid : Ladders) (past : List Entry) (e : Entry) (c : Command) (place : Place) (status : Status) → Seats c ≡ e.work → c.place ≡ Some place → FitsWork grid e.work
     → IsMade grid (past ++ e ∷ []) (booking_of (length past + 1) c place status)
 made_new grid past e c place status w at f = record {
   line = length past;
@@ -79,16 +79,16 @@ made_new grid past e c place status w at f = record {
   fits = fits_place grid c place at (subst (FitsWork grid) (sym w) f);
 }
 
-abbrev AreMade : Legs → List Entry → List Booking → Type 0
+abbrev AreMade : Ladders → List Entry → List Booking → Type 0
 AreMade grid journal bookings = AllByRecursion (IsMade grid journal) bookings
 
-made_pass : (grid now : Legs) (journal : List Entry) (xs : List Booking) → AreMade grid journal xs → AreMade grid journal (pass now [] [] xs).bookings
+made_pass : (grid now : Ladders) (journal : List Entry) (xs : List Booking) → AreMade grid journal xs → AreMade grid journal (pass now [] [] xs).bookings
 made_pass grid now journal xs h =
     each_pass (AreMade grid journal) now
     (λ done b bs d may. all_confirmed (IsMade grid journal) done b bs (λ m. made_same grid journal b (confirmed b) refl refl refl m) d)
     [] xs [] h
 
-made_answer : (grid : Legs) (past : List Entry) (s : State) (e : Entry) → FitsWork grid e.work → AreMade grid past s.bookings
+made_answer : (grid : Ladders) (past : List Entry) (s : State) (e : Entry) → FitsWork grid e.work → AreMade grid past s.bookings
     → AreMade grid (past ++ e ∷ []) (answer s (length past + 1) e.work).state.bookings
 made_answer grid past s e f h =
     each_outcome (λ w o. w ≡ e.work → AreMade grid now o.state.bookings) s (length past + 1)
@@ -108,7 +108,7 @@ made_answer grid past s e f h =
     before : AreMade grid now s.bookings
     before = all_map (IsMade grid past) (IsMade grid now) s.bookings (λ b m. made_longer grid past e b m) h
 
-pub replay_is_made : (grid : Legs) (journal : List Entry) → IsLegal grid journal → AllByRecursion (IsMade grid journal) (replay grid journal).bookings
+pub replay_is_made : (grid : Ladders) (journal : List Entry) → IsLegal grid journal → AllByRecursion (IsMade grid journal) (replay grid journal).bookings
 replay_is_made grid journal legal =
     each_legal grid (λ j. AreMade grid j (replay grid j).bookings) next_made [] journal tt legal
   where
@@ -129,8 +129,8 @@ legs_there rows flights place (Some flight) e le lt =
     let few : length (authorised_legs rows flight) ≡ length flight.legs = length-map _ _ in
     record { flight = flight; is_flight = e; from_below = omega arith; to_below = omega arith }
 
-pub has_place : (rows : List LimitRow) (flights : List Flown) (grid : Legs) (place : Place) → grid ≡ authorised_grid rows flights → Fits grid place → HasPlace flights place
+pub has_place : (rows : List LimitRow) (flights : List Flown) (grid : Ladders) (place : Place) → grid ≡ authorised_grid rows flights → Fits grid place → HasPlace flights place
 has_place rows flights grid place is f =
-    let there : Fits (authorised_grid rows flights) place = subst (λ (g : Legs). Fits g place) is f in
+    let there : Fits (authorised_grid rows flights) place = subst (λ (g : Ladders). Fits g place) is f in
     let at : slice_get (authorised_grid rows flights) place.flight ≡ option_map (authorised_legs rows) (slice_get flights place.flight) = slice_get-map (authorised_legs rows) flights place.flight in
     legs_there rows flights place (slice_get flights place.flight) refl there.0 (subst (λ (o : Option (List Steps)). place.to < length (unwrap_or o [])) at there.1)

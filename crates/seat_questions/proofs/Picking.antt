@@ -9,7 +9,7 @@ use Rattle.std.proofs.lemmas.Cmp.{ranked}
 use Rattle.std.proofs.lemmas.List.Elements.{All-from_recursion, recursion_from_All}
 use Rattle.airline_base.specs.declared.place.Place.{Place}
 use Rattle.std.proofs.lemmas.Option.{same_Some, slice_get_read}
-use Rattle.seat_nesting.specs.Nesting.{Fits, Legs}
+use Rattle.seat_nesting.specs.Nesting.{Fits, Ladders}
 use Rattle.seat_journal.specs.declared.entry.Entry.{Entry}
 use Rattle.seat_journal.specs.declared.entry.Work.TheVariants.{Seats}
 use Rattle.seat_rules.specs.Applying.{IsOrdered}
@@ -69,7 +69,7 @@ up_to_next locator n (b ∷ bs) o = cases (is_of locator b) (nat_le b.number n) 
       rw (e, f, over, g, rest) refl
 
 -- no number is 0
-pub up_to_zero : (grid : Legs) (journal : List Entry) (locator : List ℕ) (bs : List Booking) → AllByRecursion (IsMade grid journal) bs → own_up_to locator 0 bs ≡ []
+pub up_to_zero : (grid : Ladders) (journal : List Entry) (locator : List ℕ) (bs : List Booking) → AllByRecursion (IsMade grid journal) bs → own_up_to locator 0 bs ≡ []
 up_to_zero grid journal locator bs made =
     (later_none locator 0 bs (all_map (IsMade grid journal) (λ x. 0 < x.number) bs (λ x m. omega (arith, m.number_is)) made)).0
 
@@ -87,7 +87,7 @@ up_to_last locator n bs a = filter_same (λ b. is_of locator b && nat_le b.numbe
 same_line : (journal : List Entry) (i line : ℕ) (e entry : Entry) → slice_get journal i ≡ Some e → slice_get journal line ≡ Some entry → line ≡ i → e ≡ entry
 same_line journal i line e entry at there is = cc
 
-asked_by : (grid : Legs) (journal : List Entry) (i : ℕ) (e : Entry) (locator : List ℕ) (b : Booking) → slice_get journal i ≡ Some e → IsMade grid journal b → b.number ≡ i + 1
+asked_by : (grid : Ladders) (journal : List Entry) (i : ℕ) (e : Entry) (locator : List ℕ) (b : Booking) → slice_get journal i ≡ Some e → IsMade grid journal b → b.number ≡ i + 1
     → asked_under locator e.work ≡ (if is_of locator b then Some b.place else None)
 asked_by grid journal i e locator b at m n =
     let same : e ≡ m.entry = same_line journal i m.line e m.entry at m.is_entry (omega (arith, m.number_is)) in
@@ -95,7 +95,7 @@ asked_by grid journal i e locator b at m n =
     rw (work, m.place_is, m.locator_is) refl
 
 -- the line asks for no place under the locator, so the booking that it made is not the locator's
-pub own_unasked : (grid : Legs) (journal : List Entry) (i : ℕ) (e : Entry) (locator : List ℕ) (bs : List Booking) → AllByRecursion (IsMade grid journal) bs
+pub own_unasked : (grid : Ladders) (journal : List Entry) (i : ℕ) (e : Entry) (locator : List ℕ) (bs : List Booking) → AllByRecursion (IsMade grid journal) bs
     → slice_get journal i ≡ Some e → asked_under locator e.work ≡ None → own locator (i + 1) bs ≡ []
 own_unasked grid journal i e locator bs made at none =
     filter_none (λ b. is_of locator b && (b.number == i + 1)) bs (all_map (IsMade grid journal) (λ b. (is_of locator b && (b.number == i + 1)) ≡ false) bs (λ b m. not_own b m (is_of locator b) (b.number == i + 1) refl refl) made)
@@ -109,7 +109,7 @@ own_unasked grid journal i e locator bs made at none =
         absurd cc
 
 -- it asks for one, so the booking that it made is the locator's, and on that flight
-pub own_asked : (grid : Legs) (journal : List Entry) (i : ℕ) (e : Entry) (locator : List ℕ) (place : Place) (bs : List Booking) → AllByRecursion (IsMade grid journal) bs
+pub own_asked : (grid : Ladders) (journal : List Entry) (i : ℕ) (e : Entry) (locator : List ℕ) (place : Place) (bs : List Booking) → AllByRecursion (IsMade grid journal) bs
     → slice_get journal i ≡ Some e → asked_under locator e.work ≡ Some place → own locator (i + 1) bs ≡ numbered (i + 1) (bookings_on place.flight bs)
 own_asked grid journal i e locator place [] made at asks = refl
 own_asked grid journal i e locator place (b ∷ bs) made at asks =
@@ -231,14 +231,14 @@ ordered_on f (b ∷ bs) o = cases (b.place.flight == f) refl (ordered_on f bs o.
 
 -- ---- the line that made a booking
 
-pub made_asked : (grid : Legs) (journal : List Entry) (line : Entry) (locator : List ℕ) (place : Place) → IsLegal grid journal → IsLine journal line → asked_under locator line.work ≡ Some place
+pub made_asked : (grid : Ladders) (journal : List Entry) (line : Entry) (locator : List ℕ) (place : Place) → IsLegal grid journal → IsLine journal line → asked_under locator line.work ≡ Some place
     → own locator line.number (replay grid journal).bookings ≡ numbered line.number (bookings_on place.flight (replay grid journal).bookings)
 made_asked grid journal line locator place legal l asks =
     let bs : List Booking = (replay grid journal).bookings in
     subst (λ (n : ℕ). own locator n bs ≡ numbered n (bookings_on place.flight bs)) (sym l.number_is)
     (own_asked grid journal l.index line locator place bs (replay_is_made grid journal legal) l.here asks)
 
-pub made_unasked : (grid : Legs) (journal : List Entry) (line : Entry) (locator : List ℕ) → IsLegal grid journal → IsLine journal line → asked_under locator line.work ≡ None
+pub made_unasked : (grid : Ladders) (journal : List Entry) (line : Entry) (locator : List ℕ) → IsLegal grid journal → IsLine journal line → asked_under locator line.work ≡ None
     → own locator line.number (replay grid journal).bookings ≡ []
 made_unasked grid journal line locator legal l none =
     let bs : List Booking = (replay grid journal).bookings in
@@ -260,7 +260,7 @@ pub made_none : (o : Option (Bor Booking)) (xs ys : List Booking) → xs ≡ ys 
 made_none None xs ys e h = e ∙ h
 made_none (Some b) xs ys e h = tt
 
-pub made_fits : (o : Option (Bor Booking)) (grid : Legs) (journal : List Entry) (locator : List ℕ) (n : ℕ) → IsLegal grid journal
+pub made_fits : (o : Option (Bor Booking)) (grid : Ladders) (journal : List Entry) (locator : List ℕ) (n : ℕ) → IsLegal grid journal
     → IfSome o (λ b. own locator n (replay grid journal).bookings ≡ b.now ∷ []) → IfSome o (λ b. Fits grid b.now.place)
 made_fits None grid journal locator n legal h = tt
 made_fits (Some b) grid journal locator n legal h =
@@ -268,19 +268,19 @@ made_fits (Some b) grid journal locator n legal h =
     let made : AllByRecursion (IsMade grid journal) (own locator n bs) = all_filter (IsMade grid journal) (λ x. is_of locator x && (x.number == n)) bs (replay_is_made grid journal legal) in
     (subst (λ (l : List Booking). AllByRecursion (IsMade grid journal) l) h made).0.fits
 
-pub in_order : (grid : Legs) (journal : List Entry) (flight : ℕ) → IsLegal grid journal → IsOrdered (bookings_on flight (replay grid journal).bookings)
+pub in_order : (grid : Ladders) (journal : List Entry) (flight : ℕ) → IsLegal grid journal → IsOrdered (bookings_on flight (replay grid journal).bookings)
 in_order grid journal flight legal = ordered_on flight (replay grid journal).bookings (replay_is_numbered grid journal legal).ordered
 
 -- ---- line by line
 
-pub no_line_yet : (grid : Legs) (journal : List Entry) (locator : List ℕ) → IsLegal grid journal → own_up_to locator 0 (replay grid journal).bookings ≡ []
+pub no_line_yet : (grid : Ladders) (journal : List Entry) (locator : List ℕ) → IsLegal grid journal → own_up_to locator 0 (replay grid journal).bookings ≡ []
 no_line_yet grid journal locator legal = up_to_zero grid journal locator (replay grid journal).bookings (replay_is_made grid journal legal)
 
-pub one_line_more : (grid : Legs) (journal : List Entry) (locator : List ℕ) (i : ℕ) → IsLegal grid journal
+pub one_line_more : (grid : Ladders) (journal : List Entry) (locator : List ℕ) (i : ℕ) → IsLegal grid journal
     → own_up_to locator (i + 1) (replay grid journal).bookings ≡ own_up_to locator i (replay grid journal).bookings ++ own locator (i + 1) (replay grid journal).bookings
 one_line_more grid journal locator i legal = up_to_next locator i (replay grid journal).bookings (replay_is_numbered grid journal legal).ordered
 
-pub all_lines : (grid : Legs) (journal : List Entry) (locator : List ℕ) (i : ℕ) → IsLegal grid journal → length journal ≤ i → own_up_to locator i (replay grid journal).bookings ≡ bookings_of locator (replay grid journal).bookings
+pub all_lines : (grid : Ladders) (journal : List Entry) (locator : List ℕ) (i : ℕ) → IsLegal grid journal → length journal ≤ i → own_up_to locator i (replay grid journal).bookings ≡ bookings_of locator (replay grid journal).bookings
 all_lines grid journal locator i legal le =
     up_to_last locator i (replay grid journal).bookings
     (all_map (λ b. b.number ≤ length journal) (λ b. b.number ≤ i) (replay grid journal).bookings (λ b h. omega arith) (replay_is_numbered grid journal legal).below)
@@ -294,7 +294,7 @@ last_or_before (z ∷ xs) x (suc k) y e = elim (last_or_before xs x k y e) [
   | inr b ↦ inr (b.0, ap suc b.1)
 ]
 
-line_number : (grid : Legs) (journal : List Entry) → IsLegal grid journal → (i : ℕ) (line : Entry) → slice_get journal i ≡ Some line → line.number ≡ i + 1
+line_number : (grid : Ladders) (journal : List Entry) → IsLegal grid journal → (i : ℕ) (line : Entry) → slice_get journal i ≡ Some line → line.number ≡ i + 1
 line_number grid journal legal =
     each_legal grid (λ j. (i : ℕ) (line : Entry) → slice_get j i ≡ Some line → line.number ≡ i + 1) next_number [] journal (λ i line e. absurd cc) legal
   where
@@ -307,11 +307,11 @@ line_number grid journal legal =
           | inr b ↦ ap (λ (x : Entry). x.number) b.0 ∙ is ∙ ap (λ (n : ℕ). n + 1) (sym b.1)
         ]
 
-pub line_at : (grid : Legs) (journal lines : List Entry) (i : ℕ) (line : Entry) → IsLegal grid journal → lines ≡ journal → i < length lines → line ≡ get_or lines i line → IsLine journal line
+pub line_at : (grid : Ladders) (journal lines : List Entry) (i : ℕ) (line : Entry) → IsLegal grid journal → lines ≡ journal → i < length lines → line ≡ get_or lines i line → IsLine journal line
 line_at grid journal lines i line legal same lt is =
     let here : slice_get journal i ≡ Some line = ap (λ (l : List Entry). slice_get l i) (sym same) ∙ slice_get_read lines (length lines) i line refl lt is in
     record { index = i; here = here; number_is = line_number grid journal legal i line here }
 
-pub number_at : (grid : Legs) (journal lines : List Entry) (i : ℕ) (line : Entry) → IsLegal grid journal → lines ≡ journal → i < length lines → line ≡ get_or lines i line → line.number ≡ i + 1
+pub number_at : (grid : Ladders) (journal lines : List Entry) (i : ℕ) (line : Entry) → IsLegal grid journal → lines ≡ journal → i < length lines → line ≡ get_or lines i line → line.number ≡ i + 1
 number_at grid journal lines i line legal same lt is =
     line_number grid journal legal i line (ap (λ (l : List Entry). slice_get l i) (sym same) ∙ slice_get_read lines (length lines) i line refl lt is)

@@ -3,7 +3,7 @@ use Rattle.std.proofs.Common.{◌≡◌, ◌≢◌, ℕ, ◌-◌, ◌<◌, ◌�
 use Rattle.std.proofs.lemmas.Option.{slice_get-get_or}
 use Rattle.ssim_flights.specs.declared.flight.Flight.{Flight as Flown}
 use Rattle.airline_base.specs.declared.place.Place.{Place}
-use Rattle.seat_nesting.specs.Nesting.{Fits, Legs}
+use Rattle.seat_nesting.specs.Nesting.{Fits, Ladders}
 use Rattle.seat_journal.specs.Reading.{IsFirstFault}
 use Rattle.seat_journal.specs.Text.{IsJournalText, entry_text}
 use Rattle.seat_journal.specs.declared.entry.Entry.{Entry}
@@ -23,10 +23,10 @@ use Rattle.seat_questions.specs.Why.{HasLine, IsExplained, IsPlacePut, IsReasone
 
 -- ---- what is refused
 
-no_text : (grid : Legs) (n : ℕ) (bytes : List ℕ) → ((entries : List Entry) → IsJournalText bytes entries → ⊥) → IsUnexplained grid n bytes
+no_text : (grid : Ladders) (n : ℕ) (bytes : List ℕ) → ((entries : List Entry) → IsJournalText bytes entries → ⊥) → IsUnexplained grid n bytes
 no_text grid n bytes none entries is has legal few = none entries is
 
-text_cases : (grid : Legs) (n : ℕ) (bytes : List ℕ) (kind : JournalKind) (fault : JournalFault) → length bytes ≤ most_journal_bytes
+text_cases : (grid : Ladders) (n : ℕ) (bytes : List ℕ) (kind : JournalKind) (fault : JournalFault) → length bytes ≤ most_journal_bytes
     → (kind ≢ journal_kinds.Memory → IsFirstFault bytes fault.line fault.kind)
     → ((entries : List Entry) → IsJournalText bytes entries → kind ≡ journal_kinds.Memory)
     → journal_fault_of kind fault ≢ Memory → IsUnreasoned grid n (journal_fault_of kind fault) bytes
@@ -39,14 +39,14 @@ text_cases grid n bytes journal_kinds.End fault within first only not =
     record { within = within; refused = first (λ e. cc); none = no_text grid n bytes (λ entries is. let e = only entries is in cc) }
 
 -- a refusal for the text says why, and that there is nothing to be explained
-pub refused_text : (grid : Legs) (n : ℕ) (bytes : List ℕ) (fault : JournalFault) → length bytes ≤ most_journal_bytes
+pub refused_text : (grid : Ladders) (n : ℕ) (bytes : List ℕ) (fault : JournalFault) → length bytes ≤ most_journal_bytes
     → (fault.kind ≢ journal_kinds.Memory → IsFirstFault bytes fault.line fault.kind)
     → ((entries : List Entry) → IsJournalText bytes entries → fault.kind ≡ journal_kinds.Memory)
     → journal_fault fault ≢ Memory → IsUnreasoned grid n (journal_fault fault) bytes
 refused_text grid n bytes fault = text_cases grid n bytes fault.kind fault
 
 -- a line that is not there
-pub refused_line : (grid : Legs) (n : ℕ) (bytes : List ℕ) (entries : List Entry) → length bytes ≤ most_journal_bytes → IsJournalText bytes entries
+pub refused_line : (grid : Ladders) (n : ℕ) (bytes : List ℕ) (entries : List Entry) → length bytes ≤ most_journal_bytes → IsJournalText bytes entries
     → (HasLine n entries → ⊥) → IsUnreasoned grid n BadLine bytes
 refused_line grid n bytes entries within is not = record {
   within = within;
@@ -60,17 +60,17 @@ not_below n entries low has = let from = has.from_one in absurd (omega (arith, l
 not_beyond : (n : ℕ) (entries : List Entry) → length entries < n → HasLine n entries → ⊥
 not_beyond n entries high has = let within = has.within in absurd (omega (arith, high, within))
 
-pub refused_below : (grid : Legs) (n : ℕ) (bytes : List ℕ) (entries : List Entry) → length bytes ≤ most_journal_bytes → IsJournalText bytes entries
+pub refused_below : (grid : Ladders) (n : ℕ) (bytes : List ℕ) (entries : List Entry) → length bytes ≤ most_journal_bytes → IsJournalText bytes entries
     → n < 1 → IsUnreasoned grid n BadLine bytes
 refused_below grid n bytes entries within is low = refused_line grid n bytes entries within is (not_below n entries low)
 
-pub refused_beyond : (grid : Legs) (n : ℕ) (bytes : List ℕ) (entries lines : List Entry) → length bytes ≤ most_journal_bytes → IsJournalText bytes entries
+pub refused_beyond : (grid : Ladders) (n : ℕ) (bytes : List ℕ) (entries lines : List Entry) → length bytes ≤ most_journal_bytes → IsJournalText bytes entries
     → lines ≡ entries → length lines < n → IsUnreasoned grid n BadLine bytes
 refused_beyond grid n bytes entries lines within is same high =
     refused_line grid n bytes entries within is (not_beyond n entries (subst (λ (l : List Entry). length l < n) same high))
 
 -- lines before it that are no legal history
-past_cases : (grid : Legs) (n : ℕ) (bytes : List ℕ) (entries past : List Entry) (fault : DeskFault) → length bytes ≤ most_journal_bytes → IsJournalText bytes entries
+past_cases : (grid : Ladders) (n : ℕ) (bytes : List ℕ) (entries past : List Entry) (fault : DeskFault) → length bytes ≤ most_journal_bytes → IsJournalText bytes entries
     → HasLine n entries → past ≡ lines_before n entries → IsRefusedPast grid past fault → IsUnreasoned grid n fault bytes
 past_cases grid n bytes entries past (Replay fault) within is has same wrong =
     let first : replay_fault grid most_lines (lines_before n entries) ≡ Some fault = ap (replay_fault grid most_lines) (sym same) ∙ wrong in
@@ -85,7 +85,7 @@ past_cases grid n bytes entries past (Replay fault) within is has same wrong =
     }
 past_cases grid n bytes entries past _ within is has same wrong = absurd wrong
 
-pub refused_past : (grid : Legs) (n at : ℕ) (bytes : List ℕ) (entries lines past : List Entry) (fault : DeskFault) → length bytes ≤ most_journal_bytes → IsJournalText bytes entries
+pub refused_past : (grid : Ladders) (n at : ℕ) (bytes : List ℕ) (entries lines past : List Entry) (fault : DeskFault) → length bytes ≤ most_journal_bytes → IsJournalText bytes entries
     → lines ≡ entries → 1 ≤ n → n ≤ length lines → at ≡ n - 1 → past ≡ take at lines → (fault ≢ Memory → IsRefusedPast grid past fault) → fault ≢ Memory → IsUnreasoned grid n fault bytes
 refused_past grid n at bytes entries lines past fault within is same low high e before wrong not =
     past_cases grid n bytes entries past fault within is (record { from_one = low; within = subst (λ (l : List Entry). n ≤ length l) same high })
@@ -96,7 +96,7 @@ refused_past grid n at bytes entries lines past fault within is same low high e 
 at_line : (entries : List Entry) (i : ℕ) (e : Entry) → i < length entries → e ≡ get_or entries i e → slice_get entries i ≡ Some e
 at_line entries i e inside here = slice_get-get_or entries i e inside ∙ ap Some (sym here)
 
-pub explained_line : (flights : List Flown) (grid : Legs) (n at : ℕ) (bytes : List ℕ) (entries lines past : List Entry) (entry : Entry) (text : List ℕ) → IsJournalText bytes entries
+pub explained_line : (flights : List Flown) (grid : Ladders) (n at : ℕ) (bytes : List ℕ) (entries lines past : List Entry) (entry : Entry) (text : List ℕ) → IsJournalText bytes entries
     → lines ≡ entries → 1 ≤ n → n ≤ length lines → at ≡ n - 1 → past ≡ take at lines → entry ≡ get_or lines at entry → IsReasoned flights grid past entry text
     → IsExplained flights grid n bytes text
 explained_line flights grid n at bytes entries lines past entry text is same low high e before here reasoned = record {
@@ -111,19 +111,19 @@ explained_line flights grid n at bytes entries lines past entry text is same low
 -- ---- the text of one line
 
 -- the answer of a line does not depend on who asks
-pub answer_whoever : (grid : Legs) (past : List Entry) (session call other next : ℕ) (work : Work)
+pub answer_whoever : (grid : Ladders) (past : List Entry) (session call other next : ℕ) (work : Work)
     → answer_text (next_line grid past session call work) ≡ answer_text (next_line grid past other next work)
 answer_whoever grid past session call other next work = refl
 
 -- the place of a line that may be asked is there
-pub place_fits : (grid : Legs) (work : Work) (place : Option Place) → place ≡ place_of_line work → FitsWork grid work → IfSome place (Fits grid)
+pub place_fits : (grid : Ladders) (work : Work) (place : Option Place) → place ≡ place_of_line work → FitsWork grid work → IfSome place (Fits grid)
 place_fits grid work place same fits = subst (λ (p : Option Place). IfSome p (Fits grid)) (sym same) (cases work fits) where
   cases : (w : Work) → FitsWork grid w → IfSome (place_of_line w) (Fits grid)
   cases (Seats c) f = f.2
   cases (Limit c) f = (omega arith, f.there)
 
 -- with its legs and the right answer
-pub why_asked : (flights : List Flown) (grid : Legs) (past : List Entry) (e prepared shown : Entry) (place : Option Place) (start line legs new : List ℕ) → can_ask grid past e.work ≡ true
+pub why_asked : (flights : List Flown) (grid : Ladders) (past : List Entry) (e prepared shown : Entry) (place : Option Place) (start line legs new : List ℕ) → can_ask grid past e.work ≡ true
     → start ≡ [] → line ≡ start ++ entry_text e → place ≡ place_of_line e.work → IsPlacePut flights (replay grid past) place line legs
     → answer_text prepared ≡ answer_text (right_line grid past e) → shown ≡ prepared → new ≡ legs ++ verdict_text (answer_text shown) e → IsWhyText flights grid past e new
 why_asked flights grid past e prepared shown place start line legs new asked empty is_line is_place put is_right same is_new =
@@ -138,7 +138,7 @@ why_asked flights grid past e prepared shown place start line legs new asked emp
     })
 
 -- without them
-pub why_unasked : (flights : List Flown) (grid : Legs) (past : List Entry) (e : Entry) (start line new : List ℕ) → can_ask grid past e.work ≡ false
+pub why_unasked : (flights : List Flown) (grid : Ladders) (past : List Entry) (e : Entry) (start line new : List ℕ) → can_ask grid past e.work ≡ false
     → start ≡ [] → line ≡ start ++ entry_text e → new ≡ line ++ verdict_text (codes "NONE") e → IsWhyText flights grid past e new
 why_unasked flights grid past e start line new asked empty is_line is_new =
     subst (λ (b : Bool). IsWhyBy b flights grid past e new) (sym asked)

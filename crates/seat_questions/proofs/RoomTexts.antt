@@ -9,7 +9,7 @@ use Rattle.airline_base.specs.declared.place.Place.{Place}
 use Rattle.ssim_flights.specs.declared.flight.DatedLeg.{DatedLeg}
 use Rattle.ssim_flights.specs.declared.flight.Flight.{Flight}
 use Rattle.seat_limits.specs.Authorised.{authorised_grid, authorised_legs}
-use Rattle.seat_nesting.specs.Nesting.{ByClass, IsWithin, Legs, Steps, held_from, ladder_at, legs_of}
+use Rattle.seat_nesting.specs.Nesting.{ByClass, IsWithin, Ladders, Steps, held_from, ladder_at, legs_of}
 use Rattle.seat_nesting.specs.declared.ladder.Step.{Step}
 use Rattle.seat_journal.specs.declared.entry.Entry.{Entry}
 use Rattle.seat_journal.proofs.TextLaws.{one_text}
@@ -26,23 +26,23 @@ use Rattle.seat_desk.specs.Loading.{IsGridOf}
 use Rattle.seat_desk.proofs.Texts.{assoc_four}
 use Rattle.seat_questions.proofs.Covers.{assoc_six}
 use Rattle.seat_questions.specs.Rooms.{AreRoomsAfter, IsAdded, IsPlaceText, IsPlaceTextBy, IsRoomsText, IsRunText, OpeningRoomsAreOfNoLines, bar_line, bar_lines, bars_text, block_bar, keeps, leg_bars, rooms_part, times}
-use Rattle.seat_questions.specs.declared.rooms.Asked.{Asked}
+use Rattle.seat_questions.specs.declared.rooms.RoomsOf.{RoomsOf}
 use Rattle.seat_questions.specs.declared.rooms.Bars.{Bars}
 
 -- ---- the state
 
-pub grid_kept : (flights : List Flight) (grid other : Legs) → IsGridOf flights grid → other ≡ grid → IsGridOf flights other
+pub grid_kept : (flights : List Flight) (grid other : Ladders) → IsGridOf flights grid → other ≡ grid → IsGridOf flights other
 grid_kept flights grid other is same = subst (IsGridOf flights) (sym same) is
 
 -- the rooms of the inventory that the journal comes to are those that the journal leaves
-pub rooms_of_replay : (asked : Asked) (flights : List Flight) (grid : Legs) (bytes text : List ℕ) (core : Inventory) → IsReplayOf grid bytes core
+pub rooms_of_replay : (asked : RoomsOf) (flights : List Flight) (grid : Ladders) (bytes text : List ℕ) (core : Inventory) → IsReplayOf grid bytes core
     → IsRoomsText asked (state_now core) flights text → AreRoomsAfter asked flights grid bytes text
 rooms_of_replay asked flights grid bytes text core is listed = record {
   entries = core.journal;
   is_text = is.is_text;
   legal = is.legal;
   few = is.few;
-  listed = subst (λ (g : Legs). IsRoomsText asked (replay g core.journal) flights text) is.grid_is listed;
+  listed = subst (λ (g : Ladders). IsRoomsText asked (replay g core.journal) flights text) is.grid_is listed;
 }
 
 -- a text without lines is that of no others
@@ -51,16 +51,16 @@ opening_rooms_are_of_no_lines asked flights grid journal text none rooms =
     subst (λ (l : List Entry). IsRoomsText asked (replay grid l) flights text) (one_text journal rooms.entries [] rooms.is_text none) rooms.listed
 
 -- a flight has as many ladders as legs
-pub legs_alike : (flights : List Flight) (grid : Legs) (i : ℕ) (flight : Flight) → IsGridOf flights grid → slice_get flights i ≡ Some flight
+pub legs_alike : (flights : List Flight) (grid : Ladders) (i : ℕ) (flight : Flight) → IsGridOf flights grid → slice_get flights i ≡ Some flight
     → length (legs_of grid i) ≡ length flight.legs
 legs_alike flights grid i flight is at =
     let here : slice_get (authorised_grid is.rows flights) i ≡ Some (authorised_legs is.rows flight) =
     slice_get-map (authorised_legs is.rows) flights i ∙ ap (λ (o : Option Flight). option_map (authorised_legs is.rows) o) at in
-    ap (λ (g : Legs). length (legs_of g i)) is.is ∙ ap (λ (o : Option (List Steps)). length (unwrap_or o [])) here ∙ length-map flight.legs _
+    ap (λ (g : Ladders). length (legs_of g i)) is.is ∙ ap (λ (o : Option (List Steps)). length (unwrap_or o [])) here ∙ length-map flight.legs _
 
 -- ---- places
 
-pub run_left : (asked : Asked) (state : State) (flight : Flight) (place : Place) (run : DatedLeg) (text : List ℕ) → keeps asked run ≡ false
+pub run_left : (asked : RoomsOf) (state : State) (flight : Flight) (place : Place) (run : DatedLeg) (text : List ℕ) → keeps asked run ≡ false
     → IsAdded (IsRunText asked state flight place run) text text
 run_left asked state flight place run text e = record {
   part = [];
@@ -68,7 +68,7 @@ run_left asked state flight place run text e = record {
   written = sym (append-nil text);
 }
 
-pub run_kept : (asked : Asked) (state : State) (flight : Flight) (place : Place) (run : DatedLeg) (old new : List ℕ) → keeps asked run ≡ true
+pub run_kept : (asked : RoomsOf) (state : State) (flight : Flight) (place : Place) (run : DatedLeg) (old new : List ℕ) → keeps asked run ≡ true
     → IsAdded (IsPlaceText asked.bars state flight place run) old new → IsAdded (IsRunText asked state flight place run) old new
 run_kept asked state flight place run old new e added = record {
   part = added.part;

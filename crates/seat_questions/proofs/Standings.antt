@@ -6,7 +6,7 @@ use Rattle.std.proofs.lemmas.Option.{slice_get_past}
 use Rattle.airline_base.specs.declared.place.Place.{Place}
 use Rattle.ssim_flights.specs.declared.flight.DatedLeg.{DatedLeg}
 use Rattle.ssim_flights.specs.declared.flight.Flight.{Flight}
-use Rattle.seat_nesting.specs.Nesting.{Fits, Legs}
+use Rattle.seat_nesting.specs.Nesting.{Fits, Ladders}
 use Rattle.seat_rules.specs.declared.booking.Booking.{Booking}
 use Rattle.seat_journal.specs.declared.entry.Entry.{Entry}
 use Rattle.seat_rules.specs.Bookings.{held, waiting}
@@ -34,7 +34,7 @@ few_on f (b ∷ bs) = cases (b.place.flight == f) refl (few_on f bs) where
   cases false e rest = rw e (omega (arith, rest))
 
 -- a flight has no more live bookings than the journal lines
-pub few_bookings : (grid : Legs) (journal : List Entry) (most f : ℕ) (bookings : List Booking) → length journal ≤ most → most ≤ most_lines
+pub few_bookings : (grid : Ladders) (journal : List Entry) (most f : ℕ) (bookings : List Booking) → length journal ≤ most → most ≤ most_lines
     → bookings ≡ bookings_on f (replay grid journal).bookings → length bookings ≤ 999999
 few_bookings grid journal most f bookings few capped is =
     let here : length bookings ≡ length (bookings_on f (replay grid journal).bookings) = ap (λ (l : List Booking). length l) is in
@@ -80,7 +80,7 @@ leg_there s place leg dated old new e put =
     record { part = put.part; is_part = subst (λ (b : Bool). IsLegPartBy b s place.flight leg dated put.part) (sym e) put.is_standing; put = put.put }
 
 -- and it fits the grid alone, where the place does
-pub leg_fits : (grid : Legs) (place : Place) (leg : ℕ) → Fits grid place → has_leg place leg ≡ true → Fits grid (one_leg place.flight leg)
+pub leg_fits : (grid : Ladders) (place : Place) (leg : ℕ) → Fits grid place → has_leg place leg ≡ true → Fits grid (one_leg place.flight leg)
 leg_fits grid place leg fits e = cases (nat_le leg place.to) refl where
   cases : (b : Bool) → nat_le leg place.to ≡ b → Fits grid (one_leg place.flight leg)
   cases true h = let below : leg ≤ place.to = grind (arith, nat_tests) in (omega arith, omega (arith, below, fits.1))

@@ -6,7 +6,7 @@ use Rattle.airimp_lines.specs.declared.segment.Segment.{Segment}
 use Rattle.airline_base.specs.declared.place.Place.{Place}
 use Rattle.ssim_flights.specs.declared.flight.DatedLeg.{DatedLeg}
 use Rattle.ssim_flights.specs.declared.flight.Flight.{Flight as Flown}
-use Rattle.seat_nesting.specs.Nesting.{Fits, Legs}
+use Rattle.seat_nesting.specs.Nesting.{Fits, Ladders}
 use Rattle.seat_journal.specs.Text.{IsJournalText}
 use Rattle.seat_journal.specs.declared.entry.Command.{Command}
 use Rattle.seat_journal.specs.declared.entry.Entry.{Entry}
@@ -63,7 +63,7 @@ abbrev pub IsBookingsText : List Flown → List Booking → List ℕ → Type 0
 IsBookingsText flights bookings text = IsText (λ n. IsBookingLine flights) 0 bookings text
 
 -- the bytes are the text of a legal history over these limits, and the text has the live bookings that it leaves to the locator
-pub record IsBookingsOver (flights : List Flown) (grid : Legs) (locator bytes text : List ℕ) : Type 0 where
+pub record IsBookingsOver (flights : List Flown) (grid : Ladders) (locator bytes text : List ℕ) : Type 0 where
   pub entries : List Entry
   pub is_text : IsJournalText bytes entries
   pub legal : IsLegal grid entries
@@ -94,7 +94,7 @@ pub record HasPlace (flights : List Flown) (place : Place) : Type 0 where
 -- ---- the line that made a booking
 
 -- a line of the journal asked for the booking's place under its locator, and the grid has that place
-pub record IsMade (grid : Legs) (journal : List Entry) (b : Booking) : Type 0 where
+pub record IsMade (grid : Ladders) (journal : List Entry) (b : Booking) : Type 0 where
   pub line : ℕ
   pub entry : Entry
   pub command : Command

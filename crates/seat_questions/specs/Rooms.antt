@@ -5,7 +5,7 @@ use Rattle.std.specs.Cmp.Lexicographic.{pointwise}
 use Rattle.airline_base.specs.declared.place.Place.{Place}
 use Rattle.ssim_flights.specs.declared.flight.DatedLeg.{DatedLeg}
 use Rattle.ssim_flights.specs.declared.flight.Flight.{Flight as Flown}
-use Rattle.seat_nesting.specs.Nesting.{ByClass, Legs, Steps, held_from, ladder_at}
+use Rattle.seat_nesting.specs.Nesting.{ByClass, Ladders, Steps, held_from, ladder_at}
 use Rattle.seat_nesting.specs.declared.ladder.Step.{Step}
 use Rattle.seat_journal.specs.Text.{IsJournalText}
 use Rattle.seat_journal.specs.declared.entry.Entry.{Entry}
@@ -14,7 +14,7 @@ use Rattle.seat_rules.specs.Journal.{IsLegal, replay}
 use Rattle.seat_rules.specs.Sequential.{State, room_left}
 use Rattle.seat_desk.specs.AuditDesk.{most_lines}
 use Rattle.seat_desk.specs.FlightsDesk.{IsLegText, IsText, head_text}
-use Rattle.seat_questions.specs.declared.rooms.Asked.{Asked}
+use Rattle.seat_questions.specs.declared.rooms.RoomsOf.{RoomsOf}
 use Rattle.seat_questions.specs.declared.rooms.Bars.{Bars}
 use Rattle.seat_questions.specs.declared.rooms.Bars.TheVariants.{Plain, Blocks}
 use Rattle.seat_questions.specs.declared.rooms.CityPair.{CityPair}
@@ -39,7 +39,7 @@ abbrev pub keeps_pair : Option CityPair → DatedLeg → Bool
 keeps_pair None run = true
 keeps_pair (Some pair) run = pointwise nat_eq run.board pair.board && pointwise nat_eq run.off pair.off
 
-abbrev pub keeps : Asked → DatedLeg → Bool
+abbrev pub keeps : RoomsOf → DatedLeg → Bool
 keeps asked run = keeps_day asked.day run.day && keeps_pair asked.pair run
 
 -- ---- rooms
@@ -122,23 +122,23 @@ abbrev pub IsPlaceTextBy : Bool → Option Bars → State → Flown → Place �
 IsPlaceTextBy true bars state flight place run text = IsPlaceText bars state flight place run text
 IsPlaceTextBy false bars state flight place run text = text ≡ []
 
-abbrev pub IsRunText : Asked → State → Flown → Place → DatedLeg → List ℕ → Type 0
+abbrev pub IsRunText : RoomsOf → State → Flown → Place → DatedLeg → List ℕ → Type 0
 IsRunText asked state flight place run text = IsPlaceTextBy (keeps asked run) asked.bars state flight place run text
 
 -- the place that ends with this leg
-abbrev pub IsLastPart : Asked → State → ℕ → Flown → ℕ → DatedLeg → ℕ → DatedLeg → List ℕ → Type 0
+abbrev pub IsLastPart : RoomsOf → State → ℕ → Flown → ℕ → DatedLeg → ℕ → DatedLeg → List ℕ → Type 0
 IsLastPart asked state i flight from first to last text = IsRunText asked state flight (place_of i from to) (run_of first last) text
 
 -- the places that begin with this leg
-abbrev pub IsFirstPart : Asked → State → ℕ → Flown → ℕ → DatedLeg → List ℕ → Type 0
+abbrev pub IsFirstPart : RoomsOf → State → ℕ → Flown → ℕ → DatedLeg → List ℕ → Type 0
 IsFirstPart asked state i flight from first text = IsText (IsLastPart asked state i flight from first) from (drop from flight.legs) text
 
 -- the places of a flight, by first leg and then by last leg
-abbrev pub IsFlightPart : Asked → State → ℕ → Flown → List ℕ → Type 0
+abbrev pub IsFlightPart : RoomsOf → State → ℕ → Flown → List ℕ → Type 0
 IsFlightPart asked state i flight text = IsText (IsFirstPart asked state i flight) 0 flight.legs text
 
 -- those of all flights, flights and legs counted from 0
-abbrev pub IsRoomsText : Asked → State → List Flown → List ℕ → Type 0
+abbrev pub IsRoomsText : RoomsOf → State → List Flown → List ℕ → Type 0
 IsRoomsText asked state flights text = IsText (IsFlightPart asked state) 0 flights text
 
 -- a text with such a property is written behind what was there
@@ -150,7 +150,7 @@ pub record IsAdded (IsPart : List ℕ → Type 0) (old new : List ℕ) : Type 0 
 -- ---- the answer
 
 -- the bytes are the text of a legal history over these limits, and the text lists the rooms that it leaves
-pub record AreRoomsAfter (asked : Asked) (flights : List Flown) (grid : Legs) (journal text : List ℕ) : Type 0 where
+pub record AreRoomsAfter (asked : RoomsOf) (flights : List Flown) (grid : Ladders) (journal text : List ℕ) : Type 0 where
   pub entries : List Entry
   pub is_text : IsJournalText journal entries
   pub legal : IsLegal grid entries
@@ -159,5 +159,5 @@ pub record AreRoomsAfter (asked : Asked) (flights : List Flown) (grid : Legs) (j
 
 -- behind a journal without lines they are those of the limits themselves
 abbrev pub OpeningRoomsAreOfNoLines : Type 0
-OpeningRoomsAreOfNoLines = (asked : Asked) (flights : List Flown) (grid : Legs) (journal text : List ℕ) → IsJournalText journal [] →
+OpeningRoomsAreOfNoLines = (asked : RoomsOf) (flights : List Flown) (grid : Ladders) (journal text : List ℕ) → IsJournalText journal [] →
     AreRoomsAfter asked flights grid journal text → IsRoomsText asked (replay grid []) flights text

@@ -4,7 +4,7 @@ use Rattle.std.specs.List.{flat_map}
 use Rattle.airline_base.specs.declared.place.Place.{Place}
 use Rattle.ssim_flights.specs.declared.flight.DatedLeg.{DatedLeg}
 use Rattle.ssim_flights.specs.declared.flight.Flight.{Flight as Flown}
-use Rattle.seat_nesting.specs.Nesting.{ByClass, Legs, Steps, held_from, ladder_at}
+use Rattle.seat_nesting.specs.Nesting.{ByClass, Ladders, Steps, held_from, ladder_at}
 use Rattle.seat_nesting.specs.declared.ladder.Step.{Step}
 use Rattle.seat_journal.specs.Reading.{IsFirstFault}
 use Rattle.seat_journal.specs.Text.{IsJournalText, advice_text, entry_text}
@@ -130,7 +130,7 @@ abbrev pub answer_text : Entry → List ℕ
 answer_text e = e.reply ++ codes " " ++ decimal e.released ++ flat_map advice_text e.advices
 
 -- the line that the sequential step gives over the lines before
-abbrev pub right_line : Legs → List Entry → Entry → Entry
+abbrev pub right_line : Ladders → List Entry → Entry → Entry
 right_line grid past e = next_line grid past e.session e.call e.work
 
 -- GIVEN and what the line says
@@ -144,22 +144,22 @@ verdict_text right e = codes "RIGHT " ++ right ++ given_text e
 -- ---- the whole
 
 -- the step can be asked: the seats, the place, the leg and the limits may be, and a journal has room for the line
-abbrev pub can_ask : Legs → List Entry → Work → Bool
+abbrev pub can_ask : Ladders → List Entry → Work → Bool
 can_ask grid past work = fits_work grid work && nat_lt (length past) most_lines
 
 -- the line, its legs, and the right answer beside the given one
-pub record IsReason (flights : List Flown) (grid : Legs) (past : List Entry) (e : Entry) (text : List ℕ) : Type 0 where
+pub record IsReason (flights : List Flown) (grid : Ladders) (past : List Entry) (e : Entry) (text : List ℕ) : Type 0 where
   pub legs : List ℕ
   pub are_legs : IsPlaceText flights (replay grid past) (place_of_line e.work) legs
   pub written : text ≡ entry_text e ++ legs ++ verdict_text (answer_text (right_line grid past e)) e
 
 -- without legs, and none is right, where the step can't be asked
-abbrev pub IsWhyBy : Bool → List Flown → Legs → List Entry → Entry → List ℕ → Type 0
+abbrev pub IsWhyBy : Bool → List Flown → Ladders → List Entry → Entry → List ℕ → Type 0
 IsWhyBy true flights grid past e text = IsReason flights grid past e text
 IsWhyBy false flights grid past e text = text ≡ entry_text e ++ verdict_text (codes "NONE") e
 
 -- the text says why the entry behind these lines has its answer
-abbrev pub IsWhyText : List Flown → Legs → List Entry → Entry → List ℕ → Type 0
+abbrev pub IsWhyText : List Flown → Ladders → List Entry → Entry → List ℕ → Type 0
 IsWhyText flights grid past e text = IsWhyBy (can_ask grid past e.work) flights grid past e text
 
 -- the lines before line n, counted from 1
@@ -172,13 +172,13 @@ pub record HasLine (n : ℕ) (entries : List Entry) : Type 0 where
   pub within : n ≤ length entries
 
 -- the lines before are a legal history, and the text says why the entry behind them has its answer
-pub record IsReasoned (flights : List Flown) (grid : Legs) (past : List Entry) (e : Entry) (text : List ℕ) : Type 0 where
+pub record IsReasoned (flights : List Flown) (grid : Ladders) (past : List Entry) (e : Entry) (text : List ℕ) : Type 0 where
   pub legal : IsLegal grid past
   pub few : length past ≤ most_lines
   pub is_why : IsWhyText flights grid past e text
 
 -- the bytes are a journal's text, whose line n the text reasons
-pub record IsExplained (flights : List Flown) (grid : Legs) (n : ℕ) (bytes text : List ℕ) : Type 0 where
+pub record IsExplained (flights : List Flown) (grid : Ladders) (n : ℕ) (bytes text : List ℕ) : Type 0 where
   pub entries : List Entry
   pub entry : Entry
   pub is_text : IsJournalText bytes entries
@@ -187,12 +187,12 @@ pub record IsExplained (flights : List Flown) (grid : Legs) (n : ℕ) (bytes tex
   pub reasoned : IsReasoned flights grid (lines_before n entries) entry text
 
 -- the fault is that of these lines
-abbrev pub IsRefusedPast : Legs → List Entry → DeskFault → Type 0
+abbrev pub IsRefusedPast : Ladders → List Entry → DeskFault → Type 0
 IsRefusedPast grid past (Replay fault) = replay_fault grid most_lines past ≡ Some fault
 IsRefusedPast grid past _ = ⊥
 
 -- the fault is the first of the text, or the text has no such line, or the fault is that of the lines before it
-abbrev pub IsRefusedLine : Legs → ℕ → DeskFault → List ℕ → Type 0
+abbrev pub IsRefusedLine : Ladders → ℕ → DeskFault → List ℕ → Type 0
 IsRefusedLine grid n (Journal fault) bytes = IsFirstFault bytes fault.line fault.kind
 IsRefusedLine grid n BadLine bytes = (entries : List Entry) × IsJournalText bytes entries × (HasLine n entries → ⊥)
 IsRefusedLine grid n (Replay fault) bytes =
@@ -200,12 +200,12 @@ IsRefusedLine grid n (Replay fault) bytes =
 IsRefusedLine grid n _ bytes = ⊥
 
 -- and there is nothing to be explained
-abbrev pub IsUnexplained : Legs → ℕ → List ℕ → Type 0
+abbrev pub IsUnexplained : Ladders → ℕ → List ℕ → Type 0
 IsUnexplained grid n bytes =
     (entries : List Entry) → IsJournalText bytes entries → HasLine n entries → IsLegal grid (lines_before n entries) → length (lines_before n entries) ≤ most_lines → ⊥
 
 -- the bytes are not too large, but they are refused
-pub record IsUnreasoned (grid : Legs) (n : ℕ) (fault : DeskFault) (bytes : List ℕ) : Type 0 where
+pub record IsUnreasoned (grid : Ladders) (n : ℕ) (fault : DeskFault) (bytes : List ℕ) : Type 0 where
   pub within : length bytes ≤ most_journal_bytes
   pub refused : IsRefusedLine grid n fault bytes
   pub none : IsUnexplained grid n bytes

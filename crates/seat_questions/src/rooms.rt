@@ -35,7 +35,7 @@ pub enum Bars {
 
 /// Which places are asked for, and in which form.
 #[derive(Clone, Copy)]
-pub struct Asked {
+pub struct RoomsOf {
     /// Those that depart on this local day of their first leg; else on each.
     pub day: Option<Day>,
     /// Those that run between these stations; else between any.
@@ -46,7 +46,7 @@ pub struct Asked {
 
 /// A line for each place of a flight, by flight, first leg and last leg, with the seats that are left on it after the journal
 /// in each class of its first leg. A journal is refused as an audit refuses it.
-impl Question for Asked {
+impl Question for RoomsOf {
     ghost use Rattle.seat_desk.specs.AuditDesk.{IsUnlawful};
     ghost use Rattle.seat_questions.specs.Rooms.{AreRoomsAfter};
 
@@ -73,7 +73,7 @@ fn rooms_after(
     flights: &Flights,
     grid: Grid,
     bytes: Vec<u8>,
-    asked: &Asked,
+    asked: &RoomsOf,
 ) -> Result<Vec<u8>, DeskFault>
     requires size { length bytes.items ≤ most_journal_bytes }
     requires grid { IsGridOf flights.now grid }
@@ -90,7 +90,7 @@ fn listed(
     alloc: Global,
     flights: &Flights,
     core: &Core,
-    asked: &Asked,
+    asked: &RoomsOf,
 ) -> Result<Vec<u8>, DeskFault>
     requires grid { IsGridOf flights.now core.now.grid }
     ensures ok { IfOk result (λ text. IsRoomsText asked.now (state_now core.now) flights.now text.items) }
@@ -107,7 +107,7 @@ fn text_of(
     alloc: Global,
     flights: &Flights,
     core: &Core,
-    asked: &Asked,
+    asked: &RoomsOf,
 ) -> Result<Vec<u8>, AllocError>
     requires grid { IsGridOf flights.now core.now.grid }
     ensures { IfOk result (λ text. IsRoomsText asked.now (state_now core.now) flights.now text.items) }
@@ -123,7 +123,7 @@ fn text_of(
 fn put_flight(
     text: &mut Vec<u8>,
     core: &Core,
-    asked: &Asked,
+    asked: &RoomsOf,
     index: u32,
     flight: &Flight,
 ) -> Result<(), AllocError>
@@ -148,7 +148,7 @@ fn put_flight(
 fn put_runs(
     text: &mut Vec<u8>,
     core: &Core,
-    asked: &Asked,
+    asked: &RoomsOf,
     flight: &Flight,
     start: Place,
     first: &DatedLeg,
@@ -189,7 +189,7 @@ fn run_of(first: &DatedLeg, last: &DatedLeg) -> DatedLeg
 fn put_run(
     text: &mut Vec<u8>,
     core: &Core,
-    asked: &Asked,
+    asked: &RoomsOf,
     flight: &Flight,
     place: Place,
     run: &DatedLeg,
@@ -204,7 +204,7 @@ fn put_run(
 }
 
 /// Whether a run of legs is asked for.
-fn keeps(asked: &Asked, run: &DatedLeg) -> bool
+fn keeps(asked: &RoomsOf, run: &DatedLeg) -> bool
     ensures { result ≡ keeps asked.now run.now }
 {
     keeps_day(asked.day, run.day) && keeps_pair(asked.pair, run)

@@ -2,7 +2,7 @@
 use Rattle.std.proofs.Common.{◌≡◌, ℕ, List, ⊎_elim, inl, inr, subst}
 use Rattle.ssim_flights.specs.declared.flight.Flight.{Flight as Flown}
 use Rattle.seat_limits.specs.Authorised.{authorised_grid}
-use Rattle.seat_nesting.specs.Nesting.{Legs}
+use Rattle.seat_nesting.specs.Nesting.{Ladders}
 use Rattle.seat_desk.specs.Answering.{IsAnswer, IsRefusedAnswer, IsRefusedJournalOver}
 use Rattle.seat_desk.specs.AuditDesk.{IsAudit, IsAudited, IsRefusedAudit, IsUnlawful}
 use Rattle.seat_desk.specs.Loading.{IsRefusedLoad}
@@ -26,7 +26,7 @@ answer_of set limits first days journal line is = record {
   rows = is.is_loaded.loaded.rows;
   is_ground = ground_of_loaded set limits first days is.flights is.grid is.is_loaded;
   within = is.within;
-  is_answer = subst (λ (g : Legs). IsAudited g journal line) is.is_loaded.loaded.grid_is is.is_audited;
+  is_answer = subst (λ (g : Ladders). IsAudited g journal line) is.is_loaded.loaded.grid_is is.is_audited;
 }
 
 pub audits_are_answered : AuditsAreAnswered

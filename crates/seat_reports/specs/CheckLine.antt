@@ -3,7 +3,7 @@ use Rattle.std.specs.Prelude.{◌≡◌, ◌≤◌, ℕ, Bool, List, ◌∷◌, 
 use Rattle.airline_base.specs.Days.{IsDateText}
 use Rattle.ssim_records.specs.SetText.{IsDataSet}
 use Rattle.ssim_records.specs.declared.set.DataSet.{DataSet}
-use Rattle.seat_desk.specs.CheckDesk.{most_bytes, most_records}
+use Rattle.seat_desk.specs.CheckDesk.{most_set_bytes, most_records}
 
 -- the end of a validity, `00XXX00` where it is open
 abbrev pub IsEndText : Option ℕ → List ℕ → Type 0
@@ -25,7 +25,7 @@ pub record IsCheckLine (set : DataSet) (line : List ℕ) : Type 0 where
 
 -- the bytes are not too large, and the line sums up the data set that they are
 pub record Sums (bytes line : List ℕ) : Type 0 where
-  pub within : length bytes ≤ most_bytes
+  pub within : length bytes ≤ most_set_bytes
   pub set : DataSet
   pub is_set : IsDataSet most_records bytes set
   pub is_line : IsCheckLine set line

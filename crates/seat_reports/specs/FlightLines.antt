@@ -1,7 +1,7 @@
 -- What `flights` writes: one line for each dated flight.
 use Rattle.std.specs.Prelude.{◌≡◌, ◌≤◌, ℕ, List, [], ◌∷◌, ◌++◌, length}
 use Rattle.ssim_flights.specs.declared.flight.Flight.{Flight as Flown}
-use Rattle.seat_desk.specs.CheckDesk.{most_bytes}
+use Rattle.seat_desk.specs.CheckDesk.{most_set_bytes}
 use Rattle.seat_desk.specs.FlightsDesk.{IsLegText, IsSchedule, IsText, head_text}
 
 -- INDEX DESIGNATOR and each leg
@@ -20,7 +20,7 @@ pub record IsLinePut (index : ℕ) (flight : Flown) (old new : List ℕ) : Type 
 
 -- the bytes are not too large, and the text is a line for each of their flights
 pub record IsListing (first days : ℕ) (bytes text : List ℕ) : Type 0 where
-  pub within : length bytes ≤ most_bytes
+  pub within : length bytes ≤ most_set_bytes
   pub flights : List Flown
   pub is_schedule : IsSchedule bytes first days flights
   pub is_text : IsFlightsText flights text

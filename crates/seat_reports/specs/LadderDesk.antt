@@ -8,7 +8,7 @@ use Rattle.seat_journal.specs.declared.entry.Work.TheVariants.{Seats, Limit}
 use Rattle.seat_nesting.specs.declared.ladder.Step.{Step}
 use Rattle.seat_limits.specs.declared.limit_fault.LimitKind.{LimitKind}
 use Rattle.seat_limits.specs.LadderText.{ladder_in}
-use Rattle.seat_nesting.specs.Nesting.{Steps, Legs}
+use Rattle.seat_nesting.specs.Nesting.{Steps, Ladders}
 use Rattle.seat_rules.specs.Sequential.{State, room_left}
 use Rattle.seat_rules.specs.Journal.{asker, calls_of, next_line, replay}
 use Rattle.seat_desk.specs.declared.fault.DeskFault.{DeskFault}
@@ -37,15 +37,15 @@ abbrev pub orders_behind : List Work → List (List ℕ) → Result (List Work) 
 orders_behind before texts = orders_after (length before + 2) before texts
 
 -- one flight of one leg
-abbrev pub one_leg : Steps → Legs
+abbrev pub one_leg : Steps → Ladders
 one_leg steps = (steps ∷ []) ∷ []
 
 -- the line that an order makes after these, as the next call of who asks
-abbrev pub line_for : Legs → List Entry → Work → Entry
+abbrev pub line_for : Ladders → List Entry → Work → Entry
 line_for grid past w = next_line grid past (asker w) (calls_of past (asker w) + 1) w
 
 -- these lines, and those that the orders make after them
-abbrev pub lines_after : Legs → List Entry → List Work → List Entry
+abbrev pub lines_after : Ladders → List Entry → List Work → List Entry
 lines_after grid past [] = past
 lines_after grid past (w ∷ ws) = lines_after grid (past ++ line_for grid past w ∷ []) ws
 
@@ -107,15 +107,15 @@ abbrev pub ladder_answer : List ℕ → Result (List ℕ) DeskFault
 ladder_answer bytes = answer_in (lines_of bytes)
 
 -- 16 MiB
-abbrev pub most_bytes : ℕ
-most_bytes = 16_777_216
+abbrev pub most_ladder_bytes : ℕ
+most_ladder_bytes = 16_777_216
 
 -- the input is not too large, and the text answers it
 pub record IsLadderText (bytes text : List ℕ) : Type 0 where
-  pub within : length bytes ≤ most_bytes
+  pub within : length bytes ≤ most_ladder_bytes
   pub answers : ladder_answer bytes ≡ Ok text
 
 -- the input is not too large, and the fault is its first
 pub record IsRefusedLadder (fault : DeskFault) (bytes : List ℕ) : Type 0 where
-  pub within : length bytes ≤ most_bytes
+  pub within : length bytes ≤ most_ladder_bytes
   pub first : ladder_answer bytes ≡ Err fault

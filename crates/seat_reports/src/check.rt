@@ -1,6 +1,6 @@
 //! `check`: a data set, and one line that sums it up.
 ghost use Rattle.std.specs.Prelude.{◌≡◌, ◌≢◌, ◌<◌, ◌≤◌, ◌⊎◌, IfErr, IfOk, IfSome, OnOk, length};
-ghost use Rattle.seat_desk.specs.CheckDesk.{IsRefusedSet, most_bytes};
+ghost use Rattle.seat_desk.specs.CheckDesk.{IsRefusedSet, most_set_bytes};
 ghost use Rattle.seat_desk.specs.Desk.{HasFailed, InputFailed, IsOfInput, IsWritten, OfInput, OutputFailed};
 ghost use Rattle.seat_reports.specs.CheckLine.{IsCheckLine, IsEndText, Sums, mode_text};
 
@@ -17,7 +17,7 @@ pub fn desk_check<R: NotedRead, W: NotedWrite>(
 ) -> Result<(), DeskFault>
     ensures ok { OnOk result (IsWritten (OfInput Sums (R.remaining input.old)) (W.contents out.old) (W.contents out.new)) }
     ensures fault { IfErr result (λ f. IsOfInput f → IfSome (R.remaining input.old) (IsRefusedSet f)) }
-    ensures large { IfErr result (λ f. f ≡ DeskFault.TooLarge → IfSome (R.remaining input.old) (λ xs. most_bytes < length xs)) }
+    ensures large { IfErr result (λ f. f ≡ DeskFault.TooLarge → IfSome (R.remaining input.old) (λ xs. most_set_bytes < length xs)) }
     ensures device { IfErr result (λ f. f ≡ DeskFault.Device →
         InputFailed (HasFailed R.failure_count input.old input.new) out.old out.new
         ⊎ OutputFailed W.failure_count W.contents out.old out.new (OfInput Sums (R.remaining input.old))) }
@@ -33,7 +33,7 @@ pub fn desk_check<R: NotedRead, W: NotedWrite>(
 
 /// Reads these bytes as a data set, and words the line that sums it up.
 fn summary(alloc: Global, bytes: &[u8]) -> Result<Vec<u8>, DeskFault>
-    requires { length bytes.now ≤ most_bytes }
+    requires { length bytes.now ≤ most_set_bytes }
     ensures ok { IfOk result (λ text. Sums bytes.now text.items) }
     ensures fault { IfErr result (λ f. f ≢ DeskFault.Memory → IsRefusedSet f bytes.now) }
     ensures kind { IfErr result (λ f. (f ≢ DeskFault.Device) × (f ≢ DeskFault.TooLarge)) }

@@ -1,7 +1,7 @@
 //! `flights`: a data set on the dates of a horizon, and one line for each flight.
 ghost use Rattle.std.specs.Prelude.{◌≡◌, ◌≢◌, ◌<◌, ◌≤◌, ◌⊎◌, IfErr, IfOk, IfSome, OnOk, length};
 ghost use Rattle.ssim_flights.specs.Right.{IsOfCentury};
-ghost use Rattle.seat_desk.specs.CheckDesk.{most_bytes};
+ghost use Rattle.seat_desk.specs.CheckDesk.{most_set_bytes};
 ghost use Rattle.seat_desk.specs.Desk.{HasFailed, InputFailed, IsOfInput, IsWritten, OfInput, OutputFailed};
 ghost use Rattle.seat_desk.specs.FlightsDesk.{IsLegText, IsPut, IsUnscheduled};
 ghost use Rattle.seat_reports.specs.FlightLines.{IsFlightsText, IsLinePut, IsListing};
@@ -24,7 +24,7 @@ pub fn desk_flights<R: NotedRead, W: NotedWrite>(
     requires days { (1 ≤ days) × (days ≤ 366) }
     ensures ok { OnOk result (IsWritten (OfInput (IsListing first days) (R.remaining input.old)) (W.contents out.old) (W.contents out.new)) }
     ensures fault { IfErr result (λ f. IsOfInput f → IfSome (R.remaining input.old) (IsUnscheduled first days f)) }
-    ensures large { IfErr result (λ f. f ≡ DeskFault.TooLarge → IfSome (R.remaining input.old) (λ xs. most_bytes < length xs)) }
+    ensures large { IfErr result (λ f. f ≡ DeskFault.TooLarge → IfSome (R.remaining input.old) (λ xs. most_set_bytes < length xs)) }
     ensures device { IfErr result (λ f. f ≡ DeskFault.Device →
         InputFailed (HasFailed R.failure_count input.old input.new) out.old out.new
         ⊎ OutputFailed W.failure_count W.contents out.old out.new (OfInput (IsListing first days) (R.remaining input.old))) }
@@ -40,7 +40,7 @@ pub fn desk_flights<R: NotedRead, W: NotedWrite>(
 
 /// Reads these bytes as a data set, and words a line for each of its flights.
 fn listing(alloc: Global, bytes: &[u8], first: Day, days: u16) -> Result<Vec<u8>, DeskFault>
-    requires size { length bytes.now ≤ most_bytes }
+    requires size { length bytes.now ≤ most_set_bytes }
     requires first { IsOfCentury first }
     requires days { (1 ≤ days) × (days ≤ 366) }
     ensures ok { IfOk result (λ text. IsListing first days bytes.now text.items) }

@@ -4,7 +4,7 @@ ghost use Rattle.std.specs.List.{All, flat_map};
 ghost use Rattle.seat_nesting.specs.Nesting.{Fits, ladder_at};
 ghost use Rattle.seat_rules.specs.Inventory.{state_now};
 ghost use Rattle.seat_desk.specs.Desk.{HasFailed, InputFailed, IsOfInput, IsWritten, OfInput, OutputFailed};
-ghost use Rattle.seat_reports.specs.LadderDesk.{IsLadderText, IsRefusedLadder, class_text, first_line, ladder_text, later_lines, line_for, lines_after, most_bytes, reply_text, room_text};
+ghost use Rattle.seat_reports.specs.LadderDesk.{IsLadderText, IsRefusedLadder, class_text, first_line, ladder_text, later_lines, line_for, lines_after, most_ladder_bytes, reply_text, room_text};
 ghost use Rattle.seat_reports.specs.Lines.{lines_of};
 ghost use Rattle.seat_reports.specs.Orders.{IsOrder, only_leg};
 
@@ -32,7 +32,7 @@ pub fn desk_ladder<R: NotedRead, W: NotedWrite>(
 ) -> Result<(), DeskFault>
     ensures ok { OnOk result (IsWritten (OfInput IsLadderText (R.remaining input.old)) (W.contents out.old) (W.contents out.new)) }
     ensures fault { IfErr result (λ f. IsOfInput f → IfSome (R.remaining input.old) (IsRefusedLadder f)) }
-    ensures large { IfErr result (λ f. f ≡ DeskFault.TooLarge → IfSome (R.remaining input.old) (λ xs. most_bytes < length xs)) }
+    ensures large { IfErr result (λ f. f ≡ DeskFault.TooLarge → IfSome (R.remaining input.old) (λ xs. most_ladder_bytes < length xs)) }
     ensures device { IfErr result (λ f. f ≡ DeskFault.Device →
         InputFailed (HasFailed R.failure_count input.old input.new) out.old out.new
         ⊎ OutputFailed W.failure_count W.contents out.old out.new (OfInput IsLadderText (R.remaining input.old))) }
@@ -48,7 +48,7 @@ pub fn desk_ladder<R: NotedRead, W: NotedWrite>(
 
 /// The text that an input is answered with.
 fn answer(alloc: Global, bytes: &[u8]) -> Result<Vec<u8>, DeskFault>
-    requires size { length bytes.now ≤ most_bytes }
+    requires size { length bytes.now ≤ most_ladder_bytes }
     ensures ok { IfOk result (λ text. IsLadderText bytes.now text.items) }
     ensures fault { IfErr result (λ f. f ≢ DeskFault.Memory → IsRefusedLadder f bytes.now) }
     ensures kind { IfErr result (λ f. (f ≢ DeskFault.Device) × (f ≢ DeskFault.TooLarge)) }

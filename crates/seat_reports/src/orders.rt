@@ -127,7 +127,7 @@ fn parts_of(line: &[u8]) -> Option<Work>
     let locator = Locator::new(&line[..6])?;
     let class = Class::new(line[7])?;
     let code = Code::new(&line[9..11])?;
-    let seats = seats_of(&line[12..])?;
+    let seats = read_seats(&line[12..])?;
     Some(Work::Seats(Command {
         locator,
         place: Some(ONLY_LEG),
@@ -138,7 +138,7 @@ fn parts_of(line: &[u8]) -> Option<Work>
 }
 
 #[tactic(auto, unfolding(crate::specs::Orders::seats_in))]
-fn seats_of(digits: &[u8]) -> Option<u16>
+fn read_seats(digits: &[u8]) -> Option<u16>
     ensures value { result ≡ seats_in digits.now }
     ensures small { IfSome result (λ n. (1 ≤ n) × (n ≤ 999)) }
 {

@@ -1,6 +1,6 @@
 -- The headline: what a host, its manager and all its sessions come to, once they are gathered.
 use Rattle.std.specs.Prelude.{◌≡◌, ℕ, ◌≤◌, List, length}
-use Rattle.seat_nesting.specs.Nesting.{Legs}
+use Rattle.seat_nesting.specs.Nesting.{Ladders}
 use Rattle.seat_journal.specs.declared.entry.Entry.{Entry}
 use Rattle.seat_rules.specs.declared.totals.Totals.{Totals}
 use Rattle.seat_rules.specs.Inventory.{HoldsWithinLimits}
@@ -9,7 +9,7 @@ use Rattle.seat_rules.specs.Totals.{totals_of}
 use Rattle.seat_rules.specs.Agreement.{receipts_in, totals_in, Agrees}
 use Rattle.seat_rules.specs.Histories.{by_session, OnlyFirst}
 
-pub record Headline (grid : Legs) (cap n : ℕ) (journal : List Entry) (receipts : List (List Entry)) (totals : Totals) : Type 0 where
+pub record Headline (grid : Ladders) (cap n : ℕ) (journal : List Entry) (receipts : List (List Entry)) (totals : Totals) : Type 0 where
   -- the state is what the sequential inventory reaches by the journal, and each recorded reply is the one given at that point
   pub legal : IsLegal grid journal
   pub capped : length journal ≤ cap

@@ -2,7 +2,7 @@
 use Rattle.std.specs.Prelude.{◌≡◌, ℕ, ◌-◌, Bool, true, false, ◌&&◌, nat_le, List, [], ◌∷◌, ◌++◌, Option, None, Some, find, codes, if◌then◌else◌}
 use Rattle.std.specs.List.{AllByRecursion}
 use Rattle.airline_base.specs.declared.place.Place.{Place}
-use Rattle.seat_nesting.specs.Nesting.{Legs, room, may_wait, is_listed}
+use Rattle.seat_nesting.specs.Nesting.{Ladders, room, may_wait, is_listed}
 use Rattle.seat_nesting.specs.Changing.{can_set, limits_with}
 use Rattle.seat_rules.specs.declared.booking.Booking.{Booking}
 use Rattle.seat_rules.specs.declared.booking.Status.{Status}
@@ -21,11 +21,11 @@ use Rattle.seat_rules.specs.Bookings.{is_for, is_held, is_waiting, held, waiting
 
 -- what a journal leaves: the limits now, and the live bookings in order of number
 pub record State : Type 0 where
-  pub grid : Legs
+  pub grid : Ladders
   pub bookings : List Booking
 
 -- the state of these limits and bookings
-abbrev pub state_of : Legs → List Booking → State
+abbrev pub state_of : Ladders → List Booking → State
 state_of grid bookings = record { grid = grid; bookings = bookings }
 
 -- what one line answers
@@ -71,19 +71,19 @@ abbrev pub advice_of : Booking → Advice
 advice_of b = record { number = b.number; place = b.place; class = b.class; seats = b.seats }
 
 -- it waits, and fits in the book
-abbrev pub may_confirm : Legs → List Booking → Booking → Bool
+abbrev pub may_confirm : Ladders → List Booking → Booking → Bool
 may_confirm grid book b = is_waiting b.status && nat_le b.seats (room grid (held book) b.place b.class)
 
 -- no waiting booking of `among` fits in the book
-abbrev pub NoneFitsAmong : Legs → List Booking → List Booking → Type 0
+abbrev pub NoneFitsAmong : Ladders → List Booking → List Booking → Type 0
 NoneFitsAmong grid book among = AllByRecursion (λ b. may_confirm grid book b ≡ false) among
 
 -- no waiting booking fits
-abbrev pub NoneFits : Legs → List Booking → Type 0
+abbrev pub NoneFits : Ladders → List Booking → Type 0
 NoneFits grid book = NoneFitsAmong grid book book
 
 -- the pass: over the bookings in order, each that waits and fits in the book so far is confirmed and told. Those `done` and `told` come first
-abbrev pub pass : Legs → List Booking → List Advice → List Booking → Passed
+abbrev pub pass : Ladders → List Booking → List Advice → List Booking → Passed
 pass grid done told [] = record { bookings = done; advices = told }
 pass grid done told (b ∷ bs) =
     (if may_confirm grid (done ++ b ∷ bs) b
@@ -91,7 +91,7 @@ pass grid done told (b ∷ bs) =
     else pass grid (done ++ b ∷ []) told bs)
 
 -- these bookings, after a pass over all of them
-abbrev pub passed : Legs → List Booking → List ℕ → ℕ → Outcome
+abbrev pub passed : Ladders → List Booking → List ℕ → ℕ → Outcome
 passed grid bookings reply released =
     let after = pass grid [] [] bookings in
     record { state = state_of grid after.bookings; reply = reply; released = released; advices = after.advices }
@@ -137,7 +137,7 @@ answer_to Cancel None s number c = refused s (codes "UN")
 answer_to Cancel (Some place) s number c = cancel s c place (booking_for s c place)
 
 -- the limits with a change
-abbrev pub changed_by : Legs → Change → Legs
+abbrev pub changed_by : Ladders → Change → Ladders
 changed_by grid c = limits_with grid c.flight c.leg c.class c.limit c.wait
 
 -- a change may be made: the leg has the class, and the limit stays in order and is not below what is held

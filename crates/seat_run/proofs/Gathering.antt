@@ -11,7 +11,7 @@ use Rattle.seat_journal.specs.declared.entry.Command.{Command}
 use Rattle.seat_journal.specs.declared.entry.Entry.{Entry}
 use Rattle.seat_journal.specs.declared.entry.Work.{Work}
 use Rattle.seat_journal.specs.declared.entry.Work.TheVariants.{Seats}
-use Rattle.seat_nesting.specs.Nesting.{Legs}
+use Rattle.seat_nesting.specs.Nesting.{Ladders}
 use Rattle.seat_rules.specs.Prefixes.{Begins}
 use Rattle.seat_rules.specs.declared.totals.Totals.{Totals}
 use Rattle.seat_rules.specs.Totals.{totals_of}
@@ -107,7 +107,7 @@ module _ (n : ℕ) (lists : List (List Work)) (news : List Seat) (past added : L
       ∙ (ap (λ (x : List Work). take (suc k) lists ++ x ∷ []) (list_at (suc k) (omega (arith, le))) ∙ sym (one_more (suc k) (omega (arith, le)))))
 
 -- the headline, said of a journal and its receipts
-of_journal : (grid : Legs) (cap n most count : ℕ) (journal : List Entry) (receipts : List (List Entry)) (totals : Totals) → cap ≡ most → n ≡ count
+of_journal : (grid : Ladders) (cap n most count : ℕ) (journal : List Entry) (receipts : List (List Entry)) (totals : Totals) → cap ≡ most → n ≡ count
     → Headline grid cap n journal receipts totals → Headline grid most count journal receipts (totals_of journal)
 of_journal grid cap n most count journal receipts totals cap_is count_is h =
     let summed = subst (λ (t : Totals). Headline grid cap n journal receipts t) h.totals_are h in
@@ -125,7 +125,7 @@ first_run : (past journal : List Entry) (n : ℕ) (list : List Work) (lists : Li
 first_run past journal n list lists sessions [] run confirmed = absurd run
 first_run past journal n list lists sessions (t ∷ news) run confirmed = goes_on past journal n list t run.0 confirmed.0
 
-pub settled_history : (grid : Legs) (cap n : ℕ) (past : List Entry) (changes : List Change) (lists : List (List Command)) (manager : Seat) (sessions news : List Seat) (journal : List Entry) (receipts : List (List Entry)) (totals : Totals)
+pub settled_history : (grid : Ladders) (cap n : ℕ) (past : List Entry) (changes : List Change) (lists : List (List Command)) (manager : Seat) (sessions news : List Seat) (journal : List Entry) (receipts : List (List Entry)) (totals : Totals)
     → manager ≡ seated 0 past → sessions ≡ seated_sessions n past → length lists ≡ n → AllHaveRun (works_of changes lists) (manager ∷ sessions) news → AllByRecursion (IsConfirmed n journal) news
     → cap ≡ most_lines → Headline grid cap n journal receipts totals → IsHistoryOf grid past changes lists journal receipts
 settled_history grid cap n past changes lists manager sessions news journal receipts totals begun opened count run confirmed most h =
@@ -171,7 +171,7 @@ all_taken (list ∷ lists) (s ∷ olds) (t ∷ news) same h =
     }
 
 -- the same, where a call of the session at some place was refused: the lists before its own were booked whole
-record IsStopped (grid : Legs) (book : Book) (cap : ℕ) (fault : RunFault) (lists : List (List Work)) (olds news : List Seat) : Type 0 where
+record IsStopped (grid : Ladders) (book : Book) (cap : ℕ) (fault : RunFault) (lists : List (List Work)) (olds news : List Seat) : Type 0 where
   taken : List (List Work)
   run : AllHaveRun taken olds news
   count : length taken ≡ length lists
@@ -190,7 +190,7 @@ record IsStopped (grid : Legs) (book : Book) (cap : ℕ) (fault : RunFault) (lis
 whole : (list : List Work) → Begins list list
 whole list = record { rest = []; is = sym (append-nil list) }
 
-stopped : (grid : Legs) (book : Book) (cap : ℕ) (fault : RunFault) (lists : List (List Work)) (olds news : List Seat) → length lists ≡ length olds → AllHaveBegun lists olds news
+stopped : (grid : Ladders) (book : Book) (cap : ℕ) (fault : RunFault) (lists : List (List Work)) (olds news : List Seat) → length lists ≡ length olds → AllHaveBegun lists olds news
     → NamesFirst grid book cap fault lists olds news → IsStopped grid book cap fault lists olds news
 stopped grid book cap fault [] olds news same h named = absurd named
 stopped grid book cap fault (list ∷ lists) [] news same h named = absurd named
@@ -241,7 +241,7 @@ full_of session call Full not = refl
 full_of session call NoRoom not = absurd (not refl)
 
 -- the journal in which a call was refused is full
-is_full : (grid : Legs) (book : Book) (cap n : ℕ) (fault : RunFault) (journal : List Entry) (lists : List (List Work)) (olds news : List Seat) → run_refusal fault ≢ Memory → NamesFirst grid book cap fault lists olds news
+is_full : (grid : Ladders) (book : Book) (cap n : ℕ) (fault : RunFault) (journal : List Entry) (lists : List (List Work)) (olds news : List Seat) → run_refusal fault ≢ Memory → NamesFirst grid book cap fault lists olds news
     → AllByRecursion (IsConfirmed n journal) news → cap ≤ length journal
 is_full grid book cap n fault journal [] olds news not named confirmed = absurd named
 is_full grid book cap n fault journal (list ∷ lists) [] news not named confirmed = absurd named
@@ -262,7 +262,7 @@ receipts_are_asked : (lists : List (List Entry)) → receipts_in lists ≡ asked
 receipts_are_asked [] = refl
 receipts_are_asked (list ∷ lists) = omega (arith, sum_by-cons (λ (receipts : List Entry). length receipts) list lists, receipts_are_asked lists)
 
-refusal_of : (grid : Legs) (past : List Entry) (changes : List Change) (lists : List (List Command)) (session call : ℕ) (why : BookFault) → IsFull grid past changes lists session call
+refusal_of : (grid : Ladders) (past : List Entry) (changes : List Change) (lists : List (List Command)) (session call : ℕ) (why : BookFault) → IsFull grid past changes lists session call
     → call_refusal session call why ≢ Memory → IsUnbooked grid past changes lists (call_refusal session call why)
 refusal_of grid past changes lists session call Full is not = is
 refusal_of grid past changes lists session call NoRoom is not = absurd (not refl)
@@ -273,7 +273,7 @@ front_of list booked left refused parts =
     ap (λ (l : List Work). take (length booked) l) parts ∙ (take-append-le (length booked) booked (refused ∷ left) (omega arith) ∙ take_all (length booked) booked (omega arith))
 
 -- the lines of the past are no more than those of its sessions
-legal_front : (grid : Legs) (past added : List Entry) → IsLegal grid (past ++ added) → IsLegal grid past
+legal_front : (grid : Ladders) (past added : List Entry) → IsLegal grid (past ++ added) → IsLegal grid past
 legal_front grid past added legal =
     record { each = λ front e begins. legal.each front e (record { rest = begins.rest ++ added; is = ap (λ (l : List Entry). l ++ added) begins.is ∙ append_assoc (front ++ e ∷ []) begins.rest added }) }
 
@@ -299,7 +299,7 @@ both_asked (suc n) past added =
       asked_push [] x = omega arith
       asked_push (y ∷ xs) x = omega (arith, asked_push xs x)
 
-module _ (grid : Legs) (book : Book) (cap n : ℕ) (fault : RunFault) (past added : List Entry) (changes : List Change) (lists : List (List Command)) (olds news : List Seat) (receipts : List (List Entry)) (totals : Totals)
+module _ (grid : Ladders) (book : Book) (cap n : ℕ) (fault : RunFault) (past added : List Entry) (changes : List Change) (lists : List (List Command)) (olds news : List Seat) (receipts : List (List Entry)) (totals : Totals)
     (opened : olds ≡ all_seated past n) (count : length lists ≡ n) (confirmed : AllByRecursion (IsConfirmed n (past ++ added)) news) (most : cap ≡ most_lines)
     (h : Headline grid cap n (past ++ added) receipts totals) (t : IsStopped grid book cap fault (works_of changes lists) olds news) (full : cap ≤ length (past ++ added)) where
   own_lists : map works_in (by_session n added) ≡ t.taken
@@ -371,7 +371,7 @@ first_begun past journal n list lists sessions [] begun confirmed = absurd begun
 first_begun past journal n list lists sessions (t ∷ news) begun confirmed = goes_on past journal n begun.0.booked t begun.0.run confirmed.0
 
 -- the fault of such a run
-pub refused_run : (grid : Legs) (book : Book) (cap n : ℕ) (fault : RunFault) (past : List Entry) (changes : List Change) (lists : List (List Command)) (manager : Seat) (sessions news : List Seat) (journal : List Entry) (receipts : List (List Entry)) (totals : Totals) (f : DeskFault)
+pub refused_run : (grid : Ladders) (book : Book) (cap n : ℕ) (fault : RunFault) (past : List Entry) (changes : List Change) (lists : List (List Command)) (manager : Seat) (sessions news : List Seat) (journal : List Entry) (receipts : List (List Entry)) (totals : Totals) (f : DeskFault)
     → f ≡ run_refusal fault → manager ≡ seated 0 past → sessions ≡ seated_sessions n past → length lists ≡ n
     → AllHaveBegun (works_of changes lists) (manager ∷ sessions) news → NamesFirst grid book cap fault (works_of changes lists) (manager ∷ sessions) news
     → AllByRecursion (IsConfirmed n journal) news → cap ≡ most_lines → Headline grid cap n journal receipts totals → f ≢ Memory → IsUnbooked grid past changes lists f
@@ -397,6 +397,6 @@ refused_run grid book cap n fault past changes lists manager sessions news journ
           refusal_of grid past changes lists fault.session fault.call fault.refusal.fault named_call not
 
 -- the same of the commands that scripts ask
-pub unbooked : (grid : Legs) (past : List Entry) (changes : List Change) (asked lists : List (List Command)) (fault : DeskFault) → lists ≡ asked
+pub unbooked : (grid : Ladders) (past : List Entry) (changes : List Change) (asked lists : List (List Command)) (fault : DeskFault) → lists ≡ asked
     → IsUnbooked grid past changes lists fault → IsUnbooked grid past changes asked fault
 unbooked grid past changes asked lists fault is has = subst (λ (l : List (List Command)). IsUnbooked grid past changes l fault) is has

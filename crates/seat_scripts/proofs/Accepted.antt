@@ -6,7 +6,7 @@ use Rattle.std.proofs.lemmas.List.{get_or_past, length-map}
 use Rattle.airimp_lines.specs.declared.fault.ScriptFault.{ScriptFault}
 use Rattle.airimp_lines.specs.declared.requests.Request.{Request}
 use Rattle.ssim_flights.specs.declared.flight.Flight.{Flight as Flown}
-use Rattle.seat_nesting.specs.Nesting.{Legs}
+use Rattle.seat_nesting.specs.Nesting.{Ladders}
 use Rattle.seat_journal.specs.Text.{IsJournalText}
 use Rattle.seat_journal.specs.declared.entry.Change.{Change}
 use Rattle.seat_journal.specs.declared.entry.Command.{Command}
@@ -19,7 +19,7 @@ use Rattle.seat_rules.specs.Inventory.{Inventory}
 use Rattle.seat_rules.specs.Journal.{IsLegal}
 use Rattle.seat_rules.specs.Totals.{totals_of}
 use Rattle.seat_desk.specs.AuditDesk.{IsAudited, IsRefusedOver, audit_line, most_journal_bytes, most_lines}
-use Rattle.seat_desk.specs.CheckDesk.{most_bytes}
+use Rattle.seat_desk.specs.CheckDesk.{most_set_bytes}
 use Rattle.seat_desk.specs.Loading.{HasSchedule, IsBehind, IsFirstTooLargeLoad, most_limit_bytes}
 use Rattle.seat_desk.specs.declared.fault.DeskFault.{DeskFault}
 use Rattle.seat_desk.specs.declared.fault.DeskFault.TheVariants as faults
@@ -43,7 +43,7 @@ asked_at flights [] i = refl
 asked_at flights (script ∷ scripts) zero = refl
 asked_at flights (script ∷ scripts) (suc i) = asked_at flights scripts i
 
-module _ (grid : Legs) (past : List Entry) (flights : List Flown) (changes : List Change) (scripts : List (List Request)) (history : List Entry) (told : List (List Entry))
+module _ (grid : Ladders) (past : List Entry) (flights : List Flown) (changes : List Change) (scripts : List (List Request)) (history : List Entry) (told : List (List Entry))
     (h : IsHistoryOf grid past changes (lists_over past (map (commands_of flights) scripts)) history told) where
   abbrev lists : List (List Command)
   lists = lists_over past (map (commands_of flights) scripts)
@@ -144,12 +144,12 @@ module _ (set limits : List ℕ) (first days today : ℕ) (after : List ℕ) (te
   older_lawful fault refused =
       let same : refused.grid ≡ run.grid = one_grid set limits first days refused.flights run.flights refused.grid run.grid refused.is_loaded.loaded run.is_asked.is_loaded.loaded in
       let past = run.is_asked.is_past in
-      refused.is_unlawful.none run.past past.is_text (subst (λ (g : Legs). IsLegal g run.past) (sym same) past.legal) past.few
+      refused.is_unlawful.none run.past past.is_text (subst (λ (g : Ladders). IsLegal g run.past) (sym same) past.legal) past.few
 
   lawful : (fault : DeskFault) → IsUnlawfulBeside set limits first days after journal fault → ⊥
   lawful fault refused =
       let same : refused.grid ≡ run.grid = one_grid set limits first days refused.flights run.flights refused.grid run.grid refused.is_loaded.loaded run.is_asked.is_loaded.loaded in
-      refused.is_unlawful.none run.history text (subst (λ (g : Legs). IsLegal g run.history) (sym same) audited.legal) audited.few
+      refused.is_unlawful.none run.history text (subst (λ (g : Ladders). IsLegal g run.history) (sym same) audited.legal) audited.few
 
   both_lawful : (fault : DeskFault) → IsRefusedOver set limits first days fault after ⊎ IsUnlawfulBeside set limits first days after journal fault → ⊥
   both_lawful fault refused = ⊎_elim (older_lawful fault) (lawful fault) refused
@@ -167,7 +167,7 @@ module _ (set limits : List ℕ) (first days today : ℕ) (after : List ℕ) (te
 
   load_small : IsFirstTooLargeLoad set limits first days → ⊥
   load_small over =
-      ⊎_elim (λ (h : most_bytes < length set). absurd (omega (arith, h, run.is_asked.is_loaded.set_within))) (λ (h : IsBehind (HasSchedule first days set) (most_limit_bytes < length limits)). absurd (omega (arith, h.here, run.is_asked.is_loaded.limits_within))) over
+      ⊎_elim (λ (h : most_set_bytes < length set). absurd (omega (arith, h, run.is_asked.is_loaded.set_within))) (λ (h : IsBehind (HasSchedule first days set) (most_limit_bytes < length limits)). absurd (omega (arith, h.here, run.is_asked.is_loaded.limits_within))) over
 
   abbrev Last : Type 0
   Last = (HasOlder set limits first days after × (most_journal_bytes < length journal)) ⊎ (HasBoth set limits first days after journal × IsTooLargeAmong today (map Some texts))

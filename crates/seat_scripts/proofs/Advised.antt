@@ -4,7 +4,7 @@ use Rattle.std.specs.Prelude.{slice_get}
 use Rattle.std.specs.List.{AllByRecursion}
 use Rattle.std.proofs.lemmas.List.{take_more}
 use Rattle.airline_base.specs.declared.place.Place.{Place}
-use Rattle.seat_nesting.specs.Nesting.{Fits, Legs}
+use Rattle.seat_nesting.specs.Nesting.{Fits, Ladders}
 use Rattle.seat_journal.specs.declared.entry.Advice.{Advice}
 use Rattle.seat_journal.specs.declared.entry.Command.{Command}
 use Rattle.seat_journal.specs.declared.entry.Entry.{Entry}
@@ -36,7 +36,7 @@ module _ {A : Type 0} where
 -- ---- lines that ask for seats on a place, in a longer history
 
 -- the line of this number asks for seats on a place of the grid
-pub record IsPlaced (grid : Legs) (history : List Entry) (number : ℕ) : Type 0 where
+pub record IsPlaced (grid : Ladders) (history : List Entry) (number : ℕ) : Type 0 where
   pub within : (1 ≤ number) × (number ≤ length history)
   pub line : Entry
   pub at : slice_get history (number - 1) ≡ Some line
@@ -55,7 +55,7 @@ get_last : (xs : List Entry) (x : Entry) → slice_get (xs ++ x ∷ []) (length 
 get_last [] x = refl
 get_last (y ∷ xs) x = get_last xs x
 
-placed_longer : (grid : Legs) (past more : List Entry) (n : ℕ) → IsPlaced grid past n → IsPlaced grid (past ++ more) n
+placed_longer : (grid : Ladders) (past more : List Entry) (n : ℕ) → IsPlaced grid past n → IsPlaced grid (past ++ more) n
 placed_longer grid past more n placed = record {
   within = (placed.within.0, omega (arith, placed.within.1, length-append past more));
   line = placed.line;
@@ -67,7 +67,7 @@ placed_longer grid past more n placed = record {
   fits = placed.fits;
 }
 
-placed_last : (grid : Legs) (past : List Entry) (e : Entry) (c : Command) (p : Place) → FitsWork grid e.work → e.work ≡ Seats c → c.place ≡ Some p → IsPlaced grid (past ++ e ∷ []) (length past + 1)
+placed_last : (grid : Ladders) (past : List Entry) (e : Entry) (c : Command) (p : Place) → FitsWork grid e.work → e.work ≡ Seats c → c.place ≡ Some p → IsPlaced grid (past ++ e ∷ []) (length past + 1)
 placed_last grid past e c p fits is on =
     let here : length past ≡ length past + 1 - 1 = omega arith in
     let all : FitsWork grid (Seats c) = subst (FitsWork grid) is fits in
@@ -85,18 +85,18 @@ placed_last grid past e c p fits is on =
 -- ---- bookings
 
 -- the booking is that of such a line, and so is the advice
-abbrev IsSeated : Legs → List Entry → Booking → Type 0
+abbrev IsSeated : Ladders → List Entry → Booking → Type 0
 IsSeated grid history b = IsPlaced grid history b.number
 
-abbrev IsTold : Legs → List Entry → Advice → Type 0
+abbrev IsTold : Ladders → List Entry → Advice → Type 0
 IsTold grid history a = IsPlaced grid history a.number
 
 -- the bookings that are left, and what was advised
-record IsSound (grid : Legs) (history : List Entry) (bookings : List Booking) (advices : List Advice) : Type 0 where
+record IsSound (grid : Ladders) (history : List Entry) (bookings : List Booking) (advices : List Advice) : Type 0 where
   seated : AllByRecursion (IsSeated grid history) bookings
   advised_all : AllByRecursion (IsTold grid history) advices
 
-sound_pass : (over : Legs) (history : List Entry) (grid : Legs) (done : List Booking) (told : List Advice) (bs : List Booking)
+sound_pass : (over : Ladders) (history : List Entry) (grid : Ladders) (done : List Booking) (told : List Advice) (bs : List Booking)
     → IsSound over history done told → AllByRecursion (IsSeated over history) bs
     → IsSound over history (pass grid done told bs).bookings (pass grid done told bs).advices
 sound_pass over history grid done told [] sound all = sound
@@ -115,7 +115,7 @@ sound_pass over history grid done told (b ∷ bs) sound all =
       cases true e told_on passed_on = rw e told_on
       cases false e told_on passed_on = rw e passed_on
 
-seated_reduced : (over : Legs) (history : List Entry) (test : Booking → Bool) (n : ℕ) (bs : List Booking) → AllByRecursion (IsSeated over history) bs → AllByRecursion (IsSeated over history) (reduced test n bs)
+seated_reduced : (over : Ladders) (history : List Entry) (test : Booking → Bool) (n : ℕ) (bs : List Booking) → AllByRecursion (IsSeated over history) bs → AllByRecursion (IsSeated over history) (reduced test n bs)
 seated_reduced over history test n [] all = tt
 seated_reduced over history test n (b ∷ bs) all = cases (test b) (nat_le b.seats n) refl refl (seated_reduced over history test n bs all.1) where
   cases : (t u : Bool) → test b ≡ t → nat_le b.seats n ≡ u → AllByRecursion (IsSeated over history) (reduced test n bs) → AllByRecursion (IsSeated over history) (reduced test n (b ∷ bs))
@@ -124,7 +124,7 @@ seated_reduced over history test n (b ∷ bs) all = cases (test b) (nat_le b.sea
   cases false u e g rest = rw e (all.0, rest)
 
 -- a line's answer, where the bookings before it are of the history, and so is its own
-sound_answer : (over : Legs) (s : State) (history : List Entry) (number : ℕ) (w : Work)
+sound_answer : (over : Ladders) (s : State) (history : List Entry) (number : ℕ) (w : Work)
     → ((c : Command) (p : Place) → w ≡ Seats c → c.place ≡ Some p → IsPlaced over history number) → AllByRecursion (IsSeated over history) s.bookings
     → IsSound over history (answer s number w).state.bookings (answer s number w).advices
 sound_answer over s history number w asks all =
@@ -140,19 +140,19 @@ sound_answer over s history number w asks all =
     w refl
 
 -- each line's advices are for bookings of the history
-abbrev pub AreAdvised : Legs → List Entry → List Entry → Type 0
+abbrev pub AreAdvised : Ladders → List Entry → List Entry → Type 0
 AreAdvised grid history lines = AllByRecursion (λ (e : Entry). AllByRecursion (λ (a : Advice). IsPlaced grid history a.number) e.advices) lines
 
-wider_advices : (grid : Legs) (past more lines : List Entry) → AreAdvised grid past lines → AreAdvised grid (past ++ more) lines
+wider_advices : (grid : Ladders) (past more lines : List Entry) → AreAdvised grid past lines → AreAdvised grid (past ++ more) lines
 wider_advices grid past more lines =
     all_weaker (λ (e : Entry). AllByRecursion (IsTold grid past) e.advices) (λ (e : Entry). AllByRecursion (IsTold grid (past ++ more)) e.advices) lines
     (λ e. all_weaker (IsTold grid past) (IsTold grid (past ++ more)) e.advices (λ a h. placed_longer grid past more a.number h))
 
-record IsSoundHistory (grid : Legs) (history : List Entry) : Type 0 where
+record IsSoundHistory (grid : Ladders) (history : List Entry) : Type 0 where
   seated : AllByRecursion (IsSeated grid history) (replay grid history).bookings
   told : AreAdvised grid history history
 
-sound_next : (grid : Legs) (past : List Entry) (e : Entry) → IsLegal grid past → IsNext grid past e → IsSoundHistory grid past → IsSoundHistory grid (past ++ e ∷ [])
+sound_next : (grid : Ladders) (past : List Entry) (e : Entry) → IsLegal grid past → IsNext grid past e → IsSoundHistory grid past → IsSoundHistory grid (past ++ e ∷ [])
 sound_next grid past e legal next sound =
     let history = past ++ e ∷ [] in
     let n = length past in
@@ -170,5 +170,5 @@ sound_next grid past e legal next sound =
           (subst (λ (l : List Advice). AllByRecursion (IsTold grid history) l) (sym told) both.advised_all);
     }
 
-pub legal_is_advised : (grid : Legs) (history : List Entry) → IsLegal grid history → AreAdvised grid history history
+pub legal_is_advised : (grid : Ladders) (history : List Entry) → IsLegal grid history → AreAdvised grid history history
 legal_is_advised grid history legal = (each_legal grid (IsSoundHistory grid) (sound_next grid) [] history (record { seated = tt; told = tt }) legal).told

@@ -6,7 +6,7 @@ use Rattle.ssim_records.proofs.SetLaws.{one_data_set}
 use Rattle.ssim_flights.specs.declared.flight.Flight.{Flight as Flown}
 use Rattle.seat_limits.specs.Authorised.{authorised_grid}
 use Rattle.seat_limits.specs.LimitRows.{SpellsRows, rows_in}
-use Rattle.seat_nesting.specs.Nesting.{Legs}
+use Rattle.seat_nesting.specs.Nesting.{Ladders}
 use Rattle.seat_limits.specs.declared.limit_fault.LimitFault.{LimitFault}
 use Rattle.seat_limits.specs.declared.limit_row.LimitRow.{LimitRow}
 use Rattle.seat_limits.proofs.RowLaws.{row_again}
@@ -17,7 +17,7 @@ use Rattle.seat_rules.specs.Journal.{IsLegal}
 use Rattle.seat_rules.specs.Totals.{totals_of}
 use Rattle.seat_rules.specs.Histories.{by_session}
 use Rattle.seat_desk.specs.AuditDesk.{IsAudit, IsAudited, IsRefusedOver, AuditRefusal, IsTooLarge, audit_line, most_journal_bytes}
-use Rattle.seat_desk.specs.CheckDesk.{most_bytes, most_records}
+use Rattle.seat_desk.specs.CheckDesk.{most_set_bytes, most_records}
 use Rattle.seat_desk.specs.FlightsDesk.{set_flights}
 use Rattle.seat_desk.specs.Loading.{IsLoaded, IsLoadedGrid, IsRefusedLoad, most_limit_bytes}
 use Rattle.seat_desk.specs.declared.fault.DeskFault.{DeskFault}
@@ -46,7 +46,7 @@ rows_read ((c ∷ text) ∷ texts) n (row ∷ rows) h = rw (row_again (c ∷ tex
 same_rows : (a b : List LimitRow) → ok_rows a ≡ ok_rows b → a ≡ b
 same_rows a b e = cc
 
-pub one_grid : (set limits : List ℕ) (first days : ℕ) (flights flights' : List Flown) (grid grid' : Legs)
+pub one_grid : (set limits : List ℕ) (first days : ℕ) (flights flights' : List Flown) (grid grid' : Ladders)
     → IsLoadedGrid set limits first days flights grid → IsLoadedGrid set limits first days flights' grid' → grid ≡ grid'
 one_grid set limits first days flights flights' grid grid' a b =
     let sets : a.is_schedule.set ≡ b.is_schedule.set = one_data_set most_records most_records set a.is_schedule.set b.is_schedule.set a.is_schedule.is_set b.is_schedule.is_set in
@@ -58,7 +58,7 @@ no_limit_fault : (limits : List ℕ) (rows : List LimitRow) (fault : LimitFault)
 no_limit_fault limits rows fault h e = let read : rows_in 1 (lines limits) ≡ ok_rows rows = rows_read (lines limits) 1 rows h in cc
 
 -- what is loaded is not refused
-pub loads : (set limits : List ℕ) (first days : ℕ) (flights : List Flown) (grid : Legs) (fault : DeskFault) → IsLoadedGrid set limits first days flights grid → IsRefusedLoad set limits first days fault → ⊥
+pub loads : (set limits : List ℕ) (first days : ℕ) (flights : List Flown) (grid : Ladders) (fault : DeskFault) → IsLoadedGrid set limits first days flights grid → IsRefusedLoad set limits first days fault → ⊥
 loads set limits first days flights grid (faults.Set fault) loaded refused = refused.refusal.none flights loaded.is_schedule
 loads set limits first days flights grid (faults.Flight fault) loaded refused = refused.refusal.none flights loaded.is_schedule
 loads set limits first days flights grid (faults.Limit fault) loaded refused = no_limit_fault limits loaded.rows fault loaded.are_rows.spelled refused.refusal.wrong.first
@@ -66,12 +66,12 @@ loads set limits first days flights grid _ loaded refused = refused.refusal
 
 -- ---- a history's text is audited
 
-module _ (set limits : List ℕ) (first days : ℕ) (journal : List ℕ) (flights : List Flown) (grid : Legs) (history : List Entry)
+module _ (set limits : List ℕ) (first days : ℕ) (journal : List ℕ) (flights : List Flown) (grid : Ladders) (history : List Entry)
     (loaded : IsLoaded set limits first days flights grid) (audited : IsAudited grid journal (audit_line (totals_of history))) (text : IsJournalText journal history) (few : length journal ≤ most_journal_bytes) where
   lawful : (fault : DeskFault) → IsRefusedOver set limits first days fault journal → ⊥
   lawful fault refused =
       let same : refused.grid ≡ grid = one_grid set limits first days refused.flights flights refused.grid grid refused.is_loaded.loaded loaded.loaded in
-      refused.is_unlawful.none audited.entries audited.is_text (subst (λ (g : Legs). IsLegal g audited.entries) (sym same) audited.legal) audited.few
+      refused.is_unlawful.none audited.entries audited.is_text (subst (λ (g : Ladders). IsLegal g audited.entries) (sym same) audited.legal) audited.few
 
   faultless : (fault : DeskFault) → AuditRefusal set limits first days journal fault → ⊥
   faultless (faults.Journal fault) refused = lawful (faults.Journal fault) refused
@@ -84,7 +84,7 @@ module _ (set limits : List ℕ) (first days : ℕ) (journal : List ℕ) (flight
   not_large : IsTooLarge set limits journal → ⊥
   not_large large =
       ⊎_elim
-      (λ (over : (most_bytes < length set) ⊎ (most_limit_bytes < length limits)). ⊎_elim (λ (h : most_bytes < length set). absurd (omega (arith, h, loaded.set_within))) (λ (h : most_limit_bytes < length limits). absurd (omega (arith, h, loaded.limits_within))) over)
+      (λ (over : (most_set_bytes < length set) ⊎ (most_limit_bytes < length limits)). ⊎_elim (λ (h : most_set_bytes < length set). absurd (omega (arith, h, loaded.set_within))) (λ (h : most_limit_bytes < length limits). absurd (omega (arith, h, loaded.limits_within))) over)
       (λ (h : most_journal_bytes < length journal). absurd (omega (arith, h, few)))
       large
 

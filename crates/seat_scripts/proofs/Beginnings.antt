@@ -4,7 +4,7 @@ use Rattle.std.specs.Prelude.{IsTrue, slice_get}
 use Rattle.std.proofs.Math.Seq.{drop-cons}
 use Rattle.std.proofs.lemmas.List.{take-append-drop, take_all, take_more}
 use Rattle.std.proofs.lemmas.Option.{get_or_from_slice_get, slice_get_within}
-use Rattle.seat_nesting.specs.Nesting.{Legs}
+use Rattle.seat_nesting.specs.Nesting.{Ladders}
 use Rattle.seat_journal.specs.declared.entry.Command.{Command}
 use Rattle.seat_journal.specs.declared.entry.Entry.{Entry}
 use Rattle.seat_journal.specs.declared.entry.Work.{Work}
@@ -28,11 +28,11 @@ parts_at lines i e at =
     behind [] ys = refl
     behind (x ∷ xs) ys = ap (λ (l : List Entry). x ∷ l) (behind xs ys)
 
-next_at : (grid : Legs) (lines : List Entry) (i : ℕ) (e : Entry) → IsLegal grid lines → slice_get lines i ≡ Some e → IsNext grid (take i lines) e
+next_at : (grid : Ladders) (lines : List Entry) (i : ℕ) (e : Entry) → IsLegal grid lines → slice_get lines i ≡ Some e → IsNext grid (take i lines) e
 next_at grid lines i e legal at = legal.each (take i lines) e (record { rest = drop (suc i) lines; is = parts_at lines i e at })
 
 -- of two lines that may follow the same past, those of one session that ask for the same are one
-same_next : (grid : Legs) (past : List Entry) (a b : Entry) → IsNext grid past a → IsNext grid past b → a.session ≡ b.session → a.work ≡ b.work → a ≡ b
+same_next : (grid : Ladders) (past : List Entry) (a b : Entry) → IsNext grid past a → IsNext grid past b → a.session ≡ b.session → a.work ≡ b.work → a ≡ b
 same_next grid past a b one two session work =
     let call : a.call ≡ b.call = one.call ∙ (ap (λ (s : ℕ). calls_of past s + 1) session ∙ sym two.call) in
     one.line
@@ -42,7 +42,7 @@ same_next grid past a b one two session work =
 
 -- ---- one line after the other
 
-module _ (grid : Legs) (older journal : List Entry) (old_legal : IsLegal grid older) (legal : IsLegal grid journal) (i : ℕ) (line : Entry) (at : slice_get older i ≡ Some line)
+module _ (grid : Ladders) (older journal : List Entry) (old_legal : IsLegal grid older) (legal : IsLegal grid journal) (i : ℕ) (line : Entry) (at : slice_get older i ≡ Some line)
     (so_far : take i journal ≡ take i older) where
   within : i < length older
   within = slice_get_within older i line at
@@ -110,7 +110,7 @@ begins_all older journal i whole so_far = record {
 
 -- ---- the whole
 
-pub all_behind : (grid : Legs) (lists : List (List Command)) (older journal added : List Entry) → IsLegal grid journal → journal ≡ older ++ added → length lists ≤ 8 → AreAskedBelow lists added 9
+pub all_behind : (grid : Ladders) (lists : List (List Command)) (older journal added : List Entry) → IsLegal grid journal → journal ≡ older ++ added → length lists ≤ 8 → AreAskedBelow lists added 9
     → AreAskedBehind lists older journal
 all_behind grid lists older journal added legal is few below = record { goes_on = record { rest = added; is = is }; are_asked = all_asked grid lists older journal added legal is few below }
 

@@ -2,7 +2,7 @@
 use Rattle.std.proofs.Common.{◌≡◌, ◌≢◌, ◌⊎◌, ◌<◌, inl, inr, ℕ, List, Option, Some, None, IfSome, length, map, subst, sym}
 use Rattle.airimp_lines.specs.declared.requests.Request.{Request}
 use Rattle.ssim_flights.specs.declared.flight.Flight.{Flight as Flown}
-use Rattle.seat_nesting.specs.Nesting.{Legs}
+use Rattle.seat_nesting.specs.Nesting.{Ladders}
 use Rattle.seat_rules.specs.Inventory.{Inventory}
 use Rattle.seat_rules.specs.Totals.{totals_of}
 use Rattle.seat_desk.specs.AuditDesk.{IsUnlawful, audit_line, most_journal_bytes}
@@ -31,7 +31,7 @@ module _ (set limits : List ℕ) (first days : ℕ) (after journal : List ℕ) (
   abbrev Refused : DeskFault → Type 0
   Refused fault = IsRefusedAgainst set limits first days after journal today texts fault
 
-  module _ (flights : List Flown) (grid : Legs) (loaded : IsLoaded set limits first days flights grid) (older : Inventory) (before : IsReplayWithin grid older after) where
+  module _ (flights : List Flown) (grid : Ladders) (loaded : IsLoaded set limits first days flights grid) (older : Inventory) (before : IsReplayWithin grid older after) where
     of_journal : (fault : DeskFault) → IsUnlawful grid fault journal → Refused fault
     of_journal (Journal fault) unlawful =
         record { refusal = inr (record { flights = flights; grid = grid; is_loaded = loaded; older = older; is_older = before; is_unlawful = unlawful }) }
@@ -68,7 +68,7 @@ module _ (set limits after journal : Option (List ℕ)) (first days today : ℕ)
   abbrev IsRefused : DeskFault → Type 0
   IsRefused fault = OfFour set limits after journal (λ xs ys older zs. IsRefusedAgainst xs ys first days older zs today texts fault)
 
-  module _ (flights : List Flown) (grid : Legs) (loaded : IfSome set (λ xs. IfSome limits (λ ys. IsLoaded xs ys first days flights grid)))
+  module _ (flights : List Flown) (grid : Ladders) (loaded : IfSome set (λ xs. IfSome limits (λ ys. IsLoaded xs ys first days flights grid)))
       (older : Inventory) (before : IfSome after (IsReplayWithin grid older)) where
     -- of the journal
     pub refused_journal : (fault : DeskFault) → (IsOfInput fault → IfSome journal (IsUnlawful grid fault)) → IsOfInput fault → IsRefused fault
@@ -138,7 +138,7 @@ module _ (set limits after journal : Option (List ℕ)) (first days today : ℕ)
   pub too_large_load : IfSome set (λ xs. IfSome limits (λ ys. IsFirstTooLargeLoad xs ys first days)) → IsLarge
   too_large_load over = four_load (λ xs ys. IsFirstTooLargeLoad xs ys first days) (λ xs ys older zs. IsTooLargeAgainst xs ys first days older zs today texts) set limits after journal (λ xs ys older zs is. inl is) over
 
-  module _ (flights : List Flown) (grid : Legs) (loaded : IfSome set (λ xs. IfSome limits (λ ys. IsLoaded xs ys first days flights grid))) where
+  module _ (flights : List Flown) (grid : Ladders) (loaded : IfSome set (λ xs. IfSome limits (λ ys. IsLoaded xs ys first days flights grid))) where
     load_known : IfSome set (λ xs. IfSome limits (λ ys. HasLoaded xs ys first days))
     load_known = by set limits loaded where
       by : (s l : Option (List ℕ)) → IfSome s (λ xs. IfSome l (λ ys. IsLoaded xs ys first days flights grid)) → IfSome s (λ xs. IfSome l (λ ys. HasLoaded xs ys first days))
@@ -186,7 +186,7 @@ module _ (set limits after journal : Option (List ℕ)) (first days today : ℕ)
 
 -- ---- refusals of the older journal
 
-of_older : (set limits : List ℕ) (first days : ℕ) (after journal : List ℕ) (today : ℕ) (texts : List (Option (List ℕ))) (flights : List Flown) (grid : Legs) (fault : DeskFault)
+of_older : (set limits : List ℕ) (first days : ℕ) (after journal : List ℕ) (today : ℕ) (texts : List (Option (List ℕ))) (flights : List Flown) (grid : Ladders) (fault : DeskFault)
     → IsLoaded set limits first days flights grid → IsUnlawful grid fault after → IsRefusedAgainst set limits first days after journal today texts fault
 of_older set limits first days after journal today texts flights grid (Journal fault) loaded unlawful =
     record { refusal = inl (record { flights = flights; grid = grid; is_loaded = loaded; is_unlawful = unlawful }) }
@@ -194,7 +194,7 @@ of_older set limits first days after journal today texts flights grid (Replay fa
     record { refusal = inl (record { flights = flights; grid = grid; is_loaded = loaded; is_unlawful = unlawful }) }
 of_older set limits first days after journal today texts flights grid _ loaded unlawful = absurd unlawful.refused
 
-pub refused_older : (set limits after journal : Option (List ℕ)) (first days today : ℕ) (texts : List (Option (List ℕ))) (flights : List Flown) (grid : Legs)
+pub refused_older : (set limits after journal : Option (List ℕ)) (first days today : ℕ) (texts : List (Option (List ℕ))) (flights : List Flown) (grid : Ladders)
     → IfSome set (λ xs. IfSome limits (λ ys. IsLoaded xs ys first days flights grid)) → (fault : DeskFault) → (IsOfInput fault → IfSome after (IsUnlawful grid fault)) → IsOfInput fault
     → OfFour set limits after journal (λ xs ys older zs. IsRefusedAgainst xs ys first days older zs today texts fault)
 refused_older set limits after journal first days today texts flights grid loaded fault refused input =

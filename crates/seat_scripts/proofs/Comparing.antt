@@ -7,7 +7,7 @@ use Rattle.std.proofs.Math.Seq.{drop-cons, take-append_seam, take-length}
 use Rattle.std.proofs.lemmas.Bool.Decides.{nat_tests}
 use Rattle.std.proofs.lemmas.List.{map-append, length-append, length-map, take-append-drop, take_all, take_more}
 use Rattle.std.proofs.lemmas.Option.{get_or_from_slice_get, slice_get_cases, slice_get-map, slice_get_past, slice_get_read, slice_get_within}
-use Rattle.seat_nesting.specs.Nesting.{Legs}
+use Rattle.seat_nesting.specs.Nesting.{Ladders}
 use Rattle.airline_base.specs.declared.place.Place.{Place}
 use Rattle.seat_journal.specs.declared.entry.Change.{Change}
 use Rattle.seat_journal.specs.declared.entry.Command.{Command}
@@ -241,7 +241,7 @@ module _ (lists : List (List Command)) (journal : List Entry) (session : ℕ) (l
 
 -- ---- session by session
 
-none_beyond : (s : ℕ) → 8 < s → (grid : Legs) (journal : List Entry) → IsLegal grid journal → of_session s journal ≡ []
+none_beyond : (s : ℕ) → 8 < s → (grid : Ladders) (journal : List Entry) → IsLegal grid journal → of_session s journal ≡ []
 none_beyond s beyond grid journal legal =
     each_legal grid (λ (j : List Entry). of_session s j ≡ [])
     (λ past e l next h. own_append s past (e ∷ []) ∙ (ap (λ (lines : List Entry). lines ++ of_session s (e ∷ [])) h ∙ own_other s e (λ (is : e.session ≡ s). let most : e.session ≤ 8 = few_may e.session e.work next.session in absurd (omega (arith, is, most, beyond)))))
@@ -253,7 +253,7 @@ none_added s older added e = second (of_session s older) (of_session s added) (s
   second [] ys e = e
   second (x ∷ xs) ys e = absurd cc
 
-pub all_asked : (grid : Legs) (lists : List (List Command)) (older journal added : List Entry) → IsLegal grid journal → journal ≡ older ++ added → length lists ≤ 8 → AreAskedBelow lists added 9 → AreAsked lists added
+pub all_asked : (grid : Ladders) (lists : List (List Command)) (older journal added : List Entry) → IsLegal grid journal → journal ≡ older ++ added → length lists ≤ 8 → AreAskedBelow lists added 9 → AreAsked lists added
 all_asked grid lists older journal added legal is few below = record { each = λ session low. ⊎_elim (λ (lt : session < 9). below.each session low lt) (λ (high : 9 ≤ session). beyond session high) (either session 9) } where
   either : (a b : ℕ) → (a < b) ⊎ (b ≤ a)
   either a zero = inr (omega arith)

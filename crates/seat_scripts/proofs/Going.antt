@@ -5,7 +5,7 @@ use Rattle.std.proofs.Math.Seq.{drop-append_seam}
 use Rattle.std.proofs.lemmas.Bool.{cases_lt}
 use Rattle.std.proofs.lemmas.List.{append-nil, take_all, take-append-le}
 use Rattle.std.proofs.lemmas.Bool.Decides.{nat_tests}
-use Rattle.seat_nesting.specs.Nesting.{Legs}
+use Rattle.seat_nesting.specs.Nesting.{Ladders}
 use Rattle.seat_journal.specs.declared.entry.Command.{Command}
 use Rattle.seat_journal.specs.declared.entry.Entry.{Entry}
 use Rattle.seat_journal.specs.declared.entry.Work.{Work}
@@ -161,13 +161,13 @@ pub few_may : (session : ℕ) (w : Work) → MayAsk session w → session ≤ 8
 few_may session (Seats c) may = may.1
 few_may session (Limit c) may = omega (arith, may)
 
-beyond : (grid : Legs) (s : ℕ) (past es : List Entry) → 8 < s → IsLegalAfter grid past es → of_session s es ≡ []
+beyond : (grid : Ladders) (s : ℕ) (past es : List Entry) → 8 < s → IsLegalAfter grid past es → of_session s es ≡ []
 beyond grid s past [] high legal = refl
 beyond grid s past (e ∷ es) high legal =
     let low : e.session ≤ 8 = few_may e.session e.work legal.0.session in
     own_append s (e ∷ []) es ∙ (ap (λ (l : List Entry). l ++ of_session s es) (own_other s e (λ same. absurd (omega (arith, same, low, high)))) ∙ beyond grid s (past ++ e ∷ []) es high legal.1)
 
-above_all : (grid : Legs) (past : List Entry) (s : ℕ) → IsLegal grid past → highest_to 8 past < s → of_session s past ≡ []
+above_all : (grid : Ladders) (past : List Entry) (s : ℕ) → IsLegal grid past → highest_to 8 past < s → of_session s past ≡ []
 above_all grid past s legal low =
     ⊎_elim (λ (high : 8 < s). beyond grid s [] past high (legal_to_after grid [] past legal))
     (λ (le : s ≤ 8). no_lines_of (of_session s past) (sym (calls_own past s) ∙ above 8 s past low le))
@@ -192,6 +192,6 @@ pub over_few : (past : List Entry) (lists : List (List Command)) → 1 ≤ lengt
 over_few past lists some few = (omega (arith, some, over_count past lists), omega (arith, few, over_count past lists, highest_low 8 past))
 
 -- no line is of a session above those that are opened
-pub only_opened : (grid : Legs) (past : List Entry) (lists : List (List Command)) → IsLegal grid past → OnlyFirst (length (lists_over past lists)) past
+pub only_opened : (grid : Ladders) (past : List Entry) (lists : List (List Command)) → IsLegal grid past → OnlyFirst (length (lists_over past lists)) past
 only_opened grid past lists legal =
     record { none = λ s high. above_all grid past s legal (omega (arith, high, over_count past lists)) }

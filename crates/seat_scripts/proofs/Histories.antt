@@ -18,7 +18,7 @@ use Rattle.seat_journal.specs.declared.entry.Entry.{Entry}
 use Rattle.seat_journal.specs.declared.entry.Work.{Work}
 use Rattle.seat_journal.specs.declared.entry.Work.TheVariants.{Seats, Limit}
 use Rattle.seat_limits.specs.Authorised.{authorised_grid, authorised_legs}
-use Rattle.seat_nesting.specs.Nesting.{Fits, Legs, Steps, legs_of}
+use Rattle.seat_nesting.specs.Nesting.{Fits, Ladders, Steps, legs_of}
 use Rattle.seat_limits.specs.declared.limit_row.LimitRow.{LimitRow}
 use Rattle.seat_rules.specs.Journal.{IsLegal, IsLegalAfter, IsNext, MayAsk, calls_of}
 use Rattle.seat_rules.proofs.History.Legal.{legal_to_after}
@@ -27,7 +27,7 @@ use Rattle.seat_rules.proofs.Own.{own_append, own_one, calls_own}
 use Rattle.seat_desk.specs.FlightsDesk.{IsText}
 use Rattle.seat_desk.specs.Loading.{IsGridOf}
 use Rattle.seat_scripts.specs.declared.past.Past.{Past}
-use Rattle.seat_scripts.specs.Answering.{AreAllAnswerable, AreAnswerable, HasRequest, IsAnswerable, IsAsked, IsBooked}
+use Rattle.seat_scripts.specs.Answering.{AreAllAnswerable, AreAnswerable, HasRequest, IsAnswerable, IsRequested, IsBooked}
 use Rattle.seat_scripts.specs.Going.{behind, idle, lists_over, past_of, segment_at, segment_between, segment_from, segment_of, segment_on}
 use Rattle.seat_scripts.specs.Requests.{commands_of}
 use Rattle.seat_scripts.specs.RunDesk.{AreAnswers, AreReplies, IsHistoryOf, IsReplied, at_any, works_in, works_of}
@@ -71,10 +71,10 @@ no_legs rows flights i at =
     let none : slice_get (authorised_grid rows flights) i ≡ None = slice_get-map (authorised_legs rows) flights i ∙ ap (λ (o : Option Flown). option_map (authorised_legs rows) o) at in
     ap (λ (o : Option (List Steps)). length (unwrap_or o [])) none
 
-flown : (flights : List Flown) (grid : Legs) (c : Command) (place : Place) → IsGridOf flights grid → c.place ≡ Some place → Fits grid place → IsFlown flights c
+flown : (flights : List Flown) (grid : Ladders) (c : Command) (place : Place) → IsGridOf flights grid → c.place ≡ Some place → Fits grid place → IsFlown flights c
 flown flights grid c place g on fits =
     let i = place.flight in
-    let to : place.to < length (legs_of (authorised_grid g.rows flights) i) = subst (λ (l : Legs). place.to < length (legs_of l i)) g.is fits.1 in
+    let to : place.to < length (legs_of (authorised_grid g.rows flights) i) = subst (λ (l : Ladders). place.to < length (legs_of l i)) g.is fits.1 in
     ⊎_elim
     (λ (s : (x : Flown) × (i < length flights) × (slice_get flights i ≡ Some x) × (get_or flights i x ≡ x)).
     let same = legs_are g.rows flights i s.0 s.2 in
@@ -90,7 +90,7 @@ list_of flights [] k i = idle_at k i
 list_of flights (script ∷ scripts) k zero = refl
 list_of flights (script ∷ scripts) k (suc i) = list_of flights scripts k i
 
-module _ (grid : Legs) (past : List Entry) (flights : List Flown) (changes : List Change) (scripts : List (List Request)) (history : List Entry) (told : List (List Entry))
+module _ (grid : Ladders) (past : List Entry) (flights : List Flown) (changes : List Change) (scripts : List (List Request)) (history : List Entry) (told : List (List Entry))
     (h : IsHistoryOf grid past changes (lists_over past (map (commands_of flights) scripts)) history told) where
   abbrev lists : List (List Command)
   lists = lists_over past (map (commands_of flights) scripts)
@@ -169,13 +169,13 @@ module _ (grid : Legs) (past : List Entry) (flights : List Flown) (changes : Lis
         call = (omega (arith, next.call, before, known), omega (arith, next.call, before, known, own, counted));
       }
 
-  is_asked : (front es : List Entry) (e : Entry) → h.added ≡ front ++ e ∷ es → IsNext grid (past ++ front) e → (w : Work) → e.work ≡ w → IsAsked (past_of past) scripts e w
+  is_asked : (front es : List Entry) (e : Entry) → h.added ≡ front ++ e ∷ es → IsNext grid (past ++ front) e → (w : Work) → e.work ≡ w → IsRequested (past_of past) scripts e w
   is_asked front es e is next (Seats c) work =
       let may : MayAsk e.session (Seats c) = subst (MayAsk e.session) work next.session in
       has_request front es e is next may.0 may.1
   is_asked front es e is next (Limit c) work = tt
 
-  have_requests : (front es : List Entry) → h.added ≡ front ++ es → IsLegalAfter grid (past ++ front) es → AllByRecursion (λ (e : Entry). IsAsked (past_of past) scripts e e.work) es
+  have_requests : (front es : List Entry) → h.added ≡ front ++ es → IsLegalAfter grid (past ++ front) es → AllByRecursion (λ (e : Entry). IsRequested (past_of past) scripts e e.work) es
   have_requests front [] is legal = tt
   have_requests front (e ∷ es) is legal = (
     is_asked front es e is legal.0 e.work refl,
@@ -183,7 +183,7 @@ module _ (grid : Legs) (past : List Entry) (flights : List Flown) (changes : Lis
         (subst (λ (l : List Entry). IsLegalAfter grid l es) (append_assoc past front (e ∷ [])) legal.1),
   )
 
-  all_asked : AllByRecursion (λ (e : Entry). IsAsked (past_of past) scripts e e.work) h.added
+  all_asked : AllByRecursion (λ (e : Entry). IsRequested (past_of past) scripts e e.work) h.added
   all_asked =
       let none : past ++ [] ≡ past = append-nil past in
       have_requests [] h.added refl (subst (λ (l : List Entry). IsLegalAfter grid l h.added) (sym none)
@@ -211,7 +211,7 @@ module _ (grid : Legs) (past : List Entry) (flights : List Flown) (changes : Lis
   each_advised g [] told = tt
   each_advised g (a ∷ advices) told = (booked g a.number told.0, each_advised g advices told.1)
 
-  answer_each : IsGridOf flights grid → (lines : List Entry) → AllByRecursion (λ (e : Entry). IsAsked (past_of past) scripts e e.work) lines → AreAdvised grid history lines
+  answer_each : IsGridOf flights grid → (lines : List Entry) → AllByRecursion (λ (e : Entry). IsRequested (past_of past) scripts e e.work) lines → AreAdvised grid history lines
       → AllByRecursion (IsAnswerable flights (past_of past) scripts history) lines
   answer_each g [] asked told = tt
   answer_each g (e ∷ es) asked told = (
@@ -266,7 +266,7 @@ module _ (grid : Legs) (past : List Entry) (flights : List Flown) (changes : Lis
 
 -- ---- the same, said of what the host was asked and what it gave
 
-module _ (grid : Legs) (past : List Entry) (flights : List Flown) (changes : List Change) (scripts : List (List Request)) (history slice : List Entry) (before : Past)
+module _ (grid : Ladders) (past : List Entry) (flights : List Flown) (changes : List Change) (scripts : List (List Request)) (history slice : List Entry) (before : Past)
     (lists : List (List Command)) (receipts : List (List Entry)) (few : length scripts ≤ 8) (known : before ≡ past_of past) (asked : lists ≡ lists_over past (map (commands_of flights) scripts))
     (same : slice ≡ history) (own : receipts ≡ by_session (length lists) history) where
   abbrev opened_lists : List (List Command)

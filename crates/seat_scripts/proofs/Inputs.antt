@@ -4,7 +4,7 @@ use Rattle.airimp_lines.specs.declared.requests.Request.{Request}
 use Rattle.ssim_flights.specs.declared.flight.Flight.{Flight as Flown}
 use Rattle.seat_journal.specs.declared.entry.Change.{Change}
 use Rattle.seat_journal.specs.declared.entry.Entry.{Entry}
-use Rattle.seat_nesting.specs.Nesting.{Legs}
+use Rattle.seat_nesting.specs.Nesting.{Ladders}
 use Rattle.seat_desk.specs.AuditDesk.{most_journal_bytes}
 use Rattle.seat_desk.specs.Loading.{IsFirstTooLargeLoad, IsLoaded}
 use Rattle.seat_scripts.specs.Asked.{HasLoaded, HasPast, HasScripts, IsAsked, IsTooLargeRun, OfThree}
@@ -35,7 +35,7 @@ module _ (set limits after : Option (List ℕ)) (first days today : ℕ) (texts 
   pub large_load : IfSome set (λ xs. IfSome limits (λ ys. IsFirstTooLargeLoad xs ys first days)) → IsLarge
   large_load over = if_loaded (λ xs ys. IsFirstTooLargeLoad xs ys first days) (λ xs ys zs. IsTooLargeRun xs ys first days today zs texts changing) set limits after (λ xs ys zs is. inl is) over
 
-  module _ (flights : List Flown) (grid : Legs) (loaded : IfSome set (λ xs. IfSome limits (λ ys. IsLoaded xs ys first days flights grid))) where
+  module _ (flights : List Flown) (grid : Ladders) (loaded : IfSome set (λ xs. IfSome limits (λ ys. IsLoaded xs ys first days flights grid))) where
     has_loaded : IfSome set (λ xs. IfSome limits (λ ys. HasLoaded xs ys first days))
     has_loaded = by set limits loaded where
       by : (s l : Option (List ℕ)) → IfSome s (λ xs. IfSome l (λ ys. IsLoaded xs ys first days flights grid)) → IfSome s (λ xs. IfSome l (λ ys. HasLoaded xs ys first days))
@@ -82,9 +82,9 @@ module _ (set limits after : Option (List ℕ)) (first days today : ℕ) (texts 
         changes_fail load past script changes failed = inr (inr (inr (has_scripts, failed)))
 
         -- all is right
-        pub asked_of : (now : Legs) (changes : List Change) → now ≡ grid → IfSome changing (AreChanges flights changes)
+        pub asked_of : (now : Ladders) (changes : List Change) → now ≡ grid → IfSome changing (AreChanges flights changes)
             → OfThree set limits after (λ xs ys zs. IsAsked xs ys first days today zs texts changing flights now past scripts changes)
         asked_of now changes same may =
-            subst (λ (g : Legs). OfThree set limits after (λ xs ys zs. IsAsked xs ys first days today zs texts changing flights g past scripts changes)) (sym same)
+            subst (λ (g : Ladders). OfThree set limits after (λ xs ys zs. IsAsked xs ys first days today zs texts changing flights g past scripts changes)) (sym same)
             (if_known (λ xs ys. IsLoaded xs ys first days flights grid) (IsPast grid past) (λ xs ys zs. IsAsked xs ys first days today zs texts changing flights grid past scripts changes) set limits after
             (λ xs ys zs is was. record { is_loaded = is; is_past = was; are_scripts = are; are_changes = may }) loaded before)

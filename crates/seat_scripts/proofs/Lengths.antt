@@ -4,7 +4,7 @@ use Rattle.std.specs.List.{AllByRecursion, flat_map}
 use Rattle.std.proofs.lemmas.Fmt.{length-decimal-le}
 use Rattle.airline_base.proofs.LeadingFields.{length_code, length_locator}
 use Rattle.airline_base.specs.declared.place.Place.{Place}
-use Rattle.seat_nesting.specs.Nesting.{Legs}
+use Rattle.seat_nesting.specs.Nesting.{Ladders}
 use Rattle.seat_journal.specs.Text.{IsAdvice, IsChange, IsCommand, IsEntry, IsPlace, IsStem, IsWork, advice_text, blank, change_text, colon, dot, newline, command_text, end_text, entry_text, head_text, journal_text, place_text, stem_text, wanted_text, work_text}
 use Rattle.seat_journal.specs.declared.entry.Advice.{Advice}
 use Rattle.seat_journal.specs.declared.entry.Change.{Change}
@@ -43,7 +43,7 @@ waiting_one Held e = cc
 waiting_one Waiting e = refl
 
 -- what a pass tells, it takes from those that wait
-pass_waits : (grid : Legs) (done : List Booking) (told : List Advice) (bs : List Booking)
+pass_waits : (grid : Ladders) (done : List Booking) (told : List Advice) (bs : List Booking)
     → waits (pass grid done told bs).bookings + length (pass grid done told bs).advices ≡ waits done + length told + waits bs
 pass_waits grid done told [] = omega arith
 pass_waits grid done told (b ∷ bs) =
@@ -99,10 +99,10 @@ advices_append : (xs ys : List Entry) → advices_in (xs ++ ys) ≡ advices_in x
 advices_append [] ys = omega arith
 advices_append (x ∷ xs) ys = omega (arith, advices_append xs ys)
 
-record IsFew (grid : Legs) (history : List Entry) : Type 0 where
+record IsFew (grid : Ladders) (history : List Entry) : Type 0 where
   few : waits (replay grid history).bookings + advices_in history ≤ length history
 
-few_next : (grid : Legs) (past : List Entry) (e : Entry) → IsLegal grid past → IsNext grid past e → IsFew grid past → IsFew grid (past ++ e ∷ [])
+few_next : (grid : Ladders) (past : List Entry) (e : Entry) → IsLegal grid past → IsNext grid past e → IsFew grid past → IsFew grid (past ++ e ∷ [])
 few_next grid past e legal next before =
     let o : Outcome = answer (replay grid past) e.number e.work in
     let number : e.number ≡ length past + 1 = ap (λ (x : Entry). x.number) next.line in
@@ -112,7 +112,7 @@ few_next grid past e legal next before =
     let step = (answer_waits (replay grid past) e.number e.work).few in
     record { few = omega (arith, before.few, step, same, left, advices_append past (e ∷ []), length-append past (e ∷ [])) }
 
-few_advices : (grid : Legs) (history : List Entry) → IsLegal grid history → advices_in history ≤ length history
+few_advices : (grid : Ladders) (history : List Entry) → IsLegal grid history → advices_in history ≤ length history
 few_advices grid history legal =
     let few = (each_legal grid (IsFew grid) (few_next grid) [] history (record { few = omega arith }) legal).few in
     omega (arith, few)
@@ -236,7 +236,7 @@ unfolding end_text
 end_short count lt = omega (arith, length-append (codes "END ") (decimal count ++ newline ∷ []), length-append (decimal count) (newline ∷ []), ten count lt)
 
 -- the text of a legal history of so many lines is not too large
-pub text_short : (grid : Legs) (history : List Entry) → IsLegal grid history → AllByRecursion IsEntry history → length history ≤ most_lines → length (journal_text history) ≤ most_journal_bytes
+pub text_short : (grid : Ladders) (history : List Entry) → IsLegal grid history → AllByRecursion IsEntry history → length history ≤ most_lines → length (journal_text history) ≤ most_journal_bytes
 unfolding journal_text
 text_short grid history legal are few =
     let count : length history < 2 ^ 32 = omega (arith, few) in

@@ -10,7 +10,7 @@ use Rattle.ssim_flights.specs.declared.flight.DatedLeg.{DatedLeg}
 use Rattle.ssim_flights.specs.declared.flight.Flight.{Flight as Flown}
 use Rattle.ssim_flights.specs.declared.flight.Wanted.{Wanted}
 use Rattle.seat_limits.specs.Authorised.{authorised_grid, authorised_legs}
-use Rattle.seat_nesting.specs.Nesting.{Fits, Legs, legs_of}
+use Rattle.seat_nesting.specs.Nesting.{Fits, Ladders, legs_of}
 use Rattle.seat_limits.specs.declared.limit_row.LimitRow.{LimitRow}
 use Rattle.std.specs.Map.{lookup}
 use Rattle.std.specs.Option.{option_map}
@@ -85,30 +85,30 @@ served rows flights wanted =
     let here : i ≡ 0 + i = omega arith in
     subst (λ (k : ℕ). Fits (authorised_grid rows flights) (place k f t)) here (low, omega (arith, high, same))))
 
-command_fits : (flights : List Flown) (grid : Legs) (r : Request) → IsGridOf flights grid → IsRightSegment r.segment → FitsCommand grid (command_of flights r)
+command_fits : (flights : List Flown) (grid : Ladders) (r : Request) → IsGridOf flights grid → IsRightSegment r.segment → FitsCommand grid (command_of flights r)
 command_fits flights grid r g right =
     let few : r.segment.seats < 1000 = right.seats.1 in
     let low : 0 < r.segment.seats = right.seats.0 in
-    (omega (arith, low), omega (arith, few), subst (λ (l : Legs). IfSome (place_wanted flights (wanted_of r.segment)) (Fits l)) (sym g.is) (served g.rows flights (wanted_of r.segment)))
+    (omega (arith, low), omega (arith, few), subst (λ (l : Ladders). IfSome (place_wanted flights (wanted_of r.segment)) (Fits l)) (sym g.is) (served g.rows flights (wanted_of r.segment)))
 
-commands_fit : (flights : List Flown) (grid : Legs) (requests : List Request) → IsGridOf flights grid → All (λ (r : Request). IsRightSegment r.segment) requests
+commands_fit : (flights : List Flown) (grid : Ladders) (requests : List Request) → IsGridOf flights grid → All (λ (r : Request). IsRightSegment r.segment) requests
     → AllByRecursion (FitsCommand grid) (commands_of flights requests)
 commands_fit flights grid [] g right = tt
 commands_fit flights grid (r ∷ requests) g right =
     (command_fits flights grid r g (right 0 r (omega arith)), commands_fit flights grid requests g (λ k d lt. right (suc k) d (omega (arith, lt))))
 
-lists_fit : (flights : List Flown) (grid : Legs) (scripts : List (List Request)) → IsGridOf flights grid → AllByRecursion AreRight scripts
+lists_fit : (flights : List Flown) (grid : Ladders) (scripts : List (List Request)) → IsGridOf flights grid → AllByRecursion AreRight scripts
     → AllByRecursion (λ (list : List Command). All (λ (c : Command). FitsCommand grid c) list) (map (commands_of flights) scripts)
 lists_fit flights grid [] g right = tt
 lists_fit flights grid (requests ∷ scripts) g right =
     (all_of (FitsCommand grid) (commands_of flights requests) (commands_fit flights grid requests g right.0.each), lists_fit flights grid scripts g right.1)
 
-idle_fit : (grid : Legs) (n : ℕ) → AllByRecursion (λ (list : List Command). All (λ (c : Command). FitsCommand grid c) list) (idle n)
+idle_fit : (grid : Ladders) (n : ℕ) → AllByRecursion (λ (list : List Command). All (λ (c : Command). FitsCommand grid c) list) (idle n)
 idle_fit grid zero = tt
 idle_fit grid (suc n) = (λ k d lt. absurd (omega (arith, lt)), idle_fit grid n)
 
 -- what right scripts ask fits the grid, and so does nothing
-pub all_fit_grid : (flights : List Flown) (grid : Legs) (past : List Entry) (scripts : List (List Request)) (lists : List (List Command)) → IsGridOf flights grid → AllByRecursion AreRight scripts
+pub all_fit_grid : (flights : List Flown) (grid : Ladders) (past : List Entry) (scripts : List (List Request)) (lists : List (List Command)) → IsGridOf flights grid → AllByRecursion AreRight scripts
     → lists ≡ lists_over past (map (commands_of flights) scripts) → All (λ (list : List Command). All (λ (c : Command). FitsCommand grid c) list) lists
 all_fit_grid flights grid past scripts lists g right is =
     let fit : List Command → Type 0 = λ list. All (λ (c : Command). FitsCommand grid c) list in
@@ -125,10 +125,10 @@ opened_few flights past scripts lists count is =
 
 -- ---- changes
 
-change_fits : (flights : List Flown) (grid : Legs) (c : Change) → IsGridOf flights grid → IsOnLeg flights c → FitsChange grid c
+change_fits : (flights : List Flown) (grid : Ladders) (c : Change) → IsGridOf flights grid → IsOnLeg flights c → FitsChange grid c
 change_fits flights grid c g on =
     let fits : Fits (authorised_grid g.rows flights) on.place = subst (λ (o : Option Place). IfSome o (Fits (authorised_grid g.rows flights))) on.serves (served g.rows flights on.wanted) in
-    let there : on.place.to < length (legs_of grid on.place.flight) = subst (λ (l : Legs). on.place.to < length (legs_of l on.place.flight)) (sym g.is) fits.1 in
+    let there : on.place.to < length (legs_of grid on.place.flight) = subst (λ (l : Ladders). on.place.to < length (legs_of l on.place.flight)) (sym g.is) fits.1 in
     let same : c.leg ≡ on.place.to = on.leg_is ∙ on.one_leg in
     record {
       there = subst (λ (f : ℕ). c.leg < length (legs_of grid f)) (sym on.flight_is) (subst (λ (k : ℕ). k < length (legs_of grid on.place.flight)) (sym same) there);
@@ -136,12 +136,12 @@ change_fits flights grid c g on =
       wait_most = on.wait_most;
     }
 
-each_fits : (flights : List Flown) (grid : Legs) (changes : List Change) → IsGridOf flights grid → AllByRecursion (IsOnLeg flights) changes
+each_fits : (flights : List Flown) (grid : Ladders) (changes : List Change) → IsGridOf flights grid → AllByRecursion (IsOnLeg flights) changes
     → AllByRecursion (λ (c : Change). FitsChange grid c) changes
 each_fits flights grid [] g on = tt
 each_fits flights grid (c ∷ changes) g on = (change_fits flights grid c g on.0, each_fits flights grid changes g on.1)
 
 -- what is on legs of the flights fits the grid
-pub changes_fit : (flights : List Flown) (grid : Legs) (changes : List Change) → IsGridOf flights grid → AllByRecursion (IsOnLeg flights) changes
+pub changes_fit : (flights : List Flown) (grid : Ladders) (changes : List Change) → IsGridOf flights grid → AllByRecursion (IsOnLeg flights) changes
     → All (λ (c : Change). FitsChange grid c) changes
 changes_fit flights grid changes g on = all_of (λ (c : Change). FitsChange grid c) changes (each_fits flights grid changes g on)

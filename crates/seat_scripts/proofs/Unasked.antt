@@ -7,7 +7,7 @@ use Rattle.ssim_records.proofs.SetLaws.{one_data_set}
 use Rattle.airimp_lines.specs.declared.requests.Request.{Request}
 use Rattle.airimp_lines.proofs.Uniqueness.{one_script}
 use Rattle.ssim_flights.specs.declared.flight.Flight.{Flight as Flown}
-use Rattle.seat_nesting.specs.Nesting.{Legs}
+use Rattle.seat_nesting.specs.Nesting.{Ladders}
 use Rattle.seat_journal.specs.declared.entry.Command.{Command}
 use Rattle.seat_journal.specs.declared.entry.Entry.{Entry}
 use Rattle.seat_journal.specs.declared.entry.Work.{Work}
@@ -21,7 +21,7 @@ use Rattle.seat_desk.specs.declared.fault.DeskFault.TheVariants.{Unasked}
 use Rattle.seat_scripts.specs.Against.{AreAsked, AreAskedBehind, AuditsBehindNoLines, DifferAt, IsNoBeginning, IsUnasked, IsUnaskedBehind, UnaskedIsNotAudited, done_by}
 use Rattle.seat_scripts.specs.Requests.{AreScripts, commands_of}
 
-one_schedule : (set limits : List ℕ) (first days : ℕ) (flights flights' : List Flown) (grid grid' : Legs)
+one_schedule : (set limits : List ℕ) (first days : ℕ) (flights flights' : List Flown) (grid grid' : Ladders)
     → IsLoadedGrid set limits first days flights grid → IsLoadedGrid set limits first days flights' grid' → flights ≡ flights'
 one_schedule set limits first days flights flights' grid grid' a b =
     let sets : a.is_schedule.set ≡ b.is_schedule.set = one_data_set most_records most_records set a.is_schedule.set b.is_schedule.set a.is_schedule.is_set b.is_schedule.is_set in

@@ -6,7 +6,7 @@ use Rattle.ssim_flights.specs.declared.flight.Flight.{Flight as Flown}
 use Rattle.seat_journal.specs.Text.{IsEntry, journal_text}
 use Rattle.seat_journal.specs.declared.entry.Change.{Change}
 use Rattle.seat_journal.specs.declared.entry.Entry.{Entry}
-use Rattle.seat_nesting.specs.Nesting.{Legs}
+use Rattle.seat_nesting.specs.Nesting.{Ladders}
 use Rattle.seat_desk.specs.AuditDesk.{IsUnlawful}
 use Rattle.seat_desk.specs.Loading.{IsLoaded, IsRefusedLoad}
 use Rattle.seat_scripts.specs.Asked.{IsAsked, OfThree}
@@ -32,12 +32,12 @@ if_three P Q (Some xs) None after give all = tt
 if_three P Q None limits after give all = tt
 
 -- the history of what is asked behind the past, its receipts, and its replies
-pub record IsBooked (flights : List Flown) (grid : Legs) (past : List Entry) (scripts : List (List Request)) (changes : List Change) (history : List Entry) (receipts : List (List Entry)) (replies : List ℕ) : Type 0 where
+pub record IsBooked (flights : List Flown) (grid : Ladders) (past : List Entry) (scripts : List (List Request)) (changes : List Change) (history : List Entry) (receipts : List (List Entry)) (replies : List ℕ) : Type 0 where
   pub is_history : IsHistoryOf grid past changes (lists_over past (map (commands_of flights) scripts)) history receipts
   pub are_entries : AllByRecursion IsEntry history
   pub is_replied : IsReplied flights past scripts history receipts replies
 
-module _ (set limits after : Option (List ℕ)) (first days today : ℕ) (texts : List (Option (List ℕ))) (changing : Option (List ℕ)) (flights : List Flown) (grid : Legs) (past : List Entry) (scripts : List (List Request)) (changes : List Change)
+module _ (set limits after : Option (List ℕ)) (first days today : ℕ) (texts : List (Option (List ℕ))) (changing : Option (List ℕ)) (flights : List Flown) (grid : Ladders) (past : List Entry) (scripts : List (List Request)) (changes : List Change)
     (asked : OfThree set limits after (λ xs ys zs. IsAsked xs ys first days today zs texts changing flights grid past scripts changes))
     (history : List Entry) (receipts : List (List Entry)) (replies : List ℕ) (booked : IsBooked flights grid past scripts changes history receipts replies) where
   is_run : (xs ys zs : List ℕ) → IsAsked xs ys first days today zs texts changing flights grid past scripts changes → IsRun xs ys first days today zs texts changing (journal_text history) replies
@@ -111,7 +111,7 @@ module _ (set limits after : Option (List ℕ)) (first days today : ℕ) (texts 
       }))
       stopped)
 
-module _ (first days today : ℕ) (after : List ℕ) (texts : List (Option (List ℕ))) (changing : Option (List ℕ)) (flights : List Flown) (grid : Legs) where
+module _ (first days today : ℕ) (after : List ℕ) (texts : List (Option (List ℕ))) (changing : Option (List ℕ)) (flights : List Flown) (grid : Ladders) where
   of_past : (set limits : List ℕ) (fault : DeskFault) → IsLoaded set limits first days flights grid → IsUnlawful grid fault after → IsRefusedRun set limits first days today after texts changing fault
   of_past set limits (Journal fault) loaded unlawful = record { refusal = record { flights = flights; grid = grid; is_loaded = loaded; is_unlawful = unlawful } }
   of_past set limits (Replay fault) loaded unlawful = record { refusal = record { flights = flights; grid = grid; is_loaded = loaded; is_unlawful = unlawful } }
@@ -131,7 +131,7 @@ module _ (first days today : ℕ) (after : List ℕ) (texts : List (Option (List
       record { refusal = record { flights = flights; grid = grid; is_loaded = loaded; past = past; is_past = before; scripts = scripts; are_scripts = are; is_refused = refused } }
   of_changes set limits past scripts _ loaded before are of refused = absurd of
 
-of_calls : (set limits : List ℕ) (first days today : ℕ) (after : List ℕ) (texts : List (Option (List ℕ))) (changing : Option (List ℕ)) (flights : List Flown) (grid : Legs) (past : List Entry) (scripts : List (List Request)) (changes : List Change) (fault : DeskFault)
+of_calls : (set limits : List ℕ) (first days today : ℕ) (after : List ℕ) (texts : List (Option (List ℕ))) (changing : Option (List ℕ)) (flights : List Flown) (grid : Ladders) (past : List Entry) (scripts : List (List Request)) (changes : List Change) (fault : DeskFault)
     → IsAsked set limits first days today after texts changing flights grid past scripts changes → IsUnbooked grid past changes (lists_over past (map (commands_of flights) scripts)) fault
     → IsRefusedRun set limits first days today after texts changing fault
 of_calls set limits first days today after texts changing flights grid past scripts changes (Book session call) asked unbooked =
@@ -143,14 +143,14 @@ module _ (set limits after : Option (List ℕ)) (first days today : ℕ) (texts 
   IsRefused fault = OfThree set limits after (λ xs ys zs. IsRefusedRun xs ys first days today zs texts changing fault)
 
   -- a fault of the older journal is one of the run
-  pub run_unread : (flights : List Flown) (grid : Legs) (fault : DeskFault) → IfSome set (λ xs. IfSome limits (λ ys. IsLoaded xs ys first days flights grid))
+  pub run_unread : (flights : List Flown) (grid : Ladders) (fault : DeskFault) → IfSome set (λ xs. IfSome limits (λ ys. IsLoaded xs ys first days flights grid))
       → (IsOfInput fault → IfSome after (IsUnlawful grid fault)) → IsOfInput fault → IsRefused fault
   run_unread flights grid fault loaded refused input =
       if_known (λ xs ys. IsLoaded xs ys first days flights grid) (IsUnlawful grid fault) (λ xs ys zs. IsRefusedRun xs ys first days today zs texts changing fault) set limits after
       (λ xs ys zs is unlawful. of_past first days today zs texts changing flights grid xs ys fault is unlawful) loaded (refused input)
 
   -- so is a fault of a script
-  pub run_refused : (flights : List Flown) (grid : Legs) (past : List Entry) (fault : DeskFault)
+  pub run_refused : (flights : List Flown) (grid : Ladders) (past : List Entry) (fault : DeskFault)
       → IfSome set (λ xs. IfSome limits (λ ys. IsLoaded xs ys first days flights grid)) → IfSome after (IsPast grid past)
       → (IsOfInput fault → IsOfScript fault) → (IsOfInput fault → IsRefusedAmong today 1 texts fault) → IsOfInput fault → IsRefused fault
   run_refused flights grid past fault loaded before script refused input =
@@ -158,7 +158,7 @@ module _ (set limits after : Option (List ℕ)) (first days today : ℕ) (texts 
       (λ xs ys zs is was. of_scripts first days today zs texts changing flights grid xs ys past fault is was (script input) (refused input)) loaded before
 
   -- so is a fault of the changes
-  pub run_unchanged : (flights : List Flown) (grid : Legs) (past : List Entry) (scripts : List (List Request)) (fault : DeskFault)
+  pub run_unchanged : (flights : List Flown) (grid : Ladders) (past : List Entry) (scripts : List (List Request)) (fault : DeskFault)
       → IfSome set (λ xs. IfSome limits (λ ys. IsLoaded xs ys first days flights grid)) → IfSome after (IsPast grid past) → AreScripts today texts scripts
       → (IsOfInput fault → IsOfChanges fault) → (IsOfInput fault → IfSome changing (IsUnchanged flights fault)) → IsOfInput fault → IsRefused fault
   run_unchanged flights grid past scripts fault loaded before are of refused input =
@@ -166,7 +166,7 @@ module _ (set limits after : Option (List ℕ)) (first days today : ℕ) (texts 
       (λ xs ys zs is was. of_changes first days today zs texts changing flights grid xs ys past scripts fault is was are (of input) (refused input)) loaded before
 
   -- and so is a call that was not booked
-  pub run_unbooked : (flights : List Flown) (grid : Legs) (past : List Entry) (scripts : List (List Request)) (changes : List Change) (fault : DeskFault)
+  pub run_unbooked : (flights : List Flown) (grid : Ladders) (past : List Entry) (scripts : List (List Request)) (changes : List Change) (fault : DeskFault)
       → OfThree set limits after (λ xs ys zs. IsAsked xs ys first days today zs texts changing flights grid past scripts changes)
       → (fault ≢ Memory → IsUnbooked grid past changes (lists_over past (map (commands_of flights) scripts)) fault) → IsOfInput fault → IsRefused fault
   run_unbooked flights grid past scripts changes fault asked unbooked input =

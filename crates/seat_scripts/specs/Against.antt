@@ -4,7 +4,7 @@ use Rattle.std.specs.Cmp.Lexicographic.{pointwise}
 use Rattle.std.specs.Option.{option_eq}
 use Rattle.airimp_lines.specs.declared.requests.Request.{Request}
 use Rattle.ssim_flights.specs.declared.flight.Flight.{Flight as Flown}
-use Rattle.seat_nesting.specs.Nesting.{Legs}
+use Rattle.seat_nesting.specs.Nesting.{Ladders}
 use Rattle.seat_journal.specs.Text.{IsJournalText}
 use Rattle.seat_journal.specs.declared.entry.Change.{Change}
 use Rattle.seat_journal.specs.declared.entry.Command.{Command}
@@ -110,14 +110,14 @@ same_change a b = (a.flight == b.flight) && (a.leg == b.leg) && (a.class == b.cl
 -- ---- the whole
 
 -- the bytes are not too large, and replay to this inventory
-pub record IsReplayWithin (grid : Legs) (core : Inventory) (bytes : List ℕ) : Type 0 where
+pub record IsReplayWithin (grid : Ladders) (core : Inventory) (bytes : List ℕ) : Type 0 where
   pub within : length bytes ≤ most_journal_bytes
   pub is_replay : IsReplayOf grid bytes core
 
 -- the line audits the journal over the loaded grid; the journal goes on from the older one, and behind its lines those of each session are the requests of its script, in order, each on the place that is wanted
 pub record IsAuditAgainst (set limits : List ℕ) (first days : ℕ) (after journal : List ℕ) (today : ℕ) (texts : List (Option (List ℕ))) (line : List ℕ) : Type 0 where
   pub flights : List Flown
-  pub grid : Legs
+  pub grid : Ladders
   pub is_loaded : IsLoaded set limits first days flights grid
   pub older : Inventory
   pub is_older : IsReplayWithin grid older after
@@ -138,7 +138,7 @@ IsAuditAgainstOf set limits inputs after journal today texts line =
 -- the older journal is right, and the fault is that of the journal
 pub record IsUnlawfulBeside (set limits : List ℕ) (first days : ℕ) (after journal : List ℕ) (fault : DeskFault) : Type 0 where
   pub flights : List Flown
-  pub grid : Legs
+  pub grid : Ladders
   pub is_loaded : IsLoaded set limits first days flights grid
   pub older : Inventory
   pub is_older : IsReplayWithin grid older after
@@ -147,7 +147,7 @@ pub record IsUnlawfulBeside (set limits : List ℕ) (first days : ℕ) (after jo
 -- both journals are right, and the fault is that of the first script that is none
 pub record IsNoScriptBeside (set limits : List ℕ) (first days : ℕ) (after journal : List ℕ) (today : ℕ) (texts : List (Option (List ℕ))) (fault : DeskFault) : Type 0 where
   pub flights : List Flown
-  pub grid : Legs
+  pub grid : Ladders
   pub is_loaded : IsLoaded set limits first days flights grid
   pub older : Inventory
   pub is_older : IsReplayWithin grid older after
@@ -158,7 +158,7 @@ pub record IsNoScriptBeside (set limits : List ℕ) (first days : ℕ) (after jo
 -- the journals and the scripts are right, but the journal does not begin with the older lines, or the lines behind them are not what the scripts ask for, and the fault names where they differ first
 pub record IsUnaskedBeside (set limits : List ℕ) (first days : ℕ) (after journal : List ℕ) (today : ℕ) (texts : List (Option (List ℕ))) (fault : DeskFault) : Type 0 where
   pub flights : List Flown
-  pub grid : Legs
+  pub grid : Ladders
   pub is_loaded : IsLoaded set limits first days flights grid
   pub older : Inventory
   pub is_older : IsReplayWithin grid older after
@@ -185,7 +185,7 @@ pub record IsRefusedAgainst (set limits : List ℕ) (first days : ℕ) (after jo
 -- as far as the inputs are right: the set, the limits and the older journal
 pub record HasOlder (set limits : List ℕ) (first days : ℕ) (after : List ℕ) : Type 0 where
   pub flights : List Flown
-  pub grid : Legs
+  pub grid : Ladders
   pub is_loaded : IsLoaded set limits first days flights grid
   pub older : Inventory
   pub is_older : IsReplayWithin grid older after
@@ -193,7 +193,7 @@ pub record HasOlder (set limits : List ℕ) (first days : ℕ) (after : List ℕ
 -- and the journal
 pub record HasBoth (set limits : List ℕ) (first days : ℕ) (after journal : List ℕ) : Type 0 where
   pub flights : List Flown
-  pub grid : Legs
+  pub grid : Ladders
   pub is_loaded : IsLoaded set limits first days flights grid
   pub older : Inventory
   pub is_older : IsReplayWithin grid older after

@@ -20,9 +20,9 @@ pub record HasRequest (past : Past) (scripts : List (List Request)) (e : Entry) 
   pub call : (slice_index past.calls e.session < e.call) × (e.call - slice_index past.calls e.session ≤ length script)
 
 -- seats are asked by a request; a change has none
-abbrev pub IsAsked : Past → List (List Request) → Entry → Work → Type 0
-IsAsked past scripts e (Seats command) = HasRequest past scripts e
-IsAsked past scripts e (Limit change) = Unit {0}
+abbrev pub IsRequested : Past → List (List Request) → Entry → Work → Type 0
+IsRequested past scripts e (Seats command) = HasRequest past scripts e
+IsRequested past scripts e (Limit change) = Unit {0}
 
 -- the line of this number asks for seats on legs that are flown
 pub record IsBooked (flights : List Flown) (history : List Entry) (number : ℕ) : Type 0 where
@@ -39,7 +39,7 @@ pub record AreBooked (flights : List Flown) (history : List Entry) (advices : Li
   pub each : All (λ (a : Advice). IsBooked flights history a.number) advices
 
 pub record IsAnswerable (flights : List Flown) (past : Past) (scripts : List (List Request)) (history : List Entry) (e : Entry) : Type 0 where
-  pub asked : IsAsked past scripts e e.work
+  pub asked : IsRequested past scripts e e.work
   pub advised : AreBooked flights history e.advices
 
 pub record AreAnswerable (flights : List Flown) (past : Past) (scripts : List (List Request)) (history lines : List Entry) : Type 0 where

@@ -1,7 +1,7 @@
 -- A run that goes on from a journal without lines, as one does that goes on from no other.
 use Rattle.std.specs.Prelude.{◌≡◌, ℕ, List, [], length, map, Option}
 use Rattle.airimp_lines.specs.declared.requests.Request.{Request}
-use Rattle.seat_nesting.specs.Nesting.{Legs}
+use Rattle.seat_nesting.specs.Nesting.{Ladders}
 use Rattle.seat_journal.specs.Text.{IsJournalText}
 use Rattle.seat_journal.specs.declared.entry.Change.{Change}
 use Rattle.seat_journal.specs.declared.entry.Command.{Command}
@@ -15,7 +15,7 @@ use Rattle.seat_scripts.specs.Requests.{commands_of}
 use Rattle.seat_scripts.specs.RunDesk.{AreReplies, IsRun, works_in, works_of}
 
 -- the whole history is asked for: its lines of session 0 are the changes, in order, those of session 1 the first list, and so on, and the replies answer all of it
-pub record IsFirst (grid : Legs) (flights : List Flown) (changes : List Change) (scripts : List (List Request)) (lists : List (List Command)) (history : List Entry) (receipts : List (List Entry)) (replies : List ℕ) : Type 0 where
+pub record IsFirst (grid : Ladders) (flights : List Flown) (changes : List Change) (scripts : List (List Request)) (lists : List (List Command)) (history : List Entry) (receipts : List (List Entry)) (replies : List ℕ) : Type 0 where
   pub headline : Headline grid most_lines (length lists) history receipts (totals_of history)
   pub asked : map works_in (by_session (length lists) history) ≡ works_of changes lists
   pub are_replies : AreReplies flights [] scripts history replies

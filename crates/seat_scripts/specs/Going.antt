@@ -7,13 +7,13 @@ use Rattle.airimp_lines.specs.declared.segment.Segment.{Segment}
 use Rattle.seat_journal.specs.Text.{IsJournalText}
 use Rattle.seat_journal.specs.declared.entry.Command.{Command}
 use Rattle.seat_journal.specs.declared.entry.Entry.{Entry}
-use Rattle.seat_nesting.specs.Nesting.{Legs}
+use Rattle.seat_nesting.specs.Nesting.{Ladders}
 use Rattle.seat_rules.specs.Journal.{IsLegal, calls_of}
 use Rattle.seat_desk.specs.AuditDesk.{most_journal_bytes, most_lines}
 use Rattle.seat_scripts.specs.declared.past.Past.{Past}
 
 -- the bytes are the text of this legal history over the limits, and not too many
-pub record IsPast (grid : Legs) (past : List Entry) (bytes : List ℕ) : Type 0 where
+pub record IsPast (grid : Ladders) (past : List Entry) (bytes : List ℕ) : Type 0 where
   pub within : length bytes ≤ most_journal_bytes
   pub is_text : IsJournalText bytes past
   pub legal : IsLegal grid past

@@ -5,7 +5,7 @@ use Rattle.std.specs.List.{AllByRecursion, AllZip}
 use Rattle.std.specs.Option.{option_map}
 use Rattle.ssim_flights.specs.declared.flight.Flight.{Flight as Flown}
 use Rattle.airline_base.specs.Noting.{TookFront}
-use Rattle.seat_nesting.specs.Nesting.{Legs}
+use Rattle.seat_nesting.specs.Nesting.{Ladders}
 use Rattle.airimp_lines.specs.Grammar.{IsPlainLine, reply_of}
 use Rattle.airimp_lines.specs.declared.requests.Request.{Request}
 use Rattle.airimp_lines.specs.declared.segment.Segment.{Segment}
@@ -44,7 +44,7 @@ abbrev pub works_in : List Entry → List Work
 works_in lines = map (λ (e : Entry). e.work) lines
 
 -- a history that goes on from the past: the headline holds of it and of the receipts that the sessions were given, it begins with the past, and behind that the lines of session 0 are the changes, in order, those of session 1 the first list, and so on
-pub record IsHistoryOf (grid : Legs) (past : List Entry) (changes : List Change) (lists : List (List Command)) (history : List Entry) (receipts : List (List Entry)) : Type 0 where
+pub record IsHistoryOf (grid : Ladders) (past : List Entry) (changes : List Change) (lists : List (List Command)) (history : List Entry) (receipts : List (List Entry)) : Type 0 where
   pub headline : Headline grid most_lines (length lists) history receipts (totals_of history)
   pub added : List Entry
   pub goes_on : history ≡ past ++ added
@@ -158,7 +158,7 @@ pub record IsReplied (flights : List Flown) (past : List Entry) (scripts : List 
 -- the texts of one history that goes on from the older journal with what the scripts and the changes ask, over the grid of the set and the limits
 pub record IsRun (set limits : List ℕ) (first days today : ℕ) (after : List ℕ) (texts : List (Option (List ℕ))) (changing : Option (List ℕ)) (journal replies : List ℕ) : Type 0 where
   pub flights : List Flown
-  pub grid : Legs
+  pub grid : Ladders
   pub past : List Entry
   pub scripts : List (List Request)
   pub changes : List Change
@@ -232,7 +232,7 @@ pub record IsBookedTo (session place : ℕ) (lists booked : List (List Work)) : 
 
 -- more is asked than a journal has lines behind the past, and a call of a session was refused, which counts on from the session's
 -- calls of the past: a history that has as many lines as a journal may goes on from the past with what was booked of all that was asked
-pub record IsFull (grid : Legs) (past : List Entry) (changes : List Change) (lists : List (List Command)) (session call : ℕ) : Type 0 where
+pub record IsFull (grid : Ladders) (past : List Entry) (changes : List Change) (lists : List (List Command)) (session call : ℕ) : Type 0 where
   pub many : most_lines < length past + asked_in (works_of changes lists)
   pub list : List Work
   pub at : slice_get (works_of changes lists) session ≡ Some list
@@ -246,14 +246,14 @@ pub record IsFull (grid : Legs) (past : List Entry) (changes : List Change) (lis
   pub booked : IsBookedTo session (call - calls_of past session) (works_of changes lists) (map works_in (by_session (length lists) added))
 
 -- the fault is that of the first session that was not booked whole, at the call that was refused
-abbrev pub IsUnbooked : Legs → List Entry → List Change → List (List Command) → DeskFault → Type 0
+abbrev pub IsUnbooked : Ladders → List Entry → List Change → List (List Command) → DeskFault → Type 0
 IsUnbooked grid past changes lists (Book session call) = IsFull grid past changes lists session call
 IsUnbooked grid past changes lists _ = ⊥
 
 -- the set, the limits, the older journal, the scripts and the changes are right, and something that they ask was not booked
 pub record IsUnbookedOf (set limits : List ℕ) (first days today : ℕ) (after : List ℕ) (texts : List (Option (List ℕ))) (changing : Option (List ℕ)) (fault : DeskFault) : Type 0 where
   pub flights : List Flown
-  pub grid : Legs
+  pub grid : Ladders
   pub past : List Entry
   pub scripts : List (List Request)
   pub changes : List Change
@@ -263,7 +263,7 @@ pub record IsUnbookedOf (set limits : List ℕ) (first days today : ℕ) (after 
 -- the set, the limits, the older journal and the scripts are right, and the fault is that of the changes
 pub record IsUnchangedOf (set limits : List ℕ) (first days today : ℕ) (after : List ℕ) (texts : List (Option (List ℕ))) (changing : Option (List ℕ)) (fault : DeskFault) : Type 0 where
   pub flights : List Flown
-  pub grid : Legs
+  pub grid : Ladders
   pub is_loaded : IsLoaded set limits first days flights grid
   pub past : List Entry
   pub is_past : IsPast grid past after
@@ -274,7 +274,7 @@ pub record IsUnchangedOf (set limits : List ℕ) (first days today : ℕ) (after
 -- the set, the limits and the older journal are right, and the fault is that of the first script that is none
 pub record IsRefusedOf (set limits : List ℕ) (first days today : ℕ) (after : List ℕ) (texts : List (Option (List ℕ))) (fault : DeskFault) : Type 0 where
   pub flights : List Flown
-  pub grid : Legs
+  pub grid : Ladders
   pub is_loaded : IsLoaded set limits first days flights grid
   pub past : List Entry
   pub is_past : IsPast grid past after

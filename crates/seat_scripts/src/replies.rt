@@ -2,7 +2,7 @@
 ghost use Rattle.std.specs.Prelude.{◌≡◌, ◌++◌, Some, OnOk};
 ghost use Rattle.airimp_lines.specs.Grammar.{IsPlainLine, reply_of};
 ghost use Rattle.seat_desk.specs.FlightsDesk.{IsPut};
-ghost use Rattle.seat_scripts.specs.Answering.{AreBooked, HasRequest, IsAnswerable, IsAsked, IsBehind, IsBooked};
+ghost use Rattle.seat_scripts.specs.Answering.{AreBooked, HasRequest, IsAnswerable, IsRequested, IsBehind, IsBooked};
 ghost use Rattle.seat_scripts.specs.Going.{segment_at, segment_of};
 ghost use Rattle.seat_scripts.specs.RunDesk.{IsAdviceLine, IsAnswer, IsLineReply, IsReply, IsSeatsReply, at_any, booked_by, change_head, change_reply, leg_text, limit_text, line_head, of_command, of_request, of_work, reply_head, request_of};
 
@@ -48,7 +48,7 @@ fn put_line_reply(
     entry: &Entry,
     work: Work,
 ) -> Result<(), AllocError>
-    requires { IsAsked past.now scripts.now entry.now work }
+    requires { IsRequested past.now scripts.now entry.now work }
     ensures { OnOk result (IsBehind (IsLineReply past.now scripts.now entry.now work) text.old.items text.new.items) }
 {
     match work {

@@ -90,14 +90,14 @@ pub enum Job<'a> {
 
 /// A command line: the command that it names, and whether `-v` or `--verbose` stands ahead of it.
 #[derive(Drop)]
-pub struct Asked<'a> {
+pub struct CommandLine<'a> {
     pub job: Job<'a>,
     pub is_verbose: bool,
 }
 
 /// The command that the words name; the first word is the program's own name.
 /// An error is clap's: its help, its version, a fault of the words, or want of memory.
-pub fn read_words<'a>(alloc: Global, words: &'a [&'a str]) -> Result<Asked<'a>, Error>
+pub fn read_words<'a>(alloc: Global, words: &'a [&'a str]) -> Result<CommandLine<'a>, Error>
     ensures asks { IfOk result (λ asked.
         IsSomeAnd (subcommand_of seatdesk_app (texts words.entry.now)) (Asks asked.job)) }
     ensures verbose { IfOk result (λ asked.
@@ -110,7 +110,7 @@ pub fn read_words<'a>(alloc: Global, words: &'a [&'a str]) -> Result<Asked<'a>, 
     let matches = command.try_get_matches_from(words)?;
     let is_verbose = flag_of(&matches, "verbose");
     let job = job_of(alloc, &matches)?;
-    Ok(Asked { job, is_verbose })
+    Ok(CommandLine { job, is_verbose })
 }
 
 /// The fault of a word that is no value of its place, with the usage of the program. An error is want of memory.

@@ -11,6 +11,6 @@ mod several;
 
 pub use days::{date_word, days_word};
 pub use examples::examples_are_read;
-pub use job::{Asked, Horizon, Job, read_words, wrong_value};
+pub use job::{CommandLine, Horizon, Job, read_words, wrong_value};
 pub use names::{line_word, locator_word, pair_word};
 pub use several::Several;

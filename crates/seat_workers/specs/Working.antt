@@ -7,7 +7,7 @@ use Rattle.seat_journal.specs.declared.entry.Work.{Work}
 use Rattle.seat_journal.specs.declared.entry.Work.TheVariants.{Seats, Limit}
 use Rattle.seat_journal.specs.declared.entry.Entry.{Entry}
 use Rattle.logbook.specs.Pages.{Book}
-use Rattle.seat_nesting.specs.Nesting.{Legs}
+use Rattle.seat_nesting.specs.Nesting.{Ladders}
 use Rattle.seat_rules.specs.Prefixes.{Begins}
 use Rattle.seat_rules.specs.Journal.{FitsWork, MayAsk}
 use Rattle.seat_host.specs.Refusing.{IsDue}
@@ -24,7 +24,7 @@ abbrev pub works_of : List Change → List (List Command) → List (List Work)
 works_of changes lists = map Limit changes ∷ seats_in lists
 
 -- a session may ask for this, which fits the limits
-pub record Asks (grid : Legs) (session : ℕ) (work : Work) : Type 0 where
+pub record Asks (grid : Ladders) (session : ℕ) (work : Work) : Type 0 where
   pub may : MayAsk session work
   pub fits : FitsWork grid work
 
@@ -43,7 +43,7 @@ pub record HasBegun (list : List Work) (s t : Seat) : Type 0 where
   pub run : HasRun booked s t
 
 -- the session booked its list as far as the work whose call the fault names. The journal was full then, as the session has seen, or it had a line left and memory was wanting
-pub record IsRefused (grid : Legs) (book : Book) (cap : ℕ) (fault : RunFault) (list : List Work) (s t : Seat) : Type 0 where
+pub record IsRefused (grid : Ladders) (book : Book) (cap : ℕ) (fault : RunFault) (list : List Work) (s t : Seat) : Type 0 where
   pub booked : List Work
   pub refused : Work
   pub left : List Work
@@ -63,7 +63,7 @@ abbrev pub AllHaveBegun : List (List Work) → List Seat → List Seat → Type 
 AllHaveBegun lists olds news = AllZip (λ told t. HasBegun told.0 told.1 t) (zip lists olds) news
 
 -- the fault is that of the first session that was refused: those before it booked their whole lists
-abbrev pub NamesFirst : Legs → Book → ℕ → RunFault → List (List Work) → List Seat → List Seat → Type 0
+abbrev pub NamesFirst : Ladders → Book → ℕ → RunFault → List (List Work) → List Seat → List Seat → Type 0
 NamesFirst grid book cap fault (list ∷ lists) (s ∷ olds) (t ∷ news) =
     IsRefused grid book cap fault list s t ⊎ (HasRun list s t × NamesFirst grid book cap fault lists olds news)
 NamesFirst grid book cap fault (list ∷ lists) (s ∷ olds) [] = ⊥

@@ -5,8 +5,8 @@ use Rattle.std.proofs.lemmas.List.{get_or-set_same, get_or-set_other}
 use Rattle.std.proofs.lemmas.List.Sums.{sum_by_push, fold_push, count_by-le-length}
 use Rattle.std.proofs.lemmas.Bool.Decides.{nat_tests}
 use Rattle.airline_base.specs.declared.place.Place.{Place}
-use Rattle.seat_nesting.specs.Nesting.{Legs, Table, held_from, ladder_at, legs_of, room, HasLadders}
-use Rattle.seat_nesting.specs.Counting.{Counted, limits_of, seats_of}
+use Rattle.seat_nesting.specs.Nesting.{Ladders, Table, held_from, ladder_at, legs_of, room, HasLadders}
+use Rattle.seat_nesting.specs.Counting.{Counted, limits_of, table_of}
 use Rattle.seat_rules.specs.declared.booking.Booking.{Booking}
 use Rattle.seat_bookings.specs.declared.books.FlightBook.{FlightBook}
 use Rattle.seat_rules.specs.declared.effect.Effect.{Effect}
@@ -25,7 +25,7 @@ use Rattle.seat_rules.specs.Applying.{applied, confirmed_each, replied, IsOrdere
 use Rattle.seat_rules.specs.Flights.{bookings_on, is_flight, is_on, advices_anew}
 use Rattle.seat_rules.specs.Inventory.{has_memory, has_memory_in, HoldsWithinLimits, IsLawful, KeepsLimits}
 use Rattle.seat_rules.specs.Showing.{Standing, shown, standing_of, unsold}
-use Rattle.seat_bookings.specs.Books.{book_at, book_for, book_of, has_spare, has_spare_in, spare_of, IsEntered, IsKept, IsQueued, LeavesLive, SameBooks}
+use Rattle.seat_bookings.specs.Books.{book_at, book_for, book_of, has_spare, has_spare_in, spare_of, IsEntered, IsOfReplay, IsQueued, LeavesLive, SameBooks}
 use Rattle.seat_bookings.specs.Live.{AreLive}
 use Rattle.seat_bookings.specs.Queues.{queue_of}
 use Rattle.seat_bookings.proofs.Waitlists.Queue.{queue_is}
@@ -72,11 +72,11 @@ anew_same [] = refl
 anew_same (a ∷ xs) = ap (λ (l : List Advice). a ∷ l) (anew_same xs)
 
 -- a line on a flight, answered from the flight's own bookings
-on_flight : (grid : Legs) (f : ℕ) (bs : List Booking) (n : ℕ) (w : Work) → is_on f w ≡ true → answer (state_of grid (bookings_on f bs)) n w ≡ seen (λ n. n) f (answer (state_of grid bs) n w)
+on_flight : (grid : Ladders) (f : ℕ) (bs : List Booking) (n : ℕ) (w : Work) → is_on f w ≡ true → answer (state_of grid (bookings_on f bs)) n w ≡ seen (λ n. n) f (answer (state_of grid bs) n w)
 on_flight grid f bs n w on =
     ap (λ (l : List Booking). answer (state_of grid l) n w) (sym (bookings_view f bs)) ∙ answer_on grid (λ n. n) f bs n w on
 
-pub same_on : (grid : Legs) (f : ℕ) (bs : List Booking) (n : ℕ) (w : Work) → is_on f w ≡ true → NoneFits grid bs → SameAnswer (answer (state_of grid (bookings_on f bs)) n w) (answer (state_of grid bs) n w)
+pub same_on : (grid : Ladders) (f : ℕ) (bs : List Booking) (n : ℕ) (w : Work) → is_on f w ≡ true → NoneFits grid bs → SameAnswer (answer (state_of grid (bookings_on f bs)) n w) (answer (state_of grid bs) n w)
 same_on grid f bs n w on quiet =
     let e = on_flight grid f bs n w on in
     record {
@@ -85,11 +85,11 @@ same_on grid f bs n w on quiet =
       advices = ap (λ (o : Outcome). o.advices) e ∙ (advices_on grid (λ n. n) f bs n w on quiet ∙ anew_same (answer (state_of grid bs) n w).advices);
     }
 
-pub left_on : (grid : Legs) (f : ℕ) (bs : List Booking) (n : ℕ) (w : Work) → is_on f w ≡ true
+pub left_on : (grid : Ladders) (f : ℕ) (bs : List Booking) (n : ℕ) (w : Work) → is_on f w ≡ true
     → (answer (state_of grid (bookings_on f bs)) n w).state.bookings ≡ bookings_on f (answer (state_of grid bs) n w).state.bookings
 left_on grid f bs n w on = ap (λ (o : Outcome). o.state.bookings) (on_flight grid f bs n w on) ∙ bookings_view f (answer (state_of grid bs) n w).state.bookings
 
-pub left_off : (grid : Legs) (f : ℕ) (bs : List Booking) (n : ℕ) (w : Work) → is_on f w ≡ false → NoneFits grid bs
+pub left_off : (grid : Ladders) (f : ℕ) (bs : List Booking) (n : ℕ) (w : Work) → is_on f w ≡ false → NoneFits grid bs
     → bookings_on f (answer (state_of grid bs) n w).state.bookings ≡ bookings_on f bs
 left_off grid f bs n w off quiet =
     sym (bookings_view f (answer (state_of grid bs) n w).state.bookings) ∙ (answer_off grid (λ n. n) f bs n w off quiet ∙ bookings_view f bs)
@@ -104,39 +104,39 @@ itself_on : (f : ℕ) → (f == f) ≡ true
 itself_on f = grind (arith, nat_tests)
 
 -- a line, answered from the book of its flight
-same_command : (opening : Legs) (cap : ℕ) (journal : List Entry) (books : List FlightBook) (calls : List ℕ) (counts : Counted) (n : ℕ) (c : Command) (o : Option Place) → c.place ≡ o → IsKept opening cap journal books calls counts
+same_command : (opening : Ladders) (cap : ℕ) (journal : List Entry) (books : List FlightBook) (calls : List ℕ) (counts : Counted) (n : ℕ) (c : Command) (o : Option Place) → c.place ≡ o → IsOfReplay opening cap journal books calls counts
     → SameAnswer (answer (state_of (limits_of counts) (book_for books o)) n (Seats c)) (answer (state_of (limits_of counts) (replay opening journal).bookings) n (Seats c))
 same_command opening cap journal books calls counts n c None at k =
-    let now : Legs = limits_of counts in
+    let now : Ladders = limits_of counts in
     let P : Option Place → Type 0 = λ o. SameAnswer (answer_to (action_of c.code) o (state_of now []) n c) (answer_to (action_of c.code) o (state_of now (replay opening journal).bookings) n c) in
     subst P (sym at) (nowhere (action_of c.code) (state_of now []) (state_of now (replay opening journal).bookings) n c)
 same_command opening cap journal books calls counts n c (Some place) at k =
-    let now : Legs = limits_of counts in
+    let now : Ladders = limits_of counts in
     let P : List Booking → Type 0 = λ l. SameAnswer (answer (state_of now l) n (Seats c)) (answer (state_of now (replay opening journal).bookings) n (Seats c)) in
     let on : is_on place.flight (Seats c) ≡ true = ap (λ (o : Option Place). is_flight place.flight (option_map (λ (p : Place). p.flight) o)) at ∙ itself_on place.flight in
     subst P (sym (k.by_flight place.flight)) (same_on now place.flight (replay opening journal).bookings n (Seats c) on k.lawful.quiet)
 
-pub same_answer : (opening : Legs) (cap : ℕ) (journal : List Entry) (books : List FlightBook) (calls : List ℕ) (counts : Counted) (n : ℕ) (w : Work) → IsKept opening cap journal books calls counts
+pub same_answer : (opening : Ladders) (cap : ℕ) (journal : List Entry) (books : List FlightBook) (calls : List ℕ) (counts : Counted) (n : ℕ) (w : Work) → IsOfReplay opening cap journal books calls counts
     → SameAnswer (answer (state_of (limits_of counts) (book_of books w)) n w) (answer (state_of (limits_of counts) (replay opening journal).bookings) n w)
 same_answer opening cap journal books calls counts n (Seats c) k = same_command opening cap journal books calls counts n c c.place refl k
 same_answer opening cap journal books calls counts n (Limit c) k =
-    let now : Legs = limits_of counts in
+    let now : Ladders = limits_of counts in
     let P : List Booking → Type 0 = λ l. SameAnswer (answer (state_of now l) n (Limit c)) (answer (state_of now (replay opening journal).bookings) n (Limit c)) in
     subst P (sym (k.by_flight c.flight)) (same_on now c.flight (replay opening journal).bookings n (Limit c) (itself_on c.flight) k.lawful.quiet)
 
-pub few_in_book : (opening : Legs) (cap : ℕ) (journal : List Entry) (books : List FlightBook) (calls : List ℕ) (counts : Counted) (f : ℕ) → IsKept opening cap journal books calls counts → length (book_at books f) ≤ 999999
+pub few_in_book : (opening : Ladders) (cap : ℕ) (journal : List Entry) (books : List FlightBook) (calls : List ℕ) (counts : Counted) (f : ℕ) → IsOfReplay opening cap journal books calls counts → length (book_at books f) ≤ 999999
 few_in_book opening cap journal books calls counts f k =
     omega (arith, ap length (k.by_flight f), few_on f (replay opening journal).bookings, k.lawful.few, k.lawful.capped, k.lawful.small)
 
 -- books that are the same are kept
-pub kept_same : (opening : Legs) (cap : ℕ) (journal : List Entry) (books books' : List FlightBook) (calls : List ℕ) (counts : Counted) → IsKept opening cap journal books calls counts → SameBooks books books' → IsKept opening cap journal books' calls counts
+pub kept_same : (opening : Ladders) (cap : ℕ) (journal : List Entry) (books books' : List FlightBook) (calls : List ℕ) (counts : Counted) → IsOfReplay opening cap journal books calls counts → SameBooks books books' → IsOfReplay opening cap journal books' calls counts
 kept_same opening cap journal books books' calls counts k same = record { lawful = k.lawful; by_flight = λ f. same.each f ∙ k.by_flight f; by_queue = λ f. same.queues f ∙ k.by_queue f; by_session = k.by_session; seats = k.seats }
 
 -- and counters with the same limits that hold the same seats
-pub kept_counts : (opening : Legs) (cap : ℕ) (journal : List Entry) (books : List FlightBook) (calls : List ℕ) (counts counts' : Counted) → IsKept opening cap journal books calls counts
-    → limits_of counts' ≡ limits_of counts → seats_of counts' ≡ seats_of counts → IsKept opening cap journal books calls counts'
+pub kept_counts : (opening : Ladders) (cap : ℕ) (journal : List Entry) (books : List FlightBook) (calls : List ℕ) (counts counts' : Counted) → IsOfReplay opening cap journal books calls counts
+    → limits_of counts' ≡ limits_of counts → table_of counts' ≡ table_of counts → IsOfReplay opening cap journal books calls counts'
 kept_counts opening cap journal books calls counts counts' k limits seats = record {
-  lawful = let P : Legs → Type 0 = λ g. IsLawful opening g cap journal (replay opening journal).bookings in subst P (sym limits) k.lawful;
+  lawful = let P : Ladders → Type 0 = λ g. IsLawful opening g cap journal (replay opening journal).bookings in subst P (sym limits) k.lawful;
   by_flight = k.by_flight;
   by_queue = k.by_queue;
   by_session = k.by_session;
@@ -144,7 +144,7 @@ kept_counts opening cap journal books calls counts counts' k limits seats = reco
 }
 
 -- the line applied to the book of its flight
-entered_on : (opening now : Legs) (cap : ℕ) (journal : List Entry) (f : ℕ) (e : Entry) → IsLawful opening now cap journal (replay opening journal).bookings → IsNext opening journal e → is_on f e.work ≡ true
+entered_on : (opening now : Ladders) (cap : ℕ) (journal : List Entry) (f : ℕ) (e : Entry) → IsLawful opening now cap journal (replay opening journal).bookings → IsNext opening journal e → is_on f e.work ≡ true
     → applied (bookings_on f (replay opening journal).bookings) e ≡ bookings_on f (answer (state_of now (replay opening journal).bookings) (length journal + 1) e.work).state.bookings
 entered_on opening now cap journal f e l next on =
     let bs : List Booking = (replay opening journal).bookings in
@@ -183,25 +183,25 @@ counted journal e calls k nine most s le = cases (e.session == s) refl where
       get_or-set_other calls e.session s (calls_of journal e.session + 1) 0 other ∙ (k s le ∙ sym same)
 
 -- each waiting list is that of its flight's bookings
-pub kept_queued : (opening : Legs) (cap : ℕ) (journal : List Entry) (books : List FlightBook) (calls : List ℕ) (counts : Counted) → IsKept opening cap journal books calls counts → IsQueued books
+pub kept_queued : (opening : Ladders) (cap : ℕ) (journal : List Entry) (books : List FlightBook) (calls : List ℕ) (counts : Counted) → IsOfReplay opening cap journal books calls counts → IsQueued books
 kept_queued opening cap journal books calls counts k =
     record { each = λ f. k.by_queue f ∙ (sym (queue_is f (replay opening journal).bookings) ∙ ap queue_of (sym (k.by_flight f))) }
 
 -- the limits and the held seats that a journal leaves
-abbrev left_standing : Legs → List Entry → Standing
+abbrev left_standing : Ladders → List Entry → Standing
 left_standing grid journal = record { limits = (replay grid journal).grid; seats = held (replay grid journal).bookings }
 
 -- the counters, shown one line more
-shown_next : (opening : Legs) (cap : ℕ) (journal : List Entry) (books : List FlightBook) (calls : List ℕ) (counts : Counted) (e : Entry) → IsKept opening cap journal books calls counts → IsLegal opening (journal ++ e ∷ [])
+shown_next : (opening : Ladders) (cap : ℕ) (journal : List Entry) (books : List FlightBook) (calls : List ℕ) (counts : Counted) (e : Entry) → IsOfReplay opening cap journal books calls counts → IsLegal opening (journal ++ e ∷ [])
     → shown (standing_of counts) e ≡ left_standing opening (journal ++ e ∷ [])
 shown_next opening cap journal books calls counts e k legal =
     let limits : limits_of counts ≡ (replay opening journal).grid = sym (ap (λ (s : State). s.grid) k.lawful.left) in
-    let seats : seats_of counts ≡ held (replay opening journal).bookings = same_table (seats_of counts) (held (replay opening journal).bookings) k.seats in
-    let here : standing_of counts ≡ left_standing opening journal = standing_same (limits_of counts) (replay opening journal).grid (seats_of counts) (held (replay opening journal).bookings) limits seats in
+    let seats : table_of counts ≡ held (replay opening journal).bookings = same_table (table_of counts) (held (replay opening journal).bookings) k.seats in
+    let here : standing_of counts ≡ left_standing opening journal = standing_same (limits_of counts) (replay opening journal).grid (table_of counts) (held (replay opening journal).bookings) limits seats in
     ap (λ (s : Standing). shown s e) (here ∙ sym (shown_is_held opening journal k.lawful.legal))
     ∙ (sym (fold_push shown (unsold opening) journal e) ∙ shown_is_held opening (journal ++ e ∷ []) legal)
   where
-    standing_same : (g h : Legs) (t u : Table) → g ≡ h → t ≡ u → let a : Standing = record { limits = g; seats = t } in let b : Standing = record { limits = h; seats = u } in a ≡ b
+    standing_same : (g h : Ladders) (t u : Table) → g ≡ h → t ≡ u → let a : Standing = record { limits = g; seats = t } in let b : Standing = record { limits = h; seats = u } in a ≡ b
     standing_same g h t u p q = λ i. record { limits = p i; seats = q i }
 
 -- sessions are 0 to 8
@@ -210,9 +210,9 @@ session_most session (Seats c) may = may.1
 session_most session (Limit c) may = omega (arith, may)
 
 -- a line that is added keeps the books
-pub kept_next : (opening : Legs) (cap : ℕ) (journal : List Entry) (books books' : List FlightBook) (calls : List ℕ) (counts counts' : Counted) (e : Entry) → IsKept opening cap journal books calls counts → length calls ≡ 9 → length journal < cap → IsNext opening journal e
+pub kept_next : (opening : Ladders) (cap : ℕ) (journal : List Entry) (books books' : List FlightBook) (calls : List ℕ) (counts counts' : Counted) (e : Entry) → IsOfReplay opening cap journal books calls counts → length calls ≡ 9 → length journal < cap → IsNext opening journal e
     → IsEntered books books' e → IsQueued books' → standing_of counts' ≡ shown (standing_of counts) e
-    → IsKept opening cap (journal ++ e ∷ []) books' (set calls e.session (calls_of journal e.session + 1)) counts'
+    → IsOfReplay opening cap (journal ++ e ∷ []) books' (set calls e.session (calls_of journal e.session + 1)) counts'
 kept_next opening cap journal books books' calls counts counts' e k nine lt next entered queued shows = record {
   lawful = let P : List Booking → Type 0 = IsLawful opening (limits_of counts') cap (journal ++ e ∷ []) in subst P (sym left) law;
   by_flight = λ f. cases f (is_on f e.work) refl;
@@ -258,7 +258,7 @@ apart_on f (b ∷ bs) o = cases (b.place.flight == f) refl (apart_on f bs o.1) w
   cases true e rest = rw e (all_on (Differs b) f bs o.0, rest)
   cases false e rest = rw e rest
 
-pub kept_live : (opening : Legs) (cap : ℕ) (journal : List Entry) (books : List FlightBook) (calls : List ℕ) (counts : Counted) (e : Entry) → IsKept opening cap journal books calls counts → IsNext opening journal e → LeavesLive books e
+pub kept_live : (opening : Ladders) (cap : ℕ) (journal : List Entry) (books : List FlightBook) (calls : List ℕ) (counts : Counted) (e : Entry) → IsOfReplay opening cap journal books calls counts → IsNext opening journal e → LeavesLive books e
 kept_live opening cap journal books calls counts e k next = record { each = λ f on. subst AreLive (sym (left f on)) (live f) } where
   live : (f : ℕ) → AreLive (bookings_on f (replay opening (journal ++ e ∷ [])).bookings)
   live f = record {
@@ -278,17 +278,17 @@ kept_live opening cap journal books calls counts e k next = record { each = λ f
       ∙ (entered_on opening (limits_of counts) cap journal f e k.lawful next on ∙ ap (λ (s : State). bookings_on f s.bookings) (sym step))
 
 -- sessions beyond 8 have no lines
-none_beyond : (s : ℕ) → 8 < s → (grid : Legs) (journal : List Entry) → IsLegal grid journal → calls_of journal s ≡ 0
+none_beyond : (s : ℕ) → 8 < s → (grid : Ladders) (journal : List Entry) → IsLegal grid journal → calls_of journal s ≡ 0
 none_beyond s beyond grid journal legal =
     each_legal grid (λ j. calls_of j s ≡ 0)
     (λ past e l next h. let other : (e.session == s) ≡ false = let most : e.session ≤ 8 = session_most e.session e.work next.session in grind (arith, nat_tests) in
     called past e s ∙ (ap (λ t. calls_of past s + cond t 1 0) other ∙ omega (arith, h)))
     [] journal refl legal
 
-pub no_calls : (opening : Legs) (cap : ℕ) (journal : List Entry) (books : List FlightBook) (calls : List ℕ) (counts : Counted) (s : ℕ) → IsKept opening cap journal books calls counts → 8 < s → calls_of journal s ≡ 0
+pub no_calls : (opening : Ladders) (cap : ℕ) (journal : List Entry) (books : List FlightBook) (calls : List ℕ) (counts : Counted) (s : ℕ) → IsOfReplay opening cap journal books calls counts → 8 < s → calls_of journal s ≡ 0
 no_calls opening cap journal books calls counts s k beyond = none_beyond s beyond opening journal k.lawful.legal
 
-pub few_calls : (opening : Legs) (cap : ℕ) (journal : List Entry) (books : List FlightBook) (calls : List ℕ) (counts : Counted) (s : ℕ) → IsKept opening cap journal books calls counts → calls_of journal s ≤ 999999
+pub few_calls : (opening : Ladders) (cap : ℕ) (journal : List Entry) (books : List FlightBook) (calls : List ℕ) (counts : Counted) (s : ℕ) → IsOfReplay opening cap journal books calls counts → calls_of journal s ≤ 999999
 few_calls opening cap journal books calls counts s k = omega (arith, count_by-le-length (λ (x : Entry). x.session == s) journal, k.lawful.capped, k.lawful.small)
 
 -- the memory of the books, as it is shown
@@ -302,18 +302,18 @@ memory_is books None effect = refl
 memory_is books (Some place) effect = spares_at books place.flight effect
 
 -- the seats that the counters hold in a rank and below
-pub held_kept : (opening : Legs) (cap : ℕ) (journal : List Entry) (books : List FlightBook) (calls : List ℕ) (counts : Counted) (flight leg rank : ℕ) → IsKept opening cap journal books calls counts
-    → held_from (seats_of counts flight leg) (drop rank (ladder_at (limits_of counts) flight leg))
+pub held_kept : (opening : Ladders) (cap : ℕ) (journal : List Entry) (books : List FlightBook) (calls : List ℕ) (counts : Counted) (flight leg rank : ℕ) → IsOfReplay opening cap journal books calls counts
+    → held_from (table_of counts flight leg) (drop rank (ladder_at (limits_of counts) flight leg))
     ≡ held_from (held (replay opening journal).bookings flight leg) (drop rank (ladder_at (replay opening journal).grid flight leg))
 held_kept opening cap journal books calls counts flight leg rank k =
-    ap (λ (t : Table). held_from (t flight leg) (drop rank (ladder_at (limits_of counts) flight leg))) (same_table (seats_of counts) (held (replay opening journal).bookings) k.seats)
+    ap (λ (t : Table). held_from (t flight leg) (drop rank (ladder_at (limits_of counts) flight leg))) (same_table (table_of counts) (held (replay opening journal).bookings) k.seats)
     ∙ ap (λ (s : State). held_from (held s.bookings flight leg) (drop rank (ladder_at s.grid flight leg))) (sym k.lawful.left)
 
 -- the room that the counters leave
-pub room_kept : (opening : Legs) (cap : ℕ) (journal : List Entry) (books : List FlightBook) (calls : List ℕ) (counts : Counted) (place : Place) (class : ℕ) → IsKept opening cap journal books calls counts
-    → room (limits_of counts) (seats_of counts) place class ≡ room_left (replay opening journal) place class
+pub room_kept : (opening : Ladders) (cap : ℕ) (journal : List Entry) (books : List FlightBook) (calls : List ℕ) (counts : Counted) (place : Place) (class : ℕ) → IsOfReplay opening cap journal books calls counts
+    → room (limits_of counts) (table_of counts) place class ≡ room_left (replay opening journal) place class
 room_kept opening cap journal books calls counts place class k =
-    ap (λ (t : Table). room (limits_of counts) t place class) (same_table (seats_of counts) (held (replay opening journal).bookings) k.seats)
+    ap (λ (t : Table). room (limits_of counts) t place class) (same_table (table_of counts) (held (replay opening journal).bookings) k.seats)
     ∙ ap (λ (s : State). room_left s place class) (sym k.lawful.left)
 
 -- no call yet
@@ -333,15 +333,15 @@ zeros (suc (suc (suc (suc (suc (suc (suc (suc zero)))))))) = refl
 zeros (suc (suc (suc (suc (suc (suc (suc (suc (suc s))))))))) = refl
 
 -- an inventory that was opened
-pub kept_opened : (grid : Legs) (cap : ℕ) (counts : Counted) → HasLadders grid → cap ≤ 999999 → limits_of counts ≡ grid → ((f l k : ℕ) → seats_of counts f l k ≡ 0) → IsKept grid cap [] [] nine_zeros counts
+pub kept_opened : (grid : Ladders) (cap : ℕ) (counts : Counted) → HasLadders grid → cap ≤ 999999 → limits_of counts ≡ grid → ((f l k : ℕ) → table_of counts f l k ≡ 0) → IsOfReplay grid cap [] [] nine_zeros counts
 kept_opened grid cap counts ladders small same none = record {
   lawful = record {
     legal = legal_nil grid;
     capped = omega arith;
     small = small;
-    left = ap (λ (g : Legs). state_of g []) (sym same);
+    left = ap (λ (g : Ladders). state_of g []) (sym same);
     few = omega arith;
-    alike = λ flight. ap (λ (g : Legs). length (legs_of g flight)) same;
+    alike = λ flight. ap (λ (g : Ladders). length (legs_of g flight)) same;
     ladders = subst HasLadders (sym same) ladders;
     within = λ flight leg. within_none _;
     quiet = tt;
@@ -353,7 +353,7 @@ kept_opened grid cap counts ladders small same none = record {
 }
 
 -- what is kept holds no more than authorised
-pub kept_within : (opening : Legs) (cap : ℕ) (journal : List Entry) (books : List FlightBook) (calls : List ℕ) (counts : Counted) → IsKept opening cap journal books calls counts → HoldsWithinLimits opening journal
+pub kept_within : (opening : Ladders) (cap : ℕ) (journal : List Entry) (books : List FlightBook) (calls : List ℕ) (counts : Counted) → IsOfReplay opening cap journal books calls counts → HoldsWithinLimits opening journal
 kept_within opening cap journal books calls counts k =
     let P : State → Type 0 = λ s. KeepsLimits s.grid s.bookings in
     record { held = subst P (sym k.lawful.left) k.lawful.within }

@@ -4,7 +4,7 @@ use Rattle.std.specs.List.{AllByRecursion}
 use Rattle.std.proofs.lemmas.Bool.Decides.{nat_tests}
 use Rattle.std.proofs.lemmas.List.Sums.{sum_by-cons}
 use Rattle.airline_base.specs.declared.place.Place.{Place}
-use Rattle.seat_nesting.specs.Nesting.{Legs, Table, room, may_wait, covers}
+use Rattle.seat_nesting.specs.Nesting.{Ladders, Table, room, may_wait, covers}
 use Rattle.seat_rules.specs.declared.booking.Booking.{Booking}
 use Rattle.seat_rules.specs.declared.booking.Status.{Status}
 use Rattle.seat_rules.specs.declared.booking.Status.TheVariants.{Held, Waiting}
@@ -162,7 +162,7 @@ waits_told f l k (p ∷ ps) xs a t =
 tells : (xs : List Booking) (ps : List Demand) → IsIndexed xs ps → Tells xs ps
 tells xs ps i = record { apart = i.apart; smallest = i.smallest; seats = i.seats }
 
-pub may_wait_told : (grid : Legs) (xs : List Booking) (ps : List Demand) (p : Place) (class n : ℕ) → IsIndexed xs ps → may_wait grid (waits_of ps) p class n ≡ may_wait grid (waiting xs) p class n
+pub may_wait_told : (grid : Ladders) (xs : List Booking) (ps : List Demand) (p : Place) (class n : ℕ) → IsIndexed xs ps → may_wait grid (waits_of ps) p class n ≡ may_wait grid (waiting xs) p class n
 may_wait_told grid xs ps p class n i =
     may_wait_same grid (waits_of ps) (waiting xs) p class n (λ l. waits_told p.flight l class ps xs i.waits (tells xs ps i))
 
@@ -191,7 +191,7 @@ and_swap true false v = refl
 and_swap false true v = refl
 and_swap false false v = refl
 
-fits_parts : (grid : Legs) (t : Table) (q : Place) (c : ℕ) (xs : List Booking) → none_fits grid t xs ≡ over (room grid t q c) (smallest_of q c xs) && none_fits grid t (others q c xs)
+fits_parts : (grid : Ladders) (t : Table) (q : Place) (c : ℕ) (xs : List Booking) → none_fits grid t xs ≡ over (room grid t q c) (smallest_of q c xs) && none_fits grid t (others q c xs)
 fits_parts grid t q c [] = refl
 fits_parts grid t q c (b ∷ bs) = cases (is_booking_of q c b) refl (fits_parts grid t q c bs) where
   same : is_booking_of q c b ≡ true → nat_lt (room grid t b.place b.class) b.seats ≡ nat_lt (room grid t q c) b.seats
@@ -212,7 +212,7 @@ fits_parts grid t q c (b ∷ bs) = cases (is_booking_of q c b) refl (fits_parts 
       (ap (λ (v : Bool). nat_lt (room grid t b.place b.class) b.seats && v) rest
       ∙ and_swap (nat_lt (room grid t b.place b.class) b.seats) (over (room grid t q c) (smallest_of q c bs)) (none_fits grid t (others q c bs)))
 
-fits_told : (grid : Legs) (t : Table) (ps : List Demand) (xs : List Booking) → Tells xs ps → no_demand_fits grid t ps ≡ none_fits grid t xs
+fits_told : (grid : Ladders) (t : Table) (ps : List Demand) (xs : List Booking) → Tells xs ps → no_demand_fits grid t ps ≡ none_fits grid t xs
 fits_told grid t [] xs h = sym (ap (none_fits grid t) (none_told xs h.smallest))
 fits_told grid t (p ∷ ps) xs h =
     let rest = fits_told grid t ps (others p.place p.class xs) (rest_tells xs p ps h) in
@@ -221,5 +221,5 @@ fits_told grid t (p ∷ ps) xs h =
     ∙ (ap (λ (o : Option ℕ). over (room grid t p.place p.class) o && none_fits grid t (others p.place p.class xs)) own
     ∙ sym (fits_parts grid t p.place p.class xs))
 
-pub none_fits_told : (grid : Legs) (t : Table) (xs : List Booking) (ps : List Demand) → IsIndexed xs ps → no_demand_fits grid t ps ≡ none_fits grid t xs
+pub none_fits_told : (grid : Ladders) (t : Table) (xs : List Booking) (ps : List Demand) → IsIndexed xs ps → no_demand_fits grid t ps ≡ none_fits grid t xs
 none_fits_told grid t xs ps i = fits_told grid t ps xs (tells xs ps i)

@@ -1,8 +1,8 @@
 -- A limit that is changed, and set back.
 use Rattle.std.proofs.Common.{◌≡◌, ◌==◌, ℕ, Bool, true, false, [], ◌∷◌, Some, None, if◌then◌else◌, refl, ap, sym, subst, ◌∙◌}
 use Rattle.seat_nesting.specs.declared.ladder.Step.{Step}
-use Rattle.seat_nesting.specs.Nesting.{Legs, Steps, ByClass, Table, IsLegLadder, IsWithin, ladder_at}
-use Rattle.seat_nesting.specs.Counting.{Counted, IsWithinLimits, limits_of, seats_of}
+use Rattle.seat_nesting.specs.Nesting.{Ladders, Steps, ByClass, Table, IsLegLadder, IsWithin, ladder_at}
+use Rattle.seat_nesting.specs.Counting.{Counted, IsWithinLimits, limits_of, table_of}
 use Rattle.seat_nesting.specs.Changing.{Sets, can_set, may_have_below, step_of}
 use Rattle.seat_nesting.proofs.LimitChanges.{can_parts, can_set_back, limits_back}
 use Rattle.seat_journal.specs.declared.entry.Change.{Change}
@@ -22,32 +22,32 @@ true_false : (t : Bool) → t ≡ true → t ≡ false → ⊥
 true_false t e f = absurd cc
 
 -- a class whose limit may be set is there
-pub step_there : (grid : Legs) (seats : Table) (c : Change) → can_set grid seats c.flight c.leg c.class c.limit c.wait ≡ true → None ≡ step_of (ladder_at grid c.flight c.leg) c.class → ⊥
+pub step_there : (grid : Ladders) (seats : Table) (c : Change) → can_set grid seats c.flight c.leg c.class c.limit c.wait ≡ true → None ≡ step_of (ladder_at grid c.flight c.leg) c.class → ⊥
 step_there grid seats c may none =
     true_false (may_have_below 999 (ladder_at grid c.flight c.leg) (seats c.flight c.leg) c.class c.limit) (can_parts grid seats c.flight c.leg c.class c.limit c.wait may).1
     (missing_below 999 (ladder_at grid c.flight c.leg) (seats c.flight c.leg) c.class c.limit (sym none))
 
 -- below, `mid` has the change, `after` is as `mid`, and `new` has the old limit again
 pub may_go_back : (old mid after : Counted) (c : Change) (before : Step) → IsWithinLimits old → Some before ≡ step_of (ladder_at (limits_of old) c.flight c.leg) c.class
-    → Sets old mid c.flight c.leg c.class c.limit c.wait → limits_of after ≡ limits_of mid → seats_of after ≡ seats_of mid
-    → can_set (limits_of after) (seats_of after) c.flight c.leg c.class before.limit before.wait ≡ true
+    → Sets old mid c.flight c.leg c.class c.limit c.wait → limits_of after ≡ limits_of mid → table_of after ≡ table_of mid
+    → can_set (limits_of after) (table_of after) c.flight c.leg c.class before.limit before.wait ≡ true
 may_go_back old mid after c before within there set limits seats =
     let kept = within.leg_kept c.flight c.leg in
     let is = ladder_is old c.flight c.leg in
     let ladder : IsLegLadder (ladder_at (limits_of old) c.flight c.leg) = subst IsLegLadder (sym is) kept.ladder in
-    let P : Steps → Type 0 = λ s. IsWithin s (seats_of old c.flight c.leg) in
-    let may = can_set_back (limits_of old) (seats_of old) c.flight c.leg c.class c.limit c.wait before ladder (subst P (sym is) kept.within) (sym there) in
-    ap (λ (g : Legs). can_set g (seats_of after) c.flight c.leg c.class before.limit before.wait) (limits ∙ set.limits)
+    let P : Steps → Type 0 = λ s. IsWithin s (table_of old c.flight c.leg) in
+    let may = can_set_back (limits_of old) (table_of old) c.flight c.leg c.class c.limit c.wait before ladder (subst P (sym is) kept.within) (sym there) in
+    ap (λ (g : Ladders). can_set g (table_of after) c.flight c.leg c.class before.limit before.wait) (limits ∙ set.limits)
     ∙ (ap (λ (t : Table). can_set (changed_by (limits_of old) c) t c.flight c.leg c.class before.limit before.wait) (seats ∙ held_as_before old mid c.flight c.leg c.class c.limit c.wait set) ∙ may)
 
 pub limits_again : (old mid after new : Counted) (c : Change) (before : Step) → Some before ≡ step_of (ladder_at (limits_of old) c.flight c.leg) c.class
     → Sets old mid c.flight c.leg c.class c.limit c.wait → limits_of after ≡ limits_of mid → Sets after new c.flight c.leg c.class before.limit before.wait → limits_of new ≡ limits_of old
 limits_again old mid after new c before there set limits back =
     back.limits
-    ∙ (ap (λ (g : Legs). changed_by g (record c { limit = before.limit; wait = before.wait })) (limits ∙ set.limits)
+    ∙ (ap (λ (g : Ladders). changed_by g (record c { limit = before.limit; wait = before.wait })) (limits ∙ set.limits)
     ∙ limits_back (limits_of old) c.flight c.leg c.class c.limit c.wait before (sym there))
 
-pub seats_again : (old mid after new : Counted) (c : Change) (before : Step) → Sets old mid c.flight c.leg c.class c.limit c.wait → seats_of after ≡ seats_of mid
-    → Sets after new c.flight c.leg c.class before.limit before.wait → seats_of new ≡ seats_of old
+pub seats_again : (old mid after new : Counted) (c : Change) (before : Step) → Sets old mid c.flight c.leg c.class c.limit c.wait → table_of after ≡ table_of mid
+    → Sets after new c.flight c.leg c.class before.limit before.wait → table_of new ≡ table_of old
 seats_again old mid after new c before set seats back =
     held_as_before after new c.flight c.leg c.class before.limit before.wait back ∙ (seats ∙ held_as_before old mid c.flight c.leg c.class c.limit c.wait set)

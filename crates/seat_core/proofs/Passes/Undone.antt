@@ -4,8 +4,8 @@ use Rattle.std.proofs.lemmas.Bool.Decides.{nat_tests}
 use Rattle.std.proofs.lemmas.List.Sums.{sum_by-cons}
 use Rattle.airline_base.specs.declared.place.Place.{Place}
 use Rattle.seat_nesting.specs.declared.ladder.Step.{Step}
-use Rattle.seat_nesting.specs.Nesting.{Steps, Legs, Table, IsWithin, IsDistinct, held_from, has_class, ladder_at, steps_at, each_leg, least, room, room_on, covers, seats_at}
-use Rattle.seat_nesting.specs.Counting.{Counted, LegSeats, IsWithinLimits, leg_at, leg_in, limits_of, seats_of, holds, leg_holds, Takes}
+use Rattle.seat_nesting.specs.Nesting.{Steps, Ladders, Table, IsWithin, IsDistinct, held_from, has_class, ladder_at, steps_at, each_leg, least, room, room_on, covers, seats_at}
+use Rattle.seat_nesting.specs.Counting.{Counted, LegSeats, IsWithinLimits, leg_at, leg_in, limits_of, table_of, holds, leg_holds, Takes}
 use Rattle.seat_nesting.proofs.CountChanges.{fits_each, fits_forwards, held_each, held_forwards}
 use Rattle.seat_rules.specs.declared.booking.Booking.{Booking}
 use Rattle.seat_journal.specs.declared.entry.Advice.{Advice}
@@ -76,7 +76,7 @@ ladder_is (legs ∷ counts) zero leg = leg_steps legs leg
 ladder_is (legs ∷ counts) (suc flight) leg = ladder_is counts flight leg
 
 -- the class is there, on each leg of a place whose seats can be given back
-class_there : (grid : Legs) (t : Table) (p : Place) (class n leg : ℕ) → holds grid t p class n ≡ true → p.from ≤ leg → leg ≤ p.to → has_class (ladder_at grid p.flight leg) class ≡ true
+class_there : (grid : Ladders) (t : Table) (p : Place) (class n leg : ℕ) → holds grid t p class n ≡ true → p.from ≤ leg → leg ≤ p.to → has_class (ladder_at grid p.flight leg) class ≡ true
 class_there grid t p class n leg h a b =
     let each = (both (nat_le p.from p.to) (each_leg (λ leg. leg_holds (ladder_at grid p.flight leg) (t p.flight leg) class n) p.from (p.to - p.from)) h).1 in
     (both (has_class (ladder_at grid p.flight leg) class) (nat_le n (t p.flight leg class))
@@ -94,27 +94,27 @@ is_more t p class n leg on le = (here, others) where
   others : (k : ℕ) → k ≢ class → t p.flight leg k ≡ less t p class n p.flight leg k
   others k other = let e : (class == k) ≡ false = grind (arith, nat_tests) in let none : seats_at p class n p.flight leg k ≡ 0 = rw (on, e) refl in omega (arith, none)
 
-pub fits_again : (old : Counted) (p : Place) (class n : ℕ) → IsWithinLimits old → holds (limits_of old) (seats_of old) p class n ≡ true
-    → n ≤ room (limits_of old) (given_back (limits_of old) (seats_of old) p class n) p class
+pub fits_again : (old : Counted) (p : Place) (class n : ℕ) → IsWithinLimits old → holds (limits_of old) (table_of old) p class n ≡ true
+    → n ≤ room (limits_of old) (given_back (limits_of old) (table_of old) p class n) p class
 fits_again old p class n within h =
-    let order : p.from ≤ p.to = held_forwards (limits_of old) (seats_of old) p class n h in
+    let order : p.from ≤ p.to = held_forwards (limits_of old) (table_of old) p class n h in
     let test : nat_le p.from p.to ≡ true = grind (arith, nat_tests) in
-    let all : n ≤ least (λ leg. room_on (ladder_at (limits_of old) p.flight leg) (less (seats_of old) p class n p.flight leg) class) p.from (p.to - p.from) =
-    least_ge (λ leg. room_on (ladder_at (limits_of old) p.flight leg) (less (seats_of old) p class n p.flight leg) class) p.from (p.to - p.from) n
+    let all : n ≤ least (λ leg. room_on (ladder_at (limits_of old) p.flight leg) (less (table_of old) p class n p.flight leg) class) p.from (p.to - p.from) =
+    least_ge (λ leg. room_on (ladder_at (limits_of old) p.flight leg) (less (table_of old) p class n p.flight leg) class) p.from (p.to - p.from) n
     (λ leg a b. on_leg leg a (omega (arith, order, b))) in
     rw (h, test) all
   where
-    on_leg : (leg : ℕ) → p.from ≤ leg → leg ≤ p.to → n ≤ room_on (ladder_at (limits_of old) p.flight leg) (less (seats_of old) p class n p.flight leg) class
+    on_leg : (leg : ℕ) → p.from ≤ leg → leg ≤ p.to → n ≤ room_on (ladder_at (limits_of old) p.flight leg) (less (table_of old) p class n p.flight leg) class
     on_leg leg a b =
         let kept = within.leg_kept p.flight leg in
         let is = ladder_is old p.flight leg in
-        let there : has_class (leg_at old p.flight leg).steps class ≡ true = sym (ap (λ (s : Steps). has_class s class) is) ∙ class_there (limits_of old) (seats_of old) p class n leg h a b in
-        let enough : n ≤ seats_of old p.flight leg class = held_each (limits_of old) (seats_of old) p class n leg h a b in
-        rw is (room_again (leg_at old p.flight leg).steps (seats_of old p.flight leg) (less (seats_of old) p class n p.flight leg) class n
-        (is_more (seats_of old) p class n leg (covers_at p leg a b) enough) kept.ladder.distinct there kept.within)
+        let there : has_class (leg_at old p.flight leg).steps class ≡ true = sym (ap (λ (s : Steps). has_class s class) is) ∙ class_there (limits_of old) (table_of old) p class n leg h a b in
+        let enough : n ≤ table_of old p.flight leg class = held_each (limits_of old) (table_of old) p class n leg h a b in
+        rw is (room_again (leg_at old p.flight leg).steps (table_of old p.flight leg) (less (table_of old) p class n p.flight leg) class n
+        (is_more (table_of old) p class n leg (covers_at p leg a b) enough) kept.ladder.distinct there kept.within)
 
 -- and taken again they leave what was there
-pub given_and_taken : (grid : Legs) (t u : Table) (p : Place) (class n : ℕ) → holds grid t p class n ≡ true
+pub given_and_taken : (grid : Ladders) (t u : Table) (p : Place) (class n : ℕ) → holds grid t p class n ≡ true
     → ((f l k : ℕ) → u f l k ≡ given_back grid t p class n f l k + seats_at p class n f l k) → u ≡ t
 given_and_taken grid t u p class n h e = same_table u t at where
   few : (f l k : ℕ) → seats_at p class n f l k ≤ t f l k
@@ -143,7 +143,7 @@ given_and_taken grid t u p class n h e = same_table u t at where
 abbrev more : Table → Place → ℕ → ℕ → Table
 more t p class n = λ f l k. t f l k + seats_at p class n f l k
 
-holds_taken : (grid : Legs) (t : Table) (p : Place) (class n : ℕ) → 0 < n → n ≤ room grid t p class → holds grid (more t p class n) p class n ≡ true
+holds_taken : (grid : Ladders) (t : Table) (p : Place) (class n : ℕ) → 0 < n → n ≤ room grid t p class → holds grid (more t p class n) p class n ≡ true
 holds_taken grid t p class n some fits =
     let order : p.from ≤ p.to = fits_forwards grid t p class n fits some in
     let test : nat_le p.from p.to ≡ true = grind (arith, nat_tests) in
@@ -162,7 +162,7 @@ holds_taken grid t p class n some fits =
         rw (e, enough) refl
     on_leg leg a b false e = absurd (omega (arith, some, fits_each grid t p class n leg fits a b, room_missing (ladder_at grid p.flight leg) (t p.flight leg) class e))
 
-given_taken : (grid : Legs) (t : Table) (p : Place) (class n : ℕ) → n ≤ room grid t p class → given_back grid (more t p class n) p class n ≡ t
+given_taken : (grid : Ladders) (t : Table) (p : Place) (class n : ℕ) → n ≤ room grid t p class → given_back grid (more t p class n) p class n ≡ t
 given_taken grid t p class zero fits =
     give_none grid (more t p class 0) p class
     ∙ same_table (more t p class 0) t (λ f l k. let none = if_zero (covers f l p && (class == k)) in omega (arith, none))
@@ -170,11 +170,11 @@ given_taken grid t p class (suc m) fits =
     rw (holds_taken grid t p class (suc m) (omega arith) fits)
     (same_table (λ f l k. more t p class (suc m) f l k - seats_at p class (suc m) f l k) t (λ f l k. omega arith))
 
-back_push : (grid : Legs) (u : Table) (xs ys : List Advice) → taken_back grid u (xs ++ ys) ≡ taken_back grid (taken_back grid u ys) xs
+back_push : (grid : Ladders) (u : Table) (xs ys : List Advice) → taken_back grid u (xs ++ ys) ≡ taken_back grid (taken_back grid u ys) xs
 back_push grid u [] ys = refl
 back_push grid u (x ∷ xs) ys = ap (λ (t : Table). given_back grid t x.place x.class x.seats) (back_push grid u xs ys)
 
-one_back : (grid : Legs) (t : Table) (b : Booking) → taken_back grid (shown_advices grid t (told_of grid t b)) (told_of grid t b) ≡ t
+one_back : (grid : Ladders) (t : Table) (b : Booking) → taken_back grid (shown_advices grid t (told_of grid t b)) (told_of grid t b) ≡ t
 one_back grid t b = cases (is_waiting b.status && nat_le b.seats (room grid t b.place b.class)) refl where
   cases : (m : Bool) → (is_waiting b.status && nat_le b.seats (room grid t b.place b.class)) ≡ m → taken_back grid (shown_advices grid t (told_of grid t b)) (told_of grid t b) ≡ t
   cases true e =
@@ -185,7 +185,7 @@ one_back grid t b = cases (is_waiting b.status && nat_le b.seats (room grid t b.
   cases false e = rw e refl
 
 -- what one booking more took is given back first
-pub back_next : (grid : Legs) (base t u : Table) (told : List Advice) (b : Booking) → taken_back grid t told ≡ base → u ≡ shown_advices grid t (told_of grid t b)
+pub back_next : (grid : Ladders) (base t u : Table) (told : List Advice) (b : Booking) → taken_back grid t told ≡ base → u ≡ shown_advices grid t (told_of grid t b)
     → taken_back grid u (told ++ told_of grid t b) ≡ base
 back_next grid base t u told b before shows =
     back_push grid u told (told_of grid t b)
@@ -195,7 +195,7 @@ back_next grid base t u told b before shows =
 -- ---- booking by booking
 
 -- where none fits, nothing is told
-none_told : (grid : Legs) (t : Table) (queue : List Booking) → none_fits grid t queue ≡ true → advices_by grid t queue ≡ []
+none_told : (grid : Ladders) (t : Table) (queue : List Booking) → none_fits grid t queue ≡ true → advices_by grid t queue ≡ []
 none_told grid t [] h = refl
 none_told grid t (b ∷ bs) h =
     let parts = both (nat_lt (room grid t b.place b.class) b.seats) (none_fits grid t bs) h in
@@ -207,12 +207,12 @@ none_told grid t (b ∷ bs) h =
     cases false e high rest = rw e rest
 
 -- nor of those that are left
-pub none_left : (grid : Legs) (t : Table) (queue : List Booking) (k : ℕ) → none_fits grid t queue ≡ true → advices_by grid t (drop k queue) ≡ []
+pub none_left : (grid : Ladders) (t : Table) (queue : List Booking) (k : ℕ) → none_fits grid t queue ≡ true → advices_by grid t (drop k queue) ≡ []
 none_left grid t queue zero h = none_told grid t queue h
 none_left grid t [] (suc k) h = refl
 none_left grid t (b ∷ bs) (suc k) h = none_left grid t bs k (both (nat_lt (room grid t b.place b.class) b.seats) (none_fits grid t bs) h).1
 
-one_told : (grid : Legs) (t : Table) (b : Booking) (rest : List Booking) → advices_by grid t (b ∷ rest) ≡ told_of grid t b ++ advices_by grid (shown_advices grid t (told_of grid t b)) rest
+one_told : (grid : Ladders) (t : Table) (b : Booking) (rest : List Booking) → advices_by grid t (b ∷ rest) ≡ told_of grid t b ++ advices_by grid (shown_advices grid t (told_of grid t b)) rest
 one_told grid t b rest = cases (is_waiting b.status && nat_le b.seats (room grid t b.place b.class)) refl where
   cases : (m : Bool) → (is_waiting b.status && nat_le b.seats (room grid t b.place b.class)) ≡ m
       → advices_by grid t (b ∷ rest) ≡ told_of grid t b ++ advices_by grid (shown_advices grid t (told_of grid t b)) rest
@@ -222,7 +222,7 @@ one_told grid t b rest = cases (is_waiting b.status && nat_le b.seats (room grid
       rw e (ap (λ (u : Table). advice_of b ∷ advices_by grid u rest) (sym up))
   cases false e = rw e refl
 
-pub told_next : (grid : Legs) (t u : Table) (told more : List Advice) (queue : List Booking) (i j : ℕ) (b : Booking) → j ≡ i + 1 → i < length queue → b ≡ get_or queue i b
+pub told_next : (grid : Ladders) (t u : Table) (told more : List Advice) (queue : List Booking) (i j : ℕ) (b : Booking) → j ≡ i + 1 → i < length queue → b ≡ get_or queue i b
     → more ≡ told_of grid t b → u ≡ shown_advices grid t (told_of grid t b)
     → (told ++ more) ++ advices_by grid u (drop j queue) ≡ told ++ advices_by grid t (drop i queue)
 told_next grid t u told more queue i j b next lt is tells shows =
@@ -232,10 +232,10 @@ told_next grid t u told more queue i j b next lt is tells shows =
     ∙ (ap (λ (x : List Advice). told ++ x) (sym (one_told grid t b (drop j queue)))
     ∙ ap (λ (x : List Booking). told ++ advices_by grid t x) (sym (drop_at queue i j b next lt is)))))
 
-pub told_fits : (grid : Legs) (t : Table) (b : Booking) → is_waiting b.status ≡ true → b.seats ≤ room grid t b.place b.class → told_of grid t b ≡ advice_of b ∷ []
+pub told_fits : (grid : Ladders) (t : Table) (b : Booking) → is_waiting b.status ≡ true → b.seats ≤ room grid t b.place b.class → told_of grid t b ≡ advice_of b ∷ []
 told_fits grid t b waits le = let fits : nat_le b.seats (room grid t b.place b.class) ≡ true = grind (arith, nat_tests) in rw (waits, fits) refl
 
-pub told_over : (grid : Legs) (t : Table) (b : Booking) → room grid t b.place b.class < b.seats → told_of grid t b ≡ []
+pub told_over : (grid : Ladders) (t : Table) (b : Booking) → room grid t b.place b.class < b.seats → told_of grid t b ≡ []
 told_over grid t b over = cases (is_waiting b.status) refl where
   no : nat_le b.seats (room grid t b.place b.class) ≡ false
   no = grind (arith, nat_tests)
@@ -244,9 +244,9 @@ told_over grid t b over = cases (is_waiting b.status) refl where
   cases true e = rw (e, no) refl
   cases false e = rw e refl
 
-pub told_held : (grid : Legs) (t : Table) (b : Booking) → is_waiting b.status ≡ false → told_of grid t b ≡ []
+pub told_held : (grid : Ladders) (t : Table) (b : Booking) → is_waiting b.status ≡ false → told_of grid t b ≡ []
 told_held grid t b e = rw e refl
 
-pub taken_one : (old new : Counted) (b : Booking) → Takes old new b.place b.class b.seats → b.seats ≤ room (limits_of old) (seats_of old) b.place b.class
-    → seats_of new ≡ shown_advices (limits_of old) (seats_of old) (advice_of b ∷ [])
+pub taken_one : (old new : Counted) (b : Booking) → Takes old new b.place b.class b.seats → b.seats ≤ room (limits_of old) (table_of old) b.place b.class
+    → table_of new ≡ shown_advices (limits_of old) (table_of old) (advice_of b ∷ [])
 taken_one old new b takes le = taken old new b.place b.class b.seats takes le

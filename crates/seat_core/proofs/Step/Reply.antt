@@ -5,8 +5,8 @@ use Rattle.std.proofs.lemmas.Result.{IfOk-weaker}
 use Rattle.std.proofs.lemmas.List.Sums.{sum_by-cons}
 use Rattle.std.proofs.lemmas.Bool.Decides.{nat_tests}
 use Rattle.airline_base.specs.declared.place.Place.{Place}
-use Rattle.seat_nesting.specs.Nesting.{Legs, Table, ByClass, Fits, room, may_wait, ladder_at, each_leg, seats_at}
-use Rattle.seat_nesting.specs.Counting.{Counted, limits_of, seats_of, holds, leg_holds}
+use Rattle.seat_nesting.specs.Nesting.{Ladders, Table, ByClass, Fits, room, may_wait, ladder_at, each_leg, seats_at}
+use Rattle.seat_nesting.specs.Counting.{Counted, limits_of, table_of, holds, leg_holds}
 use Rattle.seat_nesting.specs.Changing.{can_set, may_have}
 use Rattle.seat_rules.specs.declared.action.Wish.TheVariants.{Need}
 use Rattle.seat_rules.specs.declared.booking.Booking.{Booking}
@@ -18,11 +18,11 @@ use Rattle.seat_journal.specs.declared.entry.Command.{Command}
 use Rattle.seat_journal.specs.declared.entry.Work.{Work}
 use Rattle.seat_journal.specs.declared.entry.Work.TheVariants.{Seats, Limit}
 use Rattle.seat_journal.specs.declared.entry.Entry.{Entry}
-use Rattle.seat_core.specs.Answers.{IsAsked, IsFlight, Says, rest_advised}
+use Rattle.seat_core.specs.Answers.{CanAnswerWork, CountsFlight, Says, rest_advised}
 use Rattle.seat_core.specs.declared.reply.Answer.{Answer}
 use Rattle.seat_rules.specs.Tables.{Lacks, advices_by, with_advice}
 use Rattle.seat_rules.specs.Bookings.{is_for, is_held, is_waiting, held, waiting, seats_on}
-use Rattle.seat_bookings.specs.Books.{book_at, book_of, queue_at, IsKept}
+use Rattle.seat_bookings.specs.Books.{book_at, book_of, queue_at, IsOfReplay}
 use Rattle.seat_rules.specs.Flights.{bookings_on}
 use Rattle.seat_rules.specs.Journal.{replay, next_line, FitsWork}
 use Rattle.seat_bookings.specs.Queues.{queue_of, first_waits}
@@ -39,23 +39,23 @@ use Rattle.seat_rules.proofs.Passes.Weights.{found_passes}
 -- ---- rooms and waiting lists
 
 -- the room of a place is that of its flight's bookings
-pub room_is : (counts : Counted) (books : List FlightBook) (p : Place) (class : ℕ) → IsFlight counts books p.flight
-    → room (limits_of counts) (seats_of counts) p class ≡ room (limits_of counts) (held (book_at books p.flight)) p class
-room_is counts books p class h = room_same (limits_of counts) (seats_of counts) (held (book_at books p.flight)) p class h.seats
+pub room_is : (counts : Counted) (books : List FlightBook) (p : Place) (class : ℕ) → CountsFlight counts books p.flight
+    → room (limits_of counts) (table_of counts) p class ≡ room (limits_of counts) (held (book_at books p.flight)) p class
+room_is counts books p class h = room_same (limits_of counts) (table_of counts) (held (book_at books p.flight)) p class h.seats
 
 -- and what may wait there rests on its waiting list
-pub may_wait_is : (limits : Legs) (xs ys : List Booking) (p : Place) (class n : ℕ) → ys ≡ queue_of xs → may_wait limits (waiting ys) p class n ≡ may_wait limits (waiting xs) p class n
+pub may_wait_is : (limits : Ladders) (xs ys : List Booking) (p : Place) (class n : ℕ) → ys ≡ queue_of xs → may_wait limits (waiting ys) p class n ≡ may_wait limits (waiting xs) p class n
 may_wait_is limits xs ys p class n is =
     ap (λ (l : List Booking). may_wait limits (waiting l) p class n) is ∙ may_wait_same limits (waiting (queue_of xs)) (waiting xs) p class n (λ l. waiting_queue xs p.flight l class)
 
 -- whether so many seats fit, by the counters
-pub fits_yes : (counts : Counted) (books : List FlightBook) (p : Place) (class n r : ℕ) → IsFlight counts books p.flight → r ≡ room (limits_of counts) (seats_of counts) p class → n ≤ r
+pub fits_yes : (counts : Counted) (books : List FlightBook) (p : Place) (class n r : ℕ) → CountsFlight counts books p.flight → r ≡ room (limits_of counts) (table_of counts) p class → n ≤ r
     → nat_le n (room (limits_of counts) (held (book_at books p.flight)) p class) ≡ true
 fits_yes counts books p class n r h is le =
     let test : nat_le n r ≡ true = grind (arith, nat_tests) in
     ap (nat_le n) (sym (room_is counts books p class h) ∙ sym is) ∙ test
 
-pub fits_no : (counts : Counted) (books : List FlightBook) (p : Place) (class n r : ℕ) → IsFlight counts books p.flight → r ≡ room (limits_of counts) (seats_of counts) p class → r < n
+pub fits_no : (counts : Counted) (books : List FlightBook) (p : Place) (class n r : ℕ) → CountsFlight counts books p.flight → r ≡ room (limits_of counts) (table_of counts) p class → r < n
     → nat_le n (room (limits_of counts) (held (book_at books p.flight)) p class) ≡ false
 fits_no counts books p class n r h is lt =
     let test : nat_le n r ≡ false = grind (arith, nat_tests) in
@@ -64,11 +64,11 @@ fits_no counts books p class n r h is lt =
 -- ---- a booking that waits
 
 -- a pass where none fits but the last
-by_quiet : (grid : Legs) (book xs ys : List Booking) → NoneFitsAmong grid book xs → advices_by grid (held book) (xs ++ ys) ≡ advices_by grid (held book) ys
+by_quiet : (grid : Ladders) (book xs ys : List Booking) → NoneFitsAmong grid book xs → advices_by grid (held book) (xs ++ ys) ≡ advices_by grid (held book) ys
 by_quiet grid book [] ys a = refl
 by_quiet grid book (x ∷ xs) ys a = rw (a.0) (by_quiet grid book xs ys a.1)
 
-pub queued_is : (grid : Legs) (bs : List Booking) (n : ℕ) (c : Command) (p : Place) → NoneFits grid bs
+pub queued_is : (grid : Ladders) (bs : List Booking) (n : ℕ) (c : Command) (p : Place) → NoneFits grid bs
     → (pass grid [] [] (bs ++ booking_of n c p Waiting ∷ [])).advices ≡ (if nat_le c.seats (room grid (held bs) p c.class) then advice_of (booking_of n c p Waiting) ∷ [] else [])
 queued_is grid bs n c p quiet =
     pass_is_by_table grid (bs ++ booking_of n c p Waiting ∷ [])
@@ -83,10 +83,10 @@ need_closed s n c p false may e = refl
 -- ---- seats that are given back
 
 -- by a table no waiting booking fits
-abbrev QuietBy : Legs → Table → List Booking → Type 0
+abbrev QuietBy : Ladders → Table → List Booking → Type 0
 QuietBy grid t bs = AllByRecursion (λ b. (is_waiting b.status && nat_le b.seats (room grid t b.place b.class)) ≡ false) bs
 
-none_told : (grid : Legs) (t : Table) (bs : List Booking) → QuietBy grid t bs → advices_by grid t bs ≡ []
+none_told : (grid : Ladders) (t : Table) (bs : List Booking) → QuietBy grid t bs → advices_by grid t bs ≡ []
 none_told grid t [] q = refl
 none_told grid t (b ∷ bs) q = rw (q.0) (none_told grid t bs q.1)
 
@@ -95,7 +95,7 @@ over false n r s le e = refl
 over true n r s le e = grind (arith, nat_tests)
 
 -- nor by one that holds more
-quiet_more : (grid : Legs) (t u : Table) (bs : List Booking) → ((f l k : ℕ) → t f l k ≤ u f l k) → QuietBy grid t bs → QuietBy grid u bs
+quiet_more : (grid : Ladders) (t u : Table) (bs : List Booking) → ((f l k : ℕ) → t f l k ≤ u f l k) → QuietBy grid t bs → QuietBy grid u bs
 quiet_more grid t u [] le q = tt
 quiet_more grid t u (b ∷ bs) le q =
     (over (is_waiting b.status) b.seats (room grid t b.place b.class) (room grid u b.place b.class) (room_less grid t u b.place b.class le) q.0, quiet_more grid t u bs le q.1)
@@ -104,7 +104,7 @@ found_is : (x b : Booking) → ◌≡◌ {A = Option Booking} (Some x) (Some b) 
 found_is x b e = cc
 
 -- seats off a waiting booking: it alone may fit
-rest_is : (grid : Legs) (t : Table) (test : Booking → Bool) (n : ℕ) (bs : List Booking) (b : Booking) → QuietBy grid t bs → find test bs ≡ Some b → is_waiting b.status ≡ true
+rest_is : (grid : Ladders) (t : Table) (test : Booking → Bool) (n : ℕ) (bs : List Booking) (b : Booking) → QuietBy grid t bs → find test bs ≡ Some b → is_waiting b.status ≡ true
     → advices_by grid t (reduced test n bs) ≡ rest_advised (room grid t b.place b.class) b n
 rest_is grid t test n [] b q found waits = absurd cc
 rest_is grid t test n (x ∷ bs) b q found waits = cases (test x) refl (rest_is grid t test n bs b q.1) where
@@ -131,7 +131,7 @@ rest_is grid t test n (x ∷ bs) b q found waits = cases (test x) refl (rest_is 
       rw (m, q.0) (rest later waits)
 
 -- a pass looks at waiting bookings alone
-advices_queue : (grid : Legs) (t : Table) (bs : List Booking) → advices_by grid t bs ≡ advices_by grid t (queue_of bs)
+advices_queue : (grid : Ladders) (t : Table) (bs : List Booking) → advices_by grid t bs ≡ advices_by grid t (queue_of bs)
 advices_queue grid t [] = refl
 advices_queue grid t (b ∷ bs) = cases (is_waiting b.status) refl (λ (u : Table). advices_queue grid u bs) where
   cases : (w : Bool) → is_waiting b.status ≡ w → ((u : Table) → advices_by grid u bs ≡ advices_by grid u (queue_of bs)) → advices_by grid t (b ∷ bs) ≡ advices_by grid t (queue_of (b ∷ bs))
@@ -147,7 +147,7 @@ advices_queue grid t (b ∷ bs) = cases (is_waiting b.status) refl (λ (u : Tabl
 abbrev SameOn : ℕ → Table → Table → Type 0
 SameOn f t u = (l k : ℕ) → t f l k ≡ u f l k
 
-advices_same : (grid : Legs) (f : ℕ) (t u : Table) (bs : List Booking) → AllByRecursion (λ b. b.place.flight ≡ f) bs → SameOn f t u → advices_by grid t bs ≡ advices_by grid u bs
+advices_same : (grid : Ladders) (f : ℕ) (t u : Table) (bs : List Booking) → AllByRecursion (λ b. b.place.flight ≡ f) bs → SameOn f t u → advices_by grid t bs ≡ advices_by grid u bs
 advices_same grid f t u [] on same = refl
 advices_same grid f t u (b ∷ bs) on same =
     cases (is_waiting b.status && nat_le b.seats (room grid u b.place b.class)) refl (λ (x y : Table) (s : SameOn f x y). advices_same grid f x y bs on.1 s)
@@ -166,7 +166,7 @@ each_same : (p q : ℕ → Bool) (from n : ℕ) → ((leg : ℕ) → p leg ≡ q
 each_same p q from zero h = h from
 each_same p q from (suc n) h = rw (each_same p q from n h, h (from + suc n)) refl
 
-given_same : (grid : Legs) (t u : Table) (p : Place) (class n : ℕ) → SameOn p.flight t u → SameOn p.flight (given_back grid t p class n) (given_back grid u p class n)
+given_same : (grid : Ladders) (t u : Table) (p : Place) (class n : ℕ) → SameOn p.flight t u → SameOn p.flight (given_back grid t p class n) (given_back grid u p class n)
 given_same grid t u p class n same l k = cases (holds grid u p class n) refl where
   alike : holds grid t p class n ≡ holds grid u p class n
   alike =
@@ -202,12 +202,12 @@ waits_as_found test (x ∷ bs) b found = cases (test x) refl (waits_as_found tes
   cases false m rest = let later : find test bs ≡ Some b = rw m at found in rw m (rest later)
 
 -- a cancellation of held seats: the pass runs over the waiting list, once they are given back
-pub cancel_held : (counts : Counted) (books : List FlightBook) (c : Command) (p : Place) (b : Booking) → IsFlight counts books p.flight → find (is_for c.locator p c.class) (book_at books p.flight) ≡ Some b
+pub cancel_held : (counts : Counted) (books : List FlightBook) (c : Command) (p : Place) (b : Booking) → CountsFlight counts books p.flight → find (is_for c.locator p c.class) (book_at books p.flight) ≡ Some b
     → p.from ≤ p.to → 1 ≤ c.seats → c.seats ≤ b.seats → is_waiting b.status ≡ false
     → (pass (limits_of counts) [] [] (reduced (is_for c.locator p c.class) c.seats (book_at books p.flight))).advices
-    ≡ advices_by (limits_of counts) (given_back (limits_of counts) (seats_of counts) p c.class c.seats) (queue_at books p.flight)
+    ≡ advices_by (limits_of counts) (given_back (limits_of counts) (table_of counts) p c.class c.seats) (queue_at books p.flight)
 cancel_held counts books c p b h found order some le held_now =
-    let grid : Legs = limits_of counts in
+    let grid : Ladders = limits_of counts in
     let bs : List Booking = book_at books p.flight in
     let test : Booking → Bool = is_for c.locator p c.class in
     let after : List Booking = reduced test c.seats bs in
@@ -223,16 +223,16 @@ cancel_held counts books c p b h found order some le held_now =
     ∙ (advices_queue grid (held after) after
     ∙ (ap (λ (l : List Booking). advices_by grid (held after) l) queue
     ∙ (ap (λ (t : Table). advices_by grid t (queue_at books p.flight)) (sym table)
-    ∙ advices_same grid p.flight (given_back grid (held bs) p c.class c.seats) (given_back grid (seats_of counts) p c.class c.seats) (queue_at books p.flight) on
-    (given_same grid (held bs) (seats_of counts) p c.class c.seats (λ l k. sym (h.seats l k))))))
+    ∙ advices_same grid p.flight (given_back grid (held bs) p c.class c.seats) (given_back grid (table_of counts) p c.class c.seats) (queue_at books p.flight) on
+    (given_same grid (held bs) (table_of counts) p c.class c.seats (λ l k. sym (h.seats l k))))))
 
 -- and of seats that wait: the booking that keeps fewer may fit
-pub cancel_waiting : (counts : Counted) (books : List FlightBook) (c : Command) (p : Place) (b : Booking) → IsFlight counts books p.flight → find (is_for c.locator p c.class) (book_at books p.flight) ≡ Some b
+pub cancel_waiting : (counts : Counted) (books : List FlightBook) (c : Command) (p : Place) (b : Booking) → CountsFlight counts books p.flight → find (is_for c.locator p c.class) (book_at books p.flight) ≡ Some b
     → p.from ≤ p.to → 1 ≤ c.seats → c.seats ≤ b.seats → is_waiting b.status ≡ true
     → (pass (limits_of counts) [] [] (reduced (is_for c.locator p c.class) c.seats (book_at books p.flight))).advices
-    ≡ rest_advised (room (limits_of counts) (seats_of counts) b.place b.class) b c.seats
+    ≡ rest_advised (room (limits_of counts) (table_of counts) b.place b.class) b c.seats
 cancel_waiting counts books c p b h found order some le waits =
-    let grid : Legs = limits_of counts in
+    let grid : Ladders = limits_of counts in
     let bs : List Booking = book_at books p.flight in
     let test : Booking → Bool = is_for c.locator p c.class in
     let after : List Booking = reduced test c.seats bs in
@@ -242,8 +242,8 @@ cancel_waiting counts books c p b h found order some le waits =
     let table : held bs ≡ held after =
     sym (give_none grid (held bs) p c.class)
     ∙ (sym (ap (given_back grid (held bs) p c.class) zero_seats) ∙ cancel_shown grid bs test p c.class c.seats b h.lacks order some found le facts.0 facts.1 Waiting status) in
-    let same : room grid (held bs) b.place b.class ≡ room grid (seats_of counts) b.place b.class =
-    (let P : Place → Type 0 = λ x. room grid (held bs) x b.class ≡ room grid (seats_of counts) x b.class in subst P (sym facts.0) (sym (room_is counts books p b.class h))) in
+    let same : room grid (held bs) b.place b.class ≡ room grid (table_of counts) b.place b.class =
+    (let P : Place → Type 0 = λ x. room grid (held bs) x b.class ≡ room grid (table_of counts) x b.class in subst P (sym facts.0) (sym (room_is counts books p b.class h))) in
     pass_is_by_table grid after
     ∙ (ap (λ (t : Table). advices_by grid t after) (sym table)
     ∙ (rest_is grid (held bs) test c.seats bs b h.quiet found waits
@@ -258,15 +258,15 @@ cancel_waiting counts books c p b h found order some le waits =
 -- ---- another limit
 
 -- whether a change may be made, by the counters
-pub may_is : (counts : Counted) (books : List FlightBook) (c : Change) → IsFlight counts books c.flight
-    → may_change (state_of (limits_of counts) (book_at books c.flight)) c ≡ can_set (limits_of counts) (seats_of counts) c.flight c.leg c.class c.limit c.wait
+pub may_is : (counts : Counted) (books : List FlightBook) (c : Change) → CountsFlight counts books c.flight
+    → may_change (state_of (limits_of counts) (book_at books c.flight)) c ≡ can_set (limits_of counts) (table_of counts) c.flight c.leg c.class c.limit c.wait
 may_is counts books c h =
-    let same : seats_of counts c.flight c.leg ≡ held (book_at books c.flight) c.flight c.leg = (λ i k. h.seats c.leg k i) in
+    let same : table_of counts c.flight c.leg ≡ held (book_at books c.flight) c.flight c.leg = (λ i k. h.seats c.leg k i) in
     ap (λ (t : ByClass). nat_le c.wait 999 && may_have (ladder_at (limits_of counts) c.flight c.leg) t c.class c.limit) (sym same)
 
 -- the pass under the new limits runs over the waiting list
-pub changed_told : (grid : Legs) (counts : Counted) (books : List FlightBook) (f : ℕ) → IsFlight counts books f
-    → (pass grid [] [] (book_at books f)).advices ≡ advices_by grid (seats_of counts) (queue_at books f)
+pub changed_told : (grid : Ladders) (counts : Counted) (books : List FlightBook) (f : ℕ) → CountsFlight counts books f
+    → (pass grid [] [] (book_at books f)).advices ≡ advices_by grid (table_of counts) (queue_at books f)
 changed_told grid counts books f h =
     let bs : List Booking = book_at books f in
     let on : AllByRecursion (λ x. x.place.flight ≡ f) (queue_at books f) =
@@ -274,11 +274,11 @@ changed_told grid counts books f h =
     pass_is_by_table grid bs
     ∙ (advices_queue grid (held bs) bs
     ∙ (ap (λ (l : List Booking). advices_by grid (held bs) l) (sym h.queue)
-    ∙ advices_same grid f (held bs) (seats_of counts) (queue_at books f) on (λ l k. sym (h.seats l k))))
+    ∙ advices_same grid f (held bs) (table_of counts) (queue_at books f) on (λ l k. sym (h.seats l k))))
 
 -- ---- the flight of a place, in an inventory that is kept
 
-quiet_on : (grid : Legs) (f : ℕ) (bs among : List Booking) → NoneFitsAmong grid bs among → NoneFitsAmong grid (bookings_on f bs) (bookings_on f among)
+quiet_on : (grid : Ladders) (f : ℕ) (bs among : List Booking) → NoneFitsAmong grid bs among → NoneFitsAmong grid (bookings_on f bs) (bookings_on f among)
 quiet_on grid f bs [] a = tt
 quiet_on grid f bs (b ∷ among) a = cases (b.place.flight == f) refl (quiet_on grid f bs among a.1) where
   here : b.place.flight ≡ f → may_confirm grid (bookings_on f bs) b ≡ false
@@ -306,12 +306,12 @@ held_on_le f (b ∷ bs) x l k = cases (b.place.flight == f) refl (held_on_le f b
   cases true e rest = rw e (omega (arith, rest, sum_by-cons (seats_on x l k) b (bookings_on f bs), sum_by-cons (seats_on x l k) b bs))
   cases false e rest = rw e (omega (arith, rest, sum_by-cons (seats_on x l k) b bs))
 
-pub flight_kept : (opening : Legs) (cap : ℕ) (journal : List Entry) (books : List FlightBook) (calls : List ℕ) (counts : Counted) (f : ℕ) → IsKept opening cap journal books calls counts → IsFlight counts books f
+pub flight_kept : (opening : Ladders) (cap : ℕ) (journal : List Entry) (books : List FlightBook) (calls : List ℕ) (counts : Counted) (f : ℕ) → IsOfReplay opening cap journal books calls counts → CountsFlight counts books f
 flight_kept opening cap journal books calls counts f k =
-    let now : Legs = limits_of counts in
+    let now : Ladders = limits_of counts in
     let bs : List Booking = (replay opening journal).bookings in
     let book : bookings_on f bs ≡ book_at books f = sym (k.by_flight f) in
-    let lacks : Lacks now bs = (let P : Legs → Type 0 = λ g. Lacks g bs in subst P (ap (λ (s : State). s.grid) k.lawful.left) (lacks_replay opening journal)) in
+    let lacks : Lacks now bs = (let P : Ladders → Type 0 = λ g. Lacks g bs in subst P (ap (λ (s : State). s.grid) k.lawful.left) (lacks_replay opening journal)) in
     record {
       few = few_in_book opening cap journal books calls counts f k;
       quiet = subst (NoneFits now) book (quiet_on now f bs bs k.lawful.quiet);
@@ -322,18 +322,18 @@ flight_kept opening cap journal books calls counts f k =
       there = (let P : List Booking → Type 0 = λ l. AllByRecursion (λ b. b.place.flight ≡ f) l in subst P book (all_there f bs));
     }
 
-kept_flight : (opening : Legs) (cap : ℕ) (journal : List Entry) (books : List FlightBook) (calls : List ℕ) (counts : Counted) (o : Option Place) → IsKept opening cap journal books calls counts
-    → IfSome o (λ p. IsFlight counts books p.flight)
+kept_flight : (opening : Ladders) (cap : ℕ) (journal : List Entry) (books : List FlightBook) (calls : List ℕ) (counts : Counted) (o : Option Place) → IsOfReplay opening cap journal books calls counts
+    → IfSome o (λ p. CountsFlight counts books p.flight)
 kept_flight opening cap journal books calls counts None k = tt
 kept_flight opening cap journal books calls counts (Some p) k = flight_kept opening cap journal books calls counts p.flight k
 
 -- its legs stand in order
-in_order : (grid : Legs) (o : Option Place) → IfSome o (Fits grid) → IfSome o (λ p. p.from ≤ p.to)
+in_order : (grid : Ladders) (o : Option Place) → IfSome o (Fits grid) → IfSome o (λ p. p.from ≤ p.to)
 in_order grid None h = tt
 in_order grid (Some p) h = h.0
 
 -- what fits may be answered
-pub asked_kept : (opening : Legs) (cap : ℕ) (journal : List Entry) (books : List FlightBook) (calls : List ℕ) (counts : Counted) (w : Work) → IsKept opening cap journal books calls counts → FitsWork opening w → IsAsked counts books w
+pub asked_kept : (opening : Ladders) (cap : ℕ) (journal : List Entry) (books : List FlightBook) (calls : List ℕ) (counts : Counted) (w : Work) → IsOfReplay opening cap journal books calls counts → FitsWork opening w → CanAnswerWork counts books w
 asked_kept opening cap journal books calls counts (Seats c) k fits = record {
   flight = kept_flight opening cap journal books calls counts c.place k;
   order = in_order opening c.place fits.2;
@@ -355,11 +355,11 @@ says_same a b n same says = record {
 }
 
 -- what the flight's book says is what the replay says
-pub says_kept : (opening : Legs) (cap : ℕ) (journal : List Entry) (books : List FlightBook) (calls : List ℕ) (counts : Counted) (book : List Booking) (n : ℕ) (w : Work) (a : Answer)
-    → IsKept opening cap journal books calls counts → book ≡ book_of books w → n ≡ length journal + 1
+pub says_kept : (opening : Ladders) (cap : ℕ) (journal : List Entry) (books : List FlightBook) (calls : List ℕ) (counts : Counted) (book : List Booking) (n : ℕ) (w : Work) (a : Answer)
+    → IsOfReplay opening cap journal books calls counts → book ≡ book_of books w → n ≡ length journal + 1
     → Says (answer (state_of (limits_of counts) book) n w) a → Says (answer (replay opening journal) (length journal + 1) w) a
 says_kept opening cap journal books calls counts book n w a k is number says =
-    let now : Legs = limits_of counts in
+    let now : Ladders = limits_of counts in
     let P : List Booking → Type 0 = λ l. Says (answer (state_of now l) n w) a in
     let here : Says (answer (state_of now (book_of books w)) n w) a = subst P is says in
     let whole : Says (answer (state_of now (replay opening journal).bookings) n w) a =
@@ -369,7 +369,7 @@ says_kept opening cap journal books calls counts book n w a k is number says =
     subst R number (subst Q (sym k.lawful.left) whole)
 
 -- the line with that answer is the next
-pub line_said : (grid : Legs) (past : List Entry) (session call : ℕ) (w : Work) (a : Answer) (told : List Advice) (n : ℕ) → n ≡ length past + 1 → Says (answer (replay grid past) (length past + 1) w) a
+pub line_said : (grid : Ladders) (past : List Entry) (session call : ℕ) (w : Work) (a : Answer) (told : List Advice) (n : ℕ) → n ≡ length past + 1 → Says (answer (replay grid past) (length past + 1) w) a
     → (answer (replay grid past) (length past + 1) w).advices ≡ told
     → ◌≡◌ {A = Entry} (record { number = n; session = session; call = call; work = w; reply = a.reply; released = a.released; advices = told }) (next_line grid past session call w)
 line_said grid past session call w a told n number says advices =

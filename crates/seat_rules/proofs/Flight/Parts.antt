@@ -3,7 +3,7 @@ use Rattle.std.proofs.Common.{◌≡◌, ◌==◌, ◌&&◌, ℕ, Bool, true, fa
 use Rattle.std.proofs.lemmas.List.{append-nil}
 use Rattle.std.proofs.lemmas.Bool.Decides.{nat_tests}
 use Rattle.airline_base.specs.declared.place.Place.{Place}
-use Rattle.seat_nesting.specs.Nesting.{Legs}
+use Rattle.seat_nesting.specs.Nesting.{Ladders}
 use Rattle.seat_rules.specs.declared.booking.Booking.{Booking}
 use Rattle.seat_journal.specs.declared.entry.Advice.{Advice}
 use Rattle.seat_rules.specs.Bookings.{is_for, is_waiting}
@@ -12,7 +12,7 @@ use Rattle.seat_rules.specs.Flights.{renumbered, AgreeOn}
 use Rattle.seat_rules.proofs.Flight.View.{view, told_on, view_here, view_away, view_append, told_append, room_over, pass_takes, pass_leaves}
 
 -- the number of a booking does not matter to its test
-pub may_confirm_view : (g h : Legs) (anew : ℕ → ℕ) (f : ℕ) (bs : List Booking) (b : Booking) → AgreeOn f g h → (b.place.flight == f) ≡ true
+pub may_confirm_view : (g h : Ladders) (anew : ℕ → ℕ) (f : ℕ) (bs : List Booking) (b : Booking) → AgreeOn f g h → (b.place.flight == f) ≡ true
     → may_confirm h (view anew f bs) (renumbered anew b) ≡ may_confirm g bs b
 may_confirm_view g h anew f bs b a e =
     let q : b.place.flight ≡ f = grind (arith, nat_tests) in
@@ -22,7 +22,7 @@ may_confirm_view g h anew f bs b a e =
 abbrev pub seen_pass : (ℕ → ℕ) → ℕ → Passed → Passed
 seen_pass anew f p = record { bookings = view anew f p.bookings; advices = told_on anew f p.advices }
 
-same_pass : (grid : Legs) (l l' : List Booking) (t t' : List Advice) (xs : List Booking) → l ≡ l' → t ≡ t' → pass grid l t xs ≡ pass grid l' t' xs
+same_pass : (grid : Ladders) (l l' : List Booking) (t t' : List Advice) (xs : List Booking) → l ≡ l' → t ≡ t' → pass grid l t xs ≡ pass grid l' t' xs
 same_pass grid l l' t t' xs p q = ap (λ (x : List Booking). pass grid x t xs) p ∙ ap (λ (x : List Advice). pass grid l' x xs) q
 
 pub view_push : (anew : ℕ → ℕ) (f : ℕ) (done : List Booking) (b : Booking) → (b.place.flight == f) ≡ true → view anew f (done ++ b ∷ []) ≡ view anew f done ++ renumbered anew b ∷ []
@@ -41,7 +41,7 @@ view_mid : (anew : ℕ → ℕ) (f : ℕ) (done : List Booking) (b : Booking) (b
 view_mid anew f done b bs e = view_append anew f done (b ∷ bs) ∙ ap (λ (x : List Booking). view anew f done ++ x) (view_here anew f b bs e)
 
 -- the pass over a flight's bookings is what the flight sees of the pass over all, over each grid that agrees on the flight
-pub pass_view : (g h : Legs) (anew : ℕ → ℕ) (f : ℕ) (done : List Booking) (told : List Advice) (bs : List Booking) → AgreeOn f g h
+pub pass_view : (g h : Ladders) (anew : ℕ → ℕ) (f : ℕ) (done : List Booking) (told : List Advice) (bs : List Booking) → AgreeOn f g h
     → pass h (view anew f done) (told_on anew f told) (view anew f bs) ≡ seen_pass anew f (pass g done told bs)
 pass_view g h anew f done told [] a = refl
 pass_view g h anew f done told (b ∷ bs) a =
@@ -75,7 +75,7 @@ pass_view g h anew f done told (b ∷ bs) a =
         ∙ (rest b told ∙ sym (ap (seen_pass anew f) (pass_leaves g done told b bs may))))
 
 -- a pass in which nothing fits changes nothing
-pub pass_none : (grid : Legs) (done : List Booking) (told : List Advice) (bs : List Booking) → NoneFitsAmong grid (done ++ bs) bs → pass grid done told bs ≡ record { bookings = done ++ bs; advices = told }
+pub pass_none : (grid : Ladders) (done : List Booking) (told : List Advice) (bs : List Booking) → NoneFitsAmong grid (done ++ bs) bs → pass grid done told bs ≡ record { bookings = done ++ bs; advices = told }
 pass_none grid done told [] a = ap (λ (x : List Booking). record { bookings = x; advices = told }) (sym (append-nil done))
 pass_none grid done told (b ∷ bs) a =
     let P : List Booking → Type 0 = λ l. NoneFitsAmong grid l bs in
@@ -83,7 +83,7 @@ pass_none grid done told (b ∷ bs) a =
     pass_leaves grid done told b bs a.0 ∙ subst Q (append_assoc done (b ∷ []) bs) (pass_none grid (done ++ b ∷ []) told bs (subst P (sym (append_assoc done (b ∷ []) bs)) a.1))
 
 -- where nothing fits in the whole, nothing fits in what the flight sees
-pub none_among : (grid : Legs) (anew : ℕ → ℕ) (f : ℕ) (book among : List Booking) → NoneFitsAmong grid book among → NoneFitsAmong grid (view anew f book) (view anew f among)
+pub none_among : (grid : Ladders) (anew : ℕ → ℕ) (f : ℕ) (book among : List Booking) → NoneFitsAmong grid book among → NoneFitsAmong grid (view anew f book) (view anew f among)
 none_among grid anew f book [] a = tt
 none_among grid anew f book (b ∷ bs) a = cases (b.place.flight == f) refl (none_among grid anew f book bs a.1) where
   cases : (t : Bool) → (b.place.flight == f) ≡ t → NoneFitsAmong grid (view anew f book) (view anew f bs) → NoneFitsAmong grid (view anew f book) (view anew f (b ∷ bs))

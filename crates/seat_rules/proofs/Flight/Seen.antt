@@ -2,7 +2,7 @@
 use Rattle.std.proofs.Common.{◌≡◌, ◌==◌, ◌&&◌, ℕ, Bool, true, false, nat_le, List, [], ◌∷◌, ◌++◌, Option, Some, None, option_map, codes, if◌then◌else◌, arith, refl, ap, sym, subst, ◌∙◌}
 use Rattle.std.proofs.lemmas.Bool.Decides.{nat_tests}
 use Rattle.airline_base.specs.declared.place.Place.{Place}
-use Rattle.seat_nesting.specs.Nesting.{Legs, legs_of, room, may_wait, is_listed}
+use Rattle.seat_nesting.specs.Nesting.{Ladders, legs_of, room, may_wait, is_listed}
 use Rattle.seat_rules.specs.declared.booking.Booking.{Booking}
 use Rattle.seat_rules.specs.declared.booking.Status.{Status}
 use Rattle.seat_rules.specs.declared.booking.Status.TheVariants.{Held, Waiting}
@@ -43,14 +43,14 @@ test_off : (f : ℕ) (locator : List ℕ) (p : Place) (class : ℕ) → (p.fligh
 test_off f locator p class e = record { never = λ b h. other_flight locator p class f b (apart b.place.flight p.flight f h e) }
 
 -- what the flight sees of an outcome, over these limits
-abbrev pub seen_over : Legs → (ℕ → ℕ) → ℕ → Outcome → Outcome
+abbrev pub seen_over : Ladders → (ℕ → ℕ) → ℕ → Outcome → Outcome
 seen_over h anew f o = record { state = state_of h (view anew f o.state.bookings); reply = o.reply; released = o.released; advices = told_on anew f o.advices }
 
 -- and over its own
 abbrev pub seen : (ℕ → ℕ) → ℕ → Outcome → Outcome
 seen anew f o = seen_over o.state.grid anew f o
 
-passed_view : (g h : Legs) (anew : ℕ → ℕ) (f : ℕ) (bs : List Booking) (reply : List ℕ) (released : ℕ) → AgreeOn f g h → passed h (view anew f bs) reply released ≡ seen_over h anew f (passed g bs reply released)
+passed_view : (g h : Ladders) (anew : ℕ → ℕ) (f : ℕ) (bs : List Booking) (reply : List ℕ) (released : ℕ) → AgreeOn f g h → passed h (view anew f bs) reply released ≡ seen_over h anew f (passed g bs reply released)
 passed_view g h anew f bs reply released a =
     ap (λ (p : Passed). outcome_of p) (pass_view g h anew f [] [] bs a)
   where
@@ -62,7 +62,7 @@ abbrev on_place : ℕ → Option Place → Bool
 on_place f o = is_flight f (option_map (λ p. p.flight) o)
 
 -- a command on the flight is answered from what the flight sees, over each grid that agrees on it, as from the whole
-command_over : (g h : Legs) (anew : ℕ → ℕ) (f : ℕ) (bookings : List Booking) (n : ℕ) (c : Command) (o : Option Place) → AgreeOn f g h → c.place ≡ o → on_place f o ≡ true
+command_over : (g h : Ladders) (anew : ℕ → ℕ) (f : ℕ) (bookings : List Booking) (n : ℕ) (c : Command) (o : Option Place) → AgreeOn f g h → c.place ≡ o → on_place f o ≡ true
     → answer (state_of h (view anew f bookings)) (anew n) (Seats c) ≡ seen_over h anew f (answer (state_of g bookings) n (Seats c))
 command_over g h anew f bookings n c None a at e = absurd cc
 command_over g h anew f bookings n c (Some place) a at e =
@@ -122,14 +122,14 @@ command_over g h anew f bookings n c (Some place) a at e =
     by_action Cancel = ap (λ (o : Option Booking). cancel v c place o) (find_view anew f test bookings (test_on anew f c.locator place c.class here)) ∙ by_held (booking_for s c place)
 
 -- so is a change of the flight
-abbrev limits_if : Bool → Legs → Change → Legs
+abbrev limits_if : Bool → Ladders → Change → Ladders
 limits_if t grid c = (if t then changed_by grid c else grid)
 
 set_if : (s : State) (c : Change) (t : Bool) → may_change s c ≡ t → (set s c).state.grid ≡ limits_if t s.grid c
 set_if s c true e = rw e refl
 set_if s c false e = rw e refl
 
-set_over : (g h : Legs) (anew : ℕ → ℕ) (f : ℕ) (bookings : List Booking) (c : Change) → AgreeOn f g h → c.flight ≡ f → (t : Bool) → may_change (state_of g bookings) c ≡ t
+set_over : (g h : Ladders) (anew : ℕ → ℕ) (f : ℕ) (bookings : List Booking) (c : Change) → AgreeOn f g h → c.flight ≡ f → (t : Bool) → may_change (state_of g bookings) c ≡ t
     → set (state_of h (view anew f bookings)) c ≡ seen_over (limits_if t h c) anew f (set (state_of g bookings) c)
 set_over g h anew f bookings c a here true may =
     let too : may_change (state_of h (view anew f bookings)) c ≡ true = may_change_over g h anew f bookings c a here ∙ may in
@@ -139,7 +139,7 @@ set_over g h anew f bookings c a here false may =
     rw (may, too) refl
 
 -- the limits after it agree on the flight as those before
-agree_set : (g h : Legs) (f : ℕ) (c : Change) (t : Bool) → AgreeOn f g h → AgreeOn f (limits_if t g c) (limits_if t h c)
+agree_set : (g h : Ladders) (f : ℕ) (c : Change) (t : Bool) → AgreeOn f g h → AgreeOn f (limits_if t g c) (limits_if t h c)
 agree_set g h f c true a = agree_changed g h f c a
 agree_set g h f c false a = a
 
@@ -151,19 +151,19 @@ pub record IsSeen (anew : ℕ → ℕ) (f : ℕ) (whole part : Outcome) : Type 0
   pub agree : AgreeOn f whole.state.grid part.state.grid
   pub is : part ≡ seen_over part.state.grid anew f whole
 
-same_legs : (f : ℕ) (g h : Legs) → g ≡ h → AgreeOn f g h
-same_legs f g h e = ap (λ (x : Legs). legs_of x f) e
+same_legs : (f : ℕ) (g h : Ladders) → g ≡ h → AgreeOn f g h
+same_legs f g h e = ap (λ (x : Ladders). legs_of x f) e
 
 -- a line on the flight is answered from what the flight sees, over each grid that agrees on it, as from the whole
-pub answer_over : (g h : Legs) (anew : ℕ → ℕ) (f : ℕ) (bookings : List Booking) (n : ℕ) (w : Work) → AgreeOn f g h → is_on f w ≡ true
+pub answer_over : (g h : Ladders) (anew : ℕ → ℕ) (f : ℕ) (bookings : List Booking) (n : ℕ) (w : Work) → AgreeOn f g h → is_on f w ≡ true
     → IsSeen anew f (answer (state_of g bookings) n w) (answer (state_of h (view anew f bookings)) (anew n) w)
 answer_over g h anew f bookings n (Seats c) a e = record {
   agree = same_legs f _ _ (grid_answer (state_of g bookings) n c) ∙ (a ∙ sym (same_legs f _ _ (grid_answer (state_of h (view anew f bookings)) (anew n) c)));
-  is = command_over g h anew f bookings n c c.place a refl e ∙ ap (λ (x : Legs). seen_over x anew f (answer (state_of g bookings) n (Seats c))) (sym (grid_answer (state_of h (view anew f bookings)) (anew n) c));
+  is = command_over g h anew f bookings n c c.place a refl e ∙ ap (λ (x : Ladders). seen_over x anew f (answer (state_of g bookings) n (Seats c))) (sym (grid_answer (state_of h (view anew f bookings)) (anew n) c));
 }
 answer_over g h anew f bookings n (Limit c) a e = record {
   agree = same_legs f _ _ whole ∙ (agree_set g h f c (may_change (state_of g bookings) c) a ∙ sym (same_legs f _ _ part));
-  is = set_over g h anew f bookings c a (on_flight f c e) (may_change (state_of g bookings) c) refl ∙ ap (λ (x : Legs). seen_over x anew f (set (state_of g bookings) c)) (sym part);
+  is = set_over g h anew f bookings c a (on_flight f c e) (may_change (state_of g bookings) c) refl ∙ ap (λ (x : Ladders). seen_over x anew f (set (state_of g bookings) c)) (sym part);
 }
   where
     whole : (set (state_of g bookings) c).state.grid ≡ limits_if (may_change (state_of g bookings) c) g c
@@ -173,14 +173,14 @@ answer_over g h anew f bookings n (Limit c) a e = record {
     part = set_if (state_of h (view anew f bookings)) c (may_change (state_of g bookings) c) (may_change_over g h anew f bookings c a (on_flight f c e))
 
 -- and over its own limits
-pub answer_on : (grid : Legs) (anew : ℕ → ℕ) (f : ℕ) (bookings : List Booking) (n : ℕ) (w : Work) → is_on f w ≡ true
+pub answer_on : (grid : Ladders) (anew : ℕ → ℕ) (f : ℕ) (bookings : List Booking) (n : ℕ) (w : Work) → is_on f w ≡ true
     → answer (state_of grid (view anew f bookings)) (anew n) w ≡ seen anew f (answer (state_of grid bookings) n w)
 answer_on grid anew f bookings n (Seats c) e =
     command_over grid grid anew f bookings n c c.place refl refl e
-    ∙ ap (λ (g : Legs). seen_over g anew f (answer (state_of grid bookings) n (Seats c))) (sym (grid_answer (state_of grid bookings) n c))
+    ∙ ap (λ (g : Ladders). seen_over g anew f (answer (state_of grid bookings) n (Seats c))) (sym (grid_answer (state_of grid bookings) n c))
 answer_on grid anew f bookings n (Limit c) e =
     set_over grid grid anew f bookings c refl (on_flight f c e) (may_change (state_of grid bookings) c) refl
-    ∙ ap (λ (g : Legs). seen_over g anew f (set (state_of grid bookings) c)) (sym (set_if (state_of grid bookings) c (may_change (state_of grid bookings) c) refl))
+    ∙ ap (λ (g : Ladders). seen_over g anew f (set (state_of grid bookings) c)) (sym (set_if (state_of grid bookings) c (may_change (state_of grid bookings) c) refl))
 
 -- a line off the flight changes nothing that the flight sees
 away_from : (f : ℕ) (c : Command) (p : Place) → c.place ≡ Some p → is_on f (Seats c) ≡ false → (p.flight == f) ≡ false
@@ -189,13 +189,13 @@ away_from f c p at off = sym (ap (on_place f) at) ∙ off
 here_on : (f : ℕ) (c : Command) (p : Place) → c.place ≡ Some p → is_on f (Seats c) ≡ true → (p.flight == f) ≡ true
 here_on f c p at on = sym (ap (on_place f) at) ∙ on
 
-quiet_view : (g grid : Legs) (anew : ℕ → ℕ) (f : ℕ) (bookings l : List Booking) → AgreeOn f g grid → NoneFits grid bookings → view anew f l ≡ view anew f bookings → view anew f (pass g [] [] l).bookings ≡ view anew f bookings
+quiet_view : (g grid : Ladders) (anew : ℕ → ℕ) (f : ℕ) (bookings l : List Booking) → AgreeOn f g grid → NoneFits grid bookings → view anew f l ≡ view anew f bookings → view anew f (pass g [] [] l).bookings ≡ view anew f bookings
 quiet_view g grid anew f bookings l agree a e =
     ap (λ (p : Passed). p.bookings) (sym (pass_view g grid anew f [] [] l agree))
     ∙ (ap (λ (x : List Booking). (pass grid [] [] x).bookings) e
     ∙ ap (λ (p : Passed). p.bookings) (pass_none grid [] [] (view anew f bookings) (none_among grid anew f bookings bookings a)))
 
-pub answer_off : (grid : Legs) (anew : ℕ → ℕ) (f : ℕ) (bookings : List Booking) (n : ℕ) (w : Work) → is_on f w ≡ false → NoneFits grid bookings
+pub answer_off : (grid : Ladders) (anew : ℕ → ℕ) (f : ℕ) (bookings : List Booking) (n : ℕ) (w : Work) → is_on f w ≡ false → NoneFits grid bookings
     → view anew f (answer (state_of grid bookings) n w).state.bookings ≡ view anew f bookings
 answer_off grid anew f bookings n w off a =
     each_outcome (λ w o. is_on f w ≡ false → view anew f o.state.bookings ≡ view anew f bookings) (state_of grid bookings) n
@@ -209,7 +209,7 @@ answer_off grid anew f bookings n w off a =
     w off
 
 -- nor its ladders
-pub limits_off : (grid : Legs) (bookings : List Booking) (f n : ℕ) (w : Work) → is_on f w ≡ false → AgreeOn f (answer (state_of grid bookings) n w).state.grid grid
+pub limits_off : (grid : Ladders) (bookings : List Booking) (f n : ℕ) (w : Work) → is_on f w ≡ false → AgreeOn f (answer (state_of grid bookings) n w).state.grid grid
 limits_off grid bookings f n w off =
     each_outcome (λ w o. is_on f w ≡ false → AgreeOn f o.state.grid grid) (state_of grid bookings) n
     (λ w r off. refl) (λ c p at none fits off. refl) (λ c p at none over why off. refl) (λ c p at none off. refl) (λ c p b at found le off. refl)
@@ -217,13 +217,13 @@ limits_off grid bookings f n w off =
     w off
 
 -- a booking of a flight whose bookings are the same fits as before
-same_fit : (grid : Legs) (old new : List Booking) (b : Booking) → view (λ n. n) b.place.flight new ≡ view (λ n. n) b.place.flight old → may_confirm grid new b ≡ may_confirm grid old b
+same_fit : (grid : Ladders) (old new : List Booking) (b : Booking) → view (λ n. n) b.place.flight new ≡ view (λ n. n) b.place.flight old → may_confirm grid new b ≡ may_confirm grid old b
 same_fit grid old new b e =
     ap (λ r. is_waiting b.status && nat_le b.seats r)
     (sym (room_view grid (λ n. n) b.place.flight new b.place b.class refl)
     ∙ (ap (λ (l : List Booking). room grid (held l) b.place b.class) e ∙ room_view grid (λ n. n) b.place.flight old b.place b.class refl))
 
-pub else_push : (grid : Legs) (f : ℕ) (bookings : List Booking) (b : Booking) → NoneFits grid bookings → (b.place.flight == f) ≡ true
+pub else_push : (grid : Ladders) (f : ℕ) (bookings : List Booking) (b : Booking) → NoneFits grid bookings → (b.place.flight == f) ≡ true
     → NoneElseFits f grid (bookings ++ b ∷ []) (bookings ++ b ∷ [])
 else_push grid f bookings b a here =
     all_push (λ x. (x.place.flight == f) ≡ false → may_confirm grid (bookings ++ b ∷ []) x ≡ false) bookings b
@@ -231,7 +231,7 @@ else_push grid f bookings b a here =
     (λ x no away. same_fit grid bookings (bookings ++ b ∷ []) x (view_same (λ n. n) x.place.flight bookings b (apart b.place.flight x.place.flight f here away)) ∙ no) a)
     (λ away. absurd cc)
 
-pub else_reduced : (grid : Legs) (f : ℕ) (bookings : List Booking) (locator : List ℕ) (p : Place) (class n : ℕ) → NoneFits grid bookings → (p.flight == f) ≡ true
+pub else_reduced : (grid : Ladders) (f : ℕ) (bookings : List Booking) (locator : List ℕ) (p : Place) (class n : ℕ) → NoneFits grid bookings → (p.flight == f) ≡ true
     → NoneElseFits f grid (reduced (is_for locator p class) n bookings) (reduced (is_for locator p class) n bookings)
 else_reduced grid f bookings locator p class n a here =
     all_reduced (λ x. (x.place.flight == f) ≡ false → may_confirm grid (reduced (is_for locator p class) n bookings) x ≡ false) (is_for locator p class) n bookings
@@ -250,7 +250,7 @@ anew_append anew [] ys = refl
 anew_append anew (a ∷ xs) ys = rw (anew_append anew xs ys) refl
 
 -- the pass over one flight tells that flight alone
-told_pass : (grid : Legs) (anew : ℕ → ℕ) (f : ℕ) (done : List Booking) (told : List Advice) (bs : List Booking) → told_on anew f told ≡ advices_anew anew told
+told_pass : (grid : Ladders) (anew : ℕ → ℕ) (f : ℕ) (done : List Booking) (told : List Advice) (bs : List Booking) → told_on anew f told ≡ advices_anew anew told
     → told_on anew f (pass_on f grid done told bs).advices ≡ advices_anew anew (pass_on f grid done told bs).advices
 told_pass grid anew f done told [] h = h
 told_pass grid anew f done told (b ∷ bs) h =
@@ -268,7 +268,7 @@ told_pass grid anew f done told (b ∷ bs) h =
     cases false u e may rest = rw e (rest b told h)
 
 -- an answer to a line on the flight advises the flight alone
-pub advices_on : (grid : Legs) (anew : ℕ → ℕ) (f : ℕ) (bookings : List Booking) (n : ℕ) (w : Work) → is_on f w ≡ true → NoneFits grid bookings
+pub advices_on : (grid : Ladders) (anew : ℕ → ℕ) (f : ℕ) (bookings : List Booking) (n : ℕ) (w : Work) → is_on f w ≡ true → NoneFits grid bookings
     → told_on anew f (answer (state_of grid bookings) n w).advices ≡ advices_anew anew (answer (state_of grid bookings) n w).advices
 advices_on grid anew f bookings n w on a =
     each_outcome (λ w o. is_on f w ≡ true → told_on anew f o.advices ≡ advices_anew anew o.advices) (state_of grid bookings) n
@@ -278,7 +278,7 @@ advices_on grid anew f bookings n w on a =
     (λ c may on. quiet (changed_by grid c) bookings (else_changed grid f bookings c a on))
     w on
   where
-    quiet : (g : Legs) (l : List Booking) → NoneElseFits f g l l → told_on anew f (pass g [] [] l).advices ≡ advices_anew anew (pass g [] [] l).advices
+    quiet : (g : Ladders) (l : List Booking) → NoneElseFits f g l l → told_on anew f (pass g [] [] l).advices ≡ advices_anew anew (pass g [] [] l).advices
     quiet g l k =
         let P : Passed → Type 0 = λ p. told_on anew f p.advices ≡ advices_anew anew p.advices in
         subst P (sym (pass_of f g [] [] l k)) (told_pass g anew f [] [] l refl)

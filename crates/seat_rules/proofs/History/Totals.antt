@@ -2,7 +2,7 @@
 use Rattle.std.proofs.Common.{◌≡◌, ℕ, ◌+◌, ◌-◌, ◌≤◌, Bool, true, false, List, [], ◌∷◌, ◌++◌, length, Some, find, if◌then◌else◌, arith, refl, ap, sym, subst}
 use Rattle.std.proofs.lemmas.List.Sums.{sum_by_push}
 use Rattle.airline_base.specs.declared.place.Place.{Place}
-use Rattle.seat_nesting.specs.Nesting.{Legs}
+use Rattle.seat_nesting.specs.Nesting.{Ladders}
 use Rattle.seat_rules.specs.declared.booking.Booking.{Booking}
 use Rattle.seat_rules.specs.declared.booking.Status.{Status}
 use Rattle.seat_rules.specs.declared.booking.Status.TheVariants.{Held, Waiting}
@@ -27,7 +27,7 @@ waiting_none b Held e h = absurd cc
 waiting_none b Waiting e h = rw e refl
 
 -- a pass holds what it tells of
-pass_sums : (grid : Legs) (xs : List Booking) → seats_held (pass grid [] [] xs).bookings ≡ seats_held xs + advised (pass grid [] [] xs).advices
+pass_sums : (grid : Ladders) (xs : List Booking) → seats_held (pass grid [] [] xs).bookings ≡ seats_held xs + advised (pass grid [] [] xs).advices
 pass_sums grid xs =
     let h = pass_weighs held_by (λ a. a.seats) (λ b w. waiting_none b b.status refl w) (λ b. refl) grid [] xs [] in omega (arith, h)
 
@@ -70,10 +70,10 @@ answer_balances s number =
     refuses w Unable = omega arith
     refuses w Closed = omega arith
 
-abbrev pub IsBalanced : Legs → List Entry → Type 0
+abbrev pub IsBalanced : Ladders → List Entry → Type 0
 IsBalanced grid journal = seats_held (replay grid journal).bookings + (totals_of journal).released ≡ (totals_of journal).confirmed
 
-balanced_next : (grid : Legs) (past : List Entry) (session call : ℕ) (w : Work) → IsBalanced grid past → IsBalanced grid (past ++ next_line grid past session call w ∷ [])
+balanced_next : (grid : Ladders) (past : List Entry) (session call : ℕ) (w : Work) → IsBalanced grid past → IsBalanced grid (past ++ next_line grid past session call w ∷ [])
 balanced_next grid past session call w h =
     let e : Entry = next_line grid past session call w in
     let one = answer_balances (replay grid past) (length past + 1) w in

@@ -4,7 +4,7 @@ use Rattle.std.proofs.lemmas.List.{append-nil}
 use Rattle.std.specs.Cmp.Lexicographic.{pointwise}
 use Rattle.std.proofs.lemmas.Bool.Decides.{nat_tests}
 use Rattle.airline_base.specs.declared.place.Place.{Place}
-use Rattle.seat_nesting.specs.Nesting.{Legs, Table, room, covers, seats_at}
+use Rattle.seat_nesting.specs.Nesting.{Ladders, Table, room, covers, seats_at}
 use Rattle.seat_journal.specs.declared.entry.Advice.{Advice}
 use Rattle.seat_rules.specs.declared.booking.Booking.{Booking}
 use Rattle.seat_rules.specs.declared.booking.Status.{Status}
@@ -75,7 +75,7 @@ confirmed_table done b bs w f l k =
     let light = waiting_light f l k b b.status refl w in
     omega (arith, ap (λ (xs : List Booking). held xs f l k) (append_assoc done (confirmed b ∷ []) bs), sum_in (seats_on f l k) done (confirmed b) bs, sum_in (seats_on f l k) done b bs, light)
 
-advices_are : (grid : Legs) (done bs : List Booking) (told : List Advice) → (pass grid done told bs).advices ≡ told ++ advices_by grid (held (done ++ bs)) bs
+advices_are : (grid : Ladders) (done bs : List Booking) (told : List Advice) → (pass grid done told bs).advices ≡ told ++ advices_by grid (held (done ++ bs)) bs
 advices_are grid done [] told = sym (append-nil told)
 advices_are grid done (b ∷ bs) told =
     cases (may_confirm grid (done ++ b ∷ bs) b) refl (λ (x : Booking) (t : List Advice). advices_are grid (done ++ x ∷ []) bs t)

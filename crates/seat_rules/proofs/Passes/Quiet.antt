@@ -5,7 +5,7 @@ use Rattle.std.proofs.lemmas.List.{append-nil}
 use Rattle.std.proofs.lemmas.List.Sums.{sum_by-cons, sum_by-append, sum_by_push}
 use Rattle.std.proofs.lemmas.Bool.Decides.{nat_tests}
 use Rattle.airline_base.specs.declared.place.Place.{Place}
-use Rattle.seat_nesting.specs.Nesting.{Legs, Steps, Table, held_from, room_on, room, least, ladder_at}
+use Rattle.seat_nesting.specs.Nesting.{Ladders, Steps, Table, held_from, room_on, room, least, ladder_at}
 use Rattle.seat_rules.specs.declared.booking.Booking.{Booking}
 use Rattle.seat_rules.specs.declared.booking.Status.{Status}
 use Rattle.seat_rules.specs.declared.booking.Status.TheVariants.{Held, Waiting}
@@ -28,7 +28,7 @@ least_less : (f g : ℕ → ℕ) (from n : ℕ) → ((x : ℕ) → f x ≤ g x) 
 least_less f g from zero h = h from
 least_less f g from (suc n) h = omega (arith, least_less f g from n h, h (from + suc n))
 
-pub room_less : (grid : Legs) (old new : Table) (p : Place) (class : ℕ) → ((f l k : ℕ) → old f l k ≤ new f l k) → room grid new p class ≤ room grid old p class
+pub room_less : (grid : Ladders) (old new : Table) (p : Place) (class : ℕ) → ((f l k : ℕ) → old f l k ≤ new f l k) → room grid new p class ≤ room grid old p class
 room_less grid old new p class h = cases (nat_le p.from p.to) refl where
   cases : (t : Bool) → nat_le p.from p.to ≡ t → room grid new p class ≤ room grid old p class
   cases true e = rw e (least_less (λ l. room_on (ladder_at grid p.flight l) (new p.flight l) class) (λ l. room_on (ladder_at grid p.flight l) (old p.flight l) class) p.from (p.to - p.from)
@@ -36,7 +36,7 @@ room_less grid old new p class h = cases (nat_le p.from p.to) refl where
   cases false e = rw e (omega arith)
 
 -- what does not fit goes on not to fit
-pub still : (grid : Legs) (old new : List Booking) (b : Booking) → ((f l k : ℕ) → held old f l k ≤ held new f l k) → may_confirm grid old b ≡ false → may_confirm grid new b ≡ false
+pub still : (grid : Ladders) (old new : List Booking) (b : Booking) → ((f l k : ℕ) → held old f l k ≤ held new f l k) → may_confirm grid old b ≡ false → may_confirm grid new b ≡ false
 still grid old new b h e = cases (is_waiting b.status) (nat_le b.seats (room grid (held old) b.place b.class)) refl refl e where
   cases : (t u : Bool) → is_waiting b.status ≡ t → nat_le b.seats (room grid (held old) b.place b.class) ≡ u → (t && u) ≡ false → may_confirm grid new b ≡ false
   cases true true x y z = absurd cc
@@ -63,7 +63,7 @@ confirmed_more b Waiting e f l k = rw e (omega arith)
 pub held_at : (done : List Booking) (b : Booking) (bs : List Booking) (f l k : ℕ) → held (done ++ b ∷ bs) f l k ≡ held done f l k + (seats_on f l k b + held bs f l k)
 held_at done b bs f l k = sum_by-append (seats_on f l k) done (b ∷ bs) ∙ ap (λ x. held done f l k + x) (sum_by-cons (seats_on f l k) b bs)
 
-pub quiet_pass : (grid : Legs) (done bs : List Booking) (told : List Advice) → NoneFitsAmong grid (done ++ bs) done
+pub quiet_pass : (grid : Ladders) (done bs : List Booking) (told : List Advice) → NoneFitsAmong grid (done ++ bs) done
     → NoneFitsAmong grid (pass grid done told bs).bookings (pass grid done told bs).bookings
 quiet_pass grid done [] told a = let P : List Booking → Type 0 = λ l. NoneFitsAmong grid l done in subst P (append-nil done) a
 quiet_pass grid done (b ∷ bs) told a =
@@ -88,21 +88,21 @@ quiet_pass grid done (b ∷ bs) told a =
         let P : List Booking → Type 0 = λ l. NoneFitsAmong grid l (done ++ b ∷ []) in
         rw e (rest b told (subst P (sym (append_assoc done (b ∷ []) bs)) (all_push (λ x. may_confirm grid (done ++ b ∷ bs) x ≡ false) done b a e)))
 
-pub quiet_passed : (grid : Legs) (bs : List Booking) → NoneFits grid (pass grid [] [] bs).bookings
+pub quiet_passed : (grid : Ladders) (bs : List Booking) → NoneFits grid (pass grid [] [] bs).bookings
 quiet_passed grid bs = quiet_pass grid [] bs [] tt
 
 -- one booking more
 more_push : (xs : List Booking) (b : Booking) (f l k : ℕ) → held xs f l k ≤ held (xs ++ b ∷ []) f l k
 more_push xs b f l k = omega (arith, sum_by_push (seats_on f l k) xs b)
 
-quiet_push : (grid : Legs) (xs : List Booking) (b : Booking) → NoneFits grid xs → may_confirm grid (xs ++ b ∷ []) b ≡ false → NoneFits grid (xs ++ b ∷ [])
+quiet_push : (grid : Ladders) (xs : List Booking) (b : Booking) → NoneFits grid xs → may_confirm grid (xs ++ b ∷ []) b ≡ false → NoneFits grid (xs ++ b ∷ [])
 quiet_push grid xs b q over =
     all_push (λ x. may_confirm grid (xs ++ b ∷ []) x ≡ false) xs b
     (all_map (λ x. may_confirm grid xs x ≡ false) (λ x. may_confirm grid (xs ++ b ∷ []) x ≡ false) xs
     (λ x. still grid xs (xs ++ b ∷ []) x (more_push xs b)) q)
     over
 
-over_push : (grid : Legs) (xs : List Booking) (b : Booking) → room grid (held xs) b.place b.class < b.seats → may_confirm grid (xs ++ b ∷ []) b ≡ false
+over_push : (grid : Ladders) (xs : List Booking) (b : Booking) → room grid (held xs) b.place b.class < b.seats → may_confirm grid (xs ++ b ∷ []) b ≡ false
 over_push grid xs b over =
     let less = room_less grid (held xs) (held (xs ++ b ∷ [])) b.place b.class (more_push xs b) in
     let past : room grid (held (xs ++ b ∷ [])) b.place b.class < b.seats = omega arith in

@@ -4,7 +4,7 @@ use Rattle.std.specs.List.{sum_by}
 use Rattle.std.proofs.lemmas.List.{append-nil}
 use Rattle.std.proofs.lemmas.List.Sums.{sum_by-cons, sum_by-append, sum_by_push}
 use Rattle.std.proofs.lemmas.Bool.Decides.{nat_tests}
-use Rattle.seat_nesting.specs.Nesting.{Legs, room}
+use Rattle.seat_nesting.specs.Nesting.{Ladders, room}
 use Rattle.seat_rules.specs.declared.booking.Booking.{Booking}
 use Rattle.seat_journal.specs.declared.entry.Advice.{Advice}
 use Rattle.seat_rules.specs.Bookings.{is_waiting, held}
@@ -20,7 +20,7 @@ sum_in w done b bs = sum_by-append w done (b ∷ bs) ∙ ap (λ x. sum_by w done
 -- a waiting booking weighs nothing, and a confirmed one what its advice does: a pass adds the weight of its advices
 pub pass_weighs : (w : Booking → ℕ) (v : Advice → ℕ)
     → ((b : Booking) → is_waiting b.status ≡ true → w b ≡ 0) → ((b : Booking) → w (confirmed b) ≡ v (advice_of b))
-    → (grid : Legs) (done bs : List Booking) (told : List Advice)
+    → (grid : Ladders) (done bs : List Booking) (told : List Advice)
     → sum_by w (pass grid done told bs).bookings + sum_by v told ≡ sum_by w (done ++ bs) + sum_by v (pass grid done told bs).advices
 pass_weighs w v light heavy grid done [] told = rw (append-nil done) refl
 pass_weighs w v light heavy grid done (b ∷ bs) told =

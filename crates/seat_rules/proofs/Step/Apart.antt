@@ -5,7 +5,7 @@ use Rattle.std.specs.Cmp.Lexicographic.{pointwise}
 use Rattle.std.proofs.lemmas.Bool.Decides.{nat_tests}
 use Rattle.std.proofs.lemmas.List.Elements.{All-from_recursion}
 use Rattle.airline_base.specs.declared.place.Place.{Place}
-use Rattle.seat_nesting.specs.Nesting.{Legs}
+use Rattle.seat_nesting.specs.Nesting.{Ladders}
 use Rattle.seat_rules.specs.declared.booking.Booking.{Booking}
 use Rattle.seat_rules.specs.declared.booking.Status.TheVariants.{Held, Waiting}
 use Rattle.seat_journal.specs.declared.entry.Command.{Command}
@@ -72,7 +72,7 @@ apart_answer s number w h =
     more : (c : Command) (place : Place) (status : Status) → booking_for s c place ≡ None → IsApart (s.bookings ++ booking_of number c place status ∷ [])
     more c place status none = apart_more s.bookings (booking_of number c place status) h (find_none_all (is_for c.locator place c.class) s.bookings none)
 
-    pass_all : (grid : Legs) (xs : List Booking) → IsApart xs → IsApart (pass grid [] [] xs).bookings
+    pass_all : (grid : Ladders) (xs : List Booking) → IsApart xs → IsApart (pass grid [] [] xs).bookings
     pass_all grid xs a = each_pass IsApart grid (λ done b bs d may. apart_confirmed done b bs d) [] xs [] a
 
 letters_same : (xs : List ℕ) → pointwise nat_eq xs xs ≡ true
@@ -101,7 +101,7 @@ apart_pairs (x ∷ xs) h zero (suc j) d lt le same =
     true_false (is_for y.locator y.place y.class x) (is_for_same x y.locator y.place y.class same.0 same.1 same.2) differs
 apart_pairs (x ∷ xs) h (suc i) (suc j) d lt le same = apart_pairs xs h.1 i j d (omega arith) (omega arith) same
 
-pub replay_apart : (grid : Legs) (journal : List Entry) → IsApart (replay grid journal).bookings
+pub replay_apart : (grid : Ladders) (journal : List Entry) → IsApart (replay grid journal).bookings
 replay_apart grid journal = each_replay (λ s. IsApart s.bookings) apart_answer (state_of grid []) tt journal
 
 pub live_bookings_differ : LiveBookingsDiffer

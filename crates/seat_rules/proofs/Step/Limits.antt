@@ -3,7 +3,7 @@ use Rattle.std.proofs.Common.{◌≡◌, ◌≢◌, ◌==◌, ◌&&◌, ℕ, ◌
 use Rattle.std.proofs.lemmas.Bool.Decides.{nat_tests}
 use Rattle.std.proofs.lemmas.List.Sums.{sum_by-cons, sum_by-append, sum_by_push}
 use Rattle.airline_base.specs.declared.place.Place.{Place}
-use Rattle.seat_nesting.specs.Nesting.{Legs, ladder_at, room_on, room, IsWithin, HasLadders, covers}
+use Rattle.seat_nesting.specs.Nesting.{Ladders, ladder_at, room_on, room, IsWithin, HasLadders, covers}
 use Rattle.seat_rules.specs.declared.booking.Booking.{Booking}
 use Rattle.seat_rules.specs.declared.booking.Status.TheVariants.{Held, Waiting}
 use Rattle.seat_journal.specs.declared.entry.Change.{Change}
@@ -21,7 +21,7 @@ use Rattle.seat_rules.specs.Inventory.{HasSameLegs, KeepsLimits}
 use Rattle.seat_rules.proofs.Counters.Limits.{within_less, within_more, least_le}
 
 -- what holds of the bookings after a pass
-pub each_pass : (P : List Booking → Type 0) (grid : Legs)
+pub each_pass : (P : List Booking → Type 0) (grid : Ladders)
     → ((done : List Booking) (b : Booking) (bs : List Booking) → P (done ++ b ∷ bs) → may_confirm grid (done ++ b ∷ bs) b ≡ true → P (done ++ confirmed b ∷ bs))
     → (done bs : List Booking) (told : List Advice) → P (done ++ bs) → P (pass grid done told bs).bookings
 each_pass P grid confirm done [] told h = subst P (append-nil done) h
@@ -45,7 +45,7 @@ few_answer s number =
     (λ c place b at found le. after_pass s.grid (reduced (is_for c.locator place c.class) c.seats s.bookings) (omega (arith, length_reduced (is_for c.locator place c.class) c.seats s.bookings)))
     (λ c may. after_pass (changed_by s.grid c) s.bookings (omega arith))
   where
-    after_pass : (grid : Legs) (xs : List Booking) → length xs ≤ length s.bookings + 1 → length (pass grid [] [] xs).bookings ≤ length s.bookings + 1
+    after_pass : (grid : Ladders) (xs : List Booking) → length xs ≤ length s.bookings + 1 → length (pass grid [] [] xs).bookings ≤ length s.bookings + 1
     after_pass grid xs h =
         each_pass (λ l. length l ≤ length s.bookings + 1) grid (λ done b bs h e. omega (arith, h, length-append done (b ∷ bs), length-append done (confirmed b ∷ bs))) [] xs [] h
 
@@ -59,7 +59,7 @@ covers_facts flight leg p e = cases (p.flight == flight) (nat_le p.from leg) (na
   cases false b d x y z h = absurd cc
 
 -- the room of a place is at most that of a leg that it covers
-pub room_le : (grid : Legs) (bookings : List Booking) (p : Place) (class flight leg : ℕ) → covers flight leg p ≡ true
+pub room_le : (grid : Ladders) (bookings : List Booking) (p : Place) (class flight leg : ℕ) → covers flight leg p ≡ true
     → room_left (state_of grid bookings) p class ≤ room_on (ladder_at grid flight leg) (held bookings flight leg) class
 room_le grid bookings p class flight leg e =
     let h = covers_facts flight leg p e in
@@ -72,7 +72,7 @@ held_push : (bookings : List Booking) (b : Booking) (flight leg class : ℕ) →
 held_push bookings b flight leg class = sum_by_push (seats_on flight leg class) bookings b
 
 -- one more booking, whose seats fit
-keeps_more : (grid : Legs) (bookings : List Booking) (number : ℕ) (c : Command) (place : Place) → HasLadders grid → KeepsLimits grid bookings
+keeps_more : (grid : Ladders) (bookings : List Booking) (number : ℕ) (c : Command) (place : Place) → HasLadders grid → KeepsLimits grid bookings
     → c.seats ≤ room_left (state_of grid bookings) place c.class → KeepsLimits grid (bookings ++ booking_of number c place Held ∷ [])
 keeps_more grid bookings number c place ladders keeps fits flight leg = cases (covers flight leg place) refl where
   b : Booking
@@ -134,7 +134,7 @@ waits_none flight leg k b Held e h = absurd cc
 waits_none flight leg k b Waiting e h = rw e refl
 
 -- one booking confirmed, whose seats fit
-keeps_confirm : (grid : Legs) (done : List Booking) (b : Booking) (bs : List Booking) → HasLadders grid → KeepsLimits grid (done ++ b ∷ bs)
+keeps_confirm : (grid : Ladders) (done : List Booking) (b : Booking) (bs : List Booking) → HasLadders grid → KeepsLimits grid (done ++ b ∷ bs)
     → may_confirm grid (done ++ b ∷ bs) b ≡ true → KeepsLimits grid (done ++ confirmed b ∷ bs)
 keeps_confirm grid done b bs ladders keeps may flight leg = cases (covers flight leg b.place) refl where
   old : ℕ → ℕ
@@ -206,5 +206,5 @@ keeps_answer s number w ladders keeps =
         within_less (ladder_at s.grid flight leg) (held (reduced test n s.bookings) flight leg) (held s.bookings flight leg)
         (λ k. held_reduced test n s.bookings flight leg k) (keeps flight leg)
 
-    after_pass : (grid : Legs) → HasLadders grid → (xs : List Booking) → KeepsLimits grid xs → KeepsLimits grid (pass grid [] [] xs).bookings
+    after_pass : (grid : Ladders) → HasLadders grid → (xs : List Booking) → KeepsLimits grid xs → KeepsLimits grid (pass grid [] [] xs).bookings
     after_pass grid h xs k = each_pass (KeepsLimits grid) grid (λ done b bs k e. keeps_confirm grid done b bs h k e) [] xs [] k

@@ -2,7 +2,7 @@
 use Rattle.std.proofs.Common.{◌≡◌, ℕ, ◌<◌, ◌≤◌, ◌++◌, ◌∷◌, [], Bool, true, false, nat_le, List, Option, Some, None, codes, if◌then◌else◌, arith, refl}
 use Rattle.std.proofs.lemmas.Bool.Decides.{nat_tests}
 use Rattle.airline_base.specs.declared.place.Place.{Place}
-use Rattle.seat_nesting.specs.Nesting.{Legs, may_wait, is_listed}
+use Rattle.seat_nesting.specs.Nesting.{Ladders, may_wait, is_listed}
 use Rattle.seat_rules.specs.declared.booking.Booking.{Booking}
 use Rattle.seat_rules.specs.declared.booking.Status.TheVariants.{Held, Waiting}
 use Rattle.seat_journal.specs.declared.entry.Change.{Change}
@@ -91,7 +91,7 @@ each_outcome P s number refuses holds waits lists cancels sets (Seats c) = by_ac
   by_action Cancel (Some place) at = by_held place at (booking_for s c place) refl
 
 -- the limits after a line: those before it, or those that it sets
-pub each_grid : (P : Legs → Type 0) (s : State) (number : ℕ) (w : Work) → P s.grid → ((c : Change) → w ≡ Limit c → may_change s c ≡ true → P (changed_by s.grid c)) → P (answer s number w).state.grid
+pub each_grid : (P : Ladders → Type 0) (s : State) (number : ℕ) (w : Work) → P s.grid → ((c : Change) → w ≡ Limit c → may_change s c ≡ true → P (changed_by s.grid c)) → P (answer s number w).state.grid
 each_grid P s number w here set_one =
     each_outcome (λ v o. w ≡ v → P o.state.grid) s number
     (λ v r is. here) (λ c place at none fits is. here) (λ c place at none over why is. here) (λ c place at none is. here) (λ c place b at found le is. here) (λ c may is. set_one c is may)

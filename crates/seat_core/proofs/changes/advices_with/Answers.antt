@@ -1,13 +1,13 @@
 use Rattle.std.proofs.Common.{IsTrue, refl, ap, sym, subst, ◌∙◌}
 use Rattle.seat_nesting.specs.Nesting.{Steps}
-use Rattle.seat_nesting.specs.Counting.{limits_of, seats_of}
+use Rattle.seat_nesting.specs.Counting.{limits_of, table_of}
 use Rattle.seat_nesting.specs.Changing.{step_of}
 use Rattle.seat_core.proofs.Passes.Changed.{step_there, may_go_back, limits_again, seats_again}
 use Rattle.seat_core.proofs.changes.advices_with.Goals as goal
 
 pub returns-in_default-clause-told : goal.returns-in_default-clause-told
 returns-in_default-clause-told c =
-    absurd (step_there (limits_of c.args.counts.now) (seats_of c.args.counts.now) c.args.change.now c.requires.may
+    absurd (step_there (limits_of c.args.counts.now) (table_of c.args.counts.now) c.args.change.now c.requires.may
     c.in_default.ensures)
 
 pub set-requires-2 : goal.set-requires-2

@@ -1,5 +1,5 @@
 use Rattle.std.proofs.Common.{◌≡◌, [], true, refl, sym, ◌∙◌}
-use Rattle.seat_nesting.specs.Counting.{limits_of, seats_of}
+use Rattle.seat_nesting.specs.Counting.{limits_of, table_of}
 use Rattle.seat_bookings.specs.Books.{book_at, queue_at}
 use Rattle.seat_rules.specs.Sequential.{changed_by, may_change, pass, state_of}
 use Rattle.seat_rules.specs.Tables.{advices_by}
@@ -15,6 +15,6 @@ returns-clause-says c =
     rw may (record {
       reply = sym c.of.ensures;
       released = refl;
-      advices = told_as (λ t. t.items) c.advices_under.result (advices_by now (seats_of c.args.counts.now) (queue_at c.args.books.now change.flight)) (pass now [] [] (book_at c.args.books.now change.flight)).advices
+      advices = told_as (λ t. t.items) c.advices_under.result (advices_by now (table_of c.args.counts.now) (queue_at c.args.books.now change.flight)) (pass now [] [] (book_at c.args.books.now change.flight)).advices
           (changed_told now c.args.counts.now c.args.books.now change.flight c.requires.flight) c.advices_under.ensures.told;
     })

@@ -1,22 +1,22 @@
 use Rattle.std.proofs.Common.{◌≡◌, ◌+◌, true, arith, ap, sym, ◌∙◌}
-use Rattle.seat_nesting.specs.Nesting.{Legs, Table, room, seats_at}
-use Rattle.seat_nesting.specs.Counting.{limits_of, seats_of, holds}
+use Rattle.seat_nesting.specs.Nesting.{Ladders, Table, room, seats_at}
+use Rattle.seat_nesting.specs.Counting.{limits_of, table_of, holds}
 use Rattle.seat_rules.proofs.Counters.Changes.{given}
 use Rattle.seat_core.proofs.Passes.Undone.{fits_again, given_and_taken}
 use Rattle.seat_core.proofs.pass.advices_after.Goals as goal
 
 pub take-requires : goal.take-requires
 take-requires c =
-    let held : holds (limits_of c.args.counts.now) (seats_of c.args.counts.now) c.args.place c.args.class c.args.seats ≡ true = sym c.holds.ensures ∙ c.if-not-holds.false in
+    let held : holds (limits_of c.args.counts.now) (table_of c.args.counts.now) c.args.place c.args.class c.args.seats ≡ true = sym c.holds.ensures ∙ c.if-not-holds.false in
     let limits = c.advices_of-told.ensures.limits ∙ c.give.ensures.limits in
     let seats = c.advices_of-told.ensures.seats ∙ given c.args.counts.now c.give.new.self c.args.place c.args.class c.args.seats c.give.ensures held in
-    let same = ap (λ (g : Legs). room g (seats_of c.advices_of-told.new.counts) c.args.place c.args.class) limits
+    let same = ap (λ (g : Ladders). room g (table_of c.advices_of-told.new.counts) c.args.place c.args.class) limits
     ∙ ap (λ (t : Table). room (limits_of c.args.counts.now) t c.args.place c.args.class) seats in
     omega (arith, same, fits_again c.args.counts.now c.args.place c.args.class c.args.seats c.limits_are_kept.ensures held)
 
 pub returns-clause-seats : goal.returns-clause-seats
 returns-clause-seats c =
-    let held : holds (limits_of c.args.counts.now) (seats_of c.args.counts.now) c.args.place c.args.class c.args.seats ≡ true = sym c.holds.ensures ∙ c.if-not-holds.false in
+    let held : holds (limits_of c.args.counts.now) (table_of c.args.counts.now) c.args.place c.args.class c.args.seats ≡ true = sym c.holds.ensures ∙ c.if-not-holds.false in
     let seats = c.advices_of-told.ensures.seats ∙ given c.args.counts.now c.give.new.self c.args.place c.args.class c.args.seats c.give.ensures held in
-    given_and_taken (limits_of c.args.counts.now) (seats_of c.args.counts.now) (seats_of c.take.new.self) c.args.place c.args.class c.args.seats held
+    given_and_taken (limits_of c.args.counts.now) (table_of c.args.counts.now) (table_of c.take.new.self) c.args.place c.args.class c.args.seats held
     (λ f l k. c.take.ensures.seats f l k ∙ ap (λ (x : Table). x f l k + seats_at c.args.place c.args.class c.args.seats f l k) seats)

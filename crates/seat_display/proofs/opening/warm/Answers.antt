@@ -1,6 +1,6 @@
 use Rattle.std.proofs.Common.{List, ◌++◌, ◌∷◌, [], ap, sym, subst, ◌∙◌, true, drop, refl}
 use Rattle.left_right.specs.Sides.{view}
-use Rattle.seat_nesting.specs.Nesting.{Legs}
+use Rattle.seat_nesting.specs.Nesting.{Ladders}
 use Rattle.seat_nesting.specs.Counting.{limits_of}
 use Rattle.seat_display.specs.declared.table.Op.{Op}
 use Rattle.seat_display.specs.declared.table.View.{View}
@@ -13,7 +13,7 @@ use Rattle.seat_display.proofs.opening.warm.Goals as goal
 pub turn-requires : goal.turn-requires
 turn-requires g c =
     let x : Table = c.mark-2.new.writer.desk.shown.value in
-    let g0 : Legs = limits_of c.args.writer.now.desk.shown.value.counts in
+    let g0 : Ladders = limits_of c.args.writer.now.desk.shown.value.counts in
     let old : List Op = drop c.args.writer.now.behind c.args.writer.now.log.items in
     let u : View = record { knows = true; grid = []; seen = c.args.seen.now } in
     let same = ap (λ d. d.shown.value) (c.in_ok-mark-2.ensures.desk ∙ c.in_ok-mark.ensures.desk) in
@@ -24,7 +24,7 @@ turn-requires g c =
 pub returns-clause-shown : goal.returns-clause-shown
 returns-clause-shown g c =
     let x : Table = c.mark-2.new.writer.desk.shown.value in
-    let g0 : Legs = limits_of c.args.writer.now.desk.shown.value.counts in
+    let g0 : Ladders = limits_of c.args.writer.now.desk.shown.value.counts in
     let old : List Op = drop c.args.writer.now.behind c.args.writer.now.log.items in
     let u : View = record { knows = true; grid = []; seen = c.args.seen.now } in
     let same = ap (λ d. d.shown.value) (c.in_ok-mark-2.ensures.desk ∙ c.in_ok-mark.ensures.desk) in
@@ -36,7 +36,7 @@ pub returns-clause-knows : goal.returns-clause-knows
 returns-clause-knows g c =
     let x : Table = c.mark-2.new.writer.desk.shown.value in
     let y : Table = c.turn.new.writer.desk.shown.value in
-    let g0 : Legs = limits_of c.args.writer.now.desk.shown.value.counts in
+    let g0 : Ladders = limits_of c.args.writer.now.desk.shown.value.counts in
     let old : List Op = drop c.args.writer.now.behind c.args.writer.now.log.items in
     let u : View = record { knows = true; grid = []; seen = c.args.seen.now } in
     let same = ap (λ d. d.shown.value) (c.in_ok-mark-2.ensures.desk ∙ c.in_ok-mark.ensures.desk) in

@@ -9,7 +9,7 @@ pub returns-in-Err-clause-fault : goal.returns-in-Err-clause-fault
 returns-in-Err-clause-fault g c =
     refused_run _ _ _ _ c.in-Err.fault c.args.parts.past c.args.changes.now c.args.lists.now c.in-Ok.manager c.in-Ok.sessions.items (c.work.new.manager ∷ c.work.new.sessions.items) _ _ _ _
     c.of_run.ensures c.in-Ok.ensures.manager c.in-Ok.ensures.sessions c.requires.count c.in-Err.ensures.begun c.in-Err.ensures.named
-    c.in_ok-gathered.ensures.handed c.requires.most c.in_ok-gathered.ensures.headline
+    c.in_ok-gather_or_end.ensures.handed c.requires.most c.in_ok-gather_or_end.ensures.headline
 
 pub returns-clause-ok : goal.returns-clause-ok
 returns-clause-ok g c =

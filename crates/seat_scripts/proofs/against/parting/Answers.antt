@@ -1,6 +1,6 @@
 use Rattle.std.proofs.Common.{◌≡◌, ℕ, List, length, refl, subst, sym}
 use Rattle.std.proofs.lemmas.Option.{slice_get_past, slice_get_read}
-use Rattle.seat_nesting.specs.Nesting.{Legs}
+use Rattle.seat_nesting.specs.Nesting.{Ladders}
 use Rattle.seat_journal.specs.declared.entry.Entry.{Entry}
 use Rattle.seat_rules.specs.Journal.{IsLegal}
 use Rattle.seat_rules.specs.Prefixes.{Begins}
@@ -9,8 +9,8 @@ use Rattle.seat_scripts.proofs.Beginnings.{begins_all, part_end, part_here, same
 use Rattle.seat_scripts.proofs.against.parting.Goals as goal
 
 -- the slices are legal over one grid
-over_one : (old grid : Legs) (older slice : List Entry) → old ≡ grid → slice ≡ older → IsLegal old older → IsLegal grid slice
-over_one old grid older slice same is legal = subst (IsLegal grid) (sym is) (subst (λ (g : Legs). IsLegal g older) same legal)
+over_one : (old grid : Ladders) (older slice : List Entry) → old ≡ grid → slice ≡ older → IsLegal old older → IsLegal grid slice
+over_one old grid older slice same is legal = subst (IsLegal grid) (sym is) (subst (λ (g : Ladders). IsLegal g older) same legal)
 
 of_slices : (lines older slice journal : List Entry) (session call : ℕ) → lines ≡ older → slice ≡ journal → IsNoBeginning lines slice session call → IsNoBeginning older journal session call
 of_slices lines older slice journal session call is also parts =

@@ -1,6 +1,6 @@
 use Rattle.std.proofs.Common.{◌≡◌, ◌++◌, true, ap, ◌∙◌, sym, drop, fold}
 use Rattle.left_right.specs.Sides.{view}
-use Rattle.seat_nesting.specs.Nesting.{Legs}
+use Rattle.seat_nesting.specs.Nesting.{Ladders}
 use Rattle.seat_display.specs.Shown.{apply, entries_of, tidied}
 use Rattle.seat_display.specs.History.{head_of}
 use Rattle.seat_display.specs.declared.table.Table.{Table}
@@ -12,7 +12,7 @@ use Rattle.seat_display.proofs.publisher.Publisher.publish.Goals as goal
 pub turn-requires : goal.turn-requires
 turn-requires g c =
     let s = c.self.inside in
-    let grid : Legs = (view s.writer.desk.place).grid in
+    let grid : Ladders = (view s.writer.desk.place).grid in
     let shown : Table = s.writer.desk.shown.value in
     let ops = drop s.writer.behind s.writer.log.items in
     let r = c.self.invariant.3 in
@@ -28,7 +28,7 @@ turn-requires g c =
 pub invariant_of-self : goal.invariant_of-self
 invariant_of-self g c =
     let s = c.self.inside in
-    let grid : Legs = (view s.writer.desk.place).grid in
+    let grid : Ladders = (view s.writer.desk.place).grid in
     let shown : Table = s.writer.desk.shown.value in
     let ops = drop s.writer.behind s.writer.log.items in
     let r = c.self.invariant.3 in

@@ -1,6 +1,6 @@
 use Rattle.std.proofs.Common.{◌≡◌, ◌+◌, ◌-◌, ◌<◌, ℕ, drop, length, ap, ◌∙◌, arith}
 use Rattle.seat_nesting.specs.Nesting.{held_from}
-use Rattle.seat_nesting.specs.Counting.{leg_of, seats_on}
+use Rattle.seat_nesting.specs.Counting.{leg_of, held_on}
 use Rattle.seat_nesting.proofs.LegCounting.{kept_now, held_more_seen}
 use Rattle.seat_nesting.proofs.leg_counts.LegCounts.held_from.Goals as goal
 
@@ -27,4 +27,4 @@ loop-at-preserved c =
 pub returns : goal.returns
 returns c =
     let same : c.loop-at.at ≡ c.args.rank = omega (arith, c.loop-at.invariant.above) in
-    c.loop-at.invariant.carried ∙ ap (λ (i : ℕ). held_from (seats_on c.args.self.now) (drop i c.args.self.now.steps)) same
+    c.loop-at.invariant.carried ∙ ap (λ (i : ℕ). held_from (held_on c.args.self.now) (drop i c.args.self.now.steps)) same
