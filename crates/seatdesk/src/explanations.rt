@@ -306,7 +306,7 @@ const LIMITS: &[Explanation] = &[
         behind: "",
         code: "U1",
         numbers: LINE,
-        text: "The line of changes names no leg: no flight goes between its cities on its day,\nor only by way of another city.",
+        text: "The line of changes names no leg: on its day no flight of its number goes between its cities\nin the days of --first and --days, or only by way of another city.",
     },
 ];
 
@@ -582,7 +582,7 @@ const WORDS: &[Explanation] = &[
         behind: "E2",
         code: "locator",
         numbers: NONE,
-        text: "--locator is not six letters and digits, as B3N6VC.",
+        text: "--locator is not six characters of A to Z and 0 to 9, as B3N6VC.",
     },
     Explanation {
         behind: "E2",
