@@ -6,6 +6,7 @@ use std::process::Abort;
 use std::test::Fail;
 
 const OLD: [u8; 3] = *b"old";
+
 const NEW: [u8; 5] = *b"newer";
 
 fn folder(alloc: Global) -> Result<Folder, Fail> {

@@ -6,6 +6,7 @@ use std::process::Abort;
 use std::test::Fail;
 
 const KEPT: [u8; 4] = *b"1 a\n";
+
 const LINE: [u8; 4] = *b"2 b\n";
 
 fn tape(alloc: Global) -> Result<TornTape, Fail> {
@@ -28,10 +29,7 @@ fn keeps_what_was_told(rt: HostRuntime) -> Result<(), Fail> {
         let mut fused = Fuse::new(tape(rt.alloc())?, calls);
         let is_kept = keep(&mut fused, &LINE).is_ok();
         assert!(rt; is_kept == (calls >= 2), "Ok after {calls}");
-        assert!(rt;
-            fused.may_be_used() == (calls != 1),
-            "usable after {calls}"
-        );
+        assert!(rt; fused.may_be_used() == (calls != 1), "usable after {calls}");
         let failures = if is_kept { 0 } else { 1 };
         assert!(rt; fused.failures() == failures, "failures after {calls}");
         let mut file = fused.into_inner();
