@@ -1,24 +1,25 @@
 -- The legs of a place, and the seats that are held and wait on them.
-use Rattle.std.proofs.Common.{◌≡◌, ◌==◌, ◌&&◌, ℕ, ◌+◌, ◌≤◌, nat_le, Bool, true, false, List, [], ◌∷◌, ◌++◌, length, fold, Some, None, slice_get, codes, arith, refl, ap, sym, subst, ◌∙◌, append_assoc}
+use Rattle.std.proofs.Common.{◌≡◌, ◌==◌, ◌&&◌, ℕ, ◌+◌, ◌≤◌, nat_le, Bool, true, false, List, [], ◌∷◌, ◌++◌, length, fold, drop, get_or, drop-cons, suc, ◌<◌, add-one, Some, None, slice_get, codes, arith, refl, ap, sym, subst, ◌∙◌, append_assoc}
 use Rattle.std.proofs.lemmas.List.{append-nil}
 use Rattle.std.proofs.lemmas.Bool.Decides.{nat_tests}
 use Rattle.std.proofs.lemmas.Option.{slice_get_past}
 use Rattle.airline_base.specs.declared.place.Place.{Place}
 use Rattle.ssim_flights.specs.declared.flight.DatedLeg.{DatedLeg}
 use Rattle.ssim_flights.specs.declared.flight.Flight.{Flight}
-use Rattle.seat_nesting.specs.Nesting.{Fits, Ladders}
+use Rattle.seat_nesting.specs.Nesting.{ByClass, Fits, Ladders, Steps, held_from}
+use Rattle.seat_nesting.specs.declared.ladder.Step.{Step}
 use Rattle.seat_rules.specs.declared.booking.Booking.{Booking}
 use Rattle.seat_journal.specs.declared.entry.Entry.{Entry}
-use Rattle.seat_rules.specs.Bookings.{held, waiting}
+use Rattle.seat_rules.specs.Bookings.{waiting}
 use Rattle.seat_rules.specs.Flights.{bookings_on}
 use Rattle.seat_rules.specs.Journal.{after, replay}
 use Rattle.seat_rules.specs.Sequential.{State}
-use Rattle.seat_rules.proofs.Flight.View.{bookings_view, held_view, waiting_view}
+use Rattle.seat_rules.proofs.Flight.View.{bookings_view, waiting_view}
 use Rattle.seat_rules.proofs.Step.Limits.{few_answer}
 use Rattle.seat_desk.specs.AuditDesk.{most_lines}
 use Rattle.seat_desk.specs.FlightsDesk.{IsLegText, IsPut}
 use Rattle.seat_desk.proofs.Texts.{put_none}
-use Rattle.seat_questions.specs.Why.{IsLegPart, IsLegPartBy, IsLegPut, IsPlacePut, IsStandingPut, dated_legs, has_leg, legs_in, one_leg, standing_text}
+use Rattle.seat_questions.specs.Why.{IsLegPart, IsLegPartBy, IsLegPut, IsPlacePut, IsStandingPut, class_text, dated_legs, has_leg, held_texts, legs_in, one_leg, standing_text}
 
 -- ---- bookings of one flight
 
@@ -40,14 +41,27 @@ few_bookings grid journal most f bookings few capped is =
     let here : length bookings ≡ length (bookings_on f (replay grid journal).bookings) = ap (λ (l : List Booking). length l) is in
     omega (arith, here, few_on f (replay grid journal).bookings, few_after (record { grid = grid; bookings = [] }) journal, few, capped)
 
--- what is held and waits on a flight's leg is told by its own bookings
-pub held_there : (f : ℕ) (all bookings : List Booking) (leg class n : ℕ) → bookings ≡ bookings_on f all → n ≡ held bookings f leg class → n ≡ held all f leg class
-held_there f all bookings leg class n is e =
-    e ∙ ap (λ (l : List Booking). held l f leg class) (is ∙ sym (bookings_view f all)) ∙ held_view (λ k. k) f all leg class
-
+-- what waits on a flight's leg is told by its own bookings
 pub waiting_there : (f : ℕ) (all bookings : List Booking) (leg class n : ℕ) → bookings ≡ bookings_on f all → n ≡ waiting bookings f leg class → n ≡ waiting all f leg class
 waiting_there f all bookings leg class n is e =
     e ∙ ap (λ (l : List Booking). waiting l f leg class) (is ∙ sym (bookings_view f all)) ∙ waiting_view (λ k. k) f all leg class
+
+-- ---- the ranks of a leg
+
+pub from_rank : {X : Type 0} (xs : List X) (i : ℕ) (x : X) → i < length xs → x ≡ get_or xs i x → drop i xs ≡ x ∷ drop (i + 1) xs
+from_rank xs i x inside is = rw add-one (drop-cons xs i x inside ∙ ap (λ y. y ∷ drop (suc i) xs) (sym is))
+
+-- one more of HELD
+pub held_put : (seats : ByClass) (steps ladder : Steps) (i : ℕ) (s : Step) (count : ℕ) (mid new whole : List ℕ) → steps ≡ ladder → i < length steps → s ≡ get_or steps i s
+    → count ≡ held_from seats (drop i ladder) → mid ++ held_texts seats (drop i steps) ≡ whole → new ≡ mid ++ class_text s.class count
+    → new ++ held_texts seats (drop (i + 1) steps) ≡ whole
+held_put seats steps ladder i s count mid new whole same inside is counted so_far put =
+    let rest : drop i steps ≡ s ∷ drop (i + 1) steps = from_rank steps i s inside is in
+    let here : count ≡ held_from seats (s ∷ drop (i + 1) steps) = counted ∙ ap (λ (l : Steps). held_from seats (drop i l)) (sym same) ∙ ap (held_from seats) rest in
+    ap (λ (l : List ℕ). l ++ held_texts seats (drop (i + 1) steps)) (put ∙ ap (λ (n : ℕ). mid ++ class_text s.class n) here)
+    ∙ append_assoc mid (class_text s.class (held_from seats (s ∷ drop (i + 1) steps))) (held_texts seats (drop (i + 1) steps))
+    ∙ ap (λ (l : Steps). mid ++ held_texts seats l) (sym rest)
+    ∙ so_far
 
 -- ---- a leg
 
