@@ -1,6 +1,5 @@
 -- Waiting lists.
-use Rattle.std.specs.Prelude.{ℕ, Bool, false, ◌==◌, nat_lt, List, [], ◌∷◌, Option, Some, None, if◌then◌else◌}
-use Rattle.std.specs.Global.{Box}
+use Rattle.std.specs.Prelude.{ℕ, Bool, false, ◌==◌, nat_lt, List, [], ◌∷◌, if◌then◌else◌}
 use Rattle.std.specs.List.{list_all}
 use Rattle.seat_nesting.specs.Nesting.{Ladders, Table, room}
 use Rattle.seat_rules.specs.declared.booking.Booking.{Booking}
@@ -10,11 +9,6 @@ use Rattle.seat_rules.specs.Bookings.{is_waiting}
 pub record Waitlist : Type 0 where
   pub bookings : List Booking
   pub spare : Bool
-
--- the waiting list of a flight; none waits where it was never made
-abbrev pub list_in : Option (Box Waitlist) → Waitlist
-list_in None = record { bookings = []; spare = false }
-list_in (Some list) = list.value
 
 -- each booking has more seats than the table leaves room for
 abbrev pub none_fits : Ladders → Table → List Booking → Bool
