@@ -11,7 +11,7 @@ use Rattle.seat_bookings.specs.declared.books.FlightBook.{FlightBook}
 use Rattle.seat_rules.specs.declared.effect.Effect.{Effect}
 use Rattle.seat_rules.specs.Bookings.{held}
 use Rattle.seat_rules.specs.Journal.{replay, calls_of}
-use Rattle.seat_rules.specs.Flights.{bookings_on, queue_on, is_on}
+use Rattle.seat_rules.specs.Flights.{bookings_on, is_on}
 use Rattle.seat_bookings.specs.Queues.{queue_of}
 use Rattle.seat_rules.specs.Applying.{applied, suffices, Spare}
 use Rattle.seat_bookings.specs.Live.{AreLive}
@@ -76,6 +76,6 @@ pub record IsEntered (old new : List FlightBook) (e : Entry) : Type 0 where
 pub record IsOfReplay (opening : Ladders) (cap : ℕ) (journal : List Entry) (books : List FlightBook) (calls : List ℕ) (counts : Counted) : Type 0 where
   pub lawful : IsLawful opening (limits_of counts) cap journal (replay opening journal).bookings
   pub by_flight : (flight : ℕ) → book_at books flight ≡ bookings_on flight (replay opening journal).bookings
-  pub by_queue : (flight : ℕ) → queue_at books flight ≡ queue_on flight (replay opening journal).bookings
+  pub by_queue : (flight : ℕ) → queue_at books flight ≡ queue_of (bookings_on flight (replay opening journal).bookings)
   pub by_session : (session : ℕ) → session ≤ 8 → slice_index calls session ≡ calls_of journal session
   pub seats : (flight leg class : ℕ) → table_of counts flight leg class ≡ held (replay opening journal).bookings flight leg class

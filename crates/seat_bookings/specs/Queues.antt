@@ -1,5 +1,5 @@
 -- Waiting lists.
-use Rattle.std.specs.Prelude.{ℕ, Bool, false, ◌==◌, nat_lt, List, [], ◌∷◌, if◌then◌else◌}
+use Rattle.std.specs.Prelude.{ℕ, Bool, false, ◌==◌, nat_lt, List, [], ◌∷◌, filter, if◌then◌else◌}
 use Rattle.std.specs.List.{list_all}
 use Rattle.seat_nesting.specs.Nesting.{Ladders, Table, room}
 use Rattle.seat_rules.specs.declared.booking.Booking.{Booking}
@@ -16,8 +16,7 @@ none_fits grid seats queue = list_all (λ b. nat_lt (room grid seats b.place b.c
 
 -- the bookings that wait, in order
 abbrev pub queue_of : List Booking → List Booking
-queue_of [] = []
-queue_of (b ∷ bs) = (if is_waiting b.status then b ∷ queue_of bs else queue_of bs)
+queue_of bookings = filter (λ b. is_waiting b.status) bookings
 
 -- the first booking that passes the test waits
 abbrev pub first_waits : (Booking → Bool) → List Booking → Bool

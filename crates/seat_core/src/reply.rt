@@ -144,7 +144,7 @@ fn may_list(counts: &Counts, books: &[FlightBook], command: &Command, place: Pla
 }
 
 /// Whether the seats of a command may wait on its flight's waiting list.
-#[tactic(auto, using(crate::proofs::Step::Reply::may_wait_is, seat_bookings::proofs::Waitlists::Queue::queue_few))]
+#[tactic(auto, using(crate::proofs::Step::Reply::may_wait_is, seat_rules::proofs::Filters::few_pass))]
 fn may_queue(counts: &Counts, books: &[FlightBook], command: &Command, place: Place) -> bool
     requires few { length (book_at books.now place.flight) ≤ 999999 }
     requires queue { queue_at books.now place.flight ≡ queue_of (book_at books.now place.flight) }

@@ -16,6 +16,7 @@ use Rattle.seat_rules.specs.Applying.{IsOrdered}
 use Rattle.seat_rules.specs.Flights.{bookings_on}
 use Rattle.seat_rules.specs.Journal.{IsLegal, IsNext, replay}
 use Rattle.seat_rules.specs.declared.booking.Booking.{Booking}
+use Rattle.seat_rules.proofs.Filters.{all_pass, ordered_pass}
 use Rattle.seat_rules.proofs.History.Legal.{each_legal}
 use Rattle.seat_rules.proofs.Passes.Quiet.{all_map}
 use Rattle.seat_rules.proofs.Step.Effect.{replay_is_numbered}
@@ -213,22 +214,6 @@ pub none_by_number : (n : ℕ) (bs : List Booking) (r : Result ℕ ℕ) (k : ℕ
 none_by_number n bs (Ok j) k e o inside equal = absurd cc
 none_by_number n bs (Err j) k e o inside parted = none_at n bs j o inside parted
 
--- ---- on one flight
-
-all_on : (P : Booking → Type 0) (f : ℕ) (bs : List Booking) → AllByRecursion P bs → AllByRecursion P (bookings_on f bs)
-all_on P f [] a = tt
-all_on P f (b ∷ bs) a = cases (b.place.flight == f) refl (all_on P f bs a.1) where
-  cases : (t : Bool) → (b.place.flight == f) ≡ t → AllByRecursion P (bookings_on f bs) → AllByRecursion P (bookings_on f (b ∷ bs))
-  cases true e rest = rw e (a.0, rest)
-  cases false e rest = rw e rest
-
-pub ordered_on : (f : ℕ) (bs : List Booking) → IsOrdered bs → IsOrdered (bookings_on f bs)
-ordered_on f [] o = tt
-ordered_on f (b ∷ bs) o = cases (b.place.flight == f) refl (ordered_on f bs o.1) where
-  cases : (t : Bool) → (b.place.flight == f) ≡ t → IsOrdered (bookings_on f bs) → IsOrdered (bookings_on f (b ∷ bs))
-  cases true e rest = rw e (all_on (λ x. b.number < x.number) f bs o.0, rest)
-  cases false e rest = rw e rest
-
 -- ---- the line that made a booking
 
 pub made_asked : (grid : Ladders) (journal : List Entry) (line : Entry) (locator : List ℕ) (place : Place) → IsLegal grid journal → IsLine journal line → asked_under locator line.work ≡ Some place
@@ -244,13 +229,6 @@ made_unasked grid journal line locator legal l none =
     let bs : List Booking = (replay grid journal).bookings in
     subst (λ (n : ℕ). own locator n bs ≡ []) (sym l.number_is) (own_unasked grid journal l.index line locator bs (replay_is_made grid journal legal) l.here none)
 
-all_filter : (P : Booking → Type 0) (p : Booking → Bool) (xs : List Booking) → AllByRecursion P xs → AllByRecursion P (filter p xs)
-all_filter P p [] a = tt
-all_filter P p (x ∷ xs) a = cases (p x) refl (all_filter P p xs a.1) where
-  cases : (t : Bool) → p x ≡ t → AllByRecursion P (filter p xs) → AllByRecursion P (filter p (x ∷ xs))
-  cases true e rest = rw e (a.0, rest)
-  cases false e rest = rw e rest
-
 -- what a search on the flight finds
 pub made_found : (o : Option (Bor Booking)) (xs ys : List Booking) → xs ≡ ys → IfSome o (λ b. ys ≡ b.now ∷ []) → IfSome o (λ b. xs ≡ b.now ∷ [])
 made_found None xs ys e h = tt
@@ -265,11 +243,11 @@ pub made_fits : (o : Option (Bor Booking)) (grid : Ladders) (journal : List Entr
 made_fits None grid journal locator n legal h = tt
 made_fits (Some b) grid journal locator n legal h =
     let bs : List Booking = (replay grid journal).bookings in
-    let made : AllByRecursion (IsMade grid journal) (own locator n bs) = all_filter (IsMade grid journal) (λ x. is_of locator x && (x.number == n)) bs (replay_is_made grid journal legal) in
+    let made : AllByRecursion (IsMade grid journal) (own locator n bs) = all_pass (λ x. is_of locator x && (x.number == n)) (IsMade grid journal) bs (replay_is_made grid journal legal) in
     (subst (λ (l : List Booking). AllByRecursion (IsMade grid journal) l) h made).0.fits
 
 pub in_order : (grid : Ladders) (journal : List Entry) (flight : ℕ) → IsLegal grid journal → IsOrdered (bookings_on flight (replay grid journal).bookings)
-in_order grid journal flight legal = ordered_on flight (replay grid journal).bookings (replay_is_numbered grid journal legal).ordered
+in_order grid journal flight legal = ordered_pass _ (replay grid journal).bookings (replay_is_numbered grid journal legal).ordered
 
 -- ---- line by line
 

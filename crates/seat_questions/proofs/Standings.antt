@@ -14,6 +14,7 @@ use Rattle.seat_rules.specs.Bookings.{waiting}
 use Rattle.seat_rules.specs.Flights.{bookings_on}
 use Rattle.seat_rules.specs.Journal.{after, replay}
 use Rattle.seat_rules.specs.Sequential.{State}
+use Rattle.seat_rules.proofs.Filters.{few_pass}
 use Rattle.seat_rules.proofs.Flight.View.{bookings_view, waiting_view}
 use Rattle.seat_rules.proofs.Step.Limits.{few_answer}
 use Rattle.seat_desk.specs.AuditDesk.{most_lines}
@@ -27,19 +28,12 @@ few_after : (s : State) (journal : List Entry) → length (fold after s journal)
 few_after s [] = omega arith
 few_after s (e ∷ es) = omega (arith, few_after (after s e) es, few_answer s e.number e.work)
 
-few_on : (f : ℕ) (bs : List Booking) → length (bookings_on f bs) ≤ length bs
-few_on f [] = omega arith
-few_on f (b ∷ bs) = cases (b.place.flight == f) refl (few_on f bs) where
-  cases : (t : Bool) → (b.place.flight == f) ≡ t → length (bookings_on f bs) ≤ length bs → length (bookings_on f (b ∷ bs)) ≤ length (b ∷ bs)
-  cases true e rest = rw e (omega (arith, rest))
-  cases false e rest = rw e (omega (arith, rest))
-
 -- a flight has no more live bookings than the journal lines
 pub few_bookings : (grid : Ladders) (journal : List Entry) (most f : ℕ) (bookings : List Booking) → length journal ≤ most → most ≤ most_lines
     → bookings ≡ bookings_on f (replay grid journal).bookings → length bookings ≤ 999999
 few_bookings grid journal most f bookings few capped is =
     let here : length bookings ≡ length (bookings_on f (replay grid journal).bookings) = ap (λ (l : List Booking). length l) is in
-    omega (arith, here, few_on f (replay grid journal).bookings, few_after (record { grid = grid; bookings = [] }) journal, few, capped)
+    omega (arith, here, few_pass (λ b. b.place.flight == f) (replay grid journal).bookings, few_after (record { grid = grid; bookings = [] }) journal, few, capped)
 
 -- what waits on a flight's leg is told by its own bookings
 pub waiting_there : (f : ℕ) (all bookings : List Booking) (leg class n : ℕ) → bookings ≡ bookings_on f all → n ≡ waiting bookings f leg class → n ≡ waiting all f leg class

@@ -1,5 +1,6 @@
 pub mod Counters
 pub mod History
+pub mod Filters
 pub mod Flight
 pub mod Passes
 pub mod Step

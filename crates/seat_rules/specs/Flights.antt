@@ -1,5 +1,5 @@
 -- One flight alone: its bookings, the pass over its waiting list, and its part of a journal.
-use Rattle.std.specs.Prelude.{◌≡◌, ◌==◌, ◌&&◌, ℕ, ◌+◌, Bool, true, false, List, [], ◌∷◌, ◌++◌, length, map, take, Option, Some, None, option_map, count_by, if◌then◌else◌}
+use Rattle.std.specs.Prelude.{◌≡◌, ◌==◌, ◌&&◌, ℕ, ◌+◌, Bool, true, false, List, [], ◌∷◌, ◌++◌, filter, length, map, take, Option, Some, None, option_map, count_by, if◌then◌else◌}
 use Rattle.std.specs.List.{AllByRecursion}
 use Rattle.airline_base.specs.declared.place.Place.{Place}
 use Rattle.seat_nesting.specs.Nesting.{Ladders, legs_of, room}
@@ -8,7 +8,7 @@ use Rattle.seat_journal.specs.declared.entry.Advice.{Advice}
 use Rattle.seat_journal.specs.declared.entry.Entry.{Entry}
 use Rattle.seat_journal.specs.declared.entry.Work.{Work}
 use Rattle.seat_journal.specs.declared.entry.Work.TheVariants.{Seats, Limit}
-use Rattle.seat_rules.specs.Bookings.{is_waiting, held}
+use Rattle.seat_rules.specs.Bookings.{held}
 use Rattle.seat_rules.specs.Sequential.{Passed, pass, may_confirm, confirmed, advice_of, room_left}
 use Rattle.seat_rules.specs.Journal.{replay, calls_of, next_line, IsLegal}
 
@@ -22,8 +22,7 @@ NoneElseFits flight grid book among = AllByRecursion (λ b. (b.place.flight == f
 
 -- the bookings on the flight, in order
 abbrev pub bookings_on : ℕ → List Booking → List Booking
-bookings_on flight [] = []
-bookings_on flight (b ∷ bs) = (if b.place.flight == flight then b ∷ bookings_on flight bs else bookings_on flight bs)
+bookings_on flight bookings = filter (λ b. b.place.flight == flight) bookings
 
 -- the pass that looks at the waiting bookings of the flight alone
 abbrev pub pass_on : ℕ → Ladders → List Booking → List Advice → List Booking → Passed
@@ -135,11 +134,6 @@ PartLeavesLimits = (g h : Ladders) (journal : List Entry) (flight : ℕ) → Agr
 abbrev pub PartLeavesRoom : Type 0
 PartLeavesRoom = (g h : Ladders) (journal : List Entry) (place : Place) (class : ℕ) → AgreeOn place.flight g h → IsLegal g journal
     → room_left (replay h (part_of place.flight journal)) place class ≡ room_left (replay g journal) place class
-
--- the flight's waiting list
-abbrev pub queue_on : ℕ → List Booking → List Booking
-queue_on flight [] = []
-queue_on flight (b ∷ bs) = (if (b.place.flight == flight) && is_waiting b.status then b ∷ queue_on flight bs else queue_on flight bs)
 
 -- the booking under a new number
 abbrev pub renumbered : (ℕ → ℕ) → Booking → Booking

@@ -1,6 +1,5 @@
 -- The books of an inventory, flight by flight, line by line.
 use Rattle.std.proofs.Common.{◌≡◌, ◌≢◌, ◌==◌, ℕ, zero, suc, ◌+◌, ◌<◌, ◌≤◌, Bool, true, false, List, [], ◌∷◌, ◌++◌, drop, length, set, get_or, slice_get, map, cond, Option, Some, None, option_map, if◌then◌else◌, arith, refl, ap, sym, subst, ◌∙◌}
-use Rattle.std.specs.List.{AllByRecursion}
 use Rattle.std.proofs.lemmas.List.{get_or-set_same, get_or-set_other}
 use Rattle.std.proofs.lemmas.List.Sums.{sum_by_push, fold_push, count_by-le-length}
 use Rattle.std.proofs.lemmas.Bool.Decides.{nat_tests}
@@ -18,17 +17,17 @@ use Rattle.seat_journal.specs.declared.entry.Entry.{Entry}
 use Rattle.seat_rules.specs.declared.action.Action.{Action}
 use Rattle.seat_rules.specs.declared.action.Action.TheVariants.{Want, Cancel, Other}
 use Rattle.seat_rules.specs.Codes.{action_of}
-use Rattle.seat_rules.specs.Bookings.{held, Differs, IsApart}
+use Rattle.seat_rules.specs.Bookings.{held}
 use Rattle.seat_rules.specs.Sequential.{State, Outcome, state_of, room_left, answer, answer_to, NoneFits}
 use Rattle.seat_rules.specs.Journal.{replay, calls_of, IsNext, IsLegal, MayAsk}
-use Rattle.seat_rules.specs.Applying.{applied, confirmed_each, replied, IsOrdered, IsNumbered}
+use Rattle.seat_rules.specs.Applying.{applied, confirmed_each, replied, IsNumbered}
 use Rattle.seat_rules.specs.Flights.{bookings_on, is_flight, is_on, advices_anew}
 use Rattle.seat_rules.specs.Inventory.{has_memory, has_memory_in, HoldsWithinLimits, IsLawful, KeepsLimits}
 use Rattle.seat_rules.specs.Showing.{Standing, shown, standing_of, unsold}
 use Rattle.seat_bookings.specs.Books.{book_at, book_for, book_of, has_spare, has_spare_in, spare_of, IsEntered, IsOfReplay, IsQueued, LeavesLive, SameBooks}
 use Rattle.seat_bookings.specs.Live.{AreLive}
 use Rattle.seat_bookings.specs.Queues.{queue_of}
-use Rattle.seat_bookings.proofs.Waitlists.Queue.{queue_is}
+use Rattle.seat_rules.proofs.Filters.{all_pass, apart_pass, few_pass, ordered_pass}
 use Rattle.seat_rules.proofs.Flight.View.{bookings_view}
 use Rattle.seat_rules.proofs.Flight.Seen.{seen, answer_on, answer_off, advices_on}
 use Rattle.seat_rules.proofs.Step.Effect.{answer_applies, replay_is_numbered}
@@ -45,27 +44,6 @@ pub record SameAnswer (a b : Outcome) : Type 0 where
   pub reply : a.reply ≡ b.reply
   pub released : a.released ≡ b.released
   pub advices : a.advices ≡ b.advices
-
-few_on : (f : ℕ) (bs : List Booking) → length (bookings_on f bs) ≤ length bs
-few_on f [] = omega arith
-few_on f (b ∷ bs) = cases (b.place.flight == f) refl (few_on f bs) where
-  cases : (t : Bool) → (b.place.flight == f) ≡ t → length (bookings_on f bs) ≤ length bs → length (bookings_on f (b ∷ bs)) ≤ length (b ∷ bs)
-  cases true e rest = rw e (omega (arith, rest))
-  cases false e rest = rw e (omega (arith, rest))
-
-all_on : (P : Booking → Type 0) (f : ℕ) (bs : List Booking) → AllByRecursion P bs → AllByRecursion P (bookings_on f bs)
-all_on P f [] a = tt
-all_on P f (b ∷ bs) a = cases (b.place.flight == f) refl (all_on P f bs a.1) where
-  cases : (t : Bool) → (b.place.flight == f) ≡ t → AllByRecursion P (bookings_on f bs) → AllByRecursion P (bookings_on f (b ∷ bs))
-  cases true e rest = rw e (a.0, rest)
-  cases false e rest = rw e rest
-
-ordered_on : (f : ℕ) (bs : List Booking) → IsOrdered bs → IsOrdered (bookings_on f bs)
-ordered_on f [] o = tt
-ordered_on f (b ∷ bs) o = cases (b.place.flight == f) refl (ordered_on f bs o.1) where
-  cases : (t : Bool) → (b.place.flight == f) ≡ t → IsOrdered (bookings_on f bs) → IsOrdered (bookings_on f (b ∷ bs))
-  cases true e rest = rw e (all_on (λ x. b.number < x.number) f bs o.0, rest)
-  cases false e rest = rw e rest
 
 anew_same : (xs : List Advice) → advices_anew (λ n. n) xs ≡ xs
 anew_same [] = refl
@@ -126,7 +104,7 @@ same_answer opening cap journal books calls counts n (Limit c) k =
 
 pub few_in_book : (opening : Ladders) (cap : ℕ) (journal : List Entry) (books : List FlightBook) (calls : List ℕ) (counts : Counted) (f : ℕ) → IsOfReplay opening cap journal books calls counts → length (book_at books f) ≤ 999999
 few_in_book opening cap journal books calls counts f k =
-    omega (arith, ap length (k.by_flight f), few_on f (replay opening journal).bookings, k.lawful.few, k.lawful.capped, k.lawful.small)
+    omega (arith, ap length (k.by_flight f), few_pass (λ b. b.place.flight == f) (replay opening journal).bookings, k.lawful.few, k.lawful.capped, k.lawful.small)
 
 -- books that are the same are kept
 pub kept_same : (opening : Ladders) (cap : ℕ) (journal : List Entry) (books books' : List FlightBook) (calls : List ℕ) (counts : Counted) → IsOfReplay opening cap journal books calls counts → SameBooks books books' → IsOfReplay opening cap journal books' calls counts
@@ -151,7 +129,7 @@ entered_on opening now cap journal f e l next on =
     let n : ℕ = length journal + 1 in
     let here : Outcome = answer (state_of now (bookings_on f bs)) n e.work in
     let numbered : IsNumbered (length journal) bs = replay_is_numbered opening journal l.legal in
-    let numbered_on : IsNumbered (length journal) (bookings_on f bs) = record { below = all_on (λ b. b.number ≤ length journal) f bs numbered.below; ordered = ordered_on f bs numbered.ordered } in
+    let numbered_on : IsNumbered (length journal) (bookings_on f bs) = record { below = all_pass _ (λ b. b.number ≤ length journal) bs numbered.below; ordered = ordered_pass _ bs numbered.ordered } in
     let step = answer_applies (state_of now (bookings_on f bs)) (length journal) e.work numbered_on in
     let same = same_on now f bs n e.work on l.quiet in
     let whole : answer (replay opening journal) n e.work ≡ answer (state_of now bs) n e.work = ap (λ (s : State). answer s n e.work) l.left in
@@ -185,7 +163,7 @@ counted journal e calls k nine most s le = cases (e.session == s) refl where
 -- each waiting list is that of its flight's bookings
 pub kept_queued : (opening : Ladders) (cap : ℕ) (journal : List Entry) (books : List FlightBook) (calls : List ℕ) (counts : Counted) → IsOfReplay opening cap journal books calls counts → IsQueued books
 kept_queued opening cap journal books calls counts k =
-    record { each = λ f. k.by_queue f ∙ (sym (queue_is f (replay opening journal).bookings) ∙ ap queue_of (sym (k.by_flight f))) }
+    record { each = λ f. k.by_queue f ∙ ap queue_of (sym (k.by_flight f)) }
 
 -- the limits and the held seats that a journal leaves
 abbrev left_standing : Ladders → List Entry → Standing
@@ -216,7 +194,7 @@ pub kept_next : (opening : Ladders) (cap : ℕ) (journal : List Entry) (books bo
 kept_next opening cap journal books books' calls counts counts' e k nine lt next entered queued shows = record {
   lawful = let P : List Booking → Type 0 = IsLawful opening (limits_of counts') cap (journal ++ e ∷ []) in subst P (sym left) law;
   by_flight = λ f. cases f (is_on f e.work) refl;
-  by_queue = λ f. queued.each f ∙ (ap queue_of (cases f (is_on f e.work) refl) ∙ queue_is f (replay opening (journal ++ e ∷ [])).bookings);
+  by_queue = λ f. queued.each f ∙ ap queue_of (cases f (is_on f e.work) refl);
   by_session = counted journal e calls k.by_session nine (session_most e.session e.work next.session);
   seats = λ f l c. ap (λ (s : Standing). s.seats f l c) stands;
 } where
@@ -251,19 +229,12 @@ kept_next opening cap journal books books' calls counts counts' e k nine lt next
       ∙ (sym (left_off (limits_of counts) f (replay opening journal).bookings (length journal + 1) e.work off k.lawful.quiet) ∙ ap (λ (s : State). bookings_on f s.bookings) (sym step))))
 
 -- the line leaves live bookings
-apart_on : (f : ℕ) (bs : List Booking) → IsApart bs → IsApart (bookings_on f bs)
-apart_on f [] o = tt
-apart_on f (b ∷ bs) o = cases (b.place.flight == f) refl (apart_on f bs o.1) where
-  cases : (t : Bool) → (b.place.flight == f) ≡ t → IsApart (bookings_on f bs) → IsApart (bookings_on f (b ∷ bs))
-  cases true e rest = rw e (all_on (Differs b) f bs o.0, rest)
-  cases false e rest = rw e rest
-
 pub kept_live : (opening : Ladders) (cap : ℕ) (journal : List Entry) (books : List FlightBook) (calls : List ℕ) (counts : Counted) (e : Entry) → IsOfReplay opening cap journal books calls counts → IsNext opening journal e → LeavesLive books e
 kept_live opening cap journal books calls counts e k next = record { each = λ f on. subst AreLive (sym (left f on)) (live f) } where
   live : (f : ℕ) → AreLive (bookings_on f (replay opening (journal ++ e ∷ [])).bookings)
   live f = record {
-    ordered = ordered_on f (replay opening (journal ++ e ∷ [])).bookings (replay_is_numbered opening (journal ++ e ∷ []) (legal_push opening journal e k.lawful.legal next)).ordered;
-    apart = apart_on f (replay opening (journal ++ e ∷ [])).bookings (replay_apart opening (journal ++ e ∷ []));
+    ordered = ordered_pass _ (replay opening (journal ++ e ∷ [])).bookings (replay_is_numbered opening (journal ++ e ∷ []) (legal_push opening journal e k.lawful.legal next)).ordered;
+    apart = apart_pass _ (replay opening (journal ++ e ∷ [])).bookings (replay_apart opening (journal ++ e ∷ []));
   }
 
   step : replay opening (journal ++ e ∷ []) ≡ (answer (state_of (limits_of counts) (replay opening journal).bookings) (length journal + 1) e.work).state

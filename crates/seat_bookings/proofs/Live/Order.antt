@@ -7,8 +7,6 @@ use Rattle.std.proofs.lemmas.List.Elements.{All-from_recursion}
 use Rattle.std.proofs.lemmas.List.Sums.{position_or_len_is}
 use Rattle.seat_rules.specs.declared.booking.Booking.{Booking}
 use Rattle.seat_rules.specs.Applying.{IsOrdered}
-use Rattle.seat_rules.specs.Bookings.{is_waiting}
-use Rattle.seat_bookings.specs.Queues.{queue_of}
 
 rises : (xs : List Booking) → IsOrdered xs → (i j : ℕ) (d : Booking) → i < j → j < length xs → (get_or xs i d).number < (get_or xs j d).number
 rises [] o i j d lt le = absurd (omega arith)
@@ -77,18 +75,3 @@ pub number_past : (xs : List Booking) (n i : ℕ) → IsPartitionPoint (λ (y : 
     → position (λ (y : Booking). y.number == n) xs ≡ None
 number_past [] n i point le = refl
 number_past (x ∷ xs) n i point le = nowhere (λ (y : Booking). y.number == n) (x ∷ xs) x (λ k within. below_other (get_or (x ∷ xs) k x).number n (point.0 k x (omega arith) (omega arith)))
-
--- ---- those that wait
-all_queue : (P : Booking → Type 0) (xs : List Booking) → AllByRecursion P xs → AllByRecursion P (queue_of xs)
-all_queue P [] a = tt
-all_queue P (b ∷ bs) a = cases (is_waiting b.status) refl (all_queue P bs a.1) where
-  cases : (t : Bool) → is_waiting b.status ≡ t → AllByRecursion P (queue_of bs) → AllByRecursion P (queue_of (b ∷ bs))
-  cases true e rest = rw e (a.0, rest)
-  cases false e rest = rw e rest
-
-pub ordered_queue : (xs : List Booking) → IsOrdered xs → IsOrdered (queue_of xs)
-ordered_queue [] o = tt
-ordered_queue (b ∷ bs) o = cases (is_waiting b.status) refl (ordered_queue bs o.1) where
-  cases : (t : Bool) → is_waiting b.status ≡ t → IsOrdered (queue_of bs) → IsOrdered (queue_of (b ∷ bs))
-  cases true e rest = rw e (all_queue (λ x. b.number < x.number) bs o.0, rest)
-  cases false e rest = rw e rest

@@ -1,9 +1,9 @@
 -- Waiting lists, booking by booking.
-use Rattle.std.proofs.Common.{◌≡◌, ◌==◌, ℕ, zero, suc, ◌+◌, ◌<◌, ◌≤◌, Bool, true, false, nat_le, List, [], ◌∷◌, ◌++◌, length, get_or, remove, position, Some, None, arith, refl, ap, sym, ◌∙◌}
+use Rattle.std.proofs.Common.{◌≡◌, ◌==◌, ℕ, zero, suc, ◌+◌, ◌<◌, Bool, true, false, nat_le, List, [], ◌∷◌, ◌++◌, length, get_or, remove, position, Some, None, arith, refl, ap, sym, ◌∙◌}
 use Rattle.std.proofs.lemmas.List.{append-nil}
 use Rattle.std.proofs.lemmas.List.Quantifiers.{position-Some}
 use Rattle.std.specs.List.{AllByRecursion}
-use Rattle.std.proofs.lemmas.List.Sums.{sum_by-cons}
+use Rattle.std.proofs.lemmas.List.Elements.{filter-append}
 use Rattle.airline_base.specs.declared.place.Place.{Place}
 use Rattle.seat_journal.specs.declared.entry.Command.{Command}
 use Rattle.seat_rules.specs.declared.booking.Booking.{Booking}
@@ -13,8 +13,8 @@ use Rattle.seat_rules.specs.declared.effect.Effect.TheVariants.{Waits}
 use Rattle.seat_rules.specs.Bookings.{is_waiting, waits_on, waiting}
 use Rattle.seat_rules.specs.Sequential.{reduced, booking_of}
 use Rattle.seat_rules.specs.Applying.{confirmed_at, suffices, Spare}
-use Rattle.seat_rules.specs.Flights.{bookings_on, queue_on}
 use Rattle.seat_bookings.specs.Queues.{queue_of, first_waits, without}
+use Rattle.seat_rules.proofs.Filters.{sum_kept}
 use Rattle.seat_rules.proofs.Step.Reduced.{IsFirst}
 use Rattle.seat_rules.proofs.Step.Effect.{absent}
 
@@ -59,18 +59,11 @@ pub without_none : (xs : List Booking) (number : ℕ) → None ≡ position (λ 
 without_none xs number e = without_absent number xs (absent (λ (b : Booking). b.number == number) xs (sym e))
 
 -- one booking more
-queue_append : (xs ys : List Booking) → queue_of (xs ++ ys) ≡ queue_of xs ++ queue_of ys
-queue_append [] ys = refl
-queue_append (b ∷ bs) ys = cases (is_waiting b.status) refl (queue_append bs ys) where
-  cases : (t : Bool) → is_waiting b.status ≡ t → queue_of (bs ++ ys) ≡ queue_of bs ++ queue_of ys → queue_of (b ∷ (bs ++ ys)) ≡ queue_of (b ∷ bs) ++ queue_of ys
-  cases true e rest = rw (e, rest) refl
-  cases false e rest = rw (e, rest) refl
-
 pub queue_waits : (xs : List Booking) (n : ℕ) (c : Command) (p : Place) → queue_of (xs ++ booking_of n c p Waiting ∷ []) ≡ queue_of xs ++ booking_of n c p Waiting ∷ []
-queue_waits xs n c p = queue_append xs (booking_of n c p Waiting ∷ [])
+queue_waits xs n c p = filter-append _ xs (booking_of n c p Waiting ∷ [])
 
 pub queue_holds : (xs : List Booking) (n : ℕ) (c : Command) (p : Place) → queue_of (xs ++ booking_of n c p Held ∷ []) ≡ queue_of xs
-queue_holds xs n c p = queue_append xs (booking_of n c p Held ∷ []) ∙ append-nil (queue_of xs)
+queue_holds xs n c p = filter-append _ xs (booking_of n c p Held ∷ []) ∙ append-nil (queue_of xs)
 
 -- seats taken off the first that passes a test
 pub reduced_waits : (test : Booking → Bool) (n : ℕ) (xs : List Booking) → first_waits test xs ≡ true → queue_of (reduced test n xs) ≡ reduced test n (queue_of xs)
@@ -116,36 +109,13 @@ confirmed_holds n (b ∷ bs) h = cases (b.number == n) (is_waiting b.status) ref
   cases false true e g h rest = let skip : first_waits (λ b. b.number == n) (b ∷ bs) ≡ first_waits (λ b. b.number == n) bs = rw e refl in let on : first_waits (λ b. b.number == n) bs ≡ false = sym skip ∙ h in rw (e, g, rest on) refl
   cases false false e g h rest = let skip : first_waits (λ b. b.number == n) (b ∷ bs) ≡ first_waits (λ b. b.number == n) bs = rw e refl in let on : first_waits (λ b. b.number == n) bs ≡ false = sym skip ∙ h in rw (e, g) (rest on)
 
--- one flight's
-pub queue_is : (f : ℕ) (bs : List Booking) → queue_of (bookings_on f bs) ≡ queue_on f bs
-queue_is f [] = refl
-queue_is f (b ∷ bs) = cases (b.place.flight == f) (is_waiting b.status) refl refl (queue_is f bs) where
-  cases : (t w : Bool) → (b.place.flight == f) ≡ t → is_waiting b.status ≡ w → queue_of (bookings_on f bs) ≡ queue_on f bs → queue_of (bookings_on f (b ∷ bs)) ≡ queue_on f (b ∷ bs)
-  cases true true e g rest = rw (e, g, rest) refl
-  cases true false e g rest = rw (e, g) rest
-  cases false w e g rest = rw e rest
-
 -- those that wait are those of the list
 held_light : (f l k : ℕ) (b : Booking) (s : Status) → b.status ≡ s → is_waiting s ≡ false → waits_on f l k b ≡ 0
 held_light f l k b Held e h = rw e refl
 held_light f l k b Waiting e h = absurd cc
 
 pub waiting_queue : (bs : List Booking) (f l k : ℕ) → waiting (queue_of bs) f l k ≡ waiting bs f l k
-waiting_queue [] f l k = refl
-waiting_queue (b ∷ bs) f l k = cases (is_waiting b.status) refl (waiting_queue bs f l k) where
-  cases : (w : Bool) → is_waiting b.status ≡ w → waiting (queue_of bs) f l k ≡ waiting bs f l k → waiting (queue_of (b ∷ bs)) f l k ≡ waiting (b ∷ bs) f l k
-  cases true e rest = rw e (sum_by-cons (waits_on f l k) b (queue_of bs) ∙ (ap (λ x. waits_on f l k b + x) rest ∙ sym (sum_by-cons (waits_on f l k) b bs)))
-  cases false e rest =
-      let none = held_light f l k b b.status refl e in
-      let whole = sum_by-cons (waits_on f l k) b bs in
-      rw e (omega (arith, rest, none, whole))
-
-pub queue_few : (bs : List Booking) → length (queue_of bs) ≤ length bs
-queue_few [] = omega arith
-queue_few (b ∷ bs) = cases (is_waiting b.status) refl (queue_few bs) where
-  cases : (t : Bool) → is_waiting b.status ≡ t → length (queue_of bs) ≤ length bs → length (queue_of (b ∷ bs)) ≤ length (b ∷ bs)
-  cases true e rest = rw e (omega (arith, rest))
-  cases false e rest = rw e (omega (arith, rest))
+waiting_queue bs f l k = sum_kept (λ b. is_waiting b.status) (waits_on f l k) (λ b e. held_light f l k b b.status refl e) bs
 
 -- memory for one booking more that waits
 pub spare_both : (s : Spare) → s.booking ≡ true → s.waiting ≡ true → suffices Waits s ≡ true

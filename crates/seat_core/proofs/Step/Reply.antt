@@ -2,7 +2,6 @@
 use Rattle.std.proofs.Common.{◌≡◌, ◌==◌, ◌&&◌, ℕ, zero, suc, ◌+◌, ◌-◌, ◌<◌, ◌≤◌, Bool, true, false, nat_le, List, [], ◌∷◌, ◌++◌, length, find, Option, Some, None, IfSome, Result, IfOk, codes, if◌then◌else◌, arith, refl, ap, sym, subst, ◌∙◌}
 use Rattle.std.specs.List.{AllByRecursion}
 use Rattle.std.proofs.lemmas.Result.{IfOk-weaker}
-use Rattle.std.proofs.lemmas.List.Sums.{sum_by-cons}
 use Rattle.std.proofs.lemmas.Bool.Decides.{nat_tests}
 use Rattle.airline_base.specs.declared.place.Place.{Place}
 use Rattle.seat_nesting.specs.Nesting.{Ladders, Table, ByClass, Fits, room, may_wait, ladder_at, each_leg, seats_at}
@@ -28,6 +27,7 @@ use Rattle.seat_rules.specs.Journal.{replay, next_line, FitsWork}
 use Rattle.seat_bookings.specs.Queues.{queue_of, first_waits}
 use Rattle.seat_rules.specs.Sequential.{State, Outcome, answer, state_of, want_new, refused, may_change, pass, reduced, advice_of, booking_of, may_confirm, NoneFits, NoneFitsAmong}
 use Rattle.seat_rules.specs.Showing.{given_back}
+use Rattle.seat_rules.proofs.Filters.{all_pass, each_passes, sum_pass}
 use Rattle.seat_rules.proofs.Flight.View.{room_same, may_wait_same, room_of_flight, held_view, bookings_view}
 use Rattle.seat_bookings.proofs.Kept.Books.{few_in_book, kept_queued, same_answer, SameAnswer}
 use Rattle.seat_bookings.proofs.Waitlists.Queue.{waiting_queue, reduced_holds}
@@ -178,13 +178,6 @@ given_same grid t u p class n same l k = cases (holds grid u p class n) refl whe
   cases true e = rw (alike, e) (rw (same l k) refl)
   cases false e = rw (alike, e) (same l k)
 
-all_queue : (P : Booking → Type 0) (bs : List Booking) → AllByRecursion P bs → AllByRecursion P (queue_of bs)
-all_queue P [] a = tt
-all_queue P (b ∷ bs) a = cases (is_waiting b.status) refl (all_queue P bs a.1) where
-  cases : (w : Bool) → is_waiting b.status ≡ w → AllByRecursion P (queue_of bs) → AllByRecursion P (queue_of (b ∷ bs))
-  cases true e rest = rw e (a.0, rest)
-  cases false e rest = rw e rest
-
 not_waiting : (b : Booking) → is_waiting b.status ≡ false → b.status ≡ Held
 not_waiting b e = is b.status refl where
   is : (s : _) → b.status ≡ s → b.status ≡ Held
@@ -218,7 +211,7 @@ cancel_held counts books c p b h found order some le held_now =
     sym (ap (given_back grid (held bs) p c.class) whole) ∙ cancel_shown grid bs test p c.class c.seats b h.lacks order some found le facts.0 facts.1 Held status in
     let queue : queue_of after ≡ queue_at books p.flight = reduced_holds test c.seats bs (waits_as_found test bs b found ∙ held_now) ∙ sym h.queue in
     let on : AllByRecursion (λ x. x.place.flight ≡ p.flight) (queue_at books p.flight) =
-    (let P : List Booking → Type 0 = λ l. AllByRecursion (λ x. x.place.flight ≡ p.flight) l in subst P (sym h.queue) (all_queue (λ x. x.place.flight ≡ p.flight) bs h.there)) in
+    (let P : List Booking → Type 0 = λ l. AllByRecursion (λ x. x.place.flight ≡ p.flight) l in subst P (sym h.queue) (all_pass _ (λ x. x.place.flight ≡ p.flight) bs h.there)) in
     pass_is_by_table grid after
     ∙ (advices_queue grid (held after) after
     ∙ (ap (λ (l : List Booking). advices_by grid (held after) l) queue
@@ -270,7 +263,7 @@ pub changed_told : (grid : Ladders) (counts : Counted) (books : List FlightBook)
 changed_told grid counts books f h =
     let bs : List Booking = book_at books f in
     let on : AllByRecursion (λ x. x.place.flight ≡ f) (queue_at books f) =
-    (let P : List Booking → Type 0 = λ l. AllByRecursion (λ x. x.place.flight ≡ f) l in subst P (sym h.queue) (all_queue (λ x. x.place.flight ≡ f) bs h.there)) in
+    (let P : List Booking → Type 0 = λ l. AllByRecursion (λ x. x.place.flight ≡ f) l in subst P (sym h.queue) (all_pass _ (λ x. x.place.flight ≡ f) bs h.there)) in
     pass_is_by_table grid bs
     ∙ (advices_queue grid (held bs) bs
     ∙ (ap (λ (l : List Booking). advices_by grid (held bs) l) (sym h.queue)
@@ -292,19 +285,8 @@ quiet_on grid f bs (b ∷ among) a = cases (b.place.flight == f) refl (quiet_on 
   cases true e rest = rw e (here (grind (arith, nat_tests)), rest)
   cases false e rest = rw e rest
 
-all_there : (f : ℕ) (bs : List Booking) → AllByRecursion (λ b. b.place.flight ≡ f) (bookings_on f bs)
-all_there f [] = tt
-all_there f (b ∷ bs) = cases (b.place.flight == f) refl (all_there f bs) where
-  cases : (t : Bool) → (b.place.flight == f) ≡ t → AllByRecursion (λ x. x.place.flight ≡ f) (bookings_on f bs) → AllByRecursion (λ x. x.place.flight ≡ f) (bookings_on f (b ∷ bs))
-  cases true e rest = rw e (grind (arith, nat_tests), rest)
-  cases false e rest = rw e rest
-
-held_on_le : (f : ℕ) (bs : List Booking) (x l k : ℕ) → held (bookings_on f bs) x l k ≤ held bs x l k
-held_on_le f [] x l k = omega arith
-held_on_le f (b ∷ bs) x l k = cases (b.place.flight == f) refl (held_on_le f bs x l k) where
-  cases : (t : Bool) → (b.place.flight == f) ≡ t → held (bookings_on f bs) x l k ≤ held bs x l k → held (bookings_on f (b ∷ bs)) x l k ≤ held (b ∷ bs) x l k
-  cases true e rest = rw e (omega (arith, rest, sum_by-cons (seats_on x l k) b (bookings_on f bs), sum_by-cons (seats_on x l k) b bs))
-  cases false e rest = rw e (omega (arith, rest, sum_by-cons (seats_on x l k) b bs))
+is_there : (x f : ℕ) → (x == f) ≡ true → x ≡ f
+is_there x f e = grind (arith, nat_tests)
 
 pub flight_kept : (opening : Ladders) (cap : ℕ) (journal : List Entry) (books : List FlightBook) (calls : List ℕ) (counts : Counted) (f : ℕ) → IsOfReplay opening cap journal books calls counts → CountsFlight counts books f
 flight_kept opening cap journal books calls counts f k =
@@ -318,8 +300,8 @@ flight_kept opening cap journal books calls counts f k =
       queue = (kept_queued opening cap journal books calls counts k).each f;
       seats = λ l c. k.seats f l c
           ∙ (sym (held_view (λ n. n) f bs l c) ∙ ap (λ (x : List Booking). held x f l c) (bookings_view f bs ∙ book));
-      lacks = (let Q : List Booking → Type 0 = λ l. Lacks now l in subst Q book (λ x l c missing. omega (arith, lacks x l c missing, held_on_le f bs x l c)));
-      there = (let P : List Booking → Type 0 = λ l. AllByRecursion (λ b. b.place.flight ≡ f) l in subst P book (all_there f bs));
+      lacks = (let Q : List Booking → Type 0 = λ l. Lacks now l in subst Q book (λ x l c missing. omega (arith, lacks x l c missing, sum_pass (λ b. b.place.flight == f) (seats_on x l c) bs)));
+      there = (let P : List Booking → Type 0 = λ l. AllByRecursion (λ b. b.place.flight ≡ f) l in subst P book (each_passes _ (λ b. b.place.flight ≡ f) (λ b e. is_there b.place.flight f e) bs));
     }
 
 kept_flight : (opening : Ladders) (cap : ℕ) (journal : List Entry) (books : List FlightBook) (calls : List ℕ) (counts : Counted) (o : Option Place) → IsOfReplay opening cap journal books calls counts

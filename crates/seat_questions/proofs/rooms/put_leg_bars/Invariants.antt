@@ -1,6 +1,5 @@
 -- The bars of the ranks so far are written, and those that are left make the text whole.
 use Rattle.std.proofs.Common.{◌≡◌, ◌++◌, drop}
-use Rattle.seat_nesting.specs.Nesting.{ladder_at}
 use Rattle.seat_rules.specs.Bookings.{held}
 use Rattle.seat_rules.specs.Inventory.{state_now}
 use Rattle.seat_questions.specs.Rooms.{bar_lines, leg_bars}
