@@ -5,7 +5,8 @@ ghost use Rattle.seat_rules.specs.Journal.{FitsChange, FitsCommand};
 ghost use Rattle.seat_journal.specs.declared.entry.Work.TheVariants.{Limit, Seats};
 ghost use Rattle.seat_host.specs.declared.under_lock.BookFault.TheVariants.{JournalFull};
 ghost use Rattle.seat_host.specs.Refusing.{IsDue};
-ghost use Rattle.seat_workers.specs.Working.{Asks, HasRun, IsRefused, AllHaveRun, AllHaveBegun, NamesFirst, seats_in, works_of};
+ghost use Rattle.seat_workers.specs.Working.{Asks, HasRun, IsRefused, AllHaveRun, AllHaveBegun, NamesFirst};
+ghost use Rattle.seat_rules.specs.Histories.{seats_in, works_of};
 
 use crate::asking::Asking;
 use crate::gate::Gate;
