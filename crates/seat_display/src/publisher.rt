@@ -123,7 +123,8 @@ impl Publisher {
         }
     }
 
-    /// No viewer has seen more than what is visible. It changes nothing.
+    /// No viewer has seen more than what is visible. It changes nothing. The loop ends at its first lap; it stays since only the
+    /// lines that are counted in memory, and no proof, say that the history has not grown behind the publisher.
     #[tactic(auto, using(crate::proofs::Fronts::begins_of))]
     pub fn covers<R: Wait>(&self, rt: &R, viewer: &Viewer)
         requires { viewer.now.book ≡ self.now.book }

@@ -191,7 +191,7 @@ fn waiting(core: &Core, flight: u32, leg: u8, class: Class) -> u64
     requires capped { core.now.cap ≤ most_lines }
     ensures { result ≡ waiting (state_now core.now).bookings flight leg class }
 {
-    // A journal of so few lines leaves no more bookings, by which the sum fits.
+    // For the prover alone: a journal of so few lines leaves no more bookings, so that their sum fits.
     let _ = core.journal();
     waiting_by(core.bookings_on(flight), flight, leg, class)
 }
