@@ -1,5 +1,5 @@
 -- The text of a reply is a segment line.
-use Rattle.std.proofs.Common.{◌≡◌, ℕ, ◌+◌, ◌%◌, ◌^◌, ◌<◌, ◌≤◌, true, List, [], ◌∷◌, ◌++◌, length, take, Option, Some, None, refl, sym, ap, ◌∙◌, arith, append_assoc, decimal}
+use Rattle.std.proofs.Common.{◌≡◌, ℕ, ◌+◌, ◌%◌, ◌^◌, ◌<◌, ◌≤◌, true, List, [], ◌∷◌, ◌++◌, length, take, Option, Some, None, refl, sym, ap, ◌∙◌, arith, decimal}
 use Rattle.std.specs.Char.{is_ascii_digit}
 use Rattle.std.specs.List.{list_all}
 use Rattle.std.proofs.lemmas.Bool.Decides.{nat_tests}
@@ -30,18 +30,8 @@ decimal_digits n = decimal_by_steps (λ n ds. list_all is_ascii_digit ds ≡ tru
 pub decimal_numeral : (most n : ℕ) → 0 < most → 0 < n → n < 10 ^ most → n < 2 ^ 64 → IsNumberText most (decimal n) n
 decimal_numeral most n some positive small fits = record { few = length-decimal-le most n some small fits; each = decimal_digits n fits; value = sym (decimal_is_IsNumeral n fits).1; positive = positive }
 
--- the pieces, as they are put
-pub put_together : (a n s c d b o e m t0 t1 t2 t3 t4 t5 t6 t7 t8 t9 t10 t11 : List ℕ) → t0 ≡ [] → t1 ≡ t0 ++ a → t2 ≡ t1 ++ n → t3 ≡ t2 ++ s → t4 ≡ t3 ++ c → t5 ≡ t4 ++ d → t6 ≡ t5 ++ 32 ∷ [] → t7 ≡ t6 ++ b → t8 ≡ t7 ++ o → t9 ≡ t8 ++ 32 ∷ [] → t10 ≡ t9 ++ e → t11 ≡ t10 ++ m
-    → t11 ≡ a ++ (n ++ ((s ++ c) ++ (d ++ (32 ∷ (b ++ (o ++ (32 ∷ (e ++ m))))))))
-put_together a n s c d b o e m t0 t1 t2 t3 t4 t5 t6 t7 t8 t9 t10 t11 e0 e1 e2 e3 e4 e5 e6 e7 e8 e9 e10 e11 =
-    rw (e11, e10, e9, e8, e7, e6, e5, e4, e3, e2, e1, e0) (simp append_assoc)
-
 length_day : (day month : ℕ) → 1 ≤ month → month ≤ 12 → length (day_month day month) ≡ 5
 length_day day month low high = omega (arith, length-append (two_digits day) (month_name month), length_name month low high)
-
-pub put_as : (a n s d b o e m : List ℕ) (k : ℕ) (a2 d2 b2 o2 e2 : List ℕ) (k2 : ℕ) (t : List ℕ) → t ≡ a2 ++ (n ++ ((s ++ k2 ∷ []) ++ (d2 ++ (32 ∷ (b2 ++ (o2 ++ (32 ∷ (e2 ++ m)))))))) → a2 ≡ a → k2 ≡ k → d2 ≡ d → b2 ≡ b → o2 ≡ o → e2 ≡ e
-    → t ≡ a ++ (n ++ ((s ++ k ∷ []) ++ (d ++ (32 ∷ (b ++ (o ++ (32 ∷ (e ++ m))))))))
-put_as a n s d b o e m k a2 d2 b2 o2 e2 k2 t h ea ek ed eb eo ee = rw (← ea, ← ek, ← ed, ← eb, ← eo, ← ee) h
 
 -- the front of a date
 pub day_front : (day month year : ℕ) (text : List ℕ) → 1 ≤ month → month ≤ 12 → text ≡ day_month day month ++ two_digits year → take 5 text ≡ day_month day month

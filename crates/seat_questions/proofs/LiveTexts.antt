@@ -1,15 +1,12 @@
 -- The texts of live bookings.
-use Rattle.std.proofs.Common.{◌≡◌, ◌<◌, ◌≤◌, ℕ, ◌+◌, ◌%◌, arith, get_or, slice_get, List, [], ◌∷◌, ◌++◌, take, Option, Some, None, IfSome, length, refl, sym, ap, subst, ◌∙◌, append_assoc, decimal}
+use Rattle.std.proofs.Common.{◌≡◌, ◌<◌, ◌≤◌, ℕ, ◌+◌, arith, get_or, slice_get, List, [], ◌∷◌, ◌++◌, Option, Some, None, IfSome, length, refl, sym, ap, subst, ◌∙◌, append_assoc, decimal}
 use Rattle.std.proofs.lemmas.List.{append-nil}
 use Rattle.std.proofs.lemmas.Option.{same_Some, slice_get_read}
-use Rattle.airline_base.specs.Days.{IsDateText, day_month}
-use Rattle.airline_base.specs.Fields.{suffix_text}
 use Rattle.airline_base.specs.declared.place.Place.{Place}
 use Rattle.ssim_flights.specs.declared.flight.DatedLeg.{DatedLeg}
 use Rattle.ssim_flights.specs.declared.flight.Flight.{Flight as Flown}
-use Rattle.airimp_lines.specs.Grammar.{plain_line}
+use Rattle.airimp_lines.specs.Grammar.{IsPlainLine, reply_of}
 use Rattle.airimp_lines.specs.declared.segment.Segment.{Segment}
-use Rattle.airimp_lines.proofs.Replies.{day_front}
 use Rattle.seat_nesting.specs.Nesting.{Ladders}
 use Rattle.seat_rules.specs.declared.booking.Booking.{Booking}
 use Rattle.seat_rules.specs.Inventory.{Inventory}
@@ -19,25 +16,9 @@ use Rattle.seat_desk.specs.FlightsDesk.{IsText}
 use Rattle.seat_desk.specs.Loading.{IsGridOf}
 use Rattle.seat_questions.specs.LiveBookings.{AreBookingsPut, HasPlace, IsBookingLine, IsBookingsOver, IsBookingsText, IsSegmentPut, bookings_of, segment_of}
 
-pieces : (old a n s c d b o e m : List ℕ) → ((((((((old ++ ((a ++ n) ++ s)) ++ c) ++ d) ++ 32 ∷ []) ++ b) ++ o) ++ 32 ∷ []) ++ e) ++ m
-    ≡ old ++ (a ++ (n ++ ((s ++ c) ++ (d ++ (32 ∷ (b ++ (o ++ (32 ∷ (e ++ m)))))))))
-pieces old a n s c d b o e m = simp append_assoc
-
--- a segment, piece by piece
-pub segment_line : (s : Segment) (t0 t1 t2 t3 t4 t5 t6 t7 t8 t9 date board off code : List ℕ) (letter seats : ℕ) → IsDateText s.day date
-    → t1 ≡ t0 ++ ((s.airline ++ decimal s.number) ++ suffix_text s.suffix) → t2 ≡ t1 ++ letter ∷ [] → letter ≡ s.class → t3 ≡ t2 ++ take 5 date → t4 ≡ t3 ++ 32 ∷ []
-    → t5 ≡ t4 ++ board → board ≡ s.board → t6 ≡ t5 ++ off → off ≡ s.off → t7 ≡ t6 ++ 32 ∷ [] → t8 ≡ t7 ++ code → code ≡ s.code → t9 ≡ t8 ++ decimal seats → seats ≡ s.seats
-    → IsSegmentPut s t0 t9
-segment_line s t0 t1 t2 t3 t4 t5 t6 t7 t8 t9 date board off code letter seats is e1 e2 c e3 e4 e5 b e6 o e7 e8 k e9 n =
-    let front : take 5 date ≡ day_month is.day is.month = day_front is.day is.month (is.year % 100) date is.date.0.1.0 is.date.0.1.1 is.written in
-    let written : t9 ≡ ((((((((t0 ++ ((s.airline ++ decimal s.number) ++ suffix_text s.suffix)) ++ letter ∷ []) ++ take 5 date) ++ 32 ∷ []) ++ board) ++ off) ++ 32 ∷ []) ++ code) ++ decimal seats
-    = rw (e9, e8, e7, e6, e5, e4, e3, e2, e1) refl in
-    record {
-      part = plain_line is.day is.month s;
-      is_segment = record { year = is.year; month = is.month; day = is.day; date = is.date; written = refl };
-      written = written ∙ pieces t0 s.airline (decimal s.number) (suffix_text s.suffix) (letter ∷ []) (take 5 date) board off code (decimal seats)
-          ∙ rw (front, c, b, o, k, n) refl;
-    }
+-- a segment, written as a reply with its own code and seats
+pub segment_put : (s t : Segment) (old new part : List ℕ) → t ≡ s → IsPlainLine (reply_of t t.code t.seats) part → new ≡ old ++ part → IsSegmentPut s old new
+segment_put s t old new part same line added = record { part = part; is_segment = subst (λ (u : Segment). IsPlainLine u part) same line; written = added }
 
 -- ---- lines
 
