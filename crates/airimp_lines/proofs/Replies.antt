@@ -34,20 +34,27 @@ length_day : (day month : ℕ) → 1 ≤ month → month ≤ 12 → length (day_
 length_day day month low high = omega (arith, length-append (two_digits day) (month_name month), length_name month low high)
 
 -- the front of a date
-pub day_front : (day month year : ℕ) (text : List ℕ) → 1 ≤ month → month ≤ 12 → text ≡ day_month day month ++ two_digits year → take 5 text ≡ day_month day month
+pub day_front : (day month year : ℕ) (text : List ℕ) → 1 ≤ month → month ≤ 12
+    → text ≡ day_month day month ++ two_digits year → take 5 text ≡ day_month day month
 day_front day month year text low high e = ap (take 5) e ∙ take_at (day_month day month) (two_digits year) 5 (length_day day month low high)
 
-no_tail : (a n l d b o e m : List ℕ) → a ++ (n ++ (l ++ (d ++ (32 ∷ (b ++ (o ++ (32 ∷ (e ++ m)))))))) ≡ a ++ (n ++ (l ++ (d ++ (32 ∷ (b ++ (o ++ (32 ∷ (e ++ (m ++ [])))))))))
+no_tail : (a n l d b o e m : List ℕ)
+    → a ++ (n ++ (l ++ (d ++ (32 ∷ (b ++ (o ++ (32 ∷ (e ++ m)))))))) ≡ a
+    ++ (n ++ (l ++ (d ++ (32 ∷ (b ++ (o ++ (32 ∷ (e ++ (m ++ [])))))))))
 no_tail a n l d b o e m = rw append-nil refl
 
-length_all : (a n l d b o e m : List ℕ) → length (a ++ (n ++ (l ++ (d ++ (32 ∷ (b ++ (o ++ (32 ∷ (e ++ m))))))))) ≡ length a + (length n + (length l + (length d + (1 + (length b + (length o + (1 + (length e + length m))))))))
+length_all : (a n l d b o e m : List ℕ)
+    → length (a ++ (n ++ (l ++ (d ++ (32 ∷ (b ++ (o ++ (32 ∷ (e ++ m))))))))) ≡ length a
+    + (length n + (length l + (length d + (1 + (length b + (length o + (1 + (length e + length m))))))))
 length_all a n l d b o e m = simp length-append (omega arith)
 
-length_letters : (suffix : Option ℕ) (class : ℕ) → (1 ≤ length (letters_text suffix class)) × (length (letters_text suffix class) ≤ 2)
+length_letters : (suffix : Option ℕ) (class : ℕ)
+    → (1 ≤ length (letters_text suffix class)) × (length (letters_text suffix class) ≤ 2)
 length_letters None class = (omega arith, omega arith)
 length_letters (Some s) class = (omega arith, omega arith)
 
-length_bounds : (t a n l d b o e m : ℕ) → t ≡ a + (n + (l + (d + (1 + (b + (o + (1 + (e + m)))))))) → a ≡ 2 → 0 < n → n ≤ 4 → (1 ≤ l) × (l ≤ 2) → d ≡ 5 → b ≡ 3 → o ≡ 3 → e ≡ 2 → 0 < m → m ≤ 3 → (20 ≤ t) × (t ≤ 69)
+length_bounds : (t a n l d b o e m : ℕ) → t ≡ a + (n + (l + (d + (1 + (b + (o + (1 + (e + m)))))))) → a ≡ 2 → 0 < n
+    → n ≤ 4 → (1 ≤ l) × (l ≤ 2) → d ≡ 5 → b ≡ 3 → o ≡ 3 → e ≡ 2 → 0 < m → m ≤ 3 → (20 ≤ t) × (t ≤ 69)
 length_bounds t a n l d b o e m h p q r u v w x y z k = (omega arith, omega arith)
 
 tail_none : is_tail [] ≡ true
@@ -55,7 +62,9 @@ unfolding is_tail
 tail_none = refl
 
 -- a segment that some line spells is spelled by its reply, with that code and number
-pub reply_spelled : (today : ℕ) (line : List ℕ) (s : Segment) (code : List ℕ) (seats : ℕ) (text : List ℕ) → is_code code ≡ true → 0 < seats → seats < 10 ^ 3 → IsPlainLine (reply_of s code seats) text → SpellsSegment today line s → SpellsSegment today text (reply_of s code seats)
+pub reply_spelled : (today : ℕ) (line : List ℕ) (s : Segment) (code : List ℕ) (seats : ℕ) (text : List ℕ)
+    → is_code code ≡ true → 0 < seats → seats < 10 ^ 3 → IsPlainLine (reply_of s code seats) text
+    → SpellsSegment today line s → SpellsSegment today text (reply_of s code seats)
 reply_spelled today line s code seats text is positive small p h =
     let fits = (right_segment today line s h).writable in
     let same = same_parts p.year p.month p.day h.date.year h.month h.day s.day p.date h.date.date in

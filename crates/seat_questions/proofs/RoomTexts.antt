@@ -1,36 +1,33 @@
 -- The texts of places, of their rooms and of bars.
 use Rattle.std.proofs.Common.{arith, Bool, true, false, ◌≡◌, ℕ, zero, suc, ◌+◌, ◌-◌, ◌<◌, List, [], ◌∷◌, ◌++◌, length, drop, get_or, refl, sym, ap, ◌∙◌, subst, append_assoc}
+use Rattle.seat_questions.proofs.Common.{Place, DatedLeg, Flight, Ladders, Steps, Entry, replay, State, IsLegText}
 use Rattle.std.specs.Prelude.{slice_get, unwrap_or, option_map, Option, Some}
 use Rattle.std.proofs.lemmas.List.{append-nil, length-map}
 use Rattle.std.proofs.lemmas.Option.{slice_get-map}
-use Rattle.airline_base.specs.declared.place.Place.{Place}
-use Rattle.ssim_flights.specs.declared.flight.DatedLeg.{DatedLeg}
-use Rattle.ssim_flights.specs.declared.flight.Flight.{Flight}
 use Rattle.seat_limits.specs.Authorised.{authorised_grid, authorised_legs}
-use Rattle.seat_nesting.specs.Nesting.{ByClass, Ladders, Steps, held_from, legs_of}
+use Rattle.seat_nesting.specs.Nesting.{ByClass, held_from, legs_of}
 use Rattle.seat_nesting.specs.declared.ladder.Step.{Step}
-use Rattle.seat_journal.specs.declared.entry.Entry.{Entry}
 use Rattle.seat_journal.proofs.TextLaws.{one_text}
 use Rattle.seat_rules.specs.Inventory.{Inventory, state_now}
-use Rattle.seat_rules.specs.Journal.{replay}
-use Rattle.seat_rules.specs.Sequential.{State}
 use Rattle.seat_desk.specs.AuditDesk.{IsReplayOf}
-use Rattle.seat_desk.specs.FlightsDesk.{IsLegText, head_text}
+use Rattle.seat_desk.specs.FlightsDesk.{head_text}
 use Rattle.seat_desk.specs.Loading.{IsGridOf}
 use Rattle.seat_desk.proofs.Texts.{assoc_four}
 use Rattle.seat_questions.proofs.Covers.{assoc_six}
-use Rattle.seat_questions.proofs.Standings.{from_rank}
 use Rattle.seat_questions.specs.Rooms.{AreRoomsAfter, IsAdded, IsPlaceText, IsPlaceTextBy, IsRoomsText, IsRunText, OpeningRoomsAreOfNoLines, bar_line, bar_lines, bars_text, block_bar, keeps, rooms_part, times}
 use Rattle.seat_questions.specs.declared.rooms.RoomsOf.{RoomsOf}
 use Rattle.seat_questions.specs.declared.rooms.Bars.{Bars}
+use Rattle.ssim_flights.proofs.Walks.{drop_step}
 
 -- ---- the state
 
-pub grid_kept : (flights : List Flight) (grid other : Ladders) → IsGridOf flights grid → other ≡ grid → IsGridOf flights other
+pub grid_kept : (flights : List Flight) (grid other : Ladders) → IsGridOf flights grid → other ≡ grid
+    → IsGridOf flights other
 grid_kept flights grid other is same = subst (IsGridOf flights) (sym same) is
 
 -- the rooms of the inventory that the journal comes to are those that the journal leaves
-pub rooms_of_replay : (asked : RoomsOf) (flights : List Flight) (grid : Ladders) (bytes text : List ℕ) (core : Inventory) → IsReplayOf grid bytes core
+pub rooms_of_replay : (asked : RoomsOf) (flights : List Flight) (grid : Ladders) (bytes text : List ℕ)
+    (core : Inventory) → IsReplayOf grid bytes core
     → IsRoomsText asked (state_now core) flights text → AreRoomsAfter asked flights grid bytes text
 rooms_of_replay asked flights grid bytes text core is listed = record {
   entries = core.journal;
@@ -46,7 +43,8 @@ opening_rooms_are_of_no_lines asked flights grid journal text none rooms =
     subst (λ (l : List Entry). IsRoomsText asked (replay grid l) flights text) (one_text journal rooms.entries [] rooms.is_text none) rooms.listed
 
 -- a flight has as many ladders as legs
-pub legs_alike : (flights : List Flight) (grid : Ladders) (i : ℕ) (flight : Flight) → IsGridOf flights grid → slice_get flights i ≡ Some flight
+pub legs_alike : (flights : List Flight) (grid : Ladders) (i : ℕ) (flight : Flight) → IsGridOf flights grid
+    → slice_get flights i ≡ Some flight
     → length (legs_of grid i) ≡ length flight.legs
 legs_alike flights grid i flight is at =
     let here : slice_get (authorised_grid is.rows flights) i ≡ Some (authorised_legs is.rows flight) =
@@ -55,7 +53,8 @@ legs_alike flights grid i flight is at =
 
 -- ---- places
 
-pub run_left : (asked : RoomsOf) (state : State) (flight : Flight) (place : Place) (run : DatedLeg) (text : List ℕ) → keeps asked run ≡ false
+pub run_left : (asked : RoomsOf) (state : State) (flight : Flight) (place : Place) (run : DatedLeg) (text : List ℕ)
+    → keeps asked run ≡ false
     → IsAdded (IsRunText asked state flight place run) text text
 run_left asked state flight place run text e = record {
   part = [];
@@ -63,15 +62,18 @@ run_left asked state flight place run text e = record {
   written = sym (append-nil text);
 }
 
-pub run_kept : (asked : RoomsOf) (state : State) (flight : Flight) (place : Place) (run : DatedLeg) (old new : List ℕ) → keeps asked run ≡ true
-    → IsAdded (IsPlaceText asked.bars state flight place run) old new → IsAdded (IsRunText asked state flight place run) old new
+pub run_kept : (asked : RoomsOf) (state : State) (flight : Flight) (place : Place) (run : DatedLeg) (old new : List ℕ)
+    → keeps asked run ≡ true
+    → IsAdded (IsPlaceText asked.bars state flight place run) old new
+    → IsAdded (IsRunText asked state flight place run) old new
 run_kept asked state flight place run old new e added = record {
   part = added.part;
   is_part = subst (λ (b : Bool). IsPlaceTextBy b asked.bars state flight place run added.part) (sym e) added.is_part;
   written = added.written;
 }
 
-pub place_added : (bars : Option Bars) (state : State) (flight : Flight) (place : Place) (run : DatedLeg) (old head mid rooms end new : List ℕ)
+pub place_added : (bars : Option Bars) (state : State) (flight : Flight) (place : Place) (run : DatedLeg)
+    (old head mid rooms end new : List ℕ)
     → head ≡ old ++ head_text place.flight flight → (way : List ℕ) × IsLegText 0 run way × (mid ≡ head ++ way)
     → rooms ≡ mid ++ rooms_part state place → end ≡ rooms ++ 10 ∷ [] → new ≡ end ++ bars_text bars state place
     → IsAdded (IsPlaceText bars state flight place run) old new
@@ -91,11 +93,13 @@ place_added bars state flight place run old head mid rooms end new is_head way i
 -- ---- bars
 
 -- the bar of one rank more
-pub rank_put : (bars : Bars) (seats : ByClass) (steps : Steps) (i : ℕ) (s : Step) (count : ℕ) (mid new whole : List ℕ) → i < length steps → s ≡ get_or steps i s
-    → count ≡ held_from seats (drop i steps) → mid ++ bar_lines bars seats (drop i steps) ≡ whole → new ≡ mid ++ bar_line bars s.class count s.limit
+pub rank_put : (bars : Bars) (seats : ByClass) (steps : Steps) (i : ℕ) (s : Step) (count : ℕ) (mid new whole : List ℕ)
+    → i < length steps → s ≡ get_or steps i s
+    → count ≡ held_from seats (drop i steps) → mid ++ bar_lines bars seats (drop i steps) ≡ whole
+    → new ≡ mid ++ bar_line bars s.class count s.limit
     → new ++ bar_lines bars seats (drop (i + 1) steps) ≡ whole
 rank_put bars seats steps i s count mid new whole inside is counted so_far put =
-    let rest : drop i steps ≡ s ∷ drop (i + 1) steps = from_rank steps i s inside is in
+    let rest : drop i steps ≡ s ∷ drop (i + 1) steps = drop_step steps i s inside is in
     let here : count ≡ held_from seats (s ∷ drop (i + 1) steps) = counted ∙ ap (held_from seats) rest in
     ap (λ (l : List ℕ). l ++ bar_lines bars seats (drop (i + 1) steps)) (put ∙ ap (λ (n : ℕ). mid ++ bar_line bars s.class n s.limit) here)
     ∙ append_assoc mid (bar_line bars s.class (held_from seats (s ∷ drop (i + 1) steps)) s.limit) (bar_lines bars seats (drop (i + 1) steps))
@@ -107,7 +111,8 @@ times_next : (n : ℕ) (bytes : List ℕ) → times n bytes ++ bytes ≡ times (
 times_next zero bytes = sym (append-nil bytes)
 times_next (suc n) bytes = append_assoc bytes (times n bytes) bytes ∙ ap (λ (l : List ℕ). bytes ++ l) (times_next n bytes)
 
-pub times_more : (n : ℕ) (bytes old mid new : List ℕ) → mid ≡ old ++ times n bytes → new ≡ mid ++ bytes → new ≡ old ++ times (n + 1) bytes
+pub times_more : (n : ℕ) (bytes old mid new : List ℕ) → mid ≡ old ++ times n bytes → new ≡ mid ++ bytes
+    → new ≡ old ++ times (n + 1) bytes
 times_more n bytes old mid new so_far put =
     let e : suc n ≡ n + 1 = omega arith in
     put ∙ ap (λ (l : List ℕ). l ++ bytes) so_far ∙ append_assoc old (times n bytes) bytes
@@ -116,7 +121,8 @@ times_more n bytes old mid new so_far put =
 -- ---- blocks
 
 -- with a half block
-pub half_put : (n m : ℕ) (half : Bool) (old full mid new : List ℕ) → half ≡ true → full ≡ old ++ times n (226 ∷ 150 ∷ 136 ∷ []) → mid ≡ full ++ 226 ∷ 150 ∷ 140 ∷ []
+pub half_put : (n m : ℕ) (half : Bool) (old full mid new : List ℕ) → half ≡ true
+    → full ≡ old ++ times n (226 ∷ 150 ∷ 136 ∷ []) → mid ≡ full ++ 226 ∷ 150 ∷ 140 ∷ []
     → m ≡ 19 - n → new ≡ mid ++ times m (194 ∷ 183 ∷ []) → new ≡ old ++ block_bar n half
 half_put n m half old full mid new e is_full is_mid is_left is_new =
     let whole : List ℕ = times n (226 ∷ 150 ∷ 136 ∷ []) in
@@ -126,7 +132,8 @@ half_put n m half old full mid new e is_full is_mid is_left is_new =
     (is_new ∙ ap (λ (k : ℕ). mid ++ times k (194 ∷ 183 ∷ [])) is_left ∙ ap (λ (l : List ℕ). l ++ dots) (is_mid ∙ ap (λ (l : List ℕ). l ++ one) is_full) ∙ assoc_four old whole one dots)
 
 -- and without
-pub whole_put : (n m : ℕ) (half : Bool) (old full new : List ℕ) → half ≡ false → full ≡ old ++ times n (226 ∷ 150 ∷ 136 ∷ [])
+pub whole_put : (n m : ℕ) (half : Bool) (old full new : List ℕ) → half ≡ false
+    → full ≡ old ++ times n (226 ∷ 150 ∷ 136 ∷ [])
     → m ≡ 20 - n → new ≡ full ++ times m (194 ∷ 183 ∷ []) → new ≡ old ++ block_bar n half
 whole_put n m half old full new e is_full is_left is_new =
     let dots : List ℕ = times (20 - n) (194 ∷ 183 ∷ []) in

@@ -43,7 +43,8 @@ fn put_flight(
 ) -> Result<(), AllocError>
     requires capped { core.now.cap ≤ most_lines }
     requires fits { Fits core.now.grid place }
-    ensures { OnOk result (IsPut (IsLegPart (state_now core.now) place) 0 (dated_legs flights.now place.flight) text.old.items text.new.items) }
+    ensures { OnOk result (IsPut (IsLegPart (state_now core.now) place) 0 (dated_legs flights.now place.flight)
+        text.old.items text.new.items) }
 {
     if place.flight >= flights.len() {
         return Ok(());
@@ -159,7 +160,8 @@ fn put_held(
     steps: &[Step],
 ) -> Result<(), AllocError>
     requires ladder { steps.now ≡ ladder_at (state_now core.now).grid flight leg }
-    ensures { OnOk result (text.new.items ≡ text.old.items ++ held_line (held (state_now core.now).bookings flight leg) steps.now) }
+    ensures { OnOk result (text.new.items ≡ text.old.items
+        ++ held_line (held (state_now core.now).bookings flight leg) steps.now) }
 {
     put(text, b"HELD")?;
     put_each_held(text, core, flight, leg, steps)?;
@@ -176,7 +178,8 @@ fn put_each_held(
     steps: &[Step],
 ) -> Result<(), AllocError>
     requires ladder { steps.now ≡ ladder_at (state_now core.now).grid flight leg }
-    ensures { OnOk result (text.new.items ≡ text.old.items ++ held_texts (held (state_now core.now).bookings flight leg) steps.now) }
+    ensures { OnOk result (text.new.items ≡ text.old.items
+        ++ held_texts (held (state_now core.now).bookings flight leg) steps.now) }
 {
     for i in 0..steps.len() {
         let seats = core.held_from(flight, leg, i);
@@ -242,7 +245,8 @@ fn put_each_room(
     steps: &[Step],
 ) -> Result<(), AllocError>
     requires fits { Fits core.now.grid (one_leg flight leg) }
-    ensures { OnOk result (text.new.items ≡ text.old.items ++ flat_map (room_text (state_now core.now) flight leg) steps.now) }
+    ensures { OnOk result (text.new.items ≡ text.old.items
+        ++ flat_map (room_text (state_now core.now) flight leg) steps.now) }
 {
     let place = Place {
         flight,
@@ -263,7 +267,8 @@ fn put_waits(
     steps: &[Step],
 ) -> Result<(), AllocError>
     requires capped { core.now.cap ≤ most_lines }
-    ensures { OnOk result (text.new.items ≡ text.old.items ++ wait_line (waiting (state_now core.now).bookings flight leg) steps.now) }
+    ensures { OnOk result (text.new.items ≡ text.old.items
+        ++ wait_line (waiting (state_now core.now).bookings flight leg) steps.now) }
 {
     put(text, b"WAIT")?;
     put_each_wait(text, core, flight, leg, steps)?;
@@ -278,7 +283,8 @@ fn put_each_wait(
     steps: &[Step],
 ) -> Result<(), AllocError>
     requires capped { core.now.cap ≤ most_lines }
-    ensures { OnOk result (text.new.items ≡ text.old.items ++ flat_map (wait_text (waiting (state_now core.now).bookings flight leg)) steps.now) }
+    ensures { OnOk result (text.new.items ≡ text.old.items
+        ++ flat_map (wait_text (waiting (state_now core.now).bookings flight leg)) steps.now) }
 {
     for step in steps {
         put_wait(text, core, flight, leg, step)?;
@@ -295,7 +301,8 @@ fn put_wait(
     step: &Step,
 ) -> Result<(), AllocError>
     requires capped { core.now.cap ≤ most_lines }
-    ensures { OnOk result (text.new.items ≡ text.old.items ++ wait_text (waiting (state_now core.now).bookings flight leg) step.now) }
+    ensures { OnOk result (text.new.items ≡ text.old.items
+        ++ wait_text (waiting (state_now core.now).bookings flight leg) step.now) }
 {
     put_class(text, step.class, waiting(core, flight, leg, step.class))?;
     put(text, b"/")?;

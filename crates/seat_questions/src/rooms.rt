@@ -126,7 +126,8 @@ fn put_flight(
 ) -> Result<(), AllocError>
     requires few { length flight.now.legs ≤ 8 }
     requires legs { length (legs_of core.now.grid index) ≡ length flight.now.legs }
-    ensures { OnOk result (IsPut (IsFirstPart asked.now (state_now core.now) index flight.now) 0 flight.now.legs text.old.items text.new.items) }
+    ensures { OnOk result (IsPut (IsFirstPart asked.now (state_now core.now) index flight.now) 0 flight.now.legs
+        text.old.items text.new.items) }
 {
     let legs = flight.legs.as_slice();
     for from in 0..legs.len() {
@@ -192,7 +193,8 @@ fn put_run(
     run: &DatedLeg,
 ) -> Result<(), AllocError>
     requires { Fits core.now.grid place }
-    ensures { OnOk result (IsAdded (IsRunText asked.now (state_now core.now) flight.now place run.now) text.old.items text.new.items) }
+    ensures { OnOk result (IsAdded (IsRunText asked.now (state_now core.now) flight.now place run.now) text.old.items
+        text.new.items) }
 {
     if !keeps(asked, run) {
         return Ok(());
@@ -236,7 +238,8 @@ fn put_place(
     run: &DatedLeg,
 ) -> Result<(), AllocError>
     requires { Fits core.now.grid place }
-    ensures { OnOk result (IsAdded (IsPlaceText bars (state_now core.now) flight.now place run.now) text.old.items text.new.items) }
+    ensures { OnOk result (IsAdded (IsPlaceText bars (state_now core.now) flight.now place run.now) text.old.items
+        text.new.items) }
 {
     put_head(text, place.flight, flight)?;
     put_way(text, run)?;

@@ -1,8 +1,7 @@
 -- The elements of a list that pass a test.
 use Rattle.std.proofs.Common.{◌≡◌, ℕ, ◌+◌, ◌<◌, ◌≤◌, Bool, true, false, List, [], ◌∷◌, length, filter, arith, refl}
-use Rattle.std.specs.List.{AllByRecursion, sum_by}
+use Rattle.seat_rules.proofs.Common.{AllByRecursion, sum_by, Booking}
 use Rattle.std.proofs.lemmas.List.Sums.{sum_by-cons, length-filter, count_by-le-length}
-use Rattle.seat_rules.specs.declared.booking.Booking.{Booking}
 use Rattle.seat_rules.specs.Applying.{IsOrdered}
 use Rattle.seat_rules.specs.Bookings.{Differs, IsApart}
 
@@ -31,7 +30,8 @@ module _ {X : Type 0} (p : X → Bool) where
   pub sum_pass : (f : X → ℕ) (xs : List X) → sum_by f (filter p xs) ≤ sum_by f xs
   sum_pass f [] = omega arith
   sum_pass f (x ∷ xs) = cases (p x) refl (sum_pass f xs) where
-    cases : (t : Bool) → p x ≡ t → sum_by f (filter p xs) ≤ sum_by f xs → sum_by f (filter p (x ∷ xs)) ≤ sum_by f (x ∷ xs)
+    cases : (t : Bool) → p x ≡ t → sum_by f (filter p xs) ≤ sum_by f xs
+        → sum_by f (filter p (x ∷ xs)) ≤ sum_by f (x ∷ xs)
     cases true e rest = rw e (omega (arith, rest, sum_by-cons f x (filter p xs), sum_by-cons f x xs))
     cases false e rest = rw e (omega (arith, rest, sum_by-cons f x xs))
 
@@ -39,7 +39,8 @@ module _ {X : Type 0} (p : X → Bool) where
   pub sum_kept : (f : X → ℕ) → ((x : X) → p x ≡ false → f x ≡ 0) → (xs : List X) → sum_by f (filter p xs) ≡ sum_by f xs
   sum_kept f light [] = refl
   sum_kept f light (x ∷ xs) = cases (p x) refl (sum_kept f light xs) where
-    cases : (t : Bool) → p x ≡ t → sum_by f (filter p xs) ≡ sum_by f xs → sum_by f (filter p (x ∷ xs)) ≡ sum_by f (x ∷ xs)
+    cases : (t : Bool) → p x ≡ t → sum_by f (filter p xs) ≡ sum_by f xs
+        → sum_by f (filter p (x ∷ xs)) ≡ sum_by f (x ∷ xs)
     cases true e rest = rw e (omega (arith, rest, sum_by-cons f x (filter p xs), sum_by-cons f x xs))
     cases false e rest = rw e (omega (arith, rest, light x e, sum_by-cons f x xs))
 

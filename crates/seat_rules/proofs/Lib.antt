@@ -1,3 +1,4 @@
+pub mod Common
 pub mod Counters
 pub mod History
 pub mod Filters

@@ -34,7 +34,8 @@ pub record HasBegun (list : List Work) (s t : Seat) : Type 0 where
   pub run : HasRun booked s t
 
 -- the session booked its list as far as the work whose call the fault names. The journal was full then, as the session has seen, or it had a line left and memory was wanting
-pub record IsRefused (grid : Ladders) (book : Book) (cap : ℕ) (fault : RunFault) (list : List Work) (s t : Seat) : Type 0 where
+pub record IsRefused (grid : Ladders) (book : Book) (cap : ℕ) (fault : RunFault) (list : List Work) (s t : Seat) : Type
+    0 where
   pub booked : List Work
   pub refused : Work
   pub left : List Work
