@@ -1,0 +1,74 @@
+//! A file that is replaced whole, crashed at each call of the replacement.
+use airline_base::Failures;
+use seat_disk::{Folder, Fuse, Replaced, replace_whole};
+use std::alloc::Global;
+use std::process::Abort;
+use std::test::Fail;
+
+const OLD: [u8; 3] = *b"old";
+
+const NEW: [u8; 5] = *b"newer";
+
+fn folder(alloc: Global) -> Result<Folder, Fail> {
+    Ok(Folder::over(alloc, Vec::from_slice(alloc, &OLD)?))
+}
+
+// A replacement passes five calls on: begin, append, sync, rename, sync of the folder.
+#[test]
+fn leaves_the_old_or_the_new(rt: HostRuntime) -> Result<(), Fail> {
+    let rows: [(u64, bool, &[u8]); 8] = [
+        (0, false, &OLD),
+        (1, false, &OLD),
+        (2, false, &OLD),
+        (3, false, &OLD),
+        (3, true, &OLD),
+        (4, false, &NEW),
+        (4, true, &OLD),
+        (5, true, &NEW),
+    ];
+    for (calls, goes_back, left) in rows {
+        let mut fused = Fuse::new(folder(rt.alloc())?, calls);
+        let is_whole = replace_whole(&mut fused, &NEW).is_ok();
+        assert!(rt; is_whole == (calls == 5), "Ok after {calls}");
+        let failures = if is_whole { 0 } else { 1 };
+        assert!(rt; fused.failures() == failures, "failures after {calls}");
+        let mut file = fused.into_inner();
+        file.crash(goes_back, b"torn");
+        assert!(rt; file.bytes() == left, "left after {calls}");
+    }
+    Ok(())
+}
+
+// What was not synced is torn, whole as it may look before the crash.
+#[test]
+fn tears_a_file_that_was_not_synced(rt: HostRuntime) -> Result<(), Fail> {
+    let rows: [(bool, &[u8], &[u8]); 4] = [
+        (false, b"torn for good", b"torn "),
+        (false, b"", b""),
+        (false, b"ne", b"ne"),
+        (true, b"torn", &OLD),
+    ];
+    for (goes_back, torn, left) in rows {
+        let mut file = folder(rt.alloc())?;
+        file.begin()?;
+        file.append(&NEW)?;
+        file.rename()?;
+        assert!(rt; file.bytes() == NEW.as_slice());
+        file.crash(goes_back, torn);
+        assert!(rt; file.bytes() == left);
+    }
+    Ok(())
+}
+
+#[test]
+fn begins_behind_a_killed_replacement(rt: HostRuntime) -> Result<(), Fail> {
+    let mut fused = Fuse::new(folder(rt.alloc())?, 3);
+    assert!(rt; replace_whole(&mut fused, b"half of it").is_err());
+    let mut file = fused.into_inner();
+    file.crash(true, b"");
+    assert!(rt; replace_whole(&mut file, &NEW).is_ok());
+    assert!(rt; file.bytes() == NEW.as_slice());
+    assert!(rt; file.rename().is_err());
+    assert!(rt; file.failures() == 1);
+    Ok(())
+}

@@ -1,0 +1,31 @@
+-- What a clause reads of a `Folder`.
+use Rattle.std.specs.Prelude.{◌⊎◌, ℕ, Bool, ◌&&◌, if◌then◌else◌, List, length, take, IsTrue}
+use Rattle.seat_disk.specs.declared.replaced.Folder.{Folder}
+use Rattle.seat_disk.specs.Leaving.{IsLeft}
+
+-- `folder.bytes()`
+abbrev pub named_bytes : Folder → List ℕ
+named_bytes f = f.named.bytes.items
+
+abbrev pub beside_bytes : Folder → List ℕ
+beside_bytes f = f.beside.bytes.items
+
+-- what a crash leaves of the file that has the name, and of the one beside it
+abbrev pub named_leaves : Folder → List ℕ → Type 0
+named_leaves f c = IsLeft f.named.is_synced f.named.bytes.items c
+
+abbrev pub beside_leaves : Folder → List ℕ → Type 0
+beside_leaves f c = IsLeft f.beside.is_synced f.beside.bytes.items c
+
+-- what a crash leaves under the name: the file that has it, or the one that had it when the folder was synced
+abbrev pub folder_leaves : Folder → List ℕ → Type 0
+folder_leaves f c = named_leaves f c ⊎ (IsTrue f.is_renamed × IsLeft f.older.is_synced f.older.bytes.items c)
+
+-- a file as a crash leaves it: as it is where it was synced, and else as many of `torn` as it has bytes
+abbrev pub torn_content : Bool → List ℕ → List ℕ → List ℕ
+torn_content is_synced bytes torn = if is_synced then bytes else take (length bytes) torn
+
+-- what a crash leaves under the name: the older file where the folder was not synced since and the crash goes back to it
+abbrev pub crashed_bytes : Folder → Bool → List ℕ → List ℕ
+crashed_bytes f goes_back torn =
+    if goes_back && f.is_renamed then torn_content f.older.is_synced f.older.bytes.items torn else torn_content f.named.is_synced f.named.bytes.items torn

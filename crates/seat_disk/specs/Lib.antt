@@ -1,0 +1,6 @@
+pub mod Counts
+pub mod Folders
+pub mod Fuses
+pub mod Growing
+pub mod Leaving
+pub mod Tapes
