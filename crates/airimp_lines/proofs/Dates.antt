@@ -46,10 +46,14 @@ date_2104 m d low high h =
     let civil = civil_2104 m d low high h in
     (unsigned_abs (days_from_civil (pos 2104) m d), (civil, from_zero _ (low_day (pos 2104) m d civil (omega (arith, signed_arith)))))
 
-in_leap : (leap : Bool) (m d : ℕ) → d ≤ cond (eqb m 2) (cond leap 29 28) (cond (eqb m 4 || eqb m 6 || eqb m 9 || eqb m 11) 30 31) → d ≤ cond (eqb m 2) 29 (cond (eqb m 4 || eqb m 6 || eqb m 9 || eqb m 11) 30 31)
+in_leap : (leap : Bool) (m d : ℕ)
+    → d ≤ cond (eqb m 2) (cond leap 29 28) (cond (eqb m 4 || eqb m 6 || eqb m 9 || eqb m 11) 30 31)
+    → d ≤ cond (eqb m 2) 29 (cond (eqb m 4 || eqb m 6 || eqb m 9 || eqb m 11) 30 31)
 in_leap leap m d high = grind (arith, nat_tests, high)
 
-in_longest : (leap : Bool) (m d : ℕ) → 1 ≤ d → d ≤ cond (eqb m 2) (cond leap 29 28) (cond (eqb m 4 || eqb m 6 || eqb m 9 || eqb m 11) 30 31) → in_month d m ≡ true
+in_longest : (leap : Bool) (m d : ℕ) → 1 ≤ d
+    → d ≤ cond (eqb m 2) (cond leap 29 28) (cond (eqb m 4 || eqb m 6 || eqb m 9 || eqb m 11) 30 31)
+    → in_month d m ≡ true
 unfolding in_month
 in_longest leap m d low high = both_are (leb 1 d) (leb d (days_in_month (pos 2104) m)) (le-leb 1 d low) (le-leb d (days_in_month (pos 2104) m) (in_leap leap m d high))
 
@@ -65,14 +69,16 @@ NoneBefore today day month year = (y k : ℕ) → y < year → IsDate y month da
 pub none_first : (today day month first m d : ℕ) → IsDate first m d today → NoneBefore today day month first
 none_first today day month first m d is y k lt date le = absurd (omega (arith, earlier y month day k first m d today date is lt))
 
-pub none_more : (today day month year : ℕ) → NoneBefore today day month year → ((k : ℕ) → IsDate year month day k → today ≤ k → ⊥) → NoneBefore today day month (year + 1)
+pub none_more : (today day month year : ℕ) → NoneBefore today day month year
+    → ((k : ℕ) → IsDate year month day k → today ≤ k → ⊥) → NoneBefore today day month (year + 1)
 none_more today day month year before here y k lt date le =
     elim (cases_lt y year) [
       | inl less ↦ before y k less date le
       | inr ge ↦ let same : y ≡ year = omega arith in here k (subst (λ (z : ℕ). IsDate z month day k) same date) le
     ]
 
-pub is_next : (today day month year n : ℕ) → NoneBefore today day month year → IsDate year month day n → today ≤ n → IsNextDate today day month n
+pub is_next : (today day month year n : ℕ) → NoneBefore today day month year → IsDate year month day n → today ≤ n
+    → IsNextDate today day month n
 is_next today day month year n before date le = record {
   year = year;
   date = date;

@@ -13,7 +13,9 @@ use Rattle.airimp_lines.specs.Script.{IsHeading}
 length_address : (text : List ℕ) → is_address text ≡ true → length text ≡ 5
 length_address text h = eqb-true (length text) 5 (both_true (eqb (length text) 5) (list_all is_name_byte text) h).0
 
-heading_of : (text address locator : List ℕ) (blank : List ℕ) (named : List ℕ × List ℕ) → address_at text ≡ Some address → byte_at 32 address ≡ Some blank → fixed_at 6 is_locator blank ≡ Some named → cond (is_remark named.1) (Some named.0) None ≡ Some locator → IsHeading text locator
+heading_of : (text address locator : List ℕ) (blank : List ℕ) (named : List ℕ × List ℕ) → address_at text ≡ Some address
+    → byte_at 32 address ≡ Some blank → fixed_at 6 is_locator blank ≡ Some named
+    → cond (is_remark named.1) (Some named.0) None ≡ Some locator → IsHeading text locator
 heading_of text address locator blank named e0 e1 e2 e3 =
     let p = passed (is_address (take 5 text)) (drop 5 text) address e0 in
     let b = byte_takes 32 address blank e1 in

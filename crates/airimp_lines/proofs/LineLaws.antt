@@ -26,11 +26,15 @@ pub record SpellsAsked (bytes board off code : List ℕ) (count : ℕ) : Type 0 
   pub is_seats : IsNumberText 3 seats count
   pub is_tail : is_tail tail ≡ true
 
-behind_day : (l b o c s t r5 r6 r7 r8 r9 : List ℕ) → l ≡ 32 ∷ r5 → r5 ≡ b ++ r6 → r6 ≡ o ++ r7 → r7 ≡ 32 ∷ r8 → r8 ≡ c ++ r9 → r9 ≡ s ++ t → l ≡ 32 ∷ (b ++ (o ++ (32 ∷ (c ++ (s ++ t)))))
+behind_day : (l b o c s t r5 r6 r7 r8 r9 : List ℕ) → l ≡ 32 ∷ r5 → r5 ≡ b ++ r6 → r6 ≡ o ++ r7 → r7 ≡ 32 ∷ r8
+    → r8 ≡ c ++ r9 → r9 ≡ s ++ t → l ≡ 32 ∷ (b ++ (o ++ (32 ∷ (c ++ (s ++ t)))))
 behind_day l b o c s t r5 r6 r7 r8 r9 e1 e2 e3 e4 e5 e6 = rw (e1, e2, e3, e4, e5, e6) refl
 
-asked_is : (bytes pair : List ℕ) (board off : List ℕ × List ℕ) (action : List ℕ) (code : List ℕ × List ℕ) (seats : ℕ × List ℕ)
-    → byte_at 32 bytes ≡ Some pair → fixed_at 3 is_station pair ≡ Some board → fixed_at 3 is_station board.1 ≡ Some off → byte_at 32 off.1 ≡ Some action → fixed_at 2 is_code action ≡ Some code → numeral_at 3 code.1 ≡ Some seats → is_tail seats.1 ≡ true
+asked_is : (bytes pair : List ℕ) (board off : List ℕ × List ℕ) (action : List ℕ) (code : List ℕ × List ℕ)
+    (seats : ℕ × List ℕ)
+    → byte_at 32 bytes ≡ Some pair → fixed_at 3 is_station pair ≡ Some board → fixed_at 3 is_station board.1 ≡ Some off
+    → byte_at 32 off.1 ≡ Some action → fixed_at 2 is_code action ≡ Some code → numeral_at 3 code.1 ≡ Some seats
+    → is_tail seats.1 ≡ true
     → SpellsAsked bytes board.0 off.0 code.0 seats.0
 asked_is bytes pair board off action code seats e5 e6 e7 e8 e9 e10 e11 =
     let t5 = byte_takes 32 bytes pair e5 in
@@ -50,7 +54,8 @@ asked_is bytes pair board off action code seats e5 e6 e7 e8 e9 e10 e11 =
       is_tail = e11;
     }
 
-asked_takes : (bytes : List ℕ) (a : List ℕ × List ℕ × List ℕ × ℕ) → asked_at bytes ≡ Ok a → SpellsAsked bytes a.0 a.1 a.2 a.3
+asked_takes : (bytes : List ℕ) (a : List ℕ × List ℕ × List ℕ × ℕ) → asked_at bytes ≡ Ok a
+    → SpellsAsked bytes a.0 a.1 a.2 a.3
 unfolding asked_at
 asked_takes bytes a e =
     with_want faults.Pair _ _ a e (λ pair e5 k5.
@@ -85,17 +90,33 @@ pub record Told (line : List ℕ) (u : Undated) : Type 0 where
   pub in_month : in_month u.day u.month ≡ true
 
 -- the pieces, one after the other
-joined : (l a n le d t r1 r2 r3 r4 : List ℕ) → l ≡ a ++ r1 → r1 ≡ n ++ r2 → r2 ≡ le ++ r3 → r3 ≡ d ++ r4 → r4 ≡ t → l ≡ a ++ (n ++ (le ++ (d ++ t)))
+joined : (l a n le d t r1 r2 r3 r4 : List ℕ) → l ≡ a ++ r1 → r1 ≡ n ++ r2 → r2 ≡ le ++ r3 → r3 ≡ d ++ r4 → r4 ≡ t
+    → l ≡ a ++ (n ++ (le ++ (d ++ t)))
 joined l a n le d t r1 r2 r3 r4 e1 e2 e3 e4 e5 = rw (e1, e2, e3, e4, e5) refl
 
 length_is : (n : ℕ) → (leb 20 n && leb n 69) ≡ true → (20 ≤ n) × (n ≤ 69)
 length_is n h = grind (arith, nat_tests, h)
 
 -- each step was taken, so the line is spelled so
-assemble : (line : List ℕ) (airline : List ℕ × List ℕ) (number : ℕ × List ℕ) (letters : (Option ℕ × ℕ) × List ℕ) (day : (ℕ × ℕ) × List ℕ) (asked : List ℕ × List ℕ × List ℕ × ℕ)
+assemble : (line : List ℕ) (airline : List ℕ × List ℕ) (number : ℕ × List ℕ) (letters : (Option ℕ × ℕ) × List ℕ)
+    (day : (ℕ × ℕ) × List ℕ) (asked : List ℕ × List ℕ × List ℕ × ℕ)
     → (leb 20 (length line) && leb (length line) 69) ≡ true
-    → fixed_at 2 is_airline line ≡ Some airline → numeral_at 4 airline.1 ≡ Some number → letters_at number.1 ≡ Some letters → day_at letters.1 ≡ Some day → SpellsAsked day.1 asked.0 asked.1 asked.2 asked.3
-    → Told line (record { airline = airline.0; number = number.0; suffix = letters.0.0; class = letters.0.1; day = day.0.0; month = day.0.1; board = asked.0; off = asked.1; code = asked.2; seats = asked.3 })
+    → fixed_at 2 is_airline line ≡ Some airline → numeral_at 4 airline.1 ≡ Some number
+    → letters_at number.1 ≡ Some letters → day_at letters.1 ≡ Some day
+    → SpellsAsked day.1 asked.0 asked.1 asked.2 asked.3
+    → Told line (record {
+      airline = airline.0;
+      number = number.0;
+      suffix = letters.0.0;
+      class = letters.0.1;
+      day =
+          day.0.0;
+      month = day.0.1;
+      board = asked.0;
+      off = asked.1;
+      code = asked.2;
+      seats = asked.3;
+    })
 assemble line airline number letters day asked e0 e1 e2 e3 e4 t5 =
     let t1 = fixed_takes 2 is_airline line airline.0 airline.1 e1 in
     let t2 = numeral_takes 4 airline.1 number.0 number.1 e2 in

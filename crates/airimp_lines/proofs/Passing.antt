@@ -28,7 +28,8 @@ gives_is m n e = cc
 apart : (m : Message) (kind : ScriptKind) → gives m ≡ fails kind → ⊥
 apart m kind e = absurd cc
 
-opened_is : (o : Option (List ℕ)) (next : Message) → after_heading o ≡ Ok next → (locator : List ℕ) × (o ≡ Some locator) × (next ≡ Some locator)
+opened_is : (o : Option (List ℕ)) (next : Message) → after_heading o ≡ Ok next
+    → (locator : List ℕ) × (o ≡ Some locator) × (next ≡ Some locator)
 opened_is None next e = absurd (apart next kinds.Locator (sym e))
 opened_is (Some locator) next e = (locator, refl, sym (gives_is (Some locator) next e))
 
@@ -36,27 +37,34 @@ opened_fails : (o : Option (List ℕ)) (kind : ScriptKind) → after_heading o �
 opened_fails None kind e = refl
 opened_fails (Some locator) kind e = absurd (apart (Some locator) kind e)
 
-asked_is : (locator : List ℕ) (r : Result Undated LineFault) (next : Message) → after_segment locator r ≡ Ok next → next ≡ Some locator
+asked_is : (locator : List ℕ) (r : Result Undated LineFault) (next : Message) → after_segment locator r ≡ Ok next
+    → next ≡ Some locator
 asked_is locator (Ok u) next e = sym (gives_is (Some locator) next e)
 asked_is locator (Err fault) next e = absurd (apart next (kinds.Line fault) (sym e))
 
-asked_fails : (locator : List ℕ) (r : Result Undated LineFault) (kind : ScriptKind) → after_segment locator r ≡ Err kind → (fault : LineFault) × (r ≡ Err fault)
+asked_fails : (locator : List ℕ) (r : Result Undated LineFault) (kind : ScriptKind) → after_segment locator r ≡ Err kind
+    → (fault : LineFault) × (r ≡ Err fault)
 asked_fails locator (Ok u) kind e = absurd (apart (Some locator) kind e)
 asked_fails locator (Err fault) kind e = (fault, refl)
 
-other_is : (b : Bool) (locator : List ℕ) (r : Result Undated LineFault) (next : Message) → cond b (gives (Some locator)) (after_segment locator r) ≡ Ok next → next ≡ Some locator
+other_is : (b : Bool) (locator : List ℕ) (r : Result Undated LineFault) (next : Message)
+    → cond b (gives (Some locator)) (after_segment locator r) ≡ Ok next → next ≡ Some locator
 other_is true locator r next e = sym (gives_is (Some locator) next e)
 other_is false locator r next e = asked_is locator r next e
 
-other_fails : (b : Bool) (locator : List ℕ) (r : Result Undated LineFault) (kind : ScriptKind) → cond b (gives (Some locator)) (after_segment locator r) ≡ Err kind → (b ≡ false) × (fault : LineFault) × (r ≡ Err fault)
+other_fails : (b : Bool) (locator : List ℕ) (r : Result Undated LineFault) (kind : ScriptKind)
+    → cond b (gives (Some locator)) (after_segment locator r) ≡ Err kind
+    → (b ≡ false) × (fault : LineFault) × (r ≡ Err fault)
 other_fails true locator r kind e = absurd (apart (Some locator) kind e)
 other_fails false locator r kind e = let f = asked_fails locator r kind e in (refl, f.0, f.1)
 
 -- ---- a line that is taken
 
 -- with the line's requests, those behind it are all from it on
-pub onward : (today : ℕ) (message next : Message) (n : ℕ) (text : List ℕ) (texts : List (List ℕ)) (added others : List Request)
-    → step message text ≡ Ok next → AreOwn today message (n, text) added → Remain today next (n + 1) texts others → Remain today message n (text ∷ texts) (added ++ others)
+pub onward : (today : ℕ) (message next : Message) (n : ℕ) (text : List ℕ) (texts : List (List ℕ))
+    (added others : List Request)
+    → step message text ≡ Ok next → AreOwn today message (n, text) added → Remain today next (n + 1) texts others
+    → Remain today message n (text ∷ texts) (added ++ others)
 onward today None next n [] texts added others e h k =
     let is : next ≡ nothing = sym (gives_is None next e) in
     ([], others, refl, subst (λ (m : Message). Remain today m (n + 1) texts others) is k, ap (λ (x : List Request). x ++ others) h)
@@ -80,8 +88,10 @@ pub record Behind (today : ℕ) (next : Message) (n : ℕ) (texts : List (List �
   pub remain : Remain today next n texts others
 
 -- of all from a line on, those behind the line's own
-pub behind : (today : ℕ) (message next : Message) (n : ℕ) (text : List ℕ) (texts : List (List ℕ)) (added all : List Request)
-    → step message text ≡ Ok next → AreOwn today message (n, text) added → Remain today message n (text ∷ texts) all → Behind today next (n + 1) texts added all
+pub behind : (today : ℕ) (message next : Message) (n : ℕ) (text : List ℕ) (texts : List (List ℕ))
+    (added all : List Request)
+    → step message text ≡ Ok next → AreOwn today message (n, text) added → Remain today message n (text ∷ texts) all
+    → Behind today next (n + 1) texts added all
 behind today None next n [] texts added all e h (own, others, none, more, joined) =
     let is : next ≡ nothing = sym (gives_is None next e) in
     record {
@@ -119,13 +129,15 @@ behind today (Some locator) next n (c ∷ text) texts added all e h k =
 
 -- ---- a line that is refused
 
-fault_asked : (today : ℕ) (locator : List ℕ) (n : ℕ) (text : List ℕ) (fault : LineFault) (b : Bool) (own : List Request) → b ≡ false → undated_at text ≡ Err fault → AreRequests today locator (cond (not b) ((n, text) ∷ []) []) own → ⊥
+fault_asked : (today : ℕ) (locator : List ℕ) (n : ℕ) (text : List ℕ) (fault : LineFault) (b : Bool) (own : List Request)
+    → b ≡ false → undated_at text ≡ Err fault → AreRequests today locator (cond (not b) ((n, text) ∷ []) []) own → ⊥
 fault_asked today locator n text fault true own off e h = absurd cc
 fault_asked today locator n text fault false [] off e h = h
 fault_asked today locator n text fault false (q ∷ own) off e h = is_fault today text fault q.segment e h.0.spelled
 
 -- from a line with a fault on there are no requests
-pub none_remain : (today : ℕ) (message : Message) (n : ℕ) (text : List ℕ) (texts : List (List ℕ)) (all : List Request) (kind : ScriptKind)
+pub none_remain : (today : ℕ) (message : Message) (n : ℕ) (text : List ℕ) (texts : List (List ℕ)) (all : List Request)
+    (kind : ScriptKind)
     → step message text ≡ Err kind → Remain today message n (text ∷ texts) all → ⊥
 none_remain today None n [] texts all kind e k = apart None kind e
 none_remain today (Some locator) n [] texts all kind e k = apart None kind e
@@ -140,21 +152,25 @@ none_remain today (Some locator) n (c ∷ text) texts all kind e k =
 
 -- ---- a segment line
 
-pub asked_step : (locator text : List ℕ) (u : Undated) → (length text == 0) ≡ false → is_passed_over text ≡ false → undated_at text ≡ Ok u → step (Some locator) text ≡ Ok (Some locator)
+pub asked_step : (locator text : List ℕ) (u : Undated) → (length text == 0) ≡ false → is_passed_over text ≡ false
+    → undated_at text ≡ Ok u → step (Some locator) text ≡ Ok (Some locator)
 asked_step locator [] u some pass e = absurd cc
 asked_step locator (c ∷ text) u some pass e = rw (pass, e) refl
 
-pub asked_one : (today : ℕ) (locator : List ℕ) (n : ℕ) (text : List ℕ) (q : Request) → (length text == 0) ≡ false → is_passed_over text ≡ false → IsRequest today locator (n, text) q → AreOwn today (Some locator) (n, text) (q ∷ [])
+pub asked_one : (today : ℕ) (locator : List ℕ) (n : ℕ) (text : List ℕ) (q : Request) → (length text == 0) ≡ false
+    → is_passed_over text ≡ false → IsRequest today locator (n, text) q → AreOwn today (Some locator) (n, text) (q ∷ [])
 asked_one today locator n [] q some pass h = absurd cc
 asked_one today locator n (c ∷ text) q some pass h =
     let P : Bool → Type 0 = λ b. AreRequests today locator (cond (not b) ((n, c ∷ text) ∷ []) []) (q ∷ []) in
     subst P (sym pass) (h, tt)
 
-pub has_request : (locator text : List ℕ) (u : Undated) → (length text == 0) ≡ false → is_passed_over text ≡ false → undated_at text ≡ Ok u → HasRequest (Some locator) text
+pub has_request : (locator text : List ℕ) (u : Undated) → (length text == 0) ≡ false → is_passed_over text ≡ false
+    → undated_at text ≡ Ok u → HasRequest (Some locator) text
 has_request locator [] u some pass e = absurd cc
 has_request locator (c ∷ text) u some pass e = (rw pass refl, rw e refl)
 
-pub memory_stop : (message : Message) (text : List ℕ) (r : Result Message ScriptKind) → IsErrAnd r (λ kind. kind ≡ kinds.Memory) → HasRequest message text → IfErr r (λ kind. IsStop message text kind)
+pub memory_stop : (message : Message) (text : List ℕ) (r : Result Message ScriptKind)
+    → IsErrAnd r (λ kind. kind ≡ kinds.Memory) → HasRequest message text → IfErr r (λ kind. IsStop message text kind)
 memory_stop message text (Ok next) h e = tt
 memory_stop message text (Err kind) h e = inr (h, e)
 
@@ -168,7 +184,8 @@ asked_memory : (locator : List ℕ) (r : Result Undated LineFault) → after_seg
 asked_memory locator (Ok u) e = absurd cc
 asked_memory locator (Err fault) e = absurd cc
 
-other_memory : (b : Bool) (locator : List ℕ) (r : Result Undated LineFault) → cond b (gives (Some locator)) (after_segment locator r) ≡ Err kinds.Memory → ⊥
+other_memory : (b : Bool) (locator : List ℕ) (r : Result Undated LineFault)
+    → cond b (gives (Some locator)) (after_segment locator r) ≡ Err kinds.Memory → ⊥
 other_memory true locator r e = absurd cc
 other_memory false locator r e = asked_memory locator r e
 

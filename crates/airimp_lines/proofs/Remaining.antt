@@ -24,10 +24,12 @@ Remain today (Some locator) n texts requests = AreLeft today locator (runs_of (e
 -- ---- requests of a line
 
 -- a segment has one spelling
-pub same_segment : (today : ℕ) (line : List ℕ) (s t : Segment) → SpellsSegment today line s → SpellsSegment today line t → s ≡ t
+pub same_segment : (today : ℕ) (line : List ℕ) (s t : Segment) → SpellsSegment today line s → SpellsSegment today line t
+    → s ≡ t
 same_segment today line s t a b = sym (is_only today line (undated_of b.day b.month t) t.day s (is_read today line t b) b.date a)
 
-same_request : (today : ℕ) (locator : List ℕ) (line : Line) (q r : Request) → IsRequest today locator line q → IsRequest today locator line r → q ≡ r
+same_request : (today : ℕ) (locator : List ℕ) (line : Line) (q r : Request) → IsRequest today locator line q
+    → IsRequest today locator line r → q ≡ r
 same_request today locator line q r a b =
     let e : q.segment ≡ r.segment = same_segment today line.1 q.segment r.segment a.spelled b.spelled in
     let l : q.locator ≡ r.locator = a.own_locator ∙ sym b.own_locator in
@@ -35,7 +37,8 @@ same_request today locator line q r a b =
     let of : List ℕ → Segment → ℕ → Request = λ x y z. record { locator = x; segment = y; line = z } in
     ap (λ (x : List ℕ). of x q.segment q.line) l ∙ ap (λ (y : Segment). of r.locator y q.line) e ∙ ap (λ (z : ℕ). of r.locator r.segment z) n
 
-pub same_requests : (today : ℕ) (locator : List ℕ) (lines : List Line) (a b : List Request) → AreRequests today locator lines a → AreRequests today locator lines b → a ≡ b
+pub same_requests : (today : ℕ) (locator : List ℕ) (lines : List Line) (a b : List Request)
+    → AreRequests today locator lines a → AreRequests today locator lines b → a ≡ b
 same_requests today locator [] [] [] h k = refl
 same_requests today locator [] [] (r ∷ b) h k = absurd k
 same_requests today locator [] (q ∷ a) b h k = absurd h
@@ -55,7 +58,8 @@ pub record Next (today : ℕ) (locator : List ℕ) (line : Line) (parts : List (
   pub all : requests ≡ own ++ others
 
 more_requests : (today : ℕ) (locator : List ℕ) (line : Line) (lines : List Line) (b : Bool) (own others : List Request)
-    → AreRequests today locator (cond b (line ∷ []) []) own → AreRequests today locator lines others → AreRequests today locator (cond b (line ∷ lines) lines) (own ++ others)
+    → AreRequests today locator (cond b (line ∷ []) []) own → AreRequests today locator lines others
+    → AreRequests today locator (cond b (line ∷ lines) lines) (own ++ others)
 more_requests today locator line lines true [] others h k = absurd h
 more_requests today locator line lines true (q ∷ []) others h k = (h.0, k)
 more_requests today locator line lines true (q ∷ r ∷ own) others h k = absurd h.1
@@ -63,13 +67,16 @@ more_requests today locator line lines false [] others h k = k
 more_requests today locator line lines false (q ∷ own) others h k = absurd h
 
 pub more_left : (today : ℕ) (locator : List ℕ) (line : Line) (parts : List (List Line)) (own others : List Request)
-    → AreRequests today locator (segment_lines (line ∷ [])) own → AreLeft today locator parts others → AreLeft today locator (onto_first line parts) (own ++ others)
+    → AreRequests today locator (segment_lines (line ∷ [])) own → AreLeft today locator parts others
+    → AreLeft today locator (onto_first line parts) (own ++ others)
 more_left today locator line [] own others h k = absurd k
 more_left today locator line (lines ∷ messages) own others h (mine, more, requests, rest, all) =
     (own ++ mine, more, more_requests today locator line (segment_lines lines) (not (is_passed_over line.1)) own mine h requests, rest, ap (λ (x : List Request). own ++ x) all ∙ sym (append_assoc own mine more))
 
 less_requests : (today : ℕ) (locator : List ℕ) (line : Line) (lines : List Line) (b : Bool) (all : List Request)
-    → AreRequests today locator (cond b (line ∷ lines) lines) all → (own others : List Request) × AreRequests today locator (cond b (line ∷ []) []) own × AreRequests today locator lines others × (all ≡ own ++ others)
+    → AreRequests today locator (cond b (line ∷ lines) lines) all
+    → (own others : List Request) × AreRequests today locator (cond b (line ∷ []) []) own
+    × AreRequests today locator lines others × (all ≡ own ++ others)
 less_requests today locator line lines true [] h = absurd h
 less_requests today locator line lines true (q ∷ all) h = (q ∷ [], all, (h.0, tt), h.1, refl)
 less_requests today locator line lines false all h = ([], all, tt, h, refl)
@@ -82,12 +89,14 @@ less_left today locator line (lines ∷ messages) requests s (mine, more, are, r
     record { own = l.0; others = l.1 ++ more; asked = l.2; left = (l.1, more, l.3, rest, refl); all = all ∙ ap (λ (x : List Request). x ++ more) l.4 ∙ append_assoc l.0 l.1 more }
 
 pub open_message : (today : ℕ) (locator : List ℕ) (line : Line) (parts : List (List Line)) (requests : List Request)
-    → IsHeading line.1 locator → AreLeft today locator parts requests → AreMessages today (onto_first line parts) requests
+    → IsHeading line.1 locator → AreLeft today locator parts requests
+    → AreMessages today (onto_first line parts) requests
 open_message today locator line [] requests h k = absurd k
 open_message today locator line (lines ∷ messages) requests h (own, more, are, rest, all) = (own, more, (locator, h, are), rest, all)
 
 pub opened_message : (today : ℕ) (line : Line) (parts : List (List Line)) (requests : List Request)
-    → IsSplit parts → AreMessages today (onto_first line parts) requests → (locator : List ℕ) × IsHeading line.1 locator × AreLeft today locator parts requests
+    → IsSplit parts → AreMessages today (onto_first line parts) requests
+    → (locator : List ℕ) × IsHeading line.1 locator × AreLeft today locator parts requests
 opened_message today line [] requests s h = absurd s
 opened_message today line (lines ∷ messages) requests s (own, more, (locator, heading, are), rest, all) = (locator, heading, (own, more, are, rest, all))
 
@@ -96,7 +105,9 @@ opened_message today line (lines ∷ messages) requests s (own, more, (locator, 
 not_empty : (c : ℕ) (text : List ℕ) → eqb (length (c ∷ text)) 0 ≡ false
 not_empty c text = grind (arith, nat_tests)
 
-pub part_more : (n c : ℕ) (text : List ℕ) (texts : List (List ℕ)) → runs_of (enumerate_from n ((c ∷ text) ∷ texts)) ≡ onto_first (n, c ∷ text) (runs_of (enumerate_from (n + 1) texts))
+pub part_more : (n c : ℕ) (text : List ℕ) (texts : List (List ℕ))
+    → runs_of (enumerate_from n ((c ∷ text) ∷ texts))
+    ≡ onto_first (n, c ∷ text) (runs_of (enumerate_from (n + 1) texts))
 part_more n c text texts = rw (not_empty c text) refl
 
 pub part_split : (n : ℕ) (texts : List (List ℕ)) → IsSplit (runs_of (enumerate_from n texts))

@@ -1,5 +1,5 @@
 -- The text of a reply is a segment line.
-use Rattle.std.proofs.Common.{◌≡◌, ℕ, ◌+◌, ◌%◌, ◌^◌, ◌<◌, ◌≤◌, true, List, [], ◌∷◌, ◌++◌, length, take, Option, Some, None, refl, sym, ap, ◌∙◌, arith, append_assoc, decimal}
+use Rattle.std.proofs.Common.{◌≡◌, ℕ, ◌+◌, ◌%◌, ◌^◌, ◌<◌, ◌≤◌, true, List, [], ◌∷◌, ◌++◌, length, take, Option, Some, None, refl, sym, ap, ◌∙◌, arith, decimal}
 use Rattle.std.specs.Char.{is_ascii_digit}
 use Rattle.std.specs.List.{list_all}
 use Rattle.std.proofs.lemmas.Bool.Decides.{nat_tests}
@@ -30,34 +30,31 @@ decimal_digits n = decimal_by_steps (λ n ds. list_all is_ascii_digit ds ≡ tru
 pub decimal_numeral : (most n : ℕ) → 0 < most → 0 < n → n < 10 ^ most → n < 2 ^ 64 → IsNumberText most (decimal n) n
 decimal_numeral most n some positive small fits = record { few = length-decimal-le most n some small fits; each = decimal_digits n fits; value = sym (decimal_is_IsNumeral n fits).1; positive = positive }
 
--- the pieces, as they are put
-pub put_together : (a n s c d b o e m t0 t1 t2 t3 t4 t5 t6 t7 t8 t9 t10 t11 : List ℕ) → t0 ≡ [] → t1 ≡ t0 ++ a → t2 ≡ t1 ++ n → t3 ≡ t2 ++ s → t4 ≡ t3 ++ c → t5 ≡ t4 ++ d → t6 ≡ t5 ++ 32 ∷ [] → t7 ≡ t6 ++ b → t8 ≡ t7 ++ o → t9 ≡ t8 ++ 32 ∷ [] → t10 ≡ t9 ++ e → t11 ≡ t10 ++ m
-    → t11 ≡ a ++ (n ++ ((s ++ c) ++ (d ++ (32 ∷ (b ++ (o ++ (32 ∷ (e ++ m))))))))
-put_together a n s c d b o e m t0 t1 t2 t3 t4 t5 t6 t7 t8 t9 t10 t11 e0 e1 e2 e3 e4 e5 e6 e7 e8 e9 e10 e11 =
-    rw (e11, e10, e9, e8, e7, e6, e5, e4, e3, e2, e1, e0) (simp append_assoc)
-
 length_day : (day month : ℕ) → 1 ≤ month → month ≤ 12 → length (day_month day month) ≡ 5
 length_day day month low high = omega (arith, length-append (two_digits day) (month_name month), length_name month low high)
 
-pub put_as : (a n s d b o e m : List ℕ) (k : ℕ) (a2 d2 b2 o2 e2 : List ℕ) (k2 : ℕ) (t : List ℕ) → t ≡ a2 ++ (n ++ ((s ++ k2 ∷ []) ++ (d2 ++ (32 ∷ (b2 ++ (o2 ++ (32 ∷ (e2 ++ m)))))))) → a2 ≡ a → k2 ≡ k → d2 ≡ d → b2 ≡ b → o2 ≡ o → e2 ≡ e
-    → t ≡ a ++ (n ++ ((s ++ k ∷ []) ++ (d ++ (32 ∷ (b ++ (o ++ (32 ∷ (e ++ m))))))))
-put_as a n s d b o e m k a2 d2 b2 o2 e2 k2 t h ea ek ed eb eo ee = rw (← ea, ← ek, ← ed, ← eb, ← eo, ← ee) h
-
 -- the front of a date
-pub day_front : (day month year : ℕ) (text : List ℕ) → 1 ≤ month → month ≤ 12 → text ≡ day_month day month ++ two_digits year → take 5 text ≡ day_month day month
+pub day_front : (day month year : ℕ) (text : List ℕ) → 1 ≤ month → month ≤ 12
+    → text ≡ day_month day month ++ two_digits year → take 5 text ≡ day_month day month
 day_front day month year text low high e = ap (take 5) e ∙ take_at (day_month day month) (two_digits year) 5 (length_day day month low high)
 
-no_tail : (a n l d b o e m : List ℕ) → a ++ (n ++ (l ++ (d ++ (32 ∷ (b ++ (o ++ (32 ∷ (e ++ m)))))))) ≡ a ++ (n ++ (l ++ (d ++ (32 ∷ (b ++ (o ++ (32 ∷ (e ++ (m ++ [])))))))))
+no_tail : (a n l d b o e m : List ℕ)
+    → a ++ (n ++ (l ++ (d ++ (32 ∷ (b ++ (o ++ (32 ∷ (e ++ m)))))))) ≡ a
+    ++ (n ++ (l ++ (d ++ (32 ∷ (b ++ (o ++ (32 ∷ (e ++ (m ++ [])))))))))
 no_tail a n l d b o e m = rw append-nil refl
 
-length_all : (a n l d b o e m : List ℕ) → length (a ++ (n ++ (l ++ (d ++ (32 ∷ (b ++ (o ++ (32 ∷ (e ++ m))))))))) ≡ length a + (length n + (length l + (length d + (1 + (length b + (length o + (1 + (length e + length m))))))))
+length_all : (a n l d b o e m : List ℕ)
+    → length (a ++ (n ++ (l ++ (d ++ (32 ∷ (b ++ (o ++ (32 ∷ (e ++ m))))))))) ≡ length a
+    + (length n + (length l + (length d + (1 + (length b + (length o + (1 + (length e + length m))))))))
 length_all a n l d b o e m = simp length-append (omega arith)
 
-length_letters : (suffix : Option ℕ) (class : ℕ) → (1 ≤ length (letters_text suffix class)) × (length (letters_text suffix class) ≤ 2)
+length_letters : (suffix : Option ℕ) (class : ℕ)
+    → (1 ≤ length (letters_text suffix class)) × (length (letters_text suffix class) ≤ 2)
 length_letters None class = (omega arith, omega arith)
 length_letters (Some s) class = (omega arith, omega arith)
 
-length_bounds : (t a n l d b o e m : ℕ) → t ≡ a + (n + (l + (d + (1 + (b + (o + (1 + (e + m)))))))) → a ≡ 2 → 0 < n → n ≤ 4 → (1 ≤ l) × (l ≤ 2) → d ≡ 5 → b ≡ 3 → o ≡ 3 → e ≡ 2 → 0 < m → m ≤ 3 → (20 ≤ t) × (t ≤ 69)
+length_bounds : (t a n l d b o e m : ℕ) → t ≡ a + (n + (l + (d + (1 + (b + (o + (1 + (e + m)))))))) → a ≡ 2 → 0 < n
+    → n ≤ 4 → (1 ≤ l) × (l ≤ 2) → d ≡ 5 → b ≡ 3 → o ≡ 3 → e ≡ 2 → 0 < m → m ≤ 3 → (20 ≤ t) × (t ≤ 69)
 length_bounds t a n l d b o e m h p q r u v w x y z k = (omega arith, omega arith)
 
 tail_none : is_tail [] ≡ true
@@ -65,7 +62,9 @@ unfolding is_tail
 tail_none = refl
 
 -- a segment that some line spells is spelled by its reply, with that code and number
-pub reply_spelled : (today : ℕ) (line : List ℕ) (s : Segment) (code : List ℕ) (seats : ℕ) (text : List ℕ) → is_code code ≡ true → 0 < seats → seats < 10 ^ 3 → IsPlainLine (reply_of s code seats) text → SpellsSegment today line s → SpellsSegment today text (reply_of s code seats)
+pub reply_spelled : (today : ℕ) (line : List ℕ) (s : Segment) (code : List ℕ) (seats : ℕ) (text : List ℕ)
+    → is_code code ≡ true → 0 < seats → seats < 10 ^ 3 → IsPlainLine (reply_of s code seats) text
+    → SpellsSegment today line s → SpellsSegment today text (reply_of s code seats)
 reply_spelled today line s code seats text is positive small p h =
     let fits = (right_segment today line s h).writable in
     let same = same_parts p.year p.month p.day h.date.year h.month h.day s.day p.date h.date.date in

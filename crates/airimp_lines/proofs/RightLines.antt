@@ -22,21 +22,25 @@ right_segment today line s h = record {
 abbrev pub IsRight : Request → Type 0
 IsRight request = IsRightSegment request.segment
 
-right_requests : (today : ℕ) (locator : List ℕ) (lines : List Line) (requests : List Request) → AreRequests today locator lines requests → All IsRight requests
+right_requests : (today : ℕ) (locator : List ℕ) (lines : List Line) (requests : List Request)
+    → AreRequests today locator lines requests → All IsRight requests
 right_requests today locator [] [] h = All-nil IsRight
 right_requests today locator [] (q ∷ rs) h = absurd h
 right_requests today locator (line ∷ lines) [] h = absurd h
 right_requests today locator (line ∷ lines) (q ∷ rs) h = All-cons IsRight q rs (right_segment today line.1 q.segment h.0.spelled) (right_requests today locator lines rs h.1)
 
-right_message : (today : ℕ) (lines : List Line) (requests : List Request) → IsMessage today lines requests → All IsRight requests
+right_message : (today : ℕ) (lines : List Line) (requests : List Request) → IsMessage today lines requests
+    → All IsRight requests
 right_message today [] requests h = subst (All IsRight) (sym h) (All-nil IsRight)
 right_message today (first ∷ others) requests (locator, heading, are) = right_requests today locator (segment_lines others) requests are
 
-right_messages : (today : ℕ) (messages : List (List Line)) (requests : List Request) → AreMessages today messages requests → All IsRight requests
+right_messages : (today : ℕ) (messages : List (List Line)) (requests : List Request)
+    → AreMessages today messages requests → All IsRight requests
 right_messages today [] requests h = subst (All IsRight) (sym h) (All-nil IsRight)
 right_messages today (message ∷ messages) requests (own, others, one, more, all) =
     subst (All IsRight) (sym all) (All-append IsRight own others (right_message today message own one) (right_messages today messages others more))
 
 -- each request of a script has a right segment
-pub right_script : (today : ℕ) (bytes : List ℕ) (requests : List Request) → IsScript today bytes requests → All IsRight requests
+pub right_script : (today : ℕ) (bytes : List ℕ) (requests : List Request) → IsScript today bytes requests
+    → All IsRight requests
 right_script today bytes requests h = right_messages today _ requests h

@@ -13,7 +13,8 @@ letters_in (suffix ∷ class ∷ []) rest = Some ((Some suffix, class), rest)
 letters_in _ rest = None
 
 unfoldable pub letters_at : List ℕ → Field (Option ℕ × ℕ)
-letters_at bytes = letters_in (take (prefix_len is_ascii_uppercase bytes) bytes) (drop (prefix_len is_ascii_uppercase bytes) bytes)
+letters_at bytes =
+    letters_in (take (prefix_len is_ascii_uppercase bytes) bytes) (drop (prefix_len is_ascii_uppercase bytes) bytes)
 
 -- a day of the month in some year: the leap year 2104 has each
 unfoldable pub in_month : ℕ → ℕ → Bool

@@ -18,7 +18,9 @@ pub record Spells (line : List ℕ) (u : Undated) : Type 0 where
   pub number : List ℕ
   pub seats : List ℕ
   pub tail : List ℕ
-  pub text : line ≡ u.airline ++ (number ++ (letters_text u.suffix u.class ++ (day_month u.day u.month ++ (32 ∷ (u.board ++ (u.off ++ (32 ∷ (u.code ++ (seats ++ tail)))))))))
+  pub text : line ≡ u.airline ++ (number
+      ++ (letters_text u.suffix u.class
+      ++ (day_month u.day u.month ++ (32 ∷ (u.board ++ (u.off ++ (32 ∷ (u.code ++ (seats ++ tail)))))))))
   pub long : 20 ≤ length line
   pub short : length line ≤ 69
   pub is_airline : IsTrue (is_airline u.airline)
@@ -62,12 +64,15 @@ pub record SpellsSegment (today : ℕ) (line : List ℕ) (s : Segment) : Type 0 
 
 -- no line spells two segments on one day
 abbrev pub OneSegment : Type 0
-OneSegment = (today : ℕ) (line : List ℕ) (s t : Segment) → SpellsSegment today line s → SpellsSegment today line t → s ≡ t
+OneSegment = (today : ℕ) (line : List ℕ) (s t : Segment) → SpellsSegment today line s → SpellsSegment today line t
+    → s ≡ t
 
 -- the line of a segment without leading zeros and without a tail
 abbrev pub plain_line : ℕ → ℕ → Segment → List ℕ
 plain_line day month s =
-    s.airline ++ (decimal s.number ++ (letters_text s.suffix s.class ++ (day_month day month ++ (32 ∷ (s.board ++ (s.off ++ (32 ∷ (s.code ++ decimal s.seats))))))))
+    s.airline ++ (decimal s.number ++
+    (letters_text s.suffix s.class ++
+    (day_month day month ++ (32 ∷ (s.board ++ (s.off ++ (32 ∷ (s.code ++ decimal s.seats))))))))
 
 -- a number of one to four digits above 0, and a letter as the suffix, if there is one
 pub record IsWritable (s : Segment) : Type 0 where

@@ -37,18 +37,22 @@ pub record IsRequest (today : ℕ) (locator : List ℕ) (line : Line) (request :
 -- a request for each line, in order
 abbrev pub AreRequests : ℕ → List ℕ → List Line → List Request → Type 0
 AreRequests today locator [] [] = Unit {0}
-AreRequests today locator (line ∷ lines) (request ∷ requests) = IsRequest today locator line request × AreRequests today locator lines requests
+AreRequests today locator (line ∷ lines) (request ∷ requests) =
+    IsRequest today locator line request × AreRequests today locator lines requests
 AreRequests today locator _ _ = ⊥
 
 -- the first line has the locator, and the segment lines behind it are the requests
 abbrev pub IsMessage : ℕ → List Line → List Request → Type 0
 IsMessage today [] requests = requests ≡ []
-IsMessage today (first ∷ others) requests = (locator : List ℕ) × IsHeading first.1 locator × AreRequests today locator (segment_lines others) requests
+IsMessage today (first ∷ others) requests =
+    (locator : List ℕ) × IsHeading first.1 locator × AreRequests today locator (segment_lines others) requests
 
 -- the requests of each message, one message after the other
 abbrev pub AreMessages : ℕ → List (List Line) → List Request → Type 0
 AreMessages today [] requests = requests ≡ []
-AreMessages today (message ∷ messages) requests = (own others : List Request) × IsMessage today message own × AreMessages today messages others × (requests ≡ own ++ others)
+AreMessages today (message ∷ messages) requests =
+    (own others : List Request) × IsMessage today message own × AreMessages today messages others
+    × (requests ≡ own ++ others)
 
 -- the requests of a script on that day: lines count from 1
 abbrev pub IsScript : ℕ → List ℕ → List Request → Type 0

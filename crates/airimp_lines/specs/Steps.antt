@@ -30,7 +30,8 @@ after_segment locator (Ok segment) = Ok (Some locator)
 abbrev pub step : Message → List ℕ → Result Message ScriptKind
 step message [] = Ok None
 step None (c ∷ text) = after_heading (heading_at (c ∷ text))
-step (Some locator) (c ∷ text) = if is_passed_over (c ∷ text) then Ok (Some locator) else after_segment locator (undated_at (c ∷ text))
+step (Some locator) (c ∷ text) =
+    if is_passed_over (c ∷ text) then Ok (Some locator) else after_segment locator (undated_at (c ∷ text))
 
 abbrev pub with_rest : List ℕ → Result Message ScriptKind → Result (Message × List ℕ) ScriptKind
 with_rest rest (Err kind) = Err kind
@@ -56,7 +57,9 @@ HasRequest (Some locator) (c ∷ text) = IsTrue (not (is_passed_over (c ∷ text
 
 -- no line has a fault up to this one, which has a request
 abbrev pub WantsRoom : List ℕ → ℕ → Type 0
-WantsRoom bytes line = (message : Message) × (rest : List ℕ) × (1 ≤ line) × (reach next None bytes (line - 1) ≡ Ok (message, rest)) × HasRequest message (line_at rest).0
+WantsRoom bytes line =
+    (message : Message) × (rest : List ℕ) × (1 ≤ line) × (reach next None bytes (line - 1) ≡ Ok (message, rest))
+    × HasRequest message (line_at rest).0
 
 -- ---- one line
 

@@ -24,7 +24,8 @@ pub fn read_script(alloc: Global, bytes: &[u8], today: Day) -> Result<Requests, 
     // What is read are the requests of the script.
     ensures found { IfOk result (IsScript today bytes.now) }
     // The requests of a script are read, unless memory is wanting.
-    ensures only { (requests : List Said) → IsScript today bytes.now requests → MatchResult result (λ r. r ≡ requests) (λ f. f.kind ≡ Memory) }
+    ensures only { (requests : List Said) → IsScript today bytes.now requests
+        → MatchResult result (λ r. r ≡ requests) (λ f. f.kind ≡ Memory) }
     // Which line is refused: the first with a fault, and its first fault.
     ensures fault { IfErr result (λ f. f.kind ≢ Memory → IsFirstFault bytes.now f.line f.kind) }
     // Want of memory is met at a segment line, where no line up to it has a fault.

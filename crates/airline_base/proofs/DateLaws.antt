@@ -29,7 +29,8 @@ two_small t u h =
     let q : (48 ≤ u) × (u ≤ 57) = grind (arith, nat_tests, d.1) in
     omega arith
 
-pub two_again : (n : ℕ) → n < 100 → (two_are (48 + n / 10) (48 + n % 10) ≡ true) × (two_value (48 + n / 10) (48 + n % 10) ≡ n)
+pub two_again : (n : ℕ) → n < 100
+    → (two_are (48 + n / 10) (48 + n % 10) ≡ true) × (two_value (48 + n / 10) (48 + n % 10) ≡ n)
 two_again n h =
     let first : is_ascii_digit (48 + n / 10) ≡ true = grind (arith, nat_tests) in
     let second : is_ascii_digit (48 + n % 10) ≡ true = grind (arith, nat_tests) in
@@ -46,7 +47,8 @@ pub record IsMonth (a b c m : ℕ) : Type 0 where
   pub low : 1 ≤ m
   pub high : m ≤ 12
 
-named : (x y z k : ℕ) (a b c m : ℕ) → x ∷ y ∷ z ∷ [] ≡ month_name k → 1 ≤ k → k ≤ 12 → (is_name x y z a b c ≡ true) × (k ≡ m) → IsMonth a b c m
+named : (x y z k : ℕ) (a b c m : ℕ) → x ∷ y ∷ z ∷ [] ≡ month_name k → 1 ≤ k → k ≤ 12
+    → (is_name x y z a b c ≡ true) × (k ≡ m) → IsMonth a b c m
 named x y z k a b c m name low high h =
     let p = both_true (eqb a x && eqb b y) (eqb c z) h.0 in
     let q = both_true (eqb a x) (eqb b y) p.0 in
@@ -138,7 +140,9 @@ civil_true y m d small h =
     le_is a b h = grind (arith, nat_tests, h)
 
 -- what the calendar answers
-pub civil_is : (y m d : ℕ) (r : Option ℕ) → 2000 ≤ y → y ≤ 2099 → ((1999 ≤ y) × (y ≤ 2199) × IsCivilDate (pos y) m d → IsSome r) → IfSome r (λ n. IsDate y m d n) → r ≡ civil_in y m d
+pub civil_is : (y m d : ℕ) (r : Option ℕ) → 2000 ≤ y → y ≤ 2099
+    → ((1999 ≤ y) × (y ≤ 2199) × IsCivilDate (pos y) m d → IsSome r) → IfSome r (λ n. IsDate y m d n)
+    → r ≡ civil_in y m d
 unfolding civil_in
 civil_is y m d (Some n) low high valid value = sym (civil_again y m d n value)
 civil_is y m d None low high valid value = of (is_civil y m d) refl
@@ -149,7 +153,8 @@ civil_is y m d None low high valid value = of (is_civil y m d) refl
 
 -- ---- dates
 
-dated_takes : (y d : ℕ) (o : Option ℕ) (n : ℕ) → dated y d o ≡ Some n → (m : ℕ) × (o ≡ Some m) × (civil_in (2000 + y) m d ≡ Some n)
+dated_takes : (y d : ℕ) (o : Option ℕ) (n : ℕ) → dated y d o ≡ Some n
+    → (m : ℕ) × (o ≡ Some m) × (civil_in (2000 + y) m d ≡ Some n)
 dated_takes y d None n e = absurd (none_some n e)
 dated_takes y d (Some m) n e = (m, refl, e)
 
@@ -176,7 +181,8 @@ date_takes (t ∷ u ∷ a ∷ b ∷ c ∷ y ∷ z ∷ []) n e =
     record { year = year; month = d.0; day = day; date = civil_takes year d.0 day n (two_small y z w.1) d.2; century = two_small y z w.1; written = written }
 date_takes (t ∷ u ∷ a ∷ b ∷ c ∷ y ∷ z ∷ k ∷ text) n e = absurd cc
 
-date_of : (day month year : ℕ) (name : List ℕ) → day < 100 → year < 100 → reads_month month name → date_in ((two_digits day ++ name) ++ two_digits year) ≡ civil_in (2000 + year) month day
+date_of : (day month year : ℕ) (name : List ℕ) → day < 100 → year < 100 → reads_month month name
+    → date_in ((two_digits day ++ name) ++ two_digits year) ≡ civil_in (2000 + year) month day
 unfolding date_in
 date_of day month year [] x y h = absurd h
 date_of day month year (a ∷ []) x y h = absurd h
@@ -194,7 +200,8 @@ date_of day month year (a ∷ b ∷ c ∷ []) x y h =
     ∙ ap (λ (i : ℕ). civil_in (2000 + i) month (two_value t u)) q.1
     ∙ ap (λ (i : ℕ). civil_in (2000 + year) month i) p.1
 
-short_month : (leap : Bool) (m d : ℕ) → d ≤ cond (eqb m 2) (cond leap 29 28) (cond (eqb m 4 || eqb m 6 || eqb m 9 || eqb m 11) 30 31) → d < 100
+short_month : (leap : Bool) (m d : ℕ)
+    → d ≤ cond (eqb m 2) (cond leap 29 28) (cond (eqb m 4 || eqb m 6 || eqb m 9 || eqb m 11) 30 31) → d < 100
 short_month leap m d h = grind (arith, nat_tests, h)
 
 pub date_again : (text : List ℕ) (n : ℕ) → IsDayField text n → date_in text ≡ Some n

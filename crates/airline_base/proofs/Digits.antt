@@ -13,21 +13,25 @@ pub digit_is : (d : ℕ) → is_ascii_digit d ≡ true → (digit_value d ≡ d 
 digit_is d h = grind (arith, nat_tests)
 
 -- one more digit
-pub value_more : (digits : List ℕ) (i number : ℕ) → i < length digits → is_ascii_digit (get_or digits i 0) ≡ true → number ≡ digits_value 10 (take i digits) → number < 10 ^ i
-    → (number * 10 + (get_or digits i 0 - 48) ≡ digits_value 10 (take (i + 1) digits)) × (number * 10 + (get_or digits i 0 - 48) < 10 ^ (i + 1))
+pub value_more : (digits : List ℕ) (i number : ℕ) → i < length digits → is_ascii_digit (get_or digits i 0) ≡ true
+    → number ≡ digits_value 10 (take i digits) → number < 10 ^ i
+    → (number * 10 + (get_or digits i 0 - 48) ≡ digits_value 10 (take (i + 1) digits))
+    × (number * 10 + (get_or digits i 0 - 48) < 10 ^ (i + 1))
 value_more digits i number lt is value small =
     let d = digit_is (get_or digits i 0) is in
     let more : 10 ^ (i + 1) ≡ 10 ^ i * 10 = rw add-one (pow-suc 10 i) in
     (rw (digits_value_more 10 digits i lt, d.0, ← value) refl, omega (arith, d.1, more))
 
 -- each digit is one
-pub all_at : (digits : List ℕ) (i : ℕ) → list_all is_ascii_digit digits ≡ true → i < length digits → is_ascii_digit (get_or digits i 0) ≡ true
+pub all_at : (digits : List ℕ) (i : ℕ) → list_all is_ascii_digit digits ≡ true → i < length digits
+    → is_ascii_digit (get_or digits i 0) ≡ true
 all_at [] i h lt = absurd (omega arith)
 all_at (d ∷ digits) zero h lt = (both_true (is_ascii_digit d) (list_all is_ascii_digit digits) h).0
 all_at (d ∷ digits) (suc i) h lt = all_at digits i (both_true (is_ascii_digit d) (list_all is_ascii_digit digits) h).1 (omega arith)
 
 -- a further digit leaves room in a number of 64 bits
-pub more_room : (digits : List ℕ) (i number : ℕ) → length digits ≤ 10 → i < length digits → is_ascii_digit (get_or digits i 0) ≡ true → number < 10 ^ i
+pub more_room : (digits : List ℕ) (i number : ℕ) → length digits ≤ 10 → i < length digits
+    → is_ascii_digit (get_or digits i 0) ≡ true → number < 10 ^ i
     → number * 10 + (get_or digits i 0 - 48) < 10_000_000_000
 more_room digits i number short lt is small =
     let d = digit_is (get_or digits i 0) is in

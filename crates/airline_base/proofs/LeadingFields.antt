@@ -14,7 +14,8 @@ use Rattle.airline_base.proofs.Tests.{passed, both_true}
 use Rattle.airline_base.proofs.LeadingRuns.{Stops, run_all, prefix_run}
 
 -- a field that was read, and what follows it
-pub with_some : {A B C : Type 0} (o : Option A) (f : A → Option B) (y : B) → (o >>= f) ≡ Some y → ((x : A) → o ≡ Some x → f x ≡ Some y → C) → C
+pub with_some : {A B C : Type 0} (o : Option A) (f : A → Option B) (y : B) → (o >>= f) ≡ Some y
+    → ((x : A) → o ≡ Some x → f x ≡ Some y → C) → C
 with_some None f y e k = absurd cc
 with_some (Some x) f y e k = k x refl e
 
@@ -40,7 +41,8 @@ word_again word rest =
 
 -- ---- fields of a fixed length
 
-pub fixed_takes : (n : ℕ) (test : List ℕ → Bool) (bytes text rest : List ℕ) → fixed_at n test bytes ≡ Some (text, rest) → (bytes ≡ text ++ rest) × (test text ≡ true)
+pub fixed_takes : (n : ℕ) (test : List ℕ → Bool) (bytes text rest : List ℕ) → fixed_at n test bytes ≡ Some (text, rest)
+    → (bytes ≡ text ++ rest) × (test text ≡ true)
 unfolding fixed_at
 fixed_takes n test bytes text rest e =
     let p = passed (test (take n bytes)) (take n bytes, drop n bytes) (text, rest) e in
@@ -48,7 +50,8 @@ fixed_takes n test bytes text rest e =
     let r : drop n bytes ≡ rest = ap (λ (x : List ℕ × List ℕ). x.1) p.1 in
     (rw (← t, ← r) (sym (take-append-drop n bytes)), rw (← t) p.0)
 
-pub fixed_again : (n : ℕ) (test : List ℕ → Bool) (text rest : List ℕ) → length text ≡ n → test text ≡ true → fixed_at n test (text ++ rest) ≡ Some (text, rest)
+pub fixed_again : (n : ℕ) (test : List ℕ → Bool) (text rest : List ℕ) → length text ≡ n → test text ≡ true
+    → fixed_at n test (text ++ rest) ≡ Some (text, rest)
 unfolding fixed_at
 fixed_again n test text rest len is = rw (take_at text rest n len, drop_at text rest n len, is) refl
 
@@ -83,7 +86,8 @@ length_locator (a ∷ b ∷ c ∷ d ∷ e ∷ f ∷ g ∷ xs) h = absurd cc
 
 -- ---- numbers
 
-pub numeral_takes : (most : ℕ) (bytes : List ℕ) (n : ℕ) (rest : List ℕ) → numeral_at most bytes ≡ Some (n, rest) → (digits : List ℕ) × (bytes ≡ digits ++ rest) × IsNumberText most digits n
+pub numeral_takes : (most : ℕ) (bytes : List ℕ) (n : ℕ) (rest : List ℕ) → numeral_at most bytes ≡ Some (n, rest)
+    → (digits : List ℕ) × (bytes ≡ digits ++ rest) × IsNumberText most digits n
 unfolding numeral_at
 numeral_takes most bytes n rest e =
     let run = take (prefix_len is_ascii_digit bytes) bytes in
@@ -96,7 +100,8 @@ numeral_takes most bytes n rest e =
     let positive : 0 < digits_value 10 run = grind (arith, nat_tests, t.1) in
     (run, rw (← r) (sym (take-append-drop (prefix_len is_ascii_digit bytes) bytes)), record { few = few; each = run_all is_ascii_digit bytes; value = sym v; positive = rw (← v) positive })
 
-pub numeral_again : (most : ℕ) (digits : List ℕ) (n : ℕ) (rest : List ℕ) → IsNumberText most digits n → Stops is_ascii_digit rest → numeral_at most (digits ++ rest) ≡ Some (n, rest)
+pub numeral_again : (most : ℕ) (digits : List ℕ) (n : ℕ) (rest : List ℕ) → IsNumberText most digits n
+    → Stops is_ascii_digit rest → numeral_at most (digits ++ rest) ≡ Some (n, rest)
 unfolding numeral_at
 numeral_again most digits n rest is h =
     let len = prefix_run is_ascii_digit digits rest is.each h in

@@ -7,7 +7,8 @@ abbrev pub Stops : (ℕ → Bool) → List ℕ → Type 0
 Stops p [] = Unit {0}
 Stops p (c ∷ rest) = p c ≡ false
 
-run_step : (p : ℕ → Bool) (x : ℕ) (xs : List ℕ) (b : Bool) → p x ≡ b → list_all p (take (prefix_len p xs) xs) ≡ true → list_all p (take (cond b (1 + prefix_len p xs) 0) (x ∷ xs)) ≡ true
+run_step : (p : ℕ → Bool) (x : ℕ) (xs : List ℕ) (b : Bool) → p x ≡ b → list_all p (take (prefix_len p xs) xs) ≡ true
+    → list_all p (take (cond b (1 + prefix_len p xs) 0) (x ∷ xs)) ≡ true
 run_step p x xs true e h =
     let k : 1 + prefix_len p xs ≡ suc (prefix_len p xs) = omega arith in
     rw (k, e, h) refl
@@ -21,7 +22,8 @@ prefix_stops : (p : ℕ → Bool) (rest : List ℕ) → Stops p rest → prefix_
 prefix_stops p [] h = refl
 prefix_stops p (c ∷ rest) h = rw h refl
 
-pub prefix_run : (p : ℕ → Bool) (run rest : List ℕ) → list_all p run ≡ true → Stops p rest → prefix_len p (run ++ rest) ≡ length run
+pub prefix_run : (p : ℕ → Bool) (run rest : List ℕ) → list_all p run ≡ true → Stops p rest
+    → prefix_len p (run ++ rest) ≡ length run
 prefix_run p [] rest all h = prefix_stops p rest h
 prefix_run p (x ∷ run) rest all h =
     let b = both_true (p x) (list_all p run) all in

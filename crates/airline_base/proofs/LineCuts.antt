@@ -19,7 +19,8 @@ onto_split : {X : Type 0} (x : X) (parts : List (List X)) → IsSplit (onto_firs
 onto_split x [] = tt
 onto_split x (part ∷ parts) = tt
 
-split_step : {X : Type 0} (b : Bool) (x : X) (parts : List (List X)) → IsSplit (cond b ([] ∷ parts) (onto_first x parts))
+split_step : {X : Type 0} (b : Bool) (x : X) (parts : List (List X))
+    → IsSplit (cond b ([] ∷ parts) (onto_first x parts))
 split_step true x parts = tt
 split_step false x parts = onto_split x parts
 
@@ -29,11 +30,14 @@ is_split p (x ∷ xs) = split_step (p x) x (slice_split p xs)
 
 -- ---- lines
 
-front_line : (x : List ℕ) (parts : List (List ℕ)) → IsSplit parts → lines_of_parts (x ∷ parts) ≡ strip_carriage_return x ∷ lines_of_parts parts
+front_line : (x : List ℕ) (parts : List (List ℕ)) → IsSplit parts
+    → lines_of_parts (x ∷ parts) ≡ strip_carriage_return x ∷ lines_of_parts parts
 front_line x [] h = absurd h
 front_line x (part ∷ parts) h = refl
 
-no_feed_step : {X : Type 0} (p : X → Bool) (x : X) (xs : List X) (b : Bool) → length (x ∷ xs) ≤ cond (not b) (1 + position_or_len p xs) 0 → slice_split p xs ≡ xs ∷ [] → cond b ([] ∷ slice_split p xs) (onto_first x (slice_split p xs)) ≡ (x ∷ xs) ∷ []
+no_feed_step : {X : Type 0} (p : X → Bool) (x : X) (xs : List X) (b : Bool)
+    → length (x ∷ xs) ≤ cond (not b) (1 + position_or_len p xs) 0 → slice_split p xs ≡ xs ∷ []
+    → cond b ([] ∷ slice_split p xs) (onto_first x (slice_split p xs)) ≡ (x ∷ xs) ∷ []
 no_feed_step p x xs true h e = absurd (omega arith)
 no_feed_step p x xs false h e = rw e refl
 
@@ -52,8 +56,10 @@ last_line (x ∷ xs) h = let some : eqb (length (x ∷ xs)) 0 ≡ false = grind 
 nothing_left : (n : ℕ) (xs : List ℕ) → length xs ≤ n → drop (n + 1) xs ≡ []
 nothing_left n xs h = drop_all (n + 1) xs (omega arith)
 
-lines_by : (bytes : List ℕ) (b : Bool) → nat_lt (position_or_len is_line_feed bytes) (length bytes) ≡ b → 0 < length bytes
-    → lines bytes ≡ cond b (strip_carriage_return (before_first is_line_feed bytes)) bytes ∷ lines (after_first is_line_feed bytes)
+lines_by : (bytes : List ℕ) (b : Bool) → nat_lt (position_or_len is_line_feed bytes) (length bytes) ≡ b
+    → 0 < length bytes
+    → lines bytes ≡ cond b (strip_carriage_return (before_first is_line_feed bytes)) bytes
+    ∷ lines (after_first is_line_feed bytes)
 lines_by bytes true e some =
     ap lines_of_parts (slice_split_first is_line_feed bytes 0 (ltb-true _ _ e))
     ∙ front_line (before_first is_line_feed bytes) (slice_split is_line_feed (after_first is_line_feed bytes)) (is_split is_line_feed (after_first is_line_feed bytes))
@@ -74,21 +80,27 @@ rest_shorter bytes some = omega (arith, length-drop (position_or_len is_line_fee
 abbrev found : Option ℕ → Option ℕ
 found o = o
 
-pub cut_at : (bytes : List ℕ) (end : ℕ) (text : List ℕ) → found (Some end) ≡ position is_line_feed bytes → text ≡ strip_carriage_return (take end bytes) → ◌≡◌ {A = List ℕ × List ℕ} (text, drop (end + 1) bytes) (line_at bytes)
+pub cut_at : (bytes : List ℕ) (end : ℕ) (text : List ℕ) → found (Some end) ≡ position is_line_feed bytes
+    → text ≡ strip_carriage_return (take end bytes)
+    → ◌≡◌ {A = List ℕ × List ℕ} (text, drop (end + 1) bytes) (line_at bytes)
 unfolding line_at
 cut_at bytes end text e t = of (nat_lt (position_or_len is_line_feed bytes) (length bytes)) e
   where
     of : (b : Bool) → found (Some end) ≡ cond b (Some (position_or_len is_line_feed bytes)) None
-        → ◌≡◌ {A = List ℕ × List ℕ} (text, drop (end + 1) bytes) (cond b (strip_carriage_return (before_first is_line_feed bytes)) bytes, after_first is_line_feed bytes)
+        → ◌≡◌ {A = List ℕ × List ℕ} (text, drop (end + 1) bytes)
+        (cond b (strip_carriage_return (before_first is_line_feed bytes)) bytes, after_first is_line_feed bytes)
     of true h = let same : end ≡ position_or_len is_line_feed bytes = cc in rw (t, same) refl
     of false h = absurd cc
 
-pub cut_none : (bytes : List ℕ) → found None ≡ position is_line_feed bytes → ◌≡◌ {A = List ℕ × List ℕ} (bytes, []) (line_at bytes)
+pub cut_none : (bytes : List ℕ) → found None ≡ position is_line_feed bytes
+    → ◌≡◌ {A = List ℕ × List ℕ} (bytes, []) (line_at bytes)
 unfolding line_at
 cut_none bytes e = of (nat_lt (position_or_len is_line_feed bytes) (length bytes)) refl e
   where
-    of : (b : Bool) → nat_lt (position_or_len is_line_feed bytes) (length bytes) ≡ b → found None ≡ cond b (Some (position_or_len is_line_feed bytes)) None
-        → ◌≡◌ {A = List ℕ × List ℕ} (bytes, []) (cond b (strip_carriage_return (before_first is_line_feed bytes)) bytes, after_first is_line_feed bytes)
+    of : (b : Bool) → nat_lt (position_or_len is_line_feed bytes) (length bytes) ≡ b
+        → found None ≡ cond b (Some (position_or_len is_line_feed bytes)) None
+        → ◌≡◌ {A = List ℕ × List ℕ} (bytes, [])
+        (cond b (strip_carriage_return (before_first is_line_feed bytes)) bytes, after_first is_line_feed bytes)
     of true is h = absurd cc
     of false is h = rw (nothing_left (position_or_len is_line_feed bytes) bytes (ltb-false _ _ is)) refl
 

@@ -7,12 +7,14 @@ use Rattle.std.specs.Io.KnownBytes.{Appends}
 use Rattle.std.proofs.KnownBytes.{Appends-trans}
 use Rattle.airline_base.specs.Noting.{Sent, TookFront}
 
-moves_front : (all done rest : List ℕ) (n : ℕ) → all ≡ done ++ rest → all ≡ (done ++ take n rest) ++ take (length rest - n) (drop n rest)
+moves_front : (all done rest : List ℕ) (n : ℕ) → all ≡ done ++ rest
+    → all ≡ (done ++ take n rest) ++ take (length rest - n) (drop n rest)
 moves_front all done rest n e =
     e ∙ ap (λ l. done ++ l) (sym (take-append-drop n rest)) ∙ sym (append_assoc done (take n rest) (drop n rest)) ∙ ap (λ l. (done ++ take n rest) ++ l) (sym (take_rest rest n))
 
 -- one more part was taken
-pub sent_more : (old mid new : Option (List ℕ)) (k j i : ℕ) (text rest : List ℕ) (n : ℕ) → Sent old mid k j text rest → Appends mid new (take n rest) → i ≡ j
+pub sent_more : (old mid new : Option (List ℕ)) (k j i : ℕ) (text rest : List ℕ) (n : ℕ) → Sent old mid k j text rest
+    → Appends mid new (take n rest) → i ≡ j
     → Sent old new k i text (take (length rest - n) (drop n rest))
 sent_more old mid new k j i text rest n s more same = record {
   done = s.done ++ take n rest;
@@ -22,7 +24,8 @@ sent_more old mid new k j i text rest n s more same = record {
 }
 
 -- where the writer failed, it had taken a prefix
-pub took_front : (old mid new : Option (List ℕ)) (k j : ℕ) (text rest : List ℕ) → Sent old mid k j text rest → Appends mid new [] → TookFront old new text
+pub took_front : (old mid new : Option (List ℕ)) (k j : ℕ) (text rest : List ℕ) → Sent old mid k j text rest
+    → Appends mid new [] → TookFront old new text
 took_front old mid new k j text rest s none = record {
   count = length s.done;
   appended = subst (Appends old new) (append-nil s.done ∙ sym (ap (take (length s.done)) s.split ∙ take-append_seam s.done rest)) (Appends-trans old mid new s.done [] s.appended none);

@@ -11,7 +11,8 @@ guarded true o y e = (refl, e)
 guarded false o y e = absurd cc
 
 -- a value behind the first of two tests
-pub chosen : {A : Type 0} (b : Bool) (x : A) (other : Option A) (y : A) → cond b (Some x) other ≡ Some y → ((b ≡ true) × (x ≡ y)) ⊎ (other ≡ Some y)
+pub chosen : {A : Type 0} (b : Bool) (x : A) (other : Option A) (y : A) → cond b (Some x) other ≡ Some y
+    → ((b ≡ true) × (x ≡ y)) ⊎ (other ≡ Some y)
 chosen true x other y e = inl (refl, cc)
 chosen false x other y e = inr e
 

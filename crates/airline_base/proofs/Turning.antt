@@ -6,7 +6,8 @@ use Rattle.std.proofs.KnownBytes.{Consumes-trans}
 use Rattle.airline_base.specs.Noting.{Held, WantsRoom}
 
 -- what a turn wants room for, the reading does
-pub wants_more : (max : ℕ) (old mid new : Option (List ℕ)) (k j : ℕ) (bytes : List ℕ) → Held max old mid k j bytes → WantsRoom max (length bytes) mid new → WantsRoom max 0 old new
+pub wants_more : (max : ℕ) (old mid new : Option (List ℕ)) (k j : ℕ) (bytes : List ℕ) → Held max old mid k j bytes
+    → WantsRoom max (length bytes) mid new → WantsRoom max 0 old new
 wants_more max old mid new k j bytes held wants = record {
   given = bytes ++ wants.given;
   consumed = Consumes-trans old mid new bytes wants.given held.consumed wants.consumed;

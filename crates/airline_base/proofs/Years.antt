@@ -88,7 +88,9 @@ pub pos_inj : (m n : ℕ) → pos m ≡ pos n → m ≡ n
 pos_inj m n e = cc
 
 -- what the parts of a date of these years and its distance from the first date say
-pub dated : (d : Date) (y m day n : ℕ) → IsYmd (to_z w16 y) (to_z w8 m) (to_z w8 day) d → 1999 ≤ y → y ≤ 2199 → m ≤ 12 → day ≤ 31 → epoch_day d +ℤ pos 4_371_587 ≡ pos n → (4_371_587 ≤ n) × IsDay (n - 4_371_587) × IsDate y m day (n - 4_371_587)
+pub dated : (d : Date) (y m day n : ℕ) → IsYmd (to_z w16 y) (to_z w8 m) (to_z w8 day) d → 1999 ≤ y → y ≤ 2199 → m ≤ 12
+    → day ≤ 31 → epoch_day d +ℤ pos 4_371_587 ≡ pos n
+    → (4_371_587 ≤ n) × IsDay (n - 4_371_587) × IsDate y m day (n - 4_371_587)
 dated d y m day n parts low high months days e =
     let year : d.year ≡ pos y = parts.0 ∙ to_z_pos w16 y (omega arith) in
     let month : d.month ≡ m = pos_inj _ _ (parts.1 ∙ to_z_pos w8 m (omega arith)) in
@@ -104,7 +106,8 @@ from_zero (pos n) low = refl
 from_zero (negsuc n) low = absurd (omega (arith, signed_arith))
 
 -- and the year, the month and the day of a day number
-pub parted : (d : Date) (n : ℕ) → IsDay n → epoch_day d +ℤ pos 4_371_587 ≡ pos (n + 4_371_587) → (y : ℕ) × (d.year ≡ pos y) × (1999 ≤ y) × (y ≤ 2199) × IsDate y d.month d.day n
+pub parted : (d : Date) (n : ℕ) → IsDay n → epoch_day d +ℤ pos 4_371_587 ≡ pos (n + 4_371_587)
+    → (y : ℕ) × (d.year ≡ pos y) × (1999 ≤ y) × (y ≤ 2199) × IsDate y d.month d.day n
 parted d n day e =
     let number : epoch_day d ≡ pos n = omega (arith, signed_arith) in
     let low = low_year d.year d.month d.day (civil d) (omega (arith, signed_arith)) in

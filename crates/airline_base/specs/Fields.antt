@@ -34,7 +34,8 @@ numeral_in most run rest =
 
 -- the run of digits, at most so many of them, which writes a number above 0
 unfoldable pub numeral_at : ℕ → List ℕ → Field ℕ
-numeral_at most bytes = numeral_in most (take (prefix_len is_ascii_digit bytes) bytes) (drop (prefix_len is_ascii_digit bytes) bytes)
+numeral_at most bytes =
+    numeral_in most (take (prefix_len is_ascii_digit bytes) bytes) (drop (prefix_len is_ascii_digit bytes) bytes)
 
 -- ---- their grammar
 

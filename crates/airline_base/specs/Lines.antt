@@ -8,5 +8,8 @@ is_line_feed c = c == 10
 
 -- the first line without its end, and the bytes behind that end
 unfoldable pub line_at : List ℕ → List ℕ × List ℕ
-line_at bytes =
-    (if nat_lt (position_or_len is_line_feed bytes) (length bytes) then strip_carriage_return (before_first is_line_feed bytes) else bytes, after_first is_line_feed bytes)
+line_at bytes = (
+  if nat_lt (position_or_len is_line_feed bytes) (length bytes)
+      then strip_carriage_return (before_first is_line_feed bytes) else bytes,
+  after_first is_line_feed bytes,
+)

@@ -65,7 +65,8 @@ impl<T: Read> Read for Counted<T> {
 
     fn read(&mut self, buf: &mut [u8]) -> io::Result<usize>
         ensures bound { ReadsAtMost result buf.new }
-        ensures bytes { ReadConsumes (T.remaining (counted_inner self.old)) (T.remaining (counted_inner self.new)) result buf.new }
+        ensures bytes { ReadConsumes (T.remaining (counted_inner self.old)) (T.remaining (counted_inner self.new))
+            result buf.new }
         ensures notes { NotesRead (counted_failures self.old) (counted_failures self.new) result }
     {
         match self.inner.read(buf) {
@@ -83,7 +84,8 @@ impl<T: Write> Write for Counted<T> {
 
     fn write(&mut self, buf: &[u8]) -> io::Result<usize>
         ensures bound { WritesAtMost result buf.now }
-        ensures bytes { WriteAppends (T.contents (counted_inner self.old)) (T.contents (counted_inner self.new)) result buf.now }
+        ensures bytes { WriteAppends (T.contents (counted_inner self.old)) (T.contents (counted_inner self.new)) result
+            buf.now }
         ensures notes { NotesWrite (counted_failures self.old) (counted_failures self.new) result buf.now }
     {
         match self.inner.write(buf) {

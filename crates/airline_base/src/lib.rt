@@ -12,6 +12,7 @@ mod memory;
 mod names;
 mod place;
 mod reading;
+pub mod spelling;
 mod writing;
 
 pub use counted::{Counted, Failures, NotedRead, NotedWrite};

@@ -43,12 +43,16 @@ pub fn read_all<R: NotedRead>(alloc: Global, reader: &mut R, max: u64) -> Result
     ensures bytes { IfOk result (λ v. Consumes (R.remaining reader.old) (R.remaining reader.new) v.items) }
     ensures end { OnOk result (IsAtEnd (R.remaining reader.new)) }
     ensures whole { IfOk result (λ v. IfSome (R.remaining reader.old) (λ xs. v.items ≡ xs)) }
-    ensures device { IfErr result (λ f. f ≡ ReadFault.Device → R.failure_count reader.new ≡ noted (R.failure_count reader.old)) }
-    ensures large { IfErr result (λ f. f ≡ ReadFault.TooLarge → IfSome (R.remaining reader.old) (λ xs. max < length xs)) }
+    ensures device { IfErr result (λ f. f ≡ ReadFault.Device → R.failure_count reader.new
+        ≡ noted (R.failure_count reader.old)) }
+    ensures large { IfErr result (λ f. f ≡ ReadFault.TooLarge
+        → IfSome (R.remaining reader.old) (λ xs. max < length xs)) }
     // Want of memory is met at bytes that make no more than `max` with those ahead of them.
-    ensures memory { IfErr result (λ f. f ≡ ReadFault.Memory → WantsRoom max 0 (R.remaining reader.old) (R.remaining reader.new)) }
+    ensures memory { IfErr result (λ f. f ≡ ReadFault.Memory
+        → WantsRoom max 0 (R.remaining reader.old) (R.remaining reader.new)) }
     ensures counted { OnOk result (R.failure_count reader.new ≡ R.failure_count reader.old) }
-    ensures uncounted { IfErr result (λ f. f ≢ ReadFault.Device → R.failure_count reader.new ≡ R.failure_count reader.old) }
+    ensures uncounted { IfErr result
+        (λ f. f ≢ ReadFault.Device → R.failure_count reader.new ≡ R.failure_count reader.old) }
 {
     let mut bytes = Vec::new(alloc);
     let mut piece = [0u8; PIECE];
@@ -64,12 +68,17 @@ fn take_turn<R: NotedRead>(
     max: u64,
 ) -> Result<bool, ReadFault>
     requires room { length bytes.old.items ≤ max }
-    ensures turned { IfOk result (Turned max (R.remaining reader.old) (R.remaining reader.new) bytes.old.items bytes.new.items) }
+    ensures turned { IfOk result (Turned max (R.remaining reader.old) (R.remaining reader.new) bytes.old.items
+        bytes.new.items) }
     ensures counted { OnOk result (R.failure_count reader.new ≡ R.failure_count reader.old) }
-    ensures device { IfErr result (λ f. f ≡ ReadFault.Device → R.failure_count reader.new ≡ noted (R.failure_count reader.old)) }
-    ensures uncounted { IfErr result (λ f. f ≢ ReadFault.Device → R.failure_count reader.new ≡ R.failure_count reader.old) }
-    ensures large { IfErr result (λ f. f ≡ ReadFault.TooLarge → GaveMore max (length bytes.old.items) (R.remaining reader.old)) }
-    ensures memory { IfErr result (λ f. f ≡ ReadFault.Memory → WantsRoom max (length bytes.old.items) (R.remaining reader.old) (R.remaining reader.new)) }
+    ensures device { IfErr result (λ f. f ≡ ReadFault.Device → R.failure_count reader.new
+        ≡ noted (R.failure_count reader.old)) }
+    ensures uncounted { IfErr result
+        (λ f. f ≢ ReadFault.Device → R.failure_count reader.new ≡ R.failure_count reader.old) }
+    ensures large { IfErr result (λ f. f ≡ ReadFault.TooLarge
+        → GaveMore max (length bytes.old.items) (R.remaining reader.old)) }
+    ensures memory { IfErr result (λ f. f ≡ ReadFault.Memory
+        → WantsRoom max (length bytes.old.items) (R.remaining reader.old) (R.remaining reader.new)) }
 {
     match reader.read_noted(piece) {
         Ok(0) => Ok(false),

@@ -1,3 +1,4 @@
+pub mod Common
 pub mod Live
 pub mod Waitlists
 pub mod Kept

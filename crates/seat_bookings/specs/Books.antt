@@ -11,7 +11,7 @@ use Rattle.seat_bookings.specs.declared.books.FlightBook.{FlightBook}
 use Rattle.seat_rules.specs.declared.effect.Effect.{Effect}
 use Rattle.seat_rules.specs.Bookings.{held}
 use Rattle.seat_rules.specs.Journal.{replay, calls_of}
-use Rattle.seat_rules.specs.Flights.{bookings_on, queue_on, is_on}
+use Rattle.seat_rules.specs.Flights.{bookings_on, is_on}
 use Rattle.seat_bookings.specs.Queues.{queue_of}
 use Rattle.seat_rules.specs.Applying.{applied, suffices, Spare}
 use Rattle.seat_bookings.specs.Live.{AreLive}
@@ -70,12 +70,15 @@ pub record LeavesLive (books : List FlightBook) (e : Entry) : Type 0 where
 
 -- the entry was applied to the book of its flight, and to no other
 pub record IsEntered (old new : List FlightBook) (e : Entry) : Type 0 where
-  pub each : (flight : ℕ) → book_at new flight ≡ (if is_on flight e.work then applied (book_at old flight) e else book_at old flight)
+  pub each : (flight : ℕ)
+      → book_at new flight ≡ (if is_on flight e.work then applied (book_at old flight) e else book_at old flight)
 
 -- the books and the waiting lists are those of the replay, flight by flight; each session's calls are counted, sessions 1 to 8; and the counters, which know the limits now, hold what the replay holds
-pub record IsOfReplay (opening : Ladders) (cap : ℕ) (journal : List Entry) (books : List FlightBook) (calls : List ℕ) (counts : Counted) : Type 0 where
+pub record IsOfReplay (opening : Ladders) (cap : ℕ) (journal : List Entry) (books : List FlightBook) (calls : List ℕ)
+    (counts : Counted) : Type 0 where
   pub lawful : IsLawful opening (limits_of counts) cap journal (replay opening journal).bookings
   pub by_flight : (flight : ℕ) → book_at books flight ≡ bookings_on flight (replay opening journal).bookings
-  pub by_queue : (flight : ℕ) → queue_at books flight ≡ queue_on flight (replay opening journal).bookings
+  pub by_queue : (flight : ℕ) → queue_at books flight ≡ queue_of (bookings_on flight (replay opening journal).bookings)
   pub by_session : (session : ℕ) → session ≤ 8 → slice_index calls session ≡ calls_of journal session
-  pub seats : (flight leg class : ℕ) → table_of counts flight leg class ≡ held (replay opening journal).bookings flight leg class
+  pub seats : (flight leg class : ℕ)
+      → table_of counts flight leg class ≡ held (replay opening journal).bookings flight leg class

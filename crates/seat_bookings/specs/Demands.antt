@@ -31,18 +31,22 @@ least_with n (Some m) = Some (min n m)
 -- the least seats of a booking
 abbrev pub smallest_of : Place → ℕ → List Booking → Option ℕ
 smallest_of place class [] = None
-smallest_of place class (b ∷ bs) = (if is_booking_of place class b then least_with b.seats (smallest_of place class bs) else smallest_of place class bs)
+smallest_of place class (b ∷ bs) =
+    (if is_booking_of place class b then least_with b.seats (smallest_of place class bs)
+    else smallest_of place class bs)
 
 -- all their seats
 abbrev pub seats_for : Place → ℕ → List Booking → ℕ
 seats_for place class [] = 0
-seats_for place class (b ∷ bs) = (if is_booking_of place class b then b.seats + seats_for place class bs else seats_for place class bs)
+seats_for place class (b ∷ bs) =
+    (if is_booking_of place class b then b.seats + seats_for place class bs else seats_for place class bs)
 
 -- ---- what their demand tells
 
 abbrev pub demand_smallest : Place → ℕ → List Demand → Option ℕ
 demand_smallest place class [] = None
-demand_smallest place class (p ∷ ps) = (if is_demand_of place class p then Some p.smallest else demand_smallest place class ps)
+demand_smallest place class (p ∷ ps) =
+    (if is_demand_of place class p then Some p.smallest else demand_smallest place class ps)
 
 abbrev pub demand_seats : Place → ℕ → List Demand → ℕ
 demand_seats place class [] = 0
@@ -58,7 +62,8 @@ pub record IsIndexed (bookings : List Booking) (demands : List Demand) : Type 0 
 
 -- there is a number and memory for one booking more, and memory for its demand
 abbrev pub has_spare : ℕ → ℕ → ℕ → ℕ → Bool
-has_spare bookings capacity demands memory = nat_lt bookings (2 ^ 32) && nat_lt bookings capacity && nat_lt demands memory
+has_spare bookings capacity demands memory =
+    nat_lt bookings (2 ^ 32) && nat_lt bookings capacity && nat_lt demands memory
 
 -- ---- what the demands answer
 
@@ -81,7 +86,8 @@ no_demand_fits grid seats demands = list_all (λ p. nat_lt (room grid seats p.pl
 abbrev pub joined : List Demand → Place → ℕ → ℕ → List Demand
 joined [] place class n = record { place = place; class = class; smallest = n; seats = n } ∷ []
 joined (p ∷ ps) place class n =
-    (if is_demand_of place class p then record p { smallest = min n p.smallest; seats = p.seats + n } ∷ ps else p ∷ joined ps place class n)
+    (if is_demand_of place class p then record p { smallest = min n p.smallest; seats = p.seats + n } ∷ ps else p
+    ∷ joined ps place class n)
 
 -- the demand has n seats fewer, and this smallest; it goes where there is none
 abbrev pub with_smallest : Demand → Option ℕ → ℕ → List Demand → List Demand
@@ -90,4 +96,5 @@ with_smallest p (Some m) n ps = record p { smallest = m; seats = p.seats - n } �
 
 abbrev pub settled : List Demand → Place → ℕ → Option ℕ → ℕ → List Demand
 settled [] place class smallest n = []
-settled (p ∷ ps) place class smallest n = (if is_demand_of place class p then with_smallest p smallest n ps else p ∷ settled ps place class smallest n)
+settled (p ∷ ps) place class smallest n =
+    (if is_demand_of place class p then with_smallest p smallest n ps else p ∷ settled ps place class smallest n)

@@ -25,7 +25,8 @@ pub record AreLive (bookings : List Booking) : Type 0 where
 -- ---- the index
 
 abbrev pub key_for : List ℕ → Place → ℕ → Key
-key_for locator place class = record { locator = locator; flight = place.flight; from = place.from; to = place.to; class = class }
+key_for locator place class =
+    record { locator = locator; flight = place.flight; from = place.from; to = place.to; class = class }
 
 abbrev pub key_of : Booking → Key
 key_of b = key_for b.locator b.place b.class

@@ -1,6 +1,5 @@
 -- Waiting lists.
-use Rattle.std.specs.Prelude.{ℕ, Bool, false, ◌==◌, nat_lt, List, [], ◌∷◌, Option, Some, None, if◌then◌else◌}
-use Rattle.std.specs.Global.{Box}
+use Rattle.std.specs.Prelude.{ℕ, Bool, false, ◌==◌, nat_lt, List, [], ◌∷◌, filter, if◌then◌else◌}
 use Rattle.std.specs.List.{list_all}
 use Rattle.seat_nesting.specs.Nesting.{Ladders, Table, room}
 use Rattle.seat_rules.specs.declared.booking.Booking.{Booking}
@@ -11,19 +10,13 @@ pub record Waitlist : Type 0 where
   pub bookings : List Booking
   pub spare : Bool
 
--- the waiting list of a flight; none waits where it was never made
-abbrev pub list_in : Option (Box Waitlist) → Waitlist
-list_in None = record { bookings = []; spare = false }
-list_in (Some list) = list.value
-
 -- each booking has more seats than the table leaves room for
 abbrev pub none_fits : Ladders → Table → List Booking → Bool
 none_fits grid seats queue = list_all (λ b. nat_lt (room grid seats b.place b.class) b.seats) queue
 
 -- the bookings that wait, in order
 abbrev pub queue_of : List Booking → List Booking
-queue_of [] = []
-queue_of (b ∷ bs) = (if is_waiting b.status then b ∷ queue_of bs else queue_of bs)
+queue_of bookings = filter (λ b. is_waiting b.status) bookings
 
 -- the first booking that passes the test waits
 abbrev pub first_waits : (Booking → Bool) → List Booking → Bool

@@ -8,7 +8,6 @@ ghost use Rattle.seat_bookings.specs.Books.{book_at, has_spare, has_spare_in, qu
 
 use crate::applying::{apply, confirm_all};
 use crate::live_bookings::LiveBookings;
-use crate::queue::Queue;
 use crate::waiting_list::WaitingList;
 use airline_base::{Memory, Place};
 use seat_journal::{Change, Command, Entry, Work};
@@ -19,7 +18,7 @@ use std::alloc::Global;
 #[derive(Drop)]
 pub struct FlightBook {
     bookings: LiveBookings,
-    queue: Queue,
+    queue: WaitingList,
 }
 
 impl FlightBook {
@@ -34,7 +33,7 @@ impl FlightBook {
             Effect::Holds => self.bookings.reserve(alloc),
             Effect::Waits => {
                 self.bookings.reserve(alloc)?;
-                self.queue.reserve(alloc)
+                self.queue.reserve()
             }
             Effect::Reduces => Ok(()),
             Effect::Nothing => Ok(()),
@@ -62,13 +61,13 @@ pub fn find_in(books: &[FlightBook], command: &Command, place: Place) -> Option<
     }
 }
 
-/// The waiting list of a flight; none where no booking waited yet.
+/// The waiting list of a flight; none where it has no book yet.
 pub fn queue_at(books: &[FlightBook], flight: u32) -> Option<&WaitingList>
     ensures some { IfSome result (λ queue. queue.now.bookings ≡ queue_at books.now flight) }
     ensures none { IfNone result (queue_at books.now flight ≡ []) }
 {
     match books.get(flight as usize) {
-        Some(book) => book.queue.list(),
+        Some(book) => Some(&book.queue),
         None => None,
     }
 }
@@ -171,7 +170,7 @@ fn open_book(alloc: Global, books: &mut Vec<FlightBook>) -> Result<(), Memory>
 {
     books.push(FlightBook {
         bookings: LiveBookings::new(alloc),
-        queue: Queue::new(),
+        queue: WaitingList::new(alloc),
     })?;
     Ok(())
 }

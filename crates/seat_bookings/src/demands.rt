@@ -59,7 +59,8 @@ pub fn join(demands: &mut Vec<Demand>, place: Place, class: Class, seats: u16)
 /// Takes `off` seats from a waiting booking, which keeps `left`.
 pub fn lessen(demands: &mut Vec<Demand>, place: Place, class: Class, off: u16, left: u16)
     requires { off ≤ demand_seats place class demands.old.items }
-    ensures { demands.new.items ≡ settled demands.old.items place class (least_with left (demand_smallest place class demands.old.items)) off }
+    ensures { demands.new.items ≡ settled demands.old.items place class
+        (least_with left (demand_smallest place class demands.old.items)) off }
 {
     let smallest = least(left, smallest_in(demands, place, class));
     settle(demands, place, class, Some(smallest), off);
@@ -68,7 +69,8 @@ pub fn lessen(demands: &mut Vec<Demand>, place: Place, class: Class, off: u16, l
 /// Removes a booking of so many seats, which has left the queue.
 pub fn leave(demands: &mut Vec<Demand>, queue: &[Booking], place: Place, class: Class, seats: u16)
     requires enough { seats ≤ demand_seats place class demands.old.items }
-    requires least { demand_smallest place class demands.old.items ≡ least_with seats (smallest_of place class queue.now) }
+    requires least { demand_smallest place class demands.old.items
+        ≡ least_with seats (smallest_of place class queue.now) }
     ensures { demands.new.items ≡ settled demands.old.items place class (smallest_of place class queue.now) seats }
 {
     let smallest = smallest_left(demands, queue, place, class, seats);
@@ -77,7 +79,8 @@ pub fn leave(demands: &mut Vec<Demand>, queue: &[Booking], place: Place, class: 
 
 fn open(demands: &mut Vec<Demand>, place: Place, class: Class, seats: u16)
     requires { vec_len demands.old < vec_capacity demands.old }
-    ensures { demands.new.items ≡ demands.old.items ++ record { place = place; class = class; smallest = seats; seats = seats } ∷ [] }
+    ensures { demands.new.items ≡ demands.old.items
+        ++ record { place = place; class = class; smallest = seats; seats = seats } ∷ [] }
 {
     let pushed = demands.push(Demand {
         place,

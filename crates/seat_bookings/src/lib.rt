@@ -7,7 +7,6 @@ mod bookings;
 mod books;
 mod demands;
 mod live_bookings;
-mod queue;
 mod rooms;
 mod waiting_list;
 

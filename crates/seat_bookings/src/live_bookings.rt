@@ -113,7 +113,8 @@ impl LiveBookings {
     /// Takes the seats of a command off its booking, which goes where none are left.
     pub fn take_off(&mut self, at: usize, command: &Command, place: Place)
         requires found { position (is_for command.now.locator place command.now.class) self.old.items ≡ Some at }
-        ensures { self.new.items ≡ reduced (is_for command.now.locator place command.now.class) command.now.seats self.old.items }
+        ensures { self.new.items ≡ reduced (is_for command.now.locator place command.now.class) command.now.seats
+            self.old.items }
     {
         lessen(&mut self.bookings, &mut self.index, at, command, place);
     }
@@ -136,7 +137,8 @@ fn lessen(
 )
     requires found { position (is_for command.now.locator place command.now.class) bookings.old.items ≡ Some at }
     requires listed { IsListed bookings.old.items index.old }
-    ensures reduced { bookings.new.items ≡ reduced (is_for command.now.locator place command.now.class) command.now.seats bookings.old.items }
+    ensures reduced { bookings.new.items
+        ≡ reduced (is_for command.now.locator place command.now.class) command.now.seats bookings.old.items }
     ensures listed { IsListed bookings.new.items index.new }
 {
     if bookings[at].seats > command.seats {

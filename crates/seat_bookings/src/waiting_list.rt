@@ -87,8 +87,10 @@ impl WaitingList {
     /// Takes the seats of a command off its booking, which has this number, where there is one.
     pub fn reduce(&mut self, number: u32, command: &Command, place: Place)
         requires ordered { IsOrdered self.old.bookings }
-        requires number { position (λ b. b.number == number) self.old.bookings ≡ position (is_for command.now.locator place command.now.class) self.old.bookings }
-        ensures { self.new.bookings ≡ reduced (is_for command.now.locator place command.now.class) command.now.seats self.old.bookings }
+        requires number { position (λ b. b.number == number) self.old.bookings
+            ≡ position (is_for command.now.locator place command.now.class) self.old.bookings }
+        ensures { self.new.bookings ≡ reduced (is_for command.now.locator place command.now.class) command.now.seats
+            self.old.bookings }
     {
         match find_number(&self.bookings, number) {
             Some(at) => reduce_at(&mut self.bookings, &mut self.demands, at, command, place),
@@ -132,7 +134,8 @@ fn add_to(
     command: &Command,
     place: Place,
 )
-    requires spare { has_spare (vec_len bookings.old) (vec_capacity bookings.old) (vec_len demands.old) (vec_capacity demands.old) ≡ true }
+    requires spare { has_spare (vec_len bookings.old) (vec_capacity bookings.old) (vec_len demands.old)
+        (vec_capacity demands.old) ≡ true }
     requires indexed { IsIndexed bookings.old.items demands.old.items }
     ensures added { bookings.new.items ≡ bookings.old.items ++ booking_of number command.now place Waiting ∷ [] }
     ensures indexed { IsIndexed bookings.new.items demands.new.items }
@@ -151,7 +154,8 @@ fn reduce_at(
 )
     requires found { position (is_for command.now.locator place command.now.class) bookings.old.items ≡ Some at }
     requires indexed { IsIndexed bookings.old.items demands.old.items }
-    ensures reduced { bookings.new.items ≡ reduced (is_for command.now.locator place command.now.class) command.now.seats bookings.old.items }
+    ensures reduced { bookings.new.items
+        ≡ reduced (is_for command.now.locator place command.now.class) command.now.seats bookings.old.items }
     ensures indexed { IsIndexed bookings.new.items demands.new.items }
 {
     let seats = bookings[at].seats;

@@ -51,4 +51,5 @@ pub record Says (outcome : Outcome) (answer : Answer) : Type 0 where
 -- the advice of a waiting booking that has n seats fewer, where those that are left fit this room
 abbrev pub rest_advised : ℕ → Booking → ℕ → List Advice
 rest_advised room b n =
-    (if nat_le b.seats n then [] else (if nat_le (b.seats - n) room then advice_of (record b { seats = b.seats - n }) ∷ [] else []))
+    (if nat_le b.seats n then [] else
+    (if nat_le (b.seats - n) room then advice_of (record b { seats = b.seats - n }) ∷ [] else []))

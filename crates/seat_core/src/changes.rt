@@ -23,7 +23,8 @@ pub fn answer_change(
     change: &Change,
 ) -> Answer
     requires flight { CountsFlight counts.old books.now change.now.flight }
-    ensures says { Says (set (state_of (limits_of counts.old) (book_at books.now change.now.flight)) change.now) result }
+    ensures says { Says (set (state_of (limits_of counts.old) (book_at books.now change.now.flight)) change.now)
+        result }
     ensures limits { limits_of counts.new ≡ limits_of counts.old }
     ensures seats { table_of counts.new ≡ table_of counts.old }
 {
@@ -45,10 +46,13 @@ fn advices_under(
     books: &[FlightBook],
     change: &Change,
 ) -> Result<Vec<Advice>, Memory>
-    requires may { can_set (limits_of counts.old) (table_of counts.old) change.now.flight change.now.leg change.now.class change.now.limit change.now.wait ≡ true }
+    requires may { can_set (limits_of counts.old) (table_of counts.old) change.now.flight change.now.leg
+        change.now.class change.now.limit change.now.wait ≡ true }
     ensures limits { limits_of counts.new ≡ limits_of counts.old }
     ensures seats { table_of counts.new ≡ table_of counts.old }
-    ensures told { IfOk result (λ told. told.items ≡ advices_by (changed_by (limits_of counts.old) change.now) (table_of counts.old) (queue_at books.now change.now.flight)) }
+    ensures told { IfOk result (λ told. told.items
+        ≡ advices_by (changed_by (limits_of counts.old) change.now) (table_of counts.old)
+        (queue_at books.now change.now.flight)) }
 {
     match queue_at(books, change.flight) {
         Some(queue) => advices_with(alloc, counts, queue, change),
@@ -63,10 +67,12 @@ fn advices_with(
     queue: &WaitingList,
     change: &Change,
 ) -> Result<Vec<Advice>, Memory>
-    requires may { can_set (limits_of counts.old) (table_of counts.old) change.now.flight change.now.leg change.now.class change.now.limit change.now.wait ≡ true }
+    requires may { can_set (limits_of counts.old) (table_of counts.old) change.now.flight change.now.leg
+        change.now.class change.now.limit change.now.wait ≡ true }
     ensures limits { limits_of counts.new ≡ limits_of counts.old }
     ensures seats { table_of counts.new ≡ table_of counts.old }
-    ensures told { IfOk result (λ told. told.items ≡ advices_by (changed_by (limits_of counts.old) change.now) (table_of counts.old) queue.now.bookings) }
+    ensures told { IfOk result (λ told. told.items
+        ≡ advices_by (changed_by (limits_of counts.old) change.now) (table_of counts.old) queue.now.bookings) }
 {
     counts.limits_are_kept();
     let (flight, leg, class) = (change.flight, change.leg, change.class);

@@ -33,7 +33,9 @@ pub fn advices_after(
 ) -> Result<Vec<Advice>, Memory>
     ensures limits { limits_of counts.new ≡ limits_of counts.old }
     ensures seats { table_of counts.new ≡ table_of counts.old }
-    ensures told { IfOk result (λ told. told.items ≡ advices_by (limits_of counts.old) (given_back (limits_of counts.old) (table_of counts.old) place class seats) queue.now.bookings) }
+    ensures told { IfOk result (λ told. told.items
+        ≡ advices_by (limits_of counts.old) (given_back (limits_of counts.old) (table_of counts.old) place class seats)
+        queue.now.bookings) }
 {
     counts.limits_are_kept();
     if !counts.holds(place, class, seats) {
@@ -53,7 +55,8 @@ pub fn advices_of(
 ) -> Result<Vec<Advice>, Memory>
     ensures limits { limits_of counts.new ≡ limits_of counts.old }
     ensures seats { table_of counts.new ≡ table_of counts.old }
-    ensures told { IfOk result (λ told. told.items ≡ advices_by (limits_of counts.old) (table_of counts.old) queue.now.bookings) }
+    ensures told { IfOk result (λ told. told.items
+        ≡ advices_by (limits_of counts.old) (table_of counts.old) queue.now.bookings) }
 {
     let mut advices = Vec::new(alloc);
     let confirmed = confirm_each(counts, queue, &mut advices);
@@ -73,7 +76,8 @@ fn confirm_each(
 ) -> Result<(), Memory>
     requires none { advices.old.items ≡ [] }
     ensures limits { limits_of counts.new ≡ limits_of counts.old }
-    ensures advices { OnOk result (advices.new.items ≡ advices_by (limits_of counts.old) (table_of counts.old) queue.now.bookings) }
+    ensures advices { OnOk result (advices.new.items
+        ≡ advices_by (limits_of counts.old) (table_of counts.old) queue.now.bookings) }
     ensures seats { taken_back (limits_of counts.old) (table_of counts.new) advices.new.items ≡ table_of counts.old }
 {
     let mut known = None;
@@ -96,9 +100,13 @@ fn consider(
 ) -> Result<Option<Known>, Memory>
     requires known { IfSome known (λ k. k.room ≡ room (limits_of counts.old) (table_of counts.old) k.place k.class) }
     ensures limits { limits_of counts.new ≡ limits_of counts.old }
-    ensures advices { OnOk result (advices.new.items ≡ advices.old.items ++ told_of (limits_of counts.old) (table_of counts.old) booking.now) }
-    ensures seats { OnOk result (table_of counts.new ≡ shown_advices (limits_of counts.old) (table_of counts.old) (told_of (limits_of counts.old) (table_of counts.old) booking.now)) }
-    ensures known { IfOk result (λ known. IfSome known (λ k. k.room ≡ room (limits_of counts.new) (table_of counts.new) k.place k.class)) }
+    ensures advices { OnOk result (advices.new.items ≡ advices.old.items
+        ++ told_of (limits_of counts.old) (table_of counts.old) booking.now) }
+    ensures seats { OnOk result (table_of counts.new
+        ≡ shown_advices (limits_of counts.old) (table_of counts.old)
+        (told_of (limits_of counts.old) (table_of counts.old) booking.now)) }
+    ensures known { IfOk result (λ known. IfSome known
+        (λ k. k.room ≡ room (limits_of counts.new) (table_of counts.new) k.place k.class)) }
     ensures same { OnErr result (advices.new.items ≡ advices.old.items × table_of counts.new ≡ table_of counts.old) }
 {
     if !booking.is_waiting() {
@@ -152,7 +160,9 @@ pub fn advices_of_rest(
     booking: &Booking,
     seats: u16,
 ) -> Result<Vec<Advice>, Memory>
-    ensures { IfOk result (λ told. told.items ≡ rest_advised (room (limits_of counts.now) (table_of counts.now) booking.now.place booking.now.class) booking.now seats) }
+    ensures { IfOk result (λ told. told.items
+        ≡ rest_advised (room (limits_of counts.now) (table_of counts.now) booking.now.place booking.now.class)
+        booking.now seats) }
 {
     let mut told = Vec::new(alloc);
     if booking.seats <= seats {

@@ -60,7 +60,8 @@ fn answer_command(
     requires flight { IfSome command.now.place (λ p. CountsFlight counts.old books.now p.flight) }
     requires order { IfSome command.now.place (λ p. p.from ≤ p.to) }
     requires some { 1 ≤ command.now.seats }
-    ensures says { Says (answer (state_of (limits_of counts.old) (book_for books.now command.now.place)) number (Seats command.now)) result }
+    ensures says { Says (answer (state_of (limits_of counts.old) (book_for books.now command.now.place)) number
+        (Seats command.now)) result }
     ensures limits { limits_of counts.new ≡ limits_of counts.old }
     ensures seats { table_of counts.new ≡ table_of counts.old }
 {
@@ -96,7 +97,8 @@ fn book_seats(
     wish: Wish,
 ) -> Answer
     requires flight { CountsFlight counts.now books.now place.flight }
-    ensures { Says (want wish (state_of (limits_of counts.now) (book_at books.now place.flight)) number command.now place None) result }
+    ensures { Says (want wish (state_of (limits_of counts.now) (book_at books.now place.flight)) number command.now
+        place None) result }
 {
     let fits = command.seats <= counts.room(place, command.class);
     match wish {
@@ -135,7 +137,9 @@ fn book_seats(
 fn may_list(counts: &Counts, books: &[FlightBook], command: &Command, place: Place) -> bool
     requires few { length (book_at books.now place.flight) ≤ 999999 }
     requires queue { queue_at books.now place.flight ≡ queue_of (book_at books.now place.flight) }
-    ensures { result ≡ (is_listed (limits_of counts.now) place command.now.class && may_wait (limits_of counts.now) (waiting (book_at books.now place.flight)) place command.now.class command.now.seats) }
+    ensures { result ≡ (is_listed (limits_of counts.now) place command.now.class
+        && may_wait (limits_of counts.now) (waiting (book_at books.now place.flight)) place command.now.class
+        command.now.seats) }
 {
     if !is_listed_at(counts, place, command.class) {
         return false;
@@ -144,11 +148,12 @@ fn may_list(counts: &Counts, books: &[FlightBook], command: &Command, place: Pla
 }
 
 /// Whether the seats of a command may wait on its flight's waiting list.
-#[tactic(auto, using(crate::proofs::Step::Reply::may_wait_is, seat_bookings::proofs::Waitlists::Queue::queue_few))]
+#[tactic(auto, using(crate::proofs::Step::Reply::may_wait_is, seat_rules::proofs::Filters::few_pass))]
 fn may_queue(counts: &Counts, books: &[FlightBook], command: &Command, place: Place) -> bool
     requires few { length (book_at books.now place.flight) ≤ 999999 }
     requires queue { queue_at books.now place.flight ≡ queue_of (book_at books.now place.flight) }
-    ensures { result ≡ may_wait (limits_of counts.now) (waiting (book_at books.now place.flight)) place command.now.class command.now.seats }
+    ensures { result ≡ may_wait (limits_of counts.now) (waiting (book_at books.now place.flight)) place
+        command.now.class command.now.seats }
 {
     let (class, seats) = (command.class, command.seats);
     match queue_at(books, place.flight) {
@@ -165,7 +170,8 @@ fn advices_of_queued(
     place: Place,
     fits: bool,
 ) -> Result<Vec<Advice>, Memory>
-    ensures { IfOk result (λ told. told.items ≡ (if fits then advice_of (booking_of number command.now place Waiting) ∷ [] else [])) }
+    ensures { IfOk result (λ told. told.items
+        ≡ (if fits then advice_of (booking_of number command.now place Waiting) ∷ [] else [])) }
 {
     let mut told = Vec::new(alloc);
     if fits {
@@ -189,10 +195,12 @@ fn cancel_seats(
     place: Place,
 ) -> Answer
     requires flight { CountsFlight counts.old books.now place.flight }
-    requires found { position (is_for command.now.locator place command.now.class) (book_at books.now place.flight) ≡ Some at }
+    requires found { position (is_for command.now.locator place command.now.class) (book_at books.now place.flight)
+        ≡ Some at }
     requires order { place.from ≤ place.to }
     requires some { 1 ≤ command.now.seats }
-    ensures says { Says (cancel (state_of (limits_of counts.old) (book_at books.now place.flight)) command.now place (slice_get (book_at books.now place.flight) at)) result }
+    ensures says { Says (cancel (state_of (limits_of counts.old) (book_at books.now place.flight)) command.now place
+        (slice_get (book_at books.now place.flight) at)) result }
     ensures limits { limits_of counts.new ≡ limits_of counts.old }
     ensures seats { table_of counts.new ≡ table_of counts.old }
 {
@@ -219,11 +227,15 @@ fn advices_without(
     place: Place,
 ) -> Result<Vec<Advice>, Memory>
     requires flight { CountsFlight counts.old books.now place.flight }
-    requires found { find (is_for command.now.locator place command.now.class) (book_at books.now place.flight) ≡ Some booking.now }
+    requires found { find (is_for command.now.locator place command.now.class) (book_at books.now place.flight)
+        ≡ Some booking.now }
     requires order { place.from ≤ place.to }
     requires some { 1 ≤ command.now.seats }
     requires enough { command.now.seats ≤ booking.now.seats }
-    ensures told { IfOk result (λ told. told.items ≡ (pass (limits_of counts.old) [] [] (reduced (is_for command.now.locator place command.now.class) command.now.seats (book_at books.now place.flight))).advices) }
+    ensures told { IfOk result (λ told. told.items
+        ≡ (pass (limits_of counts.old) [] []
+        (reduced (is_for command.now.locator place command.now.class) command.now.seats
+        (book_at books.now place.flight))).advices) }
     ensures limits { limits_of counts.new ≡ limits_of counts.old }
     ensures seats { table_of counts.new ≡ table_of counts.old }
 {

@@ -16,9 +16,11 @@ shown log = []
 abbrev pub moved : List Entry → List Entry → ℕ → Type 0
 moved xs ys n = Unit {0}
 
-grows_goes : (log v es : List Entry) (ask : Entry) (old new : ℕ) → length v ≡ old → new ≡ old + length es → IsPrefix v log
+grows_goes : (log v es : List Entry) (ask : Entry) (old new : ℕ) → length v ≡ old → new ≡ old + length es
+    → IsPrefix v log
     → (b : Bool) → (length log == old) ≡ b
-    → Goes IsCounted shown moved 0 (v, (no_nib, None)) (λ n. either (n == old) new n) (Adds es (step 0 old new ask) (v, (no_nib, None))) ((length log, true) ∷ (0, true) ∷ []) log
+    → Goes IsCounted shown moved 0 (v, (no_nib, None)) (λ n. either (n == old) new n)
+    (Adds es (step 0 old new ask) (v, (no_nib, None))) ((length log, true) ∷ (0, true) ∷ []) log
 grows_goes log v es ask old new len more pre true is =
     let here : length log ≡ old = grind (arith, nat_tests) in
     let same : v ≡ log = begins_whole v log (begins_of v log pre) (omega arith) in
@@ -44,7 +46,8 @@ grows_goes log v es ask old new len more pre false is =
     )
 
 pub grows_moves : (v es : List Entry) (ask : Entry) (old new : ℕ) → length v ≡ old → new ≡ old + length es
-    → Moves IsCounted shown moved 0 (v, (no_nib, None)) (λ n. either (n == old) new n) (Adds es (step 0 old new ask) (v, (no_nib, None)))
+    → Moves IsCounted shown moved 0 (v, (no_nib, None)) (λ n. either (n == old) new n)
+    (Adds es (step 0 old new ask) (v, (no_nib, None)))
 grows_moves v es ask old new len more cs log kept pre away =
     let P : List Cell → Type 0 = λ c. (0 < length c) × ((cell c 0).1 ≡ true) × Goes IsCounted shown moved 0 (v, (no_nib, None)) (λ n. either (n == old) new n) (Adds es (step 0 old new ask) (v, (no_nib, None))) c log in
     subst P (sym kept.words) (omega arith, refl, grows_goes log v es ask old new len more pre (length log == old) refl)

@@ -31,12 +31,14 @@ off e = true≢false (sym e)
 right_nobody : (grid : Ladders) (x : Table) → KnowsRight grid x nobody
 right_nobody grid x e = absurd (off e)
 
-right_set : (grid : Ladders) (x : Table) (views : List View) (seat : ℕ) (w : View) → ((j : ℕ) (u : View) → get_elem? views j ≡ some u → KnowsRight grid x u) → KnowsRight grid x w
+right_set : (grid : Ladders) (x : Table) (views : List View) (seat : ℕ) (w : View)
+    → ((j : ℕ) (u : View) → get_elem? views j ≡ some u → KnowsRight grid x u) → KnowsRight grid x w
     → (j : ℕ) (u : View) → get_elem? (set views seat w) j ≡ some u → KnowsRight grid x u
 right_set grid x views seat w others mine j u e =
     ⊎_elim (λ (t : (j ≡ seat) × (w ≡ u)). subst (KnowsRight grid x) t.1 mine) (λ (t : (j ≢ seat) × (get_elem? views j ≡ some u)). others j u t.1) (at_set views seat j w u e)
 
-right_snoc : (grid : Ladders) (x : Table) (views : List View) (w : View) → ((j : ℕ) (u : View) → get_elem? views j ≡ some u → KnowsRight grid x u) → KnowsRight grid x w
+right_snoc : (grid : Ladders) (x : Table) (views : List View) (w : View)
+    → ((j : ℕ) (u : View) → get_elem? views j ≡ some u → KnowsRight grid x u) → KnowsRight grid x w
     → (j : ℕ) (u : View) → get_elem? (views ++ w ∷ []) j ≡ some u → KnowsRight grid x u
 right_snoc grid x views w others mine j u e =
     ⊎_elim (λ was. others j u was) (λ (same : w ≡ u). subst (KnowsRight grid x) same mine) (at_snoc views w u j e)
@@ -87,13 +89,15 @@ merges seat v other w x views h at apart there =
 -- ---- tables and histories
 
 -- the limits and the seats that a history leaves, entry after entry
-left_next : (grid : Ladders) (past : List Entry) (e : Entry) → IsLegal grid (past ++ e ∷ []) → shown (left_by grid past) e ≡ left_by grid (past ++ e ∷ [])
+left_next : (grid : Ladders) (past : List Entry) (e : Entry) → IsLegal grid (past ++ e ∷ [])
+    → shown (left_by grid past) e ≡ left_by grid (past ++ e ∷ [])
 left_next grid past e legal =
     let before = legal_prefix grid past (past ++ e ∷ []) (begins_longer past (e ∷ [])) legal in
     ap (λ (s : Standing). shown s e) (sym (shown_is_held grid past before)) ∙ sym (fold_push shown (unsold grid) past e) ∙ shown_is_held grid (past ++ e ∷ []) legal
 
 -- the seats stand at the classes of their legs
-left_on : (grid : Ladders) (journal : List Entry) → IsOnLadders (left_by grid journal).limits (left_by grid journal).seats
+left_on : (grid : Ladders) (journal : List Entry)
+    → IsOnLadders (left_by grid journal).limits (left_by grid journal).seats
 left_on grid journal = record { none = lacks_replay grid journal }
 
 -- the room in the counters that a history leaves
@@ -108,7 +112,9 @@ next_if n lt = grind (arith, nat_tests)
 abbrev pub counted : Ladders → Table → List Entry → Table
 counted grid t log = record { counts = counters_of (left_by grid log); lines = length log; seen = t.seen }
 
-table_is : (c d : Counted) (n m : ℕ) (t : Table) → c ≡ d → n ≡ m → let x : Table = record { counts = c; lines = n; seen = t.seen } in let y : Table = record { counts = d; lines = m; seen = t.seen } in x ≡ y
+table_is : (c d : Counted) (n m : ℕ) (t : Table) → c ≡ d → n ≡ m
+    → let x : Table = record { counts = c; lines = n; seen = t.seen } in let y : Table = record
+    { counts = d; lines = m; seen = t.seen } in x ≡ y
 table_is c d n m t p q i = record { counts = p i; lines = q i; seen = t.seen }
 
 -- a right table is the one that its history leaves
@@ -116,11 +122,13 @@ counted_is : (grid : Ladders) (x : Table) → Leaves grid x → tidied x ≡ cou
 counted_is grid x h = table_is _ _ _ _ x (ap counters_of h.standing) h.lines
 
 -- one entry more, where it is the next one
-counts_next : (grid : Ladders) (log : List Entry) (e : Entry) → IsLegal grid (log ++ e ∷ []) → counts_after (counters_of (left_by grid log)) e ≡ counters_of (left_by grid (log ++ e ∷ []))
+counts_next : (grid : Ladders) (log : List Entry) (e : Entry) → IsLegal grid (log ++ e ∷ [])
+    → counts_after (counters_of (left_by grid log)) e ≡ counters_of (left_by grid (log ++ e ∷ []))
 counts_next grid log e legal =
     ap (λ (s : Standing). counters_of (shown s e)) (written (left_by grid log) (left_on grid log)) ∙ ap counters_of (left_next grid log e legal)
 
-show_next : (grid : Ladders) (t : Table) (log : List Entry) (e : Entry) → IsLegal grid (log ++ e ∷ []) → length log + 1 < 2 ^ 32
+show_next : (grid : Ladders) (t : Table) (log : List Entry) (e : Entry) → IsLegal grid (log ++ e ∷ [])
+    → length log + 1 < 2 ^ 32
     → apply (counted grid t log) (Line e) ≡ counted grid t (log ++ e ∷ [])
 show_next grid t log e legal short =
     let lines : one_more (length log) ≡ length (log ++ e ∷ []) = next_if (length log) short ∙ sym (omega (arith, length-append log (e ∷ []))) in
@@ -174,8 +182,10 @@ map-snoc [] e = refl
 map-snoc (x ∷ es) e = ap (λ l. Line x ∷ l) (map-snoc es e)
 
 -- an appended entry keeps the publisher ready
-pub ready_append : (grid : Ladders) (shown : Table) (log : List Entry) (ops now : List Op) (lines more : ℕ) (e : Entry) → Ready grid shown log ops lines more → now ≡ ops ++ Line e ∷ []
-    → IsLegal grid ((log ++ entries_of ops) ++ e ∷ []) → lines + more + 1 < 2 ^ 32 → Ready grid shown log now lines (more + 1)
+pub ready_append : (grid : Ladders) (shown : Table) (log : List Entry) (ops now : List Op) (lines more : ℕ) (e : Entry)
+    → Ready grid shown log ops lines more → now ≡ ops ++ Line e ∷ []
+    → IsLegal grid ((log ++ entries_of ops) ++ e ∷ []) → lines + more + 1 < 2 ^ 32
+    → Ready grid shown log now lines (more + 1)
 ready_append grid shown log ops now lines more e r is legal short =
     let es : entries_of now ≡ entries_of ops ++ e ∷ [] = ap entries_of is ∙ entries-snoc ops e in
     record {
@@ -189,7 +199,8 @@ ready_append grid shown log ops now lines more e r is legal short =
     }
 
 -- what is shown once the pending entries and the mark are applied
-pub applied_all : (grid : Ladders) (shown : Table) (log : List Entry) (ops : List Op) (lines more : ℕ) → Ready grid shown log ops lines more → (m : Op)
+pub applied_all : (grid : Ladders) (shown : Table) (log : List Entry) (ops : List Op) (lines more : ℕ)
+    → Ready grid shown log ops lines more → (m : Op)
     → fold apply (tidied shown) (ops ++ m ∷ []) ≡ apply (counted grid shown (log ++ entries_of ops)) m
 applied_all grid shown log ops lines more r m =
     let es = entries_of ops in
@@ -199,7 +210,8 @@ applied_all grid shown log ops lines more r m =
     ∙ ap (λ t. apply t m) (ap (λ l. fold apply (tidied shown) l) r.plain ∙ ap (λ t. fold apply t (map Line es)) is ∙ shows grid shown log es r.legal n)
 
 -- the table that is shown next: these counters, this count, and a history of all entries
-leaves_marked : (grid : Ladders) (all : List Entry) (y : Table) → IsLegal grid all → y.counts ≡ counters_of (left_by grid all) → y.lines ≡ length all → y.seen.log ≡ all → Leaves grid y
+leaves_marked : (grid : Ladders) (all : List Entry) (y : Table) → IsLegal grid all
+    → y.counts ≡ counters_of (left_by grid all) → y.lines ≡ length all → y.seen.log ≡ all → Leaves grid y
 leaves_marked grid all y legal counts lines log = record {
   legal = subst (IsLegal grid) (sym log) legal;
   standing = ap standing_of counts ∙ written (left_by grid all) (left_on grid all) ∙ ap (left_by grid) (sym log);
@@ -207,7 +219,8 @@ leaves_marked grid all y legal counts lines log = record {
 }
 
 -- it follows the one that was shown, for a side that knows the grid
-pub follows_marked : (grid : Ladders) (shown : Table) (log : List Entry) (ops : List Op) (lines more : ℕ) → Ready grid shown log ops lines more
+pub follows_marked : (grid : Ladders) (shown : Table) (log : List Entry) (ops : List Op) (lines more : ℕ)
+    → Ready grid shown log ops lines more
     → (v u : View) → v.knows ≡ true → v.grid ≡ grid → u.seen.log ≡ log ++ entries_of ops → u.seen.book ≡ shown.seen.book
     → (x y : Table) → x ≡ shown → y ≡ apply (counted grid shown (log ++ entries_of ops)) (Mark u.seen) → Follows v x y
 follows_marked grid shown log ops lines more r v u knows same all book x y was is =
@@ -219,8 +232,10 @@ follows_marked grid shown log ops lines more r v u knows same all book x y was i
     }
 
 -- the publisher is ready again once all that was pending is shown
-pub ready_after : (grid : Ladders) (shown : Table) (log : List Entry) (ops : List Op) (n k : ℕ) → Ready grid shown log ops n k
-    → (y : Table) (all : List Entry) (now : List Op) (grid' : Ladders) → all ≡ log ++ entries_of ops → Leaves grid' y → y.seen.log ≡ all → now ≡ [] → Ready grid' y all now (n + k) 0
+pub ready_after : (grid : Ladders) (shown : Table) (log : List Entry) (ops : List Op) (n k : ℕ)
+    → Ready grid shown log ops n k
+    → (y : Table) (all : List Entry) (now : List Op) (grid' : Ladders) → all ≡ log ++ entries_of ops → Leaves grid' y
+    → y.seen.log ≡ all → now ≡ [] → Ready grid' y all now (n + k) 0
 ready_after grid shown log ops n k r y all now grid' is leaves seen none =
     subst (λ (l : List Op). Ready grid' y all l (n + k) 0) (sym none) (record {
       leaves = leaves;
@@ -232,7 +247,8 @@ ready_after grid shown log ops n k r y all now grid' is leaves seen none =
       short = omega (arith, r.short);
     })
 
-pub ready_open : (shown : Table) (grid : Ladders) (book : Book) (log : List Entry) (ops : List Op) → IsEmptyTable shown grid book → log ≡ [] → ops ≡ [] → Ready grid shown log ops 0 0
+pub ready_open : (shown : Table) (grid : Ladders) (book : Book) (log : List Entry) (ops : List Op)
+    → IsEmptyTable shown grid book → log ≡ [] → ops ≡ [] → Ready grid shown log ops 0 0
 ready_open shown grid book log ops h none plain =
     subst (λ (t : List Entry × List Op). Ready grid shown t.0 t.1 0 0) (λ i. (sym none i, sym plain i)) (record {
       leaves = h.leaves;
@@ -250,7 +266,9 @@ ready_open shown grid book log ops h none plain =
 left_none : (grid : Ladders) (log : List Entry) → log ≡ [] → left_by grid log ≡ unsold grid
 left_none grid log none = ap (left_by grid) none
 
-pub empty_leaves : (x : Table) (grid : Ladders) (book : Book) → limits_of x.counts ≡ grid → ((f l k : ℕ) → table_of x.counts f l k ≡ 0) → x.lines ≡ 0 → x.seen.log ≡ [] → x.seen.book ≡ book → IsEmptyTable x grid book
+pub empty_leaves : (x : Table) (grid : Ladders) (book : Book) → limits_of x.counts ≡ grid
+    → ((f l k : ℕ) → table_of x.counts f l k ≡ 0) → x.lines ≡ 0 → x.seen.log ≡ [] → x.seen.book ≡ book
+    → IsEmptyTable x grid book
 empty_leaves x grid book limits seats lines none book_is = record {
   limits = limits;
   book_is = book_is;
@@ -263,7 +281,8 @@ empty_leaves x grid book limits seats lines none book_is = record {
 }
 
 -- two of them with the same history have the same form
-pub empty_alike : (x y : Table) (grid : Ladders) (book : Book) → IsEmptyTable x grid book → IsEmptyTable y grid book → x.seen ≡ y.seen → tidied x ≡ tidied y
+pub empty_alike : (x y : Table) (grid : Ladders) (book : Book) → IsEmptyTable x grid book → IsEmptyTable y grid book
+    → x.seen ≡ y.seen → tidied x ≡ tidied y
 empty_alike x y grid book h k seen =
     let log : x.seen.log ≡ y.seen.log = h.none ∙ sym k.none in
     let standing : standing_of x.counts ≡ standing_of y.counts = h.leaves.standing ∙ ap (left_by grid) log ∙ sym k.leaves.standing in
@@ -271,7 +290,8 @@ empty_alike x y grid book h k seen =
     λ i. record { counts = counters_of (standing i); lines = lines i; seen = seen i }
 
 -- over whatever grid it is right, marks of its own history leave it so
-marked_leaves : (grid : Ladders) (x : Table) (u : View) → Leaves grid x → x.seen.log ≡ u.seen.log → let y : Table = record { counts = (tidied x).counts; lines = x.lines; seen = u.seen } in Leaves grid y
+marked_leaves : (grid : Ladders) (x : Table) (u : View) → Leaves grid x → x.seen.log ≡ u.seen.log
+    → let y : Table = record { counts = (tidied x).counts; lines = x.lines; seen = u.seen } in Leaves grid y
 marked_leaves grid x u h log =
     let was = leaves_of_tidied grid x h in
     record {
@@ -281,11 +301,14 @@ marked_leaves grid x u h log =
     }
 
 -- what two marks leave
-twice_marked : (x : Table) (u : View) (old ops : List Op) → old ≡ [] → ops ≡ (old ++ Mark u.seen ∷ []) ++ Mark u.seen ∷ []
-    → let y : Table = record { counts = (tidied x).counts; lines = x.lines; seen = u.seen } in fold apply (tidied x) ops ≡ y
+twice_marked : (x : Table) (u : View) (old ops : List Op) → old ≡ []
+    → ops ≡ (old ++ Mark u.seen ∷ []) ++ Mark u.seen ∷ []
+    → let y : Table =
+    record { counts = (tidied x).counts; lines = x.lines; seen = u.seen } in fold apply (tidied x) ops ≡ y
 twice_marked x u old ops plain is = ap (fold apply (tidied x)) (is ∙ ap (λ (l : List Op). (l ++ Mark u.seen ∷ []) ++ Mark u.seen ∷ []) plain)
 
-pub warmed : (x : Table) (grid : Ladders) (book : Book) (u : View) (old ops : List Op) → IsEmptyTable x grid book → u.seen.book ≡ book → u.seen.log ≡ [] → old ≡ [] → ops ≡ (old ++ Mark u.seen ∷ []) ++ Mark u.seen ∷ []
+pub warmed : (x : Table) (grid : Ladders) (book : Book) (u : View) (old ops : List Op) → IsEmptyTable x grid book
+    → u.seen.book ≡ book → u.seen.log ≡ [] → old ≡ [] → ops ≡ (old ++ Mark u.seen ∷ []) ++ Mark u.seen ∷ []
     → IsEmptyTable (fold apply (tidied x) ops) grid book
 warmed x grid book u old ops h book_is none plain is =
     subst (λ (t : Table). IsEmptyTable t grid book) (sym (twice_marked x u old ops plain is)) (record {
@@ -295,7 +318,9 @@ warmed x grid book u old ops h book_is none plain is =
       leaves = marked_leaves grid x u h.leaves (h.none ∙ sym none);
     })
 
-pub follows_warmed : (x : Table) (grid : Ladders) (book : Book) (v u : View) (old ops : List Op) → IsEmptyTable x grid book → u.seen.book ≡ book → u.seen.log ≡ [] → old ≡ [] → ops ≡ (old ++ Mark u.seen ∷ []) ++ Mark u.seen ∷ []
+pub follows_warmed : (x : Table) (grid : Ladders) (book : Book) (v u : View) (old ops : List Op)
+    → IsEmptyTable x grid book → u.seen.book ≡ book → u.seen.log ≡ [] → old ≡ []
+    → ops ≡ (old ++ Mark u.seen ∷ []) ++ Mark u.seen ∷ []
     → Follows v x (fold apply (tidied x) ops)
 follows_warmed x grid book v u old ops h book_is none plain is =
     subst (Follows v x) (sym (twice_marked x u old ops plain is)) (record {
@@ -303,7 +328,8 @@ follows_warmed x grid book v u old ops h book_is none plain is =
       book = book_is ∙ sym h.book_is;
     })
 
-pub empty_as : (x y : Table) (grid : Ladders) (book : Book) → tidied x ≡ y → IsEmptyTable y grid book → IsEmptyTable x grid book
+pub empty_as : (x y : Table) (grid : Ladders) (book : Book) → tidied x ≡ y → IsEmptyTable y grid book
+    → IsEmptyTable x grid book
 empty_as x y grid book is h = record {
   limits = sym (ap (λ (s : Standing). s.limits) (own x.counts)) ∙ ap (λ (t : Table). limits_of t.counts) is ∙ h.limits;
   book_is = ap (λ (t : Table). t.seen.book) is ∙ h.book_is;

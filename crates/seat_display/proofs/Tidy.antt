@@ -9,24 +9,13 @@ use Rattle.seat_rules.specs.Showing.{Standing, shown, standing_of}
 use Rattle.seat_display.specs.declared.table.Table.{Table}
 use Rattle.seat_display.specs.declared.table.Op.TheVariants.{Line}
 use Rattle.seat_display.specs.Shown.{flight_seats, all_seats, counters_of, counts_after, tidied, apply, ShowsEntry}
+use Rattle.seat_nesting.proofs.LimitChanges.{ladder_seen}
+use Rattle.seat_nesting.proofs.LegCounting.{count_lacking}
+use Rattle.seat_rules.proofs.History.Faults.{nat_same}
 
 -- the limits of one leg
 abbrev steps_in : LegSeats → Steps
 steps_in l = l.steps
-
-limits_at : (counts : Counted) (flight leg : ℕ) → ladder_at (limits_of counts) flight leg ≡ (leg_at counts flight leg).steps
-limits_at counts flight leg =
-    ap (λ (legs : List Steps). steps_at legs leg) (legs_at counts flight) ∙ steps_of_leg (legs_in counts flight) leg
-  where
-    steps_of_leg : (legs : List LegSeats) (i : ℕ) → steps_at (map steps_in legs) i ≡ (leg_in legs i).steps
-    steps_of_leg [] i = refl
-    steps_of_leg (l ∷ legs) zero = refl
-    steps_of_leg (l ∷ legs) (suc i) = steps_of_leg legs i
-
-    legs_at : (flights : Counted) (i : ℕ) → legs_of (limits_of flights) i ≡ map steps_in (legs_in flights i)
-    legs_at [] i = refl
-    legs_at (legs ∷ flights) zero = refl
-    legs_at (legs ∷ flights) (suc i) = legs_at flights i
 
 -- no seats stand at a class that its leg lacks
 pub record IsOnLadders (grid : Ladders) (seats : HeldSeats) : Type 0 where
@@ -34,7 +23,8 @@ pub record IsOnLadders (grid : Ladders) (seats : HeldSeats) : Type 0 where
 
 -- ---- the limits of what is written
 
-leg_limits : (legs : List Steps) (seats : ℕ → ByClass) → map (λ (l : LegSeats). l.steps) (flight_seats legs seats) ≡ legs
+leg_limits : (legs : List Steps) (seats : ℕ → ByClass)
+    → map (λ (l : LegSeats). l.steps) (flight_seats legs seats) ≡ legs
 leg_limits [] seats = refl
 leg_limits (steps ∷ legs) seats = ap (λ (l : List Steps). steps ∷ l) (leg_limits legs (λ leg. seats (suc leg)))
 
@@ -45,40 +35,45 @@ limits_written (legs ∷ flights) seats =
 
 -- ---- its seats
 
-other_class : (a b : ℕ) → (a == b) ≡ true → a ≡ b
-other_class a b e = grind (arith, nat_tests)
-
-count_written : (steps : Steps) (seats : ByClass) (class : ℕ) → count_at steps (map (λ s. seats s.class) steps) class ≡ (if has_class steps class then seats class else 0)
+count_written : (steps : Steps) (seats : ByClass) (class : ℕ)
+    → count_at steps (map (λ s. seats s.class) steps) class ≡ (if has_class steps class then seats class else 0)
 count_written [] seats class = refl
 count_written (s ∷ lower) seats class = cases (class == s.class) refl (count_written lower seats class)
   where
-    cases : (b : Bool) → (class == s.class) ≡ b → count_at lower (map (λ t. seats t.class) lower) class ≡ (if has_class lower class then seats class else 0)
-        → cond b (seats s.class) (count_at lower (map (λ t. seats t.class) lower) class) ≡ (if b || has_class lower class then seats class else 0)
-    cases true e below = ap seats (sym (other_class class s.class e))
+    cases : (b : Bool) → (class == s.class) ≡ b
+        → count_at lower (map (λ t. seats t.class) lower) class ≡ (if has_class lower class then seats class else 0)
+        → cond b (seats s.class) (count_at lower (map (λ t. seats t.class) lower) class)
+        ≡ (if b || has_class lower class then seats class else 0)
+    cases true e below = ap seats (sym (nat_same class s.class e))
     cases false e below = below
 
-leg_written : (legs : List Steps) (seats : ℕ → ByClass) (leg class : ℕ) → (leg_in (flight_seats legs seats) leg).steps ≡ (leg_in (flight_seats legs seats) leg).steps
-    → held_on (leg_in (flight_seats legs seats) leg) class ≡ (if has_class (leg_in (flight_seats legs seats) leg).steps class then seats leg class else 0)
+leg_written : (legs : List Steps) (seats : ℕ → ByClass) (leg class : ℕ)
+    → (leg_in (flight_seats legs seats) leg).steps ≡ (leg_in (flight_seats legs seats) leg).steps
+    → held_on (leg_in (flight_seats legs seats) leg) class
+    ≡ (if has_class (leg_in (flight_seats legs seats) leg).steps class then seats leg class else 0)
 leg_written [] seats leg class same = refl
 leg_written (steps ∷ legs) seats zero class same = count_written steps (seats 0) class
 leg_written (steps ∷ legs) seats (suc leg) class same = leg_written legs (λ l. seats (suc l)) leg class refl
 
 flight_written : (grid : Ladders) (seats : HeldSeats) (flight leg class : ℕ)
-    → table_of (all_seats grid seats) flight leg class ≡ (if has_class (leg_at (all_seats grid seats) flight leg).steps class then seats flight leg class else 0)
+    → table_of (all_seats grid seats) flight leg class
+    ≡ (if has_class (leg_at (all_seats grid seats) flight leg).steps class then seats flight leg class else 0)
 flight_written [] seats flight leg class = refl
 flight_written (legs ∷ flights) seats zero leg class = leg_written legs (seats 0) leg class refl
 flight_written (legs ∷ flights) seats (suc flight) leg class = flight_written flights (λ f. seats (suc f)) flight leg class
 
-ladder_written : (grid : Ladders) (seats : HeldSeats) (flight leg : ℕ) → (leg_at (all_seats grid seats) flight leg).steps ≡ ladder_at grid flight leg
+ladder_written : (grid : Ladders) (seats : HeldSeats) (flight leg : ℕ)
+    → (leg_at (all_seats grid seats) flight leg).steps ≡ ladder_at grid flight leg
 ladder_written grid seats flight leg =
-    sym (limits_at (all_seats grid seats) flight leg) ∙ ap (λ (g : Ladders). ladder_at g flight leg) (limits_written grid seats)
+    sym (ladder_seen (all_seats grid seats) flight leg) ∙ ap (λ (g : Ladders). ladder_at g flight leg) (limits_written grid seats)
 
 if_on : (b : Bool) (n : ℕ) → (b ≡ false → n ≡ 0) → (if b then n else 0) ≡ n
 if_on true n h = refl
 if_on false n h = sym (h refl)
 
 -- seats that stand at the classes of their legs are those that were written
-seats_written : (grid : Ladders) (seats : HeldSeats) → IsOnLadders grid seats → (flight leg class : ℕ) → table_of (all_seats grid seats) flight leg class ≡ seats flight leg class
+seats_written : (grid : Ladders) (seats : HeldSeats) → IsOnLadders grid seats → (flight leg class : ℕ)
+    → table_of (all_seats grid seats) flight leg class ≡ seats flight leg class
 seats_written grid seats on flight leg class =
     flight_written grid seats flight leg class
     ∙ ap (λ (s : Steps). if has_class s class then seats flight leg class else 0) (ladder_written grid seats flight leg)
@@ -86,19 +81,10 @@ seats_written grid seats on flight leg class =
 
 -- ---- seats of counters stand at the classes of their legs
 
-count_lacking : (steps : Steps) (held : List ℕ) (class : ℕ) → has_class steps class ≡ false → count_at steps held class ≡ 0
-count_lacking [] held class h = refl
-count_lacking (s ∷ lower) [] class h = refl
-count_lacking (s ∷ lower) (n ∷ more) class h = cases (class == s.class) h (count_lacking lower more class)
-  where
-    cases : (b : Bool) → (b || has_class lower class) ≡ false → (has_class lower class ≡ false → count_at lower more class ≡ 0) → cond b n (count_at lower more class) ≡ 0
-    cases true e below = absurd cc
-    cases false e below = below e
-
 own_on_ladders : (counts : Counted) → IsOnLadders (limits_of counts) (table_of counts)
 own_on_ladders counts = record {
   none = λ flight leg class h. count_lacking (leg_at counts flight leg).steps (leg_at counts flight leg).held class
-      (ap (λ (s : Steps). has_class s class) (sym (limits_at counts flight leg)) ∙ h);
+      (ap (λ (s : Steps). has_class s class) (sym (ladder_seen counts flight leg)) ∙ h);
 }
 
 -- limits and seats that stand on them are those that were written

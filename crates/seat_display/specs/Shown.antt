@@ -103,7 +103,8 @@ abbrev pub nobody : View
 nobody = record {
   knows = false;
   grid = [];
-  seen = record { marker = record {}; book = record { number = 0; log_name = 0; cells_name = 0 }; names = []; log = [] };
+  seen =
+      record { marker = record {}; book = record { number = 0; log_name = 0; cells_name = 0 }; names = []; log = [] };
 }
 
 abbrev pub informed : View → View → View

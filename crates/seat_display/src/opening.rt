@@ -65,12 +65,16 @@ fn fill<R: Wait>(
     places: u8,
 ) -> Result<Vec<Viewer>, Memory>
     requires empty { seen.now.log ≡ [] }
-    requires shown { IsEmptyTable writer.old.desk.shown.value (limits_of writer.old.desk.shown.value.counts) seen.now.book }
+    requires shown { IsEmptyTable writer.old.desk.shown.value (limits_of writer.old.desk.shown.value.counts)
+        seen.now.book }
     requires plain { drop writer.old.behind writer.old.log.items ≡ [] }
-    ensures shown { OnOk result (IsEmptyTable writer.new.desk.shown.value (limits_of writer.old.desk.shown.value.counts) seen.now.book) }
+    ensures shown { OnOk result (IsEmptyTable writer.new.desk.shown.value (limits_of writer.old.desk.shown.value.counts)
+        seen.now.book) }
     ensures plain { OnOk result (drop writer.new.behind writer.new.log.items ≡ []) }
-    ensures knows { OnOk result (((view writer.new.desk.place).knows ≡ true) × ((view writer.new.desk.place).grid ≡ limits_of writer.old.desk.shown.value.counts)) }
-    ensures viewers { IfOk result (λ v. (vec_len v ≡ places) × All (λ w. w ≡ opened seen.now.book (limits_of writer.old.desk.shown.value.counts)) v.items) }
+    ensures knows { OnOk result (((view writer.new.desk.place).knows ≡ true)
+        × ((view writer.new.desk.place).grid ≡ limits_of writer.old.desk.shown.value.counts)) }
+    ensures viewers { IfOk result (λ v. (vec_len v ≡ places)
+        × All (λ w. w ≡ opened seen.now.book (limits_of writer.old.desk.shown.value.counts)) v.items) }
 {
     warm(rt, writer, seen)?;
     warm(rt, writer, seen)?;
@@ -80,11 +84,15 @@ fn fill<R: Wait>(
 // Marks twice what is shown already.
 fn warm<R: Wait>(rt: &R, writer: &mut TableWriter, seen: &Trace) -> Result<(), Memory>
     requires empty { seen.now.log ≡ [] }
-    requires shown { IsEmptyTable writer.old.desk.shown.value (limits_of writer.old.desk.shown.value.counts) seen.now.book }
+    requires shown { IsEmptyTable writer.old.desk.shown.value (limits_of writer.old.desk.shown.value.counts)
+        seen.now.book }
     requires plain { drop writer.old.behind writer.old.log.items ≡ [] }
-    ensures shown { OnOk result (IsEmptyTable writer.new.desk.shown.value (limits_of writer.old.desk.shown.value.counts) seen.now.book) }
+    ensures shown { OnOk result (IsEmptyTable writer.new.desk.shown.value (limits_of writer.old.desk.shown.value.counts)
+        seen.now.book) }
     ensures plain { OnOk result (drop writer.new.behind writer.new.log.items ≡ []) }
-    ensures knows { OnOk result (((view writer.new.desk.place).knows ≡ true) × ((view writer.new.desk.place).grid ≡ limits_of writer.old.desk.shown.value.counts) × ((view writer.new.desk.place).seen.book ≡ seen.now.book)) }
+    ensures knows { OnOk result (((view writer.new.desk.place).knows ≡ true)
+        × ((view writer.new.desk.place).grid ≡ limits_of writer.old.desk.shown.value.counts)
+        × ((view writer.new.desk.place).seen.book ≡ seen.now.book)) }
 {
     mark(writer, seen)?;
     mark(writer, seen)?;
@@ -94,7 +102,8 @@ fn warm<R: Wait>(rt: &R, writer: &mut TableWriter, seen: &Trace) -> Result<(), M
 
 fn mark(writer: &mut TableWriter, seen: &Trace) -> Result<(), Memory>
     ensures desk { writer.new.desk ≡ writer.old.desk }
-    ensures pending { OnOk result (drop writer.new.behind writer.new.log.items ≡ drop writer.old.behind writer.old.log.items ++ Mark seen.now ∷ []) }
+    ensures pending { OnOk result (drop writer.new.behind writer.new.log.items
+        ≡ drop writer.old.behind writer.old.log.items ++ Mark seen.now ∷ []) }
 {
     match writer.append(Op::Mark(seen.again())) {
         Ok(()) => Ok(()),
@@ -108,10 +117,14 @@ fn hand_out(
     seen: &Trace,
     places: u8,
 ) -> Result<Vec<Viewer>, Memory>
-    requires knows { ((view writer.old.desk.place).knows ≡ true) × ((view writer.old.desk.place).seen.book ≡ seen.now.book) }
+    requires knows { ((view writer.old.desk.place).knows ≡ true)
+        × ((view writer.old.desk.place).seen.book ≡ seen.now.book) }
     requires empty { seen.now.log ≡ [] }
-    ensures kept { (writer.new.desk.shown ≡ writer.old.desk.shown) × (drop writer.new.behind writer.new.log.items ≡ drop writer.old.behind writer.old.log.items) × (view writer.new.desk.place ≡ view writer.old.desk.place) }
-    ensures viewers { IfOk result (λ v. (vec_len v ≡ places) × All (λ w. w ≡ opened seen.now.book (view writer.old.desk.place).grid) v.items) }
+    ensures kept { (writer.new.desk.shown ≡ writer.old.desk.shown)
+        × (drop writer.new.behind writer.new.log.items ≡ drop writer.old.behind writer.old.log.items)
+        × (view writer.new.desk.place ≡ view writer.old.desk.place) }
+    ensures viewers { IfOk result (λ v. (vec_len v ≡ places)
+        × All (λ w. w ≡ opened seen.now.book (view writer.old.desk.place).grid) v.items) }
 {
     let mut viewers = Vec::new(alloc);
     for _place in 0..places {
@@ -122,9 +135,11 @@ fn hand_out(
 
 // A viewer at a place of its own.
 fn seat(writer: &mut TableWriter, seen: &Trace) -> Result<Viewer, Memory>
-    requires knows { ((view writer.old.desk.place).knows ≡ true) × ((view writer.old.desk.place).seen.book ≡ seen.now.book) }
+    requires knows { ((view writer.old.desk.place).knows ≡ true)
+        × ((view writer.old.desk.place).seen.book ≡ seen.now.book) }
     requires empty { seen.now.log ≡ [] }
-    ensures kept { (writer.new.desk.shown ≡ writer.old.desk.shown) × (writer.new.log ≡ writer.old.log) × (writer.new.behind ≡ writer.old.behind) × (view writer.new.desk.place ≡ view writer.old.desk.place) }
+    ensures kept { (writer.new.desk.shown ≡ writer.old.desk.shown) × (writer.new.log ≡ writer.old.log)
+        × (writer.new.behind ≡ writer.old.behind) × (view writer.new.desk.place ≡ view writer.old.desk.place) }
     ensures viewer { IfOk result (λ v. v ≡ opened seen.now.book (view writer.old.desk.place).grid) }
 {
     let mut reader = writer.factory().reader()?;

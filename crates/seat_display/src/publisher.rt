@@ -79,8 +79,10 @@ impl Publisher {
     pub fn append(&mut self, entry: Entry) -> Result<(), (Entry, Memory)>
         requires legal { IsLegal self.old.grid ((self.old.visible ++ self.old.pending) ++ entry ∷ []) }
         requires short { length self.old.visible + length self.old.pending < 1000000 }
-        ensures pending { MatchResult result (λ _. self.new.pending ≡ self.old.pending ++ entry ∷ []) (λ x. (x.0 ≡ entry) × (self.new.pending ≡ self.old.pending)) }
-        ensures same { (self.new.book ≡ self.old.book) × (self.new.grid ≡ self.old.grid) × (self.new.visible ≡ self.old.visible) }
+        ensures pending { MatchResult result (λ _. self.new.pending ≡ self.old.pending ++ entry ∷ [])
+            (λ x. (x.0 ≡ entry) × (self.new.pending ≡ self.old.pending)) }
+        ensures same { (self.new.book ≡ self.old.book) × (self.new.grid ≡ self.old.grid)
+            × (self.new.visible ≡ self.old.visible) }
     {
         match self.writer.append(Op::Line(entry)) {
             Ok(()) => {
@@ -123,7 +125,8 @@ impl Publisher {
         }
     }
 
-    /// No viewer has seen more than what is visible. It changes nothing.
+    /// No viewer has seen more than what is visible. It changes nothing. The loop ends at its first lap; it stays since only the
+    /// lines that are counted in memory, and no proof, say that the history has not grown behind the publisher.
     #[tactic(auto, using(crate::proofs::Fronts::begins_of))]
     pub fn covers<R: Wait>(&self, rt: &R, viewer: &Viewer)
         requires { viewer.now.book ≡ self.now.book }
@@ -156,7 +159,8 @@ impl Publisher {
         requires knows { (view writer.desk.place).knows ≡ true }
         requires shown { IsEmptyTable writer.desk.shown.value (view writer.desk.place).grid seen.book }
         requires empty { (drop writer.behind writer.log.items ≡ []) × (seen.log ≡ []) }
-        ensures { (result.book ≡ seen.book) × (result.grid ≡ (view writer.desk.place).grid) × (result.visible ≡ []) × (result.pending ≡ []) }
+        ensures { (result.book ≡ seen.book) × (result.grid ≡ (view writer.desk.place).grid) × (result.visible ≡ [])
+            × (result.pending ≡ []) }
     {
         Publisher {
             writer,
@@ -181,7 +185,8 @@ fn grown<J: Pending, R: Wait>(
     requires lines { lines ≡ length seen.now.log }
     requires more { more ≡ length J.pending }
     requires pending { J.pending ≡ entries_of (drop writer.now.behind writer.now.log.items) }
-    ensures { (result.book ≡ seen.now.book) × (result.log ≡ seen.now.log ++ entries_of (drop writer.now.behind writer.now.log.items)) }
+    ensures { (result.book ≡ seen.now.book)
+        × (result.log ≡ seen.now.log ++ entries_of (drop writer.now.behind writer.now.log.items)) }
 {
     for _ in rt.forever() {
         if let Some(next) = grow::<J>(head, seen, lines, more) {
@@ -194,7 +199,8 @@ fn grown<J: Pending, R: Wait>(
 // Tries until the mark of the history is pending too.
 fn marked<R: Wait>(rt: &R, writer: &mut TableWriter, next: &Trace)
     ensures desk { writer.new.desk ≡ writer.old.desk }
-    ensures pending { drop writer.new.behind writer.new.log.items ≡ drop writer.old.behind writer.old.log.items ++ Mark next.now ∷ [] }
+    ensures pending { drop writer.new.behind writer.new.log.items ≡ drop writer.old.behind writer.old.log.items
+        ++ Mark next.now ∷ [] }
 {
     for _ in rt.forever() {
         if writer.append(Op::Mark(next.again())).is_ok() {
@@ -206,25 +212,37 @@ fn marked<R: Wait>(rt: &R, writer: &mut TableWriter, next: &Trace)
 
 // Shows all that is pending.
 pub(crate) fn turn<R: Wait>(rt: &R, writer: &mut TableWriter)
-    requires { Follows (view writer.old.desk.place) writer.old.desk.shown.value (fold apply (tidied writer.old.desk.shown.value) (drop writer.old.behind writer.old.log.items)) }
-    ensures values { (tidied writer.new.desk.shown.value ≡ fold apply (tidied writer.old.desk.shown.value) (drop writer.old.behind writer.old.log.items)) × (drop writer.new.behind writer.new.log.items ≡ []) }
-    ensures sees { Sees (view writer.old.desk.place) writer.old.desk.shown.value writer.new.desk.shown.value (view writer.new.desk.place) }
+    requires { Follows (view writer.old.desk.place) writer.old.desk.shown.value
+        (fold apply (tidied writer.old.desk.shown.value) (drop writer.old.behind writer.old.log.items)) }
+    ensures values { (tidied writer.new.desk.shown.value
+        ≡ fold apply (tidied writer.old.desk.shown.value) (drop writer.old.behind writer.old.log.items))
+        × (drop writer.new.behind writer.new.log.items ≡ []) }
+    ensures sees { Sees (view writer.old.desk.place) writer.old.desk.shown.value writer.new.desk.shown.value
+        (view writer.new.desk.place) }
 {
     replace_with(
         writer,
         rt,
         |writer: TableWriter, rt: &R| -> (TableWriter, ())
-            requires { Follows (view writer.desk.place) writer.desk.shown.value (fold apply (tidied writer.desk.shown.value) (drop writer.behind writer.log.items)) }
-            ensures values { (tidied result.0.desk.shown.value ≡ fold apply (tidied writer.desk.shown.value) (drop writer.behind writer.log.items)) × (drop result.0.behind result.0.log.items ≡ []) }
-            ensures sees { Sees (view writer.desk.place) writer.desk.shown.value result.0.desk.shown.value (view result.0.desk.place) }
+            requires { Follows (view writer.desk.place) writer.desk.shown.value
+                (fold apply (tidied writer.desk.shown.value) (drop writer.behind writer.log.items)) }
+            ensures values { (tidied result.0.desk.shown.value
+                ≡ fold apply (tidied writer.desk.shown.value) (drop writer.behind writer.log.items))
+                × (drop result.0.behind result.0.log.items ≡ []) }
+            ensures sees { Sees (view writer.desk.place) writer.desk.shown.value result.0.desk.shown.value
+                (view result.0.desk.place) }
         { (turned(rt, writer), ()) },
     )
 }
 
 fn turned<R: Wait>(rt: &R, writer: TableWriter) -> TableWriter
-    requires { Follows (view writer.desk.place) writer.desk.shown.value (fold apply (tidied writer.desk.shown.value) (drop writer.behind writer.log.items)) }
-    ensures values { (tidied result.desk.shown.value ≡ fold apply (tidied writer.desk.shown.value) (drop writer.behind writer.log.items)) × (drop result.behind result.log.items ≡ []) }
-    ensures sees { Sees (view writer.desk.place) writer.desk.shown.value result.desk.shown.value (view result.desk.place) }
+    requires { Follows (view writer.desk.place) writer.desk.shown.value
+        (fold apply (tidied writer.desk.shown.value) (drop writer.behind writer.log.items)) }
+    ensures values { (tidied result.desk.shown.value
+        ≡ fold apply (tidied writer.desk.shown.value) (drop writer.behind writer.log.items))
+        × (drop result.behind result.log.items ≡ []) }
+    ensures sees { Sees (view writer.desk.place) writer.desk.shown.value result.desk.shown.value
+        (view result.desk.place) }
 {
     match writer.publish_as::<Looks, R>(rt) {
         (writer, Ok(())) => writer,

@@ -63,7 +63,8 @@ impl Sight {
     }
 
     fn leave(self) -> (TableReader, Trace, u32)
-        ensures reader { ((view result.0.place).knows ≡ true) × ((view result.0.place).grid ≡ self.grid) × ((view result.0.place).seen.book ≡ self.book) }
+        ensures reader { ((view result.0.place).knows ≡ true) × ((view result.0.place).grid ≡ self.grid)
+            × ((view result.0.place).seen.book ≡ self.book) }
         ensures seen { (result.1.book ≡ self.book) × (result.1.log ≡ self.front) × IsLegal self.grid self.front }
         ensures lines { result.2 ≡ length self.front }
     {
@@ -166,16 +167,24 @@ fn compare(one: &Trace, other: &Trace)
 fn enter<T, F: FnOnce(&Sight) -> T>(reader: &mut TableReader, at: F) -> Option<Glance<T>>
     requires knows { (view reader.old.place).knows ≡ true }
     requires at { F.IsAlwaysCallable at }
-    ensures same { ((view reader.new.place).knows ≡ true) × ((view reader.new.place).grid ≡ (view reader.old.place).grid) × ((view reader.new.place).seen.book ≡ (view reader.old.place).seen.book) }
-    ensures some { IfSome result (λ g. (g.seen.book ≡ (view reader.old.place).seen.book) × IsLegal (view reader.old.place).grid g.seen.log × (g.lines ≡ length g.seen.log) × FnOnceReturnsAt F.FnOnce at (viewed g.seen.book (view reader.old.place).grid g.seen.log) g.found) }
+    ensures same { ((view reader.new.place).knows ≡ true)
+        × ((view reader.new.place).grid ≡ (view reader.old.place).grid)
+        × ((view reader.new.place).seen.book ≡ (view reader.old.place).seen.book) }
+    ensures some { IfSome result (λ g. (g.seen.book ≡ (view reader.old.place).seen.book)
+        × IsLegal (view reader.old.place).grid g.seen.log × (g.lines ≡ length g.seen.log)
+        × FnOnceReturnsAt F.FnOnce at (viewed g.seen.book (view reader.old.place).grid g.seen.log) g.found) }
 {
     replace_with(
         reader,
         at,
         |reader: TableReader, at: F| -> (TableReader, Option<Glance<T>>)
             requires { ((view reader.place).knows ≡ true) × F.IsAlwaysCallable at }
-            ensures same { ((view result.0.place).knows ≡ true) × ((view result.0.place).grid ≡ (view reader.place).grid) × ((view result.0.place).seen.book ≡ (view reader.place).seen.book) }
-            ensures some { IfSome result.1 (λ g. (g.seen.book ≡ (view reader.place).seen.book) × IsLegal (view reader.place).grid g.seen.log × (g.lines ≡ length g.seen.log) × FnOnceReturnsAt F.FnOnce at (viewed g.seen.book (view reader.place).grid g.seen.log) g.found) }
+            ensures same { ((view result.0.place).knows ≡ true)
+                × ((view result.0.place).grid ≡ (view reader.place).grid)
+                × ((view result.0.place).seen.book ≡ (view reader.place).seen.book) }
+            ensures some { IfSome result.1 (λ g. (g.seen.book ≡ (view reader.place).seen.book)
+                × IsLegal (view reader.place).grid g.seen.log × (g.lines ≡ length g.seen.log)
+                × FnOnceReturnsAt F.FnOnce at (viewed g.seen.book (view reader.place).grid g.seen.log) g.found) }
         { find(reader, at) },
     )
 }
@@ -183,8 +192,11 @@ fn enter<T, F: FnOnce(&Sight) -> T>(reader: &mut TableReader, at: F) -> Option<G
 fn find<T, F: FnOnce(&Sight) -> T>(reader: TableReader, at: F) -> (TableReader, Option<Glance<T>>)
     requires knows { (view reader.place).knows ≡ true }
     requires at { F.IsAlwaysCallable at }
-    ensures same { ((view result.0.place).knows ≡ true) × ((view result.0.place).grid ≡ (view reader.place).grid) × ((view result.0.place).seen.book ≡ (view reader.place).seen.book) }
-    ensures some { IfSome result.1 (λ g. (g.seen.book ≡ (view reader.place).seen.book) × IsLegal (view reader.place).grid g.seen.log × (g.lines ≡ length g.seen.log) × FnOnceReturnsAt F.FnOnce at (viewed g.seen.book (view reader.place).grid g.seen.log) g.found) }
+    ensures same { ((view result.0.place).knows ≡ true) × ((view result.0.place).grid ≡ (view reader.place).grid)
+        × ((view result.0.place).seen.book ≡ (view reader.place).seen.book) }
+    ensures some { IfSome result.1 (λ g. (g.seen.book ≡ (view reader.place).seen.book)
+        × IsLegal (view reader.place).grid g.seen.log × (g.lines ≡ length g.seen.log)
+        × FnOnceReturnsAt F.FnOnce at (viewed g.seen.book (view reader.place).grid g.seen.log) g.found) }
 {
     match reader.enter_as::<Looks>() {
         Ok(reading) => {

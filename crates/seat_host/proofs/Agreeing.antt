@@ -49,11 +49,13 @@ record OwnCut (s : ℕ) (journal : List Entry) (i : ℕ) (x : Entry) : Type 0 wh
   mine : x.session ≡ s
   len : length (of_session s front) ≡ i
 
-own_cut : (s : ℕ) (journal : List Entry) (i : ℕ) (x : Entry) → slice_get (of_session s journal) i ≡ Some x → OwnCut s journal i x
+own_cut : (s : ℕ) (journal : List Entry) (i : ℕ) (x : Entry) → slice_get (of_session s journal) i ≡ Some x
+    → OwnCut s journal i x
 own_cut s [] i x e = absurd (cc e)
 own_cut s (y ∷ ys) i x e = by (y.session == s) refl i e (own_cut s ys)
   where
-    longer : (b : Bool) → (y.session == s) ≡ b → (i : ℕ) → (c : OwnCut s ys i x) → OwnCut s (y ∷ ys) (cond b (suc i) i) x
+    longer : (b : Bool) → (y.session == s) ≡ b → (i : ℕ) → (c : OwnCut s ys i x)
+        → OwnCut s (y ∷ ys) (cond b (suc i) i) x
     longer b t i c = record {
       front = y ∷ c.front;
       rest = c.rest;
@@ -62,11 +64,13 @@ own_cut s (y ∷ ys) i x e = by (y.session == s) refl i e (own_cut s ys)
       len = ap (λ (a : Bool). length (cond a (y ∷ of_session s c.front) (of_session s c.front))) t ∙ counted b c.len;
     }
       where
-        counted : (b : Bool) → length (of_session s c.front) ≡ i → length (cond b (y ∷ of_session s c.front) (of_session s c.front)) ≡ cond b (suc i) i
+        counted : (b : Bool) → length (of_session s c.front) ≡ i
+            → length (cond b (y ∷ of_session s c.front) (of_session s c.front)) ≡ cond b (suc i) i
         counted true l = ap suc l
         counted false l = l
 
-    by : (b : Bool) → (y.session == s) ≡ b → (i : ℕ) → slice_get (cond b (y ∷ of_session s ys) (of_session s ys)) i ≡ Some x
+    by : (b : Bool) → (y.session == s) ≡ b → (i : ℕ)
+        → slice_get (cond b (y ∷ of_session s ys) (of_session s ys)) i ≡ Some x
         → ((i : ℕ) (x : Entry) → slice_get (of_session s ys) i ≡ Some x → OwnCut s ys i x) → OwnCut s (y ∷ ys) i x
     by true t zero e below = record {
       front = [];
@@ -80,16 +84,19 @@ own_cut s (y ∷ ys) i x e = by (y.session == s) refl i e (own_cut s ys)
 
 -- ---- a legal history
 
-legal_at : (grid : Ladders) (journal front rest : List Entry) (e : Entry) → IsLegal grid journal → journal ≡ front ++ e ∷ rest → IsNext grid front e
+legal_at : (grid : Ladders) (journal front rest : List Entry) (e : Entry) → IsLegal grid journal
+    → journal ≡ front ++ e ∷ rest → IsNext grid front e
 legal_at grid journal front rest e h is = h.each front e (record { rest = rest; is = is ∙ sym (append_assoc front (e ∷ []) rest) })
 
 number_is : (grid : Ladders) (front : List Entry) (e : Entry) → IsNext grid front e → e.number ≡ suc (length front)
 number_is grid front e next = ap (λ (x : Entry). x.number) next.line ∙ omega arith
 
-call_own : (grid : Ladders) (front : List Entry) (e : Entry) → IsNext grid front e → e.call ≡ suc (length (of_session e.session front))
+call_own : (grid : Ladders) (front : List Entry) (e : Entry) → IsNext grid front e
+    → e.call ≡ suc (length (of_session e.session front))
 call_own grid front e next = omega (arith, next.call, calls_own front e.session)
 
-own_here : (front rest : List Entry) (e : Entry) → slice_get (of_session e.session (front ++ e ∷ rest)) (length (of_session e.session front)) ≡ Some e
+own_here : (front rest : List Entry) (e : Entry)
+    → slice_get (of_session e.session (front ++ e ∷ rest)) (length (of_session e.session front)) ≡ Some e
 own_here front rest e =
     let s = e.session in
     let split : of_session s (front ++ e ∷ rest) ≡ of_session s front ++ e ∷ of_session s rest =
@@ -102,7 +109,8 @@ by_length : (n : ℕ) (journal : List Entry) → length (by_session n journal) �
 by_length zero journal = refl
 by_length (suc n) journal = omega (arith, length-append (by_session n journal) (of_session (suc n) journal ∷ []), by_length n journal)
 
-index_left : (xs : List (List Entry)) (x : List Entry) (i : ℕ) → i < length xs → slice_index_or (xs ++ x ∷ []) i [] ≡ slice_index_or xs i []
+index_left : (xs : List (List Entry)) (x : List Entry) (i : ℕ) → i < length xs
+    → slice_index_or (xs ++ x ∷ []) i [] ≡ slice_index_or xs i []
 index_left [] x i h = absurd (omega arith)
 index_left (y ∷ ys) x zero h = refl
 index_left (y ∷ ys) x (suc i) h = index_left ys x i (omega arith)
@@ -134,13 +142,15 @@ by_past n journal s more = index_past (by_session n journal) s (omega (arith, mo
 
 -- ---- each line a receipt, each receipt a line
 
-few : (n : ℕ) (journal front rest : List Entry) (e : Entry) → OnlyFirst n journal → journal ≡ front ++ e ∷ rest → e.session ≤ n
+few : (n : ℕ) (journal front rest : List Entry) (e : Entry) → OnlyFirst n journal → journal ≡ front ++ e ∷ rest
+    → e.session ≤ n
 few n journal front rest e only is = ⊎_elim
     (λ (more : n < e.session). absurd (cc (sym (own_here front rest e) ∙ ap (λ (l : List Entry). slice_get l (length (of_session e.session front))) (ap (of_session e.session) (sym is) ∙ only.none e.session more))))
     (λ (le : e.session ≤ n). le)
     (cases_lt n e.session)
 
-agrees : (grid : Ladders) (n : ℕ) (journal : List Entry) → IsLegal grid journal → OnlyFirst n journal → Agrees (by_session n journal) journal
+agrees : (grid : Ladders) (n : ℕ) (journal : List Entry) → IsLegal grid journal → OnlyFirst n journal
+    → Agrees (by_session n journal) journal
 agrees grid n journal legal only = record {
   lines = line;
   receipts = receipt;
@@ -170,7 +180,8 @@ agrees grid n journal legal only = record {
           line = ap (nth journal) (number_is grid c.front e next) ∙ ap (λ (l : List Entry). slice_get l (length c.front)) c.is ∙ here c.front c.rest e;
         }
 
-    receipt : (session call : ℕ) (e : Entry) → receipt_of (by_session n journal) session call ≡ Some e → HasLine journal session call e
+    receipt : (session call : ℕ) (e : Entry) → receipt_of (by_session n journal) session call ≡ Some e
+        → HasLine journal session call e
     receipt session zero e at = absurd (cc at)
     receipt s (suc i) e at = ⊎_elim
         (λ (more : n < s). absurd (cc (sym at ∙ ap (λ (l : List Entry). slice_get l i) (by_past n journal s more))))
@@ -197,7 +208,8 @@ module _ (f : Entry → ℕ) (g : List Entry → ℕ) (none : g [] ≡ 0) (more 
   own_out : (s : ℕ) (e : Entry) (xs : List Entry) → e.session ≢ s → g (of_session s (e ∷ xs)) ≡ g (of_session s xs)
   own_out s e xs not = ap (λ (b : Bool). g (cond b (e ∷ of_session s xs) (of_session s xs))) (ne_eqb _ _ not)
 
-  over_up : (n : ℕ) (xs : List Entry) → sum_by g (by_session (suc n) xs) ≡ sum_by g (by_session n xs) + g (of_session (suc n) xs)
+  over_up : (n : ℕ) (xs : List Entry)
+      → sum_by g (by_session (suc n) xs) ≡ sum_by g (by_session n xs) + g (of_session (suc n) xs)
   over_up n xs = sum_by_push g (by_session n xs) (of_session (suc n) xs)
 
   over_zero : (xs : List Entry) → sum_by g (by_session 0 xs) ≡ g (of_session 0 xs)
@@ -209,12 +221,14 @@ module _ (f : Entry → ℕ) (g : List Entry → ℕ) (none : g [] ≡ 0) (more 
   over_none zero = over_zero [] ∙ none
   over_none (suc n) = omega (arith, over_up n [], over_none n, none)
 
-  over_out : (n : ℕ) (e : Entry) (xs : List Entry) → n < e.session → sum_by g (by_session n (e ∷ xs)) ≡ sum_by g (by_session n xs)
+  over_out : (n : ℕ) (e : Entry) (xs : List Entry) → n < e.session
+      → sum_by g (by_session n (e ∷ xs)) ≡ sum_by g (by_session n xs)
   over_out zero e xs h = over_zero (e ∷ xs) ∙ own_out 0 e xs (λ q. absurd (omega (arith, q, h))) ∙ sym (over_zero xs)
   over_out (suc n) e xs h =
       omega (arith, over_up n (e ∷ xs), over_up n xs, over_out n e xs (omega (arith, h)), own_out (suc n) e xs (λ q. absurd (omega (arith, q, h))))
 
-  over_in : (n : ℕ) (e : Entry) (xs : List Entry) → e.session ≤ n → sum_by g (by_session n (e ∷ xs)) ≡ f e + sum_by g (by_session n xs)
+  over_in : (n : ℕ) (e : Entry) (xs : List Entry) → e.session ≤ n
+      → sum_by g (by_session n (e ∷ xs)) ≡ f e + sum_by g (by_session n xs)
   over_in zero e xs le = omega (arith, over_zero (e ∷ xs), over_zero xs, own_in 0 e xs (omega (arith, le)))
   over_in (suc n) e xs le = ⊎_elim
       (λ (is : e.session ≡ suc n). omega (arith, over_up n (e ∷ xs), over_up n xs, over_out n e xs (omega (arith, is)), own_in (suc n) e xs is))
@@ -237,20 +251,27 @@ sums n journal all = λ i. record {
 
 -- ---- what gathering gives
 
-pub lists_agree : (grid : Ladders) (n : ℕ) (journal : List Entry) (lists : List (List Entry)) → IsLegal grid journal → OnlyFirst n journal → lists ≡ by_session n journal → Agrees lists journal
+pub lists_agree : (grid : Ladders) (n : ℕ) (journal : List Entry) (lists : List (List Entry)) → IsLegal grid journal
+    → OnlyFirst n journal → lists ≡ by_session n journal → Agrees lists journal
 lists_agree grid n journal lists legal only is = subst (λ (l : List (List Entry)). Agrees l journal) (sym is) (agrees grid n journal legal only)
 
-pub lists_sum : (grid : Ladders) (n : ℕ) (journal : List Entry) (lists : List (List Entry)) (totals : Totals) → IsLegal grid journal → OnlyFirst n journal → lists ≡ by_session n journal → totals ≡ totals_of journal → totals ≡ totals_in lists
+pub lists_sum : (grid : Ladders) (n : ℕ) (journal : List Entry) (lists : List (List Entry)) (totals : Totals)
+    → IsLegal grid journal → OnlyFirst n journal → lists ≡ by_session n journal → totals ≡ totals_of journal
+    → totals ≡ totals_in lists
 lists_sum grid n journal lists totals legal only is are =
     are ∙ sums n journal (sessions_are n journal [] journal only refl) ∙ ap totals_in (sym is)
 
-pub lists_count : (grid : Ladders) (n : ℕ) (journal : List Entry) (lists : List (List Entry)) → IsLegal grid journal → OnlyFirst n journal → lists ≡ by_session n journal → receipts_in lists ≡ length journal
+pub lists_count : (grid : Ladders) (n : ℕ) (journal : List Entry) (lists : List (List Entry)) → IsLegal grid journal
+    → OnlyFirst n journal → lists ≡ by_session n journal → receipts_in lists ≡ length journal
 lists_count grid n journal lists legal only is =
     sym (ap (λ (t : Totals). t.lines) (lists_sum grid n journal lists (totals_of journal) legal only is refl))
 
 -- what is gathered keeps the headline
-pub headline_of : (grid : Ladders) (cap n : ℕ) (journal given : List Entry) (lists : List (List Entry)) (totals : Totals) → IsLegal grid journal → length journal ≤ cap → HoldsWithinLimits grid journal → OnlyFirst n journal
-    → lists ≡ by_session n journal → totals ≡ totals_of journal → given ≡ journal → Headline grid cap n given lists totals
+pub headline_of : (grid : Ladders) (cap n : ℕ) (journal given : List Entry) (lists : List (List Entry))
+    (totals : Totals) → IsLegal grid journal → length journal ≤ cap → HoldsWithinLimits grid journal
+    → OnlyFirst n journal
+    → lists ≡ by_session n journal → totals ≡ totals_of journal → given ≡ journal
+    → Headline grid cap n given lists totals
 headline_of grid cap n journal given lists totals legal capped within only is are same =
     subst (λ (j : List Entry). Headline grid cap n j lists totals) (sym same) (record {
       legal = legal;

@@ -22,7 +22,8 @@ use Rattle.seat_host.specs.Settling.{IsConfirmed}
 use Rattle.seat_rules.proofs.Own.{own_append, own_length, own_one, own_other, calls_own}
 
 -- a front that the old journal begins with becomes the new journal
-pub front_is : (front front' journal : List Entry) (e : Entry) → Begins front journal → Begins (journal ++ e ∷ []) front' → (front' ≡ front) ⊎ (front' ≡ journal ++ e ∷ []) → front' ≡ journal ++ e ∷ []
+pub front_is : (front front' journal : List Entry) (e : Entry) → Begins front journal
+    → Begins (journal ++ e ∷ []) front' → (front' ≡ front) ⊎ (front' ≡ journal ++ e ∷ []) → front' ≡ journal ++ e ∷ []
 front_is front front' journal e pre more longer =
     ⊎_elim (λ (is : front' ≡ front). absurd (omega (arith, ap length is, begins_length front journal pre, begins_length (journal ++ e ∷ []) front' more, length-append journal (e ∷ [])))) (λ is. is) longer
 
@@ -59,7 +60,10 @@ no_calls (suc (suc (suc (suc (suc (suc (suc (suc zero)))))))) h = refl
 no_calls (suc (suc (suc (suc (suc (suc (suc (suc (suc n))))))))) h = absurd (omega arith)
 
 -- one line more in the journal and in its session's book
-pub tied_push : (grid : Ladders) (cap n : ℕ) (line_counts now : List ℕ) (journal : List Entry) (e : Entry) → IsTied grid cap n line_counts journal → IsNext grid journal e → length journal < cap → e.session ≤ n → now ≡ slice_set line_counts e.session (slice_index line_counts e.session + 1) → IsTied grid cap n now (journal ++ e ∷ [])
+pub tied_push : (grid : Ladders) (cap n : ℕ) (line_counts now : List ℕ) (journal : List Entry) (e : Entry)
+    → IsTied grid cap n line_counts journal → IsNext grid journal e → length journal < cap → e.session ≤ n
+    → now ≡ slice_set line_counts e.session (slice_index line_counts e.session + 1)
+    → IsTied grid cap n now (journal ++ e ∷ [])
 tied_push grid cap n line_counts now journal e t next room le is =
     let k = e.session in
     let here : (s : ℕ) → e.session ≡ s → of_session s (journal ++ e ∷ []) ≡ of_session s journal ++ e ∷ [] = λ s same. own_append s journal (e ∷ []) ∙ ap (λ l. of_session s journal ++ l) (own_one s e same) in
@@ -88,9 +92,12 @@ pub record AfterBooking (grid : Ladders) (n : ℕ) (journal : List Entry) (work 
   pub booked : Booked grid work s (with_line s kept front)
   pub stands : Stands grid n (with_line s kept front)
 
-pub booking : (grid : Ladders) (cap n : ℕ) (core now : Inventory) (line_counts : List ℕ) (s : Seat) (work : Work) (kept front : List Entry)
-    → core.grid ≡ grid → now.grid ≡ core.grid → IsTied grid cap n line_counts core.journal → Stands grid n s → IsConfirmed n core.journal s → AddsLine core now s.id work s.receipts kept
-    → Begins now.journal front → (front ≡ s.front) ⊎ (front ≡ now.journal) → AfterBooking grid n now.journal work s kept front
+pub booking : (grid : Ladders) (cap n : ℕ) (core now : Inventory) (line_counts : List ℕ) (s : Seat) (work : Work)
+    (kept front : List Entry)
+    → core.grid ≡ grid → now.grid ≡ core.grid → IsTied grid cap n line_counts core.journal → Stands grid n s
+    → IsConfirmed n core.journal s → AddsLine core now s.id work s.receipts kept
+    → Begins now.journal front → (front ≡ s.front) ⊎ (front ≡ now.journal)
+    → AfterBooking grid n now.journal work s kept front
 booking grid cap n core now line_counts s work kept front over same t stands c a more longer =
     let journal = core.journal in
     let e = a.line in
@@ -127,9 +134,13 @@ booking grid cap n core now line_counts s work kept front over same t stands c a
     }
 
 -- the same of what a call finds and is told
-pub after_call : (grid : Ladders) (cap : ℕ) (book : Book) (n : ℕ) (core now : Inventory) (line_counts : List ℕ) (publisher shown : Published) (opened : ℕ) (s old : Seat) (work : Work) (kept front told : List Entry)
-    → LawfulUnderLock grid cap book n core line_counts publisher opened → Stands grid n s → s ≡ old → IsConfirmed n publisher.visible old → AddsLine core now s.id work s.receipts kept → now.grid ≡ core.grid → Shows now shown
-    → told ≡ shown.visible → Begins told front → (front ≡ s.front) ⊎ (front ≡ told) → AfterBooking grid n now.journal work s kept front
+pub after_call : (grid : Ladders) (cap : ℕ) (book : Book) (n : ℕ) (core now : Inventory) (line_counts : List ℕ)
+    (publisher shown : Published) (opened : ℕ) (s old : Seat) (work : Work) (kept front told : List Entry)
+    → LawfulUnderLock grid cap book n core line_counts publisher opened → Stands grid n s → s ≡ old
+    → IsConfirmed n publisher.visible old → AddsLine core now s.id work s.receipts kept → now.grid ≡ core.grid
+    → Shows now shown
+    → told ≡ shown.visible → Begins told front → (front ≡ s.front) ⊎ (front ≡ told)
+    → AfterBooking grid n now.journal work s kept front
 after_call grid cap book n core now line_counts publisher shown opened s old work kept front told l stands is c a same shows tells more longer =
     let all : told ≡ now.journal = tells ∙ shows.visible in
     booking grid cap n core now line_counts s work kept front l.grid_is same l.tied stands
@@ -137,15 +148,22 @@ after_call grid cap book n core now line_counts publisher shown opened s old wor
     (subst (λ (x : List Entry). Begins x front) all more) (⊎_elim (λ b. inl b) (λ b. inr (b ∙ all)) longer)
 
 -- the line that comes next may be shown behind the others
-pub legal_shown : (core : Inventory) (publisher : Published) (e shown : Entry) → Shows core publisher → shown ≡ e → IsLegal core.grid core.journal → IsNext core.grid core.journal e → IsLegal publisher.grid ((publisher.visible ++ publisher.pending) ++ shown ∷ [])
+pub legal_shown : (core : Inventory) (publisher : Published) (e shown : Entry) → Shows core publisher → shown ≡ e
+    → IsLegal core.grid core.journal → IsNext core.grid core.journal e
+    → IsLegal publisher.grid ((publisher.visible ++ publisher.pending) ++ shown ∷ [])
 legal_shown core publisher e shown s is legal next =
     let all : publisher.visible ++ publisher.pending ≡ core.journal = (λ i. s.visible i ++ s.pending i) ∙ append-nil core.journal in
     subst (λ (x : Ladders × (List Entry × Entry)). IsLegal x.0 (x.1.0 ++ x.1.1 ∷ [])) (λ i. (sym s.grid_is i, (sym all i, sym is i))) (legal_push core.grid core.journal e legal next)
 
 -- what holds under the lock holds with one line more
-pub lawful_push : (grid : Ladders) (cap : ℕ) (book : Book) (n : ℕ) (core now : Inventory) (line_counts audited more : List ℕ) (publisher shown : Published) (opened session many : ℕ) (stake : Staked) (work : Work) (receipts kept : List Entry)
-    → LawfulUnderLock grid cap book n core line_counts publisher opened → AddsLine core now session work receipts kept → now.grid ≡ core.grid → now.cap ≡ core.cap → shown.book ≡ publisher.book → Shows now shown
-    → session ≤ n → audited ≡ line_counts → stake ≡ counted session many → more ≡ slice_set audited stake.number (slice_index audited stake.number + 1) → LawfulUnderLock grid cap book n now more shown opened
+pub lawful_push : (grid : Ladders) (cap : ℕ) (book : Book) (n : ℕ) (core now : Inventory)
+    (line_counts audited more : List ℕ) (publisher shown : Published) (opened session many : ℕ) (stake : Staked)
+    (work : Work) (receipts kept : List Entry)
+    → LawfulUnderLock grid cap book n core line_counts publisher opened → AddsLine core now session work receipts kept
+    → now.grid ≡ core.grid → now.cap ≡ core.cap → shown.book ≡ publisher.book → Shows now shown
+    → session ≤ n → audited ≡ line_counts → stake ≡ counted session many
+    → more ≡ slice_set audited stake.number (slice_index audited stake.number + 1)
+    → LawfulUnderLock grid cap book n now more shown opened
 lawful_push grid cap book n core now line_counts audited more publisher shown opened session many stake work receipts kept l a grid_same cap_same book_same shows le same staked added =
     let e = a.line in
     let mine : session ≡ e.session = sym (ap (λ (x : Entry). x.session) a.is) in
@@ -163,7 +181,9 @@ lawful_push grid cap book n core now line_counts audited more publisher shown op
     }
 
 -- a session whose receipts are as they were
-pub waits_same : (old : Seat) (id : ℕ) (receipts items front : List Entry) → (let s : Seat = record { id = id; receipts = receipts; front = front } in s ≡ old) → items ≡ receipts → Waits old (record { id = id; receipts = items; front = front })
+pub waits_same : (old : Seat) (id : ℕ) (receipts items front : List Entry)
+    → (let s : Seat = record { id = id; receipts = receipts; front = front } in s ≡ old) → items ≡ receipts
+    → Waits old (record { id = id; receipts = items; front = front })
 waits_same old id receipts items front is same = record {
   id = ap (λ (s : Seat). s.id) is;
   receipts = same ∙ ap (λ (s : Seat). s.receipts) is;

@@ -9,23 +9,21 @@ use Rattle.seat_rules.specs.Histories.{of_session, by_session}
 use Rattle.seat_host.specs.Sessions.{Seat}
 use Rattle.seat_host.specs.Settling.{has_id, has_up_to, has_all, IsConfirmed}
 use Rattle.seat_host.proofs.Booking.{dec_nat}
+use Rattle.airline_base.proofs.Tests.{both_true}
 
 -- ---- the test
 
-pub up_more : (i j : ℕ) (sessions : List Seat) (here all now : Bool) → j ≡ i + 1 → here ≡ has_id j sessions → all ≡ has_up_to i sessions → now ≡ (here && all) → now ≡ has_up_to j sessions
+pub up_more : (i j : ℕ) (sessions : List Seat) (here all now : Bool) → j ≡ i + 1 → here ≡ has_id j sessions
+    → all ≡ has_up_to i sessions → now ≡ (here && all) → now ≡ has_up_to j sessions
 up_more i j sessions here all now e is was and =
     let up : j ≡ suc i = omega (arith, e) in
     and ∙ (λ k. is k && was k) ∙ (λ k. has_id (up k) sessions && has_up_to i sessions) ∙ sym (ap (λ (n : ℕ). has_up_to n sessions) up)
 
-both : (a b : Bool) → (a && b) ≡ true → (a ≡ true) × (b ≡ true)
-both true true e = (refl, refl)
-both true false e = absurd (cc e)
-both false b e = absurd (cc e)
-
-up_each : (n : ℕ) (sessions : List Seat) → has_up_to n sessions ≡ true → (s : ℕ) → 0 < s → s ≤ n → has_id s sessions ≡ true
+up_each : (n : ℕ) (sessions : List Seat) → has_up_to n sessions ≡ true → (s : ℕ) → 0 < s → s ≤ n
+    → has_id s sessions ≡ true
 up_each zero sessions e s some le = absurd (omega arith)
 up_each (suc n) sessions e s some le =
-    let h = both (has_id (suc n) sessions) (has_up_to n sessions) e in
+    let h = both_true (has_id (suc n) sessions) (has_up_to n sessions) e in
     ⊎_elim (λ (is : s ≡ suc n). ap (λ (k : ℕ). has_id k sessions) is ∙ h.0) (λ (not : s ≢ suc n). up_each n sessions h.1 s some (less s n le not)) (dec_nat s (suc n))
   where
     less : (s n : ℕ) → s ≤ suc n → s ≢ suc n → s ≤ n
@@ -33,12 +31,14 @@ up_each (suc n) sessions e s some le =
 
 -- ---- the lists of receipts, filled session by session
 
-at_set_here : (xs : List (List Entry)) (i : ℕ) (v : List Entry) → i < length xs → slice_index_or (slice_set xs i v) i [] ≡ v
+at_set_here : (xs : List (List Entry)) (i : ℕ) (v : List Entry) → i < length xs
+    → slice_index_or (slice_set xs i v) i [] ≡ v
 at_set_here [] i v h = absurd (omega arith)
 at_set_here (x ∷ xs) zero v h = refl
 at_set_here (x ∷ xs) (suc i) v h = at_set_here xs i v (omega arith)
 
-at_set_else : (xs : List (List Entry)) (i j : ℕ) (v : List Entry) → j ≢ i → slice_index_or (slice_set xs i v) j [] ≡ slice_index_or xs j []
+at_set_else : (xs : List (List Entry)) (i j : ℕ) (v : List Entry) → j ≢ i
+    → slice_index_or (slice_set xs i v) j [] ≡ slice_index_or xs j []
 at_set_else [] i j v n = refl
 at_set_else (x ∷ xs) zero zero v n = absurd (n refl)
 at_set_else (x ∷ xs) zero (suc j) v n = refl
@@ -59,7 +59,8 @@ pub record Gathering (all : List Seat) (n : ℕ) (journal : List Entry) (rest : 
   pub each : (s : ℕ) → s ≤ n → (has_id s rest ≡ true) ⊎ (slice_index_or slots s [] ≡ of_session s journal)
 
 -- none of them is gone yet, and the list of session 0 is filled
-pub starts : (all : List Seat) (n : ℕ) (journal : List Entry) (manager : Seat) (slots now : List (List Entry)) → has_all n all ≡ true → length slots ≡ n + 1 → manager.id ≡ 0 → IsConfirmed n journal manager
+pub starts : (all : List Seat) (n : ℕ) (journal : List Entry) (manager : Seat) (slots now : List (List Entry))
+    → has_all n all ≡ true → length slots ≡ n + 1 → manager.id ≡ 0 → IsConfirmed n journal manager
     → now ≡ slice_set slots manager.id manager.receipts → Gathering all n journal all now
 starts all n journal manager slots now h wide zeroth c set = record {
   gone = [];
@@ -76,7 +77,7 @@ starts all n journal manager slots now h wide zeroth c set = record {
 
     each : (s : ℕ) → s ≤ n → (has_id s all ≡ true) ⊎ (slice_index_or now s [] ≡ of_session s journal)
     each zero le = inr first
-    each (suc s) le = inl (up_each n all (both (length all == n) (has_up_to n all) h).1 (suc s) (omega arith) le)
+    each (suc s) le = inl (up_each n all (both_true (length all == n) (has_up_to n all) h).1 (suc s) (omega arith) le)
 
 id_push : (s : ℕ) (rest : List Seat) (x : Seat) → has_id s (rest ++ x ∷ []) ≡ true → (has_id s rest ≡ true) ⊎ (x.id ≡ s)
 id_push s [] x h = last (x.id == s) refl h
@@ -86,11 +87,15 @@ id_push s [] x h = last (x.id == s) refl h
     last false e h = absurd (cc h)
 id_push s (y ∷ rest) x h = first (y.id == s) h (id_push s rest x)
   where
-    first : (b : Bool) → (b || has_id s (rest ++ x ∷ [])) ≡ true → (has_id s (rest ++ x ∷ []) ≡ true → (has_id s rest ≡ true) ⊎ (x.id ≡ s)) → ((b || has_id s rest) ≡ true) ⊎ (x.id ≡ s)
+    first : (b : Bool) → (b || has_id s (rest ++ x ∷ [])) ≡ true
+        → (has_id s (rest ++ x ∷ []) ≡ true → (has_id s rest ≡ true) ⊎ (x.id ≡ s))
+        → ((b || has_id s rest) ≡ true) ⊎ (x.id ≡ s)
     first true h below = inl refl
     first false h below = below h
 
-pub goes_on : (all : List Seat) (n : ℕ) (journal : List Entry) (was rest : List Seat) (x : Seat) (slots now : List (List Entry)) → Gathering all n journal was slots → was ≡ rest ++ x ∷ [] → IsConfirmed n journal x → now ≡ slice_set slots x.id x.receipts → Gathering all n journal rest now
+pub goes_on : (all : List Seat) (n : ℕ) (journal : List Entry) (was rest : List Seat) (x : Seat)
+    (slots now : List (List Entry)) → Gathering all n journal was slots → was ≡ rest ++ x ∷ [] → IsConfirmed n journal x
+    → now ≡ slice_set slots x.id x.receipts → Gathering all n journal rest now
 goes_on all n journal was rest x slots now g split h set = record {
   gone = x ∷ g.gone;
   is = g.is ∙ ap (λ (l : List Seat). l ++ g.gone) split ∙ append_assoc rest (x ∷ []) g.gone;
@@ -110,7 +115,10 @@ goes_on all n journal was rest x slots now g split h set = record {
 }
 
 -- lists that are the lines of each session are those by session
-list_last : (xs : List (List Entry)) (n : ℕ) → length xs ≡ suc n → (front : List (List Entry)) × ((length front ≡ n) × ((xs ≡ front ++ slice_index_or xs n [] ∷ []) × ((i : ℕ) → i < n → slice_index_or front i [] ≡ slice_index_or xs i [])))
+list_last : (xs : List (List Entry)) (n : ℕ) → length xs ≡ suc n
+    → (front : List (List Entry)) ×
+    ((length front ≡ n) × ((xs ≡ front ++ slice_index_or xs n [] ∷ [])
+    × ((i : ℕ) → i < n → slice_index_or front i [] ≡ slice_index_or xs i [])))
 list_last [] n e = absurd (omega (arith, e))
 list_last (x ∷ []) zero e = ([], (refl, (refl, λ i h. absurd (omega arith))))
 list_last (x ∷ y ∷ xs) zero e = absurd (omega (arith, e))
@@ -118,11 +126,13 @@ list_last (x ∷ xs) (suc n) e =
     let below = list_last xs n (omega (arith, e)) in
     (x ∷ below.0, (ap suc below.1.0, (ap (λ (l : List (List Entry)). x ∷ l) below.1.1.0, λ i h. index below.0 below.1.1.1 i h)))
   where
-    index : (front : List (List Entry)) → ((i : ℕ) → i < n → slice_index_or front i [] ≡ slice_index_or xs i []) → (i : ℕ) → i < suc n → slice_index_or (x ∷ front) i [] ≡ slice_index_or (x ∷ xs) i []
+    index : (front : List (List Entry)) → ((i : ℕ) → i < n → slice_index_or front i [] ≡ slice_index_or xs i [])
+        → (i : ℕ) → i < suc n → slice_index_or (x ∷ front) i [] ≡ slice_index_or (x ∷ xs) i []
     index front same zero h = refl
     index front same (suc i) h = same i (omega arith)
 
-filled : (n : ℕ) (journal : List Entry) (slots : List (List Entry)) → length slots ≡ suc n → ((i : ℕ) → i ≤ n → slice_index_or slots i [] ≡ of_session i journal) → slots ≡ by_session n journal
+filled : (n : ℕ) (journal : List Entry) (slots : List (List Entry)) → length slots ≡ suc n
+    → ((i : ℕ) → i ≤ n → slice_index_or slots i [] ≡ of_session i journal) → slots ≡ by_session n journal
 filled zero journal [] wide each = absurd (omega (arith, wide))
 filled zero journal (x ∷ []) wide each = ap (λ (l : List Entry). l ∷ []) (each 0 (omega arith))
 filled zero journal (x ∷ y ∷ xs) wide each = absurd (omega (arith, wide))
@@ -130,7 +140,9 @@ filled (suc n) journal slots wide each =
     let l = list_last slots (suc n) wide in
     l.1.1.0 ∙ (λ k. filled n journal l.0 l.1.0 (λ i h. l.1.1.1 i (omega (arith, h)) ∙ each i (omega (arith, h))) k ++ each (suc n) (omega arith) k ∷ [])
 
-pub ends : (all : List Seat) (n : ℕ) (journal : List Entry) (rest : List Seat) (slots : List (List Entry)) → Gathering all n journal rest slots → length rest ≡ 0 → (slots ≡ by_session n journal) × AllByRecursion (IsConfirmed n journal) all
+pub ends : (all : List Seat) (n : ℕ) (journal : List Entry) (rest : List Seat) (slots : List (List Entry))
+    → Gathering all n journal rest slots → length rest ≡ 0
+    → (slots ≡ by_session n journal) × AllByRecursion (IsConfirmed n journal) all
 ends all n journal [] slots g none = (filled n journal slots (omega (arith, g.wide)) each, subst (AllByRecursion (IsConfirmed n journal)) (sym g.is) g.confirmed)
   where
     each : (i : ℕ) → i ≤ n → slice_index_or slots i [] ≡ of_session i journal

@@ -32,13 +32,15 @@ only_eight grid journal legal = record { none = λ s more. each_legal grid (λ (
     at_most e (Seats c) may = may.1
     at_most e (Limit c) may = omega (arith, may)
 
-    step : (s : ℕ) → 8 < s → (past : List Entry) (e : Entry) → IsLegal grid past → IsNext grid past e → of_session s past ≡ [] → of_session s (past ++ e ∷ []) ≡ []
+    step : (s : ℕ) → 8 < s → (past : List Entry) (e : Entry) → IsLegal grid past → IsNext grid past e
+        → of_session s past ≡ [] → of_session s (past ++ e ∷ []) ≡ []
     step s more past e l next none =
         let other : e.session ≢ s = λ q. absurd (omega (arith, q, at_most e e.work next.session, more)) in
         own_append s past (e ∷ []) ∙ (λ i. none i ++ own_other s e other i)
 
 -- nothing is counted yet
-pub counts_none : (journal : List Entry) (line_counts : List ℕ) → line_counts ≡ 0 ∷ 0 ∷ 0 ∷ 0 ∷ 0 ∷ 0 ∷ 0 ∷ 0 ∷ 0 ∷ [] → CountsFirst 0 journal line_counts
+pub counts_none : (journal : List Entry) (line_counts : List ℕ) → line_counts ≡ 0 ∷ 0 ∷ 0 ∷ 0 ∷ 0 ∷ 0 ∷ 0 ∷ 0 ∷ 0 ∷ []
+    → CountsFirst 0 journal line_counts
 counts_none journal line_counts zeros = record {
   wide = ap length zeros;
   own = λ s few. absurd (omega (arith, few));
@@ -46,7 +48,9 @@ counts_none journal line_counts zeros = record {
 }
 
 -- the lines of one session more are counted
-pub counts_more : (n : ℕ) (journal : List Entry) (line_counts now : List ℕ) → CountsFirst n journal line_counts → n < 9 → now ≡ slice_set line_counts n (slice_index line_counts n + length (of_session n journal)) → CountsFirst (n + 1) journal now
+pub counts_more : (n : ℕ) (journal : List Entry) (line_counts now : List ℕ) → CountsFirst n journal line_counts → n < 9
+    → now ≡ slice_set line_counts n (slice_index line_counts n + length (of_session n journal))
+    → CountsFirst (n + 1) journal now
 counts_more n journal line_counts now c high is = record {
   wide = ap length is ∙ set_length line_counts n _ ∙ c.wide;
   own = λ s few. ⊎_elim
@@ -61,21 +65,27 @@ counts_more n journal line_counts now c high is = record {
     less s n few not = omega (arith, few, not)
 
 -- the same of the share that counts them
-pub counts_seated : (n was : ℕ) (journal receipts : List Entry) (line_counts now : List ℕ) (stake : Staked) (more : ℕ) → CountsFirst n journal line_counts → n < 9 → stake ≡ counted was 0 → was ≡ n → receipts ≡ of_session n journal → more ≡ length receipts
-    → now ≡ slice_set line_counts stake.number (slice_index line_counts stake.number + more) → CountsFirst (n + 1) journal now
+pub counts_seated : (n was : ℕ) (journal receipts : List Entry) (line_counts now : List ℕ) (stake : Staked) (more : ℕ)
+    → CountsFirst n journal line_counts → n < 9 → stake ≡ counted was 0 → was ≡ n → receipts ≡ of_session n journal
+    → more ≡ length receipts
+    → now ≡ slice_set line_counts stake.number (slice_index line_counts stake.number + more)
+    → CountsFirst (n + 1) journal now
 counts_seated n was journal receipts line_counts now stake more c high staked next own many is =
     let number : stake.number ≡ n = ap (λ (k : Staked). k.number) staked ∙ next in
     let lines : more ≡ length (of_session n journal) = many ∙ ap length own in
     counts_more n journal line_counts now c high (is ∙ (λ i. slice_set line_counts (number i) (slice_index line_counts (number i) + lines i)))
 
-pub stake_seated : (n was more : ℕ) (receipts : List Entry) (stake now : Staked) → stake ≡ counted was 0 → was ≡ n → more ≡ length receipts → now ≡ counted stake.number (stake.amount + more) → now ≡ counted n (length receipts)
+pub stake_seated : (n was more : ℕ) (receipts : List Entry) (stake now : Staked) → stake ≡ counted was 0 → was ≡ n
+    → more ≡ length receipts → now ≡ counted stake.number (stake.amount + more) → now ≡ counted n (length receipts)
 stake_seated n was more receipts stake now staked next many is =
     let number : stake.number ≡ n = ap (λ (k : Staked). k.number) staked ∙ next in
     let amount : stake.amount + more ≡ length receipts = omega (arith, ap (λ (k : Staked). k.amount) staked, many) in
     is ∙ (λ i. counted (number i) (amount i))
 
 -- all lines are counted
-pub tied_over : (grid over : Ladders) (cap most n m : ℕ) (line_counts : List ℕ) (journal : List Entry) → CountsFirst (m + 1) journal line_counts → OnlyFirst m journal → IsLegal over journal → length journal ≤ most → over ≡ grid → most ≡ cap → cap ≤ 999999 → m ≡ n → m < 9
+pub tied_over : (grid over : Ladders) (cap most n m : ℕ) (line_counts : List ℕ) (journal : List Entry)
+    → CountsFirst (m + 1) journal line_counts → OnlyFirst m journal → IsLegal over journal → length journal ≤ most
+    → over ≡ grid → most ≡ cap → cap ≤ 999999 → m ≡ n → m < 9
     → IsTied grid cap n line_counts journal
 tied_over grid over cap most n m line_counts journal c only legal capped same full small is few = record {
   wide = c.wide;
@@ -91,13 +101,16 @@ tied_over grid over cap most n m line_counts journal c only legal capped same fu
 }
 
 -- one session more
-pub seated_more : (xs : List Seat) (n m : ℕ) (past : List Entry) → xs ≡ seated_sessions n past → m ≡ n + 1 → xs ++ seated m past ∷ [] ≡ seated_sessions m past
+pub seated_more : (xs : List Seat) (n m : ℕ) (past : List Entry) → xs ≡ seated_sessions n past → m ≡ n + 1
+    → xs ++ seated m past ∷ [] ≡ seated_sessions m past
 seated_more xs n m past is e =
     let up : m ≡ suc n = omega (arith, e) in
     ap (λ (l : List Seat). l ++ seated m past ∷ []) is ∙ ap (λ (k : ℕ). seated_sessions n past ++ seated k past ∷ []) up ∙ sym (ap (λ (k : ℕ). seated_sessions k past) up)
 
 -- a session that goes on from these lines
-pub stands_seated : (grid : Ladders) (n id : ℕ) (receipts past : List Entry) → id ≤ n → n < 9 → IsLegal grid past → length past ≤ 999999 → receipts ≡ of_session id past → Stands grid n (record { id = id; receipts = receipts; front = past })
+pub stands_seated : (grid : Ladders) (n id : ℕ) (receipts past : List Entry) → id ≤ n → n < 9 → IsLegal grid past
+    → length past ≤ 999999 → receipts ≡ of_session id past
+    → Stands grid n (record { id = id; receipts = receipts; front = past })
 stands_seated grid n id receipts past le few legal short own = record {
   number = (le, few);
   legal = legal;
@@ -105,7 +118,8 @@ stands_seated grid n id receipts past le few legal short own = record {
   few = omega (arith, ap length own, own_length id past, short);
 }
 
-pub seated_is : (id : ℕ) (receipts past : List Entry) → receipts ≡ of_session id past → (let s : Seat = record { id = id; receipts = receipts; front = past } in s ≡ seated id past)
+pub seated_is : (id : ℕ) (receipts past : List Entry) → receipts ≡ of_session id past
+    → (let s : Seat = record { id = id; receipts = receipts; front = past } in s ≡ seated id past)
 seated_is id receipts past own = λ i. record { id = id; receipts = own i; front = past }
 
 none_if_short : (xs : List Entry) → length xs ≤ 0 → xs ≡ []
@@ -113,7 +127,8 @@ none_if_short [] le = refl
 none_if_short (x ∷ xs) le = absurd (omega (arith, le))
 
 -- who had seen nothing has then seen all that he was told
-pub front_whole : (visible told front : List Entry) (b : Book) (g : Ladders) (old : Viewed) → told ≡ visible → old ≡ opened b g → Begins told front → (front ≡ old.front) ⊎ (front ≡ told) → front ≡ visible
+pub front_whole : (visible told front : List Entry) (b : Book) (g : Ladders) (old : Viewed) → told ≡ visible
+    → old ≡ opened b g → Begins told front → (front ≡ old.front) ⊎ (front ≡ told) → front ≡ visible
 front_whole visible told front b g old all new note longer = ⊎_elim
     (λ (same : front ≡ old.front).
     let none : front ≡ [] = same ∙ ap (λ (v : Viewed). v.front) new in
@@ -123,27 +138,35 @@ front_whole visible told front b g old all new note longer = ⊎_elim
 
 -- ---- line by line
 
-pub take_next : (lines : List Entry) (i : ℕ) (e : Entry) → i < length lines → e ≡ get_or lines i e → take (i + 1) lines ≡ take i lines ++ e ∷ []
+pub take_next : (lines : List Entry) (i : ℕ) (e : Entry) → i < length lines → e ≡ get_or lines i e
+    → take (i + 1) lines ≡ take i lines ++ e ∷ []
 take_next lines i e lt is = take_more lines i e lt ∙ ap (λ (x : Entry). take i lines ++ x ∷ []) (sym is)
 
 -- a line of a legal history may be shown behind those before it
-pub legal_at_end : (grid over : Ladders) (visible pending lines : List Entry) (i : ℕ) (e shown : Entry) → IsLegal grid lines → over ≡ grid → visible ≡ [] → pending ≡ take i lines → i < length lines → e ≡ get_or lines i e → shown ≡ e → IsLegal over ((visible ++ pending) ++ shown ∷ [])
+pub legal_at_end : (grid over : Ladders) (visible pending lines : List Entry) (i : ℕ) (e shown : Entry)
+    → IsLegal grid lines → over ≡ grid → visible ≡ [] → pending ≡ take i lines → i < length lines → e ≡ get_or lines i e
+    → shown ≡ e → IsLegal over ((visible ++ pending) ++ shown ∷ [])
 legal_at_end grid over visible pending lines i e shown legal same none so_far lt is copied =
     let all : (visible ++ pending) ++ shown ∷ [] ≡ take (i + 1) lines = (λ k. (none k ++ so_far k) ++ copied k ∷ []) ∙ sym (take_next lines i e lt is) in
     let begins : IsLegal grid (take (i + 1) lines) = legal_prefix grid (take (i + 1) lines) lines (record { rest = drop (i + 1) lines; is = sym (take-append-drop (i + 1) lines) }) legal in
     subst (λ (x : Ladders × List Entry). IsLegal x.0 x.1) (λ k. (sym same k, sym all k)) begins
 
-pub short_at_end : (visible pending lines : List Entry) (i : ℕ) → visible ≡ [] → pending ≡ take i lines → i < length lines → length lines ≤ 999999 → length visible + length pending < 1000000
+pub short_at_end : (visible pending lines : List Entry) (i : ℕ) → visible ≡ [] → pending ≡ take i lines
+    → i < length lines → length lines ≤ 999999 → length visible + length pending < 1000000
 short_at_end visible pending lines i none so_far lt few = omega (arith, ap length none, ap length so_far, length-take-le i lines (omega (arith, lt)), lt, few)
 
-pub pending_next : (pending now lines : List Entry) (i : ℕ) (e shown : Entry) → pending ≡ take i lines → i < length lines → e ≡ get_or lines i e → shown ≡ e → now ≡ pending ++ shown ∷ [] → now ≡ take (i + 1) lines
+pub pending_next : (pending now lines : List Entry) (i : ℕ) (e shown : Entry) → pending ≡ take i lines
+    → i < length lines → e ≡ get_or lines i e → shown ≡ e → now ≡ pending ++ shown ∷ [] → now ≡ take (i + 1) lines
 pending_next pending now lines i e shown so_far lt is copied more = more ∙ (λ k. so_far k ++ copied k ∷ []) ∙ sym (take_next lines i e lt is)
 
 -- the lines of a session, with one line more
-pub own_next : (s : ℕ) (lines receipts : List Entry) (i : ℕ) (e copy : Entry) → receipts ≡ of_session s (take i lines) → i < length lines → e ≡ get_or lines i e → copy ≡ e → e.session ≡ s → receipts ++ copy ∷ [] ≡ of_session s (take (i + 1) lines)
+pub own_next : (s : ℕ) (lines receipts : List Entry) (i : ℕ) (e copy : Entry) → receipts ≡ of_session s (take i lines)
+    → i < length lines → e ≡ get_or lines i e → copy ≡ e → e.session ≡ s
+    → receipts ++ copy ∷ [] ≡ of_session s (take (i + 1) lines)
 own_next s lines receipts i e copy own lt is copied mine =
     (λ k. own k ++ copied k ∷ []) ∙ sym (ap (of_session s) (take_next lines i e lt is) ∙ own_append s (take i lines) (e ∷ []) ∙ ap (λ l. of_session s (take i lines) ++ l) (own_one s e mine))
 
-pub own_skip : (s : ℕ) (lines receipts : List Entry) (i : ℕ) (e : Entry) → receipts ≡ of_session s (take i lines) → i < length lines → e ≡ get_or lines i e → e.session ≢ s → receipts ≡ of_session s (take (i + 1) lines)
+pub own_skip : (s : ℕ) (lines receipts : List Entry) (i : ℕ) (e : Entry) → receipts ≡ of_session s (take i lines)
+    → i < length lines → e ≡ get_or lines i e → e.session ≢ s → receipts ≡ of_session s (take (i + 1) lines)
 own_skip s lines receipts i e own lt is other =
     own ∙ sym (ap (of_session s) (take_next lines i e lt is) ∙ own_append s (take i lines) (e ∷ []) ∙ ap (λ l. of_session s (take i lines) ++ l) (own_other s e other) ∙ append-nil (of_session s (take i lines)))

@@ -11,13 +11,16 @@ left_next n high =
     let here : 8 - (9 - (n + 1)) ≡ n = omega arith in
     ap stakes_left one ∙ ap (λ (k : ℕ). stakes_left (9 - (n + 1)) ++ counted k 0 ∷ []) here
 
-pub take_last : (n : ℕ) (was rest : List Staked) (s : Staked) → n ≤ 8 → was ≡ stakes_left (9 - n) → was ≡ rest ++ s ∷ [] → (rest ≡ stakes_left (9 - (n + 1))) × (s ≡ counted n 0)
+pub take_last : (n : ℕ) (was rest : List Staked) (s : Staked) → n ≤ 8 → was ≡ stakes_left (9 - n) → was ≡ rest ++ s ∷ []
+    → (rest ≡ stakes_left (9 - (n + 1))) × (s ≡ counted n 0)
 take_last n was rest s high is split = push_same rest (stakes_left (9 - (n + 1))) s (counted n 0) (sym split ∙ is ∙ left_next n high)
 
 some_left : (n : ℕ) → n ≤ 8 → 0 < length (stakes_left (9 - n))
 some_left n high = omega (arith, ap length (left_next n high), length-append (stakes_left (9 - (n + 1))) (counted n 0 ∷ []))
 
-pub popped : (n : ℕ) (was rest : List Staked) (r : Option Staked) → n ≤ 8 → was ≡ stakes_left (9 - n) → was ≡ rest ++ option_to_list r → (0 < length was → IsSome r) → (rest ≡ stakes_left (9 - (n + 1))) × (r ≡ Some (counted n 0))
+pub popped : (n : ℕ) (was rest : List Staked) (r : Option Staked) → n ≤ 8 → was ≡ stakes_left (9 - n)
+    → was ≡ rest ++ option_to_list r → (0 < length was → IsSome r)
+    → (rest ≡ stakes_left (9 - (n + 1))) × (r ≡ Some (counted n 0))
 popped n was rest None high is split some = absurd (cc (some (omega (arith, ap length is, some_left n high))))
 popped n was rest (Some s) high is split some =
     let p = take_last n was rest s high is split in

@@ -35,7 +35,8 @@ pub record Shows (core : Inventory) (publisher : Published) : Type 0 where
   pub visible : publisher.visible ≡ core.journal
   pub pending : publisher.pending ≡ []
 
-pub record LawfulUnderLock (grid : Ladders) (cap : ℕ) (book : Book) (n : ℕ) (core : Inventory) (line_counts : List ℕ) (publisher : Published) (opened : ℕ) : Type 0 where
+pub record LawfulUnderLock (grid : Ladders) (cap : ℕ) (book : Book) (n : ℕ) (core : Inventory) (line_counts : List ℕ)
+    (publisher : Published) (opened : ℕ) : Type 0 where
   -- the inventory is over the host's limits, and takes cap lines
   pub grid_is : core.grid ≡ grid
   pub cap_is : core.cap ≡ cap

@@ -152,7 +152,8 @@ fn append_all(alloc: Global, publisher: &mut Publisher, lines: &[Entry]) -> Resu
     requires legal { IsLegal publisher.old.grid lines.now }
     requires few { length lines.now ≤ 999999 }
     ensures pending { OnOk result (publisher.new.pending ≡ lines.now) }
-    ensures same { (publisher.new.book ≡ publisher.old.book) × (publisher.new.grid ≡ publisher.old.grid) × (publisher.new.visible ≡ publisher.old.visible) }
+    ensures same { (publisher.new.book ≡ publisher.old.book) × (publisher.new.grid ≡ publisher.old.grid)
+        × (publisher.new.visible ≡ publisher.old.visible) }
 {
     for line in lines {
         let shown = line.copy(alloc)?;

@@ -29,7 +29,8 @@ pub fn seat_all<K: Hosting>(
     sessions: u8,
 ) -> Result<(Manager<K>, Vec<Session<K>>), Memory>
     requires few { length lines.now ≤ 999999 }
-    requires display { (publisher.now.book ≡ K.book) × (publisher.now.grid ≡ K.grid) × (publisher.now.visible ≡ lines.now) }
+    requires display { (publisher.now.book ≡ K.book) × (publisher.now.grid ≡ K.grid)
+        × (publisher.now.visible ≡ lines.now) }
     requires line_counts { line_counts.old ≡ 0 ∷ 0 ∷ 0 ∷ 0 ∷ 0 ∷ 0 ∷ 0 ∷ 0 ∷ 0 ∷ [] }
     requires stakes { stakes ≡ 0 }
     requires viewers { (vec_len viewers ≡ sessions + 1) × All (λ v. v ≡ opened K.book K.grid) viewers.items }
@@ -79,7 +80,8 @@ fn seat_next<K: Hosting>(
 ) -> Result<Party<K>, Memory>
     requires number { (id ≤ K.sessions) × (K.sessions < 9) }
     requires few { length lines.now ≤ 999999 }
-    requires display { (publisher.now.book ≡ K.book) × (publisher.now.grid ≡ K.grid) × (publisher.now.visible ≡ lines.now) }
+    requires display { (publisher.now.book ≡ K.book) × (publisher.now.grid ≡ K.grid)
+        × (publisher.now.visible ≡ lines.now) }
     requires line_counts { CountsFirst id lines.now line_counts.old }
     requires stakes { stakes.old ≡ id }
     requires some { 0 < vec_len viewers.old }
@@ -106,7 +108,8 @@ fn seat_next<K: Hosting>(
 #[tactic(auto, using(crate::proofs::Opening::front_whole))]
 fn informed(publisher: &Publisher, viewer: Viewer) -> Viewer
     requires { viewer ≡ opened publisher.now.book publisher.now.grid }
-    ensures viewer { (result.book ≡ publisher.now.book) × (result.grid ≡ publisher.now.grid) × (result.front ≡ publisher.now.visible) }
+    ensures viewer { (result.book ≡ publisher.now.book) × (result.grid ≡ publisher.now.grid)
+        × (result.front ≡ publisher.now.visible) }
     ensures legal { IsLegal publisher.now.grid publisher.now.visible }
 {
     let mut viewer = viewer;

@@ -28,12 +28,14 @@ bare_takes true s t is = absurd cc
 bare_takes false s t is = (refl, cc)
 
 -- nothing is taken that a byte follows
-nothing_after : (o : Option Step) (i : ℕ) (rest : List ℕ) (s : Step) → alone (option_map (λ (t : Step). (t, i ∷ rest)) o) ≡ Some s → ⊥
+nothing_after : (o : Option Step) (i : ℕ) (rest : List ℕ) (s : Step)
+    → alone (option_map (λ (t : Step). (t, i ∷ rest)) o) ≡ Some s → ⊥
 nothing_after None i rest s is = cc
 nothing_after (Some t) i rest s is = cc
 
 -- nothing is taken that has the mark
-marked_alone : (k a b c stroke d e f : ℕ) (o : Option Step) (s : Step) → entry_in k a b c stroke d e f true ≡ o → alone (option_map (λ (t : Step). (t, [])) o) ≡ Some s → ⊥
+marked_alone : (k a b c stroke d e f : ℕ) (o : Option Step) (s : Step) → entry_in k a b c stroke d e f true ≡ o
+    → alone (option_map (λ (t : Step). (t, [])) o) ≡ Some s → ⊥
 marked_alone k a b c stroke d e f None s entry is = cc
 marked_alone k a b c stroke d e f (Some t) s entry is =
     let unmarked : t.listed ≡ false = (bare_takes t.listed s t is).0 in
@@ -43,7 +45,8 @@ marked_alone k a b c stroke d e f (Some t) s entry is =
 alone_takes : (bytes : List ℕ) (s : Step) → alone (entry_at bytes) ≡ Some s → EntryRead bytes (bare s)
 alone_takes (a ∷ b ∷ c ∷ d ∷ e ∷ f ∷ g ∷ h ∷ []) s is = of (entry_in a b c d e f g h false) refl is
   where
-    of : (o : Option Step) → entry_in a b c d e f g h false ≡ o → alone (option_map (λ (t : Step). (t, [])) o) ≡ Some s → EntryRead (a ∷ b ∷ c ∷ d ∷ e ∷ f ∷ g ∷ h ∷ []) (bare s)
+    of : (o : Option Step) → entry_in a b c d e f g h false ≡ o → alone (option_map (λ (t : Step). (t, [])) o) ≡ Some s
+        → EntryRead (a ∷ b ∷ c ∷ d ∷ e ∷ f ∷ g ∷ h ∷ []) (bare s)
     of None entry is = absurd cc
     of (Some t) entry is =
         let p = bare_takes t.listed s t is in
@@ -51,12 +54,16 @@ alone_takes (a ∷ b ∷ c ∷ d ∷ e ∷ f ∷ g ∷ h ∷ []) s is = of (entr
         entry_takes a b c d e f g h false (bare s) (entry ∙ ap (λ (x : Step). Some x) same)
 alone_takes (a ∷ b ∷ c ∷ d ∷ e ∷ f ∷ g ∷ h ∷ i ∷ []) s is = of (i == 78) is
   where
-    of : (m : Bool) → alone (option_map (λ (t : Step). (t, (mark_by m i []).1)) (entry_in a b c d e f g h (mark_by m i []).0)) ≡ Some s → EntryRead (a ∷ b ∷ c ∷ d ∷ e ∷ f ∷ g ∷ h ∷ i ∷ []) (bare s)
+    of : (m : Bool)
+        → alone (option_map (λ (t : Step). (t, (mark_by m i []).1)) (entry_in a b c d e f g h (mark_by m i []).0))
+        ≡ Some s → EntryRead (a ∷ b ∷ c ∷ d ∷ e ∷ f ∷ g ∷ h ∷ i ∷ []) (bare s)
     of true is = absurd (marked_alone a b c d e f g h (entry_in a b c d e f g h true) s refl is)
     of false is = absurd (nothing_after (entry_in a b c d e f g h false) i [] s is)
 alone_takes (a ∷ b ∷ c ∷ d ∷ e ∷ f ∷ g ∷ h ∷ i ∷ j ∷ rest) s is = of (i == 78) is
   where
-    of : (m : Bool) → alone (option_map (λ (t : Step). (t, (mark_by m i (j ∷ rest)).1)) (entry_in a b c d e f g h (mark_by m i (j ∷ rest)).0)) ≡ Some s
+    of : (m : Bool)
+        → alone (option_map (λ (t : Step). (t, (mark_by m i (j ∷ rest)).1))
+        (entry_in a b c d e f g h (mark_by m i (j ∷ rest)).0)) ≡ Some s
         → EntryRead (a ∷ b ∷ c ∷ d ∷ e ∷ f ∷ g ∷ h ∷ i ∷ j ∷ rest) (bare s)
     of true is = absurd (nothing_after (entry_in a b c d e f g h true) j rest s is)
     of false is = absurd (nothing_after (entry_in a b c d e f g h false) i (j ∷ rest) s is)
@@ -69,14 +76,31 @@ alone_again s is none =
 
 -- ---- the whole row
 
-joined : (line a n s d b o e r1 r2 r3 r4 r5 r6 r7 r8 : List ℕ) → line ≡ 65 ∷ 85 ∷ 32 ∷ r1 → r1 ≡ a ++ r2 → r2 ≡ n ++ r3 → r3 ≡ s ++ r4 → r4 ≡ 32 ∷ r5 → r5 ≡ d ++ r6 → r6 ≡ 32 ∷ r7 → r7 ≡ b ++ r8 → r8 ≡ o ++ 32 ∷ e
+joined : (line a n s d b o e r1 r2 r3 r4 r5 r6 r7 r8 : List ℕ) → line ≡ 65 ∷ 85 ∷ 32 ∷ r1 → r1 ≡ a ++ r2 → r2 ≡ n ++ r3
+    → r3 ≡ s ++ r4 → r4 ≡ 32 ∷ r5 → r5 ≡ d ++ r6 → r6 ≡ 32 ∷ r7 → r7 ≡ b ++ r8 → r8 ≡ o ++ 32 ∷ e
     → line ≡ 65 ∷ 85 ∷ 32 ∷ (a ++ (n ++ (s ++ 32 ∷ (d ++ 32 ∷ (b ++ (o ++ 32 ∷ e))))))
 joined line a n s d b o e r1 r2 r3 r4 r5 r6 r7 r8 e0 e1 e2 e3 e4 e5 e6 e7 e8 = rw (e0, e1, e2, e3, e4, e5, e6, e7, e8) refl
 
-assemble : (line : ℕ) (text head : List ℕ) (airline : List ℕ × List ℕ) (number : ℕ × List ℕ) (period : List ℕ) (day : ℕ × List ℕ) (pair : List ℕ) (board off : List ℕ × List ℕ) (entry : List ℕ) (step : Step)
-    → word_at (codes "AU ") text ≡ Some head → fixed_at 2 is_airline head ≡ Some airline → numeral_at 4 airline.1 ≡ Some number → byte_at 32 (suffix_at number.1).1 ≡ Some period → date_at period ≡ Some day → byte_at 32 day.1 ≡ Some pair
-    → fixed_at 3 is_station pair ≡ Some board → fixed_at 3 is_station board.1 ≡ Some off → byte_at 32 off.1 ≡ Some entry → alone (entry_at entry) ≡ Some step
-    → SpellsChange line text (record { line = line; airline = airline.0; number = number.0; suffix = (suffix_at number.1).0; day = day.0; board = board.0; off = off.0; class = step.class; limit = step.limit; wait = step.wait })
+assemble : (line : ℕ) (text head : List ℕ) (airline : List ℕ × List ℕ) (number : ℕ × List ℕ) (period : List ℕ)
+    (day : ℕ × List ℕ) (pair : List ℕ) (board off : List ℕ × List ℕ) (entry : List ℕ) (step : Step)
+    → word_at (codes "AU ") text ≡ Some head → fixed_at 2 is_airline head ≡ Some airline
+    → numeral_at 4 airline.1 ≡ Some number → byte_at 32 (suffix_at number.1).1 ≡ Some period → date_at period ≡ Some day
+    → byte_at 32 day.1 ≡ Some pair
+    → fixed_at 3 is_station pair ≡ Some board → fixed_at 3 is_station board.1 ≡ Some off → byte_at 32 off.1 ≡ Some entry
+    → alone (entry_at entry) ≡ Some step
+    → SpellsChange line text (record {
+      line = line;
+      airline = airline.0;
+      number = number.0;
+      suffix = (suffix_at number.1).0;
+      day = day.0;
+      board =
+          board.0;
+      off = off.0;
+      class = step.class;
+      limit = step.limit;
+      wait = step.wait;
+    })
 assemble line text head airline number period day pair board off entry step e0 e1 e2 e3 e4 e5 e6 e7 e8 e9 =
     let t0 = word_takes (codes "AU ") text head e0 in
     let t1 = fixed_takes 2 is_airline head airline.0 airline.1 e1 in
@@ -120,7 +144,8 @@ change_none line text e =
     want_none kinds.Entry (alone (entry_at entry)) _ e8 (λ k. absurd cc) (λ step k. absurd cc))))))))))
 
 -- each step was taken, so the line is spelled so
-pub change_takes : (line : ℕ) (text : List ℕ) (row : ChangeRow) → change_at line text ≡ Ok row → SpellsChange line text row
+pub change_takes : (line : ℕ) (text : List ℕ) (row : ChangeRow) → change_at line text ≡ Ok row
+    → SpellsChange line text row
 unfolding change_at
 change_takes line text row e =
     with_want kinds.Head _ _ row e (λ head e0 k0.
@@ -135,7 +160,8 @@ change_takes line text row e =
     with_want kinds.Entry _ _ row k8 (λ step e9 k9.
     subst (SpellsChange line text) (ok_is _ row k9) (assemble line text head airline number period day pair board off entry step e0 e1 e2 e3 e4 e5 e6 e7 e8 e9)))))))))))
 
-pub change_again : (line : ℕ) (text : List ℕ) (row : ChangeRow) → SpellsChange line text row → change_at line text ≡ Ok row
+pub change_again : (line : ℕ) (text : List ℕ) (row : ChangeRow) → SpellsChange line text row
+    → change_at line text ≡ Ok row
 unfolding change_at
 change_again line text row s =
     let step = step_of_change row in

@@ -14,25 +14,32 @@ use Rattle.seat_limits.specs.declared.limit_row.LimitRow.{LimitRow}
 use Rattle.seat_limits.specs.declared.row_index.Pair.{Pair}
 
 -- one leg more
-pub legs_more : (ladders : List (Option Steps)) (o : Option Steps) (legs : List DatedLeg) (f : DatedLeg → Steps) (i : ℕ) (leg : DatedLeg) → map steps_of ladders ≡ take i (map f legs) → i < length legs → leg ≡ get_or legs i leg → steps_of o ≡ f leg
+pub legs_more : (ladders : List (Option Steps)) (o : Option Steps) (legs : List DatedLeg) (f : DatedLeg → Steps) (i : ℕ)
+    (leg : DatedLeg) → map steps_of ladders ≡ take i (map f legs) → i < length legs → leg ≡ get_or legs i leg
+    → steps_of o ≡ f leg
     → map steps_of (ladders ++ o ∷ []) ≡ take (i + 1) (map f legs)
 legs_more ladders o legs f i leg h lt is e =
     map-append steps_of ladders (o ∷ []) ∙ ap (λ (s : List Steps). s ++ steps_of o ∷ []) h ∙ ap (λ (s : Steps). take i (map f legs) ++ s ∷ []) (e ∙ ap f is ∙ sym (get_or-map f legs i leg (f leg) lt))
     ∙ sym (take_more (map f legs) i (f leg) (rw length-map lt))
 
-pub distinct_more : (ladders : List (Option Steps)) (o : Option Steps) → ((leg : ℕ) → IsDistinct (steps_at (map steps_of ladders) leg)) → IsDistinct (steps_of o) → (leg : ℕ) → IsDistinct (steps_at (map steps_of (ladders ++ o ∷ [])) leg)
+pub distinct_more : (ladders : List (Option Steps)) (o : Option Steps)
+    → ((leg : ℕ) → IsDistinct (steps_at (map steps_of ladders) leg)) → IsDistinct (steps_of o) → (leg : ℕ)
+    → IsDistinct (steps_at (map steps_of (ladders ++ o ∷ [])) leg)
 distinct_more ladders o all here =
     let P : List Steps → Type 0 = λ legs. (leg : ℕ) → IsDistinct (steps_at legs leg) in
     subst P (sym (map-append steps_of ladders (o ∷ []))) (each_push (map steps_of ladders) (steps_of o) [] (λ (steps : Steps). IsDistinct steps) all here)
 
 -- one flight more
-pub flights_more : (grid : Ladders) (legs : List Steps) (flights : List Flight) (f : Flight → List Steps) (i : ℕ) (flight : Flight) → grid ≡ map f (take i flights) → slice_get flights i ≡ Some flight → legs ≡ f flight → grid ++ legs ∷ [] ≡ map f (take (i + 1) flights)
+pub flights_more : (grid : Ladders) (legs : List Steps) (flights : List Flight) (f : Flight → List Steps) (i : ℕ)
+    (flight : Flight) → grid ≡ map f (take i flights) → slice_get flights i ≡ Some flight → legs ≡ f flight
+    → grid ++ legs ∷ [] ≡ map f (take (i + 1) flights)
 flights_more grid legs flights f i flight h at e =
     let lt = slice_get_within flights i flight at in
     ap (λ (g : Ladders). g ++ legs ∷ []) h ∙ ap (λ (l : List Steps). map f (take i flights) ++ l ∷ []) (e ∙ ap f (sym (get_or_from_slice_get flights i flight flight at)))
     ∙ sym (map-append f (take i flights) (get_or flights i flight ∷ [])) ∙ ap (map f) (sym (take_more flights i flight lt))
 
-pub ladders_more : (grid : Ladders) (legs : List Steps) → HasLadders grid → ((leg : ℕ) → IsDistinct (steps_at legs leg)) → HasLadders (grid ++ legs ∷ [])
+pub ladders_more : (grid : Ladders) (legs : List Steps) → HasLadders grid → ((leg : ℕ) → IsDistinct (steps_at legs leg))
+    → HasLadders (grid ++ legs ∷ [])
 ladders_more grid legs all here = each_push grid legs [] (λ (l : List Steps). (leg : ℕ) → IsDistinct (steps_at l leg)) all here
 
 pub built_ladders : HasLadders []
@@ -55,7 +62,8 @@ one_of : (b : Bool) (here before : Steps) → IsDistinct here → IsDistinct bef
 one_of true here before h k = h
 one_of false here before h k = k
 
-last_ladder : (rows : List LimitRow) (pair : Pair) (day : ℕ) (before : Steps) → HaveLadders rows → IsDistinct before → IsDistinct (fold (after_row pair day) before rows)
+last_ladder : (rows : List LimitRow) (pair : Pair) (day : ℕ) (before : Steps) → HaveLadders rows → IsDistinct before
+    → IsDistinct (fold (after_row pair day) before rows)
 last_ladder [] pair day before all k = k
 last_ladder (row ∷ rows) pair day before all k =
     last_ladder rows pair day (after_row pair day before row) all.1 (one_of (is_for pair day row) row.ladder before all.0 k)
@@ -66,11 +74,13 @@ leg_ladders rows flight [] at all = tt
 leg_ladders rows flight (leg ∷ legs) zero all = last_ladder rows (leg_pair flight leg) leg.day [] all tt
 leg_ladders rows flight (leg ∷ legs) (suc at) all = leg_ladders rows flight legs at all
 
-authorised_ladders : (rows : List LimitRow) (flights : List Flight) → HaveLadders rows → HasLadders (authorised_grid rows flights)
+authorised_ladders : (rows : List LimitRow) (flights : List Flight) → HaveLadders rows
+    → HasLadders (authorised_grid rows flights)
 authorised_ladders rows [] all at leg = tt
 authorised_ladders rows (flight ∷ flights) all zero leg = leg_ladders rows flight flight.legs leg all
 authorised_ladders rows (flight ∷ flights) all (suc at) leg = authorised_ladders rows flights all at leg
 
 -- the text of limit rows gives each leg a ladder that names no class twice
-pub limit_text_ladders : (bytes : List ℕ) (rows : List LimitRow) (flights : List Flight) → IsLimitText bytes rows → HasLadders (authorised_grid rows flights)
+pub limit_text_ladders : (bytes : List ℕ) (rows : List LimitRow) (flights : List Flight) → IsLimitText bytes rows
+    → HasLadders (authorised_grid rows flights)
 limit_text_ladders bytes rows flights is = authorised_ladders rows flights (spelled_ladders (lines bytes) rows is.spelled)

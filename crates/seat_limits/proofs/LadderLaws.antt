@@ -16,11 +16,7 @@ use Rattle.seat_limits.specs.declared.limit_fault.LimitKind.{LimitKind}
 use Rattle.seat_limits.specs.declared.limit_fault.LimitKind.TheVariants as kinds
 use Rattle.seat_nesting.proofs.LadderFaults.{at_most_26, no_fault}
 use Rattle.seat_limits.proofs.LadderTexts.{steps_split, steps_from}
-
--- a value behind a test
-passed : {A : Type 0} (b : Bool) (x y : A) → cond b (Some x) None ≡ Some y → (b ≡ true) × (x ≡ y)
-passed true x y e = (refl, cc)
-passed false x y e = absurd cc
+use Rattle.airline_base.proofs.Tests.{passed}
 
 passed_on : {A : Type 0} (b : Bool) (x : Option A) (y : A) → cond b x None ≡ Some y → x ≡ Some y
 passed_on true x y e = e
@@ -65,7 +61,8 @@ pub record StepRead (class : ℕ) (limit wait : Option ℕ) (listed : Bool) (s :
   pub wait_is : wait ≡ Some s.wait
   pub listed_is : listed ≡ s.listed
 
-step_takes : (class : ℕ) (limit wait : Option ℕ) (listed : Bool) (s : Step) → step_in class limit wait listed ≡ Some s → StepRead class limit wait listed s
+step_takes : (class : ℕ) (limit wait : Option ℕ) (listed : Bool) (s : Step) → step_in class limit wait listed ≡ Some s
+    → StepRead class limit wait listed s
 step_takes class None wait listed s e = absurd cc
 step_takes class (Some limit) None listed s e = absurd cc
 step_takes class (Some limit) (Some wait) listed s e =
@@ -83,14 +80,17 @@ pub record EntryRead (text : List ℕ) (s : Step) : Type 0 where
   pub written : text ≡ entry_text s
 
 -- eight bytes, of which three write each number, and the mark
-joined : (k a b c stroke d e f class : ℕ) (limit wait : List ℕ) (m listed : Bool) → k ≡ class → a ∷ b ∷ c ∷ [] ≡ limit → stroke ≡ 47 → d ∷ e ∷ f ∷ [] ≡ wait → m ≡ listed
+joined : (k a b c stroke d e f class : ℕ) (limit wait : List ℕ) (m listed : Bool) → k ≡ class → a ∷ b ∷ c ∷ [] ≡ limit
+    → stroke ≡ 47 → d ∷ e ∷ f ∷ [] ≡ wait → m ≡ listed
     → k ∷ a ∷ b ∷ c ∷ stroke ∷ d ∷ e ∷ f ∷ mark_text m ≡ class ∷ (limit ++ 47 ∷ (wait ++ mark_text listed))
 joined k a b c stroke d e f class limit wait m listed e1 e2 e3 e4 e5 = rw (e1, e3, ← e2, ← e4, e5) refl
 
-pub entry_takes : (k a b c stroke d e f : ℕ) (m : Bool) (s : Step) → entry_in k a b c stroke d e f m ≡ Some s → EntryRead (k ∷ a ∷ b ∷ c ∷ stroke ∷ d ∷ e ∷ f ∷ mark_text m) s
+pub entry_takes : (k a b c stroke d e f : ℕ) (m : Bool) (s : Step) → entry_in k a b c stroke d e f m ≡ Some s
+    → EntryRead (k ∷ a ∷ b ∷ c ∷ stroke ∷ d ∷ e ∷ f ∷ mark_text m) s
 entry_takes k a b c stroke d e f m s h = of (stroke == 47) refl h
   where
-    of : (t : Bool) → (stroke == 47) ≡ t → cond t (step_in k (three_in a b c) (three_in d e f) m) None ≡ Some s → EntryRead (k ∷ a ∷ b ∷ c ∷ stroke ∷ d ∷ e ∷ f ∷ mark_text m) s
+    of : (t : Bool) → (stroke == 47) ≡ t → cond t (step_in k (three_in a b c) (three_in d e f) m) None ≡ Some s
+        → EntryRead (k ∷ a ∷ b ∷ c ∷ stroke ∷ d ∷ e ∷ f ∷ mark_text m) s
     of false is h = absurd cc
     of true is h =
         let r = step_takes k (three_in a b c) (three_in d e f) m s h in
@@ -102,21 +102,27 @@ entry_takes k a b c stroke d e f m s h = of (stroke == 47) refl h
         }
 
 -- the mark that is read is the step's
-pub entry_mark : (k a b c stroke d e f : ℕ) (m : Bool) (s : Step) → entry_in k a b c stroke d e f m ≡ Some s → m ≡ s.listed
+pub entry_mark : (k a b c stroke d e f : ℕ) (m : Bool) (s : Step) → entry_in k a b c stroke d e f m ≡ Some s
+    → m ≡ s.listed
 entry_mark k a b c stroke d e f m s h =
     let p = passed_on (stroke == 47) (step_in k (three_in a b c) (three_in d e f) m) s h in
     (step_takes k (three_in a b c) (three_in d e f) m s p).listed_is
 
 pub entry_again : (s : Step) → IsEntry s
-    → entry_in s.class (48 + s.limit / 100) (48 + s.limit / 10 % 10) (48 + s.limit % 10) 47 (48 + s.wait / 100) (48 + s.wait / 10 % 10) (48 + s.wait % 10) s.listed ≡ Some s
+    → entry_in s.class (48 + s.limit / 100) (48 + s.limit / 10 % 10) (48 + s.limit % 10) 47 (48 + s.wait / 100)
+    (48 + s.wait / 10 % 10) (48 + s.wait % 10) s.listed ≡ Some s
 entry_again s is = rw (three_again s.limit is.limit, three_again s.wait is.wait, is.letter) refl
 
 -- the text of an entry is read as it, where no mark follows
-pub entry_front : (s : Step) → IsEntry s → (after : List ℕ) → ◌≡◌ {A = Bool × List ℕ} (mark_at after) (false, after) → entry_at (entry_text s ++ after) ≡ Some (s, after)
+pub entry_front : (s : Step) → IsEntry s → (after : List ℕ) → ◌≡◌ {A = Bool × List ℕ} (mark_at after) (false, after)
+    → entry_at (entry_text s ++ after) ≡ Some (s, after)
 entry_front s is after none = of s.listed (entry_again s is)
   where
-    of : (m : Bool) → entry_in s.class (48 + s.limit / 100) (48 + s.limit / 10 % 10) (48 + s.limit % 10) 47 (48 + s.wait / 100) (48 + s.wait / 10 % 10) (48 + s.wait % 10) m ≡ Some s
-        → entry_at (s.class ∷ (three_digits s.limit ++ 47 ∷ (three_digits s.wait ++ mark_text m)) ++ after) ≡ Some (s, after)
+    of : (m : Bool)
+        → entry_in s.class (48 + s.limit / 100) (48 + s.limit / 10 % 10) (48 + s.limit % 10) 47 (48 + s.wait / 100)
+        (48 + s.wait / 10 % 10) (48 + s.wait % 10) m ≡ Some s
+        → entry_at (s.class ∷ (three_digits s.limit ++ 47 ∷ (three_digits s.wait ++ mark_text m)) ++ after)
+        ≡ Some (s, after)
     of true e = ap (λ (o : Option Step). option_map (λ (t : Step). (t, after)) o) e
     of false e = rw none (ap (λ (o : Option Step). option_map (λ (t : Step). (t, after)) o) e)
 
@@ -125,7 +131,8 @@ entry_front s is after none = of s.listed (entry_again s is)
 spells_one : (text : List ℕ) (s : Step) → EntryRead text s → SpellsSteps text (s ∷ [])
 spells_one text s r = record { some = omega arith; each = (r.entry, tt); written = r.written }
 
-spells_more : (text rest : List ℕ) (s : Step) (lower : Steps) → EntryRead text s → SpellsSteps rest lower → SpellsSteps (text ++ 32 ∷ rest) (s ∷ lower)
+spells_more : (text rest : List ℕ) (s : Step) (lower : Steps) → EntryRead text s → SpellsSteps rest lower
+    → SpellsSteps (text ++ 32 ∷ rest) (s ∷ lower)
 spells_more text rest s [] r h = absurd (omega (arith, h.some))
 spells_more text rest s (t ∷ lower) r h = record {
   some = omega arith;
@@ -134,16 +141,19 @@ spells_more text rest s (t ∷ lower) r h = record {
 }
 
 -- an entry alone, in these bytes
-one_takes : (front : List ℕ) (o : Option Step) (steps : Steps) → ((s : Step) → o ≡ Some s → EntryRead front s) → with_entry o (Some []) ≡ Some steps → SpellsSteps front steps
+one_takes : (front : List ℕ) (o : Option Step) (steps : Steps) → ((s : Step) → o ≡ Some s → EntryRead front s)
+    → with_entry o (Some []) ≡ Some steps → SpellsSteps front steps
 one_takes front None steps read is = absurd cc
 one_takes front (Some s) steps read is = let same : s ∷ [] ≡ steps = cc in subst (SpellsSteps front) same (spells_one front s (read s refl))
 
 -- an entry in these bytes, a blank, and more entries
-more_takes : (front : List ℕ) (o : Option Step) (i : ℕ) (rest : List ℕ) (p : Option Steps) (steps : Steps) → ((s : Step) → o ≡ Some s → EntryRead front s) → ((lower : Steps) → p ≡ Some lower → SpellsSteps rest lower)
+more_takes : (front : List ℕ) (o : Option Step) (i : ℕ) (rest : List ℕ) (p : Option Steps) (steps : Steps)
+    → ((s : Step) → o ≡ Some s → EntryRead front s) → ((lower : Steps) → p ≡ Some lower → SpellsSteps rest lower)
     → with_entry o (if i == 32 then p else None) ≡ Some steps → SpellsSteps (front ++ i ∷ rest) steps
 more_takes front o i rest p steps read lower_is is = of o (i == 32) p refl refl refl is
   where
-    of : (e : Option Step) (t : Bool) (q : Option Steps) → o ≡ e → (i == 32) ≡ t → p ≡ q → with_entry e (cond t q None) ≡ Some steps → SpellsSteps (front ++ i ∷ rest) steps
+    of : (e : Option Step) (t : Bool) (q : Option Steps) → o ≡ e → (i == 32) ≡ t → p ≡ q
+        → with_entry e (cond t q None) ≡ Some steps → SpellsSteps (front ++ i ∷ rest) steps
     of None t q entry blank lower is = absurd cc
     of (Some s) false q entry blank lower is = absurd cc
     of (Some s) true None entry blank lower is = absurd cc
@@ -159,7 +169,8 @@ unfolding steps_in
 steps_take (a ∷ b ∷ c ∷ d ∷ e ∷ f ∷ g ∷ h ∷ []) steps is = one_takes (a ∷ b ∷ c ∷ d ∷ e ∷ f ∷ g ∷ h ∷ []) (entry_in a b c d e f g h false) steps (entry_takes a b c d e f g h false) is
 steps_take (a ∷ b ∷ c ∷ d ∷ e ∷ f ∷ g ∷ h ∷ i ∷ []) steps is = of (i == 78) refl (entry_in a b c d e f g h true) refl is
   where
-    of : (t : Bool) → (i == 78) ≡ t → (o : Option Step) → entry_in a b c d e f g h true ≡ o → with_entry o (cond t (Some []) None) ≡ Some steps → SpellsSteps (a ∷ b ∷ c ∷ d ∷ e ∷ f ∷ g ∷ h ∷ i ∷ []) steps
+    of : (t : Bool) → (i == 78) ≡ t → (o : Option Step) → entry_in a b c d e f g h true ≡ o
+        → with_entry o (cond t (Some []) None) ≡ Some steps → SpellsSteps (a ∷ b ∷ c ∷ d ∷ e ∷ f ∷ g ∷ h ∷ i ∷ []) steps
     of false mark None entry is = absurd cc
     of false mark (Some s) entry is = absurd cc
     of true mark o entry is =
@@ -167,8 +178,10 @@ steps_take (a ∷ b ∷ c ∷ d ∷ e ∷ f ∷ g ∷ h ∷ i ∷ []) steps is =
         subst family (sym (eqb-true i 78 mark)) (one_takes (a ∷ b ∷ c ∷ d ∷ e ∷ f ∷ g ∷ h ∷ 78 ∷ []) o steps (λ s k. entry_takes a b c d e f g h true s (entry ∙ k)) is)
 steps_take (a ∷ b ∷ c ∷ d ∷ e ∷ f ∷ g ∷ h ∷ i ∷ j ∷ rest) steps is = of (i == 78) refl (steps_in rest) (steps_in (j ∷ rest)) (steps_take rest) (steps_take (j ∷ rest)) is
   where
-    of : (t : Bool) → (i == 78) ≡ t → (p q : Option Steps) → ((lower : Steps) → p ≡ Some lower → SpellsSteps rest lower) → ((lower : Steps) → q ≡ Some lower → SpellsSteps (j ∷ rest) lower)
-        → cond t (with_entry (entry_in a b c d e f g h true) (if j == 32 then p else None)) (with_entry (entry_in a b c d e f g h false) (if i == 32 then q else None)) ≡ Some steps
+    of : (t : Bool) → (i == 78) ≡ t → (p q : Option Steps) → ((lower : Steps) → p ≡ Some lower → SpellsSteps rest lower)
+        → ((lower : Steps) → q ≡ Some lower → SpellsSteps (j ∷ rest) lower)
+        → cond t (with_entry (entry_in a b c d e f g h true) (if j == 32 then p else None))
+        (with_entry (entry_in a b c d e f g h false) (if i == 32 then q else None)) ≡ Some steps
         → SpellsSteps (a ∷ b ∷ c ∷ d ∷ e ∷ f ∷ g ∷ h ∷ i ∷ j ∷ rest) steps
     of true mark p q near far is =
         let family : ℕ → Type 0 = λ x. SpellsSteps (a ∷ b ∷ c ∷ d ∷ e ∷ f ∷ g ∷ h ∷ x ∷ j ∷ rest) steps in
@@ -176,7 +189,8 @@ steps_take (a ∷ b ∷ c ∷ d ∷ e ∷ f ∷ g ∷ h ∷ i ∷ j ∷ rest) st
     of false mark p q near far is = more_takes (a ∷ b ∷ c ∷ d ∷ e ∷ f ∷ g ∷ h ∷ []) (entry_in a b c d e f g h false) i (j ∷ rest) q steps (entry_takes a b c d e f g h false) far is
 steps_take _ steps is = absurd cc
 
-text_again : (steps : Steps) → 0 < length steps → AllByRecursion IsEntry steps → steps_in (ladder_text steps) ≡ Some steps
+text_again : (steps : Steps) → 0 < length steps → AllByRecursion IsEntry steps
+    → steps_in (ladder_text steps) ≡ Some steps
 text_again [] some each = absurd (omega arith)
 text_again (s ∷ []) some each = ap steps_in (sym (append-nil (entry_text s))) ∙ steps_split (entry_text s ++ []) ∙ ap steps_from (entry_front s each.0 [] refl)
 text_again (s ∷ t ∷ lower) some each =
@@ -219,7 +233,9 @@ repeated (s ∷ lower) some h =
     let first : (suc (length lower) == 0) ≡ false = grind (arith, nat_tests) in
     rw (first, h) refl
 
-long_ladder : (text : List ℕ) (o : Option Steps) → 259 < length text → ((steps : Steps) → o ≡ Some steps → SpellsSteps text steps) → ladder_of o ≡ Err (if is_some o then kinds.Ladder RepeatedClass else kinds.Entry)
+long_ladder : (text : List ℕ) (o : Option Steps) → 259 < length text
+    → ((steps : Steps) → o ≡ Some steps → SpellsSteps text steps)
+    → ladder_of o ≡ Err (if is_some o then kinds.Ladder RepeatedClass else kinds.Entry)
 long_ladder text None long spells = refl
 long_ladder text (Some steps) long spells =
     let h = spells steps refl in
@@ -229,7 +245,8 @@ long_ladder text (Some steps) long spells =
     ap (ladder_or steps) fault
 
 -- more than 26 entries repeat a class
-pub long_text : (text : List ℕ) → 259 < length text → ladder_in text ≡ Err (if is_some (steps_in text) then kinds.Ladder RepeatedClass else kinds.Entry)
+pub long_text : (text : List ℕ) → 259 < length text
+    → ladder_in text ≡ Err (if is_some (steps_in text) then kinds.Ladder RepeatedClass else kinds.Entry)
 unfolding ladder_in
 long_text text long = long_ladder text (steps_in text) long (steps_take text)
 
@@ -238,11 +255,13 @@ long_text text long = long_ladder text (steps_in text) long (steps_take text)
 abbrev pub read : Steps → Result Steps LimitKind
 read steps = Ok steps
 
-found_or : (text : List ℕ) (steps : Steps) (o : Option LadderFault) → SpellsSteps text steps → IfOk (ladder_or steps o) (SpellsSteps text)
+found_or : (text : List ℕ) (steps : Steps) (o : Option LadderFault) → SpellsSteps text steps
+    → IfOk (ladder_or steps o) (SpellsSteps text)
 found_or text steps None h = h
 found_or text steps (Some fault) h = tt
 
-found_of : (text : List ℕ) (o : Option Steps) → ((steps : Steps) → o ≡ Some steps → SpellsSteps text steps) → IfOk (ladder_of o) (SpellsSteps text)
+found_of : (text : List ℕ) (o : Option Steps) → ((steps : Steps) → o ≡ Some steps → SpellsSteps text steps)
+    → IfOk (ladder_of o) (SpellsSteps text)
 found_of text None spells = tt
 found_of text (Some steps) spells = found_or text steps (ladder_fault steps) (spells steps refl)
 
@@ -254,7 +273,8 @@ pub is_only : (text : List ℕ) (steps : Steps) → SpellsSteps text steps → I
 unfolding ladder_in
 is_only text steps spelled is = ap ladder_of (steps_again text steps spelled) ∙ ap (ladder_or steps) (no_fault steps is)
 
-fault_or : (text : List ℕ) (steps : Steps) (o : Option LadderFault) → SpellsSteps text steps → ladder_fault steps ≡ o → IfErr (ladder_or steps o) (IsLadderRefusal text)
+fault_or : (text : List ℕ) (steps : Steps) (o : Option LadderFault) → SpellsSteps text steps → ladder_fault steps ≡ o
+    → IfErr (ladder_or steps o) (IsLadderRefusal text)
 fault_or text steps None h e = tt
 fault_or text steps (Some fault) h e = (steps, h, e)
 
@@ -264,7 +284,8 @@ no_steps = None
 apart : (steps : Steps) → no_steps ≡ Some steps → ⊥
 apart steps e = cc
 
-fault_of : (text : List ℕ) (o : Option Steps) → steps_in text ≡ o → ((steps : Steps) → o ≡ Some steps → SpellsSteps text steps) → IfErr (ladder_of o) (IsLadderRefusal text)
+fault_of : (text : List ℕ) (o : Option Steps) → steps_in text ≡ o
+    → ((steps : Steps) → o ≡ Some steps → SpellsSteps text steps) → IfErr (ladder_of o) (IsLadderRefusal text)
 fault_of text None e spells = λ steps h. apart steps (sym e ∙ steps_again text steps h)
 fault_of text (Some steps) e spells = fault_or text steps (ladder_fault steps) (spells steps refl) refl
 

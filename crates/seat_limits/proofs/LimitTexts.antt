@@ -8,7 +8,9 @@ use Rattle.seat_limits.specs.declared.limit_fault.LimitKind.{LimitKind}
 use Rattle.seat_limits.proofs.RowLaws.{row_takes, row_again}
 use Rattle.seat_limits.proofs.RowTexts.{Rows, ok_rows, IsAt, whole, rows_is}
 
-take_then : (texts : List (List ℕ)) (n : ℕ) (c : ℕ) (text : List ℕ) (r : Result LimitRow LimitKind) (more : Rows LimitRow) (rows : List LimitRow) → row_at (c ∷ text) ≡ r → ((xs : List LimitRow) → more ≡ ok_rows xs → SpellsRows texts xs)
+take_then : (texts : List (List ℕ)) (n : ℕ) (c : ℕ) (text : List ℕ) (r : Result LimitRow LimitKind)
+    (more : Rows LimitRow) (rows : List LimitRow) → row_at (c ∷ text) ≡ r
+    → ((xs : List LimitRow) → more ≡ ok_rows xs → SpellsRows texts xs)
     → row_then n r more ≡ ok_rows rows → SpellsRows ((c ∷ text) ∷ texts) rows
 take_then texts n c text (Err kind) more rows e h is = absurd cc
 take_then texts n c text (Ok row) (Err fault) rows e h is = absurd cc
@@ -16,20 +18,24 @@ take_then texts n c text (Ok row) (Ok xs) rows e h is =
     let same : row ∷ xs ≡ rows = cc in
     subst (SpellsRows ((c ∷ text) ∷ texts)) same (row_takes (c ∷ text) row e, h xs refl)
 
-rows_take : (texts : List (List ℕ)) (n : ℕ) (rows : List LimitRow) → each_row numbered n texts ≡ ok_rows rows → SpellsRows texts rows
+rows_take : (texts : List (List ℕ)) (n : ℕ) (rows : List LimitRow) → each_row numbered n texts ≡ ok_rows rows
+    → SpellsRows texts rows
 rows_take [] n rows e = let same : [] ≡ rows = cc in subst (SpellsRows []) same tt
 rows_take ([] ∷ texts) n rows e = rows_take texts (n + 1) rows e
 rows_take ((c ∷ text) ∷ texts) n rows e = take_then texts n c text (row_at (c ∷ text)) (each_row numbered (n + 1) texts) rows refl (rows_take texts (n + 1)) e
 
-pub rows_again : (texts : List (List ℕ)) (n : ℕ) (rows : List LimitRow) → SpellsRows texts rows → each_row numbered n texts ≡ ok_rows rows
+pub rows_again : (texts : List (List ℕ)) (n : ℕ) (rows : List LimitRow) → SpellsRows texts rows
+    → each_row numbered n texts ≡ ok_rows rows
 rows_again [] n [] h = refl
 rows_again [] n (row ∷ rows) h = absurd h
 rows_again ([] ∷ texts) n rows h = rows_again texts (n + 1) rows h
 rows_again ((c ∷ text) ∷ texts) n [] h = absurd h
 rows_again ((c ∷ text) ∷ texts) n (row ∷ rows) h = rw (row_again (c ∷ text) row h.0, rows_again texts (n + 1) rows h.1) refl
 
-pub whole_found : (bytes : List ℕ) (line : ℕ) (rest : List ℕ) (rows : List LimitRow) → IsAt numbered bytes line rest rows → length rest ≡ 0 → IsLimitText bytes rows
+pub whole_found : (bytes : List ℕ) (line : ℕ) (rest : List ℕ) (rows : List LimitRow)
+    → IsAt numbered bytes line rest rows → length rest ≡ 0 → IsLimitText bytes rows
 whole_found bytes line rest rows at none = record { spelled = rows_take (lines bytes) 1 rows (whole numbered bytes line rest rows at none) }
 
-pub whole_only : (bytes : List ℕ) (line : ℕ) (rest : List ℕ) (rows others : List LimitRow) → IsAt numbered bytes line rest rows → length rest ≡ 0 → IsLimitText bytes others → rows ≡ others
+pub whole_only : (bytes : List ℕ) (line : ℕ) (rest : List ℕ) (rows others : List LimitRow)
+    → IsAt numbered bytes line rest rows → length rest ≡ 0 → IsLimitText bytes others → rows ≡ others
 whole_only bytes line rest rows others at none h = rows_is rows others (sym (whole numbered bytes line rest rows at none) ∙ rows_again (lines bytes) 1 others h.spelled)

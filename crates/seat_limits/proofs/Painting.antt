@@ -24,7 +24,8 @@ skip_none_more skips i h = record {
     of s (inl less) lt = get_or_append_left skips (i ∷ []) 0 s (omega (arith, h.counted, less)) ∙ h.each s less
     of s (inr more) lt = let same : i ≡ s = omega arith in get_or_push skips i 0 s (h.counted ∙ same) ∙ same
 
-pub skips_at_first : (count : ℕ) (rows : List (Option ℕ)) (skips : List ℕ) → rows ≡ replicate count None → SkipNone skips (count + 1) → Skips rows skips
+pub skips_at_first : (count : ℕ) (rows : List (Option ℕ)) (skips : List ℕ) → rows ≡ replicate count None
+    → SkipNone skips (count + 1) → Skips rows skips
 skips_at_first count rows skips e h =
     let many : length rows ≡ count = ap length e ∙ length-replicate count None in
     record {
@@ -60,7 +61,9 @@ set_here : {X : Type 0} (xs : List X) (at s : ℕ) (x d : X) → at < length xs 
 set_here xs at s x d lt e = ap (λ (k : ℕ). get_or (set xs at x) k d) e ∙ get_or-set_same xs at x d lt
 
 -- a stretch skips further
-pub skips_further : (rows : List (Option ℕ)) (skips : List ℕ) (at to : ℕ) → Skips rows skips → at ≤ length rows → at < to → to ≤ length rows → ((c : ℕ) → at ≤ c → c < to → get_or rows c None ≢ None) → Skips rows (set skips at to)
+pub skips_further : (rows : List (Option ℕ)) (skips : List ℕ) (at to : ℕ) → Skips rows skips → at ≤ length rows
+    → at < to → to ≤ length rows → ((c : ℕ) → at ≤ c → c < to → get_or rows c None ≢ None)
+    → Skips rows (set skips at to)
 skips_further rows skips at to h inside further within closed = record {
   counted = length-set skips at to ∙ h.counted;
   onward = λ s le. on s (same_or s at) le;
@@ -83,7 +86,8 @@ skips_further rows skips at to h inside further within closed = record {
     no_more s (inl e) = omega (arith, here s e, within)
     no_more s (inr ne) = omega (arith, other s ne, h.inside s)
 
-    free : (s : ℕ) → (s ≡ at) ⊎ (s ≢ at) → s < length rows → get_or (set skips at to) s 0 ≡ s → get_or rows s None ≡ None
+    free : (s : ℕ) → (s ≡ at) ⊎ (s ≢ at) → s < length rows → get_or (set skips at to) s 0 ≡ s
+        → get_or rows s None ≡ None
     free s (inl e) lt self = absurd (omega (arith, e, here s e, further, self))
     free s (inr ne) lt self = h.bare s lt (sym (other s ne) ∙ self)
 
@@ -92,7 +96,8 @@ skips_further rows skips at to h inside further within closed = record {
     shut s c (inr ne) le lt = h.closed s c le (omega (arith, other s ne, lt))
 
 -- a stretch gets a row, and skips to the next one
-pub skips_closed : (rows : List (Option ℕ)) (skips : List ℕ) (at row : ℕ) → Skips rows skips → at < length rows → Skips (set rows at (Some row)) (set skips at (at + 1))
+pub skips_closed : (rows : List (Option ℕ)) (skips : List ℕ) (at row : ℕ) → Skips rows skips → at < length rows
+    → Skips (set rows at (Some row)) (set skips at (at + 1))
 skips_closed rows skips at row h inside =
     let many : length (set rows at (Some row)) ≡ length rows = length-set rows at (Some row) in
     record {
@@ -119,21 +124,25 @@ skips_closed rows skips at row h inside =
     on s (inl e) le = omega (arith, e, here s e)
     on s (inr ne) le = omega (arith, other s ne, h.onward s le)
 
-    no_more : (s : ℕ) → (s ≡ at) ⊎ (s ≢ at) → length (set rows at (Some row)) ≡ length rows → get_or (set skips at (at + 1)) s 0 ≤ length (set rows at (Some row))
+    no_more : (s : ℕ) → (s ≡ at) ⊎ (s ≢ at) → length (set rows at (Some row)) ≡ length rows
+        → get_or (set skips at (at + 1)) s 0 ≤ length (set rows at (Some row))
     no_more s (inl e) many = omega (arith, here s e, inside, many)
     no_more s (inr ne) many = omega (arith, other s ne, h.inside s, many)
 
-    free : (s : ℕ) → (s ≡ at) ⊎ (s ≢ at) → s < length rows → get_or (set skips at (at + 1)) s 0 ≡ s → get_or (set rows at (Some row)) s None ≡ None
+    free : (s : ℕ) → (s ≡ at) ⊎ (s ≢ at) → s < length rows → get_or (set skips at (at + 1)) s 0 ≡ s
+        → get_or (set rows at (Some row)) s None ≡ None
     free s (inl e) lt self = absurd (omega (arith, e, here s e, self))
     free s (inr ne) lt self = row_other s ne ∙ h.bare s lt (sym (other s ne) ∙ self)
 
-    shut : (s c : ℕ) → (s ≡ at) ⊎ (s ≢ at) → (c ≡ at) ⊎ (c ≢ at) → s ≤ c → c < get_or (set skips at (at + 1)) s 0 → get_or (set rows at (Some row)) c None ≡ None → ⊥
+    shut : (s c : ℕ) → (s ≡ at) ⊎ (s ≢ at) → (c ≡ at) ⊎ (c ≢ at) → s ≤ c → c < get_or (set skips at (at + 1)) s 0
+        → get_or (set rows at (Some row)) c None ≡ None → ⊥
     shut s c k (inl f) le lt none = never c f none
     shut s c (inl e) (inr nf) le lt none = nf (omega (arith, e, le, lt, here s e))
     shut s c (inr ne) (inr nf) le lt none = h.closed s c le (omega (arith, lt, other s ne)) (sym (row_other c nf) ∙ none)
 
 -- a stretch skips on to where the one skips that it skips to
-pub skips_twice : (rows : List (Option ℕ)) (skips : List ℕ) (at next behind : ℕ) → Skips rows skips → at ≤ length rows → at < next → next ≡ get_or skips at 0 → behind ≡ get_or skips next 0 → Skips rows (set skips at behind)
+pub skips_twice : (rows : List (Option ℕ)) (skips : List ℕ) (at next behind : ℕ) → Skips rows skips → at ≤ length rows
+    → at < next → next ≡ get_or skips at 0 → behind ≡ get_or skips next 0 → Skips rows (set skips at behind)
 skips_twice rows skips at next behind h inside further is goes =
     skips_further rows skips at behind h inside (omega (arith, further, goes, h.onward next (omega (arith, is, h.inside at)))) (omega (arith, goes, h.inside next)) (λ c le lt. of c (cases_lt c next) le lt)
   where
@@ -159,7 +168,8 @@ has_one : (o : Option ℕ) (row : ℕ) → o ≢ None → o ≡ or_row o row
 has_one None row ne = absurd (ne refl)
 has_one (Some j) row ne = refl
 
-pub paint_start : (old new : List (Option ℕ)) (skips : List ℕ) (from to at row : ℕ) → Skips new skips → new ≡ old → IsNext old from at → PaintsUpTo old new skips from to at row
+pub paint_start : (old new : List (Option ℕ)) (skips : List ℕ) (from to at row : ℕ) → Skips new skips → new ≡ old
+    → IsNext old from at → PaintsUpTo old new skips from to at row
 paint_start old new skips from to at row h e next =
     let same : (c : ℕ) → get_or new c None ≡ get_or old c None = λ c. ap (λ (l : List (Option ℕ)). get_or l c None) e in
     record {
@@ -174,7 +184,8 @@ paint_start old new skips from to at row h e next =
       behind = λ c le. same c;
     }
 
-pub paint_more : (old cur mid new : List (Option ℕ)) (was skips : List ℕ) (from to at next row : ℕ) → PaintsUpTo old cur was from to at row → at < to → to ≤ length old → mid ≡ set cur at (Some row)
+pub paint_more : (old cur mid new : List (Option ℕ)) (was skips : List ℕ) (from to at next row : ℕ)
+    → PaintsUpTo old cur was from to at row → at < to → to ≤ length old → mid ≡ set cur at (Some row)
     → Skips new skips → new ≡ mid → IsNext mid (at + 1) next → PaintsUpTo old new skips from to next row
 paint_more old cur mid new was skips from to at next row h less within m k e n =
     let same : (c : ℕ) → get_or new c None ≡ get_or mid c None = λ c. ap (λ (l : List (Option ℕ)). get_or l c None) e in
@@ -202,7 +213,8 @@ paint_more old cur mid new was skips from to at next row h less within m k e n =
     was_none : get_or old at None ≡ None
     was_none = sym (h.rest at (omega arith)) ∙ h.bare (omega (arith, less, within))
 
-    of : (c : ℕ) → (c < at) ⊎ (at ≤ c) → (at < c) ⊎ (c ≤ at) → from ≤ c → c < next → c < to → get_or mid c None ≡ or_row (get_or old c None) row
+    of : (c : ℕ) → (c < at) ⊎ (at ≤ c) → (at < c) ⊎ (c ≤ at) → from ≤ c → c < next → c < to
+        → get_or mid c None ≡ or_row (get_or old c None) row
     of c (inl lower) j le lt few = other c (λ q. omega (arith, q, lower)) ∙ h.here c le lower few
     of c (inr upper) (inl over) le lt few =
         let mine : get_or mid c None ≡ get_or old c None = other c (λ q. omega (arith, q, over)) ∙ h.rest c upper in
@@ -212,7 +224,8 @@ paint_more old cur mid new was skips from to at next row h less within m k e n =
         ap (λ (l : List (Option ℕ)). get_or l c None) m ∙ set_here cur at c (Some row) None lower_end this
         ∙ ap (λ (o : Option ℕ). or_row o row) (sym was_none ∙ ap (λ (i : ℕ). get_or old i None) (sym this))
 
-pub paint_end : (old new : List (Option ℕ)) (skips : List ℕ) (from to at row : ℕ) → PaintsUpTo old new skips from to at row → to ≤ at → Paints old new from to row
+pub paint_end : (old new : List (Option ℕ)) (skips : List ℕ) (from to at row : ℕ)
+    → PaintsUpTo old new skips from to at row → to ≤ at → Paints old new from to row
 paint_end old new skips from to at row h le = record {
   counted = h.counted;
   before = h.before;

@@ -21,19 +21,23 @@ pub suffix_takes : (bytes : List ℕ) → SuffixRead bytes (suffix_at bytes).0 (
 suffix_takes [] = record { written = refl; letter = tt }
 suffix_takes (c ∷ rest) = of (is_ascii_uppercase c) refl
   where
-    of : (b : Bool) → is_ascii_uppercase c ≡ b → SuffixRead (c ∷ rest) (cond {A = Option ℕ × List ℕ} b (Some c, rest) (None, c ∷ rest)).0 (cond {A = Option ℕ × List ℕ} b (Some c, rest) (None, c ∷ rest)).1
+    of : (b : Bool) → is_ascii_uppercase c ≡ b
+        → SuffixRead (c ∷ rest) (cond {A = Option ℕ × List ℕ} b (Some c, rest) (None, c ∷ rest)).0
+        (cond {A = Option ℕ × List ℕ} b (Some c, rest) (None, c ∷ rest)).1
     of true e = record { written = refl; letter = e }
     of false e = record { written = refl; letter = tt }
 
 abbrev suffix_and : Option ℕ → List ℕ → Option ℕ × List ℕ
 suffix_and suffix rest = (suffix, rest)
 
-pub suffix_again : (suffix : Option ℕ) (rest : List ℕ) → IfSome suffix (λ c. IsTrue (is_ascii_uppercase c)) → suffix_at (suffix_text suffix ++ 32 ∷ rest) ≡ suffix_and suffix (32 ∷ rest)
+pub suffix_again : (suffix : Option ℕ) (rest : List ℕ) → IfSome suffix (λ c. IsTrue (is_ascii_uppercase c))
+    → suffix_at (suffix_text suffix ++ 32 ∷ rest) ≡ suffix_and suffix (32 ∷ rest)
 suffix_again None rest h = refl
 suffix_again (Some c) rest h = rw h refl
 
 -- a letter or a blank is no digit
-pub suffix_stops : (suffix : Option ℕ) (rest : List ℕ) → IfSome suffix (λ c. IsTrue (is_ascii_uppercase c)) → Stops is_ascii_digit (suffix_text suffix ++ 32 ∷ rest)
+pub suffix_stops : (suffix : Option ℕ) (rest : List ℕ) → IfSome suffix (λ c. IsTrue (is_ascii_uppercase c))
+    → Stops is_ascii_digit (suffix_text suffix ++ 32 ∷ rest)
 suffix_stops None rest h = refl
 suffix_stops (Some c) rest h = grind (arith, nat_tests, h)
 
@@ -51,7 +55,8 @@ short_date (a ∷ b ∷ c ∷ d ∷ e ∷ []) h = refl
 short_date (a ∷ b ∷ c ∷ d ∷ e ∷ f ∷ []) h = refl
 short_date (a ∷ b ∷ c ∷ d ∷ e ∷ f ∷ g ∷ bytes) h = absurd (omega arith)
 
-date_of : (after : List ℕ) (o : Option ℕ) (n : ℕ) (rest : List ℕ) → option_map (with_rest after) o ≡ Some (n, rest) → (o ≡ Some n) × (after ≡ rest)
+date_of : (after : List ℕ) (o : Option ℕ) (n : ℕ) (rest : List ℕ) → option_map (with_rest after) o ≡ Some (n, rest)
+    → (o ≡ Some n) × (after ≡ rest)
 date_of after None n rest e = absurd cc
 date_of after (Some m) n rest e =
     let same : with_rest after m ≡ with_rest rest n = some_is (with_rest after m) (with_rest rest n) e in
@@ -78,7 +83,8 @@ day_field_length text n h = ap length h.written ∙ of (month_name h.month) (len
     of : (name : List ℕ) → length name ≡ 3 → length ((two_digits h.day ++ name) ++ two_digits h.year) ≡ 7
     of name e = rw (length-append (two_digits h.day ++ name) (two_digits h.year), length-append (two_digits h.day) name) (omega (arith, e))
 
-pub date_again_front : (text : List ℕ) (n : ℕ) (rest : List ℕ) → IsDayField text n → date_at (text ++ rest) ≡ Some (n, rest)
+pub date_again_front : (text : List ℕ) (n : ℕ) (rest : List ℕ) → IsDayField text n
+    → date_at (text ++ rest) ≡ Some (n, rest)
 unfolding date_at
 date_again_front text n rest h =
     let len = day_field_length text n h in

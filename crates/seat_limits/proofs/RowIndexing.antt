@@ -49,7 +49,7 @@ text_same : (a : List ℕ) → pointwise nat_eq a a ≡ true
 text_same [] = refl
 text_same (x ∷ xs) = ap (λ (b : Bool). b && pointwise nat_eq xs xs) (eq-eqb x x refl) ∙ text_same xs
 
-letter_same : (a : Option ℕ) → option_eq nat_eq a a ≡ true
+pub letter_same : (a : Option ℕ) → option_eq nat_eq a a ≡ true
 letter_same None = refl
 letter_same (Some x) = eq-eqb x x refl
 
@@ -58,10 +58,12 @@ pair_same a = rw (text_same a.airline, eq-eqb a.number a.number refl, letter_sam
 
 -- ---- one row more
 
-pub row_here : (rows : List LimitRow) (i : ℕ) (row : LimitRow) → i < length rows → row ≡ get_or rows i row → slice_get rows i ≡ Some row
+pub row_here : (rows : List LimitRow) (i : ℕ) (row : LimitRow) → i < length rows → row ≡ get_or rows i row
+    → slice_get rows i ≡ Some row
 row_here rows i row lt is = slice_get-get_or rows i row lt ∙ ap (λ (x : LimitRow). Some x) (sym is)
 
-pub last_more : (old new : LastRows) (rows : List LimitRow) (i : ℕ) (row : LimitRow) → HasLastRows old rows i → i < length rows → row ≡ get_or rows i row → PutsRow old new (row_pair row) i → HasLastRows new rows (i + 1)
+pub last_more : (old new : LastRows) (rows : List LimitRow) (i : ℕ) (row : LimitRow) → HasLastRows old rows i
+    → i < length rows → row ≡ get_or rows i row → PutsRow old new (row_pair row) i → HasLastRows new rows (i + 1)
 last_more old new rows i row h lt is puts =
     let here = row_here rows i row lt is in
     let one : i + 1 ≡ suc i = omega arith in
@@ -82,7 +84,8 @@ none_within (x ∷ xs) (suc k) l e = none_within xs k (omega arith) e
 abbrev pub so_far : Pair → ℕ → List LimitRow → ℕ → Steps
 so_far p day rows n = fold (after_row p day) [] (take n rows)
 
-pub so_far_more : (p : Pair) (day : ℕ) (rows : List LimitRow) (n : ℕ) (row : LimitRow) → slice_get rows n ≡ Some row → so_far p day rows (suc n) ≡ after_row p day (so_far p day rows n) row
+pub so_far_more : (p : Pair) (day : ℕ) (rows : List LimitRow) (n : ℕ) (row : LimitRow) → slice_get rows n ≡ Some row
+    → so_far p day rows (suc n) ≡ after_row p day (so_far p day rows n) row
 so_far_more p day rows n row at =
     let lt = slice_get_within rows n row at in
     let one : suc n ≡ n + 1 = omega arith in
@@ -91,17 +94,20 @@ so_far_more p day rows n row at =
     ∙ fold_push (after_row p day) [] (take n rows) (get_or rows n row)
     ∙ ap (after_row p day (so_far p day rows n)) (get_or_from_slice_get rows n row row at)
 
-not_of : (p : Pair) (day : ℕ) (rows : List LimitRow) (n : ℕ) (o : Option LimitRow) → slice_get rows n ≡ o → n < length rows → is_of p o ≡ false → so_far p day rows (suc n) ≡ so_far p day rows n
+not_of : (p : Pair) (day : ℕ) (rows : List LimitRow) (n : ℕ) (o : Option LimitRow) → slice_get rows n ≡ o
+    → n < length rows → is_of p o ≡ false → so_far p day rows (suc n) ≡ so_far p day rows n
 not_of p day rows n None at lt h = absurd (none_within rows n lt at)
 not_of p day rows n (Some row) at lt h =
     so_far_more p day rows n row at ∙ ap (λ (b : Bool). cond (b && holds_day row day) row.ladder (so_far p day rows n)) h
 
 -- no row of the pair: nothing so far
-pub nothing_of : (p : Pair) (day : ℕ) (rows : List LimitRow) (m : ℕ) → m ≤ length rows → last_below p rows m ≡ None → so_far p day rows m ≡ []
+pub nothing_of : (p : Pair) (day : ℕ) (rows : List LimitRow) (m : ℕ) → m ≤ length rows → last_below p rows m ≡ None
+    → so_far p day rows m ≡ []
 nothing_of p day rows zero le e = refl
 nothing_of p day rows (suc m) le e = of (is_of p (slice_get rows m)) refl e (λ (h : last_below p rows m ≡ None). nothing_of p day rows m (omega arith) h)
   where
-    of : (b : Bool) → is_of p (slice_get rows m) ≡ b → cond b (Some m) (last_below p rows m) ≡ None → (last_below p rows m ≡ None → so_far p day rows m ≡ []) → so_far p day rows (suc m) ≡ []
+    of : (b : Bool) → is_of p (slice_get rows m) ≡ b → cond b (Some m) (last_below p rows m) ≡ None
+        → (last_below p rows m ≡ None → so_far p day rows m ≡ []) → so_far p day rows (suc m) ≡ []
     of true is h below = absurd cc
     of false is h below = not_of p day rows m (slice_get rows m) refl (omega arith) is ∙ below h
 
@@ -112,15 +118,18 @@ pub record LastRow (p : Pair) (day : ℕ) (rows : List LimitRow) (m i : ℕ) : T
   pub of_pair : same_pair (row_pair row) p ≡ true
   pub same : so_far p day rows m ≡ so_far p day rows (suc i)
 
-there : (p : Pair) (day : ℕ) (rows : List LimitRow) (i : ℕ) (o : Option LimitRow) → slice_get rows i ≡ o → is_of p o ≡ true → LastRow p day rows (suc i) i
+there : (p : Pair) (day : ℕ) (rows : List LimitRow) (i : ℕ) (o : Option LimitRow) → slice_get rows i ≡ o
+    → is_of p o ≡ true → LastRow p day rows (suc i) i
 there p day rows i None e h = absurd cc
 there p day rows i (Some row) e h = record { inside = omega arith; row = row; at = e; of_pair = h; same = refl }
 
-pub last_row : (p : Pair) (day : ℕ) (rows : List LimitRow) (m i : ℕ) → m ≤ length rows → last_below p rows m ≡ Some i → LastRow p day rows m i
+pub last_row : (p : Pair) (day : ℕ) (rows : List LimitRow) (m i : ℕ) → m ≤ length rows → last_below p rows m ≡ Some i
+    → LastRow p day rows m i
 last_row p day rows zero i le e = absurd cc
 last_row p day rows (suc m) i le e = of (is_of p (slice_get rows m)) refl e (λ (h : last_below p rows m ≡ Some i). last_row p day rows m i (omega arith) h)
   where
-    of : (b : Bool) → is_of p (slice_get rows m) ≡ b → cond b (Some m) (last_below p rows m) ≡ Some i → (last_below p rows m ≡ Some i → LastRow p day rows m i) → LastRow p day rows (suc m) i
+    of : (b : Bool) → is_of p (slice_get rows m) ≡ b → cond b (Some m) (last_below p rows m) ≡ Some i
+        → (last_below p rows m ≡ Some i → LastRow p day rows m i) → LastRow p day rows (suc m) i
     of true is h below =
         let same : m ≡ i = same_Some m i h in
         subst (LastRow p day rows (suc m)) same (there p day rows m (slice_get rows m) refl is)

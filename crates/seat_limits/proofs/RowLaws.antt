@@ -25,7 +25,8 @@ use Rattle.seat_limits.proofs.RowFieldLaws.{suffix_takes, suffix_again, suffix_s
 abbrev ok_steps : Steps → Result Steps LimitKind
 ok_steps steps = Ok steps
 
-found_is : (text : List ℕ) (r : Result Steps LimitKind) (steps : Steps) → r ≡ ok_steps steps → IfOk r (SpellsSteps text) → SpellsSteps text steps
+found_is : (text : List ℕ) (r : Result Steps LimitKind) (steps : Steps) → r ≡ ok_steps steps → IfOk r (SpellsSteps text)
+    → SpellsSteps text steps
 found_is text (Ok found) steps e h = let same : found ≡ steps = cc in subst (SpellsSteps text) same h
 found_is text (Err kind) steps e h = absurd cc
 
@@ -34,14 +35,31 @@ ladder_spelled text steps e = found_is text (ladder_in text) steps e (is_found t
 
 -- ---- the whole row
 
-joined : (line a n s f t b o e r1 r2 r3 r4 r5 r6 r7 r8 r9 r10 : List ℕ) → line ≡ 65 ∷ 85 ∷ 32 ∷ r1 → r1 ≡ a ++ r2 → r2 ≡ n ++ r3 → r3 ≡ s ++ r4 → r4 ≡ 32 ∷ r5 → r5 ≡ f ++ r6 → r6 ≡ 32 ∷ r7 → r7 ≡ t ++ r8 → r8 ≡ 32 ∷ r9 → r9 ≡ b ++ r10 → r10 ≡ o ++ 32 ∷ e
+joined : (line a n s f t b o e r1 r2 r3 r4 r5 r6 r7 r8 r9 r10 : List ℕ) → line ≡ 65 ∷ 85 ∷ 32 ∷ r1 → r1 ≡ a ++ r2
+    → r2 ≡ n ++ r3 → r3 ≡ s ++ r4 → r4 ≡ 32 ∷ r5 → r5 ≡ f ++ r6 → r6 ≡ 32 ∷ r7 → r7 ≡ t ++ r8 → r8 ≡ 32 ∷ r9
+    → r9 ≡ b ++ r10 → r10 ≡ o ++ 32 ∷ e
     → line ≡ 65 ∷ 85 ∷ 32 ∷ (a ++ (n ++ (s ++ 32 ∷ (f ++ 32 ∷ (t ++ 32 ∷ (b ++ (o ++ 32 ∷ e)))))))
 joined line a n s f t b o e r1 r2 r3 r4 r5 r6 r7 r8 r9 r10 e0 e1 e2 e3 e4 e5 e6 e7 e8 e9 e10 = rw (e0, e1, e2, e3, e4, e5, e6, e7, e8, e9, e10) refl
 
-assemble : (line head : List ℕ) (airline : List ℕ × List ℕ) (number : ℕ × List ℕ) (period : List ℕ) (from : ℕ × List ℕ) (second : List ℕ) (to : ℕ × List ℕ) (pair : List ℕ) (board off : List ℕ × List ℕ) (entries : List ℕ) (ladder : Steps)
-    → word_at (codes "AU ") line ≡ Some head → fixed_at 2 is_airline head ≡ Some airline → numeral_at 4 airline.1 ≡ Some number → byte_at 32 (suffix_at number.1).1 ≡ Some period → date_at period ≡ Some from → byte_at 32 from.1 ≡ Some second
-    → date_at second ≡ Some to → byte_at 32 to.1 ≡ Some pair → leb from.0 to.0 ≡ true → fixed_at 3 is_station pair ≡ Some board → fixed_at 3 is_station board.1 ≡ Some off → byte_at 32 off.1 ≡ Some entries → ladder_in entries ≡ ok_steps ladder → IsLadder ladder
-    → SpellsRow line (record { airline = airline.0; number = number.0; suffix = (suffix_at number.1).0; from = from.0; to = to.0; board = board.0; off = off.0; ladder = ladder })
+assemble : (line head : List ℕ) (airline : List ℕ × List ℕ) (number : ℕ × List ℕ) (period : List ℕ) (from : ℕ × List ℕ)
+    (second : List ℕ) (to : ℕ × List ℕ) (pair : List ℕ) (board off : List ℕ × List ℕ) (entries : List ℕ)
+    (ladder : Steps)
+    → word_at (codes "AU ") line ≡ Some head → fixed_at 2 is_airline head ≡ Some airline
+    → numeral_at 4 airline.1 ≡ Some number → byte_at 32 (suffix_at number.1).1 ≡ Some period
+    → date_at period ≡ Some from → byte_at 32 from.1 ≡ Some second
+    → date_at second ≡ Some to → byte_at 32 to.1 ≡ Some pair → leb from.0 to.0 ≡ true
+    → fixed_at 3 is_station pair ≡ Some board → fixed_at 3 is_station board.1 ≡ Some off
+    → byte_at 32 off.1 ≡ Some entries → ladder_in entries ≡ ok_steps ladder → IsLadder ladder
+    → SpellsRow line (record {
+      airline = airline.0;
+      number = number.0;
+      suffix = (suffix_at number.1).0;
+      from = from.0;
+      to = to.0;
+      board = board.0;
+      off = off.0;
+      ladder = ladder;
+    })
 assemble line head airline number period from second to pair board off entries ladder e0 e1 e2 e3 e4 e5 e6 e7 e8 e9 e10 e11 e12 is =
     let t0 = word_takes (codes "AU ") line head e0 in
     let t1 = fixed_takes 2 is_airline head airline.0 airline.1 e1 in
@@ -106,11 +124,13 @@ row_none line e =
 
 -- ---- the row that is read
 
-ladder_or_is : (steps found : Steps) (o : Option LadderFault) → HasLetters steps → ladder_fault steps ≡ o → ladder_or steps o ≡ ok_steps found → IsLadder found
+ladder_or_is : (steps found : Steps) (o : Option LadderFault) → HasLetters steps → ladder_fault steps ≡ o
+    → ladder_or steps o ≡ ok_steps found → IsLadder found
 ladder_or_is steps found None letters is e = let same : steps ≡ found = cc in subst IsLadder same (is_ladder_of steps letters is)
 ladder_or_is steps found (Some fault) letters is e = absurd cc
 
-ladder_of_is : (o : Option Steps) (found : Steps) → ((steps : Steps) → o ≡ Some steps → HasLetters steps) → ladder_of o ≡ ok_steps found → IsLadder found
+ladder_of_is : (o : Option Steps) (found : Steps) → ((steps : Steps) → o ≡ Some steps → HasLetters steps)
+    → ladder_of o ≡ ok_steps found → IsLadder found
 ladder_of_is None found letters e = absurd cc
 ladder_of_is (Some steps) found letters e = ladder_or_is steps found (ladder_fault steps) (letters steps refl) refl e
 

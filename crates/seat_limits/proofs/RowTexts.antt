@@ -31,13 +31,15 @@ nothing_first : {Row : Type 0} (r : Rows Row) → r ≡ then_rows (ok_rows []) r
 nothing_first (Ok rows) = refl
 nothing_first (Err fault) = refl
 
-row_first : {Row : Type 0} (n : ℕ) (r : Result Row LimitKind) (a b : Rows Row) → row_then n r (then_rows a b) ≡ then_rows (row_then n r a) b
+row_first : {Row : Type 0} (n : ℕ) (r : Result Row LimitKind) (a b : Rows Row)
+    → row_then n r (then_rows a b) ≡ then_rows (row_then n r a) b
 row_first n (Err kind) a b = refl
 row_first n (Ok row) (Err fault) b = refl
 row_first n (Ok row) (Ok rows) (Err fault) = refl
 row_first n (Ok row) (Ok rows) (Ok more) = refl
 
-rows_append : {Row : Type 0} (read : Reading Row) (front texts : List (List ℕ)) (n : ℕ) → each_row read n (front ++ texts) ≡ then_rows (each_row read n front) (each_row read (n + length front) texts)
+rows_append : {Row : Type 0} (read : Reading Row) (front texts : List (List ℕ)) (n : ℕ)
+    → each_row read n (front ++ texts) ≡ then_rows (each_row read n front) (each_row read (n + length front) texts)
 rows_append read [] texts n = let zero_is : n ≡ n + 0 = omega arith in nothing_first (each_row read n texts) ∙ ap (λ (k : ℕ). then_rows (ok_rows []) (each_row read k texts)) zero_is
 rows_append read ([] ∷ front) texts n =
     let one : n + 1 + length front ≡ n + suc (length front) = omega arith in
@@ -59,15 +61,19 @@ pub record IsAt {Row : Type 0} (reading : Reading Row) (bytes : List ℕ) (line 
 pub at_start : {Row : Type 0} (read : Reading Row) (bytes : List ℕ) → IsAt read bytes 0 bytes []
 at_start read bytes = record { front = []; cut = refl; counted = refl; read = refl }
 
-line_rows : {Row : Type 0} (read : Reading Row) (n : ℕ) (text : List ℕ) (old new : List Row) → TakesLine (read n) text old new → then_rows (ok_rows old) (each_row read n (text ∷ [])) ≡ ok_rows new
+line_rows : {Row : Type 0} (read : Reading Row) (n : ℕ) (text : List ℕ) (old new : List Row)
+    → TakesLine (read n) text old new → then_rows (ok_rows old) (each_row read n (text ∷ [])) ≡ ok_rows new
 line_rows read n [] old new h = ap ok_rows (append-nil old ∙ sym h)
 line_rows {Row = Row} read n (c ∷ text) old new h = ap (λ (r : Result Row LimitKind). then_rows (ok_rows old) (row_then n r (ok_rows []))) h.row_is ∙ ap ok_rows (sym h.added)
 
-split_of : (rest text after : List ℕ) → 0 < length rest → ◌≡◌ {A = List ℕ × List ℕ} (text, after) (line_at rest) → lines rest ≡ text ∷ lines after
+split_of : (rest text after : List ℕ) → 0 < length rest → ◌≡◌ {A = List ℕ × List ℕ} (text, after) (line_at rest)
+    → lines rest ≡ text ∷ lines after
 split_of rest text after some cut = lines_are rest some ∙ ap (λ (p : List ℕ × List ℕ). p.0 ∷ lines p.1) (sym cut)
 
 -- one line further
-pub at_next : {Row : Type 0} (read : Reading Row) (bytes : List ℕ) (line : ℕ) (rest text after : List ℕ) (old new : List Row) → IsAt read bytes line rest old → 0 < length rest → ◌≡◌ {A = List ℕ × List ℕ} (text, after) (line_at rest)
+pub at_next : {Row : Type 0} (read : Reading Row) (bytes : List ℕ) (line : ℕ) (rest text after : List ℕ)
+    (old new : List Row) → IsAt read bytes line rest old → 0 < length rest
+    → ◌≡◌ {A = List ℕ × List ℕ} (text, after) (line_at rest)
     → TakesLine (read (line + 1)) text old new → IsAt read bytes (line + 1) after new
 at_next {Row = Row} read bytes line rest text after old new at some cut takes =
     let number : line + 1 ≡ 1 + length at.front = omega (arith, at.counted) in
@@ -79,11 +85,13 @@ at_next {Row = Row} read bytes line rest text after old new at some cut takes =
       read = rows_append read at.front (text ∷ []) 1 ∙ ap (λ (r : Rows Row). then_rows r (each_row read (1 + length at.front) (text ∷ []))) at.read ∙ line_rows read (1 + length at.front) text old new here;
     }
 
-pub cut_shorter : (rest text after : List ℕ) → ◌≡◌ {A = List ℕ × List ℕ} (text, after) (line_at rest) → 0 < length rest → length after < length rest
+pub cut_shorter : (rest text after : List ℕ) → ◌≡◌ {A = List ℕ × List ℕ} (text, after) (line_at rest) → 0 < length rest
+    → length after < length rest
 cut_shorter rest text after cut some = let shorter = rest_shorter rest some in omega (arith, shorter, ap (λ (p : List ℕ × List ℕ). length p.1) cut)
 
 -- no line is left
-pub whole : {Row : Type 0} (read : Reading Row) (bytes : List ℕ) (line : ℕ) (rest : List ℕ) (rows : List Row) → IsAt read bytes line rest rows → length rest ≡ 0 → each_row read 1 (lines bytes) ≡ ok_rows rows
+pub whole : {Row : Type 0} (read : Reading Row) (bytes : List ℕ) (line : ℕ) (rest : List ℕ) (rows : List Row)
+    → IsAt read bytes line rest rows → length rest ≡ 0 → each_row read 1 (lines bytes) ≡ ok_rows rows
 whole read bytes line [] rows at none = ap (each_row read 1) (at.cut ∙ append-nil at.front) ∙ at.read
 whole read bytes line (c ∷ rest) rows at none = absurd (omega arith)
 
@@ -92,10 +100,14 @@ rows_is x y e = cc
 
 -- ---- where it stops
 
-stop_line : {Row : Type 0} (read : Reading Row) (n : ℕ) (c : ℕ) (text : List ℕ) (texts : List (List ℕ)) (kind : LimitKind) (old : List Row) → read n (c ∷ text) ≡ Err kind → then_rows (ok_rows old) (each_row read n ((c ∷ text) ∷ texts)) ≡ refused n kind
+stop_line : {Row : Type 0} (read : Reading Row) (n : ℕ) (c : ℕ) (text : List ℕ) (texts : List (List ℕ))
+    (kind : LimitKind) (old : List Row) → read n (c ∷ text) ≡ Err kind
+    → then_rows (ok_rows old) (each_row read n ((c ∷ text) ∷ texts)) ≡ refused n kind
 stop_line {Row = Row} read n c text texts kind old h = ap (λ (r : Result Row LimitKind). then_rows (ok_rows old) (row_then n r (each_row read (n + 1) texts))) h
 
-fault_at : {Row : Type 0} (read : Reading Row) (bytes : List ℕ) (line : ℕ) (rest : List ℕ) (c : ℕ) (text after : List ℕ) (old : List Row) (kind : LimitKind) → IsAt read bytes line rest old → lines rest ≡ (c ∷ text) ∷ lines after → read (line + 1) (c ∷ text) ≡ Err kind
+fault_at : {Row : Type 0} (read : Reading Row) (bytes : List ℕ) (line : ℕ) (rest : List ℕ) (c : ℕ) (text after : List ℕ)
+    (old : List Row) (kind : LimitKind) → IsAt read bytes line rest old → lines rest ≡ (c ∷ text) ∷ lines after
+    → read (line + 1) (c ∷ text) ≡ Err kind
     → each_row read 1 (lines bytes) ≡ refused (line + 1) kind
 fault_at {Row = Row} read bytes line rest c text after old kind at split h =
     let number : 1 + length at.front ≡ line + 1 = omega (arith, at.counted) in
@@ -105,11 +117,14 @@ fault_at {Row = Row} read bytes line rest c text after old kind at split h =
     ∙ stop_line read (line + 1) c text (lines after) kind old h
 
 -- a stop that is not want of memory is the line's first fault
-stop_fault : {Row : Type 0} (read : List ℕ → Result Row LimitKind) (c : ℕ) (text : List ℕ) (kind : LimitKind) → IsStop read (c ∷ text) kind → kind ≢ kinds.Memory → read (c ∷ text) ≡ Err kind
+stop_fault : {Row : Type 0} (read : List ℕ → Result Row LimitKind) (c : ℕ) (text : List ℕ) (kind : LimitKind)
+    → IsStop read (c ∷ text) kind → kind ≢ kinds.Memory → read (c ∷ text) ≡ Err kind
 stop_fault read c text kinds.Memory h other = absurd (other refl)
 stop_fault read c text kind h other = h
 
-pub at_fault : {Row : Type 0} (read : Reading Row) (bytes : List ℕ) (line : ℕ) (rest text after : List ℕ) (old : List Row) (kind : LimitKind) → IsAt read bytes line rest old → 0 < length rest → ◌≡◌ {A = List ℕ × List ℕ} (text, after) (line_at rest)
+pub at_fault : {Row : Type 0} (read : Reading Row) (bytes : List ℕ) (line : ℕ) (rest text after : List ℕ)
+    (old : List Row) (kind : LimitKind) → IsAt read bytes line rest old → 0 < length rest
+    → ◌≡◌ {A = List ℕ × List ℕ} (text, after) (line_at rest)
     → IsStop (read (line + 1)) text kind → kind ≢ kinds.Memory → each_row read 1 (lines bytes) ≡ refused (line + 1) kind
 at_fault read bytes line rest [] after old kind at some cut h other = absurd h
 at_fault read bytes line rest (c ∷ text) after old kind at some cut h other = fault_at read bytes line rest c text after old kind at (split_of rest (c ∷ text) after some cut) (stop_fault (read (line + 1)) c text kind h other)
@@ -117,22 +132,29 @@ at_fault read bytes line rest (c ∷ text) after old kind at some cut h other = 
 unlike : {Row : Type 0} (x : List Row) (n : ℕ) (kind : LimitKind) → ok_rows x ≡ refused n kind → ⊥
 unlike x n kind e = cc
 
-stop_kind : {Row : Type 0} (read : Reading Row) (bytes : List ℕ) (line : ℕ) (rest : List ℕ) (c : ℕ) (text after : List ℕ) (old rows : List Row) (kind : LimitKind) → IsAt read bytes line rest old → lines rest ≡ (c ∷ text) ∷ lines after
+stop_kind : {Row : Type 0} (read : Reading Row) (bytes : List ℕ) (line : ℕ) (rest : List ℕ) (c : ℕ)
+    (text after : List ℕ) (old rows : List Row) (kind : LimitKind) → IsAt read bytes line rest old
+    → lines rest ≡ (c ∷ text) ∷ lines after
     → IsStop (read (line + 1)) (c ∷ text) kind → each_row read 1 (lines bytes) ≡ ok_rows rows → kind ≡ kinds.Memory
 stop_kind read bytes line rest c text after old rows kinds.Memory at split h is = refl
 stop_kind read bytes line rest c text after old rows kind at split h is = absurd (unlike rows (line + 1) kind (sym is ∙ fault_at read bytes line rest c text after old kind at split h))
 
 -- a text that has rows is stopped by want of memory alone
-pub stop_only : {Row : Type 0} (read : Reading Row) (bytes : List ℕ) (line : ℕ) (rest text after : List ℕ) (old rows : List Row) (kind : LimitKind) → IsAt read bytes line rest old → 0 < length rest → ◌≡◌ {A = List ℕ × List ℕ} (text, after) (line_at rest)
+pub stop_only : {Row : Type 0} (read : Reading Row) (bytes : List ℕ) (line : ℕ) (rest text after : List ℕ)
+    (old rows : List Row) (kind : LimitKind) → IsAt read bytes line rest old → 0 < length rest
+    → ◌≡◌ {A = List ℕ × List ℕ} (text, after) (line_at rest)
     → IsStop (read (line + 1)) text kind → each_row read 1 (lines bytes) ≡ ok_rows rows → kind ≡ kinds.Memory
 stop_only read bytes line rest [] after old rows kind at some cut h is = absurd h
 stop_only read bytes line rest (c ∷ text) after old rows kind at some cut h is = stop_kind read bytes line rest c text after old rows kind at (split_of rest (c ∷ text) after some cut) h is
 
-memory_stop : {Row : Type 0} (read : List ℕ → Result Row LimitKind) (c : ℕ) (text : List ℕ) (kind : LimitKind) → IsStop read (c ∷ text) kind → kind ≡ kinds.Memory → IsOk (read (c ∷ text))
+memory_stop : {Row : Type 0} (read : List ℕ → Result Row LimitKind) (c : ℕ) (text : List ℕ) (kind : LimitKind)
+    → IsStop read (c ∷ text) kind → kind ≡ kinds.Memory → IsOk (read (c ∷ text))
 memory_stop read c text kinds.Memory h e = h
 memory_stop read c text kind h e = absurd cc
 
-pub at_memory : {Row : Type 0} (read : Reading Row) (bytes : List ℕ) (line : ℕ) (rest text after : List ℕ) (old : List Row) (kind : LimitKind) → IsAt read bytes line rest old → 0 < length rest → ◌≡◌ {A = List ℕ × List ℕ} (text, after) (line_at rest)
+pub at_memory : {Row : Type 0} (read : Reading Row) (bytes : List ℕ) (line : ℕ) (rest text after : List ℕ)
+    (old : List Row) (kind : LimitKind) → IsAt read bytes line rest old → 0 < length rest
+    → ◌≡◌ {A = List ℕ × List ℕ} (text, after) (line_at rest)
     → IsStop (read (line + 1)) text kind → kind ≡ kinds.Memory → WantsRowRoom read bytes (line + 1)
 at_memory read bytes line rest [] after old kind at some cut h is = absurd h
 at_memory {Row = Row} read bytes line rest (c ∷ text) after old kind at some cut h is = record {
@@ -147,7 +169,8 @@ at_memory {Row = Row} read bytes line rest (c ∷ text) after old kind at some c
 
 -- ---- one line
 
-pub stop_of : {Row : Type 0} (read : List ℕ → Result Row LimitKind) (text : List ℕ) (kind : LimitKind) → (read text ≡ Err kinds.Memory → ⊥) → 0 < length text → read text ≡ Err kind → IsStop read text kind
+pub stop_of : {Row : Type 0} (read : List ℕ → Result Row LimitKind) (text : List ℕ) (kind : LimitKind)
+    → (read text ≡ Err kinds.Memory → ⊥) → 0 < length text → read text ≡ Err kind → IsStop read text kind
 stop_of read [] kind none some e = absurd (omega arith)
 stop_of read (c ∷ text) kinds.Memory none some e = absurd (none e)
 stop_of read (c ∷ text) kind none some e = e

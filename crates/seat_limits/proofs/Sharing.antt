@@ -22,5 +22,6 @@ no_some (None ∷ rest) zero x h e = cc
 no_some (None ∷ rest) (suc i) x h e = no_some rest i x h e
 no_some (Some y ∷ rest) i x h e = h
 
-pub none_shared : (shares : List (Option Steps)) (rows : List LimitRow) → AreNone shares → length shares ≡ length rows → AreShares shares rows
+pub none_shared : (shares : List (Option Steps)) (rows : List LimitRow) → AreNone shares → length shares ≡ length rows
+    → AreShares shares rows
 none_shared shares rows none counted = record { counted = counted; each = λ i steps at. absurd (no_some shares i steps none at) }

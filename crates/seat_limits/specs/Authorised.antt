@@ -13,16 +13,26 @@ use Rattle.seat_limits.specs.declared.row_index.Pair.{Pair}
 
 -- the flight and the city pair of a row, and of a leg
 abbrev pub row_pair : LimitRow → Pair
-row_pair row = record { airline = row.airline; number = row.number; suffix = row.suffix; board = row.board; off = row.off }
+row_pair row =
+    record { airline = row.airline; number = row.number; suffix = row.suffix; board = row.board; off = row.off }
 
 abbrev pub leg_pair : Flight → DatedLeg → Pair
-leg_pair flight leg = record { airline = flight.airline; number = flight.number; suffix = flight.suffix; board = leg.board; off = leg.off }
+leg_pair flight leg =
+    record {
+      airline = flight.airline;
+      number = flight.number;
+      suffix = flight.suffix;
+      board = leg.board;
+      off =
+          leg.off;
+    }
 
 -- the same airline, number, suffix and city pair
 abbrev pub same_pair : Pair → Pair → Bool
 same_pair a b =
     pointwise nat_eq a.airline b.airline
-    && ((a.number == b.number) && (option_eq nat_eq a.suffix b.suffix && (pointwise nat_eq a.board b.board && pointwise nat_eq a.off b.off)))
+    && ((a.number == b.number) && (option_eq nat_eq a.suffix b.suffix
+    && (pointwise nat_eq a.board b.board && pointwise nat_eq a.off b.off)))
 
 -- the period of the row holds the day
 abbrev pub holds_day : LimitRow → ℕ → Bool

@@ -26,7 +26,9 @@ pub record SpellsChange (line : ℕ) (text : List ℕ) (row : ChangeRow) : Type 
   pub line_is : row.line ≡ line
   pub number : List ℕ
   pub day : List ℕ
-  pub written : text ≡ 65 ∷ 85 ∷ 32 ∷ (row.airline ++ (number ++ (suffix_text row.suffix ++ 32 ∷ (day ++ 32 ∷ (row.board ++ (row.off ++ 32 ∷ entry_text (step_of_change row)))))))
+  pub written : text ≡ 65 ∷ 85 ∷ 32
+      ∷ (row.airline ++ (number ++ (suffix_text row.suffix ++ 32
+      ∷ (day ++ 32 ∷ (row.board ++ (row.off ++ 32 ∷ entry_text (step_of_change row)))))))
   pub is_airline : IsTrue (is_airline row.airline)
   pub is_number : IsNumberText 4 number row.number
   pub is_suffix : IfSome row.suffix (λ c. IsTrue (is_ascii_uppercase c))

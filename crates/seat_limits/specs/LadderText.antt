@@ -53,17 +53,20 @@ IsLadderRefusal text _ = ⊥
 -- the number that three digits write
 abbrev pub three_in : ℕ → ℕ → ℕ → Option ℕ
 three_in a b c =
-    if is_ascii_digit a && is_ascii_digit b && is_ascii_digit c then Some ((a - 48) * 100 + (b - 48) * 10 + (c - 48)) else None
+    if is_ascii_digit a && is_ascii_digit b && is_ascii_digit c then Some ((a - 48) * 100 + (b - 48) * 10 + (c - 48))
+    else None
 
 abbrev pub step_in : ℕ → Option ℕ → Option ℕ → Bool → Option Step
 step_in class None wait listed = None
 step_in class (Some limit) None listed = None
 step_in class (Some limit) (Some wait) listed =
-    if is_ascii_uppercase class then Some (record { class = class; limit = limit; wait = wait; listed = listed }) else None
+    if is_ascii_uppercase class then Some (record { class = class; limit = limit; wait = wait; listed = listed })
+    else None
 
 -- the step that eight bytes write, with the mark or without it
 abbrev pub entry_in : ℕ → ℕ → ℕ → ℕ → ℕ → ℕ → ℕ → ℕ → Bool → Option Step
-entry_in class a b c stroke d e f listed = if stroke == 47 then step_in class (three_in a b c) (three_in d e f) listed else None
+entry_in class a b c stroke d e f listed =
+    if stroke == 47 then step_in class (three_in a b c) (three_in d e f) listed else None
 
 -- whether the mark stands at the front, and what follows it
 abbrev pub mark_at : List ℕ → Bool × List ℕ
@@ -72,7 +75,8 @@ mark_at (c ∷ rest) = if c == 78 then (true, rest) else (false, c ∷ rest)
 
 -- a step at the front, and what follows it
 abbrev pub entry_at : List ℕ → Option (Step × List ℕ)
-entry_at (a ∷ b ∷ c ∷ d ∷ e ∷ f ∷ g ∷ h ∷ rest) = option_map (λ s. (s, (mark_at rest).1)) (entry_in a b c d e f g h (mark_at rest).0)
+entry_at (a ∷ b ∷ c ∷ d ∷ e ∷ f ∷ g ∷ h ∷ rest) =
+    option_map (λ s. (s, (mark_at rest).1)) (entry_in a b c d e f g h (mark_at rest).0)
 entry_at _ = None
 
 abbrev pub with_entry : Option Step → Option Steps → Option Steps
@@ -83,7 +87,8 @@ with_entry (Some s) (Some lower) = Some (s ∷ lower)
 -- the steps of one entry or more
 unfoldable pub steps_in : List ℕ → Option Steps
 steps_in (a ∷ b ∷ c ∷ d ∷ e ∷ f ∷ g ∷ h ∷ []) = with_entry (entry_in a b c d e f g h false) (Some [])
-steps_in (a ∷ b ∷ c ∷ d ∷ e ∷ f ∷ g ∷ h ∷ i ∷ []) = with_entry (entry_in a b c d e f g h true) (if i == 78 then Some [] else None)
+steps_in (a ∷ b ∷ c ∷ d ∷ e ∷ f ∷ g ∷ h ∷ i ∷ []) =
+    with_entry (entry_in a b c d e f g h true) (if i == 78 then Some [] else None)
 steps_in (a ∷ b ∷ c ∷ d ∷ e ∷ f ∷ g ∷ h ∷ i ∷ j ∷ rest) =
     if i == 78
     then with_entry (entry_in a b c d e f g h true) (if j == 32 then steps_in rest else None)

@@ -23,7 +23,9 @@ pub record SpellsRow (line : List ℕ) (row : LimitRow) : Type 0 where
   pub from : List ℕ
   pub to : List ℕ
   pub entries : List ℕ
-  pub written : line ≡ 65 ∷ 85 ∷ 32 ∷ (row.airline ++ (number ++ (suffix_text row.suffix ++ 32 ∷ (from ++ 32 ∷ (to ++ 32 ∷ (row.board ++ (row.off ++ 32 ∷ entries)))))))
+  pub written : line ≡ 65 ∷ 85 ∷ 32
+      ∷ (row.airline ++ (number ++ (suffix_text row.suffix ++ 32
+      ∷ (from ++ 32 ∷ (to ++ 32 ∷ (row.board ++ (row.off ++ 32 ∷ entries)))))))
   pub is_airline : IsTrue (is_airline row.airline)
   pub is_number : IsNumberText 4 number row.number
   pub is_suffix : IfSome row.suffix (λ c. IsTrue (is_ascii_uppercase c))

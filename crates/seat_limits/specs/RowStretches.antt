@@ -83,7 +83,8 @@ pub record IsNext (rows : List (Option ℕ)) (from next : ℕ) : Type 0 where
 -- each stretch has the last row that holds its edge
 pub record ShowRows (last : LastRows) (rows : List LimitRow) (edges : List ℕ) (found : List (Option ℕ)) : Type 0 where
   pub counted : length found ≡ length edges
-  pub each : (c : ℕ) → c < length edges → slice_index_or found c None ≡ last_where (holds_slot last (slice_index_or edges c 0)) rows (length rows)
+  pub each : (c : ℕ) → c < length edges
+      → slice_index_or found c None ≡ last_where (holds_slot last (slice_index_or edges c 0)) rows (length rows)
 
 pub record IsRowIndex (last : LastRows) (edges : List ℕ) (found : List (Option ℕ)) (rows : List LimitRow) : Type 0 where
   pub last_is : (p : Pair) → get same_pair last p ≡ last_below p rows (length rows)

@@ -9,7 +9,8 @@ use Rattle.seat_limits.specs.declared.limit_fault.LimitKind.TheVariants as kinds
 abbrev pub Reading : Type 0 → Type 0
 Reading Row = ℕ → List ℕ → Result Row LimitKind
 
-abbrev pub row_then : {Row : Type 0} → ℕ → Result Row LimitKind → Result (List Row) LimitFault → Result (List Row) LimitFault
+abbrev pub row_then : {Row : Type 0} → ℕ → Result Row LimitKind → Result (List Row) LimitFault
+    → Result (List Row) LimitFault
 row_then n (Err kind) rest = Err (record { line = n; kind = kind })
 row_then n (Ok row) (Err fault) = Err fault
 row_then n (Ok row) (Ok rows) = Ok (row ∷ rows)
@@ -33,10 +34,11 @@ pub record WantsRowRoom {Row : Type 0} (read : Reading Row) (bytes : List ℕ) (
 -- ---- line by line
 
 -- a row more
-pub record AddsRow {Row : Type 0} (read : List ℕ → Result Row LimitKind) (text : List ℕ) (old new : List Row) : Type 0 where
-  pub row : Row
-  pub row_is : read text ≡ Ok row
-  pub added : new ≡ old ++ row ∷ []
+pub record AddsRow {Row : Type 0} (read : List ℕ → Result Row LimitKind) (text : List ℕ) (old new : List Row) : Type 0
+  where
+    pub row : Row
+    pub row_is : read text ≡ Ok row
+    pub added : new ≡ old ++ row ∷ []
 
 -- an empty line adds nothing, every other one its row
 abbrev pub TakesLine : {Row : Type 0} → (List ℕ → Result Row LimitKind) → List ℕ → List Row → List Row → Type 0

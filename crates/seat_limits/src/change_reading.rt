@@ -23,7 +23,8 @@ pub fn read_changes(alloc: Global, bytes: &[u8]) -> Result<ChangeRows, LimitFaul
     // What is read is spelled so.
     ensures found { IfOk result (IsChangeText bytes.now) }
     // The rows that are spelled so are read, unless memory is wanting.
-    ensures only { (rows : List Row) → IsChangeText bytes.now rows → MatchResult result (λ r. r ≡ rows) (λ f. f.kind ≡ Memory) }
+    ensures only { (rows : List Row) → IsChangeText bytes.now rows
+        → MatchResult result (λ r. r ≡ rows) (λ f. f.kind ≡ Memory) }
     // Which line is refused: the first with a fault, and its first fault.
     ensures fault { IfErr result (λ f. f.kind ≢ Memory → changes_in 1 (lines bytes.now) ≡ Err f) }
     // Want of memory is met at a row, counted from line 1, where no line up to it has a fault.

@@ -19,7 +19,8 @@ pub fn read_limits(alloc: Global, bytes: &[u8]) -> Result<LimitRows, LimitFault>
     // What is read is spelled so.
     ensures found { IfOk result (IsLimitText bytes.now) }
     // The rows that are spelled so are read, unless memory is wanting.
-    ensures only { (rows : List Row) → IsLimitText bytes.now rows → MatchResult result (λ r. r ≡ rows) (λ f. f.kind ≡ Memory) }
+    ensures only { (rows : List Row) → IsLimitText bytes.now rows
+        → MatchResult result (λ r. r ≡ rows) (λ f. f.kind ≡ Memory) }
     // Which line is refused: the first with a fault, and its first fault.
     ensures fault { IfErr result (λ f. f.kind ≢ Memory → rows_in 1 (lines bytes.now) ≡ Err f) }
     // Want of memory is met at a row, counted from line 1, where no line up to it has a fault.

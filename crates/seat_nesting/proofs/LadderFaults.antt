@@ -40,7 +40,8 @@ place_of s = s.class - 65
 letter_range : (c : ℕ) → IsTrue (is_ascii_uppercase c) → (65 ≤ c) × (c < 91)
 letter_range c h = grind (arith, nat_tests, h)
 
-places_differ : (c : ℕ) (lower : Steps) → IsTrue (is_ascii_uppercase c) → HasLetters lower → has_class lower c ≡ false → AllByRecursion (λ y. eqb (c - 65) y ≡ false) (map place_of lower)
+places_differ : (c : ℕ) (lower : Steps) → IsTrue (is_ascii_uppercase c) → HasLetters lower → has_class lower c ≡ false
+    → AllByRecursion (λ y. eqb (c - 65) y ≡ false) (map place_of lower)
 places_differ c [] is letters h = tt
 places_differ c (t ∷ lower) is letters h =
     let p = or_parts (eqb c t.class) (has_class lower c) h in
@@ -77,11 +78,13 @@ at_most_26 steps letters h =
 
 -- ---- limits
 
-all_below : (low high : ℕ) (steps : Steps) → low ≤ high → AllByRecursion (λ t. t.limit ≤ low) steps → AllByRecursion (λ t. t.limit ≤ high) steps
+all_below : (low high : ℕ) (steps : Steps) → low ≤ high → AllByRecursion (λ t. t.limit ≤ low) steps
+    → AllByRecursion (λ t. t.limit ≤ high) steps
 all_below low high [] le h = tt
 all_below low high (t ∷ lower) le h = (omega (arith, h.0), all_below low high lower le h.1)
 
-all_under : (limit : ℕ) (lower : Steps) → is_below_next limit lower ≡ false → IsNotRising lower → AllByRecursion (λ t. t.limit ≤ limit) lower
+all_under : (limit : ℕ) (lower : Steps) → is_below_next limit lower ≡ false → IsNotRising lower
+    → AllByRecursion (λ t. t.limit ≤ limit) lower
 all_under limit [] h falls = tt
 all_under limit (t ∷ lower) h falls =
     let le = ltb-false limit t.limit h in
@@ -94,7 +97,8 @@ is_not_rising (s ∷ lower) h =
     let falls = is_not_rising lower p.1 in
     (all_under s.limit lower p.0 falls, falls)
 
-next_under : (limit : ℕ) (lower : Steps) → AllByRecursion (λ t. t.limit ≤ limit) lower → is_below_next limit lower ≡ false
+next_under : (limit : ℕ) (lower : Steps) → AllByRecursion (λ t. t.limit ≤ limit) lower
+    → is_below_next limit lower ≡ false
 next_under limit [] h = refl
 next_under limit (t ∷ lower) h = le-ltb limit t.limit h.0
 
@@ -117,7 +121,8 @@ none_large (s ∷ lower) h =
 -- ---- together
 
 -- steps without a fault are a ladder
-pub is_ladder : (steps : Steps) → HasLetters steps → 0 < length steps → repeats_class steps ≡ false → is_rising steps ≡ false → is_too_large steps ≡ false → IsLadder steps
+pub is_ladder : (steps : Steps) → HasLetters steps → 0 < length steps → repeats_class steps ≡ false
+    → is_rising steps ≡ false → is_too_large steps ≡ false → IsLadder steps
 is_ladder steps letters some distinct falls small = record {
   some = some;
   most = at_most_26 steps letters distinct;
@@ -127,7 +132,8 @@ is_ladder steps letters some distinct falls small = record {
 }
 
 -- a ladder has no fault
-pub has_no_fault : (steps : Steps) → IsLadder steps → (repeats_class steps ≡ false) × (is_rising steps ≡ false) × (is_too_large steps ≡ false)
+pub has_no_fault : (steps : Steps) → IsLadder steps
+    → (repeats_class steps ≡ false) × (is_rising steps ≡ false) × (is_too_large steps ≡ false)
 has_no_fault steps h = (repeats_none steps h.distinct, rises_nowhere steps h.not_rising, none_large steps h.bounded)
 
 pub no_fault : (steps : Steps) → IsLadder steps → ladder_fault steps ≡ None
@@ -144,8 +150,10 @@ unfolding ladder_fault
 is_ladder_of [] letters h = absurd cc
 is_ladder_of (s ∷ lower) letters h = of (eqb (suc (length lower)) 0) (repeats_class (s ∷ lower)) (is_rising (s ∷ lower)) (is_too_large (s ∷ lower)) refl refl refl h
   where
-    of : (none repeats rises large : Bool) → repeats_class (s ∷ lower) ≡ repeats → is_rising (s ∷ lower) ≡ rises → is_too_large (s ∷ lower) ≡ large
-        → cond none (Some Empty) (cond repeats (Some RepeatedClass) (cond rises (Some Rising) (cond large (Some TooLarge) None))) ≡ None → IsLadder (s ∷ lower)
+    of : (none repeats rises large : Bool) → repeats_class (s ∷ lower) ≡ repeats → is_rising (s ∷ lower) ≡ rises
+        → is_too_large (s ∷ lower) ≡ large
+        → cond none (Some Empty) (cond repeats (Some RepeatedClass)
+        (cond rises (Some Rising) (cond large (Some TooLarge) None))) ≡ None → IsLadder (s ∷ lower)
     of true repeats rises large e f g h = absurd cc
     of false true rises large e f g h = absurd cc
     of false false true large e f g h = absurd cc

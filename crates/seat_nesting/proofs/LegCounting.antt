@@ -15,7 +15,8 @@ use Rattle.seat_nesting.proofs.Rooms.{held_from_rank, within_rank, within_none, 
 
 -- ---- no seats
 
-pub count_none : (steps : Steps) (held : List ℕ) (k : ℕ) → list_all (λ n. n == 0) held ≡ true → count_at steps held k ≡ 0
+pub count_none : (steps : Steps) (held : List ℕ) (k : ℕ) → list_all (λ n. n == 0) held ≡ true
+    → count_at steps held k ≡ 0
 count_none [] held k h = refl
 count_none (s ∷ lower) [] k h = refl
 count_none (s ∷ lower) (n ∷ more) k h =
@@ -29,7 +30,8 @@ count_none (s ∷ lower) (n ∷ more) k h =
 pub is_fresh : (leg : LegSeats) → KeepsLimits leg → ((k : ℕ) → held_on leg k ≡ 0) → IsFresh leg
 is_fresh leg kept none = record { kept = kept; none = none }
 
-pub kept_none : (steps : Steps) (held : List ℕ) → IsLegLadder steps → length held ≡ 26 → list_all (λ n. n == 0) held ≡ true → KeepsLimits (record { steps = steps; held = held })
+pub kept_none : (steps : Steps) (held : List ℕ) → IsLegLadder steps → length held ≡ 26
+    → list_all (λ n. n == 0) held ≡ true → KeepsLimits (record { steps = steps; held = held })
 kept_none steps held ladder all h = record { ladder = ladder; counted = omega (arith, ladder.most); within = within_none steps (count_at steps held) (λ k. count_none steps held k h) }
 
 -- ---- a class and its rank
@@ -39,18 +41,21 @@ any_place : {X : Type 0} (p : X → Bool) (xs : List X) → list_any p xs ≡ na
 any_place p [] = refl
 any_place p (x ∷ xs) = of (p x) (any_place p xs)
   where
-    of : (b : Bool) → list_any p xs ≡ nat_lt (position_or_len p xs) (length xs) → (b || list_any p xs) ≡ nat_lt (cond (not b) (1 + position_or_len p xs) 0) (suc (length xs))
+    of : (b : Bool) → list_any p xs ≡ nat_lt (position_or_len p xs) (length xs)
+        → (b || list_any p xs) ≡ nat_lt (cond (not b) (1 + position_or_len p xs) 0) (suc (length xs))
     of true h = grind (arith, nat_tests)
     of false h = h ∙ grind (arith, nat_tests)
 
-pub no_rank : (steps : Steps) (class : ℕ) → position (λ s. class == s.class) steps ≡ None → has_class steps class ≡ false
+pub no_rank : (steps : Steps) (class : ℕ) → position (λ s. class == s.class) steps ≡ None
+    → has_class steps class ≡ false
 no_rank steps class h = any_place (λ s. class == s.class) steps ∙ of (nat_lt (position_or_len (λ s. class == s.class) steps) (length steps)) h
   where
     of : (b : Bool) → cond b (Some (position_or_len (λ s. class == s.class) steps)) None ≡ None → b ≡ false
     of true e = absurd cc
     of false e = refl
 
-pub is_rank : (steps : Steps) (class rank : ℕ) → position (λ s. class == s.class) steps ≡ Some rank → IsRank steps class rank
+pub is_rank : (steps : Steps) (class rank : ℕ) → position (λ s. class == s.class) steps ≡ Some rank
+    → IsRank steps class rank
 is_rank steps class rank h = record {
   inside = (position-Some (λ (s : Step). class == s.class) steps rank (record { class = 0; limit = 0; wait = 0; listed = false }) h).0;
   class_is = λ d. sym (eqb-true class (get_or steps rank d).class (position-Some (λ (s : Step). class == s.class) steps rank d h).1);
@@ -61,12 +66,14 @@ is_rank steps class rank h = record {
     of true e = refl
     of false e = absurd cc
 
-lacks_at : (class : ℕ) (lower : Steps) (i : ℕ) (d : Step) → LacksClass class lower → i < length lower → class ≢ (get_or lower i d).class
+pub lacks_at : (class : ℕ) (lower : Steps) (i : ℕ) (d : Step) → LacksClass class lower → i < length lower
+    → class ≢ (get_or lower i d).class
 lacks_at class [] i d h lt = absurd (omega arith)
 lacks_at class (t ∷ lower) zero d h lt = h.0
 lacks_at class (t ∷ lower) (suc i) d h lt = lacks_at class lower i d h.1 (omega arith)
 
-pub count_rank : (steps : Steps) (held : List ℕ) (i : ℕ) (d : Step) → IsDistinct steps → i < length steps → i < length held → count_at steps held (get_or steps i d).class ≡ get_or held i 0
+pub count_rank : (steps : Steps) (held : List ℕ) (i : ℕ) (d : Step) → IsDistinct steps → i < length steps
+    → i < length held → count_at steps held (get_or steps i d).class ≡ get_or held i 0
 count_rank [] held i d distinct a b = absurd (omega arith)
 count_rank (s ∷ lower) [] i d distinct a b = absurd (omega arith)
 count_rank (s ∷ lower) (n ∷ more) zero d distinct a b = let same : (s.class == s.class) ≡ true = eq-eqb s.class s.class refl in rw same refl
@@ -75,7 +82,8 @@ count_rank (s ∷ lower) (n ∷ more) (suc i) d distinct a b =
     rw other (count_rank lower more i d distinct.1 (omega arith) (omega arith))
 
 -- a number at a rank is that of its class
-pub count_set : (steps : Steps) (held : List ℕ) (i x k : ℕ) (d : Step) → IsDistinct steps → i < length steps → i < length held
+pub count_set : (steps : Steps) (held : List ℕ) (i x k : ℕ) (d : Step) → IsDistinct steps → i < length steps
+    → i < length held
     → count_at steps (set held i x) k ≡ (if k == (get_or steps i d).class then x else count_at steps held k)
 count_set [] held i x k d distinct a b = absurd (omega arith)
 count_set (s ∷ lower) [] i x k d distinct a b = absurd (omega arith)
@@ -87,7 +95,8 @@ count_set (s ∷ lower) (n ∷ more) zero x k d distinct a b = of (k == s.class)
 count_set (s ∷ lower) (n ∷ more) (suc i) x k d distinct a b =
     of (k == s.class) (k == (get_or lower i d).class) refl refl (count_set lower more i x k d distinct.1 (omega arith) (omega arith))
   where
-    of : (t u : Bool) → (k == s.class) ≡ t → (k == (get_or lower i d).class) ≡ u → count_at lower (set more i x) k ≡ cond u x (count_at lower more k)
+    of : (t u : Bool) → (k == s.class) ≡ t → (k == (get_or lower i d).class) ≡ u
+        → count_at lower (set more i x) k ≡ cond u x (count_at lower more k)
         → cond t n (count_at lower (set more i x) k) ≡ cond u x (cond t n (count_at lower more k))
     of true true e f h = absurd (lacks_at s.class lower i d distinct.0 (omega arith) (sym (eqb-true k s.class e) ∙ eqb-true k (get_or lower i d).class f))
     of true false e f h = refl
@@ -95,45 +104,53 @@ count_set (s ∷ lower) (n ∷ more) (suc i) x k d distinct a b =
 
 -- ---- taking and giving
 
-count_more : (b : Bool) (old x n k class : ℕ) → (k == class) ≡ b → (b ≡ true → x ≡ old + n) → cond b x old ≡ old + cond (class == k) n 0
+count_more : (b : Bool) (old x n k class : ℕ) → (k == class) ≡ b → (b ≡ true → x ≡ old + n)
+    → cond b x old ≡ old + cond (class == k) n 0
 count_more true old x n k class e h = let same : (class == k) ≡ true = eq-eqb class k (sym (eqb-true k class e)) in rw (same, h refl) refl
 count_more false old x n k class e h = let other : (class == k) ≡ false = ne_eqb class k (λ is. eqb-false k class e (sym is)) in rw other (omega arith)
 
-count_less : (b : Bool) (old x n k class : ℕ) → (k == class) ≡ b → (b ≡ true → x ≡ old - n) → cond b x old ≡ old - cond (class == k) n 0
+count_less : (b : Bool) (old x n k class : ℕ) → (k == class) ≡ b → (b ≡ true → x ≡ old - n)
+    → cond b x old ≡ old - cond (class == k) n 0
 count_less true old x n k class e h = let same : (class == k) ≡ true = eq-eqb class k (sym (eqb-true k class e)) in rw (same, h refl) refl
 count_less false old x n k class e h = let other : (class == k) ≡ false = ne_eqb class k (λ is. eqb-false k class e (sym is)) in rw other (omega arith)
 
 abbrev no_step : Step
 no_step = record { class = 0; limit = 0; wait = 0; listed = false }
 
-count_class : (steps : Steps) (held : List ℕ) (class rank : ℕ) → IsDistinct steps → IsRank steps class rank → rank < length held → count_at steps held class ≡ get_or held rank 0
+count_class : (steps : Steps) (held : List ℕ) (class rank : ℕ) → IsDistinct steps → IsRank steps class rank
+    → rank < length held → count_at steps held class ≡ get_or held rank 0
 count_class steps held class rank distinct is inside = ap (count_at steps held) (sym (is.class_is no_step)) ∙ count_rank steps held rank no_step distinct is.inside inside
 
-set_class : (steps : Steps) (held : List ℕ) (class rank x k : ℕ) → IsDistinct steps → IsRank steps class rank → rank < length held → count_at steps (set held rank x) k ≡ (if k == class then x else count_at steps held k)
+set_class : (steps : Steps) (held : List ℕ) (class rank x k : ℕ) → IsDistinct steps → IsRank steps class rank
+    → rank < length held → count_at steps (set held rank x) k ≡ (if k == class then x else count_at steps held k)
 set_class steps held class rank x k distinct is inside =
     count_set steps held rank x k no_step distinct is.inside inside ∙ ap (λ (c : ℕ). if k == c then x else count_at steps held k) (is.class_is no_step)
 
-pub taken_at : (steps : Steps) (held : List ℕ) (class rank n : ℕ) → IsDistinct steps → IsRank steps class rank → rank < length held → (k : ℕ)
+pub taken_at : (steps : Steps) (held : List ℕ) (class rank n : ℕ) → IsDistinct steps → IsRank steps class rank
+    → rank < length held → (k : ℕ)
     → count_at steps (set held rank (get_or held rank 0 + n)) k ≡ count_at steps held k + (if class == k then n else 0)
 taken_at steps held class rank n distinct is inside k =
     set_class steps held class rank (get_or held rank 0 + n) k distinct is inside
     ∙ count_more (k == class) (count_at steps held k) (get_or held rank 0 + n) n k class refl
     (λ e. ap (λ (m : ℕ). m + n) (sym (ap (count_at steps held) (eqb-true k class e) ∙ count_class steps held class rank distinct is inside)))
 
-pub given_at : (steps : Steps) (held : List ℕ) (class rank n : ℕ) → IsDistinct steps → IsRank steps class rank → rank < length held → (k : ℕ)
+pub given_at : (steps : Steps) (held : List ℕ) (class rank n : ℕ) → IsDistinct steps → IsRank steps class rank
+    → rank < length held → (k : ℕ)
     → count_at steps (set held rank (get_or held rank 0 - n)) k ≡ count_at steps held k - (if class == k then n else 0)
 given_at steps held class rank n distinct is inside k =
     set_class steps held class rank (get_or held rank 0 - n) k distinct is inside
     ∙ count_less (k == class) (count_at steps held k) (get_or held rank 0 - n) n k class refl
     (λ e. ap (λ (m : ℕ). m - n) (sym (ap (count_at steps held) (eqb-true k class e) ∙ count_class steps held class rank distinct is inside)))
 
-is_more : (new old : ℕ → ℕ) (class n : ℕ) → ((k : ℕ) → new k ≡ old k + (if class == k then n else 0)) → IsMore new old class n
+is_more : (new old : ℕ → ℕ) (class n : ℕ) → ((k : ℕ) → new k ≡ old k + (if class == k then n else 0))
+    → IsMore new old class n
 is_more new old class n h = record {
   here = let same : (class == class) ≡ true = eq-eqb class class refl in h class ∙ ap (λ (b : Bool). old class + cond b n 0) same;
   others = λ k ne. let other : (class == k) ≡ false = ne_eqb class k (λ e. ne (sym e)) in omega (arith, h k, ap (λ (b : Bool). old k + cond b n 0) other);
 }
 
-pub leg_takes : (leg : LegSeats) (class rank n : ℕ) → KeepsLimits leg → IsRank leg.steps class rank → n ≤ room_on leg.steps (held_on leg) class
+pub leg_takes : (leg : LegSeats) (class rank n : ℕ) → KeepsLimits leg → IsRank leg.steps class rank
+    → n ≤ room_on leg.steps (held_on leg) class
     → LegChanges plus leg (record { steps = leg.steps; held = set leg.held rank (get_or leg.held rank 0 + n) }) class n
 leg_takes leg class rank n kept is fits =
     let inside : rank < length leg.held = omega (arith, is.inside, kept.counted) in
@@ -159,14 +176,16 @@ leg_gives leg class rank n kept is =
 
 -- ---- a missing class
 
-pub room_lacking : (steps : Steps) (seats : ℕ → ℕ) (class : ℕ) → has_class steps class ≡ false → room_on steps seats class ≡ 0
+pub room_lacking : (steps : Steps) (seats : ℕ → ℕ) (class : ℕ) → has_class steps class ≡ false
+    → room_on steps seats class ≡ 0
 room_lacking [] seats class h = refl
 room_lacking (s ∷ lower) seats class h =
     let p = or_parts (class == s.class) (has_class lower class) h in
     let other : (s.class == class) ≡ false = ne_eqb s.class class (λ e. eqb-false class s.class p.0 (sym e)) in
     rw (other, room_lacking lower seats class p.1) (omega arith)
 
-pub count_lacking : (steps : Steps) (held : List ℕ) (class : ℕ) → has_class steps class ≡ false → count_at steps held class ≡ 0
+pub count_lacking : (steps : Steps) (held : List ℕ) (class : ℕ) → has_class steps class ≡ false
+    → count_at steps held class ≡ 0
 count_lacking [] held class h = refl
 count_lacking (s ∷ lower) [] class h = refl
 count_lacking (s ∷ lower) (n ∷ more) class h =
@@ -190,12 +209,14 @@ gives_none leg class n kept none = record { steps = refl; seats = λ k. of (clas
 
 -- ---- bounds
 
-limit_at : (steps : Steps) (i : ℕ) (d : Step) → AllByRecursion (λ s. (s.limit ≤ 999) × (s.wait ≤ 999)) steps → i < length steps → (get_or steps i d).limit ≤ 999
+limit_at : (steps : Steps) (i : ℕ) (d : Step) → AllByRecursion (λ s. (s.limit ≤ 999) × (s.wait ≤ 999)) steps
+    → i < length steps → (get_or steps i d).limit ≤ 999
 limit_at [] i d h lt = absurd (omega arith)
 limit_at (s ∷ lower) zero d h lt = h.0.0
 limit_at (s ∷ lower) (suc i) d h lt = limit_at lower i d h.1 (omega arith)
 
-room_at : (steps : Steps) (seats : ℕ → ℕ) (class rank : ℕ) (d : Step) → IsDistinct steps → rank < length steps → (get_or steps rank d).class ≡ class
+room_at : (steps : Steps) (seats : ℕ → ℕ) (class rank : ℕ) (d : Step) → IsDistinct steps → rank < length steps
+    → (get_or steps rank d).class ≡ class
     → room_on steps seats class ≤ (get_or steps rank d).limit - held_from seats (drop rank steps)
 room_at [] seats class rank d distinct lt is = absurd (omega arith)
 room_at (s ∷ lower) seats class zero d distinct lt is = let same : (s.class == class) ≡ true = eq-eqb s.class class is in rw same (omega arith)
@@ -210,7 +231,8 @@ get_or_any (x ∷ xs) zero d e h = refl
 get_or_any (x ∷ xs) (suc i) d e h = get_or_any xs i d e (omega arith)
 
 -- seats that fit the room are few with those held
-pub few_taken : (leg : LegSeats) (class rank n : ℕ) → KeepsLimits leg → IsRank leg.steps class rank → n ≤ room_on leg.steps (held_on leg) class → get_or leg.held rank 0 + n ≤ 999
+pub few_taken : (leg : LegSeats) (class rank n : ℕ) → KeepsLimits leg → IsRank leg.steps class rank
+    → n ≤ room_on leg.steps (held_on leg) class → get_or leg.held rank 0 + n ≤ 999
 few_taken leg class rank n kept is fits =
     let inside : rank < length leg.held = omega (arith, is.inside, kept.counted) in
     let steps = leg.steps in
@@ -223,8 +245,10 @@ few_taken leg class rank n kept is fits =
     omega (arith, more, here, within, room, limit, fits)
 
 -- the highest rank of the rest, when the lower ones are added up
-pub held_at : (leg : LegSeats) (i j : ℕ) (x : Step) → KeepsLimits leg → j ≡ i + 1 → i < length leg.steps → x ≡ get_or leg.steps i x
-    → (held_from (held_on leg) (drop i leg.steps) ≡ held_from (held_on leg) (drop j leg.steps) + get_or leg.held i 0) × (held_from (held_on leg) (drop i leg.steps) ≤ x.limit) × (x.limit ≤ 999)
+pub held_at : (leg : LegSeats) (i j : ℕ) (x : Step) → KeepsLimits leg → j ≡ i + 1 → i < length leg.steps
+    → x ≡ get_or leg.steps i x
+    → (held_from (held_on leg) (drop i leg.steps) ≡ held_from (held_on leg) (drop j leg.steps) + get_or leg.held i 0)
+    × (held_from (held_on leg) (drop i leg.steps) ≤ x.limit) × (x.limit ≤ 999)
 held_at leg i j x kept e inside is =
     let counted : i < length leg.held = omega (arith, inside, kept.counted) in
     let steps = leg.steps in
@@ -236,17 +260,20 @@ held_at leg i j x kept e inside is =
     (omega (arith, more, here), omega (arith, within, limit), omega (arith, small, limit))
 
 -- what is held in a class stands at its rank
-pub seats_rank : (leg : LegSeats) (class rank : ℕ) → KeepsLimits leg → IsRank leg.steps class rank → held_on leg class ≡ get_or leg.held rank 0
+pub seats_rank : (leg : LegSeats) (class rank : ℕ) → KeepsLimits leg → IsRank leg.steps class rank
+    → held_on leg class ≡ get_or leg.held rank 0
 seats_rank leg class rank kept is = count_class leg.steps leg.held class rank kept.ladder.distinct is (omega (arith, is.inside, kept.counted))
 
 -- ---- the same of a leg that is seen as another
 
-pub few_seen : (leg now : LegSeats) (class rank n : ℕ) → leg ≡ now → KeepsLimits now → IsRank now.steps class rank → n ≤ room_on now.steps (held_on now) class → get_or leg.held rank 0 + n ≤ 999
+pub few_seen : (leg now : LegSeats) (class rank n : ℕ) → leg ≡ now → KeepsLimits now → IsRank now.steps class rank
+    → n ≤ room_on now.steps (held_on now) class → get_or leg.held rank 0 + n ≤ 999
 few_seen leg now class rank n e =
     let P : LegSeats → Type 0 = λ x. KeepsLimits x → IsRank x.steps class rank → n ≤ room_on x.steps (held_on x) class → get_or leg.held rank 0 + n ≤ 999 in
     subst P e (few_taken leg class rank n)
 
-pub takes_seen : (leg now : LegSeats) (class rank n : ℕ) → leg ≡ now → KeepsLimits now → IsRank now.steps class rank → n ≤ room_on now.steps (held_on now) class
+pub takes_seen : (leg now : LegSeats) (class rank n : ℕ) → leg ≡ now → KeepsLimits now → IsRank now.steps class rank
+    → n ≤ room_on now.steps (held_on now) class
     → LegChanges plus now (record { steps = leg.steps; held = set leg.held rank (get_or leg.held rank 0 + n) }) class n
 takes_seen leg now class rank n e =
     let P : LegSeats → Type 0 = λ x. KeepsLimits x → IsRank x.steps class rank → n ≤ room_on x.steps (held_on x) class → LegChanges plus x (record { steps = leg.steps; held = set leg.held rank (get_or leg.held rank 0 + n) }) class n in
@@ -258,27 +285,33 @@ gives_seen leg now class rank n e =
     let P : LegSeats → Type 0 = λ x. KeepsLimits x → IsRank x.steps class rank → LegChanges less x (record { steps = leg.steps; held = set leg.held rank (get_or leg.held rank 0 - n) }) class n in
     subst P e (leg_gives leg class rank n)
 
-pub seats_seen : (leg now : LegSeats) (class rank : ℕ) → leg ≡ now → KeepsLimits now → IsRank now.steps class rank → held_on now class ≡ get_or leg.held rank 0
+pub seats_seen : (leg now : LegSeats) (class rank : ℕ) → leg ≡ now → KeepsLimits now → IsRank now.steps class rank
+    → held_on now class ≡ get_or leg.held rank 0
 seats_seen leg now class rank e =
     let P : LegSeats → Type 0 = λ x. KeepsLimits x → IsRank x.steps class rank → held_on x class ≡ get_or leg.held rank 0 in
     subst P e (seats_rank leg class rank)
 
-pub held_seen : (leg now : LegSeats) (i j : ℕ) (x : Step) → leg ≡ now → KeepsLimits now → j ≡ i + 1 → i < length now.steps → x ≡ get_or now.steps i x
-    → (held_from (held_on now) (drop i now.steps) ≡ held_from (held_on now) (drop j now.steps) + get_or leg.held i 0) × (held_from (held_on now) (drop i now.steps) ≤ x.limit) × (x.limit ≤ 999)
+pub held_seen : (leg now : LegSeats) (i j : ℕ) (x : Step) → leg ≡ now → KeepsLimits now → j ≡ i + 1
+    → i < length now.steps → x ≡ get_or now.steps i x
+    → (held_from (held_on now) (drop i now.steps) ≡ held_from (held_on now) (drop j now.steps) + get_or leg.held i 0)
+    × (held_from (held_on now) (drop i now.steps) ≤ x.limit) × (x.limit ≤ 999)
 held_seen leg now i j x e =
     let P : LegSeats → Type 0 = λ y. KeepsLimits y → j ≡ i + 1 → i < length y.steps → x ≡ get_or y.steps i x
-    → (held_from (held_on y) (drop i y.steps) ≡ held_from (held_on y) (drop j y.steps) + get_or leg.held i 0) × (held_from (held_on y) (drop i y.steps) ≤ x.limit) × (x.limit ≤ 999) in
+    → (held_from (held_on y) (drop i y.steps) ≡ held_from (held_on y) (drop j y.steps) + get_or leg.held i 0)
+    × (held_from (held_on y) (drop i y.steps) ≤ x.limit) × (x.limit ≤ 999) in
     subst P e (held_at leg i j x)
 
 pub held_more_seen : (leg now : LegSeats) (i j : ℕ) → leg ≡ now → KeepsLimits now → j ≡ i + 1 → i < length now.steps
-    → (held_from (held_on now) (drop i now.steps) ≡ held_from (held_on now) (drop j now.steps) + get_or leg.held i 0) × (held_from (held_on now) (drop i now.steps) ≤ 999)
+    → (held_from (held_on now) (drop i now.steps) ≡ held_from (held_on now) (drop j now.steps) + get_or leg.held i 0)
+    × (held_from (held_on now) (drop i now.steps) ≤ 999)
 held_more_seen leg now i j e kept next inside =
     let x = get_or now.steps i no_step in
     let h = held_seen leg now i j x e kept next inside (get_or_any now.steps i no_step x inside) in
     (h.0, omega (arith, h))
 
 -- what is known of the parts of a leg
-pub kept_now : (steps : Steps) (held : List ℕ) (now : LegSeats) → leg_of steps held ≡ now → KeepsLimits (leg_of steps held) → KeepsLimits now
+pub kept_now : (steps : Steps) (held : List ℕ) (now : LegSeats) → leg_of steps held ≡ now
+    → KeepsLimits (leg_of steps held) → KeepsLimits now
 kept_now steps held now e kept = subst KeepsLimits e kept
 
 pub steps_now : (steps : Steps) (held : List ℕ) (now : LegSeats) → leg_of steps held ≡ now → steps ≡ now.steps
@@ -286,14 +319,17 @@ steps_now steps held now e = ap (λ (l : LegSeats). l.steps) e
 
 -- ---- what a search for the rank says
 
-pub some_rank : (steps : Steps) (class : ℕ) (o : Option ℕ) → o ≡ position (λ s. class == s.class) steps → IfSome o (IsRank steps class)
+pub some_rank : (steps : Steps) (class : ℕ) (o : Option ℕ) → o ≡ position (λ s. class == s.class) steps
+    → IfSome o (IsRank steps class)
 some_rank steps class None e = tt
 some_rank steps class (Some rank) e = is_rank steps class rank (sym e)
 
-pub none_rank : (steps : Steps) (class : ℕ) (o : Option ℕ) → o ≡ position (λ s. class == s.class) steps → IfNone o (has_class steps class ≡ false)
+pub none_rank : (steps : Steps) (class : ℕ) (o : Option ℕ) → o ≡ position (λ s. class == s.class) steps
+    → IfNone o (has_class steps class ≡ false)
 none_rank steps class None e = no_rank steps class (sym e)
 none_rank steps class (Some rank) e = tt
 
 -- in no rank none is held
-pub held_past : (seats : ByClass) (steps : Steps) (rank : ℕ) → length steps ≤ rank → 0 ≡ held_from seats (drop rank steps)
+pub held_past : (seats : ByClass) (steps : Steps) (rank : ℕ) → length steps ≤ rank
+    → 0 ≡ held_from seats (drop rank steps)
 held_past seats steps rank past = sym (ap (held_from seats) (drop_all rank steps past))

@@ -6,30 +6,36 @@ use Rattle.seat_nesting.specs.declared.ladder.Step.{Step}
 use Rattle.seat_nesting.specs.Nesting.{Steps, held_from, room_on, IsWithin, IsDistinct, LacksClass, least}
 
 -- the highest rank and those below it
-pub held_cons : (seats : ℕ → ℕ) (s : Step) (lower : Steps) → held_from seats (s ∷ lower) ≡ seats s.class + held_from seats lower
+pub held_cons : (seats : ℕ → ℕ) (s : Step) (lower : Steps)
+    → held_from seats (s ∷ lower) ≡ seats s.class + held_from seats lower
 held_cons seats s lower = sum_by-cons (λ (t : Step). seats t.class) s lower
 
 -- ---- two tables that agree
 
-pub held_same : (steps : Steps) (new old : ℕ → ℕ) → ((k : ℕ) → new k ≡ old k) → held_from new steps ≡ held_from old steps
+pub held_same : (steps : Steps) (new old : ℕ → ℕ) → ((k : ℕ) → new k ≡ old k)
+    → held_from new steps ≡ held_from old steps
 held_same [] new old h = refl
 held_same (s ∷ lower) new old h = omega (arith, held_cons new s lower, held_cons old s lower, h s.class, held_same lower new old h)
 
-pub room_same : (steps : Steps) (new old : ℕ → ℕ) (class : ℕ) → ((k : ℕ) → new k ≡ old k) → room_on steps new class ≡ room_on steps old class
+pub room_same : (steps : Steps) (new old : ℕ → ℕ) (class : ℕ) → ((k : ℕ) → new k ≡ old k)
+    → room_on steps new class ≡ room_on steps old class
 room_same [] new old class h = refl
 room_same (s ∷ lower) new old class h = rw (held_same (s ∷ lower) new old h, room_same lower new old class h) refl
 
-pub within_same : (steps : Steps) (new old : ℕ → ℕ) → ((k : ℕ) → new k ≡ old k) → IsWithin steps old → IsWithin steps new
+pub within_same : (steps : Steps) (new old : ℕ → ℕ) → ((k : ℕ) → new k ≡ old k) → IsWithin steps old
+    → IsWithin steps new
 within_same [] new old h w = tt
 within_same (s ∷ lower) new old h w = (omega (arith, held_same (s ∷ lower) new old h, w.0), within_same lower new old h w.1)
 
 -- ---- fewer seats
 
-pub held_less : (steps : Steps) (new old : ℕ → ℕ) → ((k : ℕ) → new k ≤ old k) → held_from new steps ≤ held_from old steps
+pub held_less : (steps : Steps) (new old : ℕ → ℕ) → ((k : ℕ) → new k ≤ old k)
+    → held_from new steps ≤ held_from old steps
 held_less [] new old h = omega arith
 held_less (s ∷ lower) new old h = omega (arith, held_cons new s lower, held_cons old s lower, h s.class, held_less lower new old h)
 
-pub within_less : (steps : Steps) (new old : ℕ → ℕ) → ((k : ℕ) → new k ≤ old k) → IsWithin steps old → IsWithin steps new
+pub within_less : (steps : Steps) (new old : ℕ → ℕ) → ((k : ℕ) → new k ≤ old k) → IsWithin steps old
+    → IsWithin steps new
 within_less [] new old h w = tt
 within_less (s ∷ lower) new old h w = (omega (arith, held_less (s ∷ lower) new old h, w.0), within_less lower new old h w.1)
 
@@ -49,27 +55,31 @@ pub record IsMore (new old : ℕ → ℕ) (class n : ℕ) : Type 0 where
   pub here : new class ≡ old class + n
   pub others : (k : ℕ) → k ≢ class → new k ≡ old k
 
-held_lacking : (steps : Steps) (new old : ℕ → ℕ) (class n : ℕ) → IsMore new old class n → LacksClass class steps → held_from new steps ≡ held_from old steps
+held_lacking : (steps : Steps) (new old : ℕ → ℕ) (class n : ℕ) → IsMore new old class n → LacksClass class steps
+    → held_from new steps ≡ held_from old steps
 held_lacking [] new old class n h l = refl
 held_lacking (s ∷ lower) new old class n h l =
     omega (arith, held_cons new s lower, held_cons old s lower, h.others s.class (λ e. l.0 (sym e)), held_lacking lower new old class n h l.1)
 
-within_lacking : (steps : Steps) (new old : ℕ → ℕ) (class n : ℕ) → IsMore new old class n → LacksClass class steps → IsWithin steps old → IsWithin steps new
+within_lacking : (steps : Steps) (new old : ℕ → ℕ) (class n : ℕ) → IsMore new old class n → LacksClass class steps
+    → IsWithin steps old → IsWithin steps new
 within_lacking [] new old class n h l w = tt
 within_lacking (s ∷ lower) new old class n h l w =
     (omega (arith, held_lacking (s ∷ lower) new old class n h l, w.0), within_lacking lower new old class n h l.1 w.1)
 
-same_class : (s : Step) (class : ℕ) → (s.class == class) ≡ true → s.class ≡ class
+pub same_class : (s : Step) (class : ℕ) → (s.class == class) ≡ true → s.class ≡ class
 same_class s class e = grind (arith, nat_tests)
 
-other_class : (s : Step) (class : ℕ) → (s.class == class) ≡ false → s.class ≢ class
+pub other_class : (s : Step) (class : ℕ) → (s.class == class) ≡ false → s.class ≢ class
 other_class s class e = grind (arith, nat_tests)
 
-held_more : (steps : Steps) (new old : ℕ → ℕ) (class n : ℕ) → IsMore new old class n → IsDistinct steps → held_from new steps ≤ held_from old steps + n
+held_more : (steps : Steps) (new old : ℕ → ℕ) (class n : ℕ) → IsMore new old class n → IsDistinct steps
+    → held_from new steps ≤ held_from old steps + n
 held_more [] new old class n h d = omega arith
 held_more (s ∷ lower) new old class n h d = cases (s.class == class) refl (held_more lower new old class n h d.1)
   where
-    cases : (b : Bool) → (s.class == class) ≡ b → held_from new lower ≤ held_from old lower + n → held_from new (s ∷ lower) ≤ held_from old (s ∷ lower) + n
+    cases : (b : Bool) → (s.class == class) ≡ b → held_from new lower ≤ held_from old lower + n
+        → held_from new (s ∷ lower) ≤ held_from old (s ∷ lower) + n
     cases true e _ =
         let is = same_class s class e in
         let rest = held_lacking lower new old s.class n (let P : ℕ → Type 0 = λ k. IsMore new old k n in subst P (sym is) h) d.0 in
@@ -77,11 +87,13 @@ held_more (s ∷ lower) new old class n h d = cases (s.class == class) refl (hel
     cases false e below = omega (arith, held_cons new s lower, held_cons old s lower, h.others s.class (other_class s class e), below)
 
 -- seats that fit the room stay within the limits
-pub within_more : (steps : Steps) (new old : ℕ → ℕ) (class n : ℕ) → IsMore new old class n → IsDistinct steps → n ≤ room_on steps old class → IsWithin steps old → IsWithin steps new
+pub within_more : (steps : Steps) (new old : ℕ → ℕ) (class n : ℕ) → IsMore new old class n → IsDistinct steps
+    → n ≤ room_on steps old class → IsWithin steps old → IsWithin steps new
 within_more [] new old class n h d r w = tt
 within_more (s ∷ lower) new old class n h d r w = cases (s.class == class) refl (λ (r' : n ≤ room_on lower old class). within_more lower new old class n h d.1 r' w.1)
   where
-    cases : (b : Bool) → (s.class == class) ≡ b → (n ≤ room_on lower old class → IsWithin lower new) → IsWithin (s ∷ lower) new
+    cases : (b : Bool) → (s.class == class) ≡ b → (n ≤ room_on lower old class → IsWithin lower new)
+        → IsWithin (s ∷ lower) new
     cases true e _ =
         let is = same_class s class e in
         let here : n ≤ s.limit - held_from old (s ∷ lower) = rw e at r in
@@ -94,31 +106,38 @@ within_more (s ∷ lower) new old class n h d r w = cases (s.class == class) ref
 -- ---- from a rank on
 
 -- the list from i on, by its first element
-drop_first : {X : Type 0} (xs : List X) (i j : ℕ) (x : X) → j ≡ i + 1 → i < length xs → x ≡ get_or xs i x → drop i xs ≡ x ∷ drop j xs
+pub drop_first : {X : Type 0} (xs : List X) (i j : ℕ) (x : X) → j ≡ i + 1 → i < length xs → x ≡ get_or xs i x
+    → drop i xs ≡ x ∷ drop j xs
 drop_first xs i j x e h is = rw (e, add-one) (drop-cons xs i x h ∙ ap (λ y. y ∷ drop (suc i) xs) (sym is))
 
-pub held_from_rank : (steps : Steps) (i j : ℕ) (x : Step) (seats : ℕ → ℕ) → j ≡ i + 1 → i < length steps → x ≡ get_or steps i x
+pub held_from_rank : (steps : Steps) (i j : ℕ) (x : Step) (seats : ℕ → ℕ) → j ≡ i + 1 → i < length steps
+    → x ≡ get_or steps i x
     → held_from seats (drop i steps) ≡ held_from seats (drop j steps) + seats x.class
 held_from_rank steps i j x seats e h is = rw (drop_first steps i j x e h is) (let k = held_cons seats x (drop j steps) in omega (arith, k))
 
 -- the room down to a class, where the highest rank is not the class
-pub room_above : (steps : Steps) (i j : ℕ) (x : Step) (seats : ℕ → ℕ) (class : ℕ) → j ≡ i + 1 → i < length steps → x ≡ get_or steps i x → false ≡ (x.class == class)
-    → room_on (drop i steps) seats class ≡ min (x.limit - held_from seats (drop i steps)) (room_on (drop j steps) seats class)
+pub room_above : (steps : Steps) (i j : ℕ) (x : Step) (seats : ℕ → ℕ) (class : ℕ) → j ≡ i + 1 → i < length steps
+    → x ≡ get_or steps i x → false ≡ (x.class == class)
+    → room_on (drop i steps) seats class
+    ≡ min (x.limit - held_from seats (drop i steps)) (room_on (drop j steps) seats class)
 room_above steps i j x seats class e h is other = rw (drop_first steps i j x e h is, ← other) refl
 
 -- and where it is
-pub room_here : (steps : Steps) (i j : ℕ) (x : Step) (seats : ℕ → ℕ) (class : ℕ) → j ≡ i + 1 → i < length steps → x ≡ get_or steps i x → true ≡ (x.class == class)
+pub room_here : (steps : Steps) (i j : ℕ) (x : Step) (seats : ℕ → ℕ) (class : ℕ) → j ≡ i + 1 → i < length steps
+    → x ≡ get_or steps i x → true ≡ (x.class == class)
     → room_on (drop i steps) seats class ≡ x.limit - held_from seats (drop i steps)
 room_here steps i j x seats class e h is same = rw (drop_first steps i j x e h is, ← same) refl
 
-pub within_rank : (steps : Steps) (seats : ℕ → ℕ) (i : ℕ) (d : Step) → IsWithin steps seats → i < length steps → held_from seats (drop i steps) ≤ (get_or steps i d).limit
+pub within_rank : (steps : Steps) (seats : ℕ → ℕ) (i : ℕ) (d : Step) → IsWithin steps seats → i < length steps
+    → held_from seats (drop i steps) ≤ (get_or steps i d).limit
 within_rank [] seats i d w h = absurd (omega arith)
 within_rank (s ∷ lower) seats zero d w h = w.0
 within_rank (s ∷ lower) seats (suc i) d w h = within_rank lower seats i d w.1 (omega arith)
 
 -- ---- legs one after the other
 
-pub least_next : (f : ℕ → ℕ) (from leg : ℕ) → from ≤ leg → least f from (leg + 1 - from) ≡ min (least f from (leg - from)) (f (leg + 1))
+pub least_next : (f : ℕ → ℕ) (from leg : ℕ) → from ≤ leg
+    → least f from (leg + 1 - from) ≡ min (least f from (leg - from)) (f (leg + 1))
 least_next f from leg le =
     let one : leg + 1 - from ≡ suc (leg - from) = omega arith in
     let last : from + suc (leg - from) ≡ leg + 1 = omega arith in
@@ -129,6 +148,7 @@ pub least_le : (f : ℕ → ℕ) (from n leg : ℕ) → from ≤ leg → leg ≤
 least_le f from zero leg a b = let e : leg ≡ from = omega arith in omega (arith, ap f e)
 least_le f from (suc n) leg a b = cases (leg == from + suc n) refl (λ (le : leg ≤ from + n). least_le f from n leg a le)
   where
-    cases : (t : Bool) → (leg == from + suc n) ≡ t → (leg ≤ from + n → least f from n ≤ f leg) → least f from (suc n) ≤ f leg
+    cases : (t : Bool) → (leg == from + suc n) ≡ t → (leg ≤ from + n → least f from n ≤ f leg)
+        → least f from (suc n) ≤ f leg
     cases true e _ = let is : leg ≡ from + suc n = grind (arith, nat_tests) in omega (arith, ap f is)
     cases false e below = let le : leg ≤ from + n = grind (arith, nat_tests) in omega (arith, below le)

@@ -8,7 +8,8 @@ use Rattle.seat_nesting.specs.Counting.{LegSeats, Counted, KeepsLimits, held_on,
 abbrev pub with_limit : Steps → ℕ → ℕ → ℕ → Steps
 with_limit [] class limit wait = []
 with_limit (s ∷ lower) class limit wait =
-    (if s.class == class then record s { limit = limit; wait = wait } ∷ lower else s ∷ with_limit lower class limit wait)
+    (if s.class == class then record s { limit = limit; wait = wait } ∷ lower else s
+    ∷ with_limit lower class limit wait)
 
 -- the same on one leg of a flight
 abbrev pub leg_with : List Steps → ℕ → ℕ → ℕ → ℕ → List Steps
@@ -52,7 +53,8 @@ may_have steps seats class limit = may_have_below 999 steps seats class limit
 
 -- a class of a leg of a flight may have this limit and wait, each at most 999
 abbrev pub can_set : Ladders → Table → ℕ → ℕ → ℕ → ℕ → ℕ → Bool
-can_set grid seats flight leg class limit wait = nat_le wait 999 && may_have (ladder_at grid flight leg) (seats flight leg) class limit
+can_set grid seats flight leg class limit wait =
+    nat_le wait 999 && may_have (ladder_at grid flight leg) (seats flight leg) class limit
 
 -- that limit and wait are set on a leg, and every seat is held as before
 pub record LegSets (old new : LegSeats) (class limit wait : ℕ) : Type 0 where

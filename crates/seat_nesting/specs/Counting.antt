@@ -86,13 +86,15 @@ pub record IsWithinLimits (counts : Counted) : Type 0 where
 -- the same on one leg of a flight
 pub record FlightChanges (op : ℕ → ℕ → ℕ) (old new : List LegSeats) (leg class n : ℕ) : Type 0 where
   pub limits : map (λ (l : LegSeats). l.steps) new ≡ map (λ (l : LegSeats). l.steps) old
-  pub seats : (at k : ℕ) → held_on (leg_in new at) k ≡ op (held_on (leg_in old at) k) (if (at == leg) && (class == k) then n else 0)
+  pub seats : (at k : ℕ)
+      → held_on (leg_in new at) k ≡ op (held_on (leg_in old at) k) (if (at == leg) && (class == k) then n else 0)
   pub kept : ((at : ℕ) → KeepsLimits (leg_in old at)) → (at : ℕ) → KeepsLimits (leg_in new at)
 
 -- on one leg
 pub record OneLegChanges (op : ℕ → ℕ → ℕ) (old new : Counted) (flight leg class n : ℕ) : Type 0 where
   pub limits : limits_of new ≡ limits_of old
-  pub seats : (f at k : ℕ) → table_of new f at k ≡ op (table_of old f at k) (if (f == flight) && (at == leg) && (class == k) then n else 0)
+  pub seats : (f at k : ℕ)
+      → table_of new f at k ≡ op (table_of old f at k) (if (f == flight) && (at == leg) && (class == k) then n else 0)
 
 -- on each leg of a place
 pub record Changes (op : ℕ → ℕ → ℕ) (old new : Counted) (place : Place) (class n : ℕ) : Type 0 where
@@ -115,4 +117,5 @@ pub record IsFresh (leg : LegSeats) : Type 0 where
 abbrev pub holds : Ladders → Table → Place → ℕ → ℕ → Bool
 holds grid seats place class n =
     nat_le place.from place.to
-    && each_leg (λ leg. leg_holds (ladder_at grid place.flight leg) (seats place.flight leg) class n) place.from (place.to - place.from)
+    && each_leg (λ leg. leg_holds (ladder_at grid place.flight leg) (seats place.flight leg) class n) place.from
+    (place.to - place.from)

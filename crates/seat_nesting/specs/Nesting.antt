@@ -110,7 +110,8 @@ seats_at place class n flight leg k = (if covers flight leg place && (class == k
 abbrev pub room : Ladders → Table → Place → ℕ → ℕ
 room grid seats place class =
     (if nat_le place.from place.to
-    then least (λ leg. room_on (ladder_at grid place.flight leg) (seats place.flight leg) class) place.from (place.to - place.from)
+    then least (λ leg. room_on (ladder_at grid place.flight leg) (seats place.flight leg) class) place.from
+    (place.to - place.from)
     else 0)
 
 -- no class stands twice in a leg's steps
@@ -120,7 +121,8 @@ HasLadders grid = (flight leg : ℕ) → IsDistinct (ladder_at grid flight leg)
 -- n seats more may wait on a leg in a class: the class is there, and its waiting seats with these are at most its wait
 abbrev pub may_wait_on : Steps → ByClass → ℕ → ℕ → Bool
 may_wait_on [] waiting class n = false
-may_wait_on (s ∷ lower) waiting class n = (if s.class == class then nat_le (waiting class + n) s.wait else may_wait_on lower waiting class n)
+may_wait_on (s ∷ lower) waiting class n =
+    (if s.class == class then nat_le (waiting class + n) s.wait else may_wait_on lower waiting class n)
 
 -- the test passes at leg `from` and the n legs after it
 abbrev pub each_leg : (ℕ → Bool) → ℕ → ℕ → Bool
@@ -136,8 +138,11 @@ is_listed_on (s ∷ lower) class = (if s.class == class then s.listed else is_li
 abbrev pub may_wait : Ladders → Table → Place → ℕ → ℕ → Bool
 may_wait grid waiting place class n =
     nat_le place.from place.to
-    && each_leg (λ leg. may_wait_on (ladder_at grid place.flight leg) (waiting place.flight leg) class n) place.from (place.to - place.from)
+    && each_leg (λ leg. may_wait_on (ladder_at grid place.flight leg) (waiting place.flight leg) class n) place.from
+    (place.to - place.from)
 
 -- each leg of the place has the class with the mark
 abbrev pub is_listed : Ladders → Place → ℕ → Bool
-is_listed grid place class = nat_le place.from place.to && each_leg (λ leg. is_listed_on (ladder_at grid place.flight leg) class) place.from (place.to - place.from)
+is_listed grid place class =
+    nat_le place.from place.to && each_leg (λ leg. is_listed_on (ladder_at grid place.flight leg) class) place.from
+    (place.to - place.from)

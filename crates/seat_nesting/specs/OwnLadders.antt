@@ -88,7 +88,8 @@ AreShared legs = (leg : ℕ) → may_come (unwrap_or (slice_get legs leg) Absent
 -- n own ladders: that of each leg is there, no two legs have the same, and there are places for all that may yet come
 pub record HaveOwn (n places : ℕ) (limits : List (List Limits)) : Type 0 where
   pub there : (flight leg i : ℕ) → limits_at limits flight leg ≡ Own i → i < n
-  pub apart : (flight leg other at i : ℕ) → limits_at limits flight leg ≡ Own i → limits_at limits other at ≡ Own i → (flight ≡ other) × (leg ≡ at)
+  pub apart : (flight leg other at i : ℕ) → limits_at limits flight leg ≡ Own i → limits_at limits other at ≡ Own i
+      → (flight ≡ other) × (leg ≡ at)
   pub reserved : n + yet_to_come limits ≤ places
 
 -- the counters of all legs, none of which holds more than a limit

@@ -89,6 +89,7 @@ impl CountedLeg {
             Some(ladder) => Limits::Shared(ladder.again()?),
             None => Limits::Absent,
         };
+        // For the prover alone: limits say that their steps are those of a ladder, or none.
         let _ = limits.steps(&[]);
         Ok(CountedLeg {
             limits,

@@ -132,7 +132,8 @@ impl Counts {
 
     /// The seats held on a leg in a rank of its limits and below, by rank from 0; 0 where it has no such rank.
     pub fn held_from(&self, flight: u32, leg: u8, rank: usize) -> u16
-        ensures { result ≡ held_from (table_of self.now flight leg) (drop rank (ladder_at (limits_of self.now) flight leg)) }
+        ensures { result ≡ held_from (table_of self.now flight leg)
+            (drop rank (ladder_at (limits_of self.now) flight leg)) }
     {
         match self.leg(flight, leg) {
             Some(counts) => counts.held_from(rank),
@@ -193,7 +194,8 @@ impl Counts {
     }
 
     fn holds_on(&self, flight: u32, leg: u8, class: Class, seats: u16) -> bool
-        ensures { result ≡ leg_holds (ladder_at (limits_of self.now) flight leg) (table_of self.now flight leg) class seats }
+        ensures { result ≡ leg_holds (ladder_at (limits_of self.now) flight leg) (table_of self.now flight leg) class
+            seats }
     {
         match self.leg(flight, leg) {
             Some(counts) => counts.holds(class, seats),
@@ -202,7 +204,8 @@ impl Counts {
     }
 
     fn may_have(&self, flight: u32, leg: u8, class: Class, limit: u16) -> bool
-        ensures { result ≡ may_have (ladder_at (limits_of self.now) flight leg) (table_of self.now flight leg) class limit }
+        ensures { result ≡ may_have (ladder_at (limits_of self.now) flight leg) (table_of self.now flight leg) class
+            limit }
     {
         match self.leg(flight, leg) {
             Some(counts) => counts.may_have(class, limit),

@@ -60,7 +60,8 @@ impl FlightCounts {
         requires inside { leg < length self.old }
         requires rank { rank < 26 }
         requires fits { held_at (counted_in self.old leg) rank + seats ≤ 999 }
-        ensures { self.new ≡ slice_set self.old leg (with_held (counted_in self.old leg) rank (held_at (counted_in self.old leg) rank + seats)) }
+        ensures { self.new ≡ slice_set self.old leg
+            (with_held (counted_in self.old leg) rank (held_at (counted_in self.old leg) rank + seats)) }
     {
         let counts = &mut self.legs[leg];
         counts.take(rank, seats);
@@ -71,7 +72,8 @@ impl FlightCounts {
         requires inside { leg < length self.old }
         requires rank { rank < 26 }
         requires held { seats ≤ held_at (counted_in self.old leg) rank }
-        ensures { self.new ≡ slice_set self.old leg (with_held (counted_in self.old leg) rank (held_at (counted_in self.old leg) rank - seats)) }
+        ensures { self.new ≡ slice_set self.old leg
+            (with_held (counted_in self.old leg) rank (held_at (counted_in self.old leg) rank - seats)) }
     {
         let counts = &mut self.legs[leg];
         counts.give(rank, seats);
@@ -80,11 +82,13 @@ impl FlightCounts {
     /// Sets the limit and the wait of a class on a leg, which then has a ladder of its own.
     pub fn set(&mut self, own: &mut Vec<Ladder>, leg: usize, class: Class, limit: u16, wait: u16)
         requires inside { leg < length self.old }
-        requires ladder { IsLadder (with_limit (steps_by own.old.items (counted_in self.old leg).limits) class limit wait) }
+        requires ladder { IsLadder (with_limit (steps_by own.old.items (counted_in self.old leg).limits) class limit
+            wait) }
         requires there { (i : ℕ) → (counted_in self.old leg).limits ≡ Own i → i < length own.old.items }
         requires reserved { vec_len own.old + may_come (counted_in self.old leg).limits ≤ vec_capacity own.old }
         ensures own { own.new.items ≡ own_after own.old.items (counted_in self.old leg).limits class limit wait }
-        ensures legs { self.new ≡ slice_set self.old leg (with_limits (counted_in self.old leg) (limits_after own.old.items (counted_in self.old leg).limits)) }
+        ensures legs { self.new ≡ slice_set self.old leg
+            (with_limits (counted_in self.old leg) (limits_after own.old.items (counted_in self.old leg).limits)) }
         ensures places { vec_capacity own.new ≡ vec_capacity own.old }
     {
         let counts = &mut self.legs[leg];

@@ -54,6 +54,7 @@ impl Grid {
     pub fn single(alloc: Global, ladder: Ladder) -> Result<Grid, Memory>
         ensures { IfOk result (λ grid. grid ≡ (ladder ∷ []) ∷ []) }
     {
+        // For the prover alone: a ladder says of its steps that no class stands twice.
         let _ = ladder.steps();
         let ladder = SharedLadder::of(alloc, ladder)?;
         let mut ladders = Vec::new(alloc);

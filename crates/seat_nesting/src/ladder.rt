@@ -172,6 +172,7 @@ fn repeats_class(steps: &[Step]) -> bool
 {
     let mut rest = steps;
     while let [step, lower @ ..] = rest {
+        // For the prover alone: a class says that it is a letter.
         let _ = step.class.letter();
         if has_class(lower, step.class) {
             return true;

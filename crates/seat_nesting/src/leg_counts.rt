@@ -117,7 +117,8 @@ impl<'a> LegCounts<'a> {
 /// lower than that of the next lower one.
 fn is_between(steps: &[Step], rank: usize, limit: u16) -> bool
     requires { rank < length steps.now }
-    ensures { result ≡ (nat_le limit (limit_above 999 steps.now rank) && nat_le (top_of (drop (rank + 1) steps.now)) limit) }
+    ensures { result ≡ (nat_le limit (limit_above 999 steps.now rank)
+        && nat_le (top_of (drop (rank + 1) steps.now)) limit) }
 {
     limit <= limit_above(steps, rank) && top_of(&steps[rank + 1..]) <= limit
 }

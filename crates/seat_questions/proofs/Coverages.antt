@@ -1,5 +1,6 @@
 -- Rows and legs find each other by counts.
 use Rattle.std.proofs.Common.{◌≡◌, ◌==◌, ℕ, zero, suc, ◌+◌, ◌<◌, ◌≤◌, Bool, true, false, ◌&&◌, ◌||◌, cond, nat_lt, nat_le, max, List, [], ◌∷◌, ◌++◌, length, map, take, get_or, Some, refl, sym, ap, subst, ◌∙◌, append_assoc, arith, zero-add}
+use Rattle.seat_questions.proofs.Common.{DatedLeg, Flight, LimitRow, IsPut}
 use Rattle.std.specs.Prelude.{count_by, slice_get}
 use Rattle.std.specs.List.{All, AllWithin, flat_map, list_any, sum_by}
 use Rattle.std.specs.List.Sorted.{IsPartitionPoint, IsPermutation, IsSorted}
@@ -14,13 +15,10 @@ use Rattle.std.proofs.lemmas.List.Sorted.{IsNonDecreasingBy-from_sort, list_any-
 use Rattle.std.proofs.lemmas.List.Folds.{list_any-append}
 use Rattle.std.proofs.lemmas.Option.{get_or_from_slice_get, slice_get_within}
 use Rattle.airline_base.specs.Days.{IsDay}
-use Rattle.ssim_flights.specs.declared.flight.DatedLeg.{DatedLeg}
-use Rattle.ssim_flights.specs.declared.flight.Flight.{Flight}
 use Rattle.seat_limits.specs.Authorised.{holds_day, leg_pair, row_pair, same_pair}
-use Rattle.seat_limits.specs.declared.limit_row.LimitRow.{LimitRow}
 use Rattle.seat_limits.proofs.RowIndexing.{pair_is}
 use Rattle.seat_questions.specs.Cover.{IsCoverText, IsFlightPartBy, IsRowPartBy, covered_by, has_leg, has_row, is_on, is_row_of, leg_count, row_text, sums_text}
-use Rattle.seat_desk.specs.FlightsDesk.{IsPut, IsText}
+use Rattle.seat_desk.specs.FlightsDesk.{IsText}
 use Rattle.seat_desk.proofs.Texts.{each_more}
 use Rattle.seat_questions.specs.Coverage.{IsCoverage, IsDatedRow, IsRanking, begin_of, below, day_of, days_of, end_of, finds_leg, finds_row, point, row_number}
 use Rattle.seat_questions.specs.PairNumbers.{number_of}
@@ -41,7 +39,8 @@ one t = cond t 1 0
 -- what begins up to a point has ended or holds it
 spans_one : (b e k : ℕ) → b ≤ e → one (nat_lt b (k + 1)) ≡ one (nat_lt e (k + 1)) + one (within b e k)
 spans_one b e k le = cases (nat_le b k) (nat_lt k e) refl refl where
-  cases : (t u : Bool) → nat_le b k ≡ t → nat_lt k e ≡ u → one (nat_lt b (k + 1)) ≡ one (nat_lt e (k + 1)) + one (t && u)
+  cases : (t u : Bool) → nat_le b k ≡ t → nat_lt k e ≡ u
+      → one (nat_lt b (k + 1)) ≡ one (nat_lt e (k + 1)) + one (t && u)
   cases true true f g =
       let x : nat_lt b (k + 1) ≡ true = grind (arith, nat_tests) in
       let y : nat_lt e (k + 1) ≡ false = grind (arith, nat_tests) in rw (x, y) refl
@@ -67,7 +66,8 @@ both : (a b c l m n : ℕ) → a ≡ b + c → l ≡ m + n → a + l ≡ (b + m)
 both a b c l m n e f = omega (arith, e, f)
 
 -- counts add up as each of them does
-counts_add : {X : Type 0} (p q r : X → Bool) → ((x : X) → one (p x) ≡ one (q x) + one (r x)) → (xs : List X) → count_by p xs ≡ count_by q xs + count_by r xs
+counts_add : {X : Type 0} (p q r : X → Bool) → ((x : X) → one (p x) ≡ one (q x) + one (r x)) → (xs : List X)
+    → count_by p xs ≡ count_by q xs + count_by r xs
 counts_add p q r add [] = refl
 counts_add p q r add (x ∷ xs) =
     sum_by-cons (λ y. one (p y)) x xs
@@ -110,7 +110,8 @@ any_within b e le ns =
 
 -- ---- rows and legs
 
-any_same : {X : Type 0} (p q : X → Bool) (xs : List X) → ((k : ℕ) (x : X) → slice_get xs k ≡ Some x → p x ≡ q x) → list_any p xs ≡ list_any q xs
+any_same : {X : Type 0} (p q : X → Bool) (xs : List X) → ((k : ℕ) (x : X) → slice_get xs k ≡ Some x → p x ≡ q x)
+    → list_any p xs ≡ list_any q xs
 any_same p q [] same = refl
 any_same p q (x ∷ xs) same = let here : p x ≡ q x = same 0 x refl in let rest = any_same p q xs (λ k y at. same (suc k) y at) in rw (here, rest) refl
 
@@ -118,7 +119,8 @@ any_map : {X : Type 0} (p : ℕ → Bool) (f : X → ℕ) (xs : List X) → list
 any_map p f [] = refl
 any_map p f (x ∷ xs) = ap (λ (b : Bool). p (f x) || b) (any_map p f xs)
 
-any_flat : {X : Type 0} (p : ℕ → Bool) (f : X → List ℕ) (xs : List X) → list_any p (flat_map f xs) ≡ list_any (λ x. list_any p (f x)) xs
+any_flat : {X : Type 0} (p : ℕ → Bool) (f : X → List ℕ) (xs : List X)
+    → list_any p (flat_map f xs) ≡ list_any (λ x. list_any p (f x)) xs
 any_flat p f [] = refl
 any_flat p f (x ∷ xs) = list_any-append p (f x) (flat_map f xs) ∙ ap (λ (b : Bool). list_any p (f x) || b) (any_flat p f xs)
 
@@ -139,7 +141,8 @@ is_behind b e k x = let s : nat_lt k e ≡ false = grind (arith, nat_tests) in a
 on_line : (n m from to day : ℕ) → n ≡ m → IsDay from → IsDay to
     → within (point n from) (max (point n to + 1) (point n from)) (point m day) ≡ (nat_le from day && nat_le day to)
 on_line n m from to day e f g = cases (nat_le from day) (nat_le day to) refl refl where
-  cases : (t u : Bool) → nat_le from day ≡ t → nat_le day to ≡ u → within (point n from) (max (point n to + 1) (point n from)) (point m day) ≡ (t && u)
+  cases : (t u : Bool) → nat_le from day ≡ t → nat_le day to ≡ u
+      → within (point n from) (max (point n to + 1) (point n from)) (point m day) ≡ (t && u)
   cases true true x y =
       let a : from ≤ day = grind (arith, nat_tests) in
       let b : day ≤ to = grind (arith, nat_tests) in
@@ -157,9 +160,11 @@ on_line n m from to day e f g = cases (nat_le from day) (nat_le day to) refl ref
       is_behind (point n from) (max (point n to + 1) (point n from)) (point m day) l
 
 -- nor of another one
-off_line : (n m from to day : ℕ) → (n ≡ m → ⊥) → IsDay from → IsDay to → within (point n from) (max (point n to + 1) (point n from)) (point m day) ≡ false
+off_line : (n m from to day : ℕ) → (n ≡ m → ⊥) → IsDay from → IsDay to
+    → within (point n from) (max (point n to + 1) (point n from)) (point m day) ≡ false
 off_line n m from to day e f g = cases (nat_lt n m) (n == m) refl refl where
-  cases : (t u : Bool) → nat_lt n m ≡ t → (n == m) ≡ u → within (point n from) (max (point n to + 1) (point n from)) (point m day) ≡ false
+  cases : (t u : Bool) → nat_lt n m ≡ t → (n == m) ≡ u
+      → within (point n from) (max (point n to + 1) (point n from)) (point m day) ≡ false
   cases true u x y =
       let a : n < m = grind (arith, nat_tests) in
       let l : max (point n to + 1) (point n from) ≤ point m day = omega (arith, f.0, f.1, g.0, g.1, a) in
@@ -174,8 +179,10 @@ true_is_no_false : true ≡ false → ⊥
 true_is_no_false e = cc
 
 -- the same, of a row of the rows and a leg
-found : (c : Coverage) (flights : List Flight) (rows : List LimitRow) → IsCoverage c flights rows → (k : ℕ) (row : LimitRow) → slice_get rows k ≡ Some row
-    → (flight : Flight) (leg : DatedLeg) → within (begin_of c.numbers row) (end_of c.numbers row) (day_of c.numbers flight leg) ≡ is_row_of row flight leg
+found : (c : Coverage) (flights : List Flight) (rows : List LimitRow) → IsCoverage c flights rows
+    → (k : ℕ) (row : LimitRow) → slice_get rows k ≡ Some row
+    → (flight : Flight) (leg : DatedLeg)
+    → within (begin_of c.numbers row) (end_of c.numbers row) (day_of c.numbers flight leg) ≡ is_row_of row flight leg
 found c flights rows h k row at flight leg = cases (same_pair (row_pair row) (leg_pair flight leg)) refl where
   dated : IsDatedRow row
   dated = subst IsDatedRow (get_or_from_slice_get rows k row row at) (h.spans.dated k row (slice_get_within rows k row at))
@@ -191,7 +198,8 @@ found c flights rows h k row at flight leg = cases (same_pair (row_pair row) (le
       (subst (λ (l : ℕ). number_of c.numbers.last l (row_pair row) ≡ number_of c.numbers.last l (leg_pair flight leg)) h.counted e)
 
   cases : (b : Bool) → same_pair (row_pair row) (leg_pair flight leg) ≡ b
-      → within (begin_of c.numbers row) (end_of c.numbers row) (day_of c.numbers flight leg) ≡ (same_pair (row_pair row) (leg_pair flight leg) && holds_day row leg.day)
+      → within (begin_of c.numbers row) (end_of c.numbers row) (day_of c.numbers flight leg)
+      ≡ (same_pair (row_pair row) (leg_pair flight leg) && holds_day row leg.day)
   cases true e =
       let same : n ≡ m = ap (number_of c.numbers.last c.numbers.count) (pair_is (row_pair row) (leg_pair flight leg) e) in
       on_line n m row.from row.to leg.day same dated.from dated.to ∙ ap (λ (b : Bool). b && holds_day row leg.day) (sym e)
@@ -207,7 +215,8 @@ ranked t numbers ascending r = sum_by-IsPermutation (λ n. one (nat_lt n t)) num
 
 -- the search finds what the definition does
 
-pub row_found : (c : Coverage) (flights : List Flight) (rows : List LimitRow) → IsCoverage c flights rows → (flight : Flight) (leg : DatedLeg)
+pub row_found : (c : Coverage) (flights : List Flight) (rows : List LimitRow) → IsCoverage c flights rows
+    → (flight : Flight) (leg : DatedLeg)
     → finds_row c flight leg ≡ has_row rows flight leg
 row_found c flights rows h flight leg =
     let k : ℕ = day_of c.numbers flight leg in
@@ -216,7 +225,8 @@ row_found c flights rows h flight leg =
     ∙ any_spans (begin_of c.numbers) (end_of c.numbers) k (begin_before c.numbers) rows
     ∙ any_same (λ (row : LimitRow). within (begin_of c.numbers row) (end_of c.numbers row) k) (λ (row : LimitRow). is_row_of row flight leg) rows (λ i row at. found c flights rows h i row at flight leg)
 
-pub leg_found : (c : Coverage) (flights : List Flight) (rows : List LimitRow) → IsCoverage c flights rows → (k : ℕ) (row : LimitRow) → slice_get rows k ≡ Some row
+pub leg_found : (c : Coverage) (flights : List Flight) (rows : List LimitRow) → IsCoverage c flights rows
+    → (k : ℕ) (row : LimitRow) → slice_get rows k ≡ Some row
     → finds_leg c row ≡ has_leg flights row
 leg_found c flights rows h k row at =
     any_within (begin_of c.numbers row) (end_of c.numbers row) (begin_before c.numbers row) c.days.items
@@ -231,13 +241,15 @@ leg_found c flights rows h k row at =
 
 -- ---- the text
 
-rows_text : (p q : LimitRow → Bool) (n : ℕ) (rows : List LimitRow) (text : List ℕ) → ((k : ℕ) (row : LimitRow) → slice_get rows k ≡ Some row → p row ≡ q row)
+rows_text : (p q : LimitRow → Bool) (n : ℕ) (rows : List LimitRow) (text : List ℕ)
+    → ((k : ℕ) (row : LimitRow) → slice_get rows k ≡ Some row → p row ≡ q row)
     → IsText (IsRowPartBy p) n rows text → IsText (IsRowPartBy q) n rows text
 rows_text p q n [] text same is = is
 rows_text p q n (row ∷ rows) text same is =
     (is.0, is.1, is.2 ∙ ap (row_text n) (same 0 row refl), is.3, rows_text p q (n + 1) rows is.1 (λ k r at. same (suc k) r at) is.4)
 
-rows_counted : (p q : LimitRow → Bool) (rows : List LimitRow) → ((k : ℕ) (row : LimitRow) → slice_get rows k ≡ Some row → p row ≡ q row) → count_by p rows ≡ count_by q rows
+rows_counted : (p q : LimitRow → Bool) (rows : List LimitRow)
+    → ((k : ℕ) (row : LimitRow) → slice_get rows k ≡ Some row → p row ≡ q row) → count_by p rows ≡ count_by q rows
 rows_counted p q [] same = refl
 rows_counted p q (row ∷ rows) same =
     sum_by-cons (λ r. one (p r)) row rows
@@ -245,9 +257,12 @@ rows_counted p q (row ∷ rows) same =
     ∙ ap (λ (n : ℕ). one (q row) + n) (rows_counted p q rows (λ k r at. same (suc k) r at))
     ∙ sym (sum_by-cons (λ r. one (q r)) row rows)
 
-pub found_text : (c : Coverage) (rows : List LimitRow) (flights : List Flight) (start mid legs new : List ℕ) (covered count found : ℕ) → IsCoverage c flights rows → start ≡ []
-    → IsPut (IsRowPartBy (finds_leg c)) 1 rows start mid → IsPut (IsFlightPartBy (finds_row c)) 0 flights mid legs → new ≡ legs ++ sums_text covered count found (length rows)
-    → covered ≡ sum_by (covered_by (finds_row c)) flights → count ≡ sum_by leg_count flights → found ≡ count_by (finds_leg c) rows
+pub found_text : (c : Coverage) (rows : List LimitRow) (flights : List Flight) (start mid legs new : List ℕ)
+    (covered count found : ℕ) → IsCoverage c flights rows → start ≡ []
+    → IsPut (IsRowPartBy (finds_leg c)) 1 rows start mid → IsPut (IsFlightPartBy (finds_row c)) 0 flights mid legs
+    → new ≡ legs ++ sums_text covered count found (length rows)
+    → covered ≡ sum_by (covered_by (finds_row c)) flights → count ≡ sum_by leg_count flights
+    → found ≡ count_by (finds_leg c) rows
     → IsCoverText rows flights new
 found_text c rows flights start mid legs new covered count found h empty of_rows of_legs written is_covered is_count is_found =
     cover_text rows flights start mid legs new covered count found empty
@@ -263,14 +278,16 @@ found_text c rows flights start mid legs new covered count found h empty of_rows
 
 -- ---- the index as it is made
 
-none_counted : {X : Type 0} (p : X → Bool) (xs : List X) → AllWithin (λ y. p y ≡ false) xs 0 (length xs) → count_by p xs ≡ 0
+none_counted : {X : Type 0} (p : X → Bool) (xs : List X) → AllWithin (λ y. p y ≡ false) xs 0 (length xs)
+    → count_by p xs ≡ 0
 none_counted p [] none = refl
 none_counted p (x ∷ xs) none =
     let here : p x ≡ false = none 0 x (omega arith) (omega arith) in
     sum_by-cons (λ y. one (p y)) x xs ∙ ap (λ (b : Bool). one b + count_by p xs) here ∙ zero-add (count_by p xs) ∙ none_counted p xs (λ k d low high. none (suc k) d (omega arith) (omega (arith, high)))
 
 -- as many pass as stand before the point up to which they do
-pub parted : {X : Type 0} (p : X → Bool) (xs : List X) (i : ℕ) → IsPartitionPoint (λ y. p y ≡ true) (λ y. p y ≡ false) xs i → i ≤ length xs → i ≡ count_by p xs
+pub parted : {X : Type 0} (p : X → Bool) (xs : List X) (i : ℕ)
+    → IsPartitionPoint (λ y. p y ≡ true) (λ y. p y ≡ false) xs i → i ≤ length xs → i ≡ count_by p xs
 parted p [] i h le = let e : i ≡ 0 = omega (arith, le) in e
 parted p (x ∷ xs) zero h le = sym (none_counted p (x ∷ xs) h.1)
 parted p (x ∷ xs) (suc i) h le =
@@ -283,35 +300,42 @@ row_added : {X : Type 0} (f : X → ℕ) (xs : List X) (i : ℕ) (x : X) (n : �
     → map f (take i xs) ++ n ∷ [] ≡ map f (take (i + 1) xs)
 row_added f xs i x n lt is value = ap (λ (k : ℕ). map f (take i xs) ++ k ∷ []) (value ∙ ap f is) ∙ sym (map_more f xs i x lt)
 
-pub row_more : {X : Type 0} (f : X → ℕ) (xs : List X) (i : ℕ) (x : X) (now : List ℕ) (n : ℕ) → now ≡ map f (take i xs) → i < length xs → x ≡ get_or xs i x → n ≡ f x
+pub row_more : {X : Type 0} (f : X → ℕ) (xs : List X) (i : ℕ) (x : X) (now : List ℕ) (n : ℕ) → now ≡ map f (take i xs)
+    → i < length xs → x ≡ get_or xs i x → n ≡ f x
     → now ++ n ∷ [] ≡ map f (take (i + 1) xs)
 row_more f xs i x now n so_far lt is value = ap (λ (l : List ℕ). l ++ n ∷ []) so_far ∙ row_added f xs i x n lt is value
 
-pub leg_more : {X : Type 0} (f : X → ℕ) (xs : List X) (i : ℕ) (x : X) (old now : List ℕ) (n : ℕ) → now ≡ old ++ map f (take i xs) → i < length xs → x ≡ get_or xs i x → n ≡ f x
+pub leg_more : {X : Type 0} (f : X → ℕ) (xs : List X) (i : ℕ) (x : X) (old now : List ℕ) (n : ℕ)
+    → now ≡ old ++ map f (take i xs) → i < length xs → x ≡ get_or xs i x → n ≡ f x
     → now ++ n ∷ [] ≡ old ++ map f (take (i + 1) xs)
 leg_more f xs i x old now n so_far lt is value =
     ap (λ (l : List ℕ). l ++ n ∷ []) so_far ∙ append_assoc old (map f (take i xs)) (n ∷ []) ∙ ap (λ (l : List ℕ). old ++ l) (row_added f xs i x n lt is value)
 
-pub flight_more : (f : Flight → List ℕ) (flights : List Flight) (i : ℕ) (flight : Flight) (now new : List ℕ) → now ≡ flat_map f (take i flights)
+pub flight_more : (f : Flight → List ℕ) (flights : List Flight) (i : ℕ) (flight : Flight) (now new : List ℕ)
+    → now ≡ flat_map f (take i flights)
     → slice_get flights i ≡ Some flight → new ≡ now ++ f flight → new ≡ flat_map f (take (i + 1) flights)
 flight_more f flights i flight now new so_far found put =
     each_more f i flights flight [] now new so_far (there flights i flight found) (here flights i flight found) put
 
-ranking : (numbers now new : List ℕ) → now ≡ numbers → IsPermutation now new → IsSorted nat_cmp new → IsRanking numbers new
+ranking : (numbers now new : List ℕ) → now ≡ numbers → IsPermutation now new → IsSorted nat_cmp new
+    → IsRanking numbers new
 ranking numbers now new is moved sorted = record {
   up = IsNonDecreasingBy-from_sort (λ n. n) new sorted;
   same = subst (λ (l : List ℕ). IsPermutation l new) is moved;
 }
 
-pub rows_ranked : {X : Type 0} (f : X → ℕ) (xs : List X) (i : ℕ) (now new : List ℕ) → now ≡ map f (take i xs) → length xs ≤ i → IsPermutation now new → IsSorted nat_cmp new
+pub rows_ranked : {X : Type 0} (f : X → ℕ) (xs : List X) (i : ℕ) (now new : List ℕ) → now ≡ map f (take i xs)
+    → length xs ≤ i → IsPermutation now new → IsSorted nat_cmp new
     → IsRanking (map f xs) new
 rows_ranked {X} f xs i now new so_far over = ranking (map f xs) now new (so_far ∙ ap (λ (l : List X). map f l) (take_all i xs over))
 
-pub days_ranked : (f : Flight → List ℕ) (flights : List Flight) (i : ℕ) (now new : List ℕ) → now ≡ flat_map f (take i flights) → length flights ≤ i → IsPermutation now new → IsSorted nat_cmp new
+pub days_ranked : (f : Flight → List ℕ) (flights : List Flight) (i : ℕ) (now new : List ℕ)
+    → now ≡ flat_map f (take i flights) → length flights ≤ i → IsPermutation now new → IsSorted nat_cmp new
     → IsRanking (flat_map f flights) new
 days_ranked f flights i now new so_far over = ranking (flat_map f flights) now new (so_far ∙ ap (λ (l : List Flight). flat_map f l) (take_all i flights over))
 
-pub rows_dated : (rows : List LimitRow) (i : ℕ) (row : LimitRow) → All IsDatedRow (take i rows) → i < length rows → row ≡ get_or rows i row → IsDay row.from → IsDay row.to
+pub rows_dated : (rows : List LimitRow) (i : ℕ) (row : LimitRow) → All IsDatedRow (take i rows) → i < length rows
+    → row ≡ get_or rows i row → IsDay row.from → IsDay row.to
     → All IsDatedRow (take (i + 1) rows)
 rows_dated rows i row so_far lt is from to = All-more IsDatedRow rows i row lt so_far (subst IsDatedRow is (record { from = from; to = to }))
 

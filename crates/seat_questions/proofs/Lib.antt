@@ -1,3 +1,4 @@
+pub mod Common
 mod Coverages
 mod Covers
 mod Numbering

@@ -1,20 +1,15 @@
 -- Each live booking was asked for by the line of its number, and its place is one of the flights'.
 use Rattle.std.proofs.Common.{◌≡◌, ◌≤◌, ◌<◌, ◌+◌, ◌-◌, ℕ, zero, suc, List, [], ◌∷◌, ◌++◌, length, Option, Some, None, IfSome, slice_get, unwrap_or, option_map, arith, refl, sym, ap, subst, ◌∙◌}
+use Rattle.seat_questions.proofs.Common.{Place, Fits, Ladders, Steps, LimitRow, Entry, Seats, replay, State, Booking}
 use Rattle.std.specs.List.{AllByRecursion}
 use Rattle.std.proofs.lemmas.List.{length-map}
 use Rattle.std.proofs.lemmas.Option.{slice_get-map}
-use Rattle.airline_base.specs.declared.place.Place.{Place}
 use Rattle.ssim_flights.specs.declared.flight.Flight.{Flight as Flown}
 use Rattle.seat_limits.specs.Authorised.{authorised_grid, authorised_legs}
-use Rattle.seat_nesting.specs.Nesting.{Fits, Ladders, Steps}
-use Rattle.seat_limits.specs.declared.limit_row.LimitRow.{LimitRow}
 use Rattle.seat_journal.specs.declared.entry.Command.{Command}
-use Rattle.seat_journal.specs.declared.entry.Entry.{Entry}
-use Rattle.seat_journal.specs.declared.entry.Work.TheVariants.{Seats}
 use Rattle.seat_rules.specs.Bookings.{is_for}
-use Rattle.seat_rules.specs.Journal.{FitsWork, IsLegal, IsNext, replay}
-use Rattle.seat_rules.specs.Sequential.{State, answer, booking_of, changed_by, confirmed, pass, reduced}
-use Rattle.seat_rules.specs.declared.booking.Booking.{Booking}
+use Rattle.seat_rules.specs.Journal.{FitsWork, IsLegal, IsNext}
+use Rattle.seat_rules.specs.Sequential.{answer, booking_of, changed_by, confirmed, pass, reduced}
 use Rattle.seat_rules.specs.declared.booking.Status.{Status}
 use Rattle.seat_rules.specs.declared.booking.Status.TheVariants.{Held, Waiting}
 use Rattle.seat_rules.proofs.History.Legal.{each_legal}
@@ -35,7 +30,8 @@ module _ {A : Type 0} where
   at_end [] x = refl
   at_end (y ∷ xs) x = at_end xs x
 
-made_longer : (grid : Ladders) (past : List Entry) (e : Entry) (b : Booking) → IsMade grid past b → IsMade grid (past ++ e ∷ []) b
+made_longer : (grid : Ladders) (past : List Entry) (e : Entry) (b : Booking) → IsMade grid past b
+    → IsMade grid (past ++ e ∷ []) b
 made_longer grid past e b m = record {
   line = m.line;
   entry = m.entry;
@@ -49,7 +45,8 @@ made_longer grid past e b m = record {
 }
 
 -- what no pass and no cancellation changes
-made_same : (grid : Ladders) (journal : List Entry) (a b : Booking) → b.number ≡ a.number → b.locator ≡ a.locator → b.place ≡ a.place → IsMade grid journal a → IsMade grid journal b
+made_same : (grid : Ladders) (journal : List Entry) (a b : Booking) → b.number ≡ a.number → b.locator ≡ a.locator
+    → b.place ≡ a.place → IsMade grid journal a → IsMade grid journal b
 made_same grid journal a b n l p m = record {
   line = m.line;
   entry = m.entry;
@@ -62,10 +59,12 @@ made_same grid journal a b n l p m = record {
   fits = subst (Fits grid) (sym p) m.fits;
 }
 
-fits_place : (grid : Ladders) (c : Command) (place : Place) → c.place ≡ Some place → FitsWork grid (Seats c) → Fits grid place
+fits_place : (grid : Ladders) (c : Command) (place : Place) → c.place ≡ Some place → FitsWork grid (Seats c)
+    → Fits grid place
 fits_place grid c place at f = subst (λ (o : Option Place). IfSome o (Fits grid)) at f.2
 
-made_new : (grid : Ladders) (past : List Entry) (e : Entry) (c : Command) (place : Place) (status : Status) → Seats c ≡ e.work → c.place ≡ Some place → FitsWork grid e.work
+made_new : (grid : Ladders) (past : List Entry) (e : Entry) (c : Command) (place : Place) (status : Status)
+    → Seats c ≡ e.work → c.place ≡ Some place → FitsWork grid e.work
     → IsMade grid (past ++ e ∷ []) (booking_of (length past + 1) c place status)
 made_new grid past e c place status w at f = record {
   line = length past;
@@ -82,13 +81,15 @@ made_new grid past e c place status w at f = record {
 abbrev AreMade : Ladders → List Entry → List Booking → Type 0
 AreMade grid journal bookings = AllByRecursion (IsMade grid journal) bookings
 
-made_pass : (grid now : Ladders) (journal : List Entry) (xs : List Booking) → AreMade grid journal xs → AreMade grid journal (pass now [] [] xs).bookings
+made_pass : (grid now : Ladders) (journal : List Entry) (xs : List Booking) → AreMade grid journal xs
+    → AreMade grid journal (pass now [] [] xs).bookings
 made_pass grid now journal xs h =
     each_pass (AreMade grid journal) now
     (λ done b bs d may. all_confirmed (IsMade grid journal) done b bs (λ m. made_same grid journal b (confirmed b) refl refl refl m) d)
     [] xs [] h
 
-made_answer : (grid : Ladders) (past : List Entry) (s : State) (e : Entry) → FitsWork grid e.work → AreMade grid past s.bookings
+made_answer : (grid : Ladders) (past : List Entry) (s : State) (e : Entry) → FitsWork grid e.work
+    → AreMade grid past s.bookings
     → AreMade grid (past ++ e ∷ []) (answer s (length past + 1) e.work).state.bookings
 made_answer grid past s e f h =
     each_outcome (λ w o. w ≡ e.work → AreMade grid now o.state.bookings) s (length past + 1)
@@ -108,11 +109,13 @@ made_answer grid past s e f h =
     before : AreMade grid now s.bookings
     before = all_map (IsMade grid past) (IsMade grid now) s.bookings (λ b m. made_longer grid past e b m) h
 
-pub replay_is_made : (grid : Ladders) (journal : List Entry) → IsLegal grid journal → AllByRecursion (IsMade grid journal) (replay grid journal).bookings
+pub replay_is_made : (grid : Ladders) (journal : List Entry) → IsLegal grid journal
+    → AllByRecursion (IsMade grid journal) (replay grid journal).bookings
 replay_is_made grid journal legal =
     each_legal grid (λ j. AreMade grid j (replay grid j).bookings) next_made [] journal tt legal
   where
-    next_made : (past : List Entry) (e : Entry) → IsLegal grid past → IsNext grid past e → AreMade grid past (replay grid past).bookings
+    next_made : (past : List Entry) (e : Entry) → IsLegal grid past → IsNext grid past e
+        → AreMade grid past (replay grid past).bookings
         → AreMade grid (past ++ e ∷ []) (replay grid (past ++ e ∷ [])).bookings
     next_made past e l next h =
         let number : e.number ≡ length past + 1 = ap (λ (x : Entry). x.number) next.line in
@@ -122,14 +125,17 @@ replay_is_made grid journal legal =
 
 -- ---- flights
 
-legs_there : (rows : List LimitRow) (flights : List Flown) (place : Place) (o : Option Flown) → slice_get flights place.flight ≡ o
-    → place.from ≤ place.to → place.to < length (unwrap_or (option_map (authorised_legs rows) o) []) → HasPlace flights place
+legs_there : (rows : List LimitRow) (flights : List Flown) (place : Place) (o : Option Flown)
+    → slice_get flights place.flight ≡ o
+    → place.from ≤ place.to → place.to < length (unwrap_or (option_map (authorised_legs rows) o) [])
+    → HasPlace flights place
 legs_there rows flights place None e le lt = absurd (omega arith)
 legs_there rows flights place (Some flight) e le lt =
     let few : length (authorised_legs rows flight) ≡ length flight.legs = length-map _ _ in
     record { flight = flight; is_flight = e; from_below = omega arith; to_below = omega arith }
 
-pub has_place : (rows : List LimitRow) (flights : List Flown) (grid : Ladders) (place : Place) → grid ≡ authorised_grid rows flights → Fits grid place → HasPlace flights place
+pub has_place : (rows : List LimitRow) (flights : List Flown) (grid : Ladders) (place : Place)
+    → grid ≡ authorised_grid rows flights → Fits grid place → HasPlace flights place
 has_place rows flights grid place is f =
     let there : Fits (authorised_grid rows flights) place = subst (λ (g : Ladders). Fits g place) is f in
     let at : slice_get (authorised_grid rows flights) place.flight ≡ option_map (authorised_legs rows) (slice_get flights place.flight) = slice_get-map (authorised_legs rows) flights place.flight in

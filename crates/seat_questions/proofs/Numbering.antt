@@ -1,5 +1,6 @@
 -- Pairs of limit rows by their numbers.
 use Rattle.std.proofs.Common.{◌≡◌, ◌==◌, nat_eq, ℕ, ◌+◌, ◌<◌, ◌≤◌, Bool, true, false, cond, List, [], ◌∷◌, length, get_or, Option, Some, None, refl, sym, ap, subst, ◌∙◌, arith}
+use Rattle.seat_questions.proofs.Common.{LimitRow}
 use Rattle.std.specs.List.{slice_get}
 use Rattle.std.specs.Option.{option_eq, unwrap_or}
 use Rattle.std.specs.HashMap.{get}
@@ -8,28 +9,21 @@ use Rattle.std.proofs.lemmas.Bool.{eqb-true, eq-eqb}
 use Rattle.std.proofs.lemmas.Bool.Decides.{nat_tests}
 use Rattle.std.proofs.lemmas.Option.{slice_get_within, same_Some}
 use Rattle.seat_limits.specs.Authorised.{row_pair, same_pair, PutsRow}
-use Rattle.seat_limits.specs.declared.limit_row.LimitRow.{LimitRow}
 use Rattle.seat_limits.specs.declared.row_index.Pair.{Pair}
-use Rattle.seat_limits.proofs.RowIndexing.{pair_is, row_here}
+use Rattle.seat_limits.proofs.RowIndexing.{pair_is, row_here, letter_same}
 use Rattle.seat_questions.specs.PairNumbers.{AreNumbered, HasNumber, IsRowOf, Numbers, number_of}
+use Rattle.seat_rules.proofs.Step.Apart.{letters_same}
 
 -- a pair is that of itself
 
-text_itself : (a : List ℕ) → pointwise nat_eq a a ≡ true
-text_itself [] = refl
-text_itself (x ∷ xs) = let same : nat_eq x x ≡ true = eq-eqb x x refl in rw (same, text_itself xs) refl
-
-letter_itself : (a : Option ℕ) → option_eq nat_eq a a ≡ true
-letter_itself None = refl
-letter_itself (Some x) = eq-eqb x x refl
-
 pub pair_itself : (a : Pair) → same_pair a a ≡ true
 pair_itself a = let number : (a.number == a.number) ≡ true = eq-eqb a.number a.number refl in
-    rw (text_itself a.airline, number, letter_itself a.suffix, text_itself a.board, text_itself a.off) refl
+    rw (letters_same a.airline, number, letter_same a.suffix, letters_same a.board, letters_same a.off) refl
 
 -- ---- one row more
 
-pub numbered_more : (old new : Numbers) (rows : List LimitRow) (i : ℕ) (row : LimitRow) → AreNumbered old rows i → i < length rows → row ≡ get_or rows i row
+pub numbered_more : (old new : Numbers) (rows : List LimitRow) (i : ℕ) (row : LimitRow) → AreNumbered old rows i
+    → i < length rows → row ≡ get_or rows i row
     → PutsRow old new (row_pair row) i → AreNumbered new rows (i + 1)
 numbered_more old new rows i row h lt is puts = record {
   each = λ k r less at. each k r (same_pair (row_pair row) (row_pair r)) (k == i) refl refl (omega (arith, less)) at;
@@ -38,7 +32,8 @@ numbered_more old new rows i row h lt is puts = record {
   here : slice_get rows i ≡ Some row
   here = row_here rows i row lt is
 
-  each : (k : ℕ) (r : LimitRow) (b t : Bool) → same_pair (row_pair row) (row_pair r) ≡ b → (k == i) ≡ t → k ≤ i → slice_get rows k ≡ Some r → HasNumber new (row_pair r)
+  each : (k : ℕ) (r : LimitRow) (b t : Bool) → same_pair (row_pair row) (row_pair r) ≡ b → (k == i) ≡ t → k ≤ i
+      → slice_get rows k ≡ Some r → HasNumber new (row_pair r)
   each k r true t e f le at = record { number = i; is = puts.at (row_pair r) ∙ ap (λ (b : Bool). cond b (Some i) (get same_pair old (row_pair r))) e }
   each k r false true e f le at =
       let same : k ≡ i = eqb-true k i f in
@@ -50,7 +45,8 @@ numbered_more old new rows i row h lt is puts = record {
       let before = h.each k r less at in
       record { number = before.number; is = puts.at (row_pair r) ∙ ap (λ (b : Bool). cond b (Some i) (get same_pair old (row_pair r))) e ∙ before.is }
 
-  own : (p : Pair) (n : ℕ) (b : Bool) → same_pair (row_pair row) p ≡ b → cond (same_pair (row_pair row) p) (Some i) (get same_pair old p) ≡ Some n → IsRowOf rows (i + 1) n p
+  own : (p : Pair) (n : ℕ) (b : Bool) → same_pair (row_pair row) p ≡ b
+      → cond (same_pair (row_pair row) p) (Some i) (get same_pair old p) ≡ Some n → IsRowOf rows (i + 1) n p
   own p n true e found =
       let same : i ≡ n = same_Some i n (ap (λ (b : Bool). cond b (Some i) (get same_pair old p)) (sym e) ∙ found) in
       record { row = row; within = omega (arith, same); at = ap (slice_get rows) (sym same) ∙ here; of_pair = e }
@@ -61,7 +57,8 @@ numbered_more old new rows i row h lt is puts = record {
 -- ---- rows and other pairs
 
 -- a pair with the number of a row is that of the row
-pub pair_of_number : (last : Numbers) (rows : List LimitRow) (k : ℕ) (row : LimitRow) (p : Pair) → AreNumbered last rows (length rows) → slice_get rows k ≡ Some row
+pub pair_of_number : (last : Numbers) (rows : List LimitRow) (k : ℕ) (row : LimitRow) (p : Pair)
+    → AreNumbered last rows (length rows) → slice_get rows k ≡ Some row
     → number_of last (length rows) (row_pair row) ≡ number_of last (length rows) p → same_pair (row_pair row) p ≡ true
 pair_of_number last rows k row p h at e = of (get same_pair last p) refl
   where

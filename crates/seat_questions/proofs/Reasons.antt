@@ -1,21 +1,19 @@
 -- What can't be explained, and what is.
 use Rattle.std.proofs.Common.{◌≡◌, ◌≢◌, ℕ, ◌-◌, ◌<◌, ◌≤◌, Bool, true, false, List, [], ◌++◌, length, take, Option, Some, None, IfSome, slice_get, get_or, codes, arith, refl, ap, sym, subst, ◌∙◌}
+use Rattle.seat_questions.proofs.Common.{Place, Fits, Ladders, Entry, Seats, replay}
 use Rattle.std.proofs.lemmas.Option.{slice_get-get_or}
 use Rattle.ssim_flights.specs.declared.flight.Flight.{Flight as Flown}
-use Rattle.airline_base.specs.declared.place.Place.{Place}
-use Rattle.seat_nesting.specs.Nesting.{Fits, Ladders}
 use Rattle.seat_journal.specs.Reading.{IsFirstFault}
 use Rattle.seat_journal.specs.Text.{IsJournalText, entry_text}
-use Rattle.seat_journal.specs.declared.entry.Entry.{Entry}
 use Rattle.seat_journal.specs.declared.entry.Work.{Work}
-use Rattle.seat_journal.specs.declared.entry.Work.TheVariants.{Seats, Limit}
+use Rattle.seat_journal.specs.declared.entry.Work.TheVariants.{Limit}
 use Rattle.seat_journal.specs.declared.fault.JournalFault.{JournalFault}
 use Rattle.seat_journal.specs.declared.fault.JournalKind.{JournalKind}
 use Rattle.seat_journal.specs.declared.fault.JournalKind.TheVariants as journal_kinds
 use Rattle.seat_journal.proofs.TextLaws.{one_text}
-use Rattle.seat_rules.specs.Journal.{FitsWork, next_line, replay}
+use Rattle.seat_rules.specs.Journal.{FitsWork, next_line}
 use Rattle.seat_rules.specs.Replaying.{replay_fault}
-use Rattle.seat_rules.proofs.History.Faults.{legal_has_no_fault}
+use Rattle.seat_rules.proofs.History.Faults.{legal_has_no_fault, get_at}
 use Rattle.seat_desk.specs.AuditDesk.{journal_fault, journal_fault_of, most_journal_bytes, most_lines}
 use Rattle.seat_desk.specs.declared.fault.DeskFault.{DeskFault}
 use Rattle.seat_desk.specs.declared.fault.DeskFault.TheVariants.{BadLine, Memory, Replay}
@@ -23,10 +21,12 @@ use Rattle.seat_questions.specs.Why.{HasLine, IsExplained, IsPlacePut, IsReasone
 
 -- ---- what is refused
 
-no_text : (grid : Ladders) (n : ℕ) (bytes : List ℕ) → ((entries : List Entry) → IsJournalText bytes entries → ⊥) → IsUnexplained grid n bytes
+no_text : (grid : Ladders) (n : ℕ) (bytes : List ℕ) → ((entries : List Entry) → IsJournalText bytes entries → ⊥)
+    → IsUnexplained grid n bytes
 no_text grid n bytes none entries is has legal few = none entries is
 
-text_cases : (grid : Ladders) (n : ℕ) (bytes : List ℕ) (kind : JournalKind) (fault : JournalFault) → length bytes ≤ most_journal_bytes
+text_cases : (grid : Ladders) (n : ℕ) (bytes : List ℕ) (kind : JournalKind) (fault : JournalFault)
+    → length bytes ≤ most_journal_bytes
     → (kind ≢ journal_kinds.Memory → IsFirstFault bytes fault.line fault.kind)
     → ((entries : List Entry) → IsJournalText bytes entries → kind ≡ journal_kinds.Memory)
     → journal_fault_of kind fault ≢ Memory → IsUnreasoned grid n (journal_fault_of kind fault) bytes
@@ -46,7 +46,8 @@ pub refused_text : (grid : Ladders) (n : ℕ) (bytes : List ℕ) (fault : Journa
 refused_text grid n bytes fault = text_cases grid n bytes fault.kind fault
 
 -- a line that is not there
-pub refused_line : (grid : Ladders) (n : ℕ) (bytes : List ℕ) (entries : List Entry) → length bytes ≤ most_journal_bytes → IsJournalText bytes entries
+pub refused_line : (grid : Ladders) (n : ℕ) (bytes : List ℕ) (entries : List Entry) → length bytes ≤ most_journal_bytes
+    → IsJournalText bytes entries
     → (HasLine n entries → ⊥) → IsUnreasoned grid n BadLine bytes
 refused_line grid n bytes entries within is not = record {
   within = within;
@@ -60,18 +61,22 @@ not_below n entries low has = let from = has.from_one in absurd (omega (arith, l
 not_beyond : (n : ℕ) (entries : List Entry) → length entries < n → HasLine n entries → ⊥
 not_beyond n entries high has = let within = has.within in absurd (omega (arith, high, within))
 
-pub refused_below : (grid : Ladders) (n : ℕ) (bytes : List ℕ) (entries : List Entry) → length bytes ≤ most_journal_bytes → IsJournalText bytes entries
+pub refused_below : (grid : Ladders) (n : ℕ) (bytes : List ℕ) (entries : List Entry) → length bytes ≤ most_journal_bytes
+    → IsJournalText bytes entries
     → n < 1 → IsUnreasoned grid n BadLine bytes
 refused_below grid n bytes entries within is low = refused_line grid n bytes entries within is (not_below n entries low)
 
-pub refused_beyond : (grid : Ladders) (n : ℕ) (bytes : List ℕ) (entries lines : List Entry) → length bytes ≤ most_journal_bytes → IsJournalText bytes entries
+pub refused_beyond : (grid : Ladders) (n : ℕ) (bytes : List ℕ) (entries lines : List Entry)
+    → length bytes ≤ most_journal_bytes → IsJournalText bytes entries
     → lines ≡ entries → length lines < n → IsUnreasoned grid n BadLine bytes
 refused_beyond grid n bytes entries lines within is same high =
     refused_line grid n bytes entries within is (not_beyond n entries (subst (λ (l : List Entry). length l < n) same high))
 
 -- lines before it that are no legal history
-past_cases : (grid : Ladders) (n : ℕ) (bytes : List ℕ) (entries past : List Entry) (fault : DeskFault) → length bytes ≤ most_journal_bytes → IsJournalText bytes entries
-    → HasLine n entries → past ≡ lines_before n entries → IsRefusedPast grid past fault → IsUnreasoned grid n fault bytes
+past_cases : (grid : Ladders) (n : ℕ) (bytes : List ℕ) (entries past : List Entry) (fault : DeskFault)
+    → length bytes ≤ most_journal_bytes → IsJournalText bytes entries
+    → HasLine n entries → past ≡ lines_before n entries → IsRefusedPast grid past fault
+    → IsUnreasoned grid n fault bytes
 past_cases grid n bytes entries past (Replay fault) within is has same wrong =
     let first : replay_fault grid most_lines (lines_before n entries) ≡ Some fault = ap (replay_fault grid most_lines) (sym same) ∙ wrong in
     record {
@@ -85,26 +90,27 @@ past_cases grid n bytes entries past (Replay fault) within is has same wrong =
     }
 past_cases grid n bytes entries past _ within is has same wrong = absurd wrong
 
-pub refused_past : (grid : Ladders) (n at : ℕ) (bytes : List ℕ) (entries lines past : List Entry) (fault : DeskFault) → length bytes ≤ most_journal_bytes → IsJournalText bytes entries
-    → lines ≡ entries → 1 ≤ n → n ≤ length lines → at ≡ n - 1 → past ≡ take at lines → (fault ≢ Memory → IsRefusedPast grid past fault) → fault ≢ Memory → IsUnreasoned grid n fault bytes
+pub refused_past : (grid : Ladders) (n at : ℕ) (bytes : List ℕ) (entries lines past : List Entry) (fault : DeskFault)
+    → length bytes ≤ most_journal_bytes → IsJournalText bytes entries
+    → lines ≡ entries → 1 ≤ n → n ≤ length lines → at ≡ n - 1 → past ≡ take at lines
+    → (fault ≢ Memory → IsRefusedPast grid past fault) → fault ≢ Memory → IsUnreasoned grid n fault bytes
 refused_past grid n at bytes entries lines past fault within is same low high e before wrong not =
     past_cases grid n bytes entries past fault within is (record { from_one = low; within = subst (λ (l : List Entry). n ≤ length l) same high })
     (before ∙ ap (λ (k : ℕ). take k lines) e ∙ ap (λ (l : List Entry). take (n - 1) l) same) (wrong not)
 
 -- ---- what is explained
 
-at_line : (entries : List Entry) (i : ℕ) (e : Entry) → i < length entries → e ≡ get_or entries i e → slice_get entries i ≡ Some e
-at_line entries i e inside here = slice_get-get_or entries i e inside ∙ ap Some (sym here)
-
-pub explained_line : (flights : List Flown) (grid : Ladders) (n at : ℕ) (bytes : List ℕ) (entries lines past : List Entry) (entry : Entry) (text : List ℕ) → IsJournalText bytes entries
-    → lines ≡ entries → 1 ≤ n → n ≤ length lines → at ≡ n - 1 → past ≡ take at lines → entry ≡ get_or lines at entry → IsReasoned flights grid past entry text
+pub explained_line : (flights : List Flown) (grid : Ladders) (n at : ℕ) (bytes : List ℕ)
+    (entries lines past : List Entry) (entry : Entry) (text : List ℕ) → IsJournalText bytes entries
+    → lines ≡ entries → 1 ≤ n → n ≤ length lines → at ≡ n - 1 → past ≡ take at lines → entry ≡ get_or lines at entry
+    → IsReasoned flights grid past entry text
     → IsExplained flights grid n bytes text
 explained_line flights grid n at bytes entries lines past entry text is same low high e before here reasoned = record {
   entries = entries;
   entry = entry;
   is_text = is;
   has_line = record { from_one = low; within = subst (λ (l : List Entry). n ≤ length l) same high };
-  there = ap (λ (l : List Entry). slice_get l (n - 1)) (sym same) ∙ ap (slice_get lines) (sym e) ∙ at_line lines at entry (omega (arith, low, high, e)) here;
+  there = ap (λ (l : List Entry). slice_get l (n - 1)) (sym same) ∙ ap (slice_get lines) (sym e) ∙ get_at lines at entry (omega (arith, low, high, e)) here;
   reasoned = subst (λ (l : List Entry). IsReasoned flights grid l entry text) (before ∙ ap (λ (k : ℕ). take k lines) e ∙ ap (λ (l : List Entry). take (n - 1) l) same) reasoned;
 }
 
@@ -116,16 +122,20 @@ pub answer_whoever : (grid : Ladders) (past : List Entry) (session call other ne
 answer_whoever grid past session call other next work = refl
 
 -- the place of a line that may be asked is there
-pub place_fits : (grid : Ladders) (work : Work) (place : Option Place) → place ≡ place_of_line work → FitsWork grid work → IfSome place (Fits grid)
+pub place_fits : (grid : Ladders) (work : Work) (place : Option Place) → place ≡ place_of_line work → FitsWork grid work
+    → IfSome place (Fits grid)
 place_fits grid work place same fits = subst (λ (p : Option Place). IfSome p (Fits grid)) (sym same) (cases work fits) where
   cases : (w : Work) → FitsWork grid w → IfSome (place_of_line w) (Fits grid)
   cases (Seats c) f = f.2
   cases (Limit c) f = (omega arith, f.there)
 
 -- with its legs and the right answer
-pub why_asked : (flights : List Flown) (grid : Ladders) (past : List Entry) (e prepared shown : Entry) (place : Option Place) (start line legs new : List ℕ) → can_ask grid past e.work ≡ true
-    → start ≡ [] → line ≡ start ++ entry_text e → place ≡ place_of_line e.work → IsPlacePut flights (replay grid past) place line legs
-    → answer_text prepared ≡ answer_text (right_line grid past e) → shown ≡ prepared → new ≡ legs ++ verdict_text (answer_text shown) e → IsWhyText flights grid past e new
+pub why_asked : (flights : List Flown) (grid : Ladders) (past : List Entry) (e prepared shown : Entry)
+    (place : Option Place) (start line legs new : List ℕ) → can_ask grid past e.work ≡ true
+    → start ≡ [] → line ≡ start ++ entry_text e → place ≡ place_of_line e.work
+    → IsPlacePut flights (replay grid past) place line legs
+    → answer_text prepared ≡ answer_text (right_line grid past e) → shown ≡ prepared
+    → new ≡ legs ++ verdict_text (answer_text shown) e → IsWhyText flights grid past e new
 why_asked flights grid past e prepared shown place start line legs new asked empty is_line is_place put is_right same is_new =
     let here : IsPlacePut flights (replay grid past) (place_of_line e.work) line legs = subst (λ (p : Option Place). IsPlacePut flights (replay grid past) p line legs) is_place put in
     let right : answer_text shown ≡ answer_text (right_line grid past e) = ap (λ (x : Entry). answer_text x) same ∙ is_right in
@@ -138,8 +148,10 @@ why_asked flights grid past e prepared shown place start line legs new asked emp
     })
 
 -- without them
-pub why_unasked : (flights : List Flown) (grid : Ladders) (past : List Entry) (e : Entry) (start line new : List ℕ) → can_ask grid past e.work ≡ false
-    → start ≡ [] → line ≡ start ++ entry_text e → new ≡ line ++ verdict_text (codes "NONE") e → IsWhyText flights grid past e new
+pub why_unasked : (flights : List Flown) (grid : Ladders) (past : List Entry) (e : Entry) (start line new : List ℕ)
+    → can_ask grid past e.work ≡ false
+    → start ≡ [] → line ≡ start ++ entry_text e → new ≡ line ++ verdict_text (codes "NONE") e
+    → IsWhyText flights grid past e new
 why_unasked flights grid past e start line new asked empty is_line is_new =
     subst (λ (b : Bool). IsWhyBy b flights grid past e new) (sym asked)
     (is_new ∙ ap (λ (l : List ℕ). l ++ verdict_text (codes "NONE") e) (is_line ∙ ap (λ (l : List ℕ). l ++ entry_text e) empty))

@@ -1,41 +1,33 @@
 -- The texts of places, of their rooms and of bars.
-use Rattle.std.proofs.Common.{arith, Bool, true, false, ◌≡◌, ℕ, zero, suc, ◌+◌, ◌-◌, ◌<◌, ◌≤◌, List, [], ◌∷◌, ◌++◌, length, take, get_or, refl, sym, ap, ◌∙◌, subst, append_assoc}
+use Rattle.std.proofs.Common.{arith, Bool, true, false, ◌≡◌, ℕ, zero, suc, ◌+◌, ◌-◌, ◌<◌, List, [], ◌∷◌, ◌++◌, length, drop, get_or, refl, sym, ap, ◌∙◌, subst, append_assoc}
+use Rattle.seat_questions.proofs.Common.{Place, DatedLeg, Flight, Ladders, Steps, Entry, replay, State, IsLegText}
 use Rattle.std.specs.Prelude.{slice_get, unwrap_or, option_map, Option, Some}
-use Rattle.std.specs.List.{sum_by}
-use Rattle.std.proofs.lemmas.List.{append-nil, length-map, take_all}
-use Rattle.std.proofs.lemmas.List.Sums.{sum_by_more, sum_by_more_le}
+use Rattle.std.proofs.lemmas.List.{append-nil, length-map}
 use Rattle.std.proofs.lemmas.Option.{slice_get-map}
-use Rattle.airline_base.specs.declared.place.Place.{Place}
-use Rattle.ssim_flights.specs.declared.flight.DatedLeg.{DatedLeg}
-use Rattle.ssim_flights.specs.declared.flight.Flight.{Flight}
 use Rattle.seat_limits.specs.Authorised.{authorised_grid, authorised_legs}
-use Rattle.seat_nesting.specs.Nesting.{ByClass, IsWithin, Ladders, Steps, held_from, ladder_at, legs_of}
+use Rattle.seat_nesting.specs.Nesting.{ByClass, held_from, legs_of}
 use Rattle.seat_nesting.specs.declared.ladder.Step.{Step}
-use Rattle.seat_journal.specs.declared.entry.Entry.{Entry}
 use Rattle.seat_journal.proofs.TextLaws.{one_text}
-use Rattle.seat_rules.specs.Bookings.{held}
-use Rattle.seat_rules.specs.Flights.{bookings_on}
-use Rattle.seat_rules.specs.Inventory.{HoldsWithinLimits, Inventory, state_now}
-use Rattle.seat_rules.specs.Journal.{replay}
-use Rattle.seat_rules.specs.Sequential.{State}
-use Rattle.seat_rules.specs.declared.booking.Booking.{Booking}
-use Rattle.seat_rules.proofs.Flight.View.{bookings_view, held_view}
+use Rattle.seat_rules.specs.Inventory.{Inventory, state_now}
 use Rattle.seat_desk.specs.AuditDesk.{IsReplayOf}
-use Rattle.seat_desk.specs.FlightsDesk.{IsLegText, head_text}
+use Rattle.seat_desk.specs.FlightsDesk.{head_text}
 use Rattle.seat_desk.specs.Loading.{IsGridOf}
 use Rattle.seat_desk.proofs.Texts.{assoc_four}
 use Rattle.seat_questions.proofs.Covers.{assoc_six}
-use Rattle.seat_questions.specs.Rooms.{AreRoomsAfter, IsAdded, IsPlaceText, IsPlaceTextBy, IsRoomsText, IsRunText, OpeningRoomsAreOfNoLines, bar_line, bar_lines, bars_text, block_bar, keeps, leg_bars, rooms_part, times}
+use Rattle.seat_questions.specs.Rooms.{AreRoomsAfter, IsAdded, IsPlaceText, IsPlaceTextBy, IsRoomsText, IsRunText, OpeningRoomsAreOfNoLines, bar_line, bar_lines, bars_text, block_bar, keeps, rooms_part, times}
 use Rattle.seat_questions.specs.declared.rooms.RoomsOf.{RoomsOf}
 use Rattle.seat_questions.specs.declared.rooms.Bars.{Bars}
+use Rattle.ssim_flights.proofs.Walks.{drop_step}
 
 -- ---- the state
 
-pub grid_kept : (flights : List Flight) (grid other : Ladders) → IsGridOf flights grid → other ≡ grid → IsGridOf flights other
+pub grid_kept : (flights : List Flight) (grid other : Ladders) → IsGridOf flights grid → other ≡ grid
+    → IsGridOf flights other
 grid_kept flights grid other is same = subst (IsGridOf flights) (sym same) is
 
 -- the rooms of the inventory that the journal comes to are those that the journal leaves
-pub rooms_of_replay : (asked : RoomsOf) (flights : List Flight) (grid : Ladders) (bytes text : List ℕ) (core : Inventory) → IsReplayOf grid bytes core
+pub rooms_of_replay : (asked : RoomsOf) (flights : List Flight) (grid : Ladders) (bytes text : List ℕ)
+    (core : Inventory) → IsReplayOf grid bytes core
     → IsRoomsText asked (state_now core) flights text → AreRoomsAfter asked flights grid bytes text
 rooms_of_replay asked flights grid bytes text core is listed = record {
   entries = core.journal;
@@ -51,7 +43,8 @@ opening_rooms_are_of_no_lines asked flights grid journal text none rooms =
     subst (λ (l : List Entry). IsRoomsText asked (replay grid l) flights text) (one_text journal rooms.entries [] rooms.is_text none) rooms.listed
 
 -- a flight has as many ladders as legs
-pub legs_alike : (flights : List Flight) (grid : Ladders) (i : ℕ) (flight : Flight) → IsGridOf flights grid → slice_get flights i ≡ Some flight
+pub legs_alike : (flights : List Flight) (grid : Ladders) (i : ℕ) (flight : Flight) → IsGridOf flights grid
+    → slice_get flights i ≡ Some flight
     → length (legs_of grid i) ≡ length flight.legs
 legs_alike flights grid i flight is at =
     let here : slice_get (authorised_grid is.rows flights) i ≡ Some (authorised_legs is.rows flight) =
@@ -60,7 +53,8 @@ legs_alike flights grid i flight is at =
 
 -- ---- places
 
-pub run_left : (asked : RoomsOf) (state : State) (flight : Flight) (place : Place) (run : DatedLeg) (text : List ℕ) → keeps asked run ≡ false
+pub run_left : (asked : RoomsOf) (state : State) (flight : Flight) (place : Place) (run : DatedLeg) (text : List ℕ)
+    → keeps asked run ≡ false
     → IsAdded (IsRunText asked state flight place run) text text
 run_left asked state flight place run text e = record {
   part = [];
@@ -68,15 +62,18 @@ run_left asked state flight place run text e = record {
   written = sym (append-nil text);
 }
 
-pub run_kept : (asked : RoomsOf) (state : State) (flight : Flight) (place : Place) (run : DatedLeg) (old new : List ℕ) → keeps asked run ≡ true
-    → IsAdded (IsPlaceText asked.bars state flight place run) old new → IsAdded (IsRunText asked state flight place run) old new
+pub run_kept : (asked : RoomsOf) (state : State) (flight : Flight) (place : Place) (run : DatedLeg) (old new : List ℕ)
+    → keeps asked run ≡ true
+    → IsAdded (IsPlaceText asked.bars state flight place run) old new
+    → IsAdded (IsRunText asked state flight place run) old new
 run_kept asked state flight place run old new e added = record {
   part = added.part;
   is_part = subst (λ (b : Bool). IsPlaceTextBy b asked.bars state flight place run added.part) (sym e) added.is_part;
   written = added.written;
 }
 
-pub place_added : (bars : Option Bars) (state : State) (flight : Flight) (place : Place) (run : DatedLeg) (old head mid rooms end new : List ℕ)
+pub place_added : (bars : Option Bars) (state : State) (flight : Flight) (place : Place) (run : DatedLeg)
+    (old head mid rooms end new : List ℕ)
     → head ≡ old ++ head_text place.flight flight → (way : List ℕ) × IsLegText 0 run way × (mid ≡ head ++ way)
     → rooms ≡ mid ++ rooms_part state place → end ≡ rooms ++ 10 ∷ [] → new ≡ end ++ bars_text bars state place
     → IsAdded (IsPlaceText bars state flight place run) old new
@@ -93,73 +90,29 @@ place_added bars state flight place run old head mid rooms end new is_head way i
           ∙ assoc_six old (head_text place.flight flight) way.0 (rooms_part state place) feed below;
     }
 
--- ---- sums
-
-module _ {X : Type 0} where
-  -- one more
-  pub sum_counts : (f : X → ℕ) (xs : List X) (i : ℕ) (x : X) (so_far n : ℕ) → so_far ≡ sum_by f (take i xs) → i < length xs → x ≡ get_or xs i x → n ≡ f x
-      → so_far + n ≡ sum_by f (take (i + 1) xs)
-  sum_counts f xs i x so_far n e inside here is =
-      ap (λ (k : ℕ). k + n) e ∙ ap (λ (k : ℕ). sum_by f (take i xs) + k) (is ∙ ap f here) ∙ sym (sum_by_more f xs i x inside)
-
-  -- and it is no more than the whole
-  pub sum_fits : (f : X → ℕ) (xs : List X) (i : ℕ) (x : X) (so_far n most : ℕ) → so_far ≡ sum_by f (take i xs) → i < length xs → x ≡ get_or xs i x → n ≡ f x
-      → sum_by f xs ≤ most → so_far + n ≤ most
-  sum_fits f xs i x so_far n most e inside here is bound =
-      let seen : n ≡ f (get_or xs i x) = is ∙ ap f here in
-      omega (arith, e, seen, sum_by_more_le f xs i x inside, bound)
-
-  pub part_fits : (f : X → ℕ) (xs : List X) (i : ℕ) (x : X) (most : ℕ) → i < length xs → x ≡ get_or xs i x → sum_by f xs ≤ most → f x ≤ most
-  part_fits f xs i x most inside here bound =
-      let seen : f x ≡ f (get_or xs i x) = ap f here in
-      omega (arith, seen, sum_by_more_le f xs i x inside, bound)
-
-  pub sum_whole : (f : X → ℕ) (xs : List X) (i total : ℕ) → total ≡ sum_by f (take i xs) → length xs ≤ i → total ≡ sum_by f xs
-  sum_whole f xs i total e over = e ∙ ap (λ (l : List X). sum_by f l) (take_all i xs over)
-
 -- ---- bars
 
-held_here : (f : ℕ) (bs : List Booking) (l k : ℕ) → held (bookings_on f bs) f l k ≡ held bs f l k
-held_here f bs l k = sym (ap (λ (x : List Booking). held x f l k) (bookings_view f bs)) ∙ held_view (λ n. n) f bs l k
-
--- a flight's bookings hold on its legs what all hold
-pub held_alike : (f : ℕ) (bs : List Booking) (l : ℕ) → held (bookings_on f bs) f l ≡ held bs f l
-held_alike f bs l = λ i k. held_here f bs l k i
-
-pub leg_within : (core : Inventory) (f l : ℕ) (bookings : List Booking) (steps : Steps) → HoldsWithinLimits core.grid core.journal
-    → bookings ≡ bookings_on f (state_now core).bookings → steps ≡ ladder_at (state_now core).grid f l → IsWithin steps (held bookings f l)
-leg_within core f l bookings steps within are is =
-    let seats : held bookings f l ≡ held (state_now core).bookings f l =
-    ap (λ (b : List Booking). held b f l) are ∙ held_alike f (state_now core).bookings l in
-    subst (λ (t : ByClass). IsWithin steps t) (sym seats) (subst (λ (s : Steps). IsWithin s (held (state_now core).bookings f l)) (sym is) (within.held f l))
-
-pub leg_bars_put : (bars : Bars) (core : Inventory) (f l : ℕ) (bookings : List Booking) (steps : Steps) (old new : List ℕ)
-    → bookings ≡ bookings_on f (state_now core).bookings → steps ≡ ladder_at (state_now core).grid f l
-    → new ≡ old ++ bar_lines bars (held bookings f l) steps → new ≡ old ++ leg_bars bars (state_now core) f l
-leg_bars_put bars core f l bookings steps old new are is put =
-    let seats : held bookings f l ≡ held (state_now core).bookings f l =
-    ap (λ (b : List Booking). held b f l) are ∙ held_alike f (state_now core).bookings l in
-    put ∙ ap (λ (t : ByClass). old ++ bar_lines bars t steps) seats ∙ ap (λ (s : Steps). old ++ bar_lines bars (held (state_now core).bookings f l) s) is
-
--- those of the highest rank and below are within its limit
-pub top_fits : (seats : ByClass) (steps : Steps) (s : Step) → IsWithin steps seats → 1 ≤ length steps → s ≡ get_or steps 0 s → held_from seats steps ≤ s.limit
-top_fits seats [] s within some is = omega (arith, some)
-top_fits seats (x ∷ lower) s within some is = subst (λ (t : Step). held_from seats (x ∷ lower) ≤ t.limit) (sym is) within.0
-
--- one rank more
-pub rank_put : (bars : Bars) (seats : ByClass) (s : Step) (lower : Steps) (old mid new all : List ℕ)
-    → mid ++ bar_lines bars seats (s ∷ lower) ≡ old ++ all → new ≡ mid ++ bar_line bars s.class (held_from seats (s ∷ lower)) s.limit
-    → new ++ bar_lines bars seats lower ≡ old ++ all
-rank_put bars seats s lower old mid new all so_far put =
-    ap (λ (l : List ℕ). l ++ bar_lines bars seats lower) put
-    ∙ append_assoc mid (bar_line bars s.class (held_from seats (s ∷ lower)) s.limit) (bar_lines bars seats lower) ∙ so_far
+-- the bar of one rank more
+pub rank_put : (bars : Bars) (seats : ByClass) (steps : Steps) (i : ℕ) (s : Step) (count : ℕ) (mid new whole : List ℕ)
+    → i < length steps → s ≡ get_or steps i s
+    → count ≡ held_from seats (drop i steps) → mid ++ bar_lines bars seats (drop i steps) ≡ whole
+    → new ≡ mid ++ bar_line bars s.class count s.limit
+    → new ++ bar_lines bars seats (drop (i + 1) steps) ≡ whole
+rank_put bars seats steps i s count mid new whole inside is counted so_far put =
+    let rest : drop i steps ≡ s ∷ drop (i + 1) steps = drop_step steps i s inside is in
+    let here : count ≡ held_from seats (s ∷ drop (i + 1) steps) = counted ∙ ap (held_from seats) rest in
+    ap (λ (l : List ℕ). l ++ bar_lines bars seats (drop (i + 1) steps)) (put ∙ ap (λ (n : ℕ). mid ++ bar_line bars s.class n s.limit) here)
+    ∙ append_assoc mid (bar_line bars s.class (held_from seats (s ∷ drop (i + 1) steps)) s.limit) (bar_lines bars seats (drop (i + 1) steps))
+    ∙ ap (λ (l : Steps). mid ++ bar_lines bars seats l) (sym rest)
+    ∙ so_far
 
 -- once more the same bytes
 times_next : (n : ℕ) (bytes : List ℕ) → times n bytes ++ bytes ≡ times (suc n) bytes
 times_next zero bytes = sym (append-nil bytes)
 times_next (suc n) bytes = append_assoc bytes (times n bytes) bytes ∙ ap (λ (l : List ℕ). bytes ++ l) (times_next n bytes)
 
-pub times_more : (n : ℕ) (bytes old mid new : List ℕ) → mid ≡ old ++ times n bytes → new ≡ mid ++ bytes → new ≡ old ++ times (n + 1) bytes
+pub times_more : (n : ℕ) (bytes old mid new : List ℕ) → mid ≡ old ++ times n bytes → new ≡ mid ++ bytes
+    → new ≡ old ++ times (n + 1) bytes
 times_more n bytes old mid new so_far put =
     let e : suc n ≡ n + 1 = omega arith in
     put ∙ ap (λ (l : List ℕ). l ++ bytes) so_far ∙ append_assoc old (times n bytes) bytes
@@ -168,7 +121,8 @@ times_more n bytes old mid new so_far put =
 -- ---- blocks
 
 -- with a half block
-pub half_put : (n m : ℕ) (half : Bool) (old full mid new : List ℕ) → half ≡ true → full ≡ old ++ times n (226 ∷ 150 ∷ 136 ∷ []) → mid ≡ full ++ 226 ∷ 150 ∷ 140 ∷ []
+pub half_put : (n m : ℕ) (half : Bool) (old full mid new : List ℕ) → half ≡ true
+    → full ≡ old ++ times n (226 ∷ 150 ∷ 136 ∷ []) → mid ≡ full ++ 226 ∷ 150 ∷ 140 ∷ []
     → m ≡ 19 - n → new ≡ mid ++ times m (194 ∷ 183 ∷ []) → new ≡ old ++ block_bar n half
 half_put n m half old full mid new e is_full is_mid is_left is_new =
     let whole : List ℕ = times n (226 ∷ 150 ∷ 136 ∷ []) in
@@ -178,7 +132,8 @@ half_put n m half old full mid new e is_full is_mid is_left is_new =
     (is_new ∙ ap (λ (k : ℕ). mid ++ times k (194 ∷ 183 ∷ [])) is_left ∙ ap (λ (l : List ℕ). l ++ dots) (is_mid ∙ ap (λ (l : List ℕ). l ++ one) is_full) ∙ assoc_four old whole one dots)
 
 -- and without
-pub whole_put : (n m : ℕ) (half : Bool) (old full new : List ℕ) → half ≡ false → full ≡ old ++ times n (226 ∷ 150 ∷ 136 ∷ [])
+pub whole_put : (n m : ℕ) (half : Bool) (old full new : List ℕ) → half ≡ false
+    → full ≡ old ++ times n (226 ∷ 150 ∷ 136 ∷ [])
     → m ≡ 20 - n → new ≡ full ++ times m (194 ∷ 183 ∷ []) → new ≡ old ++ block_bar n half
 whole_put n m half old full new e is_full is_left is_new =
     let dots : List ℕ = times (20 - n) (194 ∷ 183 ∷ []) in

@@ -40,7 +40,8 @@ bare_head i flight j = codes "LEG " ++ decimal i ++ codes "." ++ decimal j ++ co
 
 -- LEG I.J DESIGNATOR BOARD/DAY/OFF NO ROW
 abbrev pub IsBareText : ℕ → Flown → ℕ → DatedLeg → List ℕ → Type 0
-IsBareText i flight j leg text = (way : List ℕ) × IsLegText 0 leg way × (text ≡ bare_head i flight j ++ way ++ codes " NO ROW" ++ 10 ∷ [])
+IsBareText i flight j leg text =
+    (way : List ℕ) × IsLegText 0 leg way × (text ≡ bare_head i flight j ++ way ++ codes " NO ROW" ++ 10 ∷ [])
 
 -- where it has no row
 abbrev pub IsLegTextBy : Bool → ℕ → Flown → ℕ → DatedLeg → List ℕ → Type 0
@@ -64,7 +65,8 @@ pub record IsBarePut (i : ℕ) (flight : Flown) (j : ℕ) (leg : DatedLeg) (old 
   pub written : new ≡ old ++ line
 
 -- such a part is
-pub record IsLegPut (test : Flown → DatedLeg → Bool) (i : ℕ) (flight : Flown) (j : ℕ) (leg : DatedLeg) (old new : List ℕ) : Type 0 where
+pub record IsLegPut (test : Flown → DatedLeg → Bool) (i : ℕ) (flight : Flown) (j : ℕ) (leg : DatedLeg)
+    (old new : List ℕ) : Type 0 where
   pub part : List ℕ
   pub is_part : IsLegPartBy test i flight j leg part
   pub written : new ≡ old ++ part
@@ -89,7 +91,8 @@ sums_text a b c d = codes "COVERED legs " ++ share_text a b ++ codes " rows " ++
 
 abbrev pub covered_line : List LimitRow → List Flown → List ℕ
 covered_line rows flights =
-    sums_text (sum_by (covered_legs rows) flights) (sum_by leg_count flights) (count_by (has_leg flights) rows) (length rows)
+    sums_text (sum_by (covered_legs rows) flights) (sum_by leg_count flights) (count_by (has_leg flights) rows)
+    (length rows)
 
 -- the rows, counted from 1; the legs, flights and legs counted from 0; and the sums
 pub record IsCoverText (rows : List LimitRow) (flights : List Flown) (text : List ℕ) : Type 0 where

@@ -48,7 +48,9 @@ finds_leg c row = nat_lt (below (begin_of c.numbers row) c.days.items) (below (e
 
 -- more rows begin up to the leg than end
 abbrev pub finds_row : Coverage → Flown → DatedLeg → Bool
-finds_row c flight leg = nat_lt (below (day_of c.numbers flight leg + 1) c.spans.ends.items) (below (day_of c.numbers flight leg + 1) c.spans.begins.items)
+finds_row c flight leg =
+    nat_lt (below (day_of c.numbers flight leg + 1) c.spans.ends.items)
+    (below (day_of c.numbers flight leg + 1) c.spans.begins.items)
 
 -- the same numbers in ascending order
 pub record IsRanking (numbers ascending : List ℕ) : Type 0 where

@@ -90,12 +90,14 @@ bar_share held limit = codes " " ++ decimal held ++ codes "/" ++ decimal limit +
 
 -- the class, its bar, and the seats that are held in it and those below it, of its limit
 abbrev pub bar_line : Bars → ℕ → ℕ → ℕ → List ℕ
-bar_line bars class held limit = (class ∷ []) ++ codes " " ++ bar bars (filled held limit) (has_half held limit) ++ bar_share held limit
+bar_line bars class held limit =
+    (class ∷ []) ++ codes " " ++ bar bars (filled held limit) (has_half held limit) ++ bar_share held limit
 
 -- such a line for each of these ranks, from the highest down
 abbrev pub bar_lines : Bars → ByClass → Steps → List ℕ
 bar_lines bars seats [] = []
-bar_lines bars seats (s ∷ lower) = bar_line bars s.class (held_from seats (s ∷ lower)) s.limit ++ bar_lines bars seats lower
+bar_lines bars seats (s ∷ lower) =
+    bar_line bars s.class (held_from seats (s ∷ lower)) s.limit ++ bar_lines bars seats lower
 
 -- those of one leg
 abbrev pub leg_bars : Bars → State → ℕ → ℕ → List ℕ
@@ -127,11 +129,13 @@ IsRunText asked state flight place run text = IsPlaceTextBy (keeps asked run) as
 
 -- the place that ends with this leg
 abbrev pub IsLastPart : RoomsOf → State → ℕ → Flown → ℕ → DatedLeg → ℕ → DatedLeg → List ℕ → Type 0
-IsLastPart asked state i flight from first to last text = IsRunText asked state flight (place_of i from to) (run_of first last) text
+IsLastPart asked state i flight from first to last text =
+    IsRunText asked state flight (place_of i from to) (run_of first last) text
 
 -- the places that begin with this leg
 abbrev pub IsFirstPart : RoomsOf → State → ℕ → Flown → ℕ → DatedLeg → List ℕ → Type 0
-IsFirstPart asked state i flight from first text = IsText (IsLastPart asked state i flight from first) from (drop from flight.legs) text
+IsFirstPart asked state i flight from first text =
+    IsText (IsLastPart asked state i flight from first) from (drop from flight.legs) text
 
 -- the places of a flight, by first leg and then by last leg
 abbrev pub IsFlightPart : RoomsOf → State → ℕ → Flown → List ℕ → Type 0
@@ -150,14 +154,16 @@ pub record IsAdded (IsPart : List ℕ → Type 0) (old new : List ℕ) : Type 0 
 -- ---- the answer
 
 -- the bytes are the text of a legal history over these limits, and the text lists the rooms that it leaves
-pub record AreRoomsAfter (asked : RoomsOf) (flights : List Flown) (grid : Ladders) (journal text : List ℕ) : Type 0 where
-  pub entries : List Entry
-  pub is_text : IsJournalText journal entries
-  pub legal : IsLegal grid entries
-  pub few : length entries ≤ most_lines
-  pub listed : IsRoomsText asked (replay grid entries) flights text
+pub record AreRoomsAfter (asked : RoomsOf) (flights : List Flown) (grid : Ladders) (journal text : List ℕ) : Type 0
+  where
+    pub entries : List Entry
+    pub is_text : IsJournalText journal entries
+    pub legal : IsLegal grid entries
+    pub few : length entries ≤ most_lines
+    pub listed : IsRoomsText asked (replay grid entries) flights text
 
 -- behind a journal without lines they are those of the limits themselves
 abbrev pub OpeningRoomsAreOfNoLines : Type 0
-OpeningRoomsAreOfNoLines = (asked : RoomsOf) (flights : List Flown) (grid : Ladders) (journal text : List ℕ) → IsJournalText journal [] →
+OpeningRoomsAreOfNoLines = (asked : RoomsOf) (flights : List Flown) (grid : Ladders) (journal text : List ℕ)
+    → IsJournalText journal [] →
     AreRoomsAfter asked flights grid journal text → IsRoomsText asked (replay grid []) flights text

@@ -62,7 +62,8 @@ wait_line seats steps = codes "WAIT" ++ flat_map (wait_text seats) steps ++ 10 �
 -- LIMIT, HELD, ROOM and WAIT of a leg with this ladder
 abbrev pub ladder_lines : State → ℕ → ℕ → Steps → List ℕ
 ladder_lines s flight leg steps =
-    limit_line steps ++ held_line (held s.bookings flight leg) steps ++ room_line s flight leg steps ++ wait_line (waiting s.bookings flight leg) steps
+    limit_line steps ++ held_line (held s.bookings flight leg) steps ++ room_line s flight leg steps
+    ++ wait_line (waiting s.bookings flight leg) steps
 
 -- how a leg stands
 abbrev pub standing_text : State → ℕ → ℕ → List ℕ
@@ -148,10 +149,11 @@ abbrev pub can_ask : Ladders → List Entry → Work → Bool
 can_ask grid past work = fits_work grid work && nat_lt (length past) most_lines
 
 -- the line, its legs, and the right answer beside the given one
-pub record IsReason (flights : List Flown) (grid : Ladders) (past : List Entry) (e : Entry) (text : List ℕ) : Type 0 where
-  pub legs : List ℕ
-  pub are_legs : IsPlaceText flights (replay grid past) (place_of_line e.work) legs
-  pub written : text ≡ entry_text e ++ legs ++ verdict_text (answer_text (right_line grid past e)) e
+pub record IsReason (flights : List Flown) (grid : Ladders) (past : List Entry) (e : Entry) (text : List ℕ) : Type 0
+  where
+    pub legs : List ℕ
+    pub are_legs : IsPlaceText flights (replay grid past) (place_of_line e.work) legs
+    pub written : text ≡ entry_text e ++ legs ++ verdict_text (answer_text (right_line grid past e)) e
 
 -- without legs, and none is right, where the step can't be asked
 abbrev pub IsWhyBy : Bool → List Flown → Ladders → List Entry → Entry → List ℕ → Type 0
@@ -172,10 +174,11 @@ pub record HasLine (n : ℕ) (entries : List Entry) : Type 0 where
   pub within : n ≤ length entries
 
 -- the lines before are a legal history, and the text says why the entry behind them has its answer
-pub record IsReasoned (flights : List Flown) (grid : Ladders) (past : List Entry) (e : Entry) (text : List ℕ) : Type 0 where
-  pub legal : IsLegal grid past
-  pub few : length past ≤ most_lines
-  pub is_why : IsWhyText flights grid past e text
+pub record IsReasoned (flights : List Flown) (grid : Ladders) (past : List Entry) (e : Entry) (text : List ℕ) : Type 0
+  where
+    pub legal : IsLegal grid past
+    pub few : length past ≤ most_lines
+    pub is_why : IsWhyText flights grid past e text
 
 -- the bytes are a journal's text, whose line n the text reasons
 pub record IsExplained (flights : List Flown) (grid : Ladders) (n : ℕ) (bytes text : List ℕ) : Type 0 where
@@ -196,13 +199,15 @@ abbrev pub IsRefusedLine : Ladders → ℕ → DeskFault → List ℕ → Type 0
 IsRefusedLine grid n (Journal fault) bytes = IsFirstFault bytes fault.line fault.kind
 IsRefusedLine grid n BadLine bytes = (entries : List Entry) × IsJournalText bytes entries × (HasLine n entries → ⊥)
 IsRefusedLine grid n (Replay fault) bytes =
-    (entries : List Entry) × IsJournalText bytes entries × HasLine n entries × (replay_fault grid most_lines (lines_before n entries) ≡ Some fault)
+    (entries : List Entry) × IsJournalText bytes entries × HasLine n entries
+    × (replay_fault grid most_lines (lines_before n entries) ≡ Some fault)
 IsRefusedLine grid n _ bytes = ⊥
 
 -- and there is nothing to be explained
 abbrev pub IsUnexplained : Ladders → ℕ → List ℕ → Type 0
 IsUnexplained grid n bytes =
-    (entries : List Entry) → IsJournalText bytes entries → HasLine n entries → IsLegal grid (lines_before n entries) → length (lines_before n entries) ≤ most_lines → ⊥
+    (entries : List Entry) → IsJournalText bytes entries → HasLine n entries → IsLegal grid (lines_before n entries)
+    → length (lines_before n entries) ≤ most_lines → ⊥
 
 -- the bytes are not too large, but they are refused
 pub record IsUnreasoned (grid : Ladders) (n : ℕ) (fault : DeskFault) (bytes : List ℕ) : Type 0 where

@@ -128,7 +128,8 @@ fn put_flights(
     coverage: &Coverage,
 ) -> Result<u64, AllocError>
     requires { IsSearchable coverage.now }
-    ensures put { OnOk result (IsPut (IsFlightPartBy (finds_row coverage.now)) 0 flights.now text.old.items text.new.items) }
+    ensures put { OnOk result (IsPut (IsFlightPartBy (finds_row coverage.now)) 0 flights.now text.old.items
+        text.new.items) }
     ensures count { IfOk result (λ n. n ≡ sum_by (covered_by (finds_row coverage.now)) flights.now) }
 {
     let mut count = 0u64;
@@ -147,7 +148,8 @@ fn put_legs(
 ) -> Result<u64, AllocError>
     requires searchable { IsSearchable coverage.now }
     requires few { length flight.now.legs ≤ 8 }
-    ensures put { OnOk result (IsPut (IsLegPartBy (finds_row coverage.now) index flight.now) 0 flight.now.legs text.old.items text.new.items) }
+    ensures put { OnOk result (IsPut (IsLegPartBy (finds_row coverage.now) index flight.now) 0 flight.now.legs
+        text.old.items text.new.items) }
     ensures count { IfOk result (λ n. n ≡ covered_by (finds_row coverage.now) flight.now) }
     ensures few { IfOk result (λ n. n ≤ 8) }
 {
@@ -170,7 +172,8 @@ fn put_leg(
     coverage: &Coverage,
 ) -> Result<u64, AllocError>
     requires { IsSearchable coverage.now }
-    ensures put { OnOk result (IsLegPut (finds_row coverage.now) index flight.now j leg.now text.old.items text.new.items) }
+    ensures put { OnOk result (IsLegPut (finds_row coverage.now) index flight.now j leg.now text.old.items
+        text.new.items) }
     ensures count { IfOk result (λ n. n ≡ (if finds_row coverage.now flight.now leg.now then 1 else 0)) }
 {
     if coverage.has_row(flight, leg) {

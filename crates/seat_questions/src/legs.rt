@@ -1,8 +1,8 @@
 //! The legs of a place as they stand after the lines so far.
-ghost use Rattle.std.specs.Prelude.{◌≡◌, ◌++◌, ◌*◌, ◌≤◌, ◌<◌, IfSome, OnOk, length};
+ghost use Rattle.std.specs.Prelude.{◌≡◌, ◌++◌, ◌≤◌, ◌<◌, IfSome, OnOk, length};
 ghost use Rattle.std.specs.List.{flat_map};
-ghost use Rattle.seat_nesting.specs.Nesting.{Fits, held_from, ladder_at};
-ghost use Rattle.seat_rules.specs.Bookings.{held, seats_of, seats_on, waiting, waits_on};
+ghost use Rattle.seat_nesting.specs.Nesting.{Fits, ladder_at};
+ghost use Rattle.seat_rules.specs.Bookings.{held, waiting, waits_on};
 ghost use Rattle.seat_rules.specs.Inventory.{state_now};
 ghost use Rattle.seat_desk.specs.AuditDesk.{most_lines};
 ghost use Rattle.seat_desk.specs.FlightsDesk.{IsPut};
@@ -12,7 +12,7 @@ use airline_base::{Class, Place};
 use seat_core::Core;
 use seat_desk::{put, put_number, put_way};
 use seat_nesting::Step;
-use seat_rules::{Booking, Status};
+use seat_rules::Booking;
 use ssim_flights::{DatedLeg, Flights};
 use std::alloc::AllocError;
 
@@ -43,7 +43,8 @@ fn put_flight(
 ) -> Result<(), AllocError>
     requires capped { core.now.cap ≤ most_lines }
     requires fits { Fits core.now.grid place }
-    ensures { OnOk result (IsPut (IsLegPart (state_now core.now) place) 0 (dated_legs flights.now place.flight) text.old.items text.new.items) }
+    ensures { OnOk result (IsPut (IsLegPart (state_now core.now) place) 0 (dated_legs flights.now place.flight)
+        text.old.items text.new.items) }
 {
     if place.flight >= flights.len() {
         return Ok(());
@@ -119,22 +120,11 @@ fn put_standing(text: &mut Vec<u8>, core: &Core, flight: u32, leg: u8) -> Result
     requires fits { Fits core.now.grid (one_leg flight leg) }
     ensures { OnOk result (text.new.items ≡ text.old.items ++ standing_text (state_now core.now) flight leg) }
 {
-    let steps = steps_of(core, flight, leg);
+    let steps = core.steps(flight, leg);
     put_limits(text, steps)?;
     put_held(text, core, flight, leg, steps)?;
     put_rooms(text, core, flight, leg, steps)?;
     put_waits(text, core, flight, leg, steps)
-}
-
-/// The limits of a leg; no step where it has none.
-fn steps_of(core: &Core, flight: u32, leg: u8) -> &[Step]
-    ensures value { result.now ≡ ladder_at (state_now core.now).grid flight leg }
-    ensures short { length result.now ≤ 26 }
-{
-    match core.ladder(flight, leg) {
-        Some(ladder) => ladder.steps(),
-        None => &[],
-    }
 }
 
 /// Adds a class and a number behind a blank.
@@ -169,9 +159,9 @@ fn put_held(
     leg: u8,
     steps: &[Step],
 ) -> Result<(), AllocError>
-    requires capped { core.now.cap ≤ most_lines }
-    requires short { length steps.now ≤ 26 }
-    ensures { OnOk result (text.new.items ≡ text.old.items ++ held_line (held (state_now core.now).bookings flight leg) steps.now) }
+    requires ladder { steps.now ≡ ladder_at (state_now core.now).grid flight leg }
+    ensures { OnOk result (text.new.items ≡ text.old.items
+        ++ held_line (held (state_now core.now).bookings flight leg) steps.now) }
 {
     put(text, b"HELD")?;
     put_each_held(text, core, flight, leg, steps)?;
@@ -179,6 +169,7 @@ fn put_held(
 }
 
 /// Adds the seats held in each class and those below it.
+#[tactic(auto, using(crate::proofs::Standings::held_put))]
 fn put_each_held(
     text: &mut Vec<u8>,
     core: &Core,
@@ -186,51 +177,15 @@ fn put_each_held(
     leg: u8,
     steps: &[Step],
 ) -> Result<(), AllocError>
-    requires capped { core.now.cap ≤ most_lines }
-    requires short { length steps.now ≤ 26 }
-    ensures { OnOk result (text.new.items ≡ text.old.items ++ held_texts (held (state_now core.now).bookings flight leg) steps.now) }
+    requires ladder { steps.now ≡ ladder_at (state_now core.now).grid flight leg }
+    ensures { OnOk result (text.new.items ≡ text.old.items
+        ++ held_texts (held (state_now core.now).bookings flight leg) steps.now) }
 {
     for i in 0..steps.len() {
-        let lower = &steps[i..];
-        put_class(text, steps[i].class, held_from(core, flight, leg, lower))?;
+        let seats = core.held_from(flight, leg, i);
+        put_class(text, steps[i].class, u64::from(seats))?;
     }
     Ok(())
-}
-
-/// The seats held on a leg in these classes.
-fn held_from(core: &Core, flight: u32, leg: u8, lower: &[Step]) -> u64
-    requires capped { core.now.cap ≤ most_lines }
-    requires short { length lower.now ≤ 26 }
-    ensures { result ≡ held_from (held (state_now core.now).bookings flight leg) lower.now }
-{
-    let mut count = 0u64;
-    for step in lower {
-        count += held(core, flight, leg, step.class);
-    }
-    count
-}
-
-/// The seats held on a leg in a class.
-#[tactic(auto, using(crate::proofs::Standings::held_there, crate::proofs::Standings::few_bookings))]
-fn held(core: &Core, flight: u32, leg: u8, class: Class) -> u64
-    requires capped { core.now.cap ≤ most_lines }
-    ensures value { result ≡ held (state_now core.now).bookings flight leg class }
-    ensures small { result ≤ 999999 * 65535 }
-{
-    let _ = core.journal();
-    held_by(core.bookings_on(flight), flight, leg, class)
-}
-
-fn held_by(bookings: &[Booking], flight: u32, leg: u8, class: Class) -> u64
-    requires few { length bookings.now ≤ 999999 }
-    ensures value { result ≡ held bookings.now flight leg class }
-    ensures small { result ≤ 999999 * 65535 }
-{
-    let mut count = 0u64;
-    for booking in bookings {
-        count += u64::from(seats_on(booking, flight, leg, class));
-    }
-    count
 }
 
 /// The seats that wait on a leg in a class.
@@ -239,6 +194,7 @@ fn waiting(core: &Core, flight: u32, leg: u8, class: Class) -> u64
     requires capped { core.now.cap ≤ most_lines }
     ensures { result ≡ waiting (state_now core.now).bookings flight leg class }
 {
+    // For the prover alone: a journal of so few lines leaves no more bookings, so that their sum fits.
     let _ = core.journal();
     waiting_by(core.bookings_on(flight), flight, leg, class)
 }
@@ -254,30 +210,12 @@ fn waiting_by(bookings: &[Booking], flight: u32, leg: u8, class: Class) -> u64
     count
 }
 
-/// The seats that a booking holds on a leg in a class.
-pub(crate) fn seats_on(booking: &Booking, flight: u32, leg: u8, class: Class) -> u16
-    ensures { result ≡ seats_on flight leg class booking.now }
-{
-    match booking.status {
-        Status::Held => seats_of(booking, flight, leg, class),
-        Status::Waiting => 0,
-    }
-}
-
-/// Those that it waits for.
+/// The seats that a booking waits for on a leg in a class.
 fn waits_on(booking: &Booking, flight: u32, leg: u8, class: Class) -> u16
     ensures { result ≡ waits_on flight leg class booking.now }
 {
-    match booking.status {
-        Status::Held => 0,
-        Status::Waiting => seats_of(booking, flight, leg, class),
-    }
-}
-
-fn seats_of(booking: &Booking, flight: u32, leg: u8, class: Class) -> u16
-    ensures { result ≡ seats_of flight leg class booking.now }
-{
-    if booking.place.flight == flight && has_leg(booking.place, leg) && booking.class == class {
+    let waits = booking.is_waiting() && booking.place.flight == flight;
+    if waits && has_leg(booking.place, leg) && booking.class == class {
         booking.seats
     } else {
         0
@@ -307,7 +245,8 @@ fn put_each_room(
     steps: &[Step],
 ) -> Result<(), AllocError>
     requires fits { Fits core.now.grid (one_leg flight leg) }
-    ensures { OnOk result (text.new.items ≡ text.old.items ++ flat_map (room_text (state_now core.now) flight leg) steps.now) }
+    ensures { OnOk result (text.new.items ≡ text.old.items
+        ++ flat_map (room_text (state_now core.now) flight leg) steps.now) }
 {
     let place = Place {
         flight,
@@ -328,7 +267,8 @@ fn put_waits(
     steps: &[Step],
 ) -> Result<(), AllocError>
     requires capped { core.now.cap ≤ most_lines }
-    ensures { OnOk result (text.new.items ≡ text.old.items ++ wait_line (waiting (state_now core.now).bookings flight leg) steps.now) }
+    ensures { OnOk result (text.new.items ≡ text.old.items
+        ++ wait_line (waiting (state_now core.now).bookings flight leg) steps.now) }
 {
     put(text, b"WAIT")?;
     put_each_wait(text, core, flight, leg, steps)?;
@@ -343,7 +283,8 @@ fn put_each_wait(
     steps: &[Step],
 ) -> Result<(), AllocError>
     requires capped { core.now.cap ≤ most_lines }
-    ensures { OnOk result (text.new.items ≡ text.old.items ++ flat_map (wait_text (waiting (state_now core.now).bookings flight leg)) steps.now) }
+    ensures { OnOk result (text.new.items ≡ text.old.items
+        ++ flat_map (wait_text (waiting (state_now core.now).bookings flight leg)) steps.now) }
 {
     for step in steps {
         put_wait(text, core, flight, leg, step)?;
@@ -360,7 +301,8 @@ fn put_wait(
     step: &Step,
 ) -> Result<(), AllocError>
     requires capped { core.now.cap ≤ most_lines }
-    ensures { OnOk result (text.new.items ≡ text.old.items ++ wait_text (waiting (state_now core.now).bookings flight leg) step.now) }
+    ensures { OnOk result (text.new.items ≡ text.old.items
+        ++ wait_text (waiting (state_now core.now).bookings flight leg) step.now) }
 {
     put_class(text, step.class, waiting(core, flight, leg, step.class))?;
     put(text, b"/")?;

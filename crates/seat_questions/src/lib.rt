@@ -15,5 +15,5 @@ mod why;
 pub use bookings::BookingsOf;
 pub use cover::Cover;
 pub use laws::opening_rooms_are_of_no_lines;
-pub use rooms::{RoomsOf, Bars, CityPair};
+pub use rooms::{Bars, CityPair, RoomsOf};
 pub use why::Why;

@@ -1,19 +1,16 @@
 //! `rooms`: the seats that are left on each place of a flight after a journal.
 ghost use Rattle.std.specs.Prelude.{◌≡◌, ◌≢◌, ◌++◌, ◌-◌, ◌<◌, ◌≤◌, [], IfErr, IfOk, OnOk, drop, length};
-ghost use Rattle.seat_nesting.specs.Nesting.{Fits, IsWithin, held_from, ladder_at, legs_of};
-ghost use Rattle.seat_rules.specs.Bookings.{held};
+ghost use Rattle.seat_nesting.specs.Nesting.{Fits, legs_of};
 ghost use Rattle.seat_rules.specs.Inventory.{state_now};
 ghost use Rattle.seat_desk.specs.AuditDesk.{IsUnlawful, most_journal_bytes};
 ghost use Rattle.seat_desk.specs.FlightsDesk.{IsPut};
 ghost use Rattle.seat_desk.specs.Loading.{IsGridOf};
-ghost use Rattle.seat_questions.specs.Rooms.{AreRoomsAfter, IsAdded, IsFirstPart, IsLastPart, IsPlaceText, IsRoomsText, IsRunText, bar, bar_line, bar_lines, bar_share, bars_text, block_bar, filled, has_half, keeps, keeps_day, keeps_pair, leg_bars, place_bars, plain_bar, room_text, rooms_part, rooms_text, run_of, times};
+ghost use Rattle.seat_questions.specs.Rooms.{AreRoomsAfter, IsAdded, IsFirstPart, IsLastPart, IsPlaceText, IsRoomsText, IsRunText, bar, bar_line, bar_share, bars_text, block_bar, filled, has_half, keeps, keeps_day, keeps_pair, leg_bars, place_bars, plain_bar, room_text, rooms_part, rooms_text, run_of, times};
 
-use crate::legs::seats_on;
 use airline_base::{Class, Day, Place, Station};
 use seat_core::Core;
 use seat_desk::{DeskFault, Loaded, Question, put, put_head, put_number, put_way, replayed};
 use seat_nesting::{Grid, Step};
-use seat_rules::Booking;
 use ssim_flights::{DatedLeg, Flight, Flights};
 use std::alloc::{AllocError, Global};
 
@@ -129,7 +126,8 @@ fn put_flight(
 ) -> Result<(), AllocError>
     requires few { length flight.now.legs ≤ 8 }
     requires legs { length (legs_of core.now.grid index) ≡ length flight.now.legs }
-    ensures { OnOk result (IsPut (IsFirstPart asked.now (state_now core.now) index flight.now) 0 flight.now.legs text.old.items text.new.items) }
+    ensures { OnOk result (IsPut (IsFirstPart asked.now (state_now core.now) index flight.now) 0 flight.now.legs
+        text.old.items text.new.items) }
 {
     let legs = flight.legs.as_slice();
     for from in 0..legs.len() {
@@ -195,7 +193,8 @@ fn put_run(
     run: &DatedLeg,
 ) -> Result<(), AllocError>
     requires { Fits core.now.grid place }
-    ensures { OnOk result (IsAdded (IsRunText asked.now (state_now core.now) flight.now place run.now) text.old.items text.new.items) }
+    ensures { OnOk result (IsAdded (IsRunText asked.now (state_now core.now) flight.now place run.now) text.old.items
+        text.new.items) }
 {
     if !keeps(asked, run) {
         return Ok(());
@@ -239,7 +238,8 @@ fn put_place(
     run: &DatedLeg,
 ) -> Result<(), AllocError>
     requires { Fits core.now.grid place }
-    ensures { OnOk result (IsAdded (IsPlaceText bars (state_now core.now) flight.now place run.now) text.old.items text.new.items) }
+    ensures { OnOk result (IsAdded (IsPlaceText bars (state_now core.now) flight.now place run.now) text.old.items
+        text.new.items) }
 {
     put_head(text, place.flight, flight)?;
     put_way(text, run)?;
@@ -262,7 +262,7 @@ fn put_rooms(text: &mut Vec<u8>, core: &Core, place: Place) -> Result<(), AllocE
     requires { Fits core.now.grid place }
     ensures { OnOk result (text.new.items ≡ text.old.items ++ rooms_text (state_now core.now) place) }
 {
-    let steps = steps_now(core, place.flight, place.from);
+    let steps = core.steps(place.flight, place.from);
     for step in steps {
         put_room(text, core, place, step)?;
     }
@@ -276,16 +276,6 @@ fn put_room(text: &mut Vec<u8>, core: &Core, place: Place, step: &Step) -> Resul
     put(text, b" ")?;
     put(text, &[step.class.letter()])?;
     put_number(text, u64::from(core.room(place, step.class)))
-}
-
-/// The limits of a leg; no step where it has none.
-fn steps_now(core: &Core, flight: u32, leg: u8) -> &[Step]
-    ensures { result.now ≡ ladder_at (state_now core.now).grid flight leg }
-{
-    match core.ladder(flight, leg) {
-        Some(ladder) => ladder.steps(),
-        None => &[],
-    }
 }
 
 /// Adds the bars of a place, where it is one leg and they are asked for.
@@ -313,8 +303,8 @@ fn put_bars_at(text: &mut Vec<u8>, core: &Core, bars: Bars, place: Place) -> Res
     }
 }
 
-/// Adds the bars of a leg.
-#[tactic(auto, using(crate::proofs::RoomTexts::leg_within, crate::proofs::RoomTexts::leg_bars_put))]
+/// Adds the bar of each rank of a leg, from the highest down.
+#[tactic(auto, using(crate::proofs::RoomTexts::rank_put))]
 fn put_leg_bars(
     text: &mut Vec<u8>,
     core: &Core,
@@ -324,74 +314,12 @@ fn put_leg_bars(
 ) -> Result<(), AllocError>
     ensures { OnOk result (text.new.items ≡ text.old.items ++ leg_bars bars (state_now core.now) flight leg) }
 {
-    let _ = core.journal();
-    let steps = steps_now(core, flight, leg);
-    put_ranks(text, bars, core.bookings_on(flight), flight, leg, steps)
-}
-
-/// Adds the bar of each rank, from the highest down.
-#[tactic(auto, using(crate::proofs::RoomTexts::rank_put))]
-fn put_ranks(
-    text: &mut Vec<u8>,
-    bars: Bars,
-    bookings: &[Booking],
-    flight: u32,
-    leg: u8,
-    steps: &[Step],
-) -> Result<(), AllocError>
-    requires { IsWithin steps.now (held bookings.now flight leg) }
-    ensures { OnOk result (text.new.items ≡ text.old.items ++ bar_lines bars (held bookings.now flight leg) steps.now) }
-{
-    let mut rest = steps;
-    while let [step, lower @ ..] = rest {
-        put_rank(
-            text, bars, bookings, flight, leg, rest, step.class, step.limit,
-        )?;
-        rest = lower;
+    let steps = core.steps(flight, leg);
+    for i in 0..steps.len() {
+        let seats = core.held_from(flight, leg, i);
+        put_bar(text, bars, steps[i].class, seats, steps[i].limit)?;
     }
     Ok(())
-}
-
-/// Adds the bar of a class, over the seats that are held in these ranks.
-fn put_rank(
-    text: &mut Vec<u8>,
-    bars: Bars,
-    bookings: &[Booking],
-    flight: u32,
-    leg: u8,
-    ranks: &[Step],
-    class: Class,
-    limit: u16,
-) -> Result<(), AllocError>
-    requires { held_from (held bookings.now flight leg) ranks.now ≤ limit }
-    ensures { OnOk result (text.new.items ≡ text.old.items ++ bar_line bars class (held_from (held bookings.now flight leg) ranks.now) limit) }
-{
-    let seats = held_from(bookings, flight, leg, ranks);
-    put_bar(text, bars, class, seats, limit)
-}
-
-/// The seats that are held on a leg in these classes.
-fn held_from(bookings: &[Booking], flight: u32, leg: u8, steps: &[Step]) -> u16
-    requires { held_from (held bookings.now flight leg) steps.now ≤ 65535 }
-    ensures { result ≡ held_from (held bookings.now flight leg) steps.now }
-{
-    let mut seats = 0u16;
-    for step in steps {
-        seats += held_in(bookings, flight, leg, step.class);
-    }
-    seats
-}
-
-/// The seats that are held on a leg in a class.
-fn held_in(bookings: &[Booking], flight: u32, leg: u8, class: Class) -> u16
-    requires { held bookings.now flight leg class ≤ 65535 }
-    ensures { result ≡ held bookings.now flight leg class }
-{
-    let mut seats = 0u16;
-    for booking in bookings {
-        seats += seats_on(booking, flight, leg, class);
-    }
-    seats
 }
 
 /// Adds the bar of a class, and its seats that are held of its limit.

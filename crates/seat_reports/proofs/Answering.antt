@@ -14,8 +14,10 @@ pub record IsAnsweredTo (grid : Ladders) (cap : ℕ) (orders : List Work) (i : �
   pub cap_is : core.cap ≡ cap
   pub count : length core.journal ≡ i
 
-pub one_more : (grid : Ladders) (cap : ℕ) (orders : List Work) (i : ℕ) (order : Work) (old new : Inventory) → IsAnsweredTo grid cap orders i old
-    → i < length orders → order ≡ get_or orders i order → new.journal ≡ old.journal ++ line_for old.grid old.journal order ∷ [] → new.grid ≡ old.grid → new.cap ≡ old.cap
+pub one_more : (grid : Ladders) (cap : ℕ) (orders : List Work) (i : ℕ) (order : Work) (old new : Inventory)
+    → IsAnsweredTo grid cap orders i old
+    → i < length orders → order ≡ get_or orders i order
+    → new.journal ≡ old.journal ++ line_for old.grid old.journal order ∷ [] → new.grid ≡ old.grid → new.cap ≡ old.cap
     → IsAnsweredTo grid cap orders (i + 1) new
 one_more grid cap orders i order old new so_far in_range here line grid_is cap_is =
     let more : drop i orders ≡ order ∷ drop (i + 1) orders = drop_more orders i order in_range ∙ ap (λ (o : Work). o ∷ drop (i + 1) orders) (sym here) in

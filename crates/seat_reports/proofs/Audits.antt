@@ -11,7 +11,9 @@ use Rattle.seat_desk.specs.declared.fault.DeskFault.TheVariants.{Journal, Replay
 use Rattle.seat_desk.proofs.Grounds.{ground_of_loaded, loaded_of_ground}
 use Rattle.seat_reports.specs.Laws.{AuditsAreAnswered, RefusalsAreAudits, TooLargeIsAudits}
 
-audit_of : (set limits : List ℕ) (first days : ℕ) (journal line : List ℕ) → IsAnswer (λ flights rows. IsAudited) set limits first days journal line → IsAudit set limits first days journal line
+audit_of : (set limits : List ℕ) (first days : ℕ) (journal line : List ℕ)
+    → IsAnswer (λ flights rows. IsAudited) set limits first days journal line
+    → IsAudit set limits first days journal line
 audit_of set limits first days journal line is = record {
   flights = is.flights;
   grid = authorised_grid is.rows is.flights;
@@ -20,7 +22,8 @@ audit_of set limits first days journal line is = record {
   is_audited = is.is_answer;
 }
 
-answer_of : (set limits : List ℕ) (first days : ℕ) (journal line : List ℕ) → IsAudit set limits first days journal line → IsAnswer (λ flights rows. IsAudited) set limits first days journal line
+answer_of : (set limits : List ℕ) (first days : ℕ) (journal line : List ℕ) → IsAudit set limits first days journal line
+    → IsAnswer (λ flights rows. IsAudited) set limits first days journal line
 answer_of set limits first days journal line is = record {
   flights = is.flights;
   rows = is.is_loaded.loaded.rows;
@@ -34,13 +37,16 @@ audits_are_answered set limits first days journal line =
     record { is_audit = audit_of set limits first days journal line; is_answer = answer_of set limits first days journal line }
 
 -- a refusal of the inputs ahead of the journal
-ahead : (set limits : List ℕ) (first days : ℕ) (journal : List ℕ) (fault : DeskFault) → IsRefusedLoad set limits first days fault → IsRefusedAudit set limits first days journal fault
+ahead : (set limits : List ℕ) (first days : ℕ) (journal : List ℕ) (fault : DeskFault)
+    → IsRefusedLoad set limits first days fault → IsRefusedAudit set limits first days journal fault
 ahead set limits first days journal (Journal f) r = absurd r.refusal
 ahead set limits first days journal (Replay f) r = absurd r.refusal
 ahead set limits first days journal _ r = record { refusal = r }
 
 -- and of the journal
-behind : (set limits : List ℕ) (first days : ℕ) (journal : List ℕ) (fault : DeskFault) → IsRefusedJournalOver IsUnlawful set limits first days journal fault → IsRefusedAudit set limits first days journal fault
+behind : (set limits : List ℕ) (first days : ℕ) (journal : List ℕ) (fault : DeskFault)
+    → IsRefusedJournalOver IsUnlawful set limits first days journal fault
+    → IsRefusedAudit set limits first days journal fault
 behind set limits first days journal (Journal f) r = record {
   refusal = record { flights = r.flights; grid = authorised_grid r.rows r.flights; is_loaded = loaded_of_ground set limits first days r.flights r.rows r.is_ground; is_unlawful = r.refused };
 }

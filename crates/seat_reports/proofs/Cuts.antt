@@ -18,7 +18,8 @@ cut_at (x ∷ xs) (suc i) first =
     let other : (x == 10) ≡ false = first.2 zero (omega arith) in
     rw (other, rest) refl
 
-pub lines_cut : (xs : List ℕ) (i : ℕ) → Some i ≡ position (λ c. c == 10) xs → lines_of xs ≡ take i xs ∷ lines_of (take (length xs - (i + 1)) (drop (i + 1) xs))
+pub lines_cut : (xs : List ℕ) (i : ℕ) → Some i ≡ position (λ c. c == 10) xs
+    → lines_of xs ≡ take i xs ∷ lines_of (take (length xs - (i + 1)) (drop (i + 1) xs))
 lines_cut xs i found =
     rw (take_rest xs (i + 1), add-one) (cut_at xs i (position-Some (λ c. c == 10) xs i 0 (sym found)))
 
@@ -38,7 +39,8 @@ without_lf : (xs : List ℕ) → none_lf xs ≡ false → lines_of xs ≡ whole 
 without_lf [] none = refl
 without_lf (x ∷ xs) none = cases (x == 10) refl (without_lf xs)
   where
-    cases : (b : Bool) → (x == 10) ≡ b → (none_lf xs ≡ false → lines_of xs ≡ whole xs) → lines_of (x ∷ xs) ≡ whole (x ∷ xs)
+    cases : (b : Bool) → (x == 10) ≡ b → (none_lf xs ≡ false → lines_of xs ≡ whole xs)
+        → lines_of (x ∷ xs) ≡ whole (x ∷ xs)
     cases true e rest =
         let h : nat_lt 0 (suc (length xs)) ≡ false = rw e at none in
         absurd (grind (arith, nat_tests))

@@ -15,8 +15,10 @@ flight_line index flight old head legs new e put f = record {
   written = f ∙ ap (λ l. l ++ 10 ∷ []) (put.written ∙ ap (λ l. l ++ put.part) e) ∙ assoc_four old (head_text index flight) put.part (10 ∷ []);
 }
 
-pub flights_more : (flights : List Flight) (i : ℕ) (flight : Flight) (mid new : List ℕ) → IsPut IsFlightLine 0 (take i flights) [] mid
-    → slice_get flights i ≡ Some flight → IsLinePut i flight mid new → IsPut IsFlightLine 0 (take (i + 1) flights) [] new
+pub flights_more : (flights : List Flight) (i : ℕ) (flight : Flight) (mid new : List ℕ)
+    → IsPut IsFlightLine 0 (take i flights) [] mid
+    → slice_get flights i ≡ Some flight → IsLinePut i flight mid new
+    → IsPut IsFlightLine 0 (take (i + 1) flights) [] new
 flights_more flights i flight mid new put here line =
     let there : i < length flights = ⊎_elim
     (λ (s : (x : Flight) × (i < length flights) × (slice_get flights i ≡ Some x) × (get_or flights i x ≡ x)). s.1)

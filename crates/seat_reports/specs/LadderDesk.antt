@@ -60,7 +60,8 @@ asked_text (Limit c) = []
 
 -- the number, the reply with the seats asked, and the advices
 abbrev pub entry_text : Entry → List ℕ
-entry_text e = decimal e.number ++ codes " " ++ e.reply ++ asked_text e.work ++ flat_map advice_text e.advices ++ 10 ∷ []
+entry_text e =
+    decimal e.number ++ codes " " ++ e.reply ++ asked_text e.work ++ flat_map advice_text e.advices ++ 10 ∷ []
 
 -- a blank, the class and its room
 abbrev pub class_text : State → ℕ → List ℕ
@@ -71,7 +72,8 @@ room_text state step = class_text state step.class
 
 -- the replies of these lines, and the room that is left in each class
 abbrev pub reply_text : List Entry → State → Steps → List ℕ
-reply_text journal state steps = flat_map entry_text journal ++ codes "ROOM" ++ flat_map (room_text state) steps ++ 10 ∷ []
+reply_text journal state steps =
+    flat_map entry_text journal ++ codes "ROOM" ++ flat_map (room_text state) steps ++ 10 ∷ []
 
 -- the replies to the orders, and the room that they leave
 abbrev pub ladder_text : Steps → List Work → List ℕ

@@ -6,11 +6,14 @@ use Rattle.seat_desk.specs.declared.fault.DeskFault.{DeskFault}
 
 -- it is an audit of these inputs, and each audit is one
 pub record IsAuditAnswer (set limits : List ℕ) (first days : ℕ) (journal line : List ℕ) : Type 0 where
-  pub is_audit : IsAnswer (λ flights rows. IsAudited) set limits first days journal line → IsAudit set limits first days journal line
-  pub is_answer : IsAudit set limits first days journal line → IsAnswer (λ flights rows. IsAudited) set limits first days journal line
+  pub is_audit : IsAnswer (λ flights rows. IsAudited) set limits first days journal line
+      → IsAudit set limits first days journal line
+  pub is_answer : IsAudit set limits first days journal line
+      → IsAnswer (λ flights rows. IsAudited) set limits first days journal line
 
 abbrev pub AuditsAreAnswered : Type 0
-AuditsAreAnswered = (set limits : List ℕ) (first days : ℕ) (journal line : List ℕ) → IsAuditAnswer set limits first days journal line
+AuditsAreAnswered = (set limits : List ℕ) (first days : ℕ) (journal line : List ℕ)
+    → IsAuditAnswer set limits first days journal line
 
 -- a refusal is one of an audit of these inputs
 abbrev pub RefusalsAreAudits : Type 0

@@ -19,7 +19,8 @@ use Rattle.seat_limits.specs.declared.limit_fault.LimitKind.{LimitKind}
 -- one to three digits of value 1 or more
 unfoldable pub seats_in : List ℕ → Option ℕ
 seats_in digits =
-    (if nat_le 1 (length digits) && nat_le (length digits) 3 && list_all is_ascii_digit digits && nat_lt 0 (digits_value 10 digits)
+    (if nat_le 1 (length digits) && nat_le (length digits) 3 && list_all is_ascii_digit digits
+    && nat_lt 0 (digits_value 10 digits)
     then Some (digits_value 10 digits) else None)
 
 -- the only leg of the only flight
@@ -48,7 +49,9 @@ is_blank at line = slice_index_or line (at - 1) 0 == 32
 
 -- bytes 1 to 6 a locator, 8 a class, 10 and 11 a code, from 13 on the seats
 unfoldable pub parts_in : List ℕ → Option Work
-parts_in line = command_of (locator_in (field 1 6 line)) (class_in (slice_index_or line 7 0)) (code_in (field 10 11 line)) (seats_in (field 13 (length line) line))
+parts_in line =
+    command_of (locator_in (field 1 6 line)) (class_in (slice_index_or line 7 0)) (code_in (field 10 11 line))
+    (seats_in (field 13 (length line) line))
 
 -- and single blanks between them
 unfoldable pub command_in : List ℕ → Option Work

@@ -22,9 +22,11 @@ pub fn desk_flights<R: NotedRead, W: NotedWrite>(
 ) -> Result<(), DeskFault>
     requires first { IsOfCentury first }
     requires days { (1 ≤ days) × (days ≤ 366) }
-    ensures ok { OnOk result (IsWritten (OfInput (IsListing first days) (R.remaining input.old)) (W.contents out.old) (W.contents out.new)) }
+    ensures ok { OnOk result (IsWritten (OfInput (IsListing first days) (R.remaining input.old)) (W.contents out.old)
+        (W.contents out.new)) }
     ensures fault { IfErr result (λ f. IsOfInput f → IfSome (R.remaining input.old) (IsUnscheduled first days f)) }
-    ensures large { IfErr result (λ f. f ≡ DeskFault.TooLarge → IfSome (R.remaining input.old) (λ xs. most_set_bytes < length xs)) }
+    ensures large { IfErr result (λ f. f ≡ DeskFault.TooLarge
+        → IfSome (R.remaining input.old) (λ xs. most_set_bytes < length xs)) }
     ensures device { IfErr result (λ f. f ≡ DeskFault.Device →
         InputFailed (HasFailed R.failure_count input.old input.new) out.old out.new
         ⊎ OutputFailed W.failure_count W.contents out.old out.new (OfInput (IsListing first days) (R.remaining input.old))) }

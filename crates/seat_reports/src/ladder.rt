@@ -30,9 +30,11 @@ pub fn desk_ladder<R: NotedRead, W: NotedWrite>(
     input: &mut R,
     out: &mut W,
 ) -> Result<(), DeskFault>
-    ensures ok { OnOk result (IsWritten (OfInput IsLadderText (R.remaining input.old)) (W.contents out.old) (W.contents out.new)) }
+    ensures ok { OnOk result (IsWritten (OfInput IsLadderText (R.remaining input.old)) (W.contents out.old)
+        (W.contents out.new)) }
     ensures fault { IfErr result (λ f. IsOfInput f → IfSome (R.remaining input.old) (IsRefusedLadder f)) }
-    ensures large { IfErr result (λ f. f ≡ DeskFault.TooLarge → IfSome (R.remaining input.old) (λ xs. most_ladder_bytes < length xs)) }
+    ensures large { IfErr result (λ f. f ≡ DeskFault.TooLarge
+        → IfSome (R.remaining input.old) (λ xs. most_ladder_bytes < length xs)) }
     ensures device { IfErr result (λ f. f ≡ DeskFault.Device →
         InputFailed (HasFailed R.failure_count input.old input.new) out.old out.new
         ⊎ OutputFailed W.failure_count W.contents out.old out.new (OfInput IsLadderText (R.remaining input.old))) }
@@ -98,7 +100,8 @@ fn answer_orders(alloc: Global, ladder: Ladder, orders: &[Work]) -> Result<Vec<u
 /// The text of the lines so far, and of the room that is left.
 fn text_of(alloc: Global, core: &Core) -> Result<Vec<u8>, AllocError>
     requires { Fits core.now.grid only_leg }
-    ensures { IfOk result (λ text. text.items ≡ reply_text core.now.journal (state_now core.now) (ladder_at core.now.grid 0 0)) }
+    ensures { IfOk result (λ text. text.items
+        ≡ reply_text core.now.journal (state_now core.now) (ladder_at core.now.grid 0 0)) }
 {
     let mut text = Vec::new(alloc);
     put_entries(&mut text, core.journal())?;
@@ -149,7 +152,8 @@ fn answer_next(alloc: Global, core: &mut Core, order: Work) -> Result<(), DeskFa
     requires fits { Fits core.old.grid only_leg }
     requires order { IsOrder order }
     requires below { length core.old.journal < core.old.cap }
-    ensures line { OnOk result (core.new.journal ≡ core.old.journal ++ line_for core.old.grid core.old.journal order ∷ []) }
+    ensures line { OnOk result (core.new.journal ≡ core.old.journal ++ line_for core.old.grid core.old.journal order
+        ∷ []) }
     ensures grid { core.new.grid ≡ core.old.grid }
     ensures cap { core.new.cap ≡ core.old.cap }
     ensures memory { IfErr result (λ f. f ≡ DeskFault.Memory) }

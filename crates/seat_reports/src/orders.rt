@@ -45,8 +45,10 @@ fn take_order<'a>(orders: &mut Vec<Work>, bytes: &'a [u8]) -> Result<&'a [u8], D
     requires some { 0 < length bytes.now }
     requires few { length orders.old.items ≤ 999999 }
     requires orders { All IsOrder orders.old.items }
-    ensures ok { IfOk result (λ rest. orders_behind orders.old.items (lines_of bytes.now) ≡ orders_behind orders.new.items (lines_of rest.now)) }
-    ensures fault { IfErr result (λ f. f ≢ DeskFault.Memory → orders_behind orders.old.items (lines_of bytes.now) ≡ Err f) }
+    ensures ok { IfOk result (λ rest. orders_behind orders.old.items (lines_of bytes.now)
+        ≡ orders_behind orders.new.items (lines_of rest.now)) }
+    ensures fault { IfErr result (λ f. f ≢ DeskFault.Memory → orders_behind orders.old.items (lines_of bytes.now)
+        ≡ Err f) }
     ensures kind { IfErr result (λ f. (f ≢ DeskFault.Device) × (f ≢ DeskFault.TooLarge)) }
     ensures shorter { IfOk result (λ rest. length rest.now < length bytes.now) }
     ensures orders { OnOk result (All IsOrder orders.new.items) }

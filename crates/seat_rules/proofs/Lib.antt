@@ -1,5 +1,7 @@
+pub mod Common
 pub mod Counters
 pub mod History
+pub mod Filters
 pub mod Flight
 pub mod Passes
 pub mod Step

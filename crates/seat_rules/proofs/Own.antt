@@ -1,8 +1,7 @@
 -- The entries of one session.
 use Rattle.std.proofs.Common.{◌≡◌, ◌≢◌, ℕ, ◌+◌, ◌≤◌, ◌==◌, Bool, true, false, cond, List, [], ◌∷◌, ◌++◌, length, refl, ap, sym, ◌∙◌, arith, eq-eqb, ne_eqb}
+use Rattle.seat_rules.proofs.Common.{Entry, calls_of}
 use Rattle.std.proofs.lemmas.List.Sums.{length-filter}
-use Rattle.seat_journal.specs.declared.entry.Entry.{Entry}
-use Rattle.seat_rules.specs.Journal.{calls_of}
 use Rattle.seat_rules.specs.Histories.{of_session}
 
 cond_append : (b : Bool) (x : Entry) (xs ys : List Entry) → cond b (x ∷ xs ++ ys) (xs ++ ys) ≡ cond b (x ∷ xs) xs ++ ys

@@ -46,4 +46,5 @@ pub record HasLine (journal : List Entry) (session call : ℕ) (receipt : Entry)
 -- each line is the receipt of its session and call, and each receipt is the line of its number
 pub record Agrees (lists : List (List Entry)) (journal : List Entry) : Type 0 where
   pub lines : (number : ℕ) → 0 < number → number ≤ length journal → HasReceipt lists journal number
-  pub receipts : (session call : ℕ) (receipt : Entry) → receipt_of lists session call ≡ Some receipt → HasLine journal session call receipt
+  pub receipts : (session call : ℕ) (receipt : Entry) → receipt_of lists session call ≡ Some receipt
+      → HasLine journal session call receipt

@@ -37,7 +37,8 @@ seats_on flight leg class b = (if is_held b.status then seats_of flight leg clas
 
 -- those that it holds on a leg in any of these classes
 abbrev pub seats_among : Steps → ℕ → ℕ → Booking → ℕ
-seats_among steps flight leg b = (if is_held b.status && covers flight leg b.place && has_class steps b.class then b.seats else 0)
+seats_among steps flight leg b =
+    (if is_held b.status && covers flight leg b.place && has_class steps b.class then b.seats else 0)
 
 -- those that it waits for
 abbrev pub waits_on : ℕ → ℕ → ℕ → Booking → ℕ

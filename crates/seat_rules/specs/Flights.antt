@@ -1,5 +1,5 @@
 -- One flight alone: its bookings, the pass over its waiting list, and its part of a journal.
-use Rattle.std.specs.Prelude.{◌≡◌, ◌==◌, ◌&&◌, ℕ, ◌+◌, Bool, true, false, List, [], ◌∷◌, ◌++◌, length, map, take, Option, Some, None, option_map, count_by, if◌then◌else◌}
+use Rattle.std.specs.Prelude.{◌≡◌, ◌==◌, ◌&&◌, ℕ, ◌+◌, Bool, true, false, List, [], ◌∷◌, ◌++◌, filter, length, map, take, Option, Some, None, option_map, count_by, if◌then◌else◌}
 use Rattle.std.specs.List.{AllByRecursion}
 use Rattle.airline_base.specs.declared.place.Place.{Place}
 use Rattle.seat_nesting.specs.Nesting.{Ladders, legs_of, room}
@@ -8,7 +8,7 @@ use Rattle.seat_journal.specs.declared.entry.Advice.{Advice}
 use Rattle.seat_journal.specs.declared.entry.Entry.{Entry}
 use Rattle.seat_journal.specs.declared.entry.Work.{Work}
 use Rattle.seat_journal.specs.declared.entry.Work.TheVariants.{Seats, Limit}
-use Rattle.seat_rules.specs.Bookings.{is_waiting, held}
+use Rattle.seat_rules.specs.Bookings.{held}
 use Rattle.seat_rules.specs.Sequential.{Passed, pass, may_confirm, confirmed, advice_of, room_left}
 use Rattle.seat_rules.specs.Journal.{replay, calls_of, next_line, IsLegal}
 
@@ -18,12 +18,12 @@ AgreeOn flight g h = legs_of g flight ≡ legs_of h flight
 
 -- no waiting booking of `among` on another flight fits in the book
 abbrev pub NoneElseFits : ℕ → Ladders → List Booking → List Booking → Type 0
-NoneElseFits flight grid book among = AllByRecursion (λ b. (b.place.flight == flight) ≡ false → may_confirm grid book b ≡ false) among
+NoneElseFits flight grid book among =
+    AllByRecursion (λ b. (b.place.flight == flight) ≡ false → may_confirm grid book b ≡ false) among
 
 -- the bookings on the flight, in order
 abbrev pub bookings_on : ℕ → List Booking → List Booking
-bookings_on flight [] = []
-bookings_on flight (b ∷ bs) = (if b.place.flight == flight then b ∷ bookings_on flight bs else bookings_on flight bs)
+bookings_on flight bookings = filter (λ b. b.place.flight == flight) bookings
 
 -- the pass that looks at the waiting bookings of the flight alone
 abbrev pub pass_on : ℕ → Ladders → List Booking → List Advice → List Booking → Passed
@@ -35,7 +35,8 @@ pass_on flight grid done told (b ∷ bs) =
 
 -- where none of another flight fits, a pass needs to look at the flight alone, and at its own ladders
 abbrev pub PassOfFlight : Type 0
-PassOfFlight = (flight : ℕ) (g h : Ladders) (bookings : List Booking) → AgreeOn flight g h → NoneElseFits flight g bookings bookings
+PassOfFlight = (flight : ℕ) (g h : Ladders) (bookings : List Booking) → AgreeOn flight g h
+    → NoneElseFits flight g bookings bookings
     → pass g [] [] bookings ≡ pass_on flight h [] [] bookings
 
 -- the room of a place rests on the ladders and the bookings of its flight alone
@@ -96,18 +97,23 @@ part_of flight journal = part_after (number_on flight journal) flight [] journal
 
 -- a flight's part of a legal history is a legal history, over each grid with the same ladders on the flight
 abbrev pub PartIsLegal : Type 0
-PartIsLegal = (g h : Ladders) (journal : List Entry) (flight : ℕ) → AgreeOn flight g h → IsLegal g journal → IsLegal h (part_of flight journal)
+PartIsLegal = (g h : Ladders) (journal : List Entry) (flight : ℕ) → AgreeOn flight g h → IsLegal g journal
+    → IsLegal h (part_of flight journal)
 
 -- a line on the flight is answered by the part as by the whole
 abbrev pub LineOfPart : Type 0
-LineOfPart = (g h : Ladders) (past : List Entry) (e : Entry) (flight : ℕ) → AgreeOn flight g h → IsLegal g (past ++ e ∷ []) → is_on flight e.work ≡ true →
+LineOfPart = (g h : Ladders) (past : List Entry) (e : Entry) (flight : ℕ) → AgreeOn flight g h
+    → IsLegal g (past ++ e ∷ []) → is_on flight e.work ≡ true →
     let part = part_of flight past in
     let line = next_line h part e.session (calls_of part e.session + 1) e.work in
-    (line.reply ≡ e.reply) × (line.released ≡ e.released) × (line.advices ≡ advices_anew (number_on flight (past ++ e ∷ [])) e.advices)
+    (line.reply ≡ e.reply) × (line.released ≡ e.released)
+    × (line.advices ≡ advices_anew (number_on flight (past ++ e ∷ [])) e.advices)
 
 -- these lines of the part, and after them the one that this line's work makes, if it is on the flight
 abbrev pub followed : Ladders → ℕ → List Entry → Entry → List Entry
-followed grid flight part e = (if is_on flight e.work then part ++ next_line grid part e.session (calls_of part e.session + 1) e.work ∷ [] else part)
+followed grid flight part e =
+    (if is_on flight e.work then part ++ next_line grid part e.session (calls_of part e.session + 1) e.work ∷ []
+    else part)
 
 -- these lines of the part, and after them those that the flight's lines make when they are carried out alone
 abbrev pub alone : Ladders → ℕ → List Entry → List Entry → List Entry
@@ -119,7 +125,8 @@ alone grid flight part (e ∷ es) =
 
 -- the part is had by carrying out the flight's lines alone
 abbrev pub PartIsAlone : Type 0
-PartIsAlone = (g h : Ladders) (journal : List Entry) (flight : ℕ) → AgreeOn flight g h → IsLegal g journal → part_of flight journal ≡ alone h flight [] journal
+PartIsAlone = (g h : Ladders) (journal : List Entry) (flight : ℕ) → AgreeOn flight g h → IsLegal g journal
+    → part_of flight journal ≡ alone h flight [] journal
 
 -- and grows with the journal, by the lines that its own lines make
 abbrev pub PartGrows : Type 0
@@ -133,13 +140,9 @@ PartLeavesLimits = (g h : Ladders) (journal : List Entry) (flight : ℕ) → Agr
 
 -- and leaves each place on the flight the room that the whole leaves
 abbrev pub PartLeavesRoom : Type 0
-PartLeavesRoom = (g h : Ladders) (journal : List Entry) (place : Place) (class : ℕ) → AgreeOn place.flight g h → IsLegal g journal
+PartLeavesRoom = (g h : Ladders) (journal : List Entry) (place : Place) (class : ℕ) → AgreeOn place.flight g h
+    → IsLegal g journal
     → room_left (replay h (part_of place.flight journal)) place class ≡ room_left (replay g journal) place class
-
--- the flight's waiting list
-abbrev pub queue_on : ℕ → List Booking → List Booking
-queue_on flight [] = []
-queue_on flight (b ∷ bs) = (if (b.place.flight == flight) && is_waiting b.status then b ∷ queue_on flight bs else queue_on flight bs)
 
 -- the booking under a new number
 abbrev pub renumbered : (ℕ → ℕ) → Booking → Booking
@@ -148,4 +151,5 @@ renumbered anew b = record b { number = anew b.number }
 -- the part leaves the bookings of the flight, each under the number of its line in the part
 abbrev pub PartLeavesBookings : Type 0
 PartLeavesBookings = (g h : Ladders) (journal : List Entry) (flight : ℕ) → AgreeOn flight g h → IsLegal g journal
-    → (replay h (part_of flight journal)).bookings ≡ map (renumbered (number_on flight journal)) (bookings_on flight (replay g journal).bookings)
+    → (replay h (part_of flight journal)).bookings
+    ≡ map (renumbered (number_on flight journal)) (bookings_on flight (replay g journal).bookings)

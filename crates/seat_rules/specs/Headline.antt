@@ -9,7 +9,8 @@ use Rattle.seat_rules.specs.Totals.{totals_of}
 use Rattle.seat_rules.specs.Agreement.{receipts_in, totals_in, Agrees}
 use Rattle.seat_rules.specs.Histories.{by_session, OnlyFirst}
 
-pub record Headline (grid : Ladders) (cap n : ℕ) (journal : List Entry) (receipts : List (List Entry)) (totals : Totals) : Type 0 where
+pub record Headline (grid : Ladders) (cap n : ℕ) (journal : List Entry) (receipts : List (List Entry))
+    (totals : Totals) : Type 0 where
   -- the state is what the sequential inventory reaches by the journal, and each recorded reply is the one given at that point
   pub legal : IsLegal grid journal
   pub capped : length journal ≤ cap

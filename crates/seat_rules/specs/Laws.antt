@@ -28,11 +28,13 @@ abbrev pub ReplayKeepsLimits : Type 0
 ReplayKeepsLimits = (grid : Ladders) (journal : List Entry) (flight leg rank : ℕ) (d : Step) → HasLadders grid →
     let left = replay grid journal in
     let steps = ladder_at left.grid flight leg in
-    rank < length steps → held_from (held left.bookings flight leg) (drop rank steps) ≤ (slice_index_or steps rank d).limit
+    rank < length steps
+    → held_from (held left.bookings flight leg) (drop rank steps) ≤ (slice_index_or steps rank d).limit
 
 -- no two live bookings of a replay have the same locator, place and class
 abbrev pub LiveBookingsDiffer : Type 0
-LiveBookingsDiffer = (grid : Ladders) (journal : List Entry) → AllPairs (λ a b. IsSameBooking a b → ⊥) (replay grid journal).bookings
+LiveBookingsDiffer = (grid : Ladders) (journal : List Entry)
+    → AllPairs (λ a b. IsSameBooking a b → ⊥) (replay grid journal).bookings
 
 -- the seats of the held bookings are those confirmed less those released
 abbrev pub HeldSeatsAreTheTotals : Type 0
@@ -47,7 +49,8 @@ HeldByRankIsHeldByBookings = (grid : Ladders) (bookings : List Booking) (flight 
 
 -- the replay of a legal history has its bookings in order of number, each the number of a line
 abbrev pub ReplayIsNumbered : Type 0
-ReplayIsNumbered = (grid : Ladders) (journal : List Entry) → IsLegal grid journal → IsNumbered (length journal) (replay grid journal).bookings
+ReplayIsNumbered = (grid : Ladders) (journal : List Entry) → IsLegal grid journal
+    → IsNumbered (length journal) (replay grid journal).bookings
 
 -- applying the next line to the bookings is the step
 abbrev pub ApplyingIsTheStep : Type 0
@@ -57,4 +60,5 @@ ApplyingIsTheStep = (grid : Ladders) (past : List Entry) (session call : ℕ) (w
 
 -- the table of held seats and the bookings in order give the advices of a pass
 abbrev pub PassIsByTable : Type 0
-PassIsByTable = (grid : Ladders) (bookings : List Booking) → (pass grid [] [] bookings).advices ≡ advices_by grid (held bookings) bookings
+PassIsByTable = (grid : Ladders) (bookings : List Booking)
+    → (pass grid [] [] bookings).advices ≡ advices_by grid (held bookings) bookings

@@ -105,7 +105,8 @@ want_new Need s number c place false false wait = refused s (codes "UC")
 want_new Sell s number c place true listed wait = booked s (booking_of number c place Held) (codes "KK")
 want_new Sell s number c place false listed true = booked s (booking_of number c place Waiting) (codes "US")
 want_new Sell s number c place false listed false = refused s (codes "UC")
-want_new Waitlist s number c place fits listed true = passed s.grid (s.bookings ++ booking_of number c place Waiting ∷ []) (codes "HL") 0
+want_new Waitlist s number c place fits listed true =
+    passed s.grid (s.bookings ++ booking_of number c place Waiting ∷ []) (codes "HL") 0
 want_new Waitlist s number c place fits listed false = refused s (codes "UC")
 
 -- NN, SS or LL, given the live booking of the same locator, place and class
@@ -122,7 +123,8 @@ abbrev pub cancel : State → Command → Place → Option Booking → Outcome
 cancel s c place None = refused s (codes "NO")
 cancel s c place (Some b) =
     (if nat_le c.seats b.seats
-    then passed s.grid (reduced (is_for c.locator place c.class) c.seats s.bookings) (codes "HX") (if is_held b.status then c.seats else 0)
+    then passed s.grid (reduced (is_for c.locator place c.class) c.seats s.bookings) (codes "HX")
+    (if is_held b.status then c.seats else 0)
     else refused s (codes "NO"))
 
 -- the live booking of the command's locator, place and class

@@ -24,8 +24,10 @@ advices_by grid table (b ∷ bs) =
 
 -- what a pass tells of one booking
 abbrev pub told_of : Ladders → Table → Booking → List Advice
-told_of grid table b = (if is_waiting b.status && nat_le b.seats (room grid table b.place b.class) then advice_of b ∷ [] else [])
+told_of grid table b =
+    (if is_waiting b.status && nat_le b.seats (room grid table b.place b.class) then advice_of b ∷ [] else [])
 
 -- no seat is held in a class that a leg lacks
 abbrev pub Lacks : Ladders → List Booking → Type 0
-Lacks grid bookings = (flight leg class : ℕ) → has_class (ladder_at grid flight leg) class ≡ false → held bookings flight leg class ≡ 0
+Lacks grid bookings = (flight leg class : ℕ) → has_class (ladder_at grid flight leg) class ≡ false
+    → held bookings flight leg class ≡ 0

@@ -18,12 +18,12 @@ use Rattle.seat_rules.specs.Journal.{IsLegal}
 use Rattle.seat_rules.specs.Bookings.{same_place}
 use Rattle.seat_rules.proofs.History.Faults.{place_same}
 use Rattle.seat_rules.proofs.History.Legal.{each_legal}
-use Rattle.seat_rules.proofs.Step.Limits.{both}
 use Rattle.seat_rules.specs.Histories.{of_session}
 use Rattle.seat_rules.proofs.Own.{own_append, own_one, own_other}
 use Rattle.seat_scripts.specs.Against.{AreAsked, AreAskedBelow, DifferAt, asked_by, done_by, same_command, works_of_list}
 use Rattle.seat_scripts.specs.RunDesk.{works_in}
 use Rattle.seat_scripts.proofs.Going.{few_may}
+use Rattle.airline_base.proofs.Tests.{both_true}
 
 -- ---- tests
 
@@ -52,10 +52,10 @@ command_is a b e f g h k = λ i. record { locator = e i; place = f i; class = g 
 
 command_same : (a b : Command) → same_command a b ≡ true → a ≡ b
 command_same a b e =
-    let four = both (pointwise nat_eq a.locator b.locator && option_eq same_place a.place b.place && (a.class == b.class) && pointwise nat_eq a.code b.code) (a.seats == b.seats) e in
-    let three = both (pointwise nat_eq a.locator b.locator && option_eq same_place a.place b.place && (a.class == b.class)) (pointwise nat_eq a.code b.code) four.0 in
-    let two = both (pointwise nat_eq a.locator b.locator && option_eq same_place a.place b.place) (a.class == b.class) three.0 in
-    let one = both (pointwise nat_eq a.locator b.locator) (option_eq same_place a.place b.place) two.0 in
+    let four = both_true (pointwise nat_eq a.locator b.locator && option_eq same_place a.place b.place && (a.class == b.class) && pointwise nat_eq a.code b.code) (a.seats == b.seats) e in
+    let three = both_true (pointwise nat_eq a.locator b.locator && option_eq same_place a.place b.place && (a.class == b.class)) (pointwise nat_eq a.code b.code) four.0 in
+    let two = both_true (pointwise nat_eq a.locator b.locator && option_eq same_place a.place b.place) (a.class == b.class) three.0 in
+    let one = both_true (pointwise nat_eq a.locator b.locator) (option_eq same_place a.place b.place) two.0 in
     command_is a b (same_text a.locator b.locator (sym one.0)) (places_same a.place b.place one.1) (nat_same a.class b.class two.1) (same_text a.code b.code (sym three.1)) (nat_same a.seats b.seats four.1)
 
 command_itself : (a : Command) → same_command a a ≡ true

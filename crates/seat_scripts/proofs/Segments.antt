@@ -14,13 +14,13 @@ use Rattle.ssim_flights.specs.declared.flight.DatedLeg.{DatedLeg}
 use Rattle.ssim_flights.specs.declared.flight.Flight.{Flight as Flown}
 use Rattle.ssim_flights.specs.declared.flight.Wanted.{Wanted}
 use Rattle.seat_journal.specs.declared.entry.Command.{Command}
-use Rattle.seat_rules.proofs.Step.Limits.{both}
 use Rattle.seat_scripts.specs.Going.{segment_at, segment_between, segment_from, segment_of, segment_on}
 use Rattle.seat_scripts.specs.Requests.{command_of, wanted_of}
 use Rattle.seat_scripts.specs.RunDesk.{of_command, of_request}
 use Rattle.seat_scripts.specs.Segments.{RequestsAreFlown}
 use Rattle.seat_scripts.specs.declared.replies.Answered.{Answered}
 use Rattle.seat_scripts.proofs.Rows.{all_append}
+use Rattle.airline_base.proofs.Tests.{both_true}
 
 -- ---- what is found serves what is wanted
 
@@ -38,11 +38,11 @@ wanted_is a b e f g h k l = λ i. record { airline = e i; number = f i; suffix =
 
 wanted_same : (a b : Wanted) → same_wanted a b ≡ true → a ≡ b
 wanted_same a b e =
-    let one = both (pointwise nat_eq a.airline b.airline) ((a.number == b.number) && (option_eq nat_eq a.suffix b.suffix && ((a.day == b.day) && (pointwise nat_eq a.board b.board && pointwise nat_eq a.off b.off)))) e in
-    let two = both (a.number == b.number) (option_eq nat_eq a.suffix b.suffix && ((a.day == b.day) && (pointwise nat_eq a.board b.board && pointwise nat_eq a.off b.off))) one.1 in
-    let three = both (option_eq nat_eq a.suffix b.suffix) ((a.day == b.day) && (pointwise nat_eq a.board b.board && pointwise nat_eq a.off b.off)) two.1 in
-    let four = both (a.day == b.day) (pointwise nat_eq a.board b.board && pointwise nat_eq a.off b.off) three.1 in
-    let five = both (pointwise nat_eq a.board b.board) (pointwise nat_eq a.off b.off) four.1 in
+    let one = both_true (pointwise nat_eq a.airline b.airline) ((a.number == b.number) && (option_eq nat_eq a.suffix b.suffix && ((a.day == b.day) && (pointwise nat_eq a.board b.board && pointwise nat_eq a.off b.off)))) e in
+    let two = both_true (a.number == b.number) (option_eq nat_eq a.suffix b.suffix && ((a.day == b.day) && (pointwise nat_eq a.board b.board && pointwise nat_eq a.off b.off))) one.1 in
+    let three = both_true (option_eq nat_eq a.suffix b.suffix) ((a.day == b.day) && (pointwise nat_eq a.board b.board && pointwise nat_eq a.off b.off)) two.1 in
+    let four = both_true (a.day == b.day) (pointwise nat_eq a.board b.board && pointwise nat_eq a.off b.off) three.1 in
+    let five = both_true (pointwise nat_eq a.board b.board) (pointwise nat_eq a.off b.off) four.1 in
     wanted_is a b (same_text a.airline b.airline (sym one.0)) (nat_same a.number b.number two.0) (suffix_same a.suffix b.suffix three.0) (nat_same a.day b.day four.0)
     (same_text a.board b.board (sym five.0)) (same_text a.off b.off (sym five.1))
 

@@ -21,6 +21,7 @@ use Rattle.seat_rules.specs.Prefixes.{Begins}
 use Rattle.seat_rules.specs.Totals.{totals_of}
 use Rattle.seat_rules.specs.Headline.{Headline}
 use Rattle.seat_rules.specs.Histories.{by_session}
+pub use Rattle.seat_rules.specs.Histories.{works_in, works_of}
 use Rattle.seat_desk.specs.AuditDesk.{IsRefusedOver, most_lines}
 use Rattle.seat_desk.specs.Desk.{HasFailed}
 use Rattle.seat_desk.specs.FlightsDesk.{IsText}
@@ -34,14 +35,6 @@ use Rattle.seat_scripts.specs.declared.past.Past.{Past}
 use Rattle.seat_scripts.specs.declared.replies.Answered.{Answered}
 use Rattle.seat_desk.specs.declared.fault.DeskFault.{DeskFault}
 use Rattle.seat_desk.specs.declared.fault.DeskFault.TheVariants.{Change as BadChange, NoLeg, Script, Book, Journal, Memory, Replay}
-
--- what the manager and the sessions are asked, by number
-abbrev pub works_of : List Change → List (List Command) → List (List Work)
-works_of changes lists = map Limit changes ∷ map (λ (list : List Command). map Seats list) lists
-
--- what these lines ask for, in order
-abbrev pub works_in : List Entry → List Work
-works_in lines = map (λ (e : Entry). e.work) lines
 
 -- a history that goes on from the past: the headline holds of it and of the receipts that the sessions were given, it begins with the past, and behind that the lines of session 0 are the changes, in order, those of session 1 the first list, and so on
 pub record IsHistoryOf (grid : Ladders) (past : List Entry) (changes : List Change) (lists : List (List Command)) (history : List Entry) (receipts : List (List Entry)) : Type 0 where

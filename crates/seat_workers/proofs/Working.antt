@@ -34,7 +34,8 @@ run_more xs ys s t u p q = record {
 }
 
 -- a refusal after a run
-pub refused_more : (grid : Ladders) (book : Book) (cap : ℕ) (fault : RunFault) (xs ys zs : List Work) (s t u : Seat) → HasRun xs s t → IsRefused grid book cap fault ys t u → IsRefused grid book cap fault (xs ++ (ys ++ zs)) s u
+pub refused_more : (grid : Ladders) (book : Book) (cap : ℕ) (fault : RunFault) (xs ys zs : List Work) (s t u : Seat)
+    → HasRun xs s t → IsRefused grid book cap fault ys t u → IsRefused grid book cap fault (xs ++ (ys ++ zs)) s u
 refused_more grid book cap fault xs ys zs s t u p q = record {
   booked = xs ++ q.booked;
   refused = q.refused;
@@ -63,20 +64,25 @@ all_more P x xs p h (suc k) d below = h k d (omega (arith, below))
 -- ---- who may ask for what
 
 -- a session may ask for seats
-pub asks_seats : (grid : Ladders) (s : ℕ) (list : List Command) → 1 ≤ s → s ≤ 8 → All (λ command. FitsCommand grid command) list → All (Asks grid s) (map Seats list)
+pub asks_seats : (grid : Ladders) (s : ℕ) (list : List Command) → 1 ≤ s → s ≤ 8
+    → All (λ command. FitsCommand grid command) list → All (Asks grid s) (map Seats list)
 asks_seats grid s [] low high h = λ k d below. absurd (omega (arith, below))
 asks_seats grid s (c ∷ list) low high h = all_more (Asks grid s) (Seats c) (map Seats list) (record { may = (low, high); fits = all_first (λ command. FitsCommand grid command) (c ∷ list) c list refl h }) (asks_seats grid s list low high (all_later (λ command. FitsCommand grid command) (c ∷ list) c list refl h))
 
 -- the manager may change limits
-pub asks_limits : (grid : Ladders) (s : ℕ) (list : List Change) → s ≡ 0 → All (λ change. FitsChange grid change) list → All (Asks grid s) (map Limit list)
+pub asks_limits : (grid : Ladders) (s : ℕ) (list : List Change) → s ≡ 0 → All (λ change. FitsChange grid change) list
+    → All (Asks grid s) (map Limit list)
 asks_limits grid s [] zeroth h = λ k d below. absurd (omega (arith, below))
 asks_limits grid s (c ∷ list) zeroth h = all_more (Asks grid s) (Limit c) (map Limit list) (record { may = zeroth; fits = all_first (λ change. FitsChange grid change) (c ∷ list) c list refl h }) (asks_limits grid s list zeroth (all_later (λ change. FitsChange grid change) (c ∷ list) c list refl h))
 
 -- who has run still may
-pub asks_later : (grid : Ladders) (booked list : List Work) (s t : Seat) → HasRun booked s t → All (Asks grid s.id) list → All (Asks grid t.id) list
+pub asks_later : (grid : Ladders) (booked list : List Work) (s t : Seat) → HasRun booked s t → All (Asks grid s.id) list
+    → All (Asks grid t.id) list
 asks_later grid booked list s t p h = subst (λ (id : ℕ). All (Asks grid id) list) (sym p.id) h
 
-pub asks_at : {A : Type 0} (f : A → Work) (grid : Ladders) (booked : List Work) (list : List A) (i : ℕ) (x : A) (work : Work) (s t : Seat) → i < length list → x ≡ get_or list i x → work ≡ f x → All (Asks grid s.id) (map f list) → HasRun booked s t → Asks grid t.id work
+pub asks_at : {A : Type 0} (f : A → Work) (grid : Ladders) (booked : List Work) (list : List A) (i : ℕ) (x : A)
+    (work : Work) (s t : Seat) → i < length list → x ≡ get_or list i x → work ≡ f x → All (Asks grid s.id) (map f list)
+    → HasRun booked s t → Asks grid t.id work
 asks_at f grid booked list i x work s t below is asked h p =
     let long : i < length (map f list) = omega (arith, below, length-map list f) in
     let there : get_or (map f list) i work ≡ work = get_or-map f list i x work below ∙ ap f (sym is) ∙ sym asked in
@@ -84,7 +90,9 @@ asks_at f grid booked list i x work s t below is asked h p =
 
 -- ---- one call that is refused
 
-pub refused_here : (grid : Ladders) (book : Book) (cap : ℕ) (work : Work) (s t : Seat) (fault : RunFault) → fault.session ≡ t.id → fault.call ≡ length t.receipts + 1 → HasRun [] s t → (fault.refusal.fault ≡ JournalFull → cap ≤ length t.front)
+pub refused_here : (grid : Ladders) (book : Book) (cap : ℕ) (work : Work) (s t : Seat) (fault : RunFault)
+    → fault.session ≡ t.id → fault.call ≡ length t.receipts + 1 → HasRun [] s t
+    → (fault.refusal.fault ≡ JournalFull → cap ≤ length t.front)
     → IsDue grid book cap t.front fault.refusal → IsRefused grid book cap fault (work ∷ []) s t
 refused_here grid book cap work s t fault number next p full due =
     record {
@@ -102,10 +110,12 @@ refused_here grid book cap work s t fault number next p full due =
 pub begun_run : (list : List Work) (s t : Seat) → HasRun list s t → HasBegun list s t
 begun_run list s t p = record { booked = list; begins = begins_itself list; run = p }
 
-pub begun_refused : (grid : Ladders) (book : Book) (cap : ℕ) (fault : RunFault) (list : List Work) (s t : Seat) → IsRefused grid book cap fault list s t → HasBegun list s t
+pub begun_refused : (grid : Ladders) (book : Book) (cap : ℕ) (fault : RunFault) (list : List Work) (s t : Seat)
+    → IsRefused grid book cap fault list s t → HasBegun list s t
 begun_refused grid book cap fault list s t p = record { booked = p.booked; begins = record { rest = p.refused ∷ p.left; is = p.parts }; run = p.run }
 
-pub all_begun : (lists : List (List Work)) (olds news : List Seat) → AllHaveRun lists olds news → AllHaveBegun lists olds news
+pub all_begun : (lists : List (List Work)) (olds news : List Seat) → AllHaveRun lists olds news
+    → AllHaveBegun lists olds news
 all_begun [] olds [] p = p
 all_begun [] olds (t ∷ news) p = p
 all_begun (l ∷ lists) [] [] p = p
@@ -114,13 +124,18 @@ all_begun (l ∷ lists) (s ∷ olds) [] p = p
 all_begun (l ∷ lists) (s ∷ olds) (t ∷ news) p = (begun_run l s t p.0, all_begun lists olds news p.1)
 
 -- a list booked as far as a place, and then the work there
-pub run_at : {A : Type 0} (f : A → Work) (list : List A) (i : ℕ) (x : A) (work : Work) (s t u : Seat) → i < length list → x ≡ get_or list i x → work ≡ f x → HasRun (map f (take i list)) s t → HasRun (work ∷ []) t u → HasRun (map f (take (i + 1) list)) s u
+pub run_at : {A : Type 0} (f : A → Work) (list : List A) (i : ℕ) (x : A) (work : Work) (s t u : Seat) → i < length list
+    → x ≡ get_or list i x → work ≡ f x → HasRun (map f (take i list)) s t → HasRun (work ∷ []) t u
+    → HasRun (map f (take (i + 1) list)) s u
 run_at f list i x work s t u below is asked p q =
     let more : map f (take (i + 1) list) ≡ map f (take i list) ++ work ∷ [] = map_more f list i x below ∙ ap (λ w. map f (take i list) ++ w ∷ []) (ap f (sym is) ∙ sym asked) in
     subst (λ l. HasRun l s u) (sym more) (run_more (map f (take i list)) (work ∷ []) s t u p q)
 
 -- a list booked as far as a place, and the work there refused
-pub refused_at : {A : Type 0} (f : A → Work) (grid : Ladders) (book : Book) (cap : ℕ) (fault : RunFault) (list : List A) (i : ℕ) (x : A) (work : Work) (s t u : Seat) → i < length list → x ≡ get_or list i x → work ≡ f x → HasRun (map f (take i list)) s t → IsRefused grid book cap fault (work ∷ []) t u → IsRefused grid book cap fault (map f list) s u
+pub refused_at : {A : Type 0} (f : A → Work) (grid : Ladders) (book : Book) (cap : ℕ) (fault : RunFault) (list : List A)
+    (i : ℕ) (x : A) (work : Work) (s t u : Seat) → i < length list → x ≡ get_or list i x → work ≡ f x
+    → HasRun (map f (take i list)) s t → IsRefused grid book cap fault (work ∷ []) t u
+    → IsRefused grid book cap fault (map f list) s u
 refused_at f grid book cap fault list i x work s t u below is asked p q =
     let cut : list ≡ take i list ++ x ∷ drop (suc i) list = split_at list i x below ∙ ap (λ y. take i list ++ y ∷ drop (suc i) list) (sym is) in
     let parts : map f list ≡ map f (take i list) ++ work ∷ map f (drop (suc i) list) =
@@ -128,11 +143,14 @@ refused_at f grid book cap fault list i x work s t u below is asked p q =
     subst (λ l. IsRefused grid book cap fault l s u) (sym parts) (refused_more grid book cap fault (map f (take i list)) (work ∷ []) (map f (drop (suc i) list)) s t u p q)
 
 -- the run of the first session beside the run of the others
-pub run_both : (l : List Work) (s t : Seat) (ls : List (List Work)) (ss ts : List Seat) (first rest both : Result (Unit {0}) RunFault)
-    → both ≡ result_and first rest → OnOk first (HasRun l s t) → OnOk rest (AllHaveRun ls ss ts) → OnOk both (AllHaveRun (l ∷ ls) (s ∷ ss) (t ∷ ts))
+pub run_both : (l : List Work) (s t : Seat) (ls : List (List Work)) (ss ts : List Seat)
+    (first rest both : Result (Unit {0}) RunFault)
+    → both ≡ result_and first rest → OnOk first (HasRun l s t) → OnOk rest (AllHaveRun ls ss ts)
+    → OnOk both (AllHaveRun (l ∷ ls) (s ∷ ss) (t ∷ ts))
 run_both l s t ls ss ts first rest both is p q = subst (λ r. OnOk r (AllHaveRun (l ∷ ls) (s ∷ ss) (t ∷ ts))) (sym is) (ok first rest p q)
   where
-    ok : (first rest : Result (Unit {0}) RunFault) → OnOk first (HasRun l s t) → OnOk rest (AllHaveRun ls ss ts) → OnOk (result_and first rest) (AllHaveRun (l ∷ ls) (s ∷ ss) (t ∷ ts))
+    ok : (first rest : Result (Unit {0}) RunFault) → OnOk first (HasRun l s t) → OnOk rest (AllHaveRun ls ss ts)
+        → OnOk (result_and first rest) (AllHaveRun (l ∷ ls) (s ∷ ss) (t ∷ ts))
     ok (Ok a) (Ok b) p q = (p, q)
     ok (Ok a) (Err f) p q = tt
     ok (Err f) rest p q = tt
@@ -148,7 +166,8 @@ all_back P all [] ys is h = subst (λ l. All P l) is h
 all_back P all (x ∷ xs) ys is h = all_back P (xs ++ ys) xs ys refl (all_later P all x (xs ++ ys) is h)
 
 -- a list cut in two
-pub cut_there : {A : Type 0} (f : A → Work) (left next later : List A) (n : ℕ) → next ≡ take n left → later ≡ drop n left → map f left ≡ map f next ++ map f later
+pub cut_there : {A : Type 0} (f : A → Work) (left next later : List A) (n : ℕ) → next ≡ take n left
+    → later ≡ drop n left → map f left ≡ map f next ++ map f later
 cut_there f left next later n front back = ap (map f) (sym (take-append-drop n left) ∙ (λ i. sym front i ++ sym back i)) ∙ map_append f next later
 
 -- what stands before the works that are left was booked
@@ -157,13 +176,16 @@ pub record IsAt (list left : List Work) (s t : Seat) : Type 0 where
   pub parts : list ≡ booked ++ left
   pub run : HasRun booked s t
 
-pub at_more : (list left next later : List Work) (s t u : Seat) → left ≡ next ++ later → IsAt list left s t → HasRun next t u → IsAt list later s u
+pub at_more : (list left next later : List Work) (s t u : Seat) → left ≡ next ++ later → IsAt list left s t
+    → HasRun next t u → IsAt list later s u
 at_more list left next later s t u is at q = record {
   booked = at.booked ++ next;
   parts = at.parts ∙ ap (λ l. at.booked ++ l) is ∙ sym (append_assoc at.booked next later);
   run = run_more at.booked next s t u at.run q;
 }
 
-pub at_refused : (grid : Ladders) (book : Book) (cap : ℕ) (fault : RunFault) (list left next later : List Work) (s t u : Seat) → left ≡ next ++ later → IsAt list left s t → IsRefused grid book cap fault next t u → IsRefused grid book cap fault list s u
+pub at_refused : (grid : Ladders) (book : Book) (cap : ℕ) (fault : RunFault) (list left next later : List Work)
+    (s t u : Seat) → left ≡ next ++ later → IsAt list left s t → IsRefused grid book cap fault next t u
+    → IsRefused grid book cap fault list s u
 at_refused grid book cap fault list left next later s t u is at q =
     subst (λ l. IsRefused grid book cap fault l s u) (sym (at.parts ∙ ap (λ l. at.booked ++ l) is)) (refused_more grid book cap fault at.booked next later s t u at.run q)

@@ -1,27 +1,18 @@
 -- What a run of sessions leaves.
-use Rattle.std.specs.Prelude.{◌≡◌, ◌⊎◌, ℕ, ◌+◌, ◌≤◌, List, [], ◌∷◌, ◌++◌, length, map, zip}
+use Rattle.std.specs.Prelude.{◌≡◌, ◌⊎◌, ℕ, ◌+◌, ◌≤◌, List, [], ◌∷◌, ◌++◌, length, zip}
 use Rattle.std.specs.List.{AllZip}
-use Rattle.seat_journal.specs.declared.entry.Change.{Change}
-use Rattle.seat_journal.specs.declared.entry.Command.{Command}
 use Rattle.seat_journal.specs.declared.entry.Work.{Work}
-use Rattle.seat_journal.specs.declared.entry.Work.TheVariants.{Seats, Limit}
 use Rattle.seat_journal.specs.declared.entry.Entry.{Entry}
 use Rattle.logbook.specs.Pages.{Book}
 use Rattle.seat_nesting.specs.Nesting.{Ladders}
 use Rattle.seat_rules.specs.Prefixes.{Begins}
 use Rattle.seat_rules.specs.Journal.{FitsWork, MayAsk}
+use Rattle.seat_rules.specs.Histories.{works_in}
+pub use Rattle.seat_rules.specs.Histories.{works_of}
 use Rattle.seat_host.specs.Refusing.{IsDue}
 use Rattle.seat_host.specs.Sessions.{Seat}
 use Rattle.seat_host.specs.declared.under_lock.BookFault.TheVariants.{JournalFull}
 use Rattle.seat_workers.specs.declared.workers.RunFault.{RunFault}
-
--- what the lists of sessions ask for
-abbrev pub seats_in : List (List Command) → List (List Work)
-seats_in lists = map (λ (list : List Command). map Seats list) lists
-
--- what the manager and the sessions ask for, by number
-abbrev pub works_of : List Change → List (List Command) → List (List Work)
-works_of changes lists = map Limit changes ∷ seats_in lists
 
 -- a session may ask for this, which fits the limits
 pub record Asks (grid : Ladders) (session : ℕ) (work : Work) : Type 0 where
@@ -31,7 +22,7 @@ pub record Asks (grid : Ladders) (session : ℕ) (work : Work) : Type 0 where
 -- the session booked its whole list: it was given a line for each work, in order
 pub record HasRun (list : List Work) (s t : Seat) : Type 0 where
   pub lines : List Entry
-  pub works : map (λ (e : Entry). e.work) lines ≡ list
+  pub works : works_in lines ≡ list
   pub id : t.id ≡ s.id
   pub receipts : t.receipts ≡ s.receipts ++ lines
   pub before : Begins s.front t.front
@@ -43,7 +34,8 @@ pub record HasBegun (list : List Work) (s t : Seat) : Type 0 where
   pub run : HasRun booked s t
 
 -- the session booked its list as far as the work whose call the fault names. The journal was full then, as the session has seen, or it had a line left and memory was wanting
-pub record IsRefused (grid : Ladders) (book : Book) (cap : ℕ) (fault : RunFault) (list : List Work) (s t : Seat) : Type 0 where
+pub record IsRefused (grid : Ladders) (book : Book) (cap : ℕ) (fault : RunFault) (list : List Work) (s t : Seat) : Type
+    0 where
   pub booked : List Work
   pub refused : Work
   pub left : List Work

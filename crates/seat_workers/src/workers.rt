@@ -5,7 +5,8 @@ ghost use Rattle.seat_rules.specs.Journal.{FitsChange, FitsCommand};
 ghost use Rattle.seat_journal.specs.declared.entry.Work.TheVariants.{Limit, Seats};
 ghost use Rattle.seat_host.specs.declared.under_lock.BookFault.TheVariants.{JournalFull};
 ghost use Rattle.seat_host.specs.Refusing.{IsDue};
-ghost use Rattle.seat_workers.specs.Working.{Asks, HasRun, IsRefused, AllHaveRun, AllHaveBegun, NamesFirst, seats_in, works_of};
+ghost use Rattle.seat_workers.specs.Working.{Asks, HasRun, IsRefused, AllHaveRun, AllHaveBegun, NamesFirst};
+ghost use Rattle.seat_rules.specs.Histories.{seats_in, works_of};
 
 use crate::asking::Asking;
 use crate::gate::Gate;
@@ -42,9 +43,12 @@ pub fn run_sessions<K: Hosting + Send + Sync, R: Threads + Wait + Sync, G: Gate>
     requires changes { All (λ change. FitsChange K.grid change) changes.now }
     requires lists { length lists.now ≡ length sessions.old }
     requires commands { All (λ list. All (λ command. FitsCommand K.grid command) list) lists.now }
-    ensures ok { OnOk result (AllHaveRun (works_of changes.now lists.now) (manager.old ∷ sessions.old) (manager.new ∷ sessions.new)) }
-    ensures refused { IfErr result (λ _. AllHaveBegun (works_of changes.now lists.now) (manager.old ∷ sessions.old) (manager.new ∷ sessions.new)) }
-    ensures named { IfErr result (λ f. NamesFirst K.grid K.book K.cap f (works_of changes.now lists.now) (manager.old ∷ sessions.old) (manager.new ∷ sessions.new)) }
+    ensures ok { OnOk result (AllHaveRun (works_of changes.now lists.now) (manager.old ∷ sessions.old)
+        (manager.new ∷ sessions.new)) }
+    ensures refused { IfErr result (λ _. AllHaveBegun (works_of changes.now lists.now) (manager.old ∷ sessions.old)
+        (manager.new ∷ sessions.new)) }
+    ensures named { IfErr result (λ f. NamesFirst K.grid K.book K.cap f (works_of changes.now lists.now)
+        (manager.old ∷ sessions.old) (manager.new ∷ sessions.new)) }
 {
     let turns = Turns::new(lists.len().saturating_add(1));
     let place = Workplace {
@@ -80,20 +84,28 @@ fn with_manager<K: Hosting + Send + Sync, R: Threads + Wait + Sync, G: Gate>(
     requires changes { All (λ change. FitsChange K.grid change) changes.now }
     requires lists { length lists.now ≡ length sessions.old }
     requires commands { All (λ list. All (λ command. FitsCommand K.grid command) list) lists.now }
-    ensures ok { OnOk result (AllHaveRun (works_of changes.now lists.now) (party.old ∷ sessions.old) (party.new ∷ sessions.new)) }
-    ensures refused { IfErr result (λ _. AllHaveBegun (works_of changes.now lists.now) (party.old ∷ sessions.old) (party.new ∷ sessions.new)) }
-    ensures named { IfErr result (λ f. NamesFirst K.grid K.book K.cap f (works_of changes.now lists.now) (party.old ∷ sessions.old) (party.new ∷ sessions.new)) }
+    ensures ok { OnOk result (AllHaveRun (works_of changes.now lists.now) (party.old ∷ sessions.old)
+        (party.new ∷ sessions.new)) }
+    ensures refused { IfErr result (λ _. AllHaveBegun (works_of changes.now lists.now) (party.old ∷ sessions.old)
+        (party.new ∷ sessions.new)) }
+    ensures named { IfErr result (λ f. NamesFirst K.grid K.book K.cap f (works_of changes.now lists.now)
+        (party.old ∷ sessions.old) (party.new ∷ sessions.new)) }
 {
     let mut here = || -> Result<(), RunFault>
-        requires { IsSync R.row × IsSync K.row × IsSend K.row × IsSync G.row × (party.now.id ≡ 0) × All (λ change. FitsChange K.grid change) changes.now }
+        requires { IsSync R.row × IsSync K.row × IsSend K.row × IsSync G.row × (party.now.id ≡ 0)
+            × All (λ change. FitsChange K.grid change) changes.now }
         ensures ok { OnOk result (HasRun (map Limit changes.entry.now) party.entry.now party.exit.now) }
-        ensures refused { IfErr result (λ f. IsRefused K.grid K.book K.cap f (map Limit changes.entry.now) party.entry.now party.exit.now) }
+        ensures refused { IfErr result (λ f. IsRefused K.grid K.book K.cap f (map Limit changes.entry.now)
+            party.entry.now party.exit.now) }
     { place.work_off(changes, party) };
     let mut there = || -> Result<(), RunFault>
-        requires { IsSync R.row × IsSync K.row × IsSend K.row × IsSync G.row × (length lists.now ≡ length sessions.now) × All (λ list. All (λ command. FitsCommand K.grid command) list) lists.now }
+        requires { IsSync R.row × IsSync K.row × IsSend K.row × IsSync G.row × (length lists.now ≡ length sessions.now)
+            × All (λ list. All (λ command. FitsCommand K.grid command) list) lists.now }
         ensures ok { OnOk result (AllHaveRun (seats_in lists.entry.now) sessions.entry.now sessions.exit.now) }
-        ensures refused { IfErr result (λ _. AllHaveBegun (seats_in lists.entry.now) sessions.entry.now sessions.exit.now) }
-        ensures named { IfErr result (λ f. NamesFirst K.grid K.book K.cap f (seats_in lists.entry.now) sessions.entry.now sessions.exit.now) }
+        ensures refused { IfErr result (λ _. AllHaveBegun (seats_in lists.entry.now) sessions.entry.now
+            sessions.exit.now) }
+        ensures named { IfErr result (λ f. NamesFirst K.grid K.book K.cap f (seats_in lists.entry.now)
+            sessions.entry.now sessions.exit.now) }
     { work_all(place, lists, sessions) };
     let (rest, managed) = join_mut(place.rt, &mut there, &mut here);
     managed.and(rest)
@@ -110,7 +122,8 @@ fn work_all<K: Hosting + Send + Sync, R: Threads + Wait + Sync, G: Gate>(
     requires commands { All (λ list. All (λ command. FitsCommand K.grid command) list) lists.now }
     ensures ok { OnOk result (AllHaveRun (seats_in lists.now) sessions.old sessions.new) }
     ensures refused { IfErr result (λ _. AllHaveBegun (seats_in lists.now) sessions.old sessions.new) }
-    ensures named { IfErr result (λ f. NamesFirst K.grid K.book K.cap f (seats_in lists.now) sessions.old sessions.new) }
+    ensures named { IfErr result (λ f. NamesFirst K.grid K.book K.cap f (seats_in lists.now) sessions.old
+        sessions.new) }
 {
     let Some((list, later)) = lists.split_first() else {
         return Ok(());
@@ -135,20 +148,27 @@ fn side_by_side<K: Hosting + Send + Sync, R: Threads + Wait + Sync, G: Gate>(
     requires list { All (λ command. FitsCommand K.grid command) list.now }
     requires lists { length later.now ≡ length others.old }
     requires commands { All (λ list. All (λ command. FitsCommand K.grid command) list) later.now }
-    ensures ok { OnOk result (AllHaveRun (map Seats list.now ∷ seats_in later.now) (party.old ∷ others.old) (party.new ∷ others.new)) }
-    ensures refused { IfErr result (λ _. AllHaveBegun (map Seats list.now ∷ seats_in later.now) (party.old ∷ others.old) (party.new ∷ others.new)) }
-    ensures named { IfErr result (λ f. NamesFirst K.grid K.book K.cap f (map Seats list.now ∷ seats_in later.now) (party.old ∷ others.old) (party.new ∷ others.new)) }
+    ensures ok { OnOk result (AllHaveRun (map Seats list.now ∷ seats_in later.now) (party.old ∷ others.old)
+        (party.new ∷ others.new)) }
+    ensures refused { IfErr result (λ _. AllHaveBegun (map Seats list.now ∷ seats_in later.now) (party.old ∷ others.old)
+        (party.new ∷ others.new)) }
+    ensures named { IfErr result (λ f. NamesFirst K.grid K.book K.cap f (map Seats list.now ∷ seats_in later.now)
+        (party.old ∷ others.old) (party.new ∷ others.new)) }
 {
     let mut here = || -> Result<(), RunFault>
-        requires { IsSync R.row × IsSync K.row × IsSend K.row × IsSync G.row × (1 ≤ party.now.id) × (party.now.id ≤ 8) × All (λ command. FitsCommand K.grid command) list.now }
+        requires { IsSync R.row × IsSync K.row × IsSend K.row × IsSync G.row × (1 ≤ party.now.id) × (party.now.id ≤ 8)
+            × All (λ command. FitsCommand K.grid command) list.now }
         ensures ok { OnOk result (HasRun (map Seats list.entry.now) party.entry.now party.exit.now) }
-        ensures refused { IfErr result (λ f. IsRefused K.grid K.book K.cap f (map Seats list.entry.now) party.entry.now party.exit.now) }
+        ensures refused { IfErr result (λ f. IsRefused K.grid K.book K.cap f (map Seats list.entry.now) party.entry.now
+            party.exit.now) }
     { place.work_off(list, party) };
     let mut there = || -> Result<(), RunFault>
-        requires { IsSync R.row × IsSync K.row × IsSend K.row × IsSync G.row × (length later.now ≡ length others.now) × All (λ list. All (λ command. FitsCommand K.grid command) list) later.now }
+        requires { IsSync R.row × IsSync K.row × IsSend K.row × IsSync G.row × (length later.now ≡ length others.now)
+            × All (λ list. All (λ command. FitsCommand K.grid command) list) later.now }
         ensures ok { OnOk result (AllHaveRun (seats_in later.entry.now) others.entry.now others.exit.now) }
         ensures refused { IfErr result (λ _. AllHaveBegun (seats_in later.entry.now) others.entry.now others.exit.now) }
-        ensures named { IfErr result (λ f. NamesFirst K.grid K.book K.cap f (seats_in later.entry.now) others.entry.now others.exit.now) }
+        ensures named { IfErr result (λ f. NamesFirst K.grid K.book K.cap f (seats_in later.entry.now) others.entry.now
+            others.exit.now) }
     { work_all(place, later, others) };
     let (rest, first) = join_mut(place.rt, &mut there, &mut here);
     first.and(rest)
@@ -168,7 +188,8 @@ impl<K: Hosting, R: Wait, G: Gate> Workplace<'_, K, R, G> {
     fn work_off<J: Asking>(&self, list: &[J], party: &mut Party<K>) -> Result<(), RunFault>
         requires asks { All (Asks K.grid party.old.id) (map J.asks list.now) }
         ensures ok { OnOk result (HasRun (map J.asks list.now) party.old party.new) }
-        ensures refused { IfErr result (λ f. IsRefused K.grid K.book K.cap f (map J.asks list.now) party.old party.new) }
+        ensures refused { IfErr result (λ f. IsRefused K.grid K.book K.cap f (map J.asks list.now) party.old
+            party.new) }
     {
         if self.gate.takes_turns() {
             let mut turn = self.turns.come(self.rt);
@@ -188,7 +209,8 @@ impl<K: Hosting, R: Wait, G: Gate> Workplace<'_, K, R, G> {
     ) -> Result<(), RunFault>
         requires asks { All (Asks K.grid party.old.id) (map J.asks list.now) }
         ensures ok { OnOk result (HasRun (map J.asks list.now) party.old party.new) }
-        ensures refused { IfErr result (λ f. IsRefused K.grid K.book K.cap f (map J.asks list.now) party.old party.new) }
+        ensures refused { IfErr result (λ f. IsRefused K.grid K.book K.cap f (map J.asks list.now) party.old
+            party.new) }
     {
         let mut left = list;
         while !left.is_empty() {
@@ -208,7 +230,8 @@ impl<K: Hosting, R: Wait, G: Gate> Workplace<'_, K, R, G> {
     ) -> Result<(), RunFault>
         requires asks { All (Asks K.grid party.old.id) (map J.asks list.now) }
         ensures ok { OnOk result (HasRun (map J.asks list.now) party.old party.new) }
-        ensures refused { IfErr result (λ f. IsRefused K.grid K.book K.cap f (map J.asks list.now) party.old party.new) }
+        ensures refused { IfErr result (λ f. IsRefused K.grid K.book K.cap f (map J.asks list.now) party.old
+            party.new) }
     {
         self.turns.begin(self.rt, turn);
         let answer = self.book_all(list, party);
@@ -219,7 +242,8 @@ impl<K: Hosting, R: Wait, G: Gate> Workplace<'_, K, R, G> {
     fn book_all<J: Asking>(&self, list: &[J], party: &mut Party<K>) -> Result<(), RunFault>
         requires asks { All (Asks K.grid party.old.id) (map J.asks list.now) }
         ensures ok { OnOk result (HasRun (map J.asks list.now) party.old party.new) }
-        ensures refused { IfErr result (λ f. IsRefused K.grid K.book K.cap f (map J.asks list.now) party.old party.new) }
+        ensures refused { IfErr result (λ f. IsRefused K.grid K.book K.cap f (map J.asks list.now) party.old
+            party.new) }
     {
         for wish in list {
             self.book_next(wish.work(), party)?;

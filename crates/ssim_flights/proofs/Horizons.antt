@@ -1,17 +1,14 @@
 -- The indices at which a leg operates within the horizon are those from its operations ahead of it on.
 use Rattle.std.proofs.Common.{◌≡◌, ℕ, ◌+◌, ◌-◌, ◌<◌, ◌≤◌, nat_le, true, false, List, [], ◌++◌, filter, map, length, max, min, ◌∷◌, sym, ap, ◌∙◌, arith, append-nil}
-use Rattle.std.specs.List.{range_with_len}
+use Rattle.ssim_flights.proofs.Common.{range_with_len, Plan, Scheduled, AreBefore, day_at, is_in_horizon, rows, shortest}
 use Rattle.std.proofs.lemmas.Bool.{and_from, and_left, and_right, le-leb, lt-leb}
 use Rattle.std.proofs.lemmas.List.Elements.{All-weaker, filter-append}
-use Rattle.ssim_flights.specs.declared.plan.Plan.{Plan}
-use Rattle.ssim_flights.specs.declared.schedule.Scheduled.{Scheduled}
-use Rattle.ssim_flights.specs.Rounds.{AreBefore}
-use Rattle.ssim_flights.specs.Schedules.{day_at, is_in_horizon, rows, shortest}
 use Rattle.ssim_flights.proofs.OperatingDays.{range_within}
 use Rattle.ssim_flights.proofs.Repeating.{keep_all, keep_none, range_parts}
 
 module _ (plan : Plan) (leg : Scheduled) (ahead within count : ℕ) (before : AreBefore (map (λ o. o.day) leg.operations) plan.first ahead) (until : AreBefore (map (λ o. o.day) leg.operations) (plan.last + 1) within) (short : count ≤ length (map (λ o. o.day) leg.operations)) where
-  pub none_ahead : (n : ℕ) → n ≡ min ahead count → filter (λ i. is_in_horizon plan (day_at leg i)) (range_with_len 0 n) ≡ []
+  pub none_ahead : (n : ℕ) → n ≡ min ahead count
+      → filter (λ i. is_in_horizon plan (day_at leg i)) (range_with_len 0 n) ≡ []
   none_ahead n e =
       keep_none (λ i. is_in_horizon plan (day_at leg i)) (range_with_len 0 n)
       (All-weaker (λ i. (0 ≤ i) × (i < 0 + n)) (λ i. is_in_horizon plan (day_at leg i) ≡ false)
@@ -24,7 +21,9 @@ module _ (plan : Plan) (leg : Scheduled) (ahead within count : ℕ) (before : Ar
       let lasts : day_at leg i < plan.last + 1 = until.before i (omega arith) in
       and_from (nat_le plan.first (day_at leg i)) (nat_le (day_at leg i) plan.last) (le-leb plan.first (day_at leg i) begun) (le-leb (day_at leg i) plan.last (omega arith))
 
-  pub none_behind : (i : ℕ) → min within count ≤ i → i ≤ count → filter (λ i. is_in_horizon plan (day_at leg i)) (range_with_len 0 count) ≡ filter (λ i. is_in_horizon plan (day_at leg i)) (range_with_len 0 i)
+  pub none_behind : (i : ℕ) → min within count ≤ i → i ≤ count
+      → filter (λ i. is_in_horizon plan (day_at leg i)) (range_with_len 0 count)
+      ≡ filter (λ i. is_in_horizon plan (day_at leg i)) (range_with_len 0 i)
   none_behind i low high =
       let test = λ (k : ℕ). is_in_horizon plan (day_at leg k) in
       let rest = range_with_len i (count - i) in
@@ -37,7 +36,8 @@ module _ (plan : Plan) (leg : Scheduled) (ahead within count : ℕ) (before : Ar
       ∙ ap (λ xs. filter test (range_with_len 0 i) ++ xs) none ∙ append-nil (filter test (range_with_len 0 i))
 
   -- so the rows are the indices in between
-  pub between : (begin end : ℕ) → begin ≡ min ahead count → end ≡ max (min within count) begin → filter (λ i. is_in_horizon plan (day_at leg i)) (range_with_len 0 count) ≡ range_with_len begin (end - begin)
+  pub between : (begin end : ℕ) → begin ≡ min ahead count → end ≡ max (min within count) begin
+      → filter (λ i. is_in_horizon plan (day_at leg i)) (range_with_len 0 count) ≡ range_with_len begin (end - begin)
   between begin end e f =
       let test = λ (k : ℕ). is_in_horizon plan (day_at leg k) in
       let middle = range_with_len begin (end - begin) in
@@ -47,7 +47,9 @@ module _ (plan : Plan) (leg : Scheduled) (ahead within count : ℕ) (before : Ar
       none_behind end (omega arith) (omega arith) ∙ ap (filter test) (range_parts 0 begin (end - begin) end begin (omega arith) (omega arith)) ∙ filter-append test (range_with_len 0 begin) middle
       ∙ ap (λ xs. xs ++ filter test middle) (none_ahead begin e) ∙ all
 
-  pub rows_are : (first : Scheduled) (rest legs : List Scheduled) (begin end i : ℕ) (list : List ℕ) → first ≡ leg → legs ≡ first ∷ rest → count ≡ shortest (length first.operations) rest → begin ≡ min ahead count → end ≡ max (min within count) begin → i ≡ end → list ≡ range_with_len begin (i - begin) → list ≡ rows plan legs
+  pub rows_are : (first : Scheduled) (rest legs : List Scheduled) (begin end i : ℕ) (list : List ℕ) → first ≡ leg
+      → legs ≡ first ∷ rest → count ≡ shortest (length first.operations) rest → begin ≡ min ahead count
+      → end ≡ max (min within count) begin → i ≡ end → list ≡ range_with_len begin (i - begin) → list ≡ rows plan legs
   unfolding rows
   rows_are first rest legs begin end i list same parts n e f g h =
       h ∙ ap (λ k. range_with_len begin (k - begin)) g ∙ sym (between begin end e f) ∙ ap (λ k. filter (λ i. is_in_horizon plan (day_at leg i)) (range_with_len 0 k)) n

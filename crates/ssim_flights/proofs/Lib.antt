@@ -1,7 +1,8 @@
+pub mod Common
 mod Addings
 mod Chaining
 mod Clocks
-mod Departing
+pub mod Departing
 mod Expanding
 mod Grouping
 mod Horizons
@@ -11,4 +12,4 @@ mod OperatingDays
 mod Repeating
 pub mod RightSets
 mod Rounding
-mod Walks
+pub mod Walks

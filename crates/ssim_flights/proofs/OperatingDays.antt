@@ -1,13 +1,12 @@
 -- The days of a period that pass a test: one day more, their order, and which they are.
 use Rattle.std.proofs.Common.{◌≡◌, ℕ, zero, suc, ◌+◌, ◌-◌, ◌<◌, ◌≤◌, ◌↔◌, Bool, true, false, cond, List, [], ◌∷◌, ◌++◌, filter, All, Contains, sym, ap, subst, ◌∙◌, ⊎_elim, arith, add-zero, add-one, append-nil}
-use Rattle.std.specs.List.{range_with_len}
+use Rattle.ssim_flights.proofs.Common.{range_with_len, Leg, operating_days}
 use Rattle.std.specs.List.Sorted.{IsStrictlyIncreasing}
 use Rattle.std.proofs.lemmas.Bool.{cases_eq, and_parts, and_from, false≢true}
 use Rattle.std.proofs.lemmas.List.Elements.{filter-append, filter_passes, All-filter, All-weaker, All-contains, All-from_get_or, Contains-append_right}
 use Rattle.std.proofs.lemmas.List.FromFn.{length-range_with_len, get_or-range_with_len}
 use Rattle.std.proofs.lemmas.List.Kept.{IsStrictlyIncreasing-filter}
-use Rattle.ssim_records.specs.declared.carrier.Leg.{Leg}
-use Rattle.ssim_flights.specs.Operating.{Operates, operates, operating_days, last_day, is_listed, is_in_week}
+use Rattle.ssim_flights.specs.Operating.{Operates, operates, last_day, is_listed, is_in_week}
 
 range_push : (a n : ℕ) → range_with_len a (suc n) ≡ range_with_len a n ++ (a + n) ∷ []
 range_push a zero = ap (λ k. k ∷ []) (sym (add-zero a))
@@ -16,17 +15,20 @@ range_push a (suc n) =
     ap (λ r. a ∷ r) (range_push (a + 1) n ∙ ap (λ k. range_with_len (a + 1) n ++ k ∷ []) e)
 
 -- one day more
-days_more : (p : ℕ → Bool) (a n m d : ℕ) → m ≡ n + 1 → d ≡ a + n → filter p (range_with_len a m) ≡ filter p (range_with_len a n) ++ cond (p d) (d ∷ []) []
+days_more : (p : ℕ → Bool) (a n m d : ℕ) → m ≡ n + 1 → d ≡ a + n
+    → filter p (range_with_len a m) ≡ filter p (range_with_len a n) ++ cond (p d) (d ∷ []) []
 days_more p a n m d more at =
     let e : m ≡ suc n = more ∙ add-one n in
     subst (λ (k : ℕ). filter p (range_with_len a k) ≡ filter p (range_with_len a n) ++ cond (p d) (d ∷ []) []) (sym e)
     (subst (λ (k : ℕ). filter p (range_with_len a (suc n)) ≡ filter p (range_with_len a n) ++ cond (p k) (k ∷ []) []) (sym at)
     (ap (filter p) (range_push a n) ∙ filter-append p (range_with_len a n) ((a + n) ∷ [])))
 
-pub days_more_yes : (p : ℕ → Bool) (a n m d : ℕ) → m ≡ n + 1 → d ≡ a + n → p d ≡ true → filter p (range_with_len a m) ≡ filter p (range_with_len a n) ++ d ∷ []
+pub days_more_yes : (p : ℕ → Bool) (a n m d : ℕ) → m ≡ n + 1 → d ≡ a + n → p d ≡ true
+    → filter p (range_with_len a m) ≡ filter p (range_with_len a n) ++ d ∷ []
 days_more_yes p a n m d more at passes = days_more p a n m d more at ∙ rw passes
 
-pub days_more_no : (p : ℕ → Bool) (a n m d : ℕ) → m ≡ n + 1 → d ≡ a + n → p d ≡ false → filter p (range_with_len a m) ≡ filter p (range_with_len a n)
+pub days_more_no : (p : ℕ → Bool) (a n m d : ℕ) → m ≡ n + 1 → d ≡ a + n → p d ≡ false
+    → filter p (range_with_len a m) ≡ filter p (range_with_len a n)
 days_more_no p a n m d more at fails = days_more p a n m d more at ∙ rw fails (append-nil _)
 
 pub range_increases : (a n : ℕ) → IsStrictlyIncreasing (range_with_len a n)

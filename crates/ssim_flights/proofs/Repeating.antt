@@ -1,6 +1,6 @@
 -- Days that pass a test which comes again: how many there are, and which is the i-th.
 use Rattle.std.proofs.Common.{◌≡◌, ℕ, zero, suc, ◌+◌, ◌-◌, ◌*◌, ◌<◌, ◌≤◌, nat_lt, Bool, true, false, not, cond, List, [], ◌∷◌, ◌++◌, filter, map, length, get_or, min, All, refl, sym, ap, ◌∙◌, ⊎_elim, arith, add-zero, append-nil}
-use Rattle.std.specs.List.{range_with_len}
+use Rattle.ssim_flights.proofs.Common.{range_with_len, AreBefore}
 use Rattle.std.proofs.Math.Nat.{suc-mul}
 use Rattle.std.proofs.Math.ListN.{get_or-append}
 use Rattle.std.proofs.Math.Nat as nats
@@ -9,12 +9,12 @@ use Rattle.std.proofs.lemmas.List.{length-append, length-map, get_or-map, get_or
 use Rattle.std.proofs.lemmas.List.Elements.{All-filter, All-weaker, All-get_or, All-head, All-tail, filter-append}
 use Rattle.std.proofs.lemmas.List.FromFn.{length-range_with_len}
 use Rattle.std.proofs.lemmas.List.Filters.{length-filter_both}
-use Rattle.ssim_flights.specs.Rounds.{AreBefore}
 use Rattle.ssim_flights.proofs.OperatingDays.{range_within}
 
 -- ---- a range in two parts
 
-pub range_parts : (a m n t b : ℕ) → t ≡ m + n → b ≡ a + m → range_with_len a t ≡ range_with_len a m ++ range_with_len b n
+pub range_parts : (a m n t b : ℕ) → t ≡ m + n → b ≡ a + m
+    → range_with_len a t ≡ range_with_len a m ++ range_with_len b n
 range_parts a zero n t b e f =
     let et : t ≡ n = omega arith in
     let eb : b ≡ a = omega arith in
@@ -34,7 +34,8 @@ keep_none q (x ∷ xs) all = rw (All-head (λ x. q x ≡ false) x xs all) (keep_
 -- ---- the days from a on that pass a test
 
 module _ (p : ℕ → Bool) (a : ℕ) where
-  parts : (m n t b : ℕ) → t ≡ m + n → b ≡ a + m → filter p (range_with_len a t) ≡ filter p (range_with_len a m) ++ filter p (range_with_len b n)
+  parts : (m n t b : ℕ) → t ≡ m + n → b ≡ a + m
+      → filter p (range_with_len a t) ≡ filter p (range_with_len a m) ++ filter p (range_with_len b n)
   parts m n t b e f = ap (filter p) (range_parts a m n t b e f) ∙ filter-append p (range_with_len a m) (range_with_len b n)
 
   pub few : (n : ℕ) → length (filter p (range_with_len a n)) ≤ n
@@ -47,7 +48,8 @@ module _ (p : ℕ → Bool) (a : ℕ) where
   high b n = All-filter p (λ d. b ≤ d) (range_with_len b n) (All-weaker (λ d. (b ≤ d) × (d < b + n)) (λ d. b ≤ d) (λ d h. h.0) (range_with_len b n) (range_within b n))
 
   -- of the days of a longer range, those below a + m are those of the first m
-  pub below : (m n b : ℕ) → m ≤ n → b ≡ a + m → filter (λ d. nat_lt d b) (filter p (range_with_len a n)) ≡ filter p (range_with_len a m)
+  pub below : (m n b : ℕ) → m ≤ n → b ≡ a + m
+      → filter (λ d. nat_lt d b) (filter p (range_with_len a n)) ≡ filter p (range_with_len a m)
   below m n b h e =
       let first = filter p (range_with_len a m) in
       let rest = filter p (range_with_len b (n - m)) in
@@ -58,7 +60,8 @@ module _ (p : ℕ → Bool) (a : ℕ) where
       ∙ append-nil first
 
   -- the first days of a range are those of a shorter one
-  at_front : (m n i : ℕ) → m ≤ n → i < length (filter p (range_with_len a m)) → get_or (filter p (range_with_len a n)) i 0 ≡ get_or (filter p (range_with_len a m)) i 0
+  at_front : (m n i : ℕ) → m ≤ n → i < length (filter p (range_with_len a m))
+      → get_or (filter p (range_with_len a n)) i 0 ≡ get_or (filter p (range_with_len a m)) i 0
   at_front m n i h inside =
       ap (λ xs. get_or xs i 0) (parts m (n - m) n (a + m) (omega arith) refl) ∙ get_or-append (filter p (range_with_len a m)) (filter p (range_with_len (a + m) (n - m))) 0 i inside
 
@@ -69,7 +72,9 @@ module _ (p : ℕ → Bool) (a : ℕ) where
       omega arith
 
   -- how many of them lie before the day d
-  pub before : (n k d count : ℕ) → k ≡ d - a → count ≡ min (length (filter p (range_with_len a k))) (length (filter p (range_with_len a n))) → AreBefore (filter p (range_with_len a n)) d count
+  pub before : (n k d count : ℕ) → k ≡ d - a
+      → count ≡ min (length (filter p (range_with_len a k))) (length (filter p (range_with_len a n)))
+      → AreBefore (filter p (range_with_len a n)) d count
   before n k d count e f = ⊎_elim (λ h. longer h) (λ h. within h) (cases_lt n k)
     where
       first : List ℕ
@@ -108,11 +113,13 @@ module _ (p : ℕ → Bool) (a : ℕ) where
 -- ---- the days of a test that comes again after c days
 
 module _ (p : ℕ → Bool) (a c : ℕ) (again : (d : ℕ) → a ≤ d → p (d + c) ≡ p d) where
-  moved : (t : Bool) (x b : ℕ) (xs ys : List ℕ) → b ≡ x + c → ys ≡ map (λ d. d + c) xs → cond t (b ∷ ys) ys ≡ map (λ d. d + c) (cond t (x ∷ xs) xs)
+  moved : (t : Bool) (x b : ℕ) (xs ys : List ℕ) → b ≡ x + c → ys ≡ map (λ d. d + c) xs
+      → cond t (b ∷ ys) ys ≡ map (λ d. d + c) (cond t (x ∷ xs) xs)
   moved true x b xs ys e f = rw (e, f)
   moved false x b xs ys e f = f
 
-  later : (n x b : ℕ) → a ≤ x → b ≡ x + c → filter p (range_with_len b n) ≡ map (λ d. d + c) (filter p (range_with_len x n))
+  later : (n x b : ℕ) → a ≤ x → b ≡ x + c
+      → filter p (range_with_len b n) ≡ map (λ d. d + c) (filter p (range_with_len x n))
   later zero x b h e = refl
   later (suc n) x b h e =
       let same : p b ≡ p x = ap p e ∙ again x h in
@@ -120,17 +127,23 @@ module _ (p : ℕ → Bool) (a c : ℕ) (again : (d : ℕ) → a ≤ d → p (d 
       rw same (moved (p x) x b (filter p (range_with_len (x + 1) n)) (filter p (range_with_len (b + 1) n)) e rest)
 
   -- one round more
-  round_more : (n t : ℕ) → t ≡ c + n → filter p (range_with_len a t) ≡ filter p (range_with_len a c) ++ map (λ d. d + c) (filter p (range_with_len a n))
+  round_more : (n t : ℕ) → t ≡ c + n
+      → filter p (range_with_len a t) ≡ filter p (range_with_len a c)
+      ++ map (λ d. d + c) (filter p (range_with_len a n))
   round_more n t e =
       parts p a c n t (a + c) e refl ∙ ap (λ xs. filter p (range_with_len a c) ++ xs) (later n a (a + c) (omega arith) refl)
 
-  counted_more : (n t : ℕ) → t ≡ c + n → length (filter p (range_with_len a t)) ≡ length (filter p (range_with_len a c)) + length (filter p (range_with_len a n))
+  counted_more : (n t : ℕ) → t ≡ c + n
+      → length (filter p (range_with_len a t)) ≡ length (filter p (range_with_len a c))
+      + length (filter p (range_with_len a n))
   counted_more n t e =
       ap length (round_more n t e) ∙ length-append (filter p (range_with_len a c)) (map (λ d. d + c) (filter p (range_with_len a n)))
       ∙ ap (λ k. length (filter p (range_with_len a c)) + k) (length-map (filter p (range_with_len a n)) (λ d. d + c))
 
   -- in k rounds and r days
-  pub counted : (k r t : ℕ) → t ≡ k * c + r → length (filter p (range_with_len a t)) ≡ k * length (filter p (range_with_len a c)) + length (filter p (range_with_len a r))
+  pub counted : (k r t : ℕ) → t ≡ k * c + r
+      → length (filter p (range_with_len a t)) ≡ k * length (filter p (range_with_len a c))
+      + length (filter p (range_with_len a r))
   counted zero r t e =
       let same : t ≡ r = omega (arith, nats.zero-mul c) in
       rw (same, nats.zero-mul) (omega arith)
@@ -142,7 +155,10 @@ module _ (p : ℕ → Bool) (a c : ℕ) (again : (d : ℕ) → a ≤ d → p (d 
       omega arith
 
   -- the j-th day of the round after k others
-  pub found : (k j n : ℕ) → j < length (filter p (range_with_len a c)) → k * length (filter p (range_with_len a c)) + j < length (filter p (range_with_len a n)) → get_or (filter p (range_with_len a n)) (k * length (filter p (range_with_len a c)) + j) 0 ≡ get_or (filter p (range_with_len a c)) j 0 + k * c
+  pub found : (k j n : ℕ) → j < length (filter p (range_with_len a c))
+      → k * length (filter p (range_with_len a c)) + j < length (filter p (range_with_len a n))
+      → get_or (filter p (range_with_len a n)) (k * length (filter p (range_with_len a c)) + j) 0
+      ≡ get_or (filter p (range_with_len a c)) j 0 + k * c
   found zero j n inside h =
       let z : zero * length (filter p (range_with_len a c)) + j ≡ j = omega (arith, nats.zero-mul (length (filter p (range_with_len a c)))) in
       let y : zero * c ≡ 0 = nats.zero-mul c in
@@ -158,7 +174,10 @@ module _ (p : ℕ → Bool) (a c : ℕ) (again : (d : ℕ) → a ≤ d → p (d 
           let m = suc-mul k (length first) in
           omega arith
 
-      long : c ≤ n → (k * length first + j < length (filter p (range_with_len a (n - c))) → get_or (filter p (range_with_len a (n - c))) (k * length first + j) 0 ≡ get_or first j 0 + k * c) → get_or (filter p (range_with_len a n)) (suc k * length first + j) 0 ≡ get_or first j 0 + suc k * c
+      long : c ≤ n
+          → (k * length first + j < length (filter p (range_with_len a (n - c)))
+          → get_or (filter p (range_with_len a (n - c))) (k * length first + j) 0 ≡ get_or first j 0 + k * c)
+          → get_or (filter p (range_with_len a n)) (suc k * length first + j) 0 ≡ get_or first j 0 + suc k * c
       long l before_it =
           let rest = filter p (range_with_len a (n - c)) in
           let m = suc-mul k (length first) in

@@ -1,13 +1,14 @@
 -- The carrier and the legs of a data set are right in what dates are reckoned from.
 use Rattle.std.proofs.Common.{◌≡◌, ℕ, ◌+◌, ◌*◌, ◌<◌, ◌≤◌, List, [], ◌∷◌, Option, Some, None, All, ⊎_elim, sym, subst, ℤ, pos, negsuc, ◌-ℤ◌, ◌≤ℤ◌, unwrap_or, arith}
+use Rattle.ssim_flights.proofs.Common.{Leg}
 use Rattle.std.proofs.lemmas.List.Elements.{All-nil, All-cons}
 use Rattle.jiff_core.proofs.SignedLemmas.{signed_arith}
 use Rattle.airline_base.specs.Days.{IsDate, IsDayField}
 use Rattle.airline_base.proofs.Years.{high_century, low_century}
 use Rattle.ssim_records.specs.SetText.{IsBody, IsDataSet, IsLeg, IsOffset, IsShift, IsUntil}
-use Rattle.ssim_records.specs.declared.carrier.Leg.{Leg}
 use Rattle.ssim_records.specs.declared.set.DataSet.{DataSet}
 use Rattle.ssim_flights.specs.Right.{IsOfCentury, IsRightCarrier, IsRightLeg}
+use Rattle.ssim_records.proofs.RightLaws.{right_offset, right_shift}
 
 -- ---- the years 2000 to 2099
 
@@ -21,7 +22,8 @@ of_century year m d n small date =
 day_right : (text : List ℕ) (n : ℕ) → IsDayField text n → IsOfCentury n
 day_right text n d = of_century d.year d.month d.day n d.century d.date
 
-until_right : (from : ℕ) (text : List ℕ) (to : Option ℕ) → from ≤ 47481 → IsUntil from text to → unwrap_or to from ≤ 47481
+until_right : (from : ℕ) (text : List ℕ) (to : Option ℕ) → from ≤ 47481 → IsUntil from text to
+    → unwrap_or to from ≤ 47481
 until_right from text None high u = high
 until_right from text (Some to) high u = (day_right text to u.0).lasts
 
@@ -37,30 +39,19 @@ plus_right n z few e = subst (λ (x : ℤ). (negsuc 1438 ≤ℤ x) × (x ≤ℤ 
 minus_right : (n : ℕ) (z : ℤ) → n ≤ 1439 → z ≡ pos 0 -ℤ pos n → (negsuc 1438 ≤ℤ z) × (z ≤ℤ pos 1439)
 minus_right n z few e = subst (λ (x : ℤ). (negsuc 1438 ≤ℤ x) × (x ≤ℤ pos 1439)) (sym e) (omega (arith, signed_arith), omega (arith, signed_arith))
 
-offset_right : (text : List ℕ) (z : ℤ) → IsOffset text z → (negsuc 1438 ≤ℤ z) × (z ≤ℤ pos 1439)
-offset_right text z h =
-    let hours = h.2 in
-    let minutes = h.3 in
-    let few : 60 * h.0 + h.1 ≤ 1439 = omega arith in
-    ⊎_elim (λ p. plus_right (60 * h.0 + h.1) z few p.1) (λ p. minus_right (60 * h.0 + h.1) z few p.1) h.4
-
 small_right : (n : ℕ) (z : ℤ) → n ≤ 7 → z ≡ pos n → (negsuc 0 ≤ℤ z) × (z ≤ℤ pos 7)
 small_right n z few e = subst (λ (x : ℤ). (negsuc 0 ≤ℤ x) × (x ≤ℤ pos 7)) (sym e) (omega (arith, signed_arith), omega (arith, signed_arith))
 
 early_right : (z : ℤ) → z ≡ negsuc 0 → (negsuc 0 ≤ℤ z) × (z ≤ℤ pos 7)
 early_right z e = subst (λ (x : ℤ). (negsuc 0 ≤ℤ x) × (x ≤ℤ pos 7)) (sym e) (omega (arith, signed_arith), omega (arith, signed_arith))
 
-shift_right : (text : List ℕ) (z : ℤ) → IsShift text z → (negsuc 0 ≤ℤ z) × (z ≤ℤ pos 7)
-shift_right text z h =
-    ⊎_elim (λ p. small_right 0 z (omega arith) p.1) (λ rest. ⊎_elim (λ p. small_right p.0 z p.1 p.3) (λ p. early_right z p.1) rest) h
-
 -- ---- records
 
 leg_right : (airline text : List ℕ) (leg : Leg) → IsLeg airline text leg → IsRightLeg leg
 leg_right airline text leg is =
     let from = day_right _ leg.from is.from in
-    let offset = offset_right _ leg.offset is.offset in
-    let shift = shift_right _ leg.shift is.shift in
+    let offset = right_offset _ leg.offset is.offset in
+    let shift = right_shift _ leg.shift is.shift in
     record {
       from = from;
       to = until_right leg.from _ leg.to from.lasts is.to;
@@ -71,7 +62,8 @@ leg_right airline text leg is =
       later = shift.1;
     }
 
-body_right : (airline : List ℕ) (before : ℕ) (texts : List (List ℕ)) (legs : List Leg) (segments : ℕ) → IsBody airline before texts legs segments → All IsRightLeg legs
+body_right : (airline : List ℕ) (before : ℕ) (texts : List (List ℕ)) (legs : List Leg) (segments : ℕ)
+    → IsBody airline before texts legs segments → All IsRightLeg legs
 body_right airline before [] legs segments h = subst (λ (l : List Leg). All IsRightLeg l) (sym h.0) (All-nil IsRightLeg)
 body_right airline before (text ∷ texts) legs segments h =
     ⊎_elim

@@ -14,7 +14,8 @@ Index = HashMap Wanted Place (BuildHasherDefault FoldHasher)
 
 -- the new index has these places before those of the old one
 pub record Puts (old new : Index) (places : List (Wanted × Place)) : Type 0 where
-  pub at : (w : Wanted) → get same_wanted new w ≡ option_or (lookup (λ k. same_wanted k w) places) (get same_wanted old w)
+  pub at : (w : Wanted)
+      → get same_wanted new w ≡ option_or (lookup (λ k. same_wanted k w) places) (get same_wanted old w)
 
 -- the index has these places, and no others
 pub record IsIndex (index : Index) (places : List (Wanted × Place)) : Type 0 where

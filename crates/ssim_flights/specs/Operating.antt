@@ -43,7 +43,8 @@ abbrev pub OperatingDaysAscend : Type 0
 OperatingDaysAscend = (leg : Leg) (end : ℕ) → IsStrictlyIncreasing (operating_days leg end)
 
 abbrev pub OperatingDaysLieWithin : Type 0
-OperatingDaysLieWithin = (leg : Leg) (end : ℕ) → All (λ d. (leg.from ≤ d) × (d ≤ last_day leg end)) (operating_days leg end)
+OperatingDaysLieWithin = (leg : Leg) (end : ℕ)
+    → All (λ d. (leg.from ≤ d) × (d ≤ last_day leg end)) (operating_days leg end)
 
 -- a day on which a leg operates, and the local day of its departure
 pub record Operation : Type 0 where

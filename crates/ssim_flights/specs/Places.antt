@@ -32,12 +32,14 @@ place flight from to = record { flight = flight; from = from; to = to }
 -- the places that begin with leg `from` of flight n, by the leg that they end with, each with what it serves
 abbrev pub ends_from : Flight → ℕ → ℕ → DatedLeg → ℕ → List DatedLeg → List (Wanted × Place)
 ends_from flight n from first to [] = []
-ends_from flight n from first to (leg ∷ legs) = (wish flight first leg, place n from to) ∷ ends_from flight n from first (to + 1) legs
+ends_from flight n from first to (leg ∷ legs) =
+    (wish flight first leg, place n from to) ∷ ends_from flight n from first (to + 1) legs
 
 -- the places of flight n from leg `from` on, by the leg that they begin with
 abbrev pub places_from : Flight → ℕ → ℕ → List DatedLeg → List (Wanted × Place)
 places_from flight n from [] = []
-places_from flight n from (leg ∷ legs) = ends_from flight n from leg from (leg ∷ legs) ++ places_from flight n (from + 1) legs
+places_from flight n from (leg ∷ legs) =
+    ends_from flight n from leg from (leg ∷ legs) ++ places_from flight n (from + 1) legs
 
 -- all places, in the order of flight, first leg and last leg
 abbrev pub places : ℕ → List Flight → List (Wanted × Place)

@@ -34,7 +34,8 @@ days_after false leg = leg.shift +ℤ int_div_euclid (pos leg.std +ℤ leg.offse
 
 -- a leg with its operations, in order
 unfoldable pub scheduled : Plan → Leg → Scheduled
-scheduled plan leg = record { leg = leg; operations = map (operation (days_after plan.local leg)) (operating_days leg plan.end) }
+scheduled plan leg =
+    record { leg = leg; operations = map (operation (days_after plan.local leg)) (operating_days leg plan.end) }
 
 abbrev pub schedule : Plan → List Leg → List Scheduled
 schedule plan legs = map (scheduled plan) legs

@@ -172,7 +172,8 @@ fn too_many_flights(
 ) -> Option<u32>
     requires indices { indices.now ≡ rows plan.now chained.now }
     requires small { count < 2 ^ 63 }
-    ensures { result ≡ leg_one_if (nat_lt plan.now.most (count + length (flights_on plan.now chained.now))) chained.now }
+    ensures { result ≡ leg_one_if (nat_lt plan.now.most (count + length (flights_on plan.now chained.now)))
+        chained.now }
 {
     let Some((first, _rest)) = chained.split_first() else {
         return None;

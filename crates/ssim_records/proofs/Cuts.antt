@@ -11,11 +11,13 @@ use Rattle.airline_base.specs.Bytes.{is_printable}
 use Rattle.airline_base.proofs.Tests.{both_true}
 use Rattle.ssim_records.specs.Cut.{newline_at, end_at, ended, cut_at}
 
-unless : {A : Type 0} (b : Bool) (kind : SetKind) (r : Result A SetKind) (y : A) → cond b (Err kind) r ≡ Ok y → (b ≡ false) × (r ≡ Ok y)
+unless : {A : Type 0} (b : Bool) (kind : SetKind) (r : Result A SetKind) (y : A) → cond b (Err kind) r ≡ Ok y
+    → (b ≡ false) × (r ≡ Ok y)
 unless true kind r y e = absurd cc
 unless false kind r y e = (refl, e)
 
-where_true : {A : Type 0} (b : Bool) (kind : SetKind) (r : Result A SetKind) (y : A) → cond b r (Err kind) ≡ Ok y → (b ≡ true) × (r ≡ Ok y)
+where_true : {A : Type 0} (b : Bool) (kind : SetKind) (r : Result A SetKind) (y : A) → cond b r (Err kind) ≡ Ok y
+    → (b ≡ true) × (r ≡ Ok y)
 where_true true kind r y e = (refl, e)
 where_true false kind r y e = absurd cc
 
@@ -28,7 +30,8 @@ ok_is x y e = cc
 some_is : (x y : List ℕ) → Some x ≡ Some y → x ≡ y
 some_is x y e = cc
 
-newline_rest_of : (b : Bool) (c : ℕ) (bytes rest : List ℕ) → cond b (Some bytes) None ≡ Some rest → length rest ≤ length (c ∷ bytes)
+newline_rest_of : (b : Bool) (c : ℕ) (bytes rest : List ℕ) → cond b (Some bytes) None ≡ Some rest
+    → length rest ≤ length (c ∷ bytes)
 newline_rest_of true c bytes rest e = omega (arith, ap length (some_is bytes rest e))
 newline_rest_of false c bytes rest e = absurd cc
 
@@ -36,7 +39,8 @@ newline_rest : (bytes rest : List ℕ) → newline_at bytes ≡ Some rest → le
 newline_rest [] rest e = absurd cc
 newline_rest (c ∷ bytes) rest e = newline_rest_of (eqb c 10) c bytes rest e
 
-end_rest_of : (b d : Bool) (c : ℕ) (bytes rest : List ℕ) → cond b (Some bytes) (cond d (newline_at bytes) (Some (c ∷ bytes))) ≡ Some rest → length rest ≤ length (c ∷ bytes)
+end_rest_of : (b d : Bool) (c : ℕ) (bytes rest : List ℕ)
+    → cond b (Some bytes) (cond d (newline_at bytes) (Some (c ∷ bytes))) ≡ Some rest → length rest ≤ length (c ∷ bytes)
 end_rest_of true d c bytes rest e = omega (arith, ap length (some_is bytes rest e))
 end_rest_of false true c bytes rest e = omega (arith, newline_rest bytes rest e)
 end_rest_of false false c bytes rest e = omega (arith, ap length (some_is (c ∷ bytes) rest e))
@@ -64,7 +68,8 @@ abbrev Starts : List ℕ → Type 0
 Starts [] = Unit {0}
 Starts (c ∷ rest) = is_printable c ≡ true
 
-front_prints : (bytes text more : List ℕ) → length text ≡ 200 → list_all is_printable text ≡ true → bytes ≡ text ++ more → Starts bytes
+front_prints : (bytes text more : List ℕ) → length text ≡ 200 → list_all is_printable text ≡ true → bytes ≡ text ++ more
+    → Starts bytes
 front_prints bytes [] more len all e = absurd (omega arith)
 front_prints bytes (c ∷ text) more len all e = rw e (both_true (is_printable c) (list_all is_printable text) all).0
 
@@ -84,14 +89,16 @@ end_again end rest (inl none) h = rw none (end_none rest h)
 end_again end rest (inr (inl lf)) h = rw lf refl
 end_again end rest (inr (inr crlf)) h = rw crlf refl
 
-pub cut_again : (bytes text : List ℕ) (texts : List (List ℕ)) (h : IsCut bytes (text ∷ texts)) → cut_at bytes ≡ Ok (text, h.1)
+pub cut_again : (bytes text : List ℕ) (texts : List (List ℕ)) (h : IsCut bytes (text ∷ texts))
+    → cut_at bytes ≡ Ok (text, h.1)
 unfolding cut_at
 cut_again bytes text texts h =
     let long : ltb (length (text ++ (h.0 ++ h.1))) 200 ≡ false = le-ltb _ _ (omega (arith, length-append text (h.0 ++ h.1), h.2)) in
     let end = end_again h.0 h.1 h.4 (cut_starts h.1 texts h.6) in
     ap cut_at h.5 ∙ rw (long, take_at text (h.0 ++ h.1) 200 h.2, drop_at text (h.0 ++ h.1) 200 h.2, h.3, end) refl
 
-newline_takes_of : (b : Bool) (c : ℕ) (bytes rest : List ℕ) → eqb c 10 ≡ b → cond b (Some bytes) None ≡ Some rest → c ∷ bytes ≡ 10 ∷ rest
+newline_takes_of : (b : Bool) (c : ℕ) (bytes rest : List ℕ) → eqb c 10 ≡ b → cond b (Some bytes) None ≡ Some rest
+    → c ∷ bytes ≡ 10 ∷ rest
 newline_takes_of true c bytes rest is e = ap (λ (x : ℕ). x ∷ bytes) (eqb-true c 10 is) ∙ ap (λ (x : List ℕ). 10 ∷ x) (some_is bytes rest e)
 newline_takes_of false c bytes rest is e = absurd cc
 
@@ -99,7 +106,9 @@ newline_takes : (bytes rest : List ℕ) → newline_at bytes ≡ Some rest → b
 newline_takes [] rest e = absurd cc
 newline_takes (c ∷ bytes) rest e = newline_takes_of (eqb c 10) c bytes rest refl e
 
-end_takes_of : (b d : Bool) (c : ℕ) (bytes rest : List ℕ) → eqb c 10 ≡ b → eqb c 13 ≡ d → cond b (Some bytes) (cond d (newline_at bytes) (Some (c ∷ bytes))) ≡ Some rest → (end : List ℕ) × IsEnd end × (c ∷ bytes ≡ end ++ rest)
+end_takes_of : (b d : Bool) (c : ℕ) (bytes rest : List ℕ) → eqb c 10 ≡ b → eqb c 13 ≡ d
+    → cond b (Some bytes) (cond d (newline_at bytes) (Some (c ∷ bytes))) ≡ Some rest
+    → (end : List ℕ) × IsEnd end × (c ∷ bytes ≡ end ++ rest)
 end_takes_of true d c bytes rest is cr e = (10 ∷ [], inr (inl refl), ap (λ (x : ℕ). x ∷ bytes) (eqb-true c 10 is) ∙ ap (λ (x : List ℕ). 10 ∷ x) (some_is bytes rest e))
 end_takes_of false true c bytes rest is cr e = (13 ∷ 10 ∷ [], inr (inr refl), ap (λ (x : ℕ). x ∷ bytes) (eqb-true c 13 cr) ∙ ap (λ (x : List ℕ). 13 ∷ x) (newline_takes bytes rest e))
 end_takes_of false false c bytes rest is cr e = ([], inl refl, some_is (c ∷ bytes) rest e)
@@ -108,14 +117,17 @@ end_takes : (bytes rest : List ℕ) → end_at bytes ≡ Some rest → (end : Li
 end_takes [] rest e = ([], inl refl, some_is [] rest e)
 end_takes (c ∷ bytes) rest e = end_takes_of (eqb c 10) (eqb c 13) c bytes rest refl refl e
 
-ended_takes : (front : List ℕ) (o : Option (List ℕ)) (text rest : List ℕ) → ended front o ≡ Ok (text, rest) → (front ≡ text) × (o ≡ Some rest)
+ended_takes : (front : List ℕ) (o : Option (List ℕ)) (text rest : List ℕ) → ended front o ≡ Ok (text, rest)
+    → (front ≡ text) × (o ≡ Some rest)
 ended_takes front None text rest e = absurd cc
 ended_takes front (Some r) text rest e =
     let p = ok_is (front, r) (text, rest) e in
     (ap (λ (x : List ℕ × List ℕ). x.0) p, ap (λ (x : List ℕ × List ℕ). Some x.1) p)
 
 -- a record that was cut off, with its end
-pub cut_takes : (bytes text rest : List ℕ) → cut_at bytes ≡ Ok (text, rest) → (end : List ℕ) × (length text ≡ 200) × (list_all is_printable text ≡ true) × IsEnd end × (bytes ≡ text ++ (end ++ rest))
+pub cut_takes : (bytes text rest : List ℕ) → cut_at bytes ≡ Ok (text, rest)
+    → (end : List ℕ) × (length text ≡ 200) × (list_all is_printable text ≡ true) × IsEnd end
+    × (bytes ≡ text ++ (end ++ rest))
 unfolding cut_at
 cut_takes bytes text rest e =
     let a = unless (ltb (length bytes) 200) kinds.Short _ (text, rest) e in

@@ -38,7 +38,8 @@ padded_takes text n e =
     let some : 0 < length run = grind (arith, nat_tests, t.0) in
     record { blanks = take (prefix_len (λ c. eqb c 32) text) text; digits = run; parts = sym (take-append-drop (prefix_len (λ c. eqb c 32) text) text); blank = run_all (λ c. eqb c 32) text; digit = t.1; some = some; value = sym p.1 }
 
-padded_of : (blanks digits : List ℕ) → list_all (λ c. eqb c 32) blanks ≡ true → list_all is_ascii_digit digits ≡ true → 0 < length digits → padded_in (blanks ++ digits) ≡ Some (digits_value 10 digits)
+padded_of : (blanks digits : List ℕ) → list_all (λ c. eqb c 32) blanks ≡ true → list_all is_ascii_digit digits ≡ true
+    → 0 < length digits → padded_in (blanks ++ digits) ≡ Some (digits_value 10 digits)
 unfolding padded_in
 padded_of blanks [] blank digit some = absurd (omega arith)
 padded_of blanks (d ∷ digits) blank digit some =
@@ -86,7 +87,8 @@ six_again text n h =
 
 -- ---- names
 
-mode_of : (a b : Bool) (c : ℕ) (local : Bool) → eqb c 85 ≡ a → eqb c 76 ≡ b → cond a (Some false) (cond b (Some true) None) ≡ Some local → IsMode (c ∷ []) local
+mode_of : (a b : Bool) (c : ℕ) (local : Bool) → eqb c 85 ≡ a → eqb c 76 ≡ b
+    → cond a (Some false) (cond b (Some true) None) ≡ Some local → IsMode (c ∷ []) local
 mode_of true b c local x y e = subst (IsMode (c ∷ [])) (some_is false local e) (ap (λ (k : ℕ). k ∷ []) (eqb-true c 85 x))
 mode_of false true c local x y e = subst (IsMode (c ∷ [])) (some_is true local e) (ap (λ (k : ℕ). k ∷ []) (eqb-true c 76 y))
 mode_of false false c local x y e = absurd (none_some local e)
@@ -120,17 +122,20 @@ designator_again text (a ∷ []) h = absurd (cc (h.0))
 designator_again text (a ∷ b ∷ []) h = ap designator_in h.1 ∙ kept (is_airline (a ∷ b ∷ []) && true) (Some (a ∷ b ∷ [])) (both_are (is_airline (a ∷ b ∷ [])) true h.0 refl)
 designator_again text (a ∷ b ∷ c ∷ airline) h = absurd (cc (h.0))
 
-pub station_takes : (text station : List ℕ) → station_in text ≡ Some station → IsTrue (is_station station) × (text ≡ station)
+pub station_takes : (text station : List ℕ) → station_in text ≡ Some station
+    → IsTrue (is_station station) × (text ≡ station)
 unfolding station_in
 station_takes text station e =
     let p = passed (is_station text) text station e in
     (subst (λ (x : List ℕ). is_station x ≡ true) p.1 p.0, p.1)
 
-pub station_again : (text station : List ℕ) → IsTrue (is_station station) × (text ≡ station) → station_in text ≡ Some station
+pub station_again : (text station : List ℕ) → IsTrue (is_station station) × (text ≡ station)
+    → station_in text ≡ Some station
 unfolding station_in
 station_again text station h = ap station_in h.1 ∙ kept (is_station station) (Some station) h.0
 
-suffix_of : (a b : Bool) (c : ℕ) (suffix : Option ℕ) → eqb c 32 ≡ a → is_ascii_uppercase c ≡ b → cond a (Some None) (cond b (Some (Some c)) None) ≡ Some suffix → IsSuffix (c ∷ []) suffix
+suffix_of : (a b : Bool) (c : ℕ) (suffix : Option ℕ) → eqb c 32 ≡ a → is_ascii_uppercase c ≡ b
+    → cond a (Some None) (cond b (Some (Some c)) None) ≡ Some suffix → IsSuffix (c ∷ []) suffix
 suffix_of true b c suffix x y e = subst (IsSuffix (c ∷ [])) (some_is None suffix e) (ap (λ (k : ℕ). k ∷ []) (eqb-true c 32 x))
 suffix_of false true c suffix x y e = subst (IsSuffix (c ∷ [])) (some_is (Some c) suffix e) (y, refl)
 suffix_of false false c suffix x y e = absurd (none_some suffix e)
@@ -164,7 +169,8 @@ pub length_days : (k : ℕ) (days : List Bool) → length (days_text k days) ≡
 length_days k [] = refl
 length_days k (day ∷ days) = let e = length_days (k + 1) days in omega (arith, e)
 
-day_of : (a b : Bool) (k c : ℕ) (day : Bool) → eqb c (48 + k) ≡ a → eqb c 32 ≡ b → cond a (Some true) (cond b (Some false) None) ≡ Some day → c ≡ cond day (48 + k) 32
+day_of : (a b : Bool) (k c : ℕ) (day : Bool) → eqb c (48 + k) ≡ a → eqb c 32 ≡ b
+    → cond a (Some true) (cond b (Some false) None) ≡ Some day → c ≡ cond day (48 + k) 32
 day_of true b k c day x y e = eqb-true c (48 + k) x ∙ ap (λ (d : Bool). cond d (48 + k) 32) (some_is true day e)
 day_of false true k c day x y e = eqb-true c 32 y ∙ ap (λ (d : Bool). cond d (48 + k) 32) (some_is false day e)
 day_of false false k c day x y e = absurd (none_some day e)
@@ -173,7 +179,9 @@ day_one : (k c : ℕ) (day : Bool) → day_in k c ≡ Some day → c ≡ cond da
 unfolding day_in
 day_one k c day e = day_of (eqb c (48 + k)) (eqb c 32) k c day refl refl e
 
-day_takes : (k c : ℕ) (rest : List ℕ) (o : Option Bool) (p : Option (List Bool)) (days : List Bool) → day_in k c ≡ o → with_day o p ≡ Some days → ((ds : List Bool) → p ≡ Some ds → rest ≡ days_text (k + 1) ds) → c ∷ rest ≡ days_text k days
+day_takes : (k c : ℕ) (rest : List ℕ) (o : Option Bool) (p : Option (List Bool)) (days : List Bool) → day_in k c ≡ o
+    → with_day o p ≡ Some days → ((ds : List Bool) → p ≡ Some ds → rest ≡ days_text (k + 1) ds)
+    → c ∷ rest ≡ days_text k days
 day_takes k c rest None p days x e f = absurd (none_some days e)
 day_takes k c rest (Some day) None days x e f = absurd (none_some days e)
 day_takes k c rest (Some day) (Some ds) days x e f = ap (λ (z : ℕ). z ∷ rest) (day_one k c day x) ∙ ap (λ (z : List ℕ). cond day (48 + k) 32 ∷ z) (f ds refl) ∙ ap (days_text k) (some_is (day ∷ ds) days e)
@@ -209,7 +217,8 @@ days_again text days h =
     let seven : eqb (length (days_text 1 days)) 7 ≡ true = rw (length_days 1 days, h.0) refl in
     ap days_in h.1 ∙ kept (eqb (length (days_text 1 days)) 7) (days_from 1 (days_text 1 days)) seven ∙ days_from_again 1 days
 
-rate_of : (a b d : Bool) (c : ℕ) (second : Bool) → eqb c 32 ≡ a → eqb c 49 ≡ b → eqb c 50 ≡ d → cond (a || b) (Some false) (cond d (Some true) None) ≡ Some second → IsRate (c ∷ []) second
+rate_of : (a b d : Bool) (c : ℕ) (second : Bool) → eqb c 32 ≡ a → eqb c 49 ≡ b → eqb c 50 ≡ d
+    → cond (a || b) (Some false) (cond d (Some true) None) ≡ Some second → IsRate (c ∷ []) second
 rate_of true b d c second x y z e = subst (IsRate (c ∷ [])) (some_is false second e) (inl (ap (λ (k : ℕ). k ∷ []) (eqb-true c 32 x)))
 rate_of false true d c second x y z e = subst (IsRate (c ∷ [])) (some_is false second e) (inr (ap (λ (k : ℕ). k ∷ []) (eqb-true c 49 y)))
 rate_of false false true c second x y z e = subst (IsRate (c ∷ [])) (some_is true second e) (ap (λ (k : ℕ). k ∷ []) (eqb-true c 50 z))
@@ -229,7 +238,8 @@ rate_again text false (inr h) = rw h refl
 
 -- ---- times
 
-time_takes_of : (a b c d n : ℕ) → two_are a b ≡ true → two_are c d ≡ true → time_is (two_value a b) (two_value c d) ≡ Some n → IsTime (a ∷ b ∷ c ∷ d ∷ []) n
+time_takes_of : (a b c d n : ℕ) → two_are a b ≡ true → two_are c d ≡ true
+    → time_is (two_value a b) (two_value c d) ≡ Some n → IsTime (a ∷ b ∷ c ∷ d ∷ []) n
 time_takes_of a b c d n h k e =
     let p = passed (ltb (two_value c d) 60 && leb (60 * two_value a b + two_value c d) 1440) (60 * two_value a b + two_value c d) n e in
     let t = both_true (ltb (two_value c d) 60) (leb (60 * two_value a b + two_value c d) 1440) p.0 in
@@ -273,16 +283,20 @@ time_again text n h =
     ap time_in h.0 ∙ kept (two_are a b && two_are c d) (time_is (two_value a b) (two_value c d)) (both_are (two_are a b) (two_are c d) hour.0 minute.0)
     ∙ time_again_of (two_value a b) (two_value c d) (n / 60) (n % 60) n hour.1 minute.1 refl refl small
 
-offset_sign : (s t : Bool) (sign total : ℕ) (z : ℤ) → eqb sign 43 ≡ s → eqb sign 45 ≡ t → cond s (Some (pos total)) (cond t (Some (pos 0 -ℤ pos total)) None) ≡ Some z → ((sign ≡ 43) × (z ≡ pos total)) ⊎ ((sign ≡ 45) × (z ≡ pos 0 -ℤ pos total))
+offset_sign : (s t : Bool) (sign total : ℕ) (z : ℤ) → eqb sign 43 ≡ s → eqb sign 45 ≡ t
+    → cond s (Some (pos total)) (cond t (Some (pos 0 -ℤ pos total)) None) ≡ Some z
+    → ((sign ≡ 43) × (z ≡ pos total)) ⊎ ((sign ≡ 45) × (z ≡ pos 0 -ℤ pos total))
 offset_sign true t sign total z x y e = inl (eqb-true sign 43 x, sym (some_is (pos total) z e))
 offset_sign false true sign total z x y e = inr (eqb-true sign 45 y, sym (some_is (pos 0 -ℤ pos total) z e))
 offset_sign false false sign total z x y e = absurd (none_some z e)
 
-offset_signed : (sign total : ℕ) (z : ℤ) → signed_in sign total ≡ Some z → ((sign ≡ 43) × (z ≡ pos total)) ⊎ ((sign ≡ 45) × (z ≡ pos 0 -ℤ pos total))
+offset_signed : (sign total : ℕ) (z : ℤ) → signed_in sign total ≡ Some z
+    → ((sign ≡ 43) × (z ≡ pos total)) ⊎ ((sign ≡ 45) × (z ≡ pos 0 -ℤ pos total))
 unfolding signed_in
 offset_signed sign total z e = offset_sign (eqb sign 43) (eqb sign 45) sign total z refl refl e
 
-offset_takes_of : (sign a b c d : ℕ) (z : ℤ) → two_are a b ≡ true → two_are c d ≡ true → offset_is sign (two_value a b) (two_value c d) ≡ Some z → IsOffset (sign ∷ a ∷ b ∷ c ∷ d ∷ []) z
+offset_takes_of : (sign a b c d : ℕ) (z : ℤ) → two_are a b ≡ true → two_are c d ≡ true
+    → offset_is sign (two_value a b) (two_value c d) ≡ Some z → IsOffset (sign ∷ a ∷ b ∷ c ∷ d ∷ []) z
 offset_takes_of sign a b c d z h k e =
     let hours = two_value a b in
     let minutes = two_value c d in
@@ -314,7 +328,8 @@ offset_takes (s ∷ a ∷ b ∷ c ∷ d ∷ []) z e =
     offset_takes_of s a b c d z t.0 t.1 g.1
 offset_takes (s ∷ a ∷ b ∷ c ∷ d ∷ f ∷ text) z e = absurd cc
 
-offset_again_of : (sign hours minutes : ℕ) → hours < 24 → minutes < 60 → offset_in (sign ∷ two_digits hours ++ two_digits minutes) ≡ offset_is sign hours minutes
+offset_again_of : (sign hours minutes : ℕ) → hours < 24 → minutes < 60
+    → offset_in (sign ∷ two_digits hours ++ two_digits minutes) ≡ offset_is sign hours minutes
 unfolding offset_in
 offset_again_of sign hours minutes x y =
     let p = two_again hours (omega arith) in
@@ -326,14 +341,16 @@ offset_again_of sign hours minutes x y =
     kept (two_are a b && two_are c d) (offset_is sign (two_value a b) (two_value c d)) (both_are (two_are a b) (two_are c d) p.0 q.0)
     ∙ ap (λ (i : ℕ). offset_is sign i (two_value c d)) p.1 ∙ ap (offset_is sign hours) q.1
 
-offset_plus : (hours minutes : ℕ) → hours < 24 → minutes < 60 → offset_is 43 hours minutes ≡ Some (pos (60 * hours + minutes))
+offset_plus : (hours minutes : ℕ) → hours < 24 → minutes < 60
+    → offset_is 43 hours minutes ≡ Some (pos (60 * hours + minutes))
 unfolding signed_in
 offset_plus hours minutes x y =
     let h : ltb hours 24 ≡ true = grind (arith, nat_tests, x) in
     let m : ltb minutes 60 ≡ true = grind (arith, nat_tests, y) in
     kept (ltb hours 24 && ltb minutes 60) (Some (pos (60 * hours + minutes))) (both_are (ltb hours 24) (ltb minutes 60) h m)
 
-offset_minus : (hours minutes : ℕ) → hours < 24 → minutes < 60 → offset_is 45 hours minutes ≡ Some (pos 0 -ℤ pos (60 * hours + minutes))
+offset_minus : (hours minutes : ℕ) → hours < 24 → minutes < 60
+    → offset_is 45 hours minutes ≡ Some (pos 0 -ℤ pos (60 * hours + minutes))
 unfolding signed_in
 offset_minus hours minutes x y =
     let h : ltb hours 24 ≡ true = grind (arith, nat_tests, x) in
@@ -346,7 +363,9 @@ offset_again text z h = elim h.4 [
   | inr p ↦ ap offset_in p.0 ∙ offset_again_of 45 h.0 h.1 h.2 h.3 ∙ offset_minus h.0 h.1 h.2 h.3 ∙ ap (λ (i : ℤ). Some i) (sym p.1)
 ]
 
-shift_of : (a b d f : Bool) (c : ℕ) (z : ℤ) → eqb c 32 ≡ a → (leb 48 c && leb c 55) ≡ b → eqb c 65 ≡ d → eqb c 74 ≡ f → cond a (Some (pos 0)) (cond b (Some (pos (c - 48))) (cond (d || f) (Some (negsuc 0)) None)) ≡ Some z → IsShift (c ∷ []) z
+shift_of : (a b d f : Bool) (c : ℕ) (z : ℤ) → eqb c 32 ≡ a → (leb 48 c && leb c 55) ≡ b → eqb c 65 ≡ d → eqb c 74 ≡ f
+    → cond a (Some (pos 0)) (cond b (Some (pos (c - 48))) (cond (d || f) (Some (negsuc 0)) None)) ≡ Some z
+    → IsShift (c ∷ []) z
 shift_of true b d f c z x y w v e = inl (ap (λ (k : ℕ). k ∷ []) (eqb-true c 32 x), sym (some_is (pos 0) z e))
 shift_of false true d f c z x y w v e =
     let t = both_true (leb 48 c) (leb c 55) y in
@@ -380,7 +399,8 @@ shift_again text z (inr (inl h)) = ap shift_in h.2 ∙ shift_digit h.0 h.1 ∙ a
 shift_again text z (inr (inr (inl a, k))) = rw (a, k) refl
 shift_again text z (inr (inr (inr j, k))) = rw (j, k) refl
 
-more_of : (a b : Bool) (c : ℕ) → eqb c 69 ≡ a → cond a (Some false) (cond b (Some true) None) ≡ Some false → c ∷ [] ≡ codes "E"
+more_of : (a b : Bool) (c : ℕ) → eqb c 69 ≡ a → cond a (Some false) (cond b (Some true) None) ≡ Some false
+    → c ∷ [] ≡ codes "E"
 more_of true b c x e = ap (λ (k : ℕ). k ∷ []) (eqb-true c 69 x)
 more_of false true c x e = let no : true ≡ false = some_is true false e in absurd cc
 more_of false false c x e = absurd (none_some false e)
@@ -397,14 +417,16 @@ last_again text h = rw h refl
 
 -- ---- the end of a period
 
-not_before_takes : (from : ℕ) (o to : Option ℕ) (p : Option (Option ℕ)) → not_before from o ≡ Some to → (k : ℕ) × (o ≡ Some k) × (from ≤ k) × (Some k ≡ to)
+not_before_takes : (from : ℕ) (o to : Option ℕ) (p : Option (Option ℕ)) → not_before from o ≡ Some to
+    → (k : ℕ) × (o ≡ Some k) × (from ≤ k) × (Some k ≡ to)
 not_before_takes from None to p e = absurd (none_some to e)
 not_before_takes from (Some k) to p e =
     let g = passed (leb from k) (Some k) to e in
     let le : from ≤ k = grind (arith, nat_tests, g.0) in
     (k, refl, le, g.1)
 
-until_of : (b : Bool) (from : ℕ) (text : List ℕ) (to : Option ℕ) → same_text text open_end ≡ b → cond b (Some None) (not_before from (date_in text)) ≡ Some to → IsUntil from text to
+until_of : (b : Bool) (from : ℕ) (text : List ℕ) (to : Option ℕ) → same_text text open_end ≡ b
+    → cond b (Some None) (not_before from (date_in text)) ≡ Some to → IsUntil from text to
 until_of true from text to h e = subst (IsUntil from text) (some_is None to e) (same_takes text open_end h)
 until_of false from text to h e =
     let p = not_before_takes from (date_in text) to None e in

@@ -95,7 +95,8 @@ segment_none none serial text e =
     check_none kinds.BadOrder (not none) _ e (λ k. absurd cc) (λ e1.
     check_none kinds.BadSerial (has_serial serial text) _ e1 (λ k. absurd cc) (λ e2. some_none _ e2))
 
-numbered_none : {A : Type 0} (serial : ℕ) (r : Result A SetKind) (text : List ℕ) → (numbered_at serial r text) ≡ Err kinds.Memory → (r ≡ Err kinds.Memory → ⊥) → ⊥
+numbered_none : {A : Type 0} (serial : ℕ) (r : Result A SetKind) (text : List ℕ)
+    → (numbered_at serial r text) ≡ Err kinds.Memory → (r ≡ Err kinds.Memory → ⊥) → ⊥
 unfolding numbered_at
 numbered_none serial r text e k = check_none kinds.BadSerial (has_serial serial text) _ e (λ q. absurd cc) k
 
@@ -121,7 +122,9 @@ body_none : (x : ℕ) (c : Carrier) (s : Reader) (text : List ℕ) → (body_ste
 unfolding body_step
 body_none x c s text e = of (eqb x 51) (eqb x 52) (eqb x 53) e
   where
-    of : (a b d : Bool) → (cond a (leg_step c s text) (cond b (segment_step s text) (cond d (trailer_step c s text) (Err kinds.BadOrder)))) ≡ Err kinds.Memory → ⊥
+    of : (a b d : Bool)
+        → (cond a (leg_step c s text) (cond b (segment_step s text)
+        (cond d (trailer_step c s text) (Err kinds.BadOrder)))) ≡ Err kinds.Memory → ⊥
     of true b d h = leg_step_none c s text h
     of false true d h = segment_step_none s text h
     of false false true h = trailer_step_none c s text h
@@ -134,7 +137,8 @@ taken_none Open s text e = step_none (second_at (s.count + 1) text) _ e (second_
 taken_none (Body c) s text e = body_none (type_of text) c s text e
 taken_none (Done c) s text e = absurd cc
 
-within_none : (most : ℕ) (s : Reader) (r : Result Reader SetKind) → (within most s r) ≡ Err kinds.Memory → (r ≡ Err kinds.Memory → ⊥) → ⊥
+within_none : (most : ℕ) (s : Reader) (r : Result Reader SetKind) → (within most s r) ≡ Err kinds.Memory
+    → (r ≡ Err kinds.Memory → ⊥) → ⊥
 within_none most s (Err kind) e none = none e
 within_none most s (Ok t) e none = of (ltb s.count most) e
   where
@@ -156,13 +160,15 @@ cut_none : (bytes : List ℕ) → (cut_at bytes) ≡ Err kinds.Memory → ⊥
 unfolding cut_at
 cut_none bytes e = of (ltb (length bytes) 200) (list_all is_printable (take 200 bytes)) (end_at (drop 200 bytes)) e
   where
-    of : (a b : Bool) (o : Option (List ℕ)) → (cond a (Err kinds.Short) (cond b (ended (take 200 bytes) o) (Err kinds.BadByte))) ≡ Err kinds.Memory → ⊥
+    of : (a b : Bool) (o : Option (List ℕ))
+        → (cond a (Err kinds.Short) (cond b (ended (take 200 bytes) o) (Err kinds.BadByte))) ≡ Err kinds.Memory → ⊥
     of true b o h = absurd cc
     of false true None h = absurd cc
     of false true (Some rest) h = absurd cc
     of false false o h = absurd cc
 
-moved_none : (rest : List ℕ) (r : Result Reader SetKind) → (moved rest r) ≡ Err kinds.Memory → (r ≡ Err kinds.Memory → ⊥) → ⊥
+moved_none : (rest : List ℕ) (r : Result Reader SetKind) → (moved rest r) ≡ Err kinds.Memory
+    → (r ≡ Err kinds.Memory → ⊥) → ⊥
 moved_none rest (Ok t) e none = absurd cc
 moved_none rest (Err kind) e none = none (ap (λ (x : SetKind). refusal {A = Reader} x) (fault_is {A = Reader × List ℕ} kind kinds.Memory e))
 
@@ -170,7 +176,8 @@ pub next_none : (most : ℕ) (s : Reader) (bytes : List ℕ) → (next most s by
 unfolding next
 next_none most s bytes e = of (cut_at bytes) (cut_none bytes) e
   where
-    of : (r : Result (List ℕ × List ℕ) SetKind) → (r ≡ Err kinds.Memory → ⊥) → (cut_then most s r) ≡ Err kinds.Memory → ⊥
+    of : (r : Result (List ℕ × List ℕ) SetKind) → (r ≡ Err kinds.Memory → ⊥) → (cut_then most s r) ≡ Err kinds.Memory
+        → ⊥
     of (Err kind) none h = none (ap (λ (x : SetKind). refusal {A = List ℕ × List ℕ} x) (fault_is {A = Reader × List ℕ} kind kinds.Memory h))
     of (Ok p) none h = moved_none p.1 (step most s p.0) h (step_of_none most s p.0)
 

@@ -186,7 +186,8 @@ path_again text path h =
     let e6 = shift_again (field 193 193 text) path.shift h.shift in
     rw (e1, e2, e3, e4, e5, e6) refl
 
-pub leg_takes : (airline : List ℕ) (serial : ℕ) (text : List ℕ) (leg : Leg) → IsTyped 51 text → leg_at airline serial text ≡ Ok leg → IsLeg airline text leg × (leg.serial ≡ serial)
+pub leg_takes : (airline : List ℕ) (serial : ℕ) (text : List ℕ) (leg : Leg) → IsTyped 51 text
+    → leg_at airline serial text ≡ Ok leg → IsLeg airline text leg × (leg.serial ≡ serial)
 unfolding leg_at done
 leg_takes airline serial text leg typed e =
     with_step (leg_name_at text) _ leg e (λ name n1 k1.
@@ -241,7 +242,8 @@ leg_again airline text leg h =
 serial_less : (reference before : ℕ) → eqb reference before ≡ true → reference ≡ before + 1 - 1
 serial_less reference before h = omega (arith, eqb-true reference before h)
 
-pub trailer_takes : (airline : List ℕ) (before : ℕ) (text : List ℕ) (u : Unit {0}) → IsTyped 53 text → trailer_at airline before text ≡ Ok u → IsTrailer airline (before + 1) text
+pub trailer_takes : (airline : List ℕ) (before : ℕ) (text : List ℕ) (u : Unit {0}) → IsTyped 53 text
+    → trailer_at airline before text ≡ Ok u → IsTrailer airline (before + 1) text
 unfolding trailer_at
 trailer_takes airline before text u typed e =
     with_want (kinds.BadField 3) _ _ u e (λ own e1 k1.
@@ -263,7 +265,8 @@ trailer_takes airline before text u typed e =
     last_of true h = absurd cc
     last_of false h = refl
 
-pub trailer_again : (airline : List ℕ) (before : ℕ) (text : List ℕ) → IsTrailer airline (before + 1) text → trailer_at airline before text ≡ Ok tt
+pub trailer_again : (airline : List ℕ) (before : ℕ) (text : List ℕ) → IsTrailer airline (before + 1) text
+    → trailer_at airline before text ≡ Ok tt
 unfolding trailer_at
 trailer_again airline before text h =
     let back : before + 1 - 1 ≡ before = omega arith in
@@ -294,7 +297,8 @@ closed c s = record s { phase = Done c; count = s.count + 1 }
 abbrev pub HasSerial : Reader → List ℕ → Type 0
 HasSerial s text = IsSix (field 195 200 text) (s.count + 1)
 
-header_takes : (serial : ℕ) (text : List ℕ) (u : Unit {0}) → header_at serial text ≡ Ok u → IsHeader text × IsSix (field 195 200 text) serial
+header_takes : (serial : ℕ) (text : List ℕ) (u : Unit {0}) → header_at serial text ≡ Ok u
+    → IsHeader text × IsSix (field 195 200 text) serial
 unfolding header_at
 header_takes serial text u e =
     with_check kinds.NoHeader _ _ u e (λ e1 k1.
@@ -302,7 +306,8 @@ header_takes serial text u e =
     with_check kinds.BadSerial _ _ u k2 (λ e3 k3.
     ((typed_takes 49 text (omega arith) e1, same_takes (field 2 35 text) set_title e2), serial_takes serial text e3))))
 
-pub header_step_takes : (s : Reader) (text : List ℕ) (t : Reader) → header_step s text ≡ Ok t → IsHeader text × HasSerial s text × (opened s ≡ t)
+pub header_step_takes : (s : Reader) (text : List ℕ) (t : Reader) → header_step s text ≡ Ok t
+    → IsHeader text × HasSerial s text × (opened s ≡ t)
 unfolding header_step done
 header_step_takes s text t e =
     with_step (header_at (s.count + 1) text) _ t e (λ u k more.
@@ -312,7 +317,8 @@ header_step_takes s text t e =
 type_is : (t : ℕ) (text : List ℕ) → IsTyped t text → eqb (type_of text) t ≡ true
 type_is t text h = ap (λ (k : ℕ). eqb k t) (typed_again t text h) ∙ eqb_same t
 
-pub header_step_again : (s : Reader) (text : List ℕ) → IsHeader text → HasSerial s text → header_step s text ≡ Ok (opened s)
+pub header_step_again : (s : Reader) (text : List ℕ) → IsHeader text → HasSerial s text
+    → header_step s text ≡ Ok (opened s)
 unfolding header_step header_at
 header_step_again s text h serial =
     let e1 = type_is 49 text h.0 in
@@ -320,21 +326,24 @@ header_step_again s text h serial =
     let e3 = serial_again (s.count + 1) text serial in
     rw (e1, e2, e3) refl
 
-second_takes : (serial : ℕ) (text : List ℕ) (c : Carrier) → second_at serial text ≡ Ok c → IsCarrier text c × IsSix (field 195 200 text) serial
+second_takes : (serial : ℕ) (text : List ℕ) (c : Carrier) → second_at serial text ≡ Ok c
+    → IsCarrier text c × IsSix (field 195 200 text) serial
 unfolding second_at
 second_takes serial text c e =
     with_check kinds.BadOrder _ _ c e (λ e1 k1.
     with_check kinds.BadSerial _ _ c k1 (λ e2 k2.
     (carrier_takes text c (typed_takes 50 text (omega arith) e1) k2, serial_takes serial text e2)))
 
-pub carrier_step_takes : (s : Reader) (text : List ℕ) (t : Reader) → carrier_step s text ≡ Ok t → (c : Carrier) × IsCarrier text c × HasSerial s text × (carried c s ≡ t)
+pub carrier_step_takes : (s : Reader) (text : List ℕ) (t : Reader) → carrier_step s text ≡ Ok t
+    → (c : Carrier) × IsCarrier text c × HasSerial s text × (carried c s ≡ t)
 unfolding carrier_step done
 carrier_step_takes s text t e =
     with_step (second_at (s.count + 1) text) _ t e (λ c k more.
     let h = second_takes (s.count + 1) text c k in
     (c, h.0, h.1, ok_is (carried c s) t more))
 
-pub carrier_step_again : (s : Reader) (text : List ℕ) (c : Carrier) → IsCarrier text c → HasSerial s text → carrier_step s text ≡ Ok (carried c s)
+pub carrier_step_again : (s : Reader) (text : List ℕ) (c : Carrier) → IsCarrier text c → HasSerial s text
+    → carrier_step s text ≡ Ok (carried c s)
 unfolding carrier_step second_at
 carrier_step_again s text c h serial =
     let e1 = type_is 50 text h.typed in
@@ -342,11 +351,14 @@ carrier_step_again s text c h serial =
     let e3 = carrier_again text c h in
     rw (e1, e2, e3) refl
 
-numbered_takes : {A : Type 0} (serial : ℕ) (r : Result A SetKind) (text : List ℕ) (x : A) → numbered_at serial r text ≡ Ok x → IsSix (field 195 200 text) serial × (r ≡ Ok x)
+numbered_takes : {A : Type 0} (serial : ℕ) (r : Result A SetKind) (text : List ℕ) (x : A)
+    → numbered_at serial r text ≡ Ok x → IsSix (field 195 200 text) serial × (r ≡ Ok x)
 unfolding numbered_at
 numbered_takes serial r text x e = with_check kinds.BadSerial _ _ x e (λ e1 k1. (serial_takes serial text e1, k1))
 
-pub leg_step_takes : (c : Carrier) (s : Reader) (text : List ℕ) (t : Reader) → IsTyped 51 text → leg_step c s text ≡ Ok t → (leg : Leg) × IsLeg c.airline text leg × (leg.serial ≡ s.count + 1) × HasSerial s text × (with_leg leg s ≡ t)
+pub leg_step_takes : (c : Carrier) (s : Reader) (text : List ℕ) (t : Reader) → IsTyped 51 text
+    → leg_step c s text ≡ Ok t
+    → (leg : Leg) × IsLeg c.airline text leg × (leg.serial ≡ s.count + 1) × HasSerial s text × (with_leg leg s ≡ t)
 unfolding leg_step done
 leg_step_takes c s text t typed e =
     with_step (numbered_at (s.count + 1) (leg_at c.airline (s.count + 1) text) text) _ t e (λ leg k more.
@@ -354,7 +366,8 @@ leg_step_takes c s text t typed e =
     let is = leg_takes c.airline (s.count + 1) text leg typed h.1 in
     (leg, is.0, is.1, h.0, ok_is (with_leg leg s) t more))
 
-pub leg_step_again : (c : Carrier) (s : Reader) (text : List ℕ) (leg : Leg) → IsLeg c.airline text leg → leg.serial ≡ s.count + 1 → HasSerial s text → leg_step c s text ≡ Ok (with_leg leg s)
+pub leg_step_again : (c : Carrier) (s : Reader) (text : List ℕ) (leg : Leg) → IsLeg c.airline text leg
+    → leg.serial ≡ s.count + 1 → HasSerial s text → leg_step c s text ≡ Ok (with_leg leg s)
 unfolding leg_step numbered_at
 leg_step_again c s text leg h number serial =
     let e1 = serial_again (s.count + 1) text serial in
@@ -365,14 +378,16 @@ not_none : (b : Bool) → not b ≡ true → b ≡ false
 not_none true h = absurd cc
 not_none false h = refl
 
-segment_takes : (none : Bool) (serial : ℕ) (text : List ℕ) (u : Unit {0}) → segment_at none serial text ≡ Ok u → (none ≡ false) × IsSix (field 195 200 text) serial
+segment_takes : (none : Bool) (serial : ℕ) (text : List ℕ) (u : Unit {0}) → segment_at none serial text ≡ Ok u
+    → (none ≡ false) × IsSix (field 195 200 text) serial
 unfolding segment_at
 segment_takes none serial text u e =
     with_check kinds.BadOrder _ _ u e (λ e1 k1.
     with_check kinds.BadSerial _ _ u k1 (λ e2 k2.
     (not_none none e1, serial_takes serial text e2)))
 
-pub segment_step_takes : (s : Reader) (text : List ℕ) (t : Reader) → segment_step s text ≡ Ok t → (s.legs ≡ [] → ⊥) × HasSerial s text × (with_segment s ≡ t)
+pub segment_step_takes : (s : Reader) (text : List ℕ) (t : Reader) → segment_step s text ≡ Ok t
+    → (s.legs ≡ [] → ⊥) × HasSerial s text × (with_segment s ≡ t)
 unfolding segment_step done
 segment_step_takes s text t e =
     with_step (segment_at (eqb (length s.legs) 0) (s.count + 1) text) _ t e (λ u k more.
@@ -383,7 +398,8 @@ segment_step_takes s text t e =
     some_legs [] h none = absurd cc
     some_legs (leg ∷ legs) h none = absurd cc
 
-pub segment_step_again : (s : Reader) (text : List ℕ) → (s.legs ≡ [] → ⊥) → HasSerial s text → segment_step s text ≡ Ok (with_segment s)
+pub segment_step_again : (s : Reader) (text : List ℕ) → (s.legs ≡ [] → ⊥) → HasSerial s text
+    → segment_step s text ≡ Ok (with_segment s)
 unfolding segment_step segment_at
 segment_step_again s text some serial =
     let e1 : not (eqb (length s.legs) 0) ≡ true = has_legs s.legs some in
@@ -397,14 +413,16 @@ segment_step_again s text some serial =
         is_more : (n : ℕ) → eqb (suc n) 0 ≡ false
         is_more n = grind (arith, nat_tests)
 
-pub trailer_step_takes : (c : Carrier) (s : Reader) (text : List ℕ) (t : Reader) → IsTyped 53 text → trailer_step c s text ≡ Ok t → IsTrailer c.airline (s.count + 1) text × HasSerial s text × (closed c s ≡ t)
+pub trailer_step_takes : (c : Carrier) (s : Reader) (text : List ℕ) (t : Reader) → IsTyped 53 text
+    → trailer_step c s text ≡ Ok t → IsTrailer c.airline (s.count + 1) text × HasSerial s text × (closed c s ≡ t)
 unfolding trailer_step done
 trailer_step_takes c s text t typed e =
     with_step (numbered_at (s.count + 1) (trailer_at c.airline s.count text) text) _ t e (λ u k more.
     let h = numbered_takes (s.count + 1) (trailer_at c.airline s.count text) text u k in
     (trailer_takes c.airline s.count text u typed h.1, h.0, ok_is (closed c s) t more))
 
-pub trailer_step_again : (c : Carrier) (s : Reader) (text : List ℕ) → IsTrailer c.airline (s.count + 1) text → HasSerial s text → trailer_step c s text ≡ Ok (closed c s)
+pub trailer_step_again : (c : Carrier) (s : Reader) (text : List ℕ) → IsTrailer c.airline (s.count + 1) text
+    → HasSerial s text → trailer_step c s text ≡ Ok (closed c s)
 unfolding trailer_step numbered_at
 trailer_step_again c s text h serial =
     let e1 = serial_again (s.count + 1) text serial in
@@ -413,24 +431,30 @@ trailer_step_again c s text h serial =
 
 -- ---- a record between the carrier's and the end
 
-pub body_takes_one : (x : ℕ) (c : Carrier) (s : Reader) (text : List ℕ) (t : Reader) → body_step x c s text ≡ Ok t → ((eqb x 51 ≡ true) × (leg_step c s text ≡ Ok t)) ⊎ (((eqb x 52 ≡ true) × (segment_step s text ≡ Ok t)) ⊎ ((eqb x 53 ≡ true) × (trailer_step c s text ≡ Ok t)))
+pub body_takes_one : (x : ℕ) (c : Carrier) (s : Reader) (text : List ℕ) (t : Reader) → body_step x c s text ≡ Ok t
+    → ((eqb x 51 ≡ true) × (leg_step c s text ≡ Ok t))
+    ⊎ (((eqb x 52 ≡ true) × (segment_step s text ≡ Ok t)) ⊎ ((eqb x 53 ≡ true) × (trailer_step c s text ≡ Ok t)))
 unfolding body_step
 body_takes_one x c s text t e = of (eqb x 51) (eqb x 52) (eqb x 53) (leg_step c s text) (segment_step s text) (trailer_step c s text) e
   where
-    of : (a b d : Bool) (p q r : Result Reader SetKind) → cond a p (cond b q (cond d r (Err kinds.BadOrder))) ≡ Ok t → ((a ≡ true) × (p ≡ Ok t)) ⊎ (((b ≡ true) × (q ≡ Ok t)) ⊎ ((d ≡ true) × (r ≡ Ok t)))
+    of : (a b d : Bool) (p q r : Result Reader SetKind) → cond a p (cond b q (cond d r (Err kinds.BadOrder))) ≡ Ok t
+        → ((a ≡ true) × (p ≡ Ok t)) ⊎ (((b ≡ true) × (q ≡ Ok t)) ⊎ ((d ≡ true) × (r ≡ Ok t)))
     of true b d p q r e = inl (refl, e)
     of false true d p q r e = inr (inl (refl, e))
     of false false true p q r e = inr (inr (refl, e))
     of false false false p q r e = absurd cc
 
-pub body_leg : (c : Carrier) (s : Reader) (text : List ℕ) → IsTyped 51 text → body_step (type_of text) c s text ≡ leg_step c s text
+pub body_leg : (c : Carrier) (s : Reader) (text : List ℕ) → IsTyped 51 text
+    → body_step (type_of text) c s text ≡ leg_step c s text
 unfolding body_step
 body_leg c s text h = ap (λ (x : ℕ). body_step x c s text) (typed_again 51 text h)
 
-pub body_segment : (c : Carrier) (s : Reader) (text : List ℕ) → IsTyped 52 text → body_step (type_of text) c s text ≡ segment_step s text
+pub body_segment : (c : Carrier) (s : Reader) (text : List ℕ) → IsTyped 52 text
+    → body_step (type_of text) c s text ≡ segment_step s text
 unfolding body_step
 body_segment c s text h = ap (λ (x : ℕ). body_step x c s text) (typed_again 52 text h)
 
-pub body_trailer : (c : Carrier) (s : Reader) (text : List ℕ) → IsTyped 53 text → body_step (type_of text) c s text ≡ trailer_step c s text
+pub body_trailer : (c : Carrier) (s : Reader) (text : List ℕ) → IsTyped 53 text
+    → body_step (type_of text) c s text ≡ trailer_step c s text
 unfolding body_step
 body_trailer c s text h = ap (λ (x : ℕ). body_step x c s text) (typed_again 53 text h)

@@ -51,26 +51,30 @@ sequence_places text = omega (arith, length-take 2 (drop 11 text))
 
 -- ---- days
 
-period : (text more : List ℕ) (from : ℕ) (to : Option ℕ) → IsDayField text from → IsUntil from more to → IsPeriod from to
+period : (text more : List ℕ) (from : ℕ) (to : Option ℕ) → IsDayField text from → IsUntil from more to
+    → IsPeriod from to
 period text more from None f t = record { first = century text from f; last = tt; order = tt }
 period text more from (Some to) f t = record { first = century text from f; last = century more to t.0; order = t.1 }
 
 -- ---- signs
 
-right_suffix : (text : List ℕ) (suffix : Option ℕ) → IsSuffix text suffix → IfSome suffix (λ letter. IsTrue (is_ascii_uppercase letter))
+right_suffix : (text : List ℕ) (suffix : Option ℕ) → IsSuffix text suffix
+    → IfSome suffix (λ letter. IsTrue (is_ascii_uppercase letter))
 right_suffix text None h = tt
 right_suffix text (Some letter) h = h.0
 
-offset_plus : (hours minutes : ℕ) (z : ℤ) → hours < 24 → minutes < 60 → z ≡ pos (60 * hours + minutes) → (negsuc 1438 ≤ℤ z) × (z ≤ℤ pos 1439)
+offset_plus : (hours minutes : ℕ) (z : ℤ) → hours < 24 → minutes < 60 → z ≡ pos (60 * hours + minutes)
+    → (negsuc 1438 ≤ℤ z) × (z ≤ℤ pos 1439)
 offset_plus hours minutes z x y e = (omega (arith, signed_arith), omega (arith, signed_arith))
 
-offset_minus : (hours minutes : ℕ) (z : ℤ) → hours < 24 → minutes < 60 → z ≡ pos 0 -ℤ pos (60 * hours + minutes) → (negsuc 1438 ≤ℤ z) × (z ≤ℤ pos 1439)
+offset_minus : (hours minutes : ℕ) (z : ℤ) → hours < 24 → minutes < 60 → z ≡ pos 0 -ℤ pos (60 * hours + minutes)
+    → (negsuc 1438 ≤ℤ z) × (z ≤ℤ pos 1439)
 offset_minus hours minutes z x y e = (omega (arith, signed_arith), omega (arith, signed_arith))
 
-right_offset : (text : List ℕ) (z : ℤ) → IsOffset text z → (negsuc 1438 ≤ℤ z) × (z ≤ℤ pos 1439)
+pub right_offset : (text : List ℕ) (z : ℤ) → IsOffset text z → (negsuc 1438 ≤ℤ z) × (z ≤ℤ pos 1439)
 right_offset text z h = elim h.4 [ inl p ↦ offset_plus h.0 h.1 z h.2 h.3 p.1 | inr p ↦ offset_minus h.0 h.1 z h.2 h.3 p.1 ]
 
-right_shift : (text : List ℕ) (z : ℤ) → IsShift text z → (negsuc 0 ≤ℤ z) × (z ≤ℤ pos 7)
+pub right_shift : (text : List ℕ) (z : ℤ) → IsShift text z → (negsuc 0 ≤ℤ z) × (z ≤ℤ pos 7)
 right_shift text z (inl h) = (omega (arith, signed_arith, h.1), omega (arith, signed_arith, h.1))
 right_shift text z (inr (inl h)) = (omega (arith, signed_arith, h.3), omega (arith, signed_arith, h.1, h.3))
 right_shift text z (inr (inr h)) = (omega (arith, signed_arith, h.1), omega (arith, signed_arith, h.1))
@@ -101,7 +105,8 @@ right_leg airline text leg h =
 
 -- ---- the body
 
-right_legs : (airline : List ℕ) (before : ℕ) (texts : List (List ℕ)) (legs : List Leg) (segments : ℕ) → IsBody airline before texts legs segments → All IsRightLeg legs
+right_legs : (airline : List ℕ) (before : ℕ) (texts : List (List ℕ)) (legs : List Leg) (segments : ℕ)
+    → IsBody airline before texts legs segments → All IsRightLeg legs
 right_legs airline before [] legs segments h = subst (All IsRightLeg) (sym h.0) (All-nil IsRightLeg)
 right_legs airline before (text ∷ texts) legs segments (inl h) =
     subst (All IsRightLeg) (sym h.4) (All-cons IsRightLeg h.0 h.1 (right_leg airline text h.0 h.2) (right_legs airline (before + 1) texts h.1 segments h.5))
@@ -111,7 +116,8 @@ rising_from : (low high : ℕ) (legs : List Leg) → low ≤ high → IsRising h
 rising_from low high [] le h = tt
 rising_from low high (leg ∷ legs) le h = (omega (arith, h.0, le), h.1)
 
-rising : (airline : List ℕ) (before : ℕ) (texts : List (List ℕ)) (legs : List Leg) (segments : ℕ) → IsBody airline before texts legs segments → IsRising before legs
+rising : (airline : List ℕ) (before : ℕ) (texts : List (List ℕ)) (legs : List Leg) (segments : ℕ)
+    → IsBody airline before texts legs segments → IsRising before legs
 rising airline before [] legs segments h = subst (IsRising before) (sym h.0) tt
 rising airline before (text ∷ texts) legs segments (inl h) =
     let more : IsRising h.0.serial h.1 = subst (λ (k : ℕ). IsRising k h.1) (sym h.3) (rising airline (before + 1) texts h.1 segments h.5) in
@@ -125,6 +131,7 @@ right_set most bytes set h = record {
   serials = rising set.carrier.airline 2 h.body set.legs set.segments h.is_body;
 }
 
-pub is_right : (most : ℕ) (bytes : List ℕ) (r : Result DataSet SetFault) → IfOk r (IsDataSet most bytes) → IfOk r IsRightSet
+pub is_right : (most : ℕ) (bytes : List ℕ) (r : Result DataSet SetFault) → IfOk r (IsDataSet most bytes)
+    → IfOk r IsRightSet
 is_right most bytes (Ok set) h = right_set most bytes set h
 is_right most bytes (Err f) h = tt

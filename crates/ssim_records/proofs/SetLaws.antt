@@ -50,7 +50,8 @@ head_is a b x y e = cc
 no_record : (b : List ℕ) (y : List (List ℕ)) → [] ≡ b ∷ y → ⊥
 no_record b y e = cc
 
-leg_more : (most : ℕ) (c : Carrier) (n : ℕ) (ls : List Leg) (k : ℕ) (t : Reader) (text : List ℕ) (texts : List (List ℕ)) (leg : Leg) → IsLeg c.airline text leg → leg.serial ≡ n + 1 → IsSix (field 195 200 text) (n + 1)
+leg_more : (most : ℕ) (c : Carrier) (n : ℕ) (ls : List Leg) (k : ℕ) (t : Reader) (text : List ℕ) (texts : List (List ℕ))
+    (leg : Leg) → IsLeg c.airline text leg → leg.serial ≡ n + 1 → IsSix (field 195 200 text) (n + 1)
     → Rest most c (n + 1) (ls ++ leg ∷ []) k t texts → Rest most c n ls k t (text ∷ texts)
 leg_more most c n ls k t text texts leg is number six r =
     let last : length r.body + (n + 1) + 1 ≡ suc (length r.body) + n + 1 = omega arith in
@@ -71,7 +72,8 @@ leg_more most c n ls k t text texts leg is number six r =
       all_segments = r.all_segments;
     }
 
-segment_more : (most : ℕ) (c : Carrier) (n : ℕ) (ls : List Leg) (k : ℕ) (t : Reader) (text : List ℕ) (texts : List (List ℕ)) → IsTyped 52 text → (ls ≡ [] → ⊥) → IsSix (field 195 200 text) (n + 1)
+segment_more : (most : ℕ) (c : Carrier) (n : ℕ) (ls : List Leg) (k : ℕ) (t : Reader) (text : List ℕ)
+    (texts : List (List ℕ)) → IsTyped 52 text → (ls ≡ [] → ⊥) → IsSix (field 195 200 text) (n + 1)
     → Rest most c (n + 1) ls (k + 1) t texts → Rest most c n ls k t (text ∷ texts)
 segment_more most c n ls k t text texts typed some six r =
     let last : length r.body + (n + 1) + 1 ≡ suc (length r.body) + n + 1 = omega arith in
@@ -93,12 +95,14 @@ segment_more most c n ls k t text texts typed some six r =
       all_segments = omega (arith, all);
     }
 
-after_done : (most : ℕ) (c : Carrier) (n : ℕ) (ls : List Leg) (k : ℕ) (texts : List (List ℕ)) (t : Reader) → plain most (at_done c n ls k) texts ≡ Ok t → (texts ≡ []) × (at_done c n ls k ≡ t)
+after_done : (most : ℕ) (c : Carrier) (n : ℕ) (ls : List Leg) (k : ℕ) (texts : List (List ℕ)) (t : Reader)
+    → plain most (at_done c n ls k) texts ≡ Ok t → (texts ≡ []) × (at_done c n ls k ≡ t)
 unfolding done
 after_done most c n ls k [] t h = (refl, ok_is (at_done c n ls k) t h)
 after_done most c n ls k (text ∷ texts) t h = absurd cc
 
-trailer_more : (most : ℕ) (c : Carrier) (n : ℕ) (ls : List Leg) (k : ℕ) (t : Reader) (text : List ℕ) (texts : List (List ℕ)) → IsTrailer c.airline (n + 1) text → IsSix (field 195 200 text) (n + 1) → n < most
+trailer_more : (most : ℕ) (c : Carrier) (n : ℕ) (ls : List Leg) (k : ℕ) (t : Reader) (text : List ℕ)
+    (texts : List (List ℕ)) → IsTrailer c.airline (n + 1) text → IsSix (field 195 200 text) (n + 1) → n < most
     → plain most (at_done c (n + 1) ls k) texts ≡ Ok t → Rest most c n ls k t (text ∷ texts)
 trailer_more most c n ls k t text texts is six lt h =
     let e = after_done most c (n + 1) ls k texts t h in
@@ -125,7 +129,8 @@ wrong_end p q c d e f = of (e ∙ f)
     of : Body c ≡ Done d → ⊥
     of h = cc
 
-pub rest_takes : (most : ℕ) (c : Carrier) (texts : List (List ℕ)) (n : ℕ) (ls : List Leg) (k : ℕ) (t : Reader) (d : Carrier) → plain most (in_body c n ls k) texts ≡ Ok t → t.phase ≡ Done d → Rest most c n ls k t texts
+pub rest_takes : (most : ℕ) (c : Carrier) (texts : List (List ℕ)) (n : ℕ) (ls : List Leg) (k : ℕ) (t : Reader)
+    (d : Carrier) → plain most (in_body c n ls k) texts ≡ Ok t → t.phase ≡ Done d → Rest most c n ls k t texts
 unfolding done
 rest_takes most c [] n ls k t d h end = absurd (wrong_end t.phase t.phase c d (ap (λ (x : Reader). x.phase) (ok_is (in_body c n ls k) t h)) end)
 rest_takes most c (text ∷ texts) n ls k t d h end =
@@ -149,7 +154,8 @@ abbrev Begins : List Leg → List (List ℕ) → Type 0
 Begins ls body = ls ≡ [] → (text : List ℕ) (more : List (List ℕ)) → body ≡ text ∷ more → IsTyped 51 text
 
 -- one record, and then the others
-then_plain : (most : ℕ) (s u : Reader) (text : List ℕ) (texts : List (List ℕ)) → taken s.phase s text ≡ Ok u → s.count < most → plain most s (text ∷ texts) ≡ plain most u texts
+then_plain : (most : ℕ) (s u : Reader) (text : List ℕ) (texts : List (List ℕ)) → taken s.phase s text ≡ Ok u
+    → s.count < most → plain most s (text ∷ texts) ≡ plain most u texts
 then_plain most s u text texts h lt = ap (λ (r : Result Reader SetKind). r >>= (λ t. plain most t texts)) (within_again most s (taken s.phase s text) u h lt)
 
 not_both : (text : List ℕ) → IsTyped 51 text → IsTyped 52 text → ⊥
@@ -159,9 +165,12 @@ full : (ls : List Leg) (leg : Leg) → ls ++ leg ∷ [] ≡ [] → ⊥
 full [] leg e = cc
 full (x ∷ ls) leg e = cc
 
-pub rest_again : (most : ℕ) (c : Carrier) (body : List (List ℕ)) (trailer : List ℕ) (n : ℕ) (ls flown : List Leg) (k others : ℕ)
-    → IsBody c.airline n body flown others → IsNumbered n (body ++ trailer ∷ []) → Begins ls body → IsTrailer c.airline (length body + n + 1) trailer → length body + n + 1 ≤ most
-    → plain most (in_body c n ls k) (body ++ trailer ∷ []) ≡ Ok (at_done c (length body + n + 1) (ls ++ flown) (k + others))
+pub rest_again : (most : ℕ) (c : Carrier) (body : List (List ℕ)) (trailer : List ℕ) (n : ℕ) (ls flown : List Leg)
+    (k others : ℕ)
+    → IsBody c.airline n body flown others → IsNumbered n (body ++ trailer ∷ []) → Begins ls body
+    → IsTrailer c.airline (length body + n + 1) trailer → length body + n + 1 ≤ most
+    → plain most (in_body c n ls k) (body ++ trailer ∷ [])
+    ≡ Ok (at_done c (length body + n + 1) (ls ++ flown) (k + others))
 rest_again most c [] trailer n ls flown k others is numbered begins is_trailer few =
     let last : 0 + n + 1 ≡ n + 1 = omega arith in
     let legs : ls ≡ ls ++ flown = sym (append-nil ls) ∙ ap (λ (x : List Leg). ls ++ x) (sym is.0) in
@@ -206,8 +215,10 @@ rest_again most c (text ∷ body) trailer n ls flown k others (inr is) numbered 
 abbrev at_open : Reader
 at_open = record { phase = Open; count = 1; legs = []; segments = 0 }
 
-carrier_rest : (most : ℕ) (texts : List (List ℕ)) (t : Reader) (d : Carrier) → plain most at_open texts ≡ Ok t → t.phase ≡ Done d
-    → (text : List ℕ) × (c : Carrier) × (others : List (List ℕ)) × (texts ≡ text ∷ others) × IsCarrier text c × IsSix (field 195 200 text) 2 × Rest most c 2 [] 0 t others
+carrier_rest : (most : ℕ) (texts : List (List ℕ)) (t : Reader) (d : Carrier) → plain most at_open texts ≡ Ok t
+    → t.phase ≡ Done d
+    → (text : List ℕ) × (c : Carrier) × (others : List (List ℕ)) × (texts ≡ text ∷ others) × IsCarrier text c
+    × IsSix (field 195 200 text) 2 × Rest most c 2 [] 0 t others
 unfolding done
 carrier_rest most [] t d h end = absurd (open_end_of (ap (λ (x : Reader). x.phase) (ok_is at_open t h) ∙ end))
   where
@@ -225,7 +236,8 @@ made c legs segments = record { carrier = c; legs = legs; segments = segments }
 done_is : (c d : Carrier) → Done c ≡ Done d → c ≡ d
 done_is c d h = cc
 
-set_is : (s : Reader) (c d : Carrier) (legs : List Leg) (segments : ℕ) (set : DataSet) → s.phase ≡ Done d → s.phase ≡ Done c → s.legs ≡ legs → s.segments ≡ segments → set_of d s ≡ set → made c legs segments ≡ set
+set_is : (s : Reader) (c d : Carrier) (legs : List Leg) (segments : ℕ) (set : DataSet) → s.phase ≡ Done d
+    → s.phase ≡ Done c → s.legs ≡ legs → s.segments ≡ segments → set_of d s ≡ set → made c legs segments ≡ set
 set_is s c d legs segments set p q l k e =
     ap (λ (x : Carrier). made x legs segments) (done_is c d (sym q ∙ p)) ∙ ap (λ (x : List Leg). made d x segments) (sym l) ∙ ap (λ (x : ℕ). made d s.legs x) (sym k) ∙ e
 
@@ -233,14 +245,17 @@ step_start : (most : ℕ) (text : List ℕ) → step most fresh text ≡ within 
 unfolding step done
 step_start most text = of (is_filler text)
   where
-    of : (b : Bool) → cond (b && false) (done fresh) (within most fresh (header_step fresh text)) ≡ within most fresh (header_step fresh text)
+    of : (b : Bool)
+        → cond (b && false) (done fresh) (within most fresh (header_step fresh text))
+        ≡ within most fresh (header_step fresh text)
     of true = refl
     of false = refl
 
 from_none : (a b : ℕ) → a ≡ 0 + b → a ≡ b
 from_none a b h = omega (arith, h)
 
-header_first : (most : ℕ) (texts : List (List ℕ)) (bytes : List ℕ) (t : Reader) (d : Carrier) (set : DataSet) → IsCut bytes texts → run most fresh texts ≡ Ok t → t.phase ≡ Done d → set_of d t ≡ set → IsDataSet most bytes set
+header_first : (most : ℕ) (texts : List (List ℕ)) (bytes : List ℕ) (t : Reader) (d : Carrier) (set : DataSet)
+    → IsCut bytes texts → run most fresh texts ≡ Ok t → t.phase ≡ Done d → set_of d t ≡ set → IsDataSet most bytes set
 unfolding done
 header_first most [] bytes t d set cut h end is = absurd (start_end (ap (λ (x : Reader). x.phase) (ok_is fresh t h) ∙ end))
   where
@@ -304,7 +319,8 @@ is_reads most bytes set h =
     let all : run most fresh (h.header ∷ h.others) ≡ done t = ap (λ (r : Result Reader SetKind). r >>= (λ u. run most u h.others)) one ∙ others in
     (length (h.header ∷ h.others), t, c, reaches_of most (h.header ∷ h.others) fresh t bytes h.cut all, refl, refl)
 
-pub is_found : (most : ℕ) (bytes : List ℕ) (r : Result DataSet SetFault) → IfOk r (ReadsAs most bytes) → IfOk r (IsDataSet most bytes)
+pub is_found : (most : ℕ) (bytes : List ℕ) (r : Result DataSet SetFault) → IfOk r (ReadsAs most bytes)
+    → IfOk r (IsDataSet most bytes)
 is_found most bytes (Ok set) h = reads_is most bytes set h
 is_found most bytes (Err f) h = tt
 

@@ -27,21 +27,27 @@ pub reach_none : (most : ℕ) (bytes : List ℕ) → reach (next most) fresh byt
 unfolding reach
 reach_none most bytes = refl
 
-pub step_more : (most : ℕ) (bytes : List ℕ) (nth : ℕ) (s t : Reader) (rest text after : List ℕ) → 1 ≤ nth → reach (next most) fresh bytes (nth - 1) ≡ Ok (s, rest) → cut_at rest ≡ Ok (text, after) → step most s text ≡ Ok t → reach (next most) fresh bytes (nth + 1 - 1) ≡ Ok (t, after)
+pub step_more : (most : ℕ) (bytes : List ℕ) (nth : ℕ) (s t : Reader) (rest text after : List ℕ) → 1 ≤ nth
+    → reach (next most) fresh bytes (nth - 1) ≡ Ok (s, rest) → cut_at rest ≡ Ok (text, after) → step most s text ≡ Ok t
+    → reach (next most) fresh bytes (nth + 1 - 1) ≡ Ok (t, after)
 unfolding next
 step_more most bytes nth s t rest text after low h cut taken =
     let k : nth + 1 - 1 ≡ suc (nth - 1) = omega arith in
     ap (reach (next most) fresh bytes) k ∙ reach_one (next most) fresh bytes (nth - 1) (s, rest) h ∙ rw (cut, taken) refl
 
-fails_of : (r : Result (Reader × List ℕ) SetKind) (kind : SetKind) → fault_of r ≡ Some kind → (e : SetKind) × (r ≡ Err e)
+fails_of : (r : Result (Reader × List ℕ) SetKind) (kind : SetKind) → fault_of r ≡ Some kind
+    → (e : SetKind) × (r ≡ Err e)
 fails_of (Ok p) kind h = absurd cc
 fails_of (Err e) kind h = (e, refl)
 
-fails : (most : ℕ) (s : Reader) (rest : List ℕ) (kind : SetKind) → fault_at (next most) at_end s rest ≡ Some kind → (e : SetKind) × (next most s rest ≡ Err e)
+fails : (most : ℕ) (s : Reader) (rest : List ℕ) (kind : SetKind) → fault_at (next most) at_end s rest ≡ Some kind
+    → (e : SetKind) × (next most s rest ≡ Err e)
 fails most s [] kind h = (kinds.Short, no_record most s)
 fails most s (c ∷ rest) kind h = fails_of (next most s (c ∷ rest)) kind h
 
-ended : (s t : Reader) (c : Carrier) (rest : List ℕ) (most : ℕ) (kind : SetKind) → ◌≡◌ {A = Reader × List ℕ} (s, rest) (t, []) → t.phase ≡ Done c → fault_at (next most) at_end s rest ≡ Some kind → ⊥
+ended : (s t : Reader) (c : Carrier) (rest : List ℕ) (most : ℕ) (kind : SetKind)
+    → ◌≡◌ {A = Reader × List ℕ} (s, rest) (t, []) → t.phase ≡ Done c → fault_at (next most) at_end s rest ≡ Some kind
+    → ⊥
 ended s t c rest most kind same is h =
     let a : s ≡ t = ap (λ (p : Reader × List ℕ). p.0) same in
     let b : rest ≡ [] = ap (λ (p : Reader × List ℕ). p.1) same in
@@ -50,7 +56,8 @@ ended s t c rest most kind same is h =
     absurd cc
 
 -- what has a first fault is no data set
-pub refused : (most : ℕ) (bytes : List ℕ) (nth : ℕ) (kind : SetKind) (set : DataSet) → IsFirstFault most bytes nth kind → ReadsAs most bytes set → ⊥
+pub refused : (most : ℕ) (bytes : List ℕ) (nth : ℕ) (kind : SetKind) (set : DataSet) → IsFirstFault most bytes nth kind
+    → ReadsAs most bytes set → ⊥
 refused most bytes nth kind set f r =
     let bad = fails most f.0 f.1 kind f.4 in
     elim (cases_order (nth - 1) r.0) [
@@ -59,7 +66,9 @@ refused most bytes nth kind set f r =
       | inr (inr gt) ↦ no_later (next most) fresh bytes r.0 (nth - 1) (r.1, []) (f.0, f.1) kinds.Short r.3 (no_record most r.1) gt f.3
     ]
 
-same_fault : (most : ℕ) (s t : Reader) (rest more : List ℕ) (a b : SetKind) → ◌≡◌ {A = Reader × List ℕ} (s, rest) (t, more) → fault_at (next most) at_end s rest ≡ Some a → fault_at (next most) at_end t more ≡ Some b → a ≡ b
+same_fault : (most : ℕ) (s t : Reader) (rest more : List ℕ) (a b : SetKind)
+    → ◌≡◌ {A = Reader × List ℕ} (s, rest) (t, more) → fault_at (next most) at_end s rest ≡ Some a
+    → fault_at (next most) at_end t more ≡ Some b → a ≡ b
 same_fault most s t rest more a b same h k =
     kind_of (sym h ∙ ap (λ (p : Reader × List ℕ). fault_at (next most) at_end p.0 p.1) same ∙ k)
   where
@@ -99,7 +108,9 @@ one_set most bytes a b p q =
     ]
 
 -- what is read as a data set is the only one, and is refused for memory alone
-pub is_only : (most : ℕ) (bytes : List ℕ) (r : Result DataSet SetFault) (set : DataSet) → IfOk r (ReadsAs most bytes) → IfErr r (λ f. IsRefusal most bytes f.nth f.kind) → ReadsAs most bytes set → MatchResult r (λ x. x ≡ set) (λ f. f.kind ≡ kinds.Memory)
+pub is_only : (most : ℕ) (bytes : List ℕ) (r : Result DataSet SetFault) (set : DataSet) → IfOk r (ReadsAs most bytes)
+    → IfErr r (λ f. IsRefusal most bytes f.nth f.kind) → ReadsAs most bytes set
+    → MatchResult r (λ x. x ≡ set) (λ f. f.kind ≡ kinds.Memory)
 is_only most bytes (Ok x) set ok err h = one_set most bytes x set ok h
 is_only most bytes (Err f) set ok (inl first) h = absurd (refused most bytes f.nth f.kind set first h)
 is_only most bytes (Err f) set ok (inr wants) h = wants.0
@@ -115,12 +126,16 @@ never most s (c ∷ rest) h = next_none most s (c ∷ rest) (of (next most s (c 
     of (Ok p) e = absurd cc
     of (Err kind) e = cc
 
-pub is_fault : (most : ℕ) (bytes : List ℕ) (r : Result DataSet SetFault) → IfErr r (λ f. IsRefusal most bytes f.nth f.kind) → IfErr r (λ f. f.kind ≢ kinds.Memory → IsFirstFault most bytes f.nth f.kind)
+pub is_fault : (most : ℕ) (bytes : List ℕ) (r : Result DataSet SetFault)
+    → IfErr r (λ f. IsRefusal most bytes f.nth f.kind)
+    → IfErr r (λ f. f.kind ≢ kinds.Memory → IsFirstFault most bytes f.nth f.kind)
 is_fault most bytes (Ok x) h = tt
 is_fault most bytes (Err f) (inl first) = λ other. first
 is_fault most bytes (Err f) (inr wants) = λ other. absurd (other wants.0)
 
-pub is_want : (most : ℕ) (bytes : List ℕ) (r : Result DataSet SetFault) → IfErr r (λ f. IsRefusal most bytes f.nth f.kind) → IfErr r (λ f. f.kind ≡ kinds.Memory → WantsRoom most bytes f.nth)
+pub is_want : (most : ℕ) (bytes : List ℕ) (r : Result DataSet SetFault)
+    → IfErr r (λ f. IsRefusal most bytes f.nth f.kind)
+    → IfErr r (λ f. f.kind ≡ kinds.Memory → WantsRoom most bytes f.nth)
 is_want most bytes (Ok x) h = tt
 is_want most bytes (Err f) (inl first) = λ memory. absurd (never most first.0 first.1 (first.4 ∙ ap (λ (k : SetKind). Some k) memory))
 is_want most bytes (Err f) (inr wants) = λ memory. wants.1

@@ -32,7 +32,8 @@ pair_is : (x y : Reader × Bytes) → done x ≡ done y → x ≡ y
 unfolding done
 pair_is x y e = cc
 
-cut_then_takes : (most : ℕ) (s : Reader) (r : Result (Bytes × Bytes) SetKind) (q : Reader × Bytes) → cut_then most s r ≡ Ok q → (p : Bytes × Bytes) × (r ≡ Ok p) × (step most s p.0 ≡ Ok q.0) × (p.1 ≡ q.1)
+cut_then_takes : (most : ℕ) (s : Reader) (r : Result (Bytes × Bytes) SetKind) (q : Reader × Bytes)
+    → cut_then most s r ≡ Ok q → (p : Bytes × Bytes) × (r ≡ Ok p) × (step most s p.0 ≡ Ok q.0) × (p.1 ≡ q.1)
 unfolding done
 cut_then_takes most s (Err e) q h = absurd cc
 cut_then_takes most s (Ok p) q h = let k = of (step most s p.0) h in (p, refl, k.0, k.1)
@@ -43,13 +44,16 @@ cut_then_takes most s (Ok p) q h = let k = of (step most s p.0) h in (p, refl, k
         let same : ◌≡◌ {A = Reader × Bytes} (t, p.1) q = pair_is (t, p.1) q h in
         (ap (λ (x : Reader × Bytes). done x.0) same, ap (λ (x : Reader × Bytes). x.1) same)
 
-rest_is : (bytes text end more rest : List ℕ) → bytes ≡ text ++ (end ++ more) → more ≡ rest → bytes ≡ text ++ (end ++ rest)
+rest_is : (bytes text end more rest : List ℕ) → bytes ≡ text ++ (end ++ more) → more ≡ rest
+    → bytes ≡ text ++ (end ++ rest)
 rest_is bytes text end more rest h e = h ∙ ap (λ (x : List ℕ). text ++ (end ++ x)) e
 
-run_more : (most : ℕ) (s u t : Reader) (text : List ℕ) (texts : List (List ℕ)) → step most s text ≡ Ok u → run most u texts ≡ Ok t → run most s (text ∷ texts) ≡ Ok t
+run_more : (most : ℕ) (s u t : Reader) (text : List ℕ) (texts : List (List ℕ)) → step most s text ≡ Ok u
+    → run most u texts ≡ Ok t → run most s (text ∷ texts) ≡ Ok t
 run_more most s u t text texts h k = ap (λ (r : Result Reader SetKind). r >>= (λ x. run most x texts)) h ∙ k
 
-pub cuts_of : (most n : ℕ) (s t : Reader) (bytes : List ℕ) → reach (next most) s bytes n ≡ Ok (t, []) → (texts : List (List ℕ)) × IsCut bytes texts × (run most s texts ≡ Ok t)
+pub cuts_of : (most n : ℕ) (s t : Reader) (bytes : List ℕ) → reach (next most) s bytes n ≡ Ok (t, [])
+    → (texts : List (List ℕ)) × IsCut bytes texts × (run most s texts ≡ Ok t)
 unfolding reach next done
 cuts_of most zero s t bytes h =
     let same : ◌≡◌ {A = Reader × Bytes} (s, bytes) (t, []) = ok_is {A = Reader × Bytes} (s, bytes) (t, []) h in
@@ -62,7 +66,8 @@ cuts_of most (suc n) s t bytes h =
     let rest : bytes ≡ p.0.0 ++ (cut.0 ++ first.0.1) = rest_is bytes p.0.0 cut.0 p.0.1 first.0.1 cut.4 p.3 in
     (p.0.0 ∷ more.0, (cut.0, first.0.1, cut.1, cut.2, cut.3, rest, more.1), run_more most s first.0.0 t p.0.0 more.0 p.2 more.2)
 
-pub reaches_of : (most : ℕ) (texts : List (List ℕ)) (s t : Reader) (bytes : List ℕ) → IsCut bytes texts → run most s texts ≡ Ok t → reach (next most) s bytes (length texts) ≡ Ok (t, [])
+pub reaches_of : (most : ℕ) (texts : List (List ℕ)) (s t : Reader) (bytes : List ℕ) → IsCut bytes texts
+    → run most s texts ≡ Ok t → reach (next most) s bytes (length texts) ≡ Ok (t, [])
 unfolding reach next done
 reaches_of most [] s t bytes cut h = ap (λ (x : List ℕ). done {A = Reader × Bytes} (s, x)) cut ∙ ap (λ (x : Reader). done {A = Reader × Bytes} (x, [])) (ok_is s t h)
 reaches_of most (text ∷ texts) s t bytes cut h =
@@ -79,16 +84,19 @@ abbrev pub plain : ℕ → Reader → List (List ℕ) → Result Reader SetKind
 plain most s [] = Ok s
 plain most s (text ∷ texts) = within most s (taken s.phase s text) >>= (λ t. plain most t texts)
 
-pub within_takes : (most : ℕ) (s : Reader) (r : Result Reader SetKind) (t : Reader) → within most s r ≡ Ok t → (r ≡ Ok t) × (s.count < most)
+pub within_takes : (most : ℕ) (s : Reader) (r : Result Reader SetKind) (t : Reader) → within most s r ≡ Ok t
+    → (r ≡ Ok t) × (s.count < most)
 unfolding done
 within_takes most s (Err e) t h = absurd cc
 within_takes most s (Ok u) t h = of (ltb s.count most) refl h
   where
-    of : (b : Bool) → ltb s.count most ≡ b → cond b (Ok u) (Err kinds.TooLarge) ≡ Ok t → (done u ≡ Ok t) × (s.count < most)
+    of : (b : Bool) → ltb s.count most ≡ b → cond b (Ok u) (Err kinds.TooLarge) ≡ Ok t
+        → (done u ≡ Ok t) × (s.count < most)
     of true x e = (e, grind (arith, nat_tests, x))
     of false x e = absurd cc
 
-pub within_again : (most : ℕ) (s : Reader) (r : Result Reader SetKind) (t : Reader) → r ≡ Ok t → s.count < most → within most s r ≡ Ok t
+pub within_again : (most : ℕ) (s : Reader) (r : Result Reader SetKind) (t : Reader) → r ≡ Ok t → s.count < most
+    → within most s r ≡ Ok t
 unfolding done
 within_again most s r t h lt =
     let b : ltb s.count most ≡ true = grind (arith, nat_tests, lt) in
@@ -101,7 +109,8 @@ within_again most s r t h lt =
 started_is : (s t : Reader) → s ≡ t → is_start s.phase ≡ false → is_start t.phase ≡ false
 started_is s t e h = subst (λ (x : Reader). is_start x.phase ≡ false) e h
 
-started : (p : Phase) (s : Reader) (text : List ℕ) (t : Reader) → taken p s text ≡ Ok t → is_start p ≡ false → is_start s.phase ≡ false → is_start t.phase ≡ false
+started : (p : Phase) (s : Reader) (text : List ℕ) (t : Reader) → taken p s text ≡ Ok t → is_start p ≡ false
+    → is_start s.phase ≡ false → is_start t.phase ≡ false
 started Start s text t h was on = absurd cc
 started Open s text t h was on = let k = carrier_step_takes s text t h in started_is (carried k.0 s) t k.3 refl
 started (Body c) s text t h was on = elim (body_takes_one (type_of text) c s text t h) [
@@ -111,27 +120,35 @@ started (Body c) s text t h was on = elim (body_takes_one (type_of text) c s tex
 ]
 started (Done c) s text t h was on = absurd cc
 
-filler_of : (b : Bool) (most : ℕ) (s : Reader) (text : List ℕ) → is_filler text ≡ b → is_start s.phase ≡ false → step most s text ≡ cond b (Ok s) (within most s (taken s.phase s text))
+filler_of : (b : Bool) (most : ℕ) (s : Reader) (text : List ℕ) → is_filler text ≡ b → is_start s.phase ≡ false
+    → step most s text ≡ cond b (Ok s) (within most s (taken s.phase s text))
 unfolding step done
 filler_of b most s text h on = rw (h, on) (of b)
   where
-    of : (b : Bool) → cond (b && true) (done s) (within most s (taken s.phase s text)) ≡ cond b (done s) (within most s (taken s.phase s text))
+    of : (b : Bool)
+        → cond (b && true) (done s) (within most s (taken s.phase s text))
+        ≡ cond b (done s) (within most s (taken s.phase s text))
     of true = refl
     of false = refl
 
 abbrev pub numbered_of : List (List ℕ) → List (List ℕ)
 numbered_of texts = filter (λ text. not (is_filler text)) texts
 
-sieve_more : (most : ℕ) (texts : List (List ℕ)) (s : Reader) (text : List ℕ) → is_start s.phase ≡ false → ((t : Reader) → is_start t.phase ≡ false → run most t texts ≡ plain most t (numbered_of texts))
-    → (r : Result Reader SetKind) → within most s (taken s.phase s text) ≡ r → (r >>= (λ t. run most t texts)) ≡ (r >>= (λ t. plain most t (numbered_of texts)))
+sieve_more : (most : ℕ) (texts : List (List ℕ)) (s : Reader) (text : List ℕ) → is_start s.phase ≡ false
+    → ((t : Reader) → is_start t.phase ≡ false → run most t texts ≡ plain most t (numbered_of texts))
+    → (r : Result Reader SetKind) → within most s (taken s.phase s text) ≡ r
+    → (r >>= (λ t. run most t texts)) ≡ (r >>= (λ t. plain most t (numbered_of texts)))
 sieve_more most texts s text on rec (Err e) h = refl
 sieve_more most texts s text on rec (Ok t) h = rec t (started s.phase s text t (within_takes most s (taken s.phase s text) t h).0 on on)
 
-sieve_of : (most : ℕ) (texts : List (List ℕ)) (s : Reader) (text : List ℕ) → is_start s.phase ≡ false → ((t : Reader) → is_start t.phase ≡ false → run most t texts ≡ plain most t (numbered_of texts))
-    → (b : Bool) → is_filler text ≡ b → run most s (text ∷ texts) ≡ plain most s (cond (not b) (text ∷ numbered_of texts) (numbered_of texts))
+sieve_of : (most : ℕ) (texts : List (List ℕ)) (s : Reader) (text : List ℕ) → is_start s.phase ≡ false
+    → ((t : Reader) → is_start t.phase ≡ false → run most t texts ≡ plain most t (numbered_of texts))
+    → (b : Bool) → is_filler text ≡ b
+    → run most s (text ∷ texts) ≡ plain most s (cond (not b) (text ∷ numbered_of texts) (numbered_of texts))
 sieve_of most texts s text on rec true h = ap (λ (r : Result Reader SetKind). r >>= (λ t. run most t texts)) (filler_of true most s text h on) ∙ rec s on
 sieve_of most texts s text on rec false h = ap (λ (r : Result Reader SetKind). r >>= (λ t. run most t texts)) (filler_of false most s text h on) ∙ sieve_more most texts s text on rec (within most s (taken s.phase s text)) refl
 
-pub sieve : (most : ℕ) (texts : List (List ℕ)) (s : Reader) → is_start s.phase ≡ false → run most s texts ≡ plain most s (numbered_of texts)
+pub sieve : (most : ℕ) (texts : List (List ℕ)) (s : Reader) → is_start s.phase ≡ false
+    → run most s texts ≡ plain most s (numbered_of texts)
 sieve most [] s on = refl
 sieve most (text ∷ texts) s on = sieve_of most texts s text on (λ t k. sieve most texts t k) (is_filler text) refl

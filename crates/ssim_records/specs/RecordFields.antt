@@ -87,7 +87,8 @@ rate_in (c ∷ []) = if (c == 32) || (c == 49) then Some false else if c == 50 t
 rate_in _ = None
 
 abbrev pub time_is : ℕ → ℕ → Option ℕ
-time_is hours minutes = if nat_lt minutes 60 && nat_le (60 * hours + minutes) 1440 then Some (60 * hours + minutes) else None
+time_is hours minutes =
+    if nat_lt minutes 60 && nat_le (60 * hours + minutes) 1440 then Some (60 * hours + minutes) else None
 
 -- HHMM, 2400 too
 unfoldable pub time_in : List ℕ → Option ℕ
@@ -99,10 +100,12 @@ unfoldable pub signed_in : ℕ → ℕ → Option ℤ
 signed_in sign total = if sign == 43 then Some (pos total) else if sign == 45 then Some (pos 0 -ℤ pos total) else None
 
 abbrev pub offset_is : ℕ → ℕ → ℕ → Option ℤ
-offset_is sign hours minutes = if nat_lt hours 24 && nat_lt minutes 60 then signed_in sign (60 * hours + minutes) else None
+offset_is sign hours minutes =
+    if nat_lt hours 24 && nat_lt minutes 60 then signed_in sign (60 * hours + minutes) else None
 
 unfoldable pub offset_in : List ℕ → Option ℤ
-offset_in (sign ∷ a ∷ b ∷ c ∷ d ∷ []) = if two_are a b && two_are c d then offset_is sign (two_value a b) (two_value c d) else None
+offset_in (sign ∷ a ∷ b ∷ c ∷ d ∷ []) =
+    if two_are a b && two_are c d then offset_is sign (two_value a b) (two_value c d) else None
 offset_in _ = None
 
 -- a blank, `0` (48) to `7` (55), `A` (65) or `J` (74)

@@ -30,7 +30,9 @@ set_of c s = record { carrier = c; legs = s.legs; segments = s.segments }
 
 -- the bytes are read to their end as this data set
 abbrev pub ReadsAs : ℕ → List ℕ → DataSet → Type 0
-ReadsAs most bytes set = (n : ℕ) × (s : Reader) × (c : Carrier) × (reach (next most) fresh bytes n ≡ Ok (s, [])) × (s.phase ≡ Done c) × (set_of c s ≡ set)
+ReadsAs most bytes set =
+    (n : ℕ) × (s : Reader) × (c : Carrier) × (reach (next most) fresh bytes n ≡ Ok (s, [])) × (s.phase ≡ Done c)
+    × (set_of c s ≡ set)
 
 -- the first fault of the bytes is this one, of the nth record
 abbrev pub IsFirstFault : ℕ → List ℕ → ℕ → SetKind → Type 0
@@ -43,7 +45,9 @@ IsRoomWanted s (Err kind) = ⊥
 
 -- no record has a fault up to the nth, which is a leg's
 abbrev pub WantsRoom : ℕ → List ℕ → ℕ → Type 0
-WantsRoom most bytes nth = (s : Reader) × (rest : List ℕ) × (1 ≤ nth) × (reach (next most) fresh bytes (nth - 1) ≡ Ok (s, rest)) × IsRoomWanted s (next most s rest)
+WantsRoom most bytes nth =
+    (s : Reader) × (rest : List ℕ) × (1 ≤ nth) × (reach (next most) fresh bytes (nth - 1) ≡ Ok (s, rest))
+    × IsRoomWanted s (next most s rest)
 
 -- a refusal by this record, of this kind
 abbrev pub IsRefusal : ℕ → List ℕ → ℕ → SetKind → Type 0
@@ -53,4 +57,5 @@ IsRefusal most bytes nth kind = IsFirstFault most bytes nth kind ⊎ ((kind ≡ 
 
 -- no bytes have two first faults
 abbrev pub OneFirstFault : Type 0
-OneFirstFault = (most : ℕ) (bytes : List ℕ) (n m : ℕ) (a b : SetKind) → IsFirstFault most bytes n a → IsFirstFault most bytes m b → (n ≡ m) × (a ≡ b)
+OneFirstFault = (most : ℕ) (bytes : List ℕ) (n m : ℕ) (a b : SetKind) → IsFirstFault most bytes n a
+    → IsFirstFault most bytes m b → (n ≡ m) × (a ≡ b)

@@ -139,16 +139,23 @@ unfoldable pub header_step : Reader → List ℕ → Result Reader SetKind
 header_step s text = header_at (s.count + 1) text >>= (λ _. Ok (record s { phase = Open; count = s.count + 1 }))
 
 unfoldable pub carrier_step : Reader → List ℕ → Result Reader SetKind
-carrier_step s text = second_at (s.count + 1) text >>= (λ carrier. Ok (record s { phase = Body carrier; count = s.count + 1 }))
+carrier_step s text =
+    second_at (s.count + 1) text >>= (λ carrier. Ok (record s { phase = Body carrier; count = s.count + 1 }))
 
 unfoldable pub leg_step : Carrier → Reader → List ℕ → Result Reader SetKind
-leg_step c s text = numbered_at (s.count + 1) (leg_at c.airline (s.count + 1) text) text >>= (λ leg. Ok (record s { legs = s.legs ++ leg ∷ []; count = s.count + 1 }))
+leg_step c s text =
+    numbered_at (s.count + 1) (leg_at c.airline (s.count + 1) text) text >>=
+    (λ leg. Ok (record s { legs = s.legs ++ leg ∷ []; count = s.count + 1 }))
 
 unfoldable pub segment_step : Reader → List ℕ → Result Reader SetKind
-segment_step s text = segment_at (length s.legs == 0) (s.count + 1) text >>= (λ _. Ok (record s { segments = s.segments + 1; count = s.count + 1 }))
+segment_step s text =
+    segment_at (length s.legs == 0) (s.count + 1) text >>=
+    (λ _. Ok (record s { segments = s.segments + 1; count = s.count + 1 }))
 
 unfoldable pub trailer_step : Carrier → Reader → List ℕ → Result Reader SetKind
-trailer_step c s text = numbered_at (s.count + 1) (trailer_at c.airline s.count text) text >>= (λ _. Ok (record s { phase = Done c; count = s.count + 1 }))
+trailer_step c s text =
+    numbered_at (s.count + 1) (trailer_at c.airline s.count text) text >>=
+    (λ _. Ok (record s { phase = Done c; count = s.count + 1 }))
 
 -- the record after the carrier's
 unfoldable pub body_step : ℕ → Carrier → Reader → List ℕ → Result Reader SetKind

@@ -111,7 +111,8 @@ pub record IsTrailer (airline : List ℕ) (serial : ℕ) (text : List ℕ) : Typ
 abbrev pub IsBody : List ℕ → ℕ → List (List ℕ) → List Leg → ℕ → Type 0
 IsBody airline before [] legs segments = (legs ≡ []) × (segments ≡ 0)
 IsBody airline before (text ∷ texts) legs segments =
-    ((leg : Leg) × (others : List Leg) × IsLeg airline text leg × (leg.serial ≡ before + 1) × (legs ≡ leg ∷ others) × IsBody airline (before + 1) texts others segments)
+    ((leg : Leg) × (others : List Leg) × IsLeg airline text leg × (leg.serial ≡ before + 1) × (legs ≡ leg ∷ others)
+    × IsBody airline (before + 1) texts others segments)
     ⊎ ((k : ℕ) × IsTyped segment_type text × (segments ≡ k + 1) × IsBody airline (before + 1) texts legs k)
 
 -- the k-th has the serial k
@@ -127,7 +128,9 @@ IsEnd end = (end ≡ []) ⊎ ((end ≡ 10 ∷ []) ⊎ (end ≡ 13 ∷ 10 ∷ [])
 -- the bytes are these records, each with its end
 abbrev pub IsCut : List ℕ → List (List ℕ) → Type 0
 IsCut bytes [] = bytes ≡ []
-IsCut bytes (text ∷ texts) = (end rest : List ℕ) × (length text ≡ 200) × IsTrue (list_all is_printable text) × IsEnd end × (bytes ≡ text ++ (end ++ rest)) × IsCut rest texts
+IsCut bytes (text ∷ texts) =
+    (end rest : List ℕ) × (length text ≡ 200) × IsTrue (list_all is_printable text) × IsEnd end
+    × (bytes ≡ text ++ (end ++ rest)) × IsCut rest texts
 
 pub record IsDataSet (most : ℕ) (bytes : List ℕ) (set : DataSet) : Type 0 where
   pub header : List ℕ

@@ -20,7 +20,8 @@ pub fn read_set(alloc: Global, bytes: &[u8], most: u32) -> Result<DataSet, SetFa
     // What is read is spelled by these bytes.
     ensures found { IfOk result (IsDataSet most bytes.now) }
     // What is so spelled is read, or refused for want of memory alone.
-    ensures only { (set : Said) → IsDataSet most bytes.now set → MatchResult result (λ r. r ≡ set) (λ f. f.kind ≡ SetKind.Memory) }
+    ensures only { (set : Said) → IsDataSet most bytes.now set
+        → MatchResult result (λ r. r ≡ set) (λ f. f.kind ≡ SetKind.Memory) }
     // Each field of it has a value that the standard takes as right.
     ensures right { IfOk result IsRightSet }
     // Which fault it is: the first of the first record that has one.

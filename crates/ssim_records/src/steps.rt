@@ -103,7 +103,8 @@ fn take_trailer(
     most: u32,
 ) -> Result<(), SetKind>
     requires { IsReady most reader.old text.now }
-    ensures taken { Takes reader.old reader.new result (within most reader.old (trailer_step carrier reader.old text.now)) }
+    ensures taken { Takes reader.old reader.new result
+        (within most reader.old (trailer_step carrier reader.old text.now)) }
     ensures counted { OnOk result (IsCounted most reader.new) }
 {
     trailer(text, carrier.airline, reader.count)?;
@@ -118,7 +119,8 @@ fn take_trailer(
 #[tactic(auto, unfolding(crate::specs::SetSteps::body_step))]
 fn take_body(reader: &mut Reader, carrier: Carrier, text: &[u8], most: u32) -> Result<(), SetKind>
     requires { IsReady most reader.old text.now }
-    ensures taken { Takes reader.old reader.new result (within most reader.old (body_step (type_of text.now) carrier reader.old text.now)) }
+    ensures taken { Takes reader.old reader.new result
+        (within most reader.old (body_step (type_of text.now) carrier reader.old text.now)) }
     ensures counted { OnOk result (IsCounted most reader.new) }
 {
     match type_of(text) {

@@ -1,16 +1,15 @@
 -- Bookings in order of number, and where a number stands among them.
 use Rattle.std.proofs.Common.{◌≡◌, ◌≢◌, ◌==◌, ℕ, zero, suc, ◌<◌, ◌≤◌, Bool, true, false, nat_lt, List, [], ◌∷◌, length, get_or, cond, position, Some, None, arith, refl, ap, ◌∙◌}
-use Rattle.std.specs.List.{AllByRecursion, position_or_len}
+use Rattle.seat_bookings.proofs.Common.{AllByRecursion, Booking}
+use Rattle.std.specs.List.{position_or_len}
 use Rattle.std.specs.List.Sorted.{IsPartitionedBy, IsPartitionPoint}
 use Rattle.std.proofs.lemmas.Bool.Decides.{nat_tests}
 use Rattle.std.proofs.lemmas.List.Elements.{All-from_recursion}
 use Rattle.std.proofs.lemmas.List.Sums.{position_or_len_is}
-use Rattle.seat_rules.specs.declared.booking.Booking.{Booking}
 use Rattle.seat_rules.specs.Applying.{IsOrdered}
-use Rattle.seat_rules.specs.Bookings.{is_waiting}
-use Rattle.seat_bookings.specs.Queues.{queue_of}
 
-rises : (xs : List Booking) → IsOrdered xs → (i j : ℕ) (d : Booking) → i < j → j < length xs → (get_or xs i d).number < (get_or xs j d).number
+rises : (xs : List Booking) → IsOrdered xs → (i j : ℕ) (d : Booking) → i < j → j < length xs
+    → (get_or xs i d).number < (get_or xs j d).number
 rises [] o i j d lt le = absurd (omega arith)
 rises (x ∷ xs) o i zero d lt le = absurd (omega arith)
 rises (x ∷ xs) o zero (suc j) d lt le = All-from_recursion (λ (y : Booking). x.number < y.number) xs o.0 j d (omega arith)
@@ -26,19 +25,22 @@ parted xs n o i j d le lt below = cases (i == j) refl where
       let low : (get_or xs j d).number < n = grind (arith, nat_tests) in
       grind (arith, nat_tests)
 
-at_first : (test : Booking → Bool) (xs : List Booking) (i : ℕ) (d : Booking) → i < length xs → ((k : ℕ) → k < i → test (get_or xs k d) ≡ false) → test (get_or xs i d) ≡ true → position test xs ≡ Some i
+at_first : (test : Booking → Bool) (xs : List Booking) (i : ℕ) (d : Booking) → i < length xs
+    → ((k : ℕ) → k < i → test (get_or xs k d) ≡ false) → test (get_or xs i d) ≡ true → position test xs ≡ Some i
 at_first test xs i d lt before here =
     let at : position_or_len test xs ≡ i = position_or_len_is test xs i d (omega arith) before (λ h. here) in
     let inside : nat_lt i (length xs) ≡ true = grind (arith, nat_tests) in
     ap (λ (k : ℕ). cond (nat_lt k (length xs)) (Some k) None) at ∙ ap (λ (t : Bool). cond t (Some i) None) inside
 
-nowhere : (test : Booking → Bool) (xs : List Booking) (d : Booking) → ((k : ℕ) → k < length xs → test (get_or xs k d) ≡ false) → position test xs ≡ None
+nowhere : (test : Booking → Bool) (xs : List Booking) (d : Booking)
+    → ((k : ℕ) → k < length xs → test (get_or xs k d) ≡ false) → position test xs ≡ None
 nowhere test xs d none =
     let at : position_or_len test xs ≡ length xs = position_or_len_is test xs (length xs) d (omega arith) none (λ h. absurd (omega (arith, h))) in
     let outside : nat_lt (length xs) (length xs) ≡ false = grind (arith, nat_tests) in
     ap (λ (k : ℕ). cond (nat_lt k (length xs)) (Some k) None) at ∙ ap (λ (t : Bool). cond t (Some (length xs)) None) outside
 
-pub absent_nowhere : (test : Booking → Bool) (xs : List Booking) → AllByRecursion (λ x. test x ≡ false) xs → position test xs ≡ None
+pub absent_nowhere : (test : Booking → Bool) (xs : List Booking) → AllByRecursion (λ x. test x ≡ false) xs
+    → position test xs ≡ None
 absent_nowhere test [] a = refl
 absent_nowhere test (x ∷ xs) a = nowhere test (x ∷ xs) x (λ k lt. All-from_recursion (λ y. test y ≡ false) (x ∷ xs) a k x lt)
 
@@ -46,13 +48,17 @@ absent_nowhere test (x ∷ xs) a = nowhere test (x ∷ xs) x (λ k lt. All-from_
 below_other : (x n : ℕ) → nat_lt x n ≡ true → (x == n) ≡ false
 below_other x n h = let lt : x < n = grind (arith, nat_tests) in grind (arith, nat_tests)
 
-pub number_at : (xs : List Booking) (n i : ℕ) (b : Booking) → IsPartitionPoint (λ (y : Booking). nat_lt y.number n ≡ true) (λ (y : Booking). nat_lt y.number n ≡ false) xs i → i < length xs → (get_or xs i b).number ≡ n
+pub number_at : (xs : List Booking) (n i : ℕ) (b : Booking)
+    → IsPartitionPoint (λ (y : Booking). nat_lt y.number n ≡ true) (λ (y : Booking). nat_lt y.number n ≡ false) xs i
+    → i < length xs → (get_or xs i b).number ≡ n
     → position (λ (y : Booking). y.number == n) xs ≡ Some i
 number_at xs n i b point lt there =
     let here : ((get_or xs i b).number == n) ≡ true = grind (arith, nat_tests) in
     at_first (λ (y : Booking). y.number == n) xs i b lt (λ k h. below_other (get_or xs k b).number n (point.0 k b (omega arith) h)) here
 
-pub number_not_at : (xs : List Booking) (n i : ℕ) (b : Booking) → IsOrdered xs → IsPartitionPoint (λ (y : Booking). nat_lt y.number n ≡ true) (λ (y : Booking). nat_lt y.number n ≡ false) xs i → i < length xs → (get_or xs i b).number ≢ n
+pub number_not_at : (xs : List Booking) (n i : ℕ) (b : Booking) → IsOrdered xs
+    → IsPartitionPoint (λ (y : Booking). nat_lt y.number n ≡ true) (λ (y : Booking). nat_lt y.number n ≡ false) xs i
+    → i < length xs → (get_or xs i b).number ≢ n
     → position (λ (y : Booking). y.number == n) xs ≡ None
 number_not_at xs n i b o point lt there = nowhere (λ (y : Booking). y.number == n) xs b (λ k within. cases k within (nat_lt k i) (k == i) refl refl) where
   cases : (k : ℕ) → k < length xs → (t u : Bool) → nat_lt k i ≡ t → (k == i) ≡ u → ((get_or xs k b).number == n) ≡ false
@@ -73,22 +79,9 @@ number_not_at xs n i b o point lt there = nowhere (λ (y : Booking). y.number ==
       let above : n < (get_or xs k b).number = omega arith in
       grind (arith, nat_tests)
 
-pub number_past : (xs : List Booking) (n i : ℕ) → IsPartitionPoint (λ (y : Booking). nat_lt y.number n ≡ true) (λ (y : Booking). nat_lt y.number n ≡ false) xs i → length xs ≤ i
+pub number_past : (xs : List Booking) (n i : ℕ)
+    → IsPartitionPoint (λ (y : Booking). nat_lt y.number n ≡ true) (λ (y : Booking). nat_lt y.number n ≡ false) xs i
+    → length xs ≤ i
     → position (λ (y : Booking). y.number == n) xs ≡ None
 number_past [] n i point le = refl
 number_past (x ∷ xs) n i point le = nowhere (λ (y : Booking). y.number == n) (x ∷ xs) x (λ k within. below_other (get_or (x ∷ xs) k x).number n (point.0 k x (omega arith) (omega arith)))
-
--- ---- those that wait
-all_queue : (P : Booking → Type 0) (xs : List Booking) → AllByRecursion P xs → AllByRecursion P (queue_of xs)
-all_queue P [] a = tt
-all_queue P (b ∷ bs) a = cases (is_waiting b.status) refl (all_queue P bs a.1) where
-  cases : (t : Bool) → is_waiting b.status ≡ t → AllByRecursion P (queue_of bs) → AllByRecursion P (queue_of (b ∷ bs))
-  cases true e rest = rw e (a.0, rest)
-  cases false e rest = rw e rest
-
-pub ordered_queue : (xs : List Booking) → IsOrdered xs → IsOrdered (queue_of xs)
-ordered_queue [] o = tt
-ordered_queue (b ∷ bs) o = cases (is_waiting b.status) refl (ordered_queue bs o.1) where
-  cases : (t : Bool) → is_waiting b.status ≡ t → IsOrdered (queue_of bs) → IsOrdered (queue_of (b ∷ bs))
-  cases true e rest = rw e (all_queue (λ x. b.number < x.number) bs o.0, rest)
-  cases false e rest = rw e rest

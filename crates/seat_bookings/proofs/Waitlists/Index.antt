@@ -1,16 +1,14 @@
 -- The demands of a waiting list stay what its bookings are.
 use Rattle.std.proofs.Common.{◌≡◌, ◌==◌, ◌||◌, ℕ, zero, suc, ◌+◌, ◌*◌, ◌<◌, ◌≤◌, Bool, true, false, min, List, [], ◌∷◌, ◌++◌, length, get_or, set, remove, Option, Some, None, if◌then◌else◌, arith, refl, sym, subst, ap, ◌∙◌}
-use Rattle.std.specs.List.{AllByRecursion, list_any}
+use Rattle.seat_bookings.proofs.Common.{AllByRecursion, Place, Booking, Demand, is_waiting, is_at, is_demand_of, is_booking_of, is_apart, least_with, smallest_of, seats_for, demand_smallest, demand_seats, IsIndexed}
+use Rattle.std.specs.List.{list_any}
 use Rattle.std.proofs.lemmas.Bool.Decides.{nat_tests}
 use Rattle.std.proofs.lemmas.List.{set-get_or}
-use Rattle.airline_base.specs.declared.place.Place.{Place}
-use Rattle.seat_rules.specs.declared.booking.Booking.{Booking}
-use Rattle.seat_bookings.specs.declared.demands.Demand.{Demand}
-use Rattle.seat_rules.specs.Bookings.{same_place, is_waiting}
-use Rattle.seat_bookings.specs.Demands.{is_at, is_demand_of, is_booking_of, is_apart, least_with, smallest_of, seats_for, demand_smallest, demand_seats, joined, IsIndexed}
-use Rattle.seat_rules.proofs.Step.Limits.{both}
+use Rattle.seat_rules.specs.Bookings.{same_place}
+use Rattle.seat_bookings.specs.Demands.{joined}
 use Rattle.seat_rules.proofs.History.Faults.{nat_same, place_same, same_nat}
 use Rattle.seat_rules.proofs.Passes.Quiet.{all_push}
+use Rattle.airline_base.proofs.Tests.{both_true}
 
 -- ---- places and classes
 pub turned : (m n : ℕ) → (m == n) ≡ (n == m)
@@ -24,7 +22,7 @@ at_turned p q m n = rw (turned p.flight q.flight, turned p.from q.from, turned p
 
 pub at_same : (p q : Place) (m n : ℕ) → is_at p m q n ≡ true → (q ≡ p) × (n ≡ m)
 at_same p q m n e =
-    let h = both (same_place q p) (n == m) e in
+    let h = both_true (same_place q p) (n == m) e in
     (place_same q p h.0, nat_same n m h.1)
 
 -- what is at one is not at another
@@ -72,66 +70,81 @@ with_least q c b o = (if is_booking_of q c b then least_with b.seats o else o)
 abbrev pub with_seats : Place → ℕ → Booking → ℕ → ℕ
 with_seats q c b n = (if is_booking_of q c b then b.seats + n else n)
 
-pub with_swap : (q : Place) (c : ℕ) (a b : Booking) (o : Option ℕ) → with_least q c a (with_least q c b o) ≡ with_least q c b (with_least q c a o)
+pub with_swap : (q : Place) (c : ℕ) (a b : Booking) (o : Option ℕ)
+    → with_least q c a (with_least q c b o) ≡ with_least q c b (with_least q c a o)
 with_swap q c a b o = cases (is_booking_of q c a) (is_booking_of q c b) refl refl where
-  cases : (t u : Bool) → is_booking_of q c a ≡ t → is_booking_of q c b ≡ u → with_least q c a (with_least q c b o) ≡ with_least q c b (with_least q c a o)
+  cases : (t u : Bool) → is_booking_of q c a ≡ t → is_booking_of q c b ≡ u
+      → with_least q c a (with_least q c b o) ≡ with_least q c b (with_least q c a o)
   cases true true e f = rw (e, f) (least_swap a.seats b.seats o)
   cases true false e f = rw (e, f) refl
   cases false u e f = rw e refl
 
-pub seats_swap : (q : Place) (c : ℕ) (a b : Booking) (n : ℕ) → with_seats q c a (with_seats q c b n) ≡ with_seats q c b (with_seats q c a n)
+pub seats_swap : (q : Place) (c : ℕ) (a b : Booking) (n : ℕ)
+    → with_seats q c a (with_seats q c b n) ≡ with_seats q c b (with_seats q c a n)
 seats_swap q c a b n = cases (is_booking_of q c a) (is_booking_of q c b) refl refl where
-  cases : (t u : Bool) → is_booking_of q c a ≡ t → is_booking_of q c b ≡ u → with_seats q c a (with_seats q c b n) ≡ with_seats q c b (with_seats q c a n)
+  cases : (t u : Bool) → is_booking_of q c a ≡ t → is_booking_of q c b ≡ u
+      → with_seats q c a (with_seats q c b n) ≡ with_seats q c b (with_seats q c a n)
   cases true true e f = rw (e, f) (omega arith)
   cases true false e f = rw (e, f) refl
   cases false u e f = rw e refl
 
-pub smallest_push : (q : Place) (c : ℕ) (xs : List Booking) (b : Booking) → smallest_of q c (xs ++ b ∷ []) ≡ with_least q c b (smallest_of q c xs)
+pub smallest_push : (q : Place) (c : ℕ) (xs : List Booking) (b : Booking)
+    → smallest_of q c (xs ++ b ∷ []) ≡ with_least q c b (smallest_of q c xs)
 smallest_push q c [] b = refl
 smallest_push q c (x ∷ xs) b = ap (with_least q c x) (smallest_push q c xs b) ∙ with_swap q c x b (smallest_of q c xs)
 
-pub seats_push : (q : Place) (c : ℕ) (xs : List Booking) (b : Booking) → seats_for q c (xs ++ b ∷ []) ≡ with_seats q c b (seats_for q c xs)
+pub seats_push : (q : Place) (c : ℕ) (xs : List Booking) (b : Booking)
+    → seats_for q c (xs ++ b ∷ []) ≡ with_seats q c b (seats_for q c xs)
 seats_push q c [] b = refl
 seats_push q c (x ∷ xs) b = ap (with_seats q c x) (seats_push q c xs b) ∙ seats_swap q c x b (seats_for q c xs)
 
-pub smallest_set : (q : Place) (c : ℕ) (xs : List Booking) (i : ℕ) (b : Booking) → i < length xs → smallest_of q c (set xs i b) ≡ with_least q c b (smallest_of q c (remove xs i))
+pub smallest_set : (q : Place) (c : ℕ) (xs : List Booking) (i : ℕ) (b : Booking) → i < length xs
+    → smallest_of q c (set xs i b) ≡ with_least q c b (smallest_of q c (remove xs i))
 smallest_set q c [] i b h = absurd (omega (arith, h))
 smallest_set q c (x ∷ xs) zero b h = refl
 smallest_set q c (x ∷ xs) (suc i) b h = ap (with_least q c x) (smallest_set q c xs i b (omega (arith, h))) ∙ with_swap q c x b (smallest_of q c (remove xs i))
 
-pub seats_set : (q : Place) (c : ℕ) (xs : List Booking) (i : ℕ) (b : Booking) → i < length xs → seats_for q c (set xs i b) ≡ with_seats q c b (seats_for q c (remove xs i))
+pub seats_set : (q : Place) (c : ℕ) (xs : List Booking) (i : ℕ) (b : Booking) → i < length xs
+    → seats_for q c (set xs i b) ≡ with_seats q c b (seats_for q c (remove xs i))
 seats_set q c [] i b h = absurd (omega (arith, h))
 seats_set q c (x ∷ xs) zero b h = refl
 seats_set q c (x ∷ xs) (suc i) b h = ap (with_seats q c x) (seats_set q c xs i b (omega (arith, h))) ∙ seats_swap q c x b (seats_for q c (remove xs i))
 
-pub smallest_get : (q : Place) (c : ℕ) (xs : List Booking) (i : ℕ) (b : Booking) → i < length xs → b ≡ get_or xs i b → smallest_of q c xs ≡ with_least q c b (smallest_of q c (remove xs i))
+pub smallest_get : (q : Place) (c : ℕ) (xs : List Booking) (i : ℕ) (b : Booking) → i < length xs → b ≡ get_or xs i b
+    → smallest_of q c xs ≡ with_least q c b (smallest_of q c (remove xs i))
 smallest_get q c xs i b h is =
     ap (smallest_of q c) (sym (ap (λ (x : Booking). set xs i x) is ∙ set-get_or xs i b)) ∙ smallest_set q c xs i b h
 
-pub seats_get : (q : Place) (c : ℕ) (xs : List Booking) (i : ℕ) (b : Booking) → i < length xs → b ≡ get_or xs i b → seats_for q c xs ≡ with_seats q c b (seats_for q c (remove xs i))
+pub seats_get : (q : Place) (c : ℕ) (xs : List Booking) (i : ℕ) (b : Booking) → i < length xs → b ≡ get_or xs i b
+    → seats_for q c xs ≡ with_seats q c b (seats_for q c (remove xs i))
 seats_get q c xs i b h is =
     ap (seats_for q c) (sym (ap (λ (x : Booking). set xs i x) is ∙ set-get_or xs i b)) ∙ seats_set q c xs i b h
 
 -- the seats of a list are few
-pub seats_few : (q : Place) (c : ℕ) (xs : List Booking) → AllByRecursion (λ b. b.seats < 65536) xs → seats_for q c xs ≤ length xs * 65536
+pub seats_few : (q : Place) (c : ℕ) (xs : List Booking) → AllByRecursion (λ b. b.seats < 65536) xs
+    → seats_for q c xs ≤ length xs * 65536
 seats_few q c [] a = omega arith
 seats_few q c (b ∷ bs) a = cases (is_booking_of q c b) refl (seats_few q c bs a.1) where
-  cases : (t : Bool) → is_booking_of q c b ≡ t → seats_for q c bs ≤ length bs * 65536 → seats_for q c (b ∷ bs) ≤ length (b ∷ bs) * 65536
+  cases : (t : Bool) → is_booking_of q c b ≡ t → seats_for q c bs ≤ length bs * 65536
+      → seats_for q c (b ∷ bs) ≤ length (b ∷ bs) * 65536
   cases true e rest = rw e (omega (arith, rest, a.0))
   cases false e rest = rw e (omega (arith, rest))
 
-pub all_remove : (P : Booking → Type 0) (xs : List Booking) (i : ℕ) → AllByRecursion P xs → AllByRecursion P (remove xs i)
+pub all_remove : (P : Booking → Type 0) (xs : List Booking) (i : ℕ) → AllByRecursion P xs
+    → AllByRecursion P (remove xs i)
 all_remove P [] zero a = a
 all_remove P [] (suc i) a = a
 all_remove P (x ∷ xs) zero a = a.1
 all_remove P (x ∷ xs) (suc i) a = (a.0, all_remove P xs i a.1)
 
-pub all_set : (P : Booking → Type 0) (xs : List Booking) (i : ℕ) (b : Booking) → AllByRecursion P xs → P b → AllByRecursion P (set xs i b)
+pub all_set : (P : Booking → Type 0) (xs : List Booking) (i : ℕ) (b : Booking) → AllByRecursion P xs → P b
+    → AllByRecursion P (set xs i b)
 all_set P [] i b a h = a
 all_set P (x ∷ xs) zero b a h = (h, a.1)
 all_set P (x ∷ xs) (suc i) b a h = (a.0, all_set P xs i b a.1 h)
 
-pub all_get : (P : Booking → Type 0) (xs : List Booking) (i : ℕ) (b : Booking) → i < length xs → AllByRecursion P xs → P (get_or xs i b)
+pub all_get : (P : Booking → Type 0) (xs : List Booking) (i : ℕ) (b : Booking) → i < length xs → AllByRecursion P xs
+    → P (get_or xs i b)
 all_get P [] i b h a = absurd (omega (arith, h))
 all_get P (x ∷ xs) zero b h a = a.0
 all_get P (x ∷ xs) (suc i) b h a = all_get P xs i b (omega (arith, h)) a.1
@@ -144,7 +157,8 @@ none_left q c (b ∷ bs) e = cases (is_booking_of q c b) refl e (none_left q c b
   some n None e = absurd cc
   some n (Some m) e = absurd cc
 
-  cases : (t : Bool) → is_booking_of q c b ≡ t → with_least q c b (smallest_of q c bs) ≡ None → (smallest_of q c bs ≡ None → seats_for q c bs ≡ 0) → seats_for q c (b ∷ bs) ≡ 0
+  cases : (t : Bool) → is_booking_of q c b ≡ t → with_least q c b (smallest_of q c bs) ≡ None
+      → (smallest_of q c bs ≡ None → seats_for q c bs ≡ 0) → seats_for q c (b ∷ bs) ≡ 0
   cases true f g rest = some b.seats (smallest_of q c bs) (rw f at g)
   cases false f g rest = rw f (rest (rw f at g))
 
@@ -159,22 +173,26 @@ no_seats q c (p ∷ ps) e =
     let h = neither (is_demand_of q c p) (list_any (is_demand_of q c) ps) e in
     rw (h.0) (no_seats q c ps h.1)
 
-pub no_smallest : (q : Place) (c : ℕ) (ps : List Demand) → list_any (is_demand_of q c) ps ≡ false → demand_smallest q c ps ≡ None
+pub no_smallest : (q : Place) (c : ℕ) (ps : List Demand) → list_any (is_demand_of q c) ps ≡ false
+    → demand_smallest q c ps ≡ None
 no_smallest q c [] e = refl
 no_smallest q c (p ∷ ps) e =
     let h = neither (is_demand_of q c p) (list_any (is_demand_of q c) ps) e in
     rw (h.0) (no_smallest q c ps h.1)
 
 -- none but the first of a list is of its place and class
-pub apart_rest : (p : Demand) (ps : List Demand) → is_apart (p ∷ ps) ≡ true → (list_any (is_demand_of p.place p.class) ps ≡ false) × (is_apart ps ≡ true)
+pub apart_rest : (p : Demand) (ps : List Demand) → is_apart (p ∷ ps) ≡ true
+    → (list_any (is_demand_of p.place p.class) ps ≡ false) × (is_apart ps ≡ true)
 apart_rest p ps e = cases (list_any (is_demand_of p.place p.class) ps) refl e where
-  cases : (t : Bool) → list_any (is_demand_of p.place p.class) ps ≡ t → (if list_any (is_demand_of p.place p.class) ps then false else is_apart ps) ≡ true
+  cases : (t : Bool) → list_any (is_demand_of p.place p.class) ps ≡ t
+      → (if list_any (is_demand_of p.place p.class) ps then false else is_apart ps) ≡ true
       → (list_any (is_demand_of p.place p.class) ps ≡ false) × (is_apart ps ≡ true)
   cases true f g = let no : false ≡ true = rw f at g in absurd cc
   cases false f g = (f, rw f at g)
 
 -- no demand of one place and class is among those of another list
-pub gone_at : (place : Place) (class : ℕ) (p : Demand) (ps : List Demand) → is_demand_of place class p ≡ true → list_any (is_demand_of p.place p.class) ps ≡ false → list_any (is_demand_of place class) ps ≡ false
+pub gone_at : (place : Place) (class : ℕ) (p : Demand) (ps : List Demand) → is_demand_of place class p ≡ true
+    → list_any (is_demand_of p.place p.class) ps ≡ false → list_any (is_demand_of place class) ps ≡ false
 gone_at place class p ps e f =
     let h = at_same place p.place class p.class e in
     let P : Place → Type 0 = λ y. list_any (is_demand_of y p.class) ps ≡ false in
@@ -182,61 +200,76 @@ gone_at place class p ps e f =
     subst Q h.1 (subst P h.0 f)
 
 -- ---- a booking joins
-pub joined_smallest : (place : Place) (class n : ℕ) (q : Place) (c : ℕ) (ps : List Demand) → is_at place class q c ≡ false → demand_smallest q c (joined ps place class n) ≡ demand_smallest q c ps
+pub joined_smallest : (place : Place) (class n : ℕ) (q : Place) (c : ℕ) (ps : List Demand)
+    → is_at place class q c ≡ false → demand_smallest q c (joined ps place class n) ≡ demand_smallest q c ps
 joined_smallest place class n q c [] other = rw (at_turned q place c class ∙ other) refl
 joined_smallest place class n q c (p ∷ ps) other = cases (is_demand_of place class p) (is_demand_of q c p) refl refl (joined_smallest place class n q c ps other) where
-  cases : (t u : Bool) → is_demand_of place class p ≡ t → is_demand_of q c p ≡ u → demand_smallest q c (joined ps place class n) ≡ demand_smallest q c ps
+  cases : (t u : Bool) → is_demand_of place class p ≡ t → is_demand_of q c p ≡ u
+      → demand_smallest q c (joined ps place class n) ≡ demand_smallest q c ps
       → demand_smallest q c (joined (p ∷ ps) place class n) ≡ demand_smallest q c (p ∷ ps)
   cases true u e f rest = let away = at_other place q p.place class c p.class other e in rw e (rw away refl)
   cases false true e f rest = rw (e, f) refl
   cases false false e f rest = rw (e, f) rest
 
-pub joined_seats : (place : Place) (class n : ℕ) (q : Place) (c : ℕ) (ps : List Demand) → is_at place class q c ≡ false → demand_seats q c (joined ps place class n) ≡ demand_seats q c ps
+pub joined_seats : (place : Place) (class n : ℕ) (q : Place) (c : ℕ) (ps : List Demand) → is_at place class q c ≡ false
+    → demand_seats q c (joined ps place class n) ≡ demand_seats q c ps
 joined_seats place class n q c [] other = rw (at_turned q place c class ∙ other) refl
 joined_seats place class n q c (p ∷ ps) other = cases (is_demand_of place class p) (is_demand_of q c p) refl refl (joined_seats place class n q c ps other) where
-  cases : (t u : Bool) → is_demand_of place class p ≡ t → is_demand_of q c p ≡ u → demand_seats q c (joined ps place class n) ≡ demand_seats q c ps
+  cases : (t u : Bool) → is_demand_of place class p ≡ t → is_demand_of q c p ≡ u
+      → demand_seats q c (joined ps place class n) ≡ demand_seats q c ps
       → demand_seats q c (joined (p ∷ ps) place class n) ≡ demand_seats q c (p ∷ ps)
   cases true u e f rest = let away = at_other place q p.place class c p.class other e in rw e (rw away refl)
   cases false true e f rest = rw (e, f) refl
   cases false false e f rest = rw (e, f) rest
 
-pub joined_smallest_here : (place : Place) (class n : ℕ) (ps : List Demand) → demand_smallest place class (joined ps place class n) ≡ least_with n (demand_smallest place class ps)
+pub joined_smallest_here : (place : Place) (class n : ℕ) (ps : List Demand)
+    → demand_smallest place class (joined ps place class n) ≡ least_with n (demand_smallest place class ps)
 joined_smallest_here place class n [] = rw (at_itself place class) refl
 joined_smallest_here place class n (p ∷ ps) = cases (is_demand_of place class p) refl (joined_smallest_here place class n ps) where
-  cases : (t : Bool) → is_demand_of place class p ≡ t → demand_smallest place class (joined ps place class n) ≡ least_with n (demand_smallest place class ps)
-      → demand_smallest place class (joined (p ∷ ps) place class n) ≡ least_with n (demand_smallest place class (p ∷ ps))
+  cases : (t : Bool) → is_demand_of place class p ≡ t
+      → demand_smallest place class (joined ps place class n) ≡ least_with n (demand_smallest place class ps)
+      → demand_smallest place class (joined (p ∷ ps) place class n)
+      ≡ least_with n (demand_smallest place class (p ∷ ps))
   cases true e rest = rw e (rw e refl)
   cases false e rest = rw e (rw e rest)
 
-pub joined_seats_here : (place : Place) (class n : ℕ) (ps : List Demand) → demand_seats place class (joined ps place class n) ≡ n + demand_seats place class ps
+pub joined_seats_here : (place : Place) (class n : ℕ) (ps : List Demand)
+    → demand_seats place class (joined ps place class n) ≡ n + demand_seats place class ps
 joined_seats_here place class n [] = rw (at_itself place class) (omega arith)
 joined_seats_here place class n (p ∷ ps) = cases (is_demand_of place class p) refl (joined_seats_here place class n ps) where
-  cases : (t : Bool) → is_demand_of place class p ≡ t → demand_seats place class (joined ps place class n) ≡ n + demand_seats place class ps
+  cases : (t : Bool) → is_demand_of place class p ≡ t
+      → demand_seats place class (joined ps place class n) ≡ n + demand_seats place class ps
       → demand_seats place class (joined (p ∷ ps) place class n) ≡ n + demand_seats place class (p ∷ ps)
   cases true e rest = rw e (rw e (omega arith))
   cases false e rest = rw e (rw e rest)
 
-pub joined_other : (ps : List Demand) (place : Place) (class n : ℕ) (q : Place) (c : ℕ) → is_at place class q c ≡ false → list_any (is_demand_of q c) ps ≡ false → list_any (is_demand_of q c) (joined ps place class n) ≡ false
+pub joined_other : (ps : List Demand) (place : Place) (class n : ℕ) (q : Place) (c : ℕ) → is_at place class q c ≡ false
+    → list_any (is_demand_of q c) ps ≡ false → list_any (is_demand_of q c) (joined ps place class n) ≡ false
 joined_other [] place class n q c other e = rw (at_turned q place c class ∙ other) refl
 joined_other (p ∷ ps) place class n q c other e =
     let h = neither (is_demand_of q c p) (list_any (is_demand_of q c) ps) e in
     cases (is_demand_of place class p) refl h.0 h.1 (joined_other ps place class n q c other h.1)
   where
-    cases : (t : Bool) → is_demand_of place class p ≡ t → is_demand_of q c p ≡ false → list_any (is_demand_of q c) ps ≡ false
-        → list_any (is_demand_of q c) (joined ps place class n) ≡ false → list_any (is_demand_of q c) (joined (p ∷ ps) place class n) ≡ false
+    cases : (t : Bool) → is_demand_of place class p ≡ t → is_demand_of q c p ≡ false
+        → list_any (is_demand_of q c) ps ≡ false
+        → list_any (is_demand_of q c) (joined ps place class n) ≡ false
+        → list_any (is_demand_of q c) (joined (p ∷ ps) place class n) ≡ false
     cases true e f g rest = rw e (rw (f, g) refl)
     cases false e f g rest = rw e (rw (f, rest) refl)
 
-pub joined_apart : (ps : List Demand) (place : Place) (class n : ℕ) → is_apart ps ≡ true → is_apart (joined ps place class n) ≡ true
+pub joined_apart : (ps : List Demand) (place : Place) (class n : ℕ) → is_apart ps ≡ true
+    → is_apart (joined ps place class n) ≡ true
 joined_apart [] place class n e = refl
 joined_apart (p ∷ ps) place class n e = cases (is_demand_of place class p) refl (joined_apart ps place class n (apart_rest p ps e).1) where
-  cases : (t : Bool) → is_demand_of place class p ≡ t → is_apart (joined ps place class n) ≡ true → is_apart (joined (p ∷ ps) place class n) ≡ true
+  cases : (t : Bool) → is_demand_of place class p ≡ t → is_apart (joined ps place class n) ≡ true
+      → is_apart (joined (p ∷ ps) place class n) ≡ true
   cases true f rest = rw f e
   cases false f rest =
       let none = joined_other ps place class n p.place p.class f (apart_rest p ps e).0 in
       rw f (rw none rest)
 
-pub added : (xs : List Booking) (ps : List Demand) (b : Booking) → IsIndexed xs ps → is_waiting b.status ≡ true → b.seats < 65536 → IsIndexed (xs ++ b ∷ []) (joined ps b.place b.class b.seats)
+pub added : (xs : List Booking) (ps : List Demand) (b : Booking) → IsIndexed xs ps → is_waiting b.status ≡ true
+    → b.seats < 65536 → IsIndexed (xs ++ b ∷ []) (joined ps b.place b.class b.seats)
 added xs ps b i waits few = record {
   waits = all_push (λ x. is_waiting x.status ≡ true) xs b i.waits waits;
   small = all_push (λ x. x.seats < 65536) xs b i.small few;
@@ -244,7 +277,8 @@ added xs ps b i waits few = record {
   smallest = λ q c. smallest_cases q c (is_at b.place b.class q c) refl;
   seats = λ q c. seats_cases q c (is_at b.place b.class q c) refl;
 } where
-  smallest_cases : (q : Place) (c : ℕ) (t : Bool) → is_at b.place b.class q c ≡ t → demand_smallest q c (joined ps b.place b.class b.seats) ≡ smallest_of q c (xs ++ b ∷ [])
+  smallest_cases : (q : Place) (c : ℕ) (t : Bool) → is_at b.place b.class q c ≡ t
+      → demand_smallest q c (joined ps b.place b.class b.seats) ≡ smallest_of q c (xs ++ b ∷ [])
   smallest_cases q c true e =
       let h = at_same b.place q b.class c e in
       let P : Place → ℕ → Type 0 = λ y j. demand_smallest y j (joined ps b.place b.class b.seats) ≡ smallest_of y j (xs ++ b ∷ []) in
@@ -259,7 +293,8 @@ added xs ps b i waits few = record {
       joined_smallest b.place b.class b.seats q c ps e
       ∙ (i.smallest q c ∙ sym (smallest_push q c xs b ∙ rw (at_turned q b.place c b.class ∙ e) refl))
 
-  seats_cases : (q : Place) (c : ℕ) (t : Bool) → is_at b.place b.class q c ≡ t → demand_seats q c (joined ps b.place b.class b.seats) ≡ seats_for q c (xs ++ b ∷ [])
+  seats_cases : (q : Place) (c : ℕ) (t : Bool) → is_at b.place b.class q c ≡ t
+      → demand_seats q c (joined ps b.place b.class b.seats) ≡ seats_for q c (xs ++ b ∷ [])
   seats_cases q c true e =
       let h = at_same b.place q b.class c e in
       let P : Place → ℕ → Type 0 = λ y j. demand_seats y j (joined ps b.place b.class b.seats) ≡ seats_for y j (xs ++ b ∷ []) in

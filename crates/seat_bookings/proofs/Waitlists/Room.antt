@@ -1,17 +1,14 @@
 -- What the demands answer is what the bookings answer.
 use Rattle.std.proofs.Common.{◌≡◌, ◌==◌, ◌&&◌, ℕ, ◌+◌, Bool, true, false, min, nat_lt, List, [], ◌∷◌, Option, Some, None, if◌then◌else◌, arith, refl, sym, subst, ap, ◌∙◌}
-use Rattle.std.specs.List.{AllByRecursion}
+use Rattle.seat_bookings.proofs.Common.{AllByRecursion, Place, Booking, Demand, is_waiting, is_at, is_demand_of, is_booking_of, is_apart, least_with, smallest_of, seats_for, demand_smallest, demand_seats, IsIndexed}
 use Rattle.std.proofs.lemmas.Bool.Decides.{nat_tests}
 use Rattle.std.proofs.lemmas.List.Sums.{sum_by-cons}
-use Rattle.airline_base.specs.declared.place.Place.{Place}
 use Rattle.seat_nesting.specs.Nesting.{Ladders, Table, room, may_wait, covers}
-use Rattle.seat_rules.specs.declared.booking.Booking.{Booking}
 use Rattle.seat_rules.specs.declared.booking.Status.{Status}
 use Rattle.seat_rules.specs.declared.booking.Status.TheVariants.{Held, Waiting}
-use Rattle.seat_bookings.specs.declared.demands.Demand.{Demand}
-use Rattle.seat_rules.specs.Bookings.{is_waiting, waits_on, waiting}
+use Rattle.seat_rules.specs.Bookings.{waits_on, waiting}
 use Rattle.seat_bookings.specs.Queues.{none_fits}
-use Rattle.seat_bookings.specs.Demands.{is_at, is_demand_of, is_booking_of, is_apart, least_with, smallest_of, seats_for, demand_smallest, demand_seats, waits_of, no_demand_fits, IsIndexed}
+use Rattle.seat_bookings.specs.Demands.{waits_of, no_demand_fits}
 use Rattle.seat_rules.proofs.Flight.View.{may_wait_same}
 use Rattle.seat_bookings.proofs.Waitlists.Index.{at_itself, at_turned, at_same, at_other, apart_rest, no_seats, no_smallest}
 
@@ -27,51 +24,62 @@ record Tells (xs : List Booking) (ps : List Demand) : Type 0 where
   seats : (place : Place) (class : ℕ) → demand_seats place class ps ≡ seats_for place class xs
 
 -- ---- without those of one place and class
-all_others : (P : Booking → Type 0) (q : Place) (c : ℕ) (xs : List Booking) → AllByRecursion P xs → AllByRecursion P (others q c xs)
+all_others : (P : Booking → Type 0) (q : Place) (c : ℕ) (xs : List Booking) → AllByRecursion P xs
+    → AllByRecursion P (others q c xs)
 all_others P q c [] a = tt
 all_others P q c (b ∷ bs) a = cases (is_booking_of q c b) refl (all_others P q c bs a.1) where
-  cases : (t : Bool) → is_booking_of q c b ≡ t → AllByRecursion P (others q c bs) → AllByRecursion P (others q c (b ∷ bs))
+  cases : (t : Bool) → is_booking_of q c b ≡ t → AllByRecursion P (others q c bs)
+      → AllByRecursion P (others q c (b ∷ bs))
   cases true e rest = rw e rest
   cases false e rest = rw e (a.0, rest)
 
 smallest_none : (q : Place) (c : ℕ) (xs : List Booking) → smallest_of q c (others q c xs) ≡ None
 smallest_none q c [] = refl
 smallest_none q c (b ∷ bs) = cases (is_booking_of q c b) refl (smallest_none q c bs) where
-  cases : (t : Bool) → is_booking_of q c b ≡ t → smallest_of q c (others q c bs) ≡ None → smallest_of q c (others q c (b ∷ bs)) ≡ None
+  cases : (t : Bool) → is_booking_of q c b ≡ t → smallest_of q c (others q c bs) ≡ None
+      → smallest_of q c (others q c (b ∷ bs)) ≡ None
   cases true e rest = rw e rest
   cases false e rest = rw e (rw e rest)
 
 seats_none : (q : Place) (c : ℕ) (xs : List Booking) → seats_for q c (others q c xs) ≡ 0
 seats_none q c [] = refl
 seats_none q c (b ∷ bs) = cases (is_booking_of q c b) refl (seats_none q c bs) where
-  cases : (t : Bool) → is_booking_of q c b ≡ t → seats_for q c (others q c bs) ≡ 0 → seats_for q c (others q c (b ∷ bs)) ≡ 0
+  cases : (t : Bool) → is_booking_of q c b ≡ t → seats_for q c (others q c bs) ≡ 0
+      → seats_for q c (others q c (b ∷ bs)) ≡ 0
   cases true e rest = rw e rest
   cases false e rest = rw e (rw e rest)
 
-smallest_kept : (q : Place) (c : ℕ) (y : Place) (j : ℕ) (xs : List Booking) → is_at q c y j ≡ false → smallest_of y j (others q c xs) ≡ smallest_of y j xs
+smallest_kept : (q : Place) (c : ℕ) (y : Place) (j : ℕ) (xs : List Booking) → is_at q c y j ≡ false
+    → smallest_of y j (others q c xs) ≡ smallest_of y j xs
 smallest_kept q c y j [] other = refl
 smallest_kept q c y j (b ∷ bs) other = cases (is_booking_of q c b) (is_booking_of y j b) refl refl (smallest_kept q c y j bs other) where
-  cases : (t u : Bool) → is_booking_of q c b ≡ t → is_booking_of y j b ≡ u → smallest_of y j (others q c bs) ≡ smallest_of y j bs → smallest_of y j (others q c (b ∷ bs)) ≡ smallest_of y j (b ∷ bs)
+  cases : (t u : Bool) → is_booking_of q c b ≡ t → is_booking_of y j b ≡ u
+      → smallest_of y j (others q c bs) ≡ smallest_of y j bs
+      → smallest_of y j (others q c (b ∷ bs)) ≡ smallest_of y j (b ∷ bs)
   cases true u e f rest = let away = at_other q y b.place c j b.class other e in rw e (rw away rest)
   cases false true e f rest = rw e (rw f (ap (least_with b.seats) rest))
   cases false false e f rest = rw e (rw f rest)
 
-seats_kept : (q : Place) (c : ℕ) (y : Place) (j : ℕ) (xs : List Booking) → is_at q c y j ≡ false → seats_for y j (others q c xs) ≡ seats_for y j xs
+seats_kept : (q : Place) (c : ℕ) (y : Place) (j : ℕ) (xs : List Booking) → is_at q c y j ≡ false
+    → seats_for y j (others q c xs) ≡ seats_for y j xs
 seats_kept q c y j [] other = refl
 seats_kept q c y j (b ∷ bs) other = cases (is_booking_of q c b) (is_booking_of y j b) refl refl (seats_kept q c y j bs other) where
-  cases : (t u : Bool) → is_booking_of q c b ≡ t → is_booking_of y j b ≡ u → seats_for y j (others q c bs) ≡ seats_for y j bs → seats_for y j (others q c (b ∷ bs)) ≡ seats_for y j (b ∷ bs)
+  cases : (t u : Bool) → is_booking_of q c b ≡ t → is_booking_of y j b ≡ u
+      → seats_for y j (others q c bs) ≡ seats_for y j bs → seats_for y j (others q c (b ∷ bs)) ≡ seats_for y j (b ∷ bs)
   cases true u e f rest = let away = at_other q y b.place c j b.class other e in rw e (rw away rest)
   cases false true e f rest = rw e (rw f (ap (λ n. b.seats + n) rest))
   cases false false e f rest = rw e (rw f rest)
 
 -- the first demand told of its bookings, the rest tell of the others
-rest_tells : (xs : List Booking) (p : Demand) (ps : List Demand) → Tells xs (p ∷ ps) → Tells (others p.place p.class xs) ps
+rest_tells : (xs : List Booking) (p : Demand) (ps : List Demand) → Tells xs (p ∷ ps)
+    → Tells (others p.place p.class xs) ps
 rest_tells xs p ps t = record {
   apart = (apart_rest p ps t.apart).1;
   smallest = λ y j. smallest_cases y j (is_at p.place p.class y j) refl;
   seats = λ y j. seats_cases y j (is_at p.place p.class y j) refl;
 } where
-  smallest_cases : (y : Place) (j : ℕ) (u : Bool) → is_at p.place p.class y j ≡ u → demand_smallest y j ps ≡ smallest_of y j (others p.place p.class xs)
+  smallest_cases : (y : Place) (j : ℕ) (u : Bool) → is_at p.place p.class y j ≡ u
+      → demand_smallest y j ps ≡ smallest_of y j (others p.place p.class xs)
   smallest_cases y j true e =
       let h = at_same p.place y p.class j e in
       let P : Place → ℕ → Type 0 = λ z i. demand_smallest z i ps ≡ smallest_of z i (others p.place p.class xs) in
@@ -84,7 +92,8 @@ rest_tells xs p ps t = record {
       let skip : demand_smallest y j (p ∷ ps) ≡ demand_smallest y j ps = rw away refl in
       sym skip ∙ (t.smallest y j ∙ sym (smallest_kept p.place p.class y j xs e))
 
-  seats_cases : (y : Place) (j : ℕ) (u : Bool) → is_at p.place p.class y j ≡ u → demand_seats y j ps ≡ seats_for y j (others p.place p.class xs)
+  seats_cases : (y : Place) (j : ℕ) (u : Bool) → is_at p.place p.class y j ≡ u
+      → demand_seats y j ps ≡ seats_for y j (others p.place p.class xs)
   seats_cases y j true e =
       let h = at_same p.place y p.class j e in
       let P : Place → ℕ → Type 0 = λ z i. demand_seats z i ps ≡ seats_for z i (others p.place p.class xs) in
@@ -112,7 +121,8 @@ none_told (b ∷ bs) h = some (smallest_of b.place b.class bs) (h b.place b.clas
   some (Some m) e = absurd cc
 
 -- ---- seats that wait
-waits_all : (f l k : ℕ) (b : Booking) (s : Status) → b.status ≡ s → is_waiting s ≡ true → waits_on f l k b ≡ (if covers f l b.place && (b.class == k) then b.seats else 0)
+waits_all : (f l k : ℕ) (b : Booking) (s : Status) → b.status ≡ s → is_waiting s ≡ true
+    → waits_on f l k b ≡ (if covers f l b.place && (b.class == k) then b.seats else 0)
 waits_all f l k b Held e h = absurd cc
 waits_all f l k b Waiting e h = rw e refl
 
@@ -132,26 +142,30 @@ share_none f l k q c = cases (covers f l q && (c == k)) refl where
   cases true e = rw e refl
   cases false e = rw e refl
 
-share_at : (f l k : ℕ) (q : Place) (c : ℕ) (b : Booking) → is_booking_of q c b ≡ true → share f l k b.place b.class b.seats ≡ share f l k q c b.seats
+share_at : (f l k : ℕ) (q : Place) (c : ℕ) (b : Booking) → is_booking_of q c b ≡ true
+    → share f l k b.place b.class b.seats ≡ share f l k q c b.seats
 share_at f l k q c b e =
     let h = at_same q b.place c b.class e in
     ap (λ (y : Place). share f l k y b.class b.seats) h.0 ∙ ap (λ (j : ℕ). share f l k q j b.seats) h.1
 
-waiting_parts : (f l k : ℕ) (q : Place) (c : ℕ) (xs : List Booking) → AllByRecursion (λ b. is_waiting b.status ≡ true) xs
+waiting_parts : (f l k : ℕ) (q : Place) (c : ℕ) (xs : List Booking)
+    → AllByRecursion (λ b. is_waiting b.status ≡ true) xs
     → waiting xs f l k ≡ share f l k q c (seats_for q c xs) + waiting (others q c xs) f l k
 waiting_parts f l k q c [] a = omega (arith, share_none f l k q c)
 waiting_parts f l k q c (b ∷ bs) a = cases (is_booking_of q c b) refl (waiting_parts f l k q c bs a.1) where
   one : waits_on f l k b ≡ share f l k b.place b.class b.seats
   one = waits_all f l k b b.status refl a.0
 
-  cases : (t : Bool) → is_booking_of q c b ≡ t → waiting bs f l k ≡ share f l k q c (seats_for q c bs) + waiting (others q c bs) f l k
+  cases : (t : Bool) → is_booking_of q c b ≡ t
+      → waiting bs f l k ≡ share f l k q c (seats_for q c bs) + waiting (others q c bs) f l k
       → waiting (b ∷ bs) f l k ≡ share f l k q c (seats_for q c (b ∷ bs)) + waiting (others q c (b ∷ bs)) f l k
   cases true e rest =
       rw e (omega (arith, sum_by-cons (waits_on f l k) b bs, one, share_at f l k q c b e, rest, share_sum f l k q c b.seats (seats_for q c bs)))
   cases false e rest =
       rw e (omega (arith, sum_by-cons (waits_on f l k) b bs, sum_by-cons (waits_on f l k) b (others q c bs), rest))
 
-waits_told : (f l k : ℕ) (ps : List Demand) (xs : List Booking) → AllByRecursion (λ b. is_waiting b.status ≡ true) xs → Tells xs ps → waits_of ps f l k ≡ waiting xs f l k
+waits_told : (f l k : ℕ) (ps : List Demand) (xs : List Booking) → AllByRecursion (λ b. is_waiting b.status ≡ true) xs
+    → Tells xs ps → waits_of ps f l k ≡ waiting xs f l k
 waits_told f l k [] xs a t = sym (ap (λ (ys : List Booking). waiting ys f l k) (none_told xs t.smallest))
 waits_told f l k (p ∷ ps) xs a t =
     let rest = waits_told f l k ps (others p.place p.class xs) (all_others (λ b. is_waiting b.status ≡ true) p.place p.class xs a) (rest_tells xs p ps t) in
@@ -162,7 +176,8 @@ waits_told f l k (p ∷ ps) xs a t =
 tells : (xs : List Booking) (ps : List Demand) → IsIndexed xs ps → Tells xs ps
 tells xs ps i = record { apart = i.apart; smallest = i.smallest; seats = i.seats }
 
-pub may_wait_told : (grid : Ladders) (xs : List Booking) (ps : List Demand) (p : Place) (class n : ℕ) → IsIndexed xs ps → may_wait grid (waits_of ps) p class n ≡ may_wait grid (waiting xs) p class n
+pub may_wait_told : (grid : Ladders) (xs : List Booking) (ps : List Demand) (p : Place) (class n : ℕ) → IsIndexed xs ps
+    → may_wait grid (waits_of ps) p class n ≡ may_wait grid (waiting xs) p class n
 may_wait_told grid xs ps p class n i =
     may_wait_same grid (waits_of ps) (waiting xs) p class n (λ l. waits_told p.flight l class ps xs i.waits (tells xs ps i))
 
@@ -191,7 +206,8 @@ and_swap true false v = refl
 and_swap false true v = refl
 and_swap false false v = refl
 
-fits_parts : (grid : Ladders) (t : Table) (q : Place) (c : ℕ) (xs : List Booking) → none_fits grid t xs ≡ over (room grid t q c) (smallest_of q c xs) && none_fits grid t (others q c xs)
+fits_parts : (grid : Ladders) (t : Table) (q : Place) (c : ℕ) (xs : List Booking)
+    → none_fits grid t xs ≡ over (room grid t q c) (smallest_of q c xs) && none_fits grid t (others q c xs)
 fits_parts grid t q c [] = refl
 fits_parts grid t q c (b ∷ bs) = cases (is_booking_of q c b) refl (fits_parts grid t q c bs) where
   same : is_booking_of q c b ≡ true → nat_lt (room grid t b.place b.class) b.seats ≡ nat_lt (room grid t q c) b.seats
@@ -199,8 +215,10 @@ fits_parts grid t q c (b ∷ bs) = cases (is_booking_of q c b) refl (fits_parts 
       let h = at_same q b.place c b.class e in
       ap (λ (y : Place). nat_lt (room grid t y b.class) b.seats) h.0 ∙ ap (λ (j : ℕ). nat_lt (room grid t q j) b.seats) h.1
 
-  cases : (u : Bool) → is_booking_of q c b ≡ u → none_fits grid t bs ≡ over (room grid t q c) (smallest_of q c bs) && none_fits grid t (others q c bs)
-      → none_fits grid t (b ∷ bs) ≡ over (room grid t q c) (smallest_of q c (b ∷ bs)) && none_fits grid t (others q c (b ∷ bs))
+  cases : (u : Bool) → is_booking_of q c b ≡ u
+      → none_fits grid t bs ≡ over (room grid t q c) (smallest_of q c bs) && none_fits grid t (others q c bs)
+      → none_fits grid t (b ∷ bs) ≡ over (room grid t q c) (smallest_of q c (b ∷ bs))
+      && none_fits grid t (others q c (b ∷ bs))
   cases true e rest =
       rw e
       (ap (λ (v : Bool). nat_lt (room grid t b.place b.class) b.seats && v) rest
@@ -212,7 +230,8 @@ fits_parts grid t q c (b ∷ bs) = cases (is_booking_of q c b) refl (fits_parts 
       (ap (λ (v : Bool). nat_lt (room grid t b.place b.class) b.seats && v) rest
       ∙ and_swap (nat_lt (room grid t b.place b.class) b.seats) (over (room grid t q c) (smallest_of q c bs)) (none_fits grid t (others q c bs)))
 
-fits_told : (grid : Ladders) (t : Table) (ps : List Demand) (xs : List Booking) → Tells xs ps → no_demand_fits grid t ps ≡ none_fits grid t xs
+fits_told : (grid : Ladders) (t : Table) (ps : List Demand) (xs : List Booking) → Tells xs ps
+    → no_demand_fits grid t ps ≡ none_fits grid t xs
 fits_told grid t [] xs h = sym (ap (none_fits grid t) (none_told xs h.smallest))
 fits_told grid t (p ∷ ps) xs h =
     let rest = fits_told grid t ps (others p.place p.class xs) (rest_tells xs p ps h) in
@@ -221,5 +240,6 @@ fits_told grid t (p ∷ ps) xs h =
     ∙ (ap (λ (o : Option ℕ). over (room grid t p.place p.class) o && none_fits grid t (others p.place p.class xs)) own
     ∙ sym (fits_parts grid t p.place p.class xs))
 
-pub none_fits_told : (grid : Ladders) (t : Table) (xs : List Booking) (ps : List Demand) → IsIndexed xs ps → no_demand_fits grid t ps ≡ none_fits grid t xs
+pub none_fits_told : (grid : Ladders) (t : Table) (xs : List Booking) (ps : List Demand) → IsIndexed xs ps
+    → no_demand_fits grid t ps ≡ none_fits grid t xs
 none_fits_told grid t xs ps i = fits_told grid t ps xs (tells xs ps i)

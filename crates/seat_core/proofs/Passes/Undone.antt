@@ -6,7 +6,7 @@ use Rattle.airline_base.specs.declared.place.Place.{Place}
 use Rattle.seat_nesting.specs.declared.ladder.Step.{Step}
 use Rattle.seat_nesting.specs.Nesting.{Steps, Ladders, Table, IsWithin, IsDistinct, held_from, has_class, ladder_at, steps_at, each_leg, least, room, room_on, covers, seats_at}
 use Rattle.seat_nesting.specs.Counting.{Counted, LegSeats, IsWithinLimits, leg_at, leg_in, limits_of, table_of, holds, leg_holds, Takes}
-use Rattle.seat_nesting.proofs.CountChanges.{fits_each, fits_forwards, held_each, held_forwards}
+use Rattle.seat_nesting.proofs.CountChanges.{fits_each, fits_forwards, held_each, held_forwards, each_leg_at}
 use Rattle.seat_rules.specs.declared.booking.Booking.{Booking}
 use Rattle.seat_journal.specs.declared.entry.Advice.{Advice}
 use Rattle.seat_rules.specs.Bookings.{is_waiting}
@@ -14,26 +14,28 @@ use Rattle.seat_bookings.specs.Queues.{none_fits}
 use Rattle.seat_rules.specs.Sequential.{advice_of}
 use Rattle.seat_rules.specs.Showing.{given_back, taken_up, shown_advices, taken_back}
 use Rattle.seat_rules.specs.Tables.{advices_by, told_of, with_advice}
-use Rattle.seat_rules.proofs.History.Prefixes.{drop_at}
 use Rattle.seat_rules.proofs.Counters.Limits.{IsMore, held_lacking}
 use Rattle.seat_rules.proofs.Counters.Changes.{same_table, taken}
-use Rattle.seat_rules.proofs.Counters.Shown.{room_missing, give_none, each_true, covers_at}
-use Rattle.seat_rules.proofs.Step.Limits.{both}
+use Rattle.seat_rules.proofs.Counters.Shown.{give_none, each_true, covers_at}
 use Rattle.seat_rules.proofs.Passes.ByTable.{if_zero}
+use Rattle.seat_nesting.proofs.LimitChanges.{ladder_seen}
+use Rattle.seat_nesting.proofs.LegCounting.{room_lacking}
+use Rattle.seat_nesting.proofs.Rooms.{held_cons, drop_first}
+use Rattle.airline_base.proofs.Tests.{both_true}
 
 -- ---- seats that were given back fit again
 
-held_cons : (seats : ℕ → ℕ) (s : Step) (xs : Steps) → held_from seats (s ∷ xs) ≡ seats s.class + held_from seats xs
-held_cons seats s xs = sum_by-cons (λ (t : Step). seats t.class) s xs
-
 -- the class stands further down
-further : (s : Step) (xs : Steps) (class : ℕ) → (s.class == class) ≡ false → has_class (s ∷ xs) class ≡ true → has_class xs class ≡ true
+further : (s : Step) (xs : Steps) (class : ℕ) → (s.class == class) ≡ false → has_class (s ∷ xs) class ≡ true
+    → has_class xs class ≡ true
 further s xs class e h = let other : (class == s.class) ≡ false = grind (arith, nat_tests) in rw other at h
 
-held_there : (xs : Steps) (new old : ℕ → ℕ) (class n : ℕ) → IsMore new old class n → IsDistinct xs → has_class xs class ≡ true → held_from new xs ≡ held_from old xs + n
+held_there : (xs : Steps) (new old : ℕ → ℕ) (class n : ℕ) → IsMore new old class n → IsDistinct xs
+    → has_class xs class ≡ true → held_from new xs ≡ held_from old xs + n
 held_there [] new old class n h d e = absurd cc
 held_there (s ∷ xs) new old class n h d e = cases (s.class == class) refl (held_there xs new old class n h d.1) where
-  cases : (b : Bool) → (s.class == class) ≡ b → (has_class xs class ≡ true → held_from new xs ≡ held_from old xs + n) → held_from new (s ∷ xs) ≡ held_from old (s ∷ xs) + n
+  cases : (b : Bool) → (s.class == class) ≡ b → (has_class xs class ≡ true → held_from new xs ≡ held_from old xs + n)
+      → held_from new (s ∷ xs) ≡ held_from old (s ∷ xs) + n
   cases true g _ =
       let is : s.class ≡ class = grind (arith, nat_tests) in
       let rest = held_lacking xs new old s.class n (let P : ℕ → Type 0 = λ k. IsMore new old k n in subst P (sym is) h) d.0 in
@@ -42,10 +44,12 @@ held_there (s ∷ xs) new old class n h d e = cases (s.class == class) refl (hel
       let other : s.class ≢ class = grind (arith, nat_tests) in
       omega (arith, held_cons new s xs, held_cons old s xs, h.1 s.class other, below (further s xs class g e))
 
-room_again : (xs : Steps) (new old : ℕ → ℕ) (class n : ℕ) → IsMore new old class n → IsDistinct xs → has_class xs class ≡ true → IsWithin xs new → n ≤ room_on xs old class
+room_again : (xs : Steps) (new old : ℕ → ℕ) (class n : ℕ) → IsMore new old class n → IsDistinct xs
+    → has_class xs class ≡ true → IsWithin xs new → n ≤ room_on xs old class
 room_again [] new old class n h d e w = absurd cc
 room_again (s ∷ xs) new old class n h d e w = cases (s.class == class) refl (λ (e' : has_class xs class ≡ true). room_again xs new old class n h d.1 e' w.1) where
-  cases : (b : Bool) → (s.class == class) ≡ b → (has_class xs class ≡ true → n ≤ room_on xs old class) → n ≤ room_on (s ∷ xs) old class
+  cases : (b : Bool) → (s.class == class) ≡ b → (has_class xs class ≡ true → n ≤ room_on xs old class)
+      → n ≤ room_on (s ∷ xs) old class
   cases true g _ = rw g (omega (arith, held_there (s ∷ xs) new old class n h d e, w.0))
   cases false g below =
       let rest : n ≤ room_on xs old class = below (further s xs class g e) in
@@ -58,35 +62,26 @@ least_ge f from (suc k) n h =
     let here : n ≤ f (from + suc k) = h (from + suc k) (omega arith) (omega arith) in
     omega (arith, below, here)
 
-each_at : (p : ℕ → Bool) (from n leg : ℕ) → each_leg p from n ≡ true → from ≤ leg → leg ≤ from + n → p leg ≡ true
-each_at p from zero leg e a b = let is : leg ≡ from = omega arith in ap p is ∙ e
-each_at p from (suc n) leg e a b = cases (leg == from + suc n) refl (λ (le : leg ≤ from + n). each_at p from n leg (both (each_leg p from n) (p (from + suc n)) e).0 a le) where
-  cases : (t : Bool) → (leg == from + suc n) ≡ t → (leg ≤ from + n → p leg ≡ true) → p leg ≡ true
-  cases true g _ = let is : leg ≡ from + suc n = grind (arith, nat_tests) in ap p is ∙ (both (each_leg p from n) (p (from + suc n)) e).1
-  cases false g below = let le : leg ≤ from + n = grind (arith, nat_tests) in below le
-
-leg_steps : (legs : List LegSeats) (leg : ℕ) → steps_at (map (λ (l : LegSeats). l.steps) legs) leg ≡ (leg_in legs leg).steps
+leg_steps : (legs : List LegSeats) (leg : ℕ)
+    → steps_at (map (λ (l : LegSeats). l.steps) legs) leg ≡ (leg_in legs leg).steps
 leg_steps [] leg = refl
 leg_steps (l ∷ legs) zero = refl
 leg_steps (l ∷ legs) (suc leg) = leg_steps legs leg
 
-pub ladder_is : (counts : Counted) (flight leg : ℕ) → ladder_at (limits_of counts) flight leg ≡ (leg_at counts flight leg).steps
-ladder_is [] flight leg = refl
-ladder_is (legs ∷ counts) zero leg = leg_steps legs leg
-ladder_is (legs ∷ counts) (suc flight) leg = ladder_is counts flight leg
-
 -- the class is there, on each leg of a place whose seats can be given back
-class_there : (grid : Ladders) (t : Table) (p : Place) (class n leg : ℕ) → holds grid t p class n ≡ true → p.from ≤ leg → leg ≤ p.to → has_class (ladder_at grid p.flight leg) class ≡ true
+class_there : (grid : Ladders) (t : Table) (p : Place) (class n leg : ℕ) → holds grid t p class n ≡ true → p.from ≤ leg
+    → leg ≤ p.to → has_class (ladder_at grid p.flight leg) class ≡ true
 class_there grid t p class n leg h a b =
-    let each = (both (nat_le p.from p.to) (each_leg (λ leg. leg_holds (ladder_at grid p.flight leg) (t p.flight leg) class n) p.from (p.to - p.from)) h).1 in
-    (both (has_class (ladder_at grid p.flight leg) class) (nat_le n (t p.flight leg class))
-    (each_at (λ leg. leg_holds (ladder_at grid p.flight leg) (t p.flight leg) class n) p.from (p.to - p.from) leg each a (omega (arith, a, b)))).0
+    let each = (both_true (nat_le p.from p.to) (each_leg (λ leg. leg_holds (ladder_at grid p.flight leg) (t p.flight leg) class n) p.from (p.to - p.from)) h).1 in
+    (both_true (has_class (ladder_at grid p.flight leg) class) (nat_le n (t p.flight leg class))
+    (each_leg_at (λ leg. leg_holds (ladder_at grid p.flight leg) (t p.flight leg) class n) p.from (p.to - p.from) leg each a (omega (arith, a, b)))).0
 
 abbrev less : Table → Place → ℕ → ℕ → Table
 less t p class n = λ f l k. t f l k - seats_at p class n f l k
 
 -- what was there is n seats more
-is_more : (t : Table) (p : Place) (class n leg : ℕ) → covers p.flight leg p ≡ true → n ≤ t p.flight leg class → IsMore (t p.flight leg) (less t p class n p.flight leg) class n
+is_more : (t : Table) (p : Place) (class n leg : ℕ) → covers p.flight leg p ≡ true → n ≤ t p.flight leg class
+    → IsMore (t p.flight leg) (less t p class n p.flight leg) class n
 is_more t p class n leg on le = (here, others) where
   here : t p.flight leg class ≡ less t p class n p.flight leg class + n
   here = let same : (class == class) ≡ true = grind (arith, nat_tests) in let whole : seats_at p class n p.flight leg class ≡ n = rw (on, same) refl in omega (arith, le, whole)
@@ -94,7 +89,8 @@ is_more t p class n leg on le = (here, others) where
   others : (k : ℕ) → k ≢ class → t p.flight leg k ≡ less t p class n p.flight leg k
   others k other = let e : (class == k) ≡ false = grind (arith, nat_tests) in let none : seats_at p class n p.flight leg k ≡ 0 = rw (on, e) refl in omega (arith, none)
 
-pub fits_again : (old : Counted) (p : Place) (class n : ℕ) → IsWithinLimits old → holds (limits_of old) (table_of old) p class n ≡ true
+pub fits_again : (old : Counted) (p : Place) (class n : ℕ) → IsWithinLimits old
+    → holds (limits_of old) (table_of old) p class n ≡ true
     → n ≤ room (limits_of old) (given_back (limits_of old) (table_of old) p class n) p class
 fits_again old p class n within h =
     let order : p.from ≤ p.to = held_forwards (limits_of old) (table_of old) p class n h in
@@ -104,10 +100,11 @@ fits_again old p class n within h =
     (λ leg a b. on_leg leg a (omega (arith, order, b))) in
     rw (h, test) all
   where
-    on_leg : (leg : ℕ) → p.from ≤ leg → leg ≤ p.to → n ≤ room_on (ladder_at (limits_of old) p.flight leg) (less (table_of old) p class n p.flight leg) class
+    on_leg : (leg : ℕ) → p.from ≤ leg → leg ≤ p.to
+        → n ≤ room_on (ladder_at (limits_of old) p.flight leg) (less (table_of old) p class n p.flight leg) class
     on_leg leg a b =
         let kept = within.leg_kept p.flight leg in
-        let is = ladder_is old p.flight leg in
+        let is = ladder_seen old p.flight leg in
         let there : has_class (leg_at old p.flight leg).steps class ≡ true = sym (ap (λ (s : Steps). has_class s class) is) ∙ class_there (limits_of old) (table_of old) p class n leg h a b in
         let enough : n ≤ table_of old p.flight leg class = held_each (limits_of old) (table_of old) p class n leg h a b in
         rw is (room_again (leg_at old p.flight leg).steps (table_of old p.flight leg) (less (table_of old) p class n p.flight leg) class n
@@ -119,7 +116,8 @@ pub given_and_taken : (grid : Ladders) (t u : Table) (p : Place) (class n : ℕ)
 given_and_taken grid t u p class n h e = same_table u t at where
   few : (f l k : ℕ) → seats_at p class n f l k ≤ t f l k
   few f l k = cases (p.flight == f) (nat_le p.from l) (nat_le l p.to) (class == k) refl refl refl refl where
-    cases : (a b c d : Bool) → (p.flight == f) ≡ a → nat_le p.from l ≡ b → nat_le l p.to ≡ c → (class == k) ≡ d → seats_at p class n f l k ≤ t f l k
+    cases : (a b c d : Bool) → (p.flight == f) ≡ a → nat_le p.from l ≡ b → nat_le l p.to ≡ c → (class == k) ≡ d
+        → seats_at p class n f l k ≤ t f l k
     cases true true true true ea eb ec ed =
         let flight : p.flight ≡ f = grind (arith, nat_tests) in
         let same : class ≡ k = grind (arith, nat_tests) in
@@ -143,7 +141,8 @@ given_and_taken grid t u p class n h e = same_table u t at where
 abbrev more : Table → Place → ℕ → ℕ → Table
 more t p class n = λ f l k. t f l k + seats_at p class n f l k
 
-holds_taken : (grid : Ladders) (t : Table) (p : Place) (class n : ℕ) → 0 < n → n ≤ room grid t p class → holds grid (more t p class n) p class n ≡ true
+holds_taken : (grid : Ladders) (t : Table) (p : Place) (class n : ℕ) → 0 < n → n ≤ room grid t p class
+    → holds grid (more t p class n) p class n ≡ true
 holds_taken grid t p class n some fits =
     let order : p.from ≤ p.to = fits_forwards grid t p class n fits some in
     let test : nat_le p.from p.to ≡ true = grind (arith, nat_tests) in
@@ -151,7 +150,8 @@ holds_taken grid t p class n some fits =
     (λ leg a b. on_leg leg a (omega (arith, order, b)) (has_class (ladder_at grid p.flight leg) class) refl) in
     rw (test, all) refl
   where
-    on_leg : (leg : ℕ) → p.from ≤ leg → leg ≤ p.to → (there : Bool) → has_class (ladder_at grid p.flight leg) class ≡ there
+    on_leg : (leg : ℕ) → p.from ≤ leg → leg ≤ p.to → (there : Bool)
+        → has_class (ladder_at grid p.flight leg) class ≡ there
         → leg_holds (ladder_at grid p.flight leg) (more t p class n p.flight leg) class n ≡ true
     on_leg leg a b true e =
         let same : (class == class) ≡ true = grind (arith, nat_tests) in
@@ -160,9 +160,10 @@ holds_taken grid t p class n some fits =
         let le : n ≤ more t p class n p.flight leg class = omega (arith, whole) in
         let enough : nat_le n (more t p class n p.flight leg class) ≡ true = grind (arith, nat_tests) in
         rw (e, enough) refl
-    on_leg leg a b false e = absurd (omega (arith, some, fits_each grid t p class n leg fits a b, room_missing (ladder_at grid p.flight leg) (t p.flight leg) class e))
+    on_leg leg a b false e = absurd (omega (arith, some, fits_each grid t p class n leg fits a b, room_lacking (ladder_at grid p.flight leg) (t p.flight leg) class e))
 
-given_taken : (grid : Ladders) (t : Table) (p : Place) (class n : ℕ) → n ≤ room grid t p class → given_back grid (more t p class n) p class n ≡ t
+given_taken : (grid : Ladders) (t : Table) (p : Place) (class n : ℕ) → n ≤ room grid t p class
+    → given_back grid (more t p class n) p class n ≡ t
 given_taken grid t p class zero fits =
     give_none grid (more t p class 0) p class
     ∙ same_table (more t p class 0) t (λ f l k. let none = if_zero (covers f l p && (class == k)) in omega (arith, none))
@@ -170,22 +171,26 @@ given_taken grid t p class (suc m) fits =
     rw (holds_taken grid t p class (suc m) (omega arith) fits)
     (same_table (λ f l k. more t p class (suc m) f l k - seats_at p class (suc m) f l k) t (λ f l k. omega arith))
 
-back_push : (grid : Ladders) (u : Table) (xs ys : List Advice) → taken_back grid u (xs ++ ys) ≡ taken_back grid (taken_back grid u ys) xs
+back_push : (grid : Ladders) (u : Table) (xs ys : List Advice)
+    → taken_back grid u (xs ++ ys) ≡ taken_back grid (taken_back grid u ys) xs
 back_push grid u [] ys = refl
 back_push grid u (x ∷ xs) ys = ap (λ (t : Table). given_back grid t x.place x.class x.seats) (back_push grid u xs ys)
 
-one_back : (grid : Ladders) (t : Table) (b : Booking) → taken_back grid (shown_advices grid t (told_of grid t b)) (told_of grid t b) ≡ t
+one_back : (grid : Ladders) (t : Table) (b : Booking)
+    → taken_back grid (shown_advices grid t (told_of grid t b)) (told_of grid t b) ≡ t
 one_back grid t b = cases (is_waiting b.status && nat_le b.seats (room grid t b.place b.class)) refl where
-  cases : (m : Bool) → (is_waiting b.status && nat_le b.seats (room grid t b.place b.class)) ≡ m → taken_back grid (shown_advices grid t (told_of grid t b)) (told_of grid t b) ≡ t
+  cases : (m : Bool) → (is_waiting b.status && nat_le b.seats (room grid t b.place b.class)) ≡ m
+      → taken_back grid (shown_advices grid t (told_of grid t b)) (told_of grid t b) ≡ t
   cases true e =
-      let fits = (both (is_waiting b.status) (nat_le b.seats (room grid t b.place b.class)) e).1 in
+      let fits = (both_true (is_waiting b.status) (nat_le b.seats (room grid t b.place b.class)) e).1 in
       let le : b.seats ≤ room grid t b.place b.class = grind (arith, nat_tests) in
       let up : taken_up grid t b.place b.class b.seats ≡ more t b.place b.class b.seats = rw fits refl in
       rw e (ap (λ (u : Table). given_back grid u b.place b.class b.seats) up ∙ given_taken grid t b.place b.class b.seats le)
   cases false e = rw e refl
 
 -- what one booking more took is given back first
-pub back_next : (grid : Ladders) (base t u : Table) (told : List Advice) (b : Booking) → taken_back grid t told ≡ base → u ≡ shown_advices grid t (told_of grid t b)
+pub back_next : (grid : Ladders) (base t u : Table) (told : List Advice) (b : Booking) → taken_back grid t told ≡ base
+    → u ≡ shown_advices grid t (told_of grid t b)
     → taken_back grid u (told ++ told_of grid t b) ≡ base
 back_next grid base t u told b before shows =
     back_push grid u told (told_of grid t b)
@@ -195,34 +200,40 @@ back_next grid base t u told b before shows =
 -- ---- booking by booking
 
 -- where none fits, nothing is told
-none_told : (grid : Ladders) (t : Table) (queue : List Booking) → none_fits grid t queue ≡ true → advices_by grid t queue ≡ []
+none_told : (grid : Ladders) (t : Table) (queue : List Booking) → none_fits grid t queue ≡ true
+    → advices_by grid t queue ≡ []
 none_told grid t [] h = refl
 none_told grid t (b ∷ bs) h =
-    let parts = both (nat_lt (room grid t b.place b.class) b.seats) (none_fits grid t bs) h in
+    let parts = both_true (nat_lt (room grid t b.place b.class) b.seats) (none_fits grid t bs) h in
     let over : nat_le b.seats (room grid t b.place b.class) ≡ false = (let e = parts.0 in grind (arith, nat_tests)) in
     cases (is_waiting b.status) refl over (none_told grid t bs parts.1)
   where
-    cases : (w : Bool) → is_waiting b.status ≡ w → nat_le b.seats (room grid t b.place b.class) ≡ false → advices_by grid t bs ≡ [] → advices_by grid t (b ∷ bs) ≡ []
+    cases : (w : Bool) → is_waiting b.status ≡ w → nat_le b.seats (room grid t b.place b.class) ≡ false
+        → advices_by grid t bs ≡ [] → advices_by grid t (b ∷ bs) ≡ []
     cases true e high rest = rw (e, high) rest
     cases false e high rest = rw e rest
 
 -- nor of those that are left
-pub none_left : (grid : Ladders) (t : Table) (queue : List Booking) (k : ℕ) → none_fits grid t queue ≡ true → advices_by grid t (drop k queue) ≡ []
+pub none_left : (grid : Ladders) (t : Table) (queue : List Booking) (k : ℕ) → none_fits grid t queue ≡ true
+    → advices_by grid t (drop k queue) ≡ []
 none_left grid t queue zero h = none_told grid t queue h
 none_left grid t [] (suc k) h = refl
-none_left grid t (b ∷ bs) (suc k) h = none_left grid t bs k (both (nat_lt (room grid t b.place b.class) b.seats) (none_fits grid t bs) h).1
+none_left grid t (b ∷ bs) (suc k) h = none_left grid t bs k (both_true (nat_lt (room grid t b.place b.class) b.seats) (none_fits grid t bs) h).1
 
-one_told : (grid : Ladders) (t : Table) (b : Booking) (rest : List Booking) → advices_by grid t (b ∷ rest) ≡ told_of grid t b ++ advices_by grid (shown_advices grid t (told_of grid t b)) rest
+one_told : (grid : Ladders) (t : Table) (b : Booking) (rest : List Booking)
+    → advices_by grid t (b ∷ rest) ≡ told_of grid t b ++ advices_by grid (shown_advices grid t (told_of grid t b)) rest
 one_told grid t b rest = cases (is_waiting b.status && nat_le b.seats (room grid t b.place b.class)) refl where
   cases : (m : Bool) → (is_waiting b.status && nat_le b.seats (room grid t b.place b.class)) ≡ m
-      → advices_by grid t (b ∷ rest) ≡ told_of grid t b ++ advices_by grid (shown_advices grid t (told_of grid t b)) rest
+      → advices_by grid t (b ∷ rest) ≡ told_of grid t b
+      ++ advices_by grid (shown_advices grid t (told_of grid t b)) rest
   cases true e =
-      let fits = (both (is_waiting b.status) (nat_le b.seats (room grid t b.place b.class)) e).1 in
+      let fits = (both_true (is_waiting b.status) (nat_le b.seats (room grid t b.place b.class)) e).1 in
       let up : taken_up grid t b.place b.class b.seats ≡ with_advice t (advice_of b) = rw fits refl in
       rw e (ap (λ (u : Table). advice_of b ∷ advices_by grid u rest) (sym up))
   cases false e = rw e refl
 
-pub told_next : (grid : Ladders) (t u : Table) (told more : List Advice) (queue : List Booking) (i j : ℕ) (b : Booking) → j ≡ i + 1 → i < length queue → b ≡ get_or queue i b
+pub told_next : (grid : Ladders) (t u : Table) (told more : List Advice) (queue : List Booking) (i j : ℕ) (b : Booking)
+    → j ≡ i + 1 → i < length queue → b ≡ get_or queue i b
     → more ≡ told_of grid t b → u ≡ shown_advices grid t (told_of grid t b)
     → (told ++ more) ++ advices_by grid u (drop j queue) ≡ told ++ advices_by grid t (drop i queue)
 told_next grid t u told more queue i j b next lt is tells shows =
@@ -230,12 +241,14 @@ told_next grid t u told more queue i j b next lt is tells shows =
     ∙ (ap (λ (x : List Advice). told ++ (x ++ advices_by grid u (drop j queue))) tells
     ∙ (ap (λ (x : Table). told ++ (told_of grid t b ++ advices_by grid x (drop j queue))) shows
     ∙ (ap (λ (x : List Advice). told ++ x) (sym (one_told grid t b (drop j queue)))
-    ∙ ap (λ (x : List Booking). told ++ advices_by grid t x) (sym (drop_at queue i j b next lt is)))))
+    ∙ ap (λ (x : List Booking). told ++ advices_by grid t x) (sym (drop_first queue i j b next lt is)))))
 
-pub told_fits : (grid : Ladders) (t : Table) (b : Booking) → is_waiting b.status ≡ true → b.seats ≤ room grid t b.place b.class → told_of grid t b ≡ advice_of b ∷ []
+pub told_fits : (grid : Ladders) (t : Table) (b : Booking) → is_waiting b.status ≡ true
+    → b.seats ≤ room grid t b.place b.class → told_of grid t b ≡ advice_of b ∷ []
 told_fits grid t b waits le = let fits : nat_le b.seats (room grid t b.place b.class) ≡ true = grind (arith, nat_tests) in rw (waits, fits) refl
 
-pub told_over : (grid : Ladders) (t : Table) (b : Booking) → room grid t b.place b.class < b.seats → told_of grid t b ≡ []
+pub told_over : (grid : Ladders) (t : Table) (b : Booking) → room grid t b.place b.class < b.seats
+    → told_of grid t b ≡ []
 told_over grid t b over = cases (is_waiting b.status) refl where
   no : nat_le b.seats (room grid t b.place b.class) ≡ false
   no = grind (arith, nat_tests)
@@ -247,6 +260,7 @@ told_over grid t b over = cases (is_waiting b.status) refl where
 pub told_held : (grid : Ladders) (t : Table) (b : Booking) → is_waiting b.status ≡ false → told_of grid t b ≡ []
 told_held grid t b e = rw e refl
 
-pub taken_one : (old new : Counted) (b : Booking) → Takes old new b.place b.class b.seats → b.seats ≤ room (limits_of old) (table_of old) b.place b.class
+pub taken_one : (old new : Counted) (b : Booking) → Takes old new b.place b.class b.seats
+    → b.seats ≤ room (limits_of old) (table_of old) b.place b.class
     → table_of new ≡ shown_advices (limits_of old) (table_of old) (advice_of b ∷ [])
 taken_one old new b takes le = taken old new b.place b.class b.seats takes le

@@ -2,7 +2,6 @@
 use Rattle.std.proofs.Common.{◌≡◌, ◌==◌, ◌&&◌, ℕ, zero, suc, ◌+◌, ◌-◌, ◌<◌, ◌≤◌, Bool, true, false, nat_le, List, [], ◌∷◌, ◌++◌, length, find, Option, Some, None, IfSome, Result, IfOk, codes, if◌then◌else◌, arith, refl, ap, sym, subst, ◌∙◌}
 use Rattle.std.specs.List.{AllByRecursion}
 use Rattle.std.proofs.lemmas.Result.{IfOk-weaker}
-use Rattle.std.proofs.lemmas.List.Sums.{sum_by-cons}
 use Rattle.std.proofs.lemmas.Bool.Decides.{nat_tests}
 use Rattle.airline_base.specs.declared.place.Place.{Place}
 use Rattle.seat_nesting.specs.Nesting.{Ladders, Table, ByClass, Fits, room, may_wait, ladder_at, each_leg, seats_at}
@@ -28,34 +27,40 @@ use Rattle.seat_rules.specs.Journal.{replay, next_line, FitsWork}
 use Rattle.seat_bookings.specs.Queues.{queue_of, first_waits}
 use Rattle.seat_rules.specs.Sequential.{State, Outcome, answer, state_of, want_new, refused, may_change, pass, reduced, advice_of, booking_of, may_confirm, NoneFits, NoneFitsAmong}
 use Rattle.seat_rules.specs.Showing.{given_back}
-use Rattle.seat_rules.proofs.Flight.View.{room_same, may_wait_same, room_of_flight, held_view, bookings_view}
+use Rattle.seat_rules.proofs.Filters.{all_pass, each_passes, sum_pass}
+use Rattle.seat_rules.proofs.Flight.View.{room_same, may_wait_same, room_of_flight, held_view, bookings_view, each_leg_same}
 use Rattle.seat_bookings.proofs.Kept.Books.{few_in_book, kept_queued, same_answer, SameAnswer}
 use Rattle.seat_bookings.proofs.Waitlists.Queue.{waiting_queue, reduced_holds}
 use Rattle.seat_rules.proofs.Passes.Quiet.{room_less}
 use Rattle.seat_rules.proofs.Counters.Shown.{held_waits, cancel_shown, give_none, lacks_replay}
 use Rattle.seat_rules.proofs.Passes.ByTable.{pass_is_by_table, is_for_facts}
 use Rattle.seat_rules.proofs.Passes.Weights.{found_passes}
+use Rattle.seat_rules.proofs.History.Faults.{nat_same}
 
 -- ---- rooms and waiting lists
 
 -- the room of a place is that of its flight's bookings
 pub room_is : (counts : Counted) (books : List FlightBook) (p : Place) (class : ℕ) → CountsFlight counts books p.flight
-    → room (limits_of counts) (table_of counts) p class ≡ room (limits_of counts) (held (book_at books p.flight)) p class
+    → room (limits_of counts) (table_of counts) p class
+    ≡ room (limits_of counts) (held (book_at books p.flight)) p class
 room_is counts books p class h = room_same (limits_of counts) (table_of counts) (held (book_at books p.flight)) p class h.seats
 
 -- and what may wait there rests on its waiting list
-pub may_wait_is : (limits : Ladders) (xs ys : List Booking) (p : Place) (class n : ℕ) → ys ≡ queue_of xs → may_wait limits (waiting ys) p class n ≡ may_wait limits (waiting xs) p class n
+pub may_wait_is : (limits : Ladders) (xs ys : List Booking) (p : Place) (class n : ℕ) → ys ≡ queue_of xs
+    → may_wait limits (waiting ys) p class n ≡ may_wait limits (waiting xs) p class n
 may_wait_is limits xs ys p class n is =
     ap (λ (l : List Booking). may_wait limits (waiting l) p class n) is ∙ may_wait_same limits (waiting (queue_of xs)) (waiting xs) p class n (λ l. waiting_queue xs p.flight l class)
 
 -- whether so many seats fit, by the counters
-pub fits_yes : (counts : Counted) (books : List FlightBook) (p : Place) (class n r : ℕ) → CountsFlight counts books p.flight → r ≡ room (limits_of counts) (table_of counts) p class → n ≤ r
+pub fits_yes : (counts : Counted) (books : List FlightBook) (p : Place) (class n r : ℕ)
+    → CountsFlight counts books p.flight → r ≡ room (limits_of counts) (table_of counts) p class → n ≤ r
     → nat_le n (room (limits_of counts) (held (book_at books p.flight)) p class) ≡ true
 fits_yes counts books p class n r h is le =
     let test : nat_le n r ≡ true = grind (arith, nat_tests) in
     ap (nat_le n) (sym (room_is counts books p class h) ∙ sym is) ∙ test
 
-pub fits_no : (counts : Counted) (books : List FlightBook) (p : Place) (class n r : ℕ) → CountsFlight counts books p.flight → r ≡ room (limits_of counts) (table_of counts) p class → r < n
+pub fits_no : (counts : Counted) (books : List FlightBook) (p : Place) (class n r : ℕ)
+    → CountsFlight counts books p.flight → r ≡ room (limits_of counts) (table_of counts) p class → r < n
     → nat_le n (room (limits_of counts) (held (book_at books p.flight)) p class) ≡ false
 fits_no counts books p class n r h is lt =
     let test : nat_le n r ≡ false = grind (arith, nat_tests) in
@@ -64,18 +69,21 @@ fits_no counts books p class n r h is lt =
 -- ---- a booking that waits
 
 -- a pass where none fits but the last
-by_quiet : (grid : Ladders) (book xs ys : List Booking) → NoneFitsAmong grid book xs → advices_by grid (held book) (xs ++ ys) ≡ advices_by grid (held book) ys
+by_quiet : (grid : Ladders) (book xs ys : List Booking) → NoneFitsAmong grid book xs
+    → advices_by grid (held book) (xs ++ ys) ≡ advices_by grid (held book) ys
 by_quiet grid book [] ys a = refl
 by_quiet grid book (x ∷ xs) ys a = rw (a.0) (by_quiet grid book xs ys a.1)
 
 pub queued_is : (grid : Ladders) (bs : List Booking) (n : ℕ) (c : Command) (p : Place) → NoneFits grid bs
-    → (pass grid [] [] (bs ++ booking_of n c p Waiting ∷ [])).advices ≡ (if nat_le c.seats (room grid (held bs) p c.class) then advice_of (booking_of n c p Waiting) ∷ [] else [])
+    → (pass grid [] [] (bs ++ booking_of n c p Waiting ∷ [])).advices
+    ≡ (if nat_le c.seats (room grid (held bs) p c.class) then advice_of (booking_of n c p Waiting) ∷ [] else [])
 queued_is grid bs n c p quiet =
     pass_is_by_table grid (bs ++ booking_of n c p Waiting ∷ [])
     ∙ (ap (λ (t : Table). advices_by grid t (bs ++ booking_of n c p Waiting ∷ [])) (held_waits bs n c p) ∙ by_quiet grid bs bs (booking_of n c p Waiting ∷ []) quiet)
 
 -- a need that does not fit, and that is not listed, is closed
-pub need_closed : (s : State) (n : ℕ) (c : Command) (p : Place) (listed may : Bool) → (listed && may) ≡ false → want_new Need s n c p false listed may ≡ refused s (codes "UC")
+pub need_closed : (s : State) (n : ℕ) (c : Command) (p : Place) (listed may : Bool) → (listed && may) ≡ false
+    → want_new Need s n c p false listed may ≡ refused s (codes "UC")
 need_closed s n c p true true e = absurd cc
 need_closed s n c p true false e = refl
 need_closed s n c p false may e = refl
@@ -95,7 +103,8 @@ over false n r s le e = refl
 over true n r s le e = grind (arith, nat_tests)
 
 -- nor by one that holds more
-quiet_more : (grid : Ladders) (t u : Table) (bs : List Booking) → ((f l k : ℕ) → t f l k ≤ u f l k) → QuietBy grid t bs → QuietBy grid u bs
+quiet_more : (grid : Ladders) (t u : Table) (bs : List Booking) → ((f l k : ℕ) → t f l k ≤ u f l k) → QuietBy grid t bs
+    → QuietBy grid u bs
 quiet_more grid t u [] le q = tt
 quiet_more grid t u (b ∷ bs) le q =
     (over (is_waiting b.status) b.seats (room grid t b.place b.class) (room grid u b.place b.class) (room_less grid t u b.place b.class le) q.0, quiet_more grid t u bs le q.1)
@@ -104,19 +113,24 @@ found_is : (x b : Booking) → ◌≡◌ {A = Option Booking} (Some x) (Some b) 
 found_is x b e = cc
 
 -- seats off a waiting booking: it alone may fit
-rest_is : (grid : Ladders) (t : Table) (test : Booking → Bool) (n : ℕ) (bs : List Booking) (b : Booking) → QuietBy grid t bs → find test bs ≡ Some b → is_waiting b.status ≡ true
+rest_is : (grid : Ladders) (t : Table) (test : Booking → Bool) (n : ℕ) (bs : List Booking) (b : Booking)
+    → QuietBy grid t bs → find test bs ≡ Some b → is_waiting b.status ≡ true
     → advices_by grid t (reduced test n bs) ≡ rest_advised (room grid t b.place b.class) b n
 rest_is grid t test n [] b q found waits = absurd cc
 rest_is grid t test n (x ∷ bs) b q found waits = cases (test x) refl (rest_is grid t test n bs b q.1) where
-  here : (y : Booking) → is_waiting y.status ≡ true → (gone fits : Bool) → nat_le y.seats n ≡ gone → nat_le (y.seats - n) (room grid t y.place y.class) ≡ fits
-      → advices_by grid t (if nat_le y.seats n then bs else record y { seats = y.seats - n } ∷ bs) ≡ rest_advised (room grid t y.place y.class) y n
+  here : (y : Booking) → is_waiting y.status ≡ true → (gone fits : Bool) → nat_le y.seats n ≡ gone
+      → nat_le (y.seats - n) (room grid t y.place y.class) ≡ fits
+      → advices_by grid t (if nat_le y.seats n then bs else record y { seats = y.seats - n } ∷ bs)
+      ≡ rest_advised (room grid t y.place y.class) y n
   here y w true fits g e = rw g (none_told grid t bs q.1)
   here y w false true g e =
       let rest : Booking = record y { seats = y.seats - n } in
       rw (g, w, e) (ap (λ (l : List Advice). advice_of rest ∷ l) (none_told grid (with_advice t (advice_of rest)) bs (quiet_more grid t (with_advice t (advice_of rest)) bs (λ f l k. omega arith) q.1)))
   here y w false false g e = rw (g, w, e) (none_told grid t bs q.1)
 
-  cases : (m : Bool) → test x ≡ m → (find test bs ≡ Some b → is_waiting b.status ≡ true → advices_by grid t (reduced test n bs) ≡ rest_advised (room grid t b.place b.class) b n)
+  cases : (m : Bool) → test x ≡ m
+      → (find test bs ≡ Some b → is_waiting b.status ≡ true → advices_by grid t (reduced test n bs)
+      ≡ rest_advised (room grid t b.place b.class) b n)
       → advices_by grid t (reduced test n (x ∷ bs)) ≡ rest_advised (room grid t b.place b.class) b n
   cases true m rest =
       let first : ◌≡◌ {A = Option Booking} (Some x) (Some b) = rw m at found in
@@ -131,13 +145,16 @@ rest_is grid t test n (x ∷ bs) b q found waits = cases (test x) refl (rest_is 
       rw (m, q.0) (rest later waits)
 
 -- a pass looks at waiting bookings alone
-advices_queue : (grid : Ladders) (t : Table) (bs : List Booking) → advices_by grid t bs ≡ advices_by grid t (queue_of bs)
+advices_queue : (grid : Ladders) (t : Table) (bs : List Booking)
+    → advices_by grid t bs ≡ advices_by grid t (queue_of bs)
 advices_queue grid t [] = refl
 advices_queue grid t (b ∷ bs) = cases (is_waiting b.status) refl (λ (u : Table). advices_queue grid u bs) where
-  cases : (w : Bool) → is_waiting b.status ≡ w → ((u : Table) → advices_by grid u bs ≡ advices_by grid u (queue_of bs)) → advices_by grid t (b ∷ bs) ≡ advices_by grid t (queue_of (b ∷ bs))
+  cases : (w : Bool) → is_waiting b.status ≡ w → ((u : Table) → advices_by grid u bs ≡ advices_by grid u (queue_of bs))
+      → advices_by grid t (b ∷ bs) ≡ advices_by grid t (queue_of (b ∷ bs))
   cases true e rest = rw e (fits (nat_le b.seats (room grid t b.place b.class)) refl) where
     fits : (m : Bool) → nat_le b.seats (room grid t b.place b.class) ≡ m
-        → (if nat_le b.seats (room grid t b.place b.class) then advice_of b ∷ advices_by grid (with_advice t (advice_of b)) bs else advices_by grid t bs)
+        → (if nat_le b.seats (room grid t b.place b.class) then advice_of b
+        ∷ advices_by grid (with_advice t (advice_of b)) bs else advices_by grid t bs)
         ≡ (if is_waiting b.status && nat_le b.seats (room grid t b.place b.class) then advice_of b ∷ advices_by grid (with_advice t (advice_of b)) (queue_of bs) else advices_by grid t (queue_of bs))
     fits true m = rw (e, m) (ap (λ (l : List Advice). advice_of b ∷ l) (rest (with_advice t (advice_of b))))
     fits false m = rw (e, m) (rest t)
@@ -147,7 +164,8 @@ advices_queue grid t (b ∷ bs) = cases (is_waiting b.status) refl (λ (u : Tabl
 abbrev SameOn : ℕ → Table → Table → Type 0
 SameOn f t u = (l k : ℕ) → t f l k ≡ u f l k
 
-advices_same : (grid : Ladders) (f : ℕ) (t u : Table) (bs : List Booking) → AllByRecursion (λ b. b.place.flight ≡ f) bs → SameOn f t u → advices_by grid t bs ≡ advices_by grid u bs
+advices_same : (grid : Ladders) (f : ℕ) (t u : Table) (bs : List Booking) → AllByRecursion (λ b. b.place.flight ≡ f) bs
+    → SameOn f t u → advices_by grid t bs ≡ advices_by grid u bs
 advices_same grid f t u [] on same = refl
 advices_same grid f t u (b ∷ bs) on same =
     cases (is_waiting b.status && nat_le b.seats (room grid u b.place b.class)) refl (λ (x y : Table) (s : SameOn f x y). advices_same grid f x y bs on.1 s)
@@ -155,35 +173,27 @@ advices_same grid f t u (b ∷ bs) on same =
     room_here : room grid t b.place b.class ≡ room grid u b.place b.class
     room_here = room_same grid t u b.place b.class (let P : ℕ → Type 0 = λ x. SameOn x t u in subst P (sym on.0) same)
 
-    cases : (m : Bool) → (is_waiting b.status && nat_le b.seats (room grid u b.place b.class)) ≡ m → ((x y : Table) → SameOn f x y → advices_by grid x bs ≡ advices_by grid y bs)
+    cases : (m : Bool) → (is_waiting b.status && nat_le b.seats (room grid u b.place b.class)) ≡ m
+        → ((x y : Table) → SameOn f x y → advices_by grid x bs ≡ advices_by grid y bs)
         → advices_by grid t (b ∷ bs) ≡ advices_by grid u (b ∷ bs)
     cases true e rest =
         rw (room_here, e) (ap (λ (l : List Advice). advice_of b ∷ l)
         (rest (with_advice t (advice_of b)) (with_advice u (advice_of b)) (λ l k. ap (λ x. x + seats_at b.place b.class b.seats f l k) (same l k))))
     cases false e rest = rw (room_here, e) (rest t u same)
 
-each_same : (p q : ℕ → Bool) (from n : ℕ) → ((leg : ℕ) → p leg ≡ q leg) → each_leg p from n ≡ each_leg q from n
-each_same p q from zero h = h from
-each_same p q from (suc n) h = rw (each_same p q from n h, h (from + suc n)) refl
-
-given_same : (grid : Ladders) (t u : Table) (p : Place) (class n : ℕ) → SameOn p.flight t u → SameOn p.flight (given_back grid t p class n) (given_back grid u p class n)
+given_same : (grid : Ladders) (t u : Table) (p : Place) (class n : ℕ) → SameOn p.flight t u
+    → SameOn p.flight (given_back grid t p class n) (given_back grid u p class n)
 given_same grid t u p class n same l k = cases (holds grid u p class n) refl where
   alike : holds grid t p class n ≡ holds grid u p class n
   alike =
       ap (λ (x : Bool). nat_le p.from p.to && x)
-      (each_same (λ leg. leg_holds (ladder_at grid p.flight leg) (t p.flight leg) class n) (λ leg. leg_holds (ladder_at grid p.flight leg) (u p.flight leg) class n) p.from (p.to - p.from)
+      (each_leg_same (λ leg. leg_holds (ladder_at grid p.flight leg) (t p.flight leg) class n) (λ leg. leg_holds (ladder_at grid p.flight leg) (u p.flight leg) class n) p.from (p.to - p.from)
       (λ leg. rw (same leg class) refl))
 
-  cases : (h : Bool) → holds grid u p class n ≡ h → given_back grid t p class n p.flight l k ≡ given_back grid u p class n p.flight l k
+  cases : (h : Bool) → holds grid u p class n ≡ h
+      → given_back grid t p class n p.flight l k ≡ given_back grid u p class n p.flight l k
   cases true e = rw (alike, e) (rw (same l k) refl)
   cases false e = rw (alike, e) (same l k)
-
-all_queue : (P : Booking → Type 0) (bs : List Booking) → AllByRecursion P bs → AllByRecursion P (queue_of bs)
-all_queue P [] a = tt
-all_queue P (b ∷ bs) a = cases (is_waiting b.status) refl (all_queue P bs a.1) where
-  cases : (w : Bool) → is_waiting b.status ≡ w → AllByRecursion P (queue_of bs) → AllByRecursion P (queue_of (b ∷ bs))
-  cases true e rest = rw e (a.0, rest)
-  cases false e rest = rw e rest
 
 not_waiting : (b : Booking) → is_waiting b.status ≡ false → b.status ≡ Held
 not_waiting b e = is b.status refl where
@@ -192,17 +202,20 @@ not_waiting b e = is b.status refl where
   is Waiting h = absurd cc
 
 -- whether the booking that was found waits
-waits_as_found : (test : Booking → Bool) (bs : List Booking) (b : Booking) → find test bs ≡ Some b → first_waits test bs ≡ is_waiting b.status
+waits_as_found : (test : Booking → Bool) (bs : List Booking) (b : Booking) → find test bs ≡ Some b
+    → first_waits test bs ≡ is_waiting b.status
 waits_as_found test [] b found = absurd cc
 waits_as_found test (x ∷ bs) b found = cases (test x) refl (waits_as_found test bs b) where
-  cases : (m : Bool) → test x ≡ m → (find test bs ≡ Some b → first_waits test bs ≡ is_waiting b.status) → first_waits test (x ∷ bs) ≡ is_waiting b.status
+  cases : (m : Bool) → test x ≡ m → (find test bs ≡ Some b → first_waits test bs ≡ is_waiting b.status)
+      → first_waits test (x ∷ bs) ≡ is_waiting b.status
   cases true m rest =
       let first : ◌≡◌ {A = Option Booking} (Some x) (Some b) = rw m at found in
       rw m (ap (λ (y : Booking). is_waiting y.status) (found_is x b first))
   cases false m rest = let later : find test bs ≡ Some b = rw m at found in rw m (rest later)
 
 -- a cancellation of held seats: the pass runs over the waiting list, once they are given back
-pub cancel_held : (counts : Counted) (books : List FlightBook) (c : Command) (p : Place) (b : Booking) → CountsFlight counts books p.flight → find (is_for c.locator p c.class) (book_at books p.flight) ≡ Some b
+pub cancel_held : (counts : Counted) (books : List FlightBook) (c : Command) (p : Place) (b : Booking)
+    → CountsFlight counts books p.flight → find (is_for c.locator p c.class) (book_at books p.flight) ≡ Some b
     → p.from ≤ p.to → 1 ≤ c.seats → c.seats ≤ b.seats → is_waiting b.status ≡ false
     → (pass (limits_of counts) [] [] (reduced (is_for c.locator p c.class) c.seats (book_at books p.flight))).advices
     ≡ advices_by (limits_of counts) (given_back (limits_of counts) (table_of counts) p c.class c.seats) (queue_at books p.flight)
@@ -218,7 +231,7 @@ cancel_held counts books c p b h found order some le held_now =
     sym (ap (given_back grid (held bs) p c.class) whole) ∙ cancel_shown grid bs test p c.class c.seats b h.lacks order some found le facts.0 facts.1 Held status in
     let queue : queue_of after ≡ queue_at books p.flight = reduced_holds test c.seats bs (waits_as_found test bs b found ∙ held_now) ∙ sym h.queue in
     let on : AllByRecursion (λ x. x.place.flight ≡ p.flight) (queue_at books p.flight) =
-    (let P : List Booking → Type 0 = λ l. AllByRecursion (λ x. x.place.flight ≡ p.flight) l in subst P (sym h.queue) (all_queue (λ x. x.place.flight ≡ p.flight) bs h.there)) in
+    (let P : List Booking → Type 0 = λ l. AllByRecursion (λ x. x.place.flight ≡ p.flight) l in subst P (sym h.queue) (all_pass _ (λ x. x.place.flight ≡ p.flight) bs h.there)) in
     pass_is_by_table grid after
     ∙ (advices_queue grid (held after) after
     ∙ (ap (λ (l : List Booking). advices_by grid (held after) l) queue
@@ -227,7 +240,8 @@ cancel_held counts books c p b h found order some le held_now =
     (given_same grid (held bs) (table_of counts) p c.class c.seats (λ l k. sym (h.seats l k))))))
 
 -- and of seats that wait: the booking that keeps fewer may fit
-pub cancel_waiting : (counts : Counted) (books : List FlightBook) (c : Command) (p : Place) (b : Booking) → CountsFlight counts books p.flight → find (is_for c.locator p c.class) (book_at books p.flight) ≡ Some b
+pub cancel_waiting : (counts : Counted) (books : List FlightBook) (c : Command) (p : Place) (b : Booking)
+    → CountsFlight counts books p.flight → find (is_for c.locator p c.class) (book_at books p.flight) ≡ Some b
     → p.from ≤ p.to → 1 ≤ c.seats → c.seats ≤ b.seats → is_waiting b.status ≡ true
     → (pass (limits_of counts) [] [] (reduced (is_for c.locator p c.class) c.seats (book_at books p.flight))).advices
     ≡ rest_advised (room (limits_of counts) (table_of counts) b.place b.class) b c.seats
@@ -259,7 +273,8 @@ cancel_waiting counts books c p b h found order some le waits =
 
 -- whether a change may be made, by the counters
 pub may_is : (counts : Counted) (books : List FlightBook) (c : Change) → CountsFlight counts books c.flight
-    → may_change (state_of (limits_of counts) (book_at books c.flight)) c ≡ can_set (limits_of counts) (table_of counts) c.flight c.leg c.class c.limit c.wait
+    → may_change (state_of (limits_of counts) (book_at books c.flight)) c
+    ≡ can_set (limits_of counts) (table_of counts) c.flight c.leg c.class c.limit c.wait
 may_is counts books c h =
     let same : table_of counts c.flight c.leg ≡ held (book_at books c.flight) c.flight c.leg = (λ i k. h.seats c.leg k i) in
     ap (λ (t : ByClass). nat_le c.wait 999 && may_have (ladder_at (limits_of counts) c.flight c.leg) t c.class c.limit) (sym same)
@@ -270,7 +285,7 @@ pub changed_told : (grid : Ladders) (counts : Counted) (books : List FlightBook)
 changed_told grid counts books f h =
     let bs : List Booking = book_at books f in
     let on : AllByRecursion (λ x. x.place.flight ≡ f) (queue_at books f) =
-    (let P : List Booking → Type 0 = λ l. AllByRecursion (λ x. x.place.flight ≡ f) l in subst P (sym h.queue) (all_queue (λ x. x.place.flight ≡ f) bs h.there)) in
+    (let P : List Booking → Type 0 = λ l. AllByRecursion (λ x. x.place.flight ≡ f) l in subst P (sym h.queue) (all_pass _ (λ x. x.place.flight ≡ f) bs h.there)) in
     pass_is_by_table grid bs
     ∙ (advices_queue grid (held bs) bs
     ∙ (ap (λ (l : List Booking). advices_by grid (held bs) l) (sym h.queue)
@@ -278,7 +293,8 @@ changed_told grid counts books f h =
 
 -- ---- the flight of a place, in an inventory that is kept
 
-quiet_on : (grid : Ladders) (f : ℕ) (bs among : List Booking) → NoneFitsAmong grid bs among → NoneFitsAmong grid (bookings_on f bs) (bookings_on f among)
+quiet_on : (grid : Ladders) (f : ℕ) (bs among : List Booking) → NoneFitsAmong grid bs among
+    → NoneFitsAmong grid (bookings_on f bs) (bookings_on f among)
 quiet_on grid f bs [] a = tt
 quiet_on grid f bs (b ∷ among) a = cases (b.place.flight == f) refl (quiet_on grid f bs among a.1) where
   here : b.place.flight ≡ f → may_confirm grid (bookings_on f bs) b ≡ false
@@ -288,25 +304,13 @@ quiet_on grid f bs (b ∷ among) a = cases (b.place.flight == f) refl (quiet_on 
       let P : ℕ → Type 0 = λ r. (is_waiting b.status && nat_le b.seats r) ≡ false in
       subst P same a.0
 
-  cases : (t : Bool) → (b.place.flight == f) ≡ t → NoneFitsAmong grid (bookings_on f bs) (bookings_on f among) → NoneFitsAmong grid (bookings_on f bs) (bookings_on f (b ∷ among))
+  cases : (t : Bool) → (b.place.flight == f) ≡ t → NoneFitsAmong grid (bookings_on f bs) (bookings_on f among)
+      → NoneFitsAmong grid (bookings_on f bs) (bookings_on f (b ∷ among))
   cases true e rest = rw e (here (grind (arith, nat_tests)), rest)
   cases false e rest = rw e rest
 
-all_there : (f : ℕ) (bs : List Booking) → AllByRecursion (λ b. b.place.flight ≡ f) (bookings_on f bs)
-all_there f [] = tt
-all_there f (b ∷ bs) = cases (b.place.flight == f) refl (all_there f bs) where
-  cases : (t : Bool) → (b.place.flight == f) ≡ t → AllByRecursion (λ x. x.place.flight ≡ f) (bookings_on f bs) → AllByRecursion (λ x. x.place.flight ≡ f) (bookings_on f (b ∷ bs))
-  cases true e rest = rw e (grind (arith, nat_tests), rest)
-  cases false e rest = rw e rest
-
-held_on_le : (f : ℕ) (bs : List Booking) (x l k : ℕ) → held (bookings_on f bs) x l k ≤ held bs x l k
-held_on_le f [] x l k = omega arith
-held_on_le f (b ∷ bs) x l k = cases (b.place.flight == f) refl (held_on_le f bs x l k) where
-  cases : (t : Bool) → (b.place.flight == f) ≡ t → held (bookings_on f bs) x l k ≤ held bs x l k → held (bookings_on f (b ∷ bs)) x l k ≤ held (b ∷ bs) x l k
-  cases true e rest = rw e (omega (arith, rest, sum_by-cons (seats_on x l k) b (bookings_on f bs), sum_by-cons (seats_on x l k) b bs))
-  cases false e rest = rw e (omega (arith, rest, sum_by-cons (seats_on x l k) b bs))
-
-pub flight_kept : (opening : Ladders) (cap : ℕ) (journal : List Entry) (books : List FlightBook) (calls : List ℕ) (counts : Counted) (f : ℕ) → IsOfReplay opening cap journal books calls counts → CountsFlight counts books f
+pub flight_kept : (opening : Ladders) (cap : ℕ) (journal : List Entry) (books : List FlightBook) (calls : List ℕ)
+    (counts : Counted) (f : ℕ) → IsOfReplay opening cap journal books calls counts → CountsFlight counts books f
 flight_kept opening cap journal books calls counts f k =
     let now : Ladders = limits_of counts in
     let bs : List Booking = (replay opening journal).bookings in
@@ -318,11 +322,12 @@ flight_kept opening cap journal books calls counts f k =
       queue = (kept_queued opening cap journal books calls counts k).each f;
       seats = λ l c. k.seats f l c
           ∙ (sym (held_view (λ n. n) f bs l c) ∙ ap (λ (x : List Booking). held x f l c) (bookings_view f bs ∙ book));
-      lacks = (let Q : List Booking → Type 0 = λ l. Lacks now l in subst Q book (λ x l c missing. omega (arith, lacks x l c missing, held_on_le f bs x l c)));
-      there = (let P : List Booking → Type 0 = λ l. AllByRecursion (λ b. b.place.flight ≡ f) l in subst P book (all_there f bs));
+      lacks = (let Q : List Booking → Type 0 = λ l. Lacks now l in subst Q book (λ x l c missing. omega (arith, lacks x l c missing, sum_pass (λ b. b.place.flight == f) (seats_on x l c) bs)));
+      there = (let P : List Booking → Type 0 = λ l. AllByRecursion (λ b. b.place.flight ≡ f) l in subst P book (each_passes _ (λ b. b.place.flight ≡ f) (λ b e. nat_same b.place.flight f e) bs));
     }
 
-kept_flight : (opening : Ladders) (cap : ℕ) (journal : List Entry) (books : List FlightBook) (calls : List ℕ) (counts : Counted) (o : Option Place) → IsOfReplay opening cap journal books calls counts
+kept_flight : (opening : Ladders) (cap : ℕ) (journal : List Entry) (books : List FlightBook) (calls : List ℕ)
+    (counts : Counted) (o : Option Place) → IsOfReplay opening cap journal books calls counts
     → IfSome o (λ p. CountsFlight counts books p.flight)
 kept_flight opening cap journal books calls counts None k = tt
 kept_flight opening cap journal books calls counts (Some p) k = flight_kept opening cap journal books calls counts p.flight k
@@ -333,7 +338,9 @@ in_order grid None h = tt
 in_order grid (Some p) h = h.0
 
 -- what fits may be answered
-pub asked_kept : (opening : Ladders) (cap : ℕ) (journal : List Entry) (books : List FlightBook) (calls : List ℕ) (counts : Counted) (w : Work) → IsOfReplay opening cap journal books calls counts → FitsWork opening w → CanAnswerWork counts books w
+pub asked_kept : (opening : Ladders) (cap : ℕ) (journal : List Entry) (books : List FlightBook) (calls : List ℕ)
+    (counts : Counted) (w : Work) → IsOfReplay opening cap journal books calls counts → FitsWork opening w
+    → CanAnswerWork counts books w
 asked_kept opening cap journal books calls counts (Seats c) k fits = record {
   flight = kept_flight opening cap journal books calls counts c.place k;
   order = in_order opening c.place fits.2;
@@ -344,7 +351,8 @@ asked_kept opening cap journal books calls counts (Limit c) k fits = flight_kept
 -- ---- the line that is said
 
 -- what is told, as the rule has it
-pub told_as : {T E : Type 0} (items : T → List Advice) (r : Result T E) (xs ys : List Advice) → ys ≡ xs → IfOk r (λ t. items t ≡ xs) → IfOk r (λ t. ys ≡ items t)
+pub told_as : {T E : Type 0} (items : T → List Advice) (r : Result T E) (xs ys : List Advice) → ys ≡ xs
+    → IfOk r (λ t. items t ≡ xs) → IfOk r (λ t. ys ≡ items t)
 told_as items r xs ys is h = IfOk-weaker r (λ t. items t ≡ xs) (λ t. ys ≡ items t) (λ t e. is ∙ sym e) h
 
 says_same : (a b : Outcome) (n : Answer) → SameAnswer a b → Says a n → Says b n
@@ -355,9 +363,11 @@ says_same a b n same says = record {
 }
 
 -- what the flight's book says is what the replay says
-pub says_kept : (opening : Ladders) (cap : ℕ) (journal : List Entry) (books : List FlightBook) (calls : List ℕ) (counts : Counted) (book : List Booking) (n : ℕ) (w : Work) (a : Answer)
+pub says_kept : (opening : Ladders) (cap : ℕ) (journal : List Entry) (books : List FlightBook) (calls : List ℕ)
+    (counts : Counted) (book : List Booking) (n : ℕ) (w : Work) (a : Answer)
     → IsOfReplay opening cap journal books calls counts → book ≡ book_of books w → n ≡ length journal + 1
-    → Says (answer (state_of (limits_of counts) book) n w) a → Says (answer (replay opening journal) (length journal + 1) w) a
+    → Says (answer (state_of (limits_of counts) book) n w) a
+    → Says (answer (replay opening journal) (length journal + 1) w) a
 says_kept opening cap journal books calls counts book n w a k is number says =
     let now : Ladders = limits_of counts in
     let P : List Booking → Type 0 = λ l. Says (answer (state_of now l) n w) a in
@@ -369,8 +379,18 @@ says_kept opening cap journal books calls counts book n w a k is number says =
     subst R number (subst Q (sym k.lawful.left) whole)
 
 -- the line with that answer is the next
-pub line_said : (grid : Ladders) (past : List Entry) (session call : ℕ) (w : Work) (a : Answer) (told : List Advice) (n : ℕ) → n ≡ length past + 1 → Says (answer (replay grid past) (length past + 1) w) a
+pub line_said : (grid : Ladders) (past : List Entry) (session call : ℕ) (w : Work) (a : Answer) (told : List Advice)
+    (n : ℕ) → n ≡ length past + 1 → Says (answer (replay grid past) (length past + 1) w) a
     → (answer (replay grid past) (length past + 1) w).advices ≡ told
-    → ◌≡◌ {A = Entry} (record { number = n; session = session; call = call; work = w; reply = a.reply; released = a.released; advices = told }) (next_line grid past session call w)
+    → ◌≡◌ {A = Entry} (record {
+      number = n;
+      session = session;
+      call = call;
+      work = w;
+      reply = a.reply;
+      released =
+          a.released;
+      advices = told;
+    }) (next_line grid past session call w)
 line_said grid past session call w a told n number says advices =
     λ i. record { number = number i; session = session; call = call; work = w; reply = sym says.reply i; released = sym says.released i; advices = sym advices i }

@@ -1,15 +1,14 @@
 -- Held by classes is held by bookings.
 use Rattle.std.proofs.Common.{◌≡◌, ◌≢◌, ◌==◌, ◌&&◌, ◌||◌, ℕ, zero, suc, ◌+◌, Bool, true, false, List, [], ◌∷◌, drop, if◌then◌else◌, arith, refl, sym, ◌∙◌}
-use Rattle.std.specs.List.{sum_by}
+use Rattle.seat_rules.proofs.Common.{sum_by, Step, Steps, held_from, ladder_at, covers, Booking, is_held, seats_on, held}
 use Rattle.std.proofs.lemmas.List.Sums.{sum_by-cons}
 use Rattle.std.proofs.lemmas.Bool.Decides.{nat_tests}
-use Rattle.seat_nesting.specs.declared.ladder.Step.{Step}
-use Rattle.seat_nesting.specs.Nesting.{Steps, held_from, ladder_at, IsDistinct, LacksClass, has_class, covers}
-use Rattle.seat_rules.specs.declared.booking.Booking.{Booking}
-use Rattle.seat_rules.specs.Bookings.{is_held, seats_on, seats_among, held}
+use Rattle.seat_nesting.specs.Nesting.{IsDistinct, LacksClass, has_class}
+use Rattle.seat_rules.specs.Bookings.{seats_among}
 use Rattle.seat_rules.specs.Laws.{HeldByRankIsHeldByBookings}
 
-sum_both : (f g h : Booking → ℕ) (xs : List Booking) → ((b : Booking) → f b ≡ g b + h b) → sum_by f xs ≡ sum_by g xs + sum_by h xs
+sum_both : (f g h : Booking → ℕ) (xs : List Booking) → ((b : Booking) → f b ≡ g b + h b)
+    → sum_by f xs ≡ sum_by g xs + sum_by h xs
 sum_both f g h [] e = refl
 sum_both f g h (b ∷ bs) e = omega (arith, sum_by-cons f b bs, sum_by-cons g b bs, sum_by-cons h b bs, e b, sum_both f g h bs e)
 
@@ -39,7 +38,8 @@ one_rank s lower flight leg b l = cases (is_held b.status) (covers flight leg b.
   here e = let same : b.class ≡ s.class = grind (arith, nat_tests) in lacks_class lower b.class s.class same l
 
   cases : (t u v w : Bool) → (b.class == s.class) ≡ v → has_class lower b.class ≡ w
-      → (if (t && u) && (v || w) then b.seats else 0) ≡ (if t then (if u && v then b.seats else 0) else 0) + (if (t && u) && w then b.seats else 0)
+      → (if (t && u) && (v || w) then b.seats else 0) ≡ (if t then (if u && v then b.seats else 0) else 0)
+      + (if (t && u) && w then b.seats else 0)
   cases true true true true e f = absurd (cc (here e))
   cases true true true false e f = omega arith
   cases true true false true e f = omega arith
@@ -47,7 +47,8 @@ one_rank s lower flight leg b l = cases (is_held b.status) (covers flight leg b.
   cases true false v w e f = omega arith
   cases false u v w e f = omega arith
 
-held_is : (bookings : List Booking) (flight leg : ℕ) (lower : Steps) → IsDistinct lower → held_from (held bookings flight leg) lower ≡ sum_by (seats_among lower flight leg) bookings
+held_is : (bookings : List Booking) (flight leg : ℕ) (lower : Steps) → IsDistinct lower
+    → held_from (held bookings flight leg) lower ≡ sum_by (seats_among lower flight leg) bookings
 held_is bookings flight leg [] d = sym (sum_none (seats_among [] flight leg) bookings (none_among flight leg))
 held_is bookings flight leg (s ∷ lower) d =
     omega (

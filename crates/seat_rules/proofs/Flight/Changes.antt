@@ -1,14 +1,10 @@
 -- Limits that change: what a flight sees of it.
 use Rattle.std.proofs.Common.{◌≡◌, ◌≢◌, ◌==◌, ◌&&◌, ℕ, Bool, true, false, nat_le, List, arith, refl, ap, sym, subst, ◌∙◌}
+use Rattle.seat_rules.proofs.Common.{Ladders, Steps, legs_of, Booking, Change, held, state_of, changed_by, may_change, may_confirm, NoneFits, AgreeOn, NoneElseFits}
 use Rattle.std.proofs.lemmas.Bool.Decides.{nat_tests}
-use Rattle.seat_nesting.specs.Nesting.{Ladders, Steps, ByClass, legs_of, steps_at}
+use Rattle.seat_nesting.specs.Nesting.{ByClass, steps_at}
 use Rattle.seat_nesting.specs.Changing.{leg_with, may_have}
 use Rattle.seat_nesting.proofs.LimitChanges.{legs_with, legs_other}
-use Rattle.seat_rules.specs.declared.booking.Booking.{Booking}
-use Rattle.seat_journal.specs.declared.entry.Change.{Change}
-use Rattle.seat_rules.specs.Bookings.{held}
-use Rattle.seat_rules.specs.Sequential.{state_of, changed_by, may_change, may_confirm, NoneFits}
-use Rattle.seat_rules.specs.Flights.{AgreeOn, NoneElseFits}
 use Rattle.seat_rules.proofs.Passes.Quiet.{all_map}
 use Rattle.seat_rules.proofs.Flight.View.{view, legs_agree, held_view, may_confirm_agree}
 
@@ -34,7 +30,8 @@ agree_changed g h f c a = cases (c.flight == f) refl where
   cases false e = agree_away g f c e ∙ (a ∙ sym (agree_away h f c e))
 
 -- whether a change of the flight may be made is the same over both
-pub may_change_over : (g h : Ladders) (anew : ℕ → ℕ) (f : ℕ) (bs : List Booking) (c : Change) → AgreeOn f g h → c.flight ≡ f → may_change (state_of h (view anew f bs)) c ≡ may_change (state_of g bs) c
+pub may_change_over : (g h : Ladders) (anew : ℕ → ℕ) (f : ℕ) (bs : List Booking) (c : Change) → AgreeOn f g h
+    → c.flight ≡ f → may_change (state_of h (view anew f bs)) c ≡ may_change (state_of g bs) c
 may_change_over g h anew f bs c a e =
     ap (λ (legs : List Steps). test legs (held (view anew f bs) c.flight c.leg)) (sym (legs_agree g h f c.flight a e))
     ∙ ap (test (legs_of g c.flight)) seats
@@ -49,7 +46,8 @@ may_change_over g h anew f bs c a e =
     seats = λ i k. subst at (sym e) (held_view anew f bs c.leg) k i
 
 -- where no waiting booking fits, none of another flight fits after a change of the flight
-pub else_changed : (grid : Ladders) (f : ℕ) (bookings : List Booking) (c : Change) → NoneFits grid bookings → (c.flight == f) ≡ true → NoneElseFits f (changed_by grid c) bookings bookings
+pub else_changed : (grid : Ladders) (f : ℕ) (bookings : List Booking) (c : Change) → NoneFits grid bookings
+    → (c.flight == f) ≡ true → NoneElseFits f (changed_by grid c) bookings bookings
 else_changed grid f bookings c a here =
     all_map (λ x. may_confirm grid bookings x ≡ false) (λ x. (x.place.flight == f) ≡ false → may_confirm (changed_by grid c) bookings x ≡ false) bookings
     (λ x no away. may_confirm_agree (changed_by grid c) grid x.place.flight bookings x (agree_away grid x.place.flight c (apart c.flight x.place.flight here away)) (itself x.place.flight) ∙ no) a

@@ -1,24 +1,12 @@
 -- What one answer is to a flight, whether the line is on it or not.
 use Rattle.std.proofs.Common.{◌≡◌, ◌==◌, ◌&&◌, ℕ, Bool, true, false, nat_le, List, [], ◌∷◌, ◌++◌, Option, Some, None, option_map, codes, if◌then◌else◌, arith, refl, ap, sym, subst, ◌∙◌}
+use Rattle.seat_rules.proofs.Common.{Place, Ladders, legs_of, room, may_wait, is_listed, Booking, Status, Held, Waiting, Advice, Change, Command, Work, Seats, Limit, Want, Cancel, Wish, action_of, is_for, is_held, is_waiting, held, waiting, State, Outcome, state_of, room_left, reduced, booking_of, booking_for, pass, passed, want, cancel, changed_by, may_change, answer, may_confirm, confirmed, advice_of, NoneFits, renumbered, AgreeOn, NoneElseFits, is_on}
 use Rattle.std.proofs.lemmas.Bool.Decides.{nat_tests}
-use Rattle.airline_base.specs.declared.place.Place.{Place}
-use Rattle.seat_nesting.specs.Nesting.{Ladders, legs_of, room, may_wait, is_listed}
-use Rattle.seat_rules.specs.declared.booking.Booking.{Booking}
-use Rattle.seat_rules.specs.declared.booking.Status.{Status}
-use Rattle.seat_rules.specs.declared.booking.Status.TheVariants.{Held, Waiting}
-use Rattle.seat_journal.specs.declared.entry.Advice.{Advice}
-use Rattle.seat_journal.specs.declared.entry.Change.{Change}
-use Rattle.seat_journal.specs.declared.entry.Command.{Command}
-use Rattle.seat_journal.specs.declared.entry.Work.{Work}
-use Rattle.seat_journal.specs.declared.entry.Work.TheVariants.{Seats, Limit}
 use Rattle.seat_rules.specs.declared.action.Action.{Action}
-use Rattle.seat_rules.specs.declared.action.Action.TheVariants.{Want, Cancel, Other}
-use Rattle.seat_rules.specs.declared.action.Wish.{Wish}
+use Rattle.seat_rules.specs.declared.action.Action.TheVariants.{Other}
 use Rattle.seat_rules.specs.declared.action.Wish.TheVariants.{Need, Sell, Waitlist}
-use Rattle.seat_rules.specs.Codes.{action_of}
-use Rattle.seat_rules.specs.Bookings.{is_for, is_held, is_waiting, held, waiting}
-use Rattle.seat_rules.specs.Sequential.{State, Outcome, Passed, state_of, room_left, reduced, booking_of, booking_for, pass, passed, want, want_new, cancel, changed_by, may_change, set, answer, answer_to, may_confirm, confirmed, advice_of, NoneFits}
-use Rattle.seat_rules.specs.Flights.{renumbered, AgreeOn, NoneElseFits, pass_on, is_on, is_flight, advices_anew}
+use Rattle.seat_rules.specs.Sequential.{Passed, want_new, set, answer_to}
+use Rattle.seat_rules.specs.Flights.{pass_on, is_flight, advices_anew}
 use Rattle.seat_rules.proofs.Step.Outcomes.{each_outcome, grid_answer}
 use Rattle.seat_rules.proofs.Step.Apart.{all_reduced}
 use Rattle.seat_rules.proofs.Passes.Quiet.{all_push, all_map}
@@ -27,7 +15,8 @@ use Rattle.seat_rules.proofs.Flight.Changes.{agree_away, agree_changed, may_chan
 use Rattle.seat_rules.proofs.Flight.Parts.{IsTestOn, IsTestOff, pass_view, pass_none, none_among, reduced_view, reduced_same, found_anew, find_view, other_flight, view_push, view_same}
 
 -- the test of a command, on its flight and off it
-test_on : (anew : ℕ → ℕ) (f : ℕ) (locator : List ℕ) (p : Place) (class : ℕ) → p.flight ≡ f → IsTestOn anew f (is_for locator p class)
+test_on : (anew : ℕ → ℕ) (f : ℕ) (locator : List ℕ) (p : Place) (class : ℕ) → p.flight ≡ f
+    → IsTestOn anew f (is_for locator p class)
 test_on anew f locator p class e = record {
   only = λ b h. (let P : ℕ → Type 0 = λ x. (b.place.flight == x) ≡ false in other_flight locator p class f b (subst P (sym e) h));
   whatever = λ b. refl;
@@ -39,7 +28,8 @@ apart x y f e h = grind (arith, nat_tests)
 apart_too : (x y f : ℕ) → (x == f) ≡ true → (y == f) ≡ false → (y == x) ≡ false
 apart_too x y f e h = grind (arith, nat_tests)
 
-test_off : (f : ℕ) (locator : List ℕ) (p : Place) (class : ℕ) → (p.flight == f) ≡ false → IsTestOff f (is_for locator p class)
+test_off : (f : ℕ) (locator : List ℕ) (p : Place) (class : ℕ) → (p.flight == f) ≡ false
+    → IsTestOff f (is_for locator p class)
 test_off f locator p class e = record { never = λ b h. other_flight locator p class f b (apart b.place.flight p.flight f h e) }
 
 -- what the flight sees of an outcome, over these limits
@@ -50,7 +40,8 @@ seen_over h anew f o = record { state = state_of h (view anew f o.state.bookings
 abbrev pub seen : (ℕ → ℕ) → ℕ → Outcome → Outcome
 seen anew f o = seen_over o.state.grid anew f o
 
-passed_view : (g h : Ladders) (anew : ℕ → ℕ) (f : ℕ) (bs : List Booking) (reply : List ℕ) (released : ℕ) → AgreeOn f g h → passed h (view anew f bs) reply released ≡ seen_over h anew f (passed g bs reply released)
+passed_view : (g h : Ladders) (anew : ℕ → ℕ) (f : ℕ) (bs : List Booking) (reply : List ℕ) (released : ℕ) → AgreeOn f g h
+    → passed h (view anew f bs) reply released ≡ seen_over h anew f (passed g bs reply released)
 passed_view g h anew f bs reply released a =
     ap (λ (p : Passed). outcome_of p) (pass_view g h anew f [] [] bs a)
   where
@@ -62,8 +53,10 @@ abbrev on_place : ℕ → Option Place → Bool
 on_place f o = is_flight f (option_map (λ p. p.flight) o)
 
 -- a command on the flight is answered from what the flight sees, over each grid that agrees on it, as from the whole
-command_over : (g h : Ladders) (anew : ℕ → ℕ) (f : ℕ) (bookings : List Booking) (n : ℕ) (c : Command) (o : Option Place) → AgreeOn f g h → c.place ≡ o → on_place f o ≡ true
-    → answer (state_of h (view anew f bookings)) (anew n) (Seats c) ≡ seen_over h anew f (answer (state_of g bookings) n (Seats c))
+command_over : (g h : Ladders) (anew : ℕ → ℕ) (f : ℕ) (bookings : List Booking) (n : ℕ) (c : Command) (o : Option Place)
+    → AgreeOn f g h → c.place ≡ o → on_place f o ≡ true
+    → answer (state_of h (view anew f bookings)) (anew n) (Seats c)
+    ≡ seen_over h anew f (answer (state_of g bookings) n (Seats c))
 command_over g h anew f bookings n c None a at e = absurd cc
 command_over g h anew f bookings n c (Some place) a at e =
     ap (λ (o : Option Place). answer_to (action_of c.code) o (state_of h (view anew f bookings)) (anew n) c) at
@@ -81,13 +74,16 @@ command_over g h anew f bookings n c (Some place) a at e =
     test : Booking → Bool
     test = is_for c.locator place c.class
 
-    pushed : (st : Status) → view anew f bookings ++ booking_of (anew n) c place st ∷ [] ≡ view anew f (bookings ++ booking_of n c place st ∷ [])
+    pushed : (st : Status)
+        → view anew f bookings ++ booking_of (anew n) c place st ∷ []
+        ≡ view anew f (bookings ++ booking_of n c place st ∷ [])
     pushed st = sym (view_push anew f bookings (booking_of n c place st) e)
 
     made : List ℕ → List Booking → Outcome
     made reply l = record { state = state_of h l; reply = reply; released = 0; advices = [] }
 
-    want_if : (w : Wish) (fits listed may : Bool) → want_new w v (anew n) c place fits listed may ≡ seen_over h anew f (want_new w s n c place fits listed may)
+    want_if : (w : Wish) (fits listed may : Bool)
+        → want_new w v (anew n) c place fits listed may ≡ seen_over h anew f (want_new w s n c place fits listed may)
     want_if Need true listed may = ap (made (codes "KK")) (pushed Held)
     want_if Need false true true = ap (made (codes "UU")) (pushed Waiting)
     want_if Need false true false = refl
@@ -98,7 +94,8 @@ command_over g h anew f bookings n c (Some place) a at e =
     want_if Waitlist fits listed true = ap (λ (l : List Booking). passed h l (codes "HL") 0) (pushed Waiting) ∙ passed_view g h anew f (bookings ++ booking_of n c place Waiting ∷ []) (codes "HL") 0 a
     want_if Waitlist fits listed false = refl
 
-    by_found : (w : Wish) (o : Option Booking) → want w v (anew n) c place (found_anew anew o) ≡ seen_over h anew f (want w s n c place o)
+    by_found : (w : Wish) (o : Option Booking)
+        → want w v (anew n) c place (found_anew anew o) ≡ seen_over h anew f (want w s n c place o)
     by_found w (Some b) = refl
     by_found w None =
         ap (λ x. want_new w v (anew n) c place (nat_le c.seats x) (is_listed h place c.class) (may_wait h (waiting (view anew f bookings)) place c.class c.seats)) (room_over g h anew f bookings place c.class a here)
@@ -106,7 +103,8 @@ command_over g h anew f bookings n c (Some place) a at e =
         ∙ (ap (λ x. want_new w v (anew n) c place (nat_le c.seats (room_left s place c.class)) (is_listed g place c.class) x) (may_wait_over g h anew f bookings place c.class c.seats a here)
         ∙ want_if w (nat_le c.seats (room_left s place c.class)) (is_listed g place c.class) (may_wait g (waiting bookings) place c.class c.seats)))
 
-    cancel_if : (b : Booking) (t : Bool) → nat_le c.seats b.seats ≡ t → cancel v c place (Some (renumbered anew b)) ≡ seen_over h anew f (cancel s c place (Some b))
+    cancel_if : (b : Booking) (t : Bool) → nat_le c.seats b.seats ≡ t
+        → cancel v c place (Some (renumbered anew b)) ≡ seen_over h anew f (cancel s c place (Some b))
     cancel_if b true le = rw le
         (ap (λ (l : List Booking). passed h l (codes "HX") (if is_held b.status then c.seats else 0)) (sym (reduced_view anew f test c.seats bookings (test_on anew f c.locator place c.class here)))
         ∙ passed_view g h anew f (reduced test c.seats bookings) (codes "HX") (if is_held b.status then c.seats else 0) a)
@@ -116,7 +114,8 @@ command_over g h anew f bookings n c (Some place) a at e =
     by_held None = refl
     by_held (Some b) = cancel_if b (nat_le c.seats b.seats) refl
 
-    by_action : (r : Action) → answer_to r (Some place) v (anew n) c ≡ seen_over h anew f (answer_to r (Some place) s n c)
+    by_action : (r : Action)
+        → answer_to r (Some place) v (anew n) c ≡ seen_over h anew f (answer_to r (Some place) s n c)
     by_action Other = refl
     by_action (Want w) = ap (λ (o : Option Booking). want w v (anew n) c place o) (find_view anew f test bookings (test_on anew f c.locator place c.class here)) ∙ by_found w (booking_for s c place)
     by_action Cancel = ap (λ (o : Option Booking). cancel v c place o) (find_view anew f test bookings (test_on anew f c.locator place c.class here)) ∙ by_held (booking_for s c place)
@@ -129,7 +128,8 @@ set_if : (s : State) (c : Change) (t : Bool) → may_change s c ≡ t → (set s
 set_if s c true e = rw e refl
 set_if s c false e = rw e refl
 
-set_over : (g h : Ladders) (anew : ℕ → ℕ) (f : ℕ) (bookings : List Booking) (c : Change) → AgreeOn f g h → c.flight ≡ f → (t : Bool) → may_change (state_of g bookings) c ≡ t
+set_over : (g h : Ladders) (anew : ℕ → ℕ) (f : ℕ) (bookings : List Booking) (c : Change) → AgreeOn f g h → c.flight ≡ f
+    → (t : Bool) → may_change (state_of g bookings) c ≡ t
     → set (state_of h (view anew f bookings)) c ≡ seen_over (limits_if t h c) anew f (set (state_of g bookings) c)
 set_over g h anew f bookings c a here true may =
     let too : may_change (state_of h (view anew f bookings)) c ≡ true = may_change_over g h anew f bookings c a here ∙ may in
@@ -139,7 +139,8 @@ set_over g h anew f bookings c a here false may =
     rw (may, too) refl
 
 -- the limits after it agree on the flight as those before
-agree_set : (g h : Ladders) (f : ℕ) (c : Change) (t : Bool) → AgreeOn f g h → AgreeOn f (limits_if t g c) (limits_if t h c)
+agree_set : (g h : Ladders) (f : ℕ) (c : Change) (t : Bool) → AgreeOn f g h
+    → AgreeOn f (limits_if t g c) (limits_if t h c)
 agree_set g h f c true a = agree_changed g h f c a
 agree_set g h f c false a = a
 
@@ -155,7 +156,8 @@ same_legs : (f : ℕ) (g h : Ladders) → g ≡ h → AgreeOn f g h
 same_legs f g h e = ap (λ (x : Ladders). legs_of x f) e
 
 -- a line on the flight is answered from what the flight sees, over each grid that agrees on it, as from the whole
-pub answer_over : (g h : Ladders) (anew : ℕ → ℕ) (f : ℕ) (bookings : List Booking) (n : ℕ) (w : Work) → AgreeOn f g h → is_on f w ≡ true
+pub answer_over : (g h : Ladders) (anew : ℕ → ℕ) (f : ℕ) (bookings : List Booking) (n : ℕ) (w : Work) → AgreeOn f g h
+    → is_on f w ≡ true
     → IsSeen anew f (answer (state_of g bookings) n w) (answer (state_of h (view anew f bookings)) (anew n) w)
 answer_over g h anew f bookings n (Seats c) a e = record {
   agree = same_legs f _ _ (grid_answer (state_of g bookings) n c) ∙ (a ∙ sym (same_legs f _ _ (grid_answer (state_of h (view anew f bookings)) (anew n) c)));
@@ -189,13 +191,16 @@ away_from f c p at off = sym (ap (on_place f) at) ∙ off
 here_on : (f : ℕ) (c : Command) (p : Place) → c.place ≡ Some p → is_on f (Seats c) ≡ true → (p.flight == f) ≡ true
 here_on f c p at on = sym (ap (on_place f) at) ∙ on
 
-quiet_view : (g grid : Ladders) (anew : ℕ → ℕ) (f : ℕ) (bookings l : List Booking) → AgreeOn f g grid → NoneFits grid bookings → view anew f l ≡ view anew f bookings → view anew f (pass g [] [] l).bookings ≡ view anew f bookings
+quiet_view : (g grid : Ladders) (anew : ℕ → ℕ) (f : ℕ) (bookings l : List Booking) → AgreeOn f g grid
+    → NoneFits grid bookings → view anew f l ≡ view anew f bookings
+    → view anew f (pass g [] [] l).bookings ≡ view anew f bookings
 quiet_view g grid anew f bookings l agree a e =
     ap (λ (p : Passed). p.bookings) (sym (pass_view g grid anew f [] [] l agree))
     ∙ (ap (λ (x : List Booking). (pass grid [] [] x).bookings) e
     ∙ ap (λ (p : Passed). p.bookings) (pass_none grid [] [] (view anew f bookings) (none_among grid anew f bookings bookings a)))
 
-pub answer_off : (grid : Ladders) (anew : ℕ → ℕ) (f : ℕ) (bookings : List Booking) (n : ℕ) (w : Work) → is_on f w ≡ false → NoneFits grid bookings
+pub answer_off : (grid : Ladders) (anew : ℕ → ℕ) (f : ℕ) (bookings : List Booking) (n : ℕ) (w : Work)
+    → is_on f w ≡ false → NoneFits grid bookings
     → view anew f (answer (state_of grid bookings) n w).state.bookings ≡ view anew f bookings
 answer_off grid anew f bookings n w off a =
     each_outcome (λ w o. is_on f w ≡ false → view anew f o.state.bookings ≡ view anew f bookings) (state_of grid bookings) n
@@ -209,7 +214,8 @@ answer_off grid anew f bookings n w off a =
     w off
 
 -- nor its ladders
-pub limits_off : (grid : Ladders) (bookings : List Booking) (f n : ℕ) (w : Work) → is_on f w ≡ false → AgreeOn f (answer (state_of grid bookings) n w).state.grid grid
+pub limits_off : (grid : Ladders) (bookings : List Booking) (f n : ℕ) (w : Work) → is_on f w ≡ false
+    → AgreeOn f (answer (state_of grid bookings) n w).state.grid grid
 limits_off grid bookings f n w off =
     each_outcome (λ w o. is_on f w ≡ false → AgreeOn f o.state.grid grid) (state_of grid bookings) n
     (λ w r off. refl) (λ c p at none fits off. refl) (λ c p at none over why off. refl) (λ c p at none off. refl) (λ c p b at found le off. refl)
@@ -217,13 +223,16 @@ limits_off grid bookings f n w off =
     w off
 
 -- a booking of a flight whose bookings are the same fits as before
-same_fit : (grid : Ladders) (old new : List Booking) (b : Booking) → view (λ n. n) b.place.flight new ≡ view (λ n. n) b.place.flight old → may_confirm grid new b ≡ may_confirm grid old b
+same_fit : (grid : Ladders) (old new : List Booking) (b : Booking)
+    → view (λ n. n) b.place.flight new ≡ view (λ n. n) b.place.flight old
+    → may_confirm grid new b ≡ may_confirm grid old b
 same_fit grid old new b e =
     ap (λ r. is_waiting b.status && nat_le b.seats r)
     (sym (room_view grid (λ n. n) b.place.flight new b.place b.class refl)
     ∙ (ap (λ (l : List Booking). room grid (held l) b.place b.class) e ∙ room_view grid (λ n. n) b.place.flight old b.place b.class refl))
 
-pub else_push : (grid : Ladders) (f : ℕ) (bookings : List Booking) (b : Booking) → NoneFits grid bookings → (b.place.flight == f) ≡ true
+pub else_push : (grid : Ladders) (f : ℕ) (bookings : List Booking) (b : Booking) → NoneFits grid bookings
+    → (b.place.flight == f) ≡ true
     → NoneElseFits f grid (bookings ++ b ∷ []) (bookings ++ b ∷ [])
 else_push grid f bookings b a here =
     all_push (λ x. (x.place.flight == f) ≡ false → may_confirm grid (bookings ++ b ∷ []) x ≡ false) bookings b
@@ -231,7 +240,8 @@ else_push grid f bookings b a here =
     (λ x no away. same_fit grid bookings (bookings ++ b ∷ []) x (view_same (λ n. n) x.place.flight bookings b (apart b.place.flight x.place.flight f here away)) ∙ no) a)
     (λ away. absurd cc)
 
-pub else_reduced : (grid : Ladders) (f : ℕ) (bookings : List Booking) (locator : List ℕ) (p : Place) (class n : ℕ) → NoneFits grid bookings → (p.flight == f) ≡ true
+pub else_reduced : (grid : Ladders) (f : ℕ) (bookings : List Booking) (locator : List ℕ) (p : Place) (class n : ℕ)
+    → NoneFits grid bookings → (p.flight == f) ≡ true
     → NoneElseFits f grid (reduced (is_for locator p class) n bookings) (reduced (is_for locator p class) n bookings)
 else_reduced grid f bookings locator p class n a here =
     all_reduced (λ x. (x.place.flight == f) ≡ false → may_confirm grid (reduced (is_for locator p class) n bookings) x ≡ false) (is_for locator p class) n bookings
@@ -245,31 +255,39 @@ else_reduced grid f bookings locator p class n a here =
         let no : is_for locator p class b ≡ false = other_flight locator p class f b (apart_too p.flight b.place.flight f here away) in
         absurd cc
 
-anew_append : (anew : ℕ → ℕ) (xs ys : List Advice) → advices_anew anew (xs ++ ys) ≡ advices_anew anew xs ++ advices_anew anew ys
+anew_append : (anew : ℕ → ℕ) (xs ys : List Advice)
+    → advices_anew anew (xs ++ ys) ≡ advices_anew anew xs ++ advices_anew anew ys
 anew_append anew [] ys = refl
 anew_append anew (a ∷ xs) ys = rw (anew_append anew xs ys) refl
 
 -- the pass over one flight tells that flight alone
-told_pass : (grid : Ladders) (anew : ℕ → ℕ) (f : ℕ) (done : List Booking) (told : List Advice) (bs : List Booking) → told_on anew f told ≡ advices_anew anew told
+told_pass : (grid : Ladders) (anew : ℕ → ℕ) (f : ℕ) (done : List Booking) (told : List Advice) (bs : List Booking)
+    → told_on anew f told ≡ advices_anew anew told
     → told_on anew f (pass_on f grid done told bs).advices ≡ advices_anew anew (pass_on f grid done told bs).advices
 told_pass grid anew f done told [] h = h
 told_pass grid anew f done told (b ∷ bs) h =
     cases (b.place.flight == f) (may_confirm grid (done ++ b ∷ bs) b) refl refl
     (λ (x : Booking) (t : List Advice) (k : told_on anew f t ≡ advices_anew anew t). told_pass grid anew f (done ++ x ∷ []) t bs k)
   where
-    push : (told : List Advice) → (b.place.flight == f) ≡ true → told_on anew f told ≡ advices_anew anew told → told_on anew f (told ++ advice_of b ∷ []) ≡ advices_anew anew (told ++ advice_of b ∷ [])
+    push : (told : List Advice) → (b.place.flight == f) ≡ true → told_on anew f told ≡ advices_anew anew told
+        → told_on anew f (told ++ advice_of b ∷ []) ≡ advices_anew anew (told ++ advice_of b ∷ [])
     push told e h = told_append anew f told (advice_of b ∷ []) ∙ (ap (λ (x : List Advice). x ++ told_on anew f (advice_of b ∷ [])) h ∙ (rw e refl ∙ sym (anew_append anew told (advice_of b ∷ []))))
 
     cases : (t u : Bool) → (b.place.flight == f) ≡ t → may_confirm grid (done ++ b ∷ bs) b ≡ u
-        → ((x : Booking) (t : List Advice) → told_on anew f t ≡ advices_anew anew t → told_on anew f (pass_on f grid (done ++ x ∷ []) t bs).advices ≡ advices_anew anew (pass_on f grid (done ++ x ∷ []) t bs).advices)
-        → told_on anew f (pass_on f grid done told (b ∷ bs)).advices ≡ advices_anew anew (pass_on f grid done told (b ∷ bs)).advices
+        → ((x : Booking) (t : List Advice) → told_on anew f t ≡ advices_anew anew t
+        → told_on anew f (pass_on f grid (done ++ x ∷ []) t bs).advices
+        ≡ advices_anew anew (pass_on f grid (done ++ x ∷ []) t bs).advices)
+        → told_on anew f (pass_on f grid done told (b ∷ bs)).advices
+        ≡ advices_anew anew (pass_on f grid done told (b ∷ bs)).advices
     cases true true e may rest = rw (e, may) (rest (confirmed b) (told ++ advice_of b ∷ []) (push told e h))
     cases true false e may rest = rw (e, may) (rest b told h)
     cases false u e may rest = rw e (rest b told h)
 
 -- an answer to a line on the flight advises the flight alone
-pub advices_on : (grid : Ladders) (anew : ℕ → ℕ) (f : ℕ) (bookings : List Booking) (n : ℕ) (w : Work) → is_on f w ≡ true → NoneFits grid bookings
-    → told_on anew f (answer (state_of grid bookings) n w).advices ≡ advices_anew anew (answer (state_of grid bookings) n w).advices
+pub advices_on : (grid : Ladders) (anew : ℕ → ℕ) (f : ℕ) (bookings : List Booking) (n : ℕ) (w : Work) → is_on f w ≡ true
+    → NoneFits grid bookings
+    → told_on anew f (answer (state_of grid bookings) n w).advices
+    ≡ advices_anew anew (answer (state_of grid bookings) n w).advices
 advices_on grid anew f bookings n w on a =
     each_outcome (λ w o. is_on f w ≡ true → told_on anew f o.advices ≡ advices_anew anew o.advices) (state_of grid bookings) n
     (λ w r on. refl) (λ c p at none fits on. refl) (λ c p at none over why on. refl)
@@ -278,7 +296,8 @@ advices_on grid anew f bookings n w on a =
     (λ c may on. quiet (changed_by grid c) bookings (else_changed grid f bookings c a on))
     w on
   where
-    quiet : (g : Ladders) (l : List Booking) → NoneElseFits f g l l → told_on anew f (pass g [] [] l).advices ≡ advices_anew anew (pass g [] [] l).advices
+    quiet : (g : Ladders) (l : List Booking) → NoneElseFits f g l l
+        → told_on anew f (pass g [] [] l).advices ≡ advices_anew anew (pass g [] [] l).advices
     quiet g l k =
         let P : Passed → Type 0 = λ p. told_on anew f p.advices ≡ advices_anew anew p.advices in
         subst P (sym (pass_of f g [] [] l k)) (told_pass g anew f [] [] l refl)

@@ -1,18 +1,7 @@
 -- The seats held are those confirmed less those released.
 use Rattle.std.proofs.Common.{◌≡◌, ℕ, ◌+◌, ◌-◌, ◌≤◌, Bool, true, false, List, [], ◌∷◌, ◌++◌, length, Some, find, if◌then◌else◌, arith, refl, ap, sym, subst}
+use Rattle.seat_rules.proofs.Common.{Place, Ladders, Booking, Status, Held, Waiting, Command, Work, Seats, Entry, is_for, is_held, is_waiting, State, Outcome, answer, changed_by, pass, reduced, booking_of, refused, booked, replay, next_line}
 use Rattle.std.proofs.lemmas.List.Sums.{sum_by_push}
-use Rattle.airline_base.specs.declared.place.Place.{Place}
-use Rattle.seat_nesting.specs.Nesting.{Ladders}
-use Rattle.seat_rules.specs.declared.booking.Booking.{Booking}
-use Rattle.seat_rules.specs.declared.booking.Status.{Status}
-use Rattle.seat_rules.specs.declared.booking.Status.TheVariants.{Held, Waiting}
-use Rattle.seat_journal.specs.declared.entry.Command.{Command}
-use Rattle.seat_journal.specs.declared.entry.Work.{Work}
-use Rattle.seat_journal.specs.declared.entry.Work.TheVariants.{Seats}
-use Rattle.seat_journal.specs.declared.entry.Entry.{Entry}
-use Rattle.seat_rules.specs.Bookings.{is_for, is_held, is_waiting}
-use Rattle.seat_rules.specs.Sequential.{State, Outcome, answer, changed_by, pass, reduced, booking_of, refused, booked}
-use Rattle.seat_rules.specs.Journal.{replay, next_line}
 use Rattle.seat_rules.specs.Totals.{is_confirmation, advised, seats_asked, confirmed_by, released_by, totals_of, held_by, seats_held}
 use Rattle.seat_rules.specs.Laws.{HeldSeatsAreTheTotals}
 use Rattle.seat_rules.proofs.Step.Outcomes.{each_outcome, Refusal, Listing, code_of, listing_code}
@@ -27,7 +16,8 @@ waiting_none b Held e h = absurd cc
 waiting_none b Waiting e h = rw e refl
 
 -- a pass holds what it tells of
-pass_sums : (grid : Ladders) (xs : List Booking) → seats_held (pass grid [] [] xs).bookings ≡ seats_held xs + advised (pass grid [] [] xs).advices
+pass_sums : (grid : Ladders) (xs : List Booking)
+    → seats_held (pass grid [] [] xs).bookings ≡ seats_held xs + advised (pass grid [] [] xs).advices
 pass_sums grid xs =
     let h = pass_weighs held_by (λ a. a.seats) (λ b w. waiting_none b b.status refl w) (λ b. refl) grid [] xs [] in omega (arith, h)
 
@@ -61,7 +51,8 @@ answer_balances s number =
     ))
     (λ c may. omega (arith, pass_sums (changed_by s.grid c) s.bookings))
   where
-    waits : (c : Command) (place : Place) (why : Listing) → Balances s (Seats c) (booked s (booking_of number c place Waiting) (listing_code why))
+    waits : (c : Command) (place : Place) (why : Listing)
+        → Balances s (Seats c) (booked s (booking_of number c place Waiting) (listing_code why))
     waits c place Needed = omega (arith, sum_by_push held_by s.bookings (booking_of number c place Waiting))
     waits c place Sold = omega (arith, sum_by_push held_by s.bookings (booking_of number c place Waiting))
 
@@ -73,7 +64,8 @@ answer_balances s number =
 abbrev pub IsBalanced : Ladders → List Entry → Type 0
 IsBalanced grid journal = seats_held (replay grid journal).bookings + (totals_of journal).released ≡ (totals_of journal).confirmed
 
-balanced_next : (grid : Ladders) (past : List Entry) (session call : ℕ) (w : Work) → IsBalanced grid past → IsBalanced grid (past ++ next_line grid past session call w ∷ [])
+balanced_next : (grid : Ladders) (past : List Entry) (session call : ℕ) (w : Work) → IsBalanced grid past
+    → IsBalanced grid (past ++ next_line grid past session call w ∷ [])
 balanced_next grid past session call w h =
     let e : Entry = next_line grid past session call w in
     let one = answer_balances (replay grid past) (length past + 1) w in

@@ -1,20 +1,13 @@
 -- The table that entries leave is that of the bookings.
 use Rattle.std.proofs.Common.{◌≡◌, ◌==◌, nat_eq, ℕ, ◌+◌, ◌-◌, ◌≤◌, ◌&&◌, Bool, true, false, List, [], ◌∷◌, ◌++◌, Some, find, nat_le, append_assoc, if◌then◌else◌, arith, refl, ap, sym, subst, ◌∙◌}
+use Rattle.seat_rules.proofs.Common.{pointwise, Place, Ladders, Table, room, covers, seats_at, Advice, Booking, Status, Held, Waiting, is_for, is_held, is_waiting, seats_on, held, pass, reduced, confirmed, may_confirm, advice_of}
 use Rattle.std.proofs.lemmas.List.{append-nil}
-use Rattle.std.specs.Cmp.Lexicographic.{pointwise}
 use Rattle.std.proofs.lemmas.Bool.Decides.{nat_tests}
-use Rattle.airline_base.specs.declared.place.Place.{Place}
-use Rattle.seat_nesting.specs.Nesting.{Ladders, Table, room, covers, seats_at}
-use Rattle.seat_journal.specs.declared.entry.Advice.{Advice}
-use Rattle.seat_rules.specs.declared.booking.Booking.{Booking}
-use Rattle.seat_rules.specs.declared.booking.Status.{Status}
-use Rattle.seat_rules.specs.declared.booking.Status.TheVariants.{Held, Waiting}
-use Rattle.seat_rules.specs.Bookings.{is_for, same_place, is_held, is_waiting, seats_on, held}
-use Rattle.seat_rules.specs.Sequential.{pass, reduced, confirmed, may_confirm, advice_of}
+use Rattle.seat_rules.specs.Bookings.{same_place}
 use Rattle.seat_rules.specs.Tables.{with_advice, advices_by}
 use Rattle.seat_rules.specs.Laws.{PassIsByTable}
-use Rattle.seat_rules.proofs.Step.Limits.{both}
 use Rattle.seat_rules.proofs.Passes.Weights.{sum_in, reduced_weighs}
+use Rattle.airline_base.proofs.Tests.{both_true}
 
 pub waiting_light : (f l k : ℕ) (b : Booking) (s : Status) → b.status ≡ s → is_waiting s ≡ true → seats_on f l k b ≡ 0
 waiting_light f l k b Held e h = absurd cc
@@ -24,12 +17,15 @@ waiting_light f l k b Waiting e h = rw e refl
 abbrev pub loses : ℕ → ℕ → ℕ → ℕ → Booking → ℕ
 loses f l k n b = (if is_held b.status then seats_at b.place b.class n f l k else 0)
 
-part_if : (t u : Bool) (m n : ℕ) → n ≤ m → (if t then (if u then m - n else 0) else 0) + (if t then (if u then n else 0) else 0) ≡ (if t then (if u then m else 0) else 0)
+part_if : (t u : Bool) (m n : ℕ) → n ≤ m
+    → (if t then (if u then m - n else 0) else 0) + (if t then (if u then n else 0) else 0)
+    ≡ (if t then (if u then m else 0) else 0)
 part_if true true m n le = omega arith
 part_if true false m n le = refl
 part_if false u m n le = refl
 
-pub cancels : (f l k n : ℕ) (test : Booking → Bool) (xs : List Booking) (b : Booking) → find test xs ≡ Some b → n ≤ b.seats → held (reduced test n xs) f l k + loses f l k n b ≡ held xs f l k
+pub cancels : (f l k n : ℕ) (test : Booking → Bool) (xs : List Booking) (b : Booking) → find test xs ≡ Some b
+    → n ≤ b.seats → held (reduced test n xs) f l k + loses f l k n b ≡ held xs f l k
 cancels f l k n test xs b found le =
     reduced_weighs (seats_on f l k) (loses f l k n) test n
     (λ x le'. part_if (is_held x.status) (covers f l x.place && (x.class == k)) x.seats n le')
@@ -37,19 +33,22 @@ cancels f l k n test xs b found le =
     xs b found le
 
 -- a booking that is for a command has its place and class
-pub is_for_facts : (locator : List ℕ) (p : Place) (class : ℕ) (b : Booking) → is_for locator p class b ≡ true → (b.place ≡ p) × (b.class ≡ class)
+pub is_for_facts : (locator : List ℕ) (p : Place) (class : ℕ) (b : Booking) → is_for locator p class b ≡ true
+    → (b.place ≡ p) × (b.class ≡ class)
 is_for_facts locator p class b e =
-    let one = both (pointwise nat_eq b.locator locator && same_place b.place p) (b.class == class) e in
-    let two = both (pointwise nat_eq b.locator locator) (same_place b.place p) one.0 in
-    let three = both ((b.place.flight == p.flight) && (b.place.from == p.from)) (b.place.to == p.to) two.1 in
-    let four = both (b.place.flight == p.flight) (b.place.from == p.from) three.0 in
+    let one = both_true (pointwise nat_eq b.locator locator && same_place b.place p) (b.class == class) e in
+    let two = both_true (pointwise nat_eq b.locator locator) (same_place b.place p) one.0 in
+    let three = both_true ((b.place.flight == p.flight) && (b.place.from == p.from)) (b.place.to == p.to) two.1 in
+    let four = both_true (b.place.flight == p.flight) (b.place.from == p.from) three.0 in
     let flight : b.place.flight ≡ p.flight = grind (arith, nat_tests, four.0) in
     let from : b.place.from ≡ p.from = grind (arith, nat_tests, four.1) in
     let to : b.place.to ≡ p.to = grind (arith, nat_tests, three.1) in
     let k : b.class ≡ class = grind (arith, nat_tests, one.1) in
     (places b.place.flight p.flight b.place.from p.from b.place.to p.to flight from to, k)
   where
-    places : (a b c d e f : ℕ) → a ≡ b → c ≡ d → e ≡ f → let x : Place = record { flight = a; from = c; to = e } in let y : Place = record { flight = b; from = d; to = f } in x ≡ y
+    places : (a b c d e f : ℕ) → a ≡ b → c ≡ d → e ≡ f
+        → let x : Place = record { flight = a; from = c; to = e } in let y : Place = record
+        { flight = b; from = d; to = f } in x ≡ y
     places a b c d e f p q r = rw (p, q, r) refl
 
 pub if_zero : (t : Bool) → ◌≡◌ {A = ℕ} (if t then 0 else 0) 0
@@ -57,7 +56,8 @@ if_zero true = refl
 if_zero false = refl
 
 -- the seats released, at the command's place, are those that the booking loses
-pub loses_is : (f l k n : ℕ) (p : Place) (class : ℕ) (b : Booking) → b.place ≡ p → b.class ≡ class → loses f l k n b ≡ seats_at p class (if is_held b.status then n else 0) f l k
+pub loses_is : (f l k n : ℕ) (p : Place) (class : ℕ) (b : Booking) → b.place ≡ p → b.class ≡ class
+    → loses f l k n b ≡ seats_at p class (if is_held b.status then n else 0) f l k
 loses_is f l k n p class b at is =
     let P : Place → Type 0 = λ q. loses f l k n b ≡ seats_at q class (if is_held b.status then n else 0) f l k in
     let Q : ℕ → Type 0 = λ c. loses f l k n b ≡ seats_at b.place c (if is_held b.status then n else 0) f l k in
@@ -70,21 +70,24 @@ loses_is f l k n p class b at is =
 
 -- a booking confirmed, in the table
 confirmed_table : (done : List Booking) (b : Booking) (bs : List Booking) → is_waiting b.status ≡ true
-    → (f l k : ℕ) → held ((done ++ confirmed b ∷ []) ++ bs) f l k ≡ with_advice (held (done ++ b ∷ bs)) (advice_of b) f l k
+    → (f l k : ℕ)
+    → held ((done ++ confirmed b ∷ []) ++ bs) f l k ≡ with_advice (held (done ++ b ∷ bs)) (advice_of b) f l k
 confirmed_table done b bs w f l k =
     let light = waiting_light f l k b b.status refl w in
     omega (arith, ap (λ (xs : List Booking). held xs f l k) (append_assoc done (confirmed b ∷ []) bs), sum_in (seats_on f l k) done (confirmed b) bs, sum_in (seats_on f l k) done b bs, light)
 
-advices_are : (grid : Ladders) (done bs : List Booking) (told : List Advice) → (pass grid done told bs).advices ≡ told ++ advices_by grid (held (done ++ bs)) bs
+advices_are : (grid : Ladders) (done bs : List Booking) (told : List Advice)
+    → (pass grid done told bs).advices ≡ told ++ advices_by grid (held (done ++ bs)) bs
 advices_are grid done [] told = sym (append-nil told)
 advices_are grid done (b ∷ bs) told =
     cases (may_confirm grid (done ++ b ∷ bs) b) refl (λ (x : Booking) (t : List Advice). advices_are grid (done ++ x ∷ []) bs t)
   where
     cases : (t : Bool) → may_confirm grid (done ++ b ∷ bs) b ≡ t
-        → ((x : Booking) (t : List Advice) → (pass grid (done ++ x ∷ []) t bs).advices ≡ t ++ advices_by grid (held ((done ++ x ∷ []) ++ bs)) bs)
+        → ((x : Booking) (t : List Advice) → (pass grid (done ++ x ∷ []) t bs).advices ≡ t
+        ++ advices_by grid (held ((done ++ x ∷ []) ++ bs)) bs)
         → (pass grid done told (b ∷ bs)).advices ≡ told ++ advices_by grid (held (done ++ b ∷ bs)) (b ∷ bs)
     cases true e rest =
-        let w = (both (is_waiting b.status) (nat_le b.seats (room grid (held (done ++ b ∷ bs)) b.place b.class)) e).0 in
+        let w = (both_true (is_waiting b.status) (nat_le b.seats (room grid (held (done ++ b ∷ bs)) b.place b.class)) e).0 in
         let table : held ((done ++ confirmed b ∷ []) ++ bs) ≡ with_advice (held (done ++ b ∷ bs)) (advice_of b) = λ i f l k. confirmed_table done b bs w f l k i in
         let next : List Advice = advices_by grid (with_advice (held (done ++ b ∷ bs)) (advice_of b)) bs in
         let step : (pass grid (done ++ confirmed b ∷ []) (told ++ advice_of b ∷ []) bs).advices ≡ told ++ advice_of b ∷ next =

@@ -6,7 +6,8 @@ use Rattle.seat_limits.proofs.building.legs_of.Given as goal
 
 abbrev pub invariant-loop-leg : goal.invariant-loop-leg
 invariant-loop-leg l = record {
-  legs : map steps_of l.ladders.items ≡ take l.leg-index (map (λ (leg : DatedLeg). authorised l.rows (leg_pair l.flight leg) leg.day) l.leg-items);
+  legs : map steps_of l.ladders.items
+      ≡ take l.leg-index (map (λ (leg : DatedLeg). authorised l.rows (leg_pair l.flight leg) leg.day) l.leg-items);
   shares : AreShares l.shares.items l.rows;
   distinct : (leg : ℕ) → IsDistinct (steps_at (map steps_of l.ladders.items) leg);
 }

@@ -8,7 +8,8 @@ use Rattle.seat_questions.proofs.cover.put_legs.Given as goal
 
 abbrev pub invariant-loop-j : goal.invariant-loop-j
 invariant-loop-j l = record {
-  put : IsPut (IsLegPartBy (finds_row l.coverage) l.index l.flight) 0 (take l.j l.legs) l.initial.text.items l.text.items;
+  put : IsPut (IsLegPartBy (finds_row l.coverage) l.index l.flight) 0 (take l.j l.legs) l.initial.text.items
+      l.text.items;
   total : l.count ≡ count_by (finds_row l.coverage l.flight) (take l.j l.legs);
   bound : l.count ≤ l.j;
 }

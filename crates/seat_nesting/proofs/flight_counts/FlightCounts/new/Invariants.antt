@@ -6,7 +6,8 @@ use Rattle.seat_nesting.proofs.flight_counts.FlightCounts.new.Given as goal
 
 abbrev pub invariant-loop-ladder : goal.invariant-loop-ladder
 invariant-loop-ladder l = record {
-  limits : map (λ (c : LegSeats). c.steps) (legs_seen [] l.counts.items) ≡ take l.ladder-index (map steps_of l.ladder-items);
+  limits : map (λ (c : LegSeats). c.steps) (legs_seen [] l.counts.items)
+      ≡ take l.ladder-index (map steps_of l.ladder-items);
   shared : AreShared (limits_in l.counts.items);
   fresh : (leg : ℕ) → IsFresh (leg_in (legs_seen [] l.counts.items) leg);
 }
