@@ -21,9 +21,12 @@ returns-in_err-older-clause-large g c =
 pub returns-in_err-older-clause-device : goal.returns-in_err-older-clause-device
 returns-in_err-older-clause-device g c =
     let p = err_from_is_err_and c.from_residual-in_err-older.result c.from_residual-in_err-older.ensures.1 in
-    rw (p.1, p.2) (λ device. inr (inl (load_known (g.S.Read.remaining c.args.inputs.now.set) (g.L.Read.remaining c.args.inputs.now.limits) (g.A.Read.remaining c.args.after.now) (g.J.Read.remaining c.args.journal.now)
-    c.args.inputs.now.first c.args.inputs.now.days c.args.today (map g.C.Read.remaining c.args.scripts.now)
-    c.in_ok-flights.field-0.flights c.in_ok-flights.field-0.grid c.in_ok-flights.ensures.ok, c.in_err-older.ensures.device device)))
+    rw (p.1, p.2) (λ device. inr (inl (
+      load_known (g.S.Read.remaining c.args.inputs.now.set) (g.L.Read.remaining c.args.inputs.now.limits) (g.A.Read.remaining c.args.after.now) (g.J.Read.remaining c.args.journal.now)
+          c.args.inputs.now.first c.args.inputs.now.days c.args.today (map g.C.Read.remaining c.args.scripts.now)
+          c.in_ok-flights.field-0.flights c.in_ok-flights.field-0.grid c.in_ok-flights.ensures.ok,
+      c.in_err-older.ensures.device device,
+    )))
 
 pub returns-in_err-core-clause-fault : goal.returns-in_err-core-clause-fault
 returns-in_err-core-clause-fault g c =
@@ -44,10 +47,13 @@ returns-in_err-core-clause-large g c =
 pub returns-in_err-core-clause-device : goal.returns-in_err-core-clause-device
 returns-in_err-core-clause-device g c =
     let p = err_from_is_err_and c.from_residual-in_err-core.result c.from_residual-in_err-core.ensures.1 in
-    rw (p.1, p.2) (λ device. inr (inr (inl (older_known (g.S.Read.remaining c.args.inputs.now.set) (g.L.Read.remaining c.args.inputs.now.limits) (g.A.Read.remaining c.args.after.now) (g.J.Read.remaining c.args.journal.now)
-    c.args.inputs.now.first c.args.inputs.now.days c.args.today (map g.C.Read.remaining c.args.scripts.now)
-    c.in_ok-flights.field-0.flights c.in_ok-flights.field-0.grid c.in_ok-flights.ensures.ok
-    c.in_ok-older.older c.in_ok-older.ensures.ok, c.in_err-core.ensures.device device))))
+    rw (p.1, p.2) (λ device. inr (inr (inl (
+      older_known (g.S.Read.remaining c.args.inputs.now.set) (g.L.Read.remaining c.args.inputs.now.limits) (g.A.Read.remaining c.args.after.now) (g.J.Read.remaining c.args.journal.now)
+          c.args.inputs.now.first c.args.inputs.now.days c.args.today (map g.C.Read.remaining c.args.scripts.now)
+          c.in_ok-flights.field-0.flights c.in_ok-flights.field-0.grid c.in_ok-flights.ensures.ok
+          c.in_ok-older.older c.in_ok-older.ensures.ok,
+      c.in_err-core.ensures.device device,
+    ))))
 
 pub returns-in-Err-clause-fault : goal.returns-in-Err-clause-fault
 returns-in-Err-clause-fault g c =
@@ -65,7 +71,10 @@ returns-in-Err-clause-large g c =
 
 pub returns-in-Err-clause-device : goal.returns-in-Err-clause-device
 returns-in-Err-clause-device g c =
-    λ device. inr (inr (inr (both_known (g.S.Read.remaining c.args.inputs.now.set) (g.L.Read.remaining c.args.inputs.now.limits) (g.A.Read.remaining c.args.after.now) (g.J.Read.remaining c.args.journal.now)
-    c.args.inputs.now.first c.args.inputs.now.days c.args.today (map g.C.Read.remaining c.args.scripts.now)
-    c.in_ok-flights.field-0.flights c.in_ok-flights.field-0.grid c.in_ok-flights.ensures.ok
-    c.in_ok-older.older c.in_ok-older.ensures.ok c.in_ok-core.core c.in_ok-core.ensures.ok, c.in-Err.ensures.device device)))
+    λ device. inr (inr (inr (
+      both_known (g.S.Read.remaining c.args.inputs.now.set) (g.L.Read.remaining c.args.inputs.now.limits) (g.A.Read.remaining c.args.after.now) (g.J.Read.remaining c.args.journal.now)
+          c.args.inputs.now.first c.args.inputs.now.days c.args.today (map g.C.Read.remaining c.args.scripts.now)
+          c.in_ok-flights.field-0.flights c.in_ok-flights.field-0.grid c.in_ok-flights.ensures.ok
+          c.in_ok-older.older c.in_ok-older.ensures.ok c.in_ok-core.core c.in_ok-core.ensures.ok,
+      c.in-Err.ensures.device device,
+    )))
