@@ -79,7 +79,14 @@ fn put_answers(
     ensures { OnOk result (IsPut (IsAnswer flights.now requests.now journal.now) 0 receipts.now text.old.items text.new.items) }
 {
     for place in 0..receipts.len() {
-        put_answer(text, flights, requests, journal, place, receipts[place].entry())?;
+        put_answer(
+            text,
+            flights,
+            requests,
+            journal,
+            place,
+            receipts[place].entry(),
+        )?;
     }
     Ok(())
 }
