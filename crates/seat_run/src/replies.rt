@@ -3,9 +3,9 @@ ghost use Rattle.std.specs.Prelude.{◌≡◌, ◌≤◌, IfOk, OnOk, drop, leng
 ghost use Rattle.seat_desk.specs.FlightsDesk.{IsPut, IsText};
 ghost use Rattle.seat_scripts.specs.Answering.{AreAllAnswerable, AreAnswerable};
 ghost use Rattle.seat_scripts.specs.Going.{behind};
-ghost use Rattle.seat_scripts.specs.RunDesk.{AreAnswers, IsAnswer, at_any};
+ghost use Rattle.seat_scripts.specs.RunDesk.{AreSessions, IsAnswer, requests_of};
 
-use airimp_lines::Requests;
+use airimp_lines::{Request, Requests};
 use seat_host::{Receipt, Receipts};
 use seat_journal::Entry;
 use seat_scripts::{Past, put_answer};
@@ -24,15 +24,37 @@ pub fn replies(
     receipts: &[Receipts],
 ) -> Result<Vec<u8>, AllocError>
     requires few { length receipts.now ≤ 9 }
-    requires lines { AreAllAnswerable flights.now past.now scripts.now journal.now (behind past.now.calls receipts.now) }
-    ensures { IfOk result (λ text. IsText (at_any (AreAnswers flights.now past.now scripts.now journal.now)) 0 (behind past.now.calls receipts.now) text.items) }
+    requires lines { AreAllAnswerable flights.now scripts.now journal.now (behind past.now.calls receipts.now) }
+    ensures { IfOk result (λ text. IsText (AreSessions flights.now scripts.now journal.now) 0 (behind past.now.calls receipts.now) text.items) }
 {
     let mut text = Vec::new(alloc);
     for session in 0..receipts.len() {
         let lines = added(&receipts[session], past.calls[session]);
-        put_answers(&mut text, flights, past, scripts, journal, lines)?;
+        put_session(&mut text, flights, scripts, session, journal, lines)?;
     }
     Ok(text)
+}
+
+/// Adds the answers to the lines of a session: the manager, session 0, has no script, and the first script is that of session 1.
+#[tactic(auto, using(crate::proofs::Asked::managed, crate::proofs::Asked::scripted, crate::proofs::Asked::unscripted))]
+fn put_session(
+    text: &mut Vec<u8>,
+    flights: &Flights,
+    scripts: &[Requests],
+    session: usize,
+    journal: &[Entry],
+    receipts: &[Receipt],
+) -> Result<(), AllocError>
+    requires lines { AreAnswerable flights.now (requests_of scripts.now session) journal.now receipts.now }
+    ensures { OnOk result (IsPut (IsAnswer flights.now (requests_of scripts.now session) journal.now) 0 receipts.now text.old.items text.new.items) }
+{
+    if session == 0 {
+        return put_answers(text, flights, &[], journal, receipts);
+    }
+    match scripts.get(session - 1) {
+        Some(script) => put_answers(text, flights, script.as_slice(), journal, receipts),
+        None => put_answers(text, flights, &[], journal, receipts),
+    }
 }
 
 /// The lines of a session behind so many.
@@ -44,21 +66,27 @@ fn added(receipts: &Receipts, past: u32) -> &[Receipt]
     &lines[front..]
 }
 
-/// Adds the answers to lines.
+/// Adds the answers to lines, each beside the request at its place.
 #[tactic(auto, using(seat_desk::proofs::Texts::put_none, seat_scripts::proofs::Parts::answers_more, seat_scripts::proofs::Parts::line_answerable))]
 fn put_answers(
     text: &mut Vec<u8>,
     flights: &Flights,
-    past: &Past,
-    scripts: &[Requests],
+    requests: &[Request],
     journal: &[Entry],
     receipts: &[Receipt],
 ) -> Result<(), AllocError>
-    requires lines { AreAnswerable flights.now past.now scripts.now journal.now receipts.now }
-    ensures { OnOk result (IsPut (at_any (IsAnswer flights.now past.now scripts.now journal.now)) 0 receipts.now text.old.items text.new.items) }
+    requires lines { AreAnswerable flights.now requests.now journal.now receipts.now }
+    ensures { OnOk result (IsPut (IsAnswer flights.now requests.now journal.now) 0 receipts.now text.old.items text.new.items) }
 {
-    for receipt in receipts {
-        put_answer(text, flights, past, scripts, journal, receipt.entry())?;
+    for place in 0..receipts.len() {
+        put_answer(
+            text,
+            flights,
+            requests,
+            journal,
+            place,
+            receipts[place].entry(),
+        )?;
     }
     Ok(())
 }

@@ -10,7 +10,7 @@ use Rattle.seat_desk.specs.Desk.{IsOfInput}
 use Rattle.seat_desk.specs.Loading.{IsFirstTooLargeLoad, IsLoaded}
 use Rattle.seat_desk.specs.declared.fault.DeskFault.{DeskFault}
 use Rattle.seat_desk.specs.declared.fault.DeskFault.TheVariants.{Journal, Memory, Replay, Script, Unasked}
-use Rattle.seat_scripts.specs.Against.{AreAskedBehind, HasBoth, HasOlder, IsAuditAgainst, IsRefusedAgainst, IsReplayWithin, IsTooLargeAgainst, IsUnasked, OfFour}
+use Rattle.seat_scripts.specs.Against.{AreAskedBehind, AreRead, HasBoth, HasOlder, IsAuditAgainst, IsRefusedAgainst, IsReplayWithin, IsTooLargeAgainst, IsUnasked, OfFour}
 use Rattle.seat_scripts.specs.Asked.{HasLoaded, OfThree}
 use Rattle.seat_scripts.specs.Requests.{AreScripts, IsOfScript, IsRefusedAmong, IsTooLargeAmong, commands_of}
 use Rattle.seat_scripts.proofs.Inputs.{if_known as if_three_known}
@@ -24,6 +24,14 @@ if_known P A Q R (Some xs) (Some ys) (Some older) None give p a q = tt
 if_known P A Q R (Some xs) (Some ys) None journal give p a q = tt
 if_known P A Q R (Some xs) None after journal give p a q = tt
 if_known P A Q R None limits after journal give p a q = tt
+
+if_four : (P Q : List ℕ → List ℕ → List ℕ → List ℕ → Type 0) (set limits after journal : Option (List ℕ)) → ((xs ys older zs : List ℕ) → P xs ys older zs → Q xs ys older zs)
+    → OfFour set limits after journal P → OfFour set limits after journal Q
+if_four P Q (Some xs) (Some ys) (Some older) (Some zs) give all = give xs ys older zs all
+if_four P Q (Some xs) (Some ys) (Some older) None give all = tt
+if_four P Q (Some xs) (Some ys) None journal give all = tt
+if_four P Q (Some xs) None after journal give all = tt
+if_four P Q None limits after journal give all = tt
 
 -- ---- refusals, where all is known
 
@@ -83,34 +91,48 @@ module _ (set limits after journal : Option (List ℕ)) (first days today : ℕ)
           if_known (λ xs ys. IsLoaded xs ys first days flights grid) (IsReplayWithin grid older) (IsReplayWithin grid core) (λ xs ys old zs. IsRefusedAgainst xs ys first days old zs today texts fault) set limits after journal
           (λ xs ys old zs is was h. of_scripts xs ys first days old zs today texts flights grid is older was core h fault (script input) (refused input)) loaded before replayed
 
-      module _ (scripts slice : List (List Request)) (same : slice ≡ scripts) (are : AreScripts today texts scripts) where
-        here : AreScripts today texts slice
-        here = subst (AreScripts today texts) (sym same) are
+      -- all is right
+      pub all_read : (scripts : List (List Request)) → AreScripts today texts scripts → OfFour set limits after journal (λ xs ys old zs. AreRead xs ys first days old zs today texts flights older core scripts)
+      all_read scripts are =
+          if_known (λ xs ys. IsLoaded xs ys first days flights grid) (IsReplayWithin grid older) (IsReplayWithin grid core) (λ xs ys old zs. AreRead xs ys first days old zs today texts flights older core scripts) set limits after journal
+          (λ xs ys old zs is was h. record { grid = grid; is_loaded = is; is_older = was; is_replay = h; are_scripts = are }) loaded before replayed
 
-        -- of a line that is not asked
-        pub refused_unasked : (fault : DeskFault) → (fault ≢ Memory → IsUnasked (map (commands_of flights) slice) older.journal core.journal fault) → IsOfInput fault → IsRefused fault
-        refused_unasked fault unasked input =
-            if_known (λ xs ys. IsLoaded xs ys first days flights grid) (IsReplayWithin grid older) (IsReplayWithin grid core) (λ xs ys old zs. IsRefusedAgainst xs ys first days old zs today texts fault) set limits after journal
-            (λ xs ys old zs is was h. of_lines xs ys first days old zs today texts flights grid is older was core h slice here fault (unasked (λ (e : fault ≡ Memory). subst IsOfInput e input))) loaded before replayed
+  module _ (flights : List Flown) (older core : Inventory) (scripts slice : List (List Request)) (same : slice ≡ scripts)
+      (read : OfFour set limits after journal (λ xs ys old zs. AreRead xs ys first days old zs today texts flights older core scripts)) where
+    here : AreScripts today texts scripts → AreScripts today texts slice
+    here are = subst (AreScripts today texts) (sym same) are
 
-        -- the line of the audit
-        pub audited : (line : List ℕ) → line ≡ audit_line (totals_of core.journal) → AreAskedBehind (map (commands_of flights) slice) older.journal core.journal
-            → OfFour set limits after journal (λ xs ys old zs. IsAuditAgainst xs ys first days old zs today texts line)
-        audited line sums asked =
-            if_known (λ xs ys. IsLoaded xs ys first days flights grid) (IsReplayWithin grid older) (IsReplayWithin grid core) (λ xs ys old zs. IsAuditAgainst xs ys first days old zs today texts line) set limits after journal
-            (λ xs ys old zs is was h. record {
-              flights = flights;
-              grid = grid;
-              is_loaded = is;
-              older = older;
-              is_older = was;
-              within = h.within;
-              is_audited = record { entries = core.journal; is_text = h.is_replay.is_text; legal = h.is_replay.legal; few = h.is_replay.few; within = h.is_replay.within; sums = sums };
-              scripts = slice;
-              are_scripts = here;
-              are_asked = asked;
-            })
-            loaded before replayed
+    -- of a line that is not asked
+    pub refused_unasked : (fault : DeskFault) → (fault ≢ Memory → IsUnasked (map (commands_of flights) slice) older.journal core.journal fault) → IsOfInput fault → IsRefused fault
+    refused_unasked fault unasked input =
+        if_four (λ xs ys old zs. AreRead xs ys first days old zs today texts flights older core scripts) (λ xs ys old zs. IsRefusedAgainst xs ys first days old zs today texts fault) set limits after journal
+        (λ xs ys old zs r. of_lines xs ys first days old zs today texts flights r.grid r.is_loaded older r.is_older core r.is_replay slice (here r.are_scripts) fault (unasked (λ (e : fault ≡ Memory). subst IsOfInput e input))) read
+
+    -- the line of the audit
+    pub audited : (line : List ℕ) → line ≡ audit_line (totals_of core.journal) → AreAskedBehind (map (commands_of flights) slice) older.journal core.journal
+        → OfFour set limits after journal (λ xs ys old zs. IsAuditAgainst xs ys first days old zs today texts line)
+    audited line sums asked =
+        if_four (λ xs ys old zs. AreRead xs ys first days old zs today texts flights older core scripts) (λ xs ys old zs. IsAuditAgainst xs ys first days old zs today texts line) set limits after journal
+        (λ xs ys old zs r. record {
+          flights = flights;
+          grid = r.grid;
+          is_loaded = r.is_loaded;
+          older = older;
+          is_older = r.is_older;
+          within = r.is_replay.within;
+          is_audited = record {
+            entries = core.journal;
+            is_text = r.is_replay.is_replay.is_text;
+            legal = r.is_replay.is_replay.legal;
+            few = r.is_replay.is_replay.few;
+            within = r.is_replay.is_replay.within;
+            sums = sums;
+          };
+          scripts = slice;
+          are_scripts = here r.are_scripts;
+          are_asked = asked;
+        })
+        read
 
 -- ---- inputs that are too large, or fail
 
@@ -139,7 +161,7 @@ module _ (set limits after journal : Option (List ℕ)) (first days today : ℕ)
   too_large_load over = four_load (λ xs ys. IsFirstTooLargeLoad xs ys first days) (λ xs ys older zs. IsTooLargeAgainst xs ys first days older zs today texts) set limits after journal (λ xs ys older zs is. inl is) over
 
   module _ (flights : List Flown) (grid : Ladders) (loaded : IfSome set (λ xs. IfSome limits (λ ys. IsLoaded xs ys first days flights grid))) where
-    load_known : IfSome set (λ xs. IfSome limits (λ ys. HasLoaded xs ys first days))
+    pub load_known : IfSome set (λ xs. IfSome limits (λ ys. HasLoaded xs ys first days))
     load_known = by set limits loaded where
       by : (s l : Option (List ℕ)) → IfSome s (λ xs. IfSome l (λ ys. IsLoaded xs ys first days flights grid)) → IfSome s (λ xs. IfSome l (λ ys. HasLoaded xs ys first days))
       by (Some xs) (Some ys) is = record { flights = flights; grid = grid; is_loaded = is }
@@ -151,9 +173,6 @@ module _ (set limits after journal : Option (List ℕ)) (first days today : ℕ)
         four_older (λ xs ys. IsLoaded xs ys first days flights grid) (λ older. most_journal_bytes < length older) (λ xs ys older zs. IsTooLargeAgainst xs ys first days older zs today texts) set limits after journal
         (λ xs ys older zs is large. inr (inl (record { flights = flights; grid = grid; is_loaded = is }, large))) loaded over
 
-    pub older_fails : (load older rest : Type 0) → older → load ⊎ ((IfSome set (λ xs. IfSome limits (λ ys. HasLoaded xs ys first days)) × older) ⊎ rest)
-    older_fails load older rest failed = inr (inl (load_known, failed))
-
     module _ (older : Inventory) (before : IfSome after (IsReplayWithin grid older)) where
       abbrev an_older : (xs ys zs : List ℕ) → IsLoaded xs ys first days flights grid → IsReplayWithin grid older zs → HasOlder xs ys first days zs
       an_older xs ys zs is was = record { flights = flights; grid = grid; is_loaded = is; older = older; is_older = was }
@@ -163,9 +182,8 @@ module _ (set limits after journal : Option (List ℕ)) (first days today : ℕ)
           if_known (λ xs ys. IsLoaded xs ys first days flights grid) (IsReplayWithin grid older) (λ zs. most_journal_bytes < length zs) (λ xs ys old zs. IsTooLargeAgainst xs ys first days old zs today texts) set limits after journal
           (λ xs ys old zs is was large. inr (inr (inl (an_older xs ys old is was, large)))) loaded before over
 
-      pub journal_fails : (load old own rest : Type 0) → own → load ⊎ (old ⊎ ((OfThree set limits after (λ xs ys zs. HasOlder xs ys first days zs) × own) ⊎ rest))
-      journal_fails load old own rest failed =
-          inr (inr (inl (if_three_known (λ xs ys. IsLoaded xs ys first days flights grid) (IsReplayWithin grid older) (λ xs ys zs. HasOlder xs ys first days zs) set limits after an_older loaded before, failed)))
+      pub older_known : OfThree set limits after (λ xs ys zs. HasOlder xs ys first days zs)
+      older_known = if_three_known (λ xs ys. IsLoaded xs ys first days flights grid) (IsReplayWithin grid older) (λ xs ys zs. HasOlder xs ys first days zs) set limits after an_older loaded before
 
       module _ (core : Inventory) (replayed : IfSome journal (IsReplayWithin grid core)) where
         abbrev a_both : (xs ys old zs : List ℕ) → IsLoaded xs ys first days flights grid → IsReplayWithin grid older old → IsReplayWithin grid core zs → HasBoth xs ys first days old zs
@@ -176,13 +194,10 @@ module _ (set limits after journal : Option (List ℕ)) (first days today : ℕ)
             if_known (λ xs ys. IsLoaded xs ys first days flights grid) (IsReplayWithin grid older) (IsReplayWithin grid core) (λ xs ys old zs. IsTooLargeAgainst xs ys first days old zs today texts) set limits after journal
             (λ xs ys old zs is was h. inr (inr (inr (a_both xs ys old zs is was h, over)))) loaded before replayed
 
-        pub script_fails : (load old own script : Type 0) → script → load ⊎ (old ⊎ (own ⊎ (OfFour set limits after journal (λ xs ys old zs. HasBoth xs ys first days old zs) × script)))
-        script_fails load old own script failed =
-            inr (inr (inr (
-              if_known (λ xs ys. IsLoaded xs ys first days flights grid) (IsReplayWithin grid older) (IsReplayWithin grid core) (λ xs ys old zs. HasBoth xs ys first days old zs) set limits after journal
-                  a_both loaded before replayed,
-              failed,
-            )))
+        pub both_known : OfFour set limits after journal (λ xs ys old zs. HasBoth xs ys first days old zs)
+        both_known =
+            if_known (λ xs ys. IsLoaded xs ys first days flights grid) (IsReplayWithin grid older) (IsReplayWithin grid core) (λ xs ys old zs. HasBoth xs ys first days old zs) set limits after journal
+            a_both loaded before replayed
 
 -- ---- refusals of the older journal
 

@@ -1,11 +1,11 @@
 -- The lines that a history adds to the past can be answered: what they and their advices answer is there.
 use Rattle.std.proofs.Common.{◌≡◌, ⊎_elim, ℕ, zero, suc, ◌+◌, ◌-◌, ◌<◌, ◌≤◌, List, [], ◌∷◌, ◌++◌, length, map, refl, sym, ap, ◌∙◌, subst, arith, get_or, Option, Some, None, length-append, append_assoc, take, ◌==◌}
-use Rattle.std.specs.Prelude.{slice_get, slice_index, unwrap_or}
+use Rattle.std.specs.Prelude.{slice_get, unwrap_or}
 use Rattle.std.specs.List.{AllByRecursion}
 use Rattle.std.specs.Option.{option_map}
 use Rattle.std.proofs.lemmas.Bool.{cases_lt}
 use Rattle.std.proofs.lemmas.List.{append-nil, get_or_past, length-map, length-take-le}
-use Rattle.std.proofs.lemmas.Option.{slice_get-get_or, slice_get-map, slice_get_cases}
+use Rattle.std.proofs.lemmas.Option.{get_or_from_slice_get, slice_get-get_or, slice_get-map, slice_get_cases, slice_get_within, unwrap_or-slice_get}
 use Rattle.airimp_lines.specs.declared.requests.Request.{Request}
 use Rattle.airimp_lines.specs.declared.segment.Segment.{Segment}
 use Rattle.airline_base.specs.declared.place.Place.{Place}
@@ -20,20 +20,20 @@ use Rattle.seat_journal.specs.declared.entry.Work.TheVariants.{Seats, Limit}
 use Rattle.seat_limits.specs.Authorised.{authorised_grid, authorised_legs}
 use Rattle.seat_nesting.specs.Nesting.{Fits, Ladders, Steps, legs_of}
 use Rattle.seat_limits.specs.declared.limit_row.LimitRow.{LimitRow}
-use Rattle.seat_rules.specs.Journal.{IsLegal, IsLegalAfter, IsNext, MayAsk, calls_of}
+use Rattle.seat_rules.specs.Journal.{IsLegal}
 use Rattle.seat_rules.proofs.History.Legal.{legal_to_after}
 use Rattle.seat_rules.specs.Histories.{of_session, by_session}
 use Rattle.seat_rules.proofs.Own.{own_append, own_one, calls_own}
 use Rattle.seat_desk.specs.FlightsDesk.{IsText}
 use Rattle.seat_desk.specs.Loading.{IsGridOf}
 use Rattle.seat_scripts.specs.declared.past.Past.{Past}
-use Rattle.seat_scripts.specs.Answering.{AreAllAnswerable, AreAnswerable, HasRequest, IsAnswerable, IsRequested, IsBooked}
+use Rattle.seat_scripts.specs.Answering.{AreAllAnswerable, AreAnswerable, AreBooked, IsRequested, IsBooked}
 use Rattle.seat_scripts.specs.Going.{behind, idle, lists_over, past_of, segment_at, segment_between, segment_from, segment_of, segment_on}
 use Rattle.seat_scripts.specs.Requests.{commands_of}
-use Rattle.seat_scripts.specs.RunDesk.{AreAnswers, AreReplies, IsHistoryOf, IsReplied, at_any, works_in, works_of}
+use Rattle.seat_scripts.specs.RunDesk.{AreReplies, AreSessions, IsHistoryOf, IsReplied, requests_of, works_in, works_of}
 use Rattle.seat_scripts.proofs.Advised.{AreAdvised, IsPlaced, all_push, legal_is_advised}
 use Rattle.seat_scripts.proofs.Going.{added_lines, idle_at, over_count, lines_at, past_calls, past_counts, sessions_count}
-use Rattle.seat_scripts.proofs.Rows.{all_kept, all_of}
+use Rattle.seat_scripts.proofs.Rows.{all_kept, all_of, each_at}
 use Rattle.seat_scripts.proofs.Serving.{legs_are}
 
 same_some : {A : Type 0} → (x y : A) → Some x ≡ Some y → x ≡ y
@@ -123,71 +123,31 @@ module _ (grid : Ladders) (past : List Entry) (flights : List Flown) (changes : 
       rest_nil [] ys e = e
       rest_nil (x ∷ xs) ys e = absurd cc
 
-  own_at : (s : ℕ) (front es : List Entry) (e : Entry) → e.session ≡ s → length (of_session s (front ++ e ∷ es)) ≡ length (of_session s front) + suc (length (of_session s es))
-  own_at s front es e is =
-      let later : of_session s (e ∷ es) ≡ e ∷ of_session s es = own_append s (e ∷ []) es ∙ ap (λ (l : List Entry). l ++ of_session s es) (own_one s e is) in
-      ap length (own_append s front (e ∷ es)) ∙ (length-append (of_session s front) (of_session s (e ∷ es)) ∙ ap (λ (l : List Entry). length (of_session s front) + length l) later)
+  -- the line of a session at a place behind the past asks for what stands there
+  work_at : (s : ℕ) (works : List Work) → works_in (of_session s h.added) ≡ works → (k : ℕ) (e : Entry) → slice_get (of_session s h.added) k ≡ Some e → slice_get works k ≡ Some e.work
+  work_at s works same k e at =
+      ap (λ (l : List Work). slice_get l k) (sym same) ∙ (slice_get-map (λ (x : Entry). x.work) (of_session s h.added) k ∙ ap (option_map (λ (x : Entry). x.work)) at)
 
-  -- a session that has a line behind the past is one of those that were opened
-  opened : (s n : ℕ) → length (of_session s h.added) ≡ suc n → s ≤ length lists
-  opened s n some =
-      ⊎_elim (λ (high : length lists < s).
-      let none : length (of_session s history) ≡ 0 = ap length (h.headline.only.none s high) in
-      let all : length (of_session s history) ≡ length (of_session s past) + length (of_session s h.added) =
-      ap (λ (l : List Entry). length (of_session s l)) h.goes_on ∙ (ap length (own_append s past h.added) ∙ length-append (of_session s past) (of_session s h.added)) in
-      absurd (omega (arith, none, all, some)))
-      (λ (le : s ≤ length lists). le)
-      (cases_lt (length lists) s)
+  -- the manager's are changes
+  managed : works_in (of_session 0 h.added) ≡ map Limit changes
+  managed =
+      let within : 0 < length (by_session (length lists) h.added) = omega (arith, sessions_count (length lists) h.added) in
+      let here : slice_get (by_session (length lists) h.added) 0 ≡ Some (of_session 0 h.added) =
+      slice_get-get_or (by_session (length lists) h.added) 0 [] within ∙ ap Some (lines_at (length lists) 0 h.added (omega arith)) in
+      same_some _ _ (sym (ap (option_map works_in) here) ∙ (sym (slice_get-map works_in (by_session (length lists) h.added) 0) ∙ ap (λ (l : List (List Work)). slice_get l 0) h.asked))
 
-  -- and has a script
-  scripted : (s n : ℕ) → 1 ≤ s → length (of_session s h.added) ≡ suc n → s - 1 < length scripts
-  scripted s n low some =
-      let up : suc (s - 1) ≡ s = omega (arith, low) in
-      let own : length (of_session s h.added) ≡ length (get_or scripts (s - 1) []) =
-      ap (λ (k : ℕ). length (of_session k h.added)) (sym up) ∙ own_count (s - 1) (omega (arith, low, opened s n some)) in
-      ⊎_elim (λ (lt : s - 1 < length scripts). lt)
-      (λ (le : length scripts ≤ s - 1). let none : get_or scripts (s - 1) [] ≡ [] = get_or_past scripts (s - 1) [] le in absurd (omega (arith, own, some, ap length none)))
-      (cases_lt (s - 1) (length scripts))
+  no_seats : (o : Option Change) (c : Command) → option_map Limit o ≡ Some (Seats c) → ⊥
+  no_seats None c e = cc
+  no_seats (Some x) c e = cc
 
-  has_request : (front es : List Entry) (e : Entry) → h.added ≡ front ++ e ∷ es → IsNext grid (past ++ front) e → 1 ≤ e.session → e.session ≤ 8 → HasRequest (past_of past) scripts e
-  has_request front es e is next low high =
-      let s = e.session in
-      let counted : length (of_session s h.added) ≡ length (of_session s front) + suc (length (of_session s es)) = ap (λ (l : List Entry). length (of_session s l)) is ∙ own_at s front es e refl in
-      let some : length (of_session s h.added) ≡ suc (length (of_session s front) + length (of_session s es)) = omega (arith, counted) in
-      let at : s - 1 < length scripts = scripted s (length (of_session s front) + length (of_session s es)) low some in
-      let up : suc (s - 1) ≡ s = omega (arith, low) in
-      let own : length (of_session s h.added) ≡ length (get_or scripts (s - 1) []) =
-      ap (λ (k : ℕ). length (of_session k h.added)) (sym up) ∙ own_count (s - 1) (omega (arith, low, opened s (length (of_session s front) + length (of_session s es)) some)) in
-      let before : calls_of (past ++ front) s ≡ calls_of past s + length (of_session s front) =
-      calls_own (past ++ front) s ∙ (ap length (own_append s past front) ∙ (length-append (of_session s past) (of_session s front) ∙ ap (λ (k : ℕ). k + length (of_session s front)) (sym (calls_own past s)))) in
-      let known : slice_index (past_of past).calls s ≡ calls_of past s = past_calls past s high in
-      record {
-        session = (low, omega (arith, at, low));
-        script = get_or scripts (s - 1) [];
-        at = slice_get-get_or scripts (s - 1) [] at;
-        counted = omega (arith, high, past_counts past);
-        call = (omega (arith, next.call, before, known), omega (arith, next.call, before, known, own, counted));
-      }
-
-  is_asked : (front es : List Entry) (e : Entry) → h.added ≡ front ++ e ∷ es → IsNext grid (past ++ front) e → (w : Work) → e.work ≡ w → IsRequested (past_of past) scripts e w
-  is_asked front es e is next (Seats c) work =
-      let may : MayAsk e.session (Seats c) = subst (MayAsk e.session) work next.session in
-      has_request front es e is next may.0 may.1
-  is_asked front es e is next (Limit c) work = tt
-
-  have_requests : (front es : List Entry) → h.added ≡ front ++ es → IsLegalAfter grid (past ++ front) es → AllByRecursion (λ (e : Entry). IsRequested (past_of past) scripts e e.work) es
-  have_requests front [] is legal = tt
-  have_requests front (e ∷ es) is legal = (
-    is_asked front es e is legal.0 e.work refl,
-    have_requests (front ++ e ∷ []) es (is ∙ sym (append_assoc front (e ∷ []) es))
-        (subst (λ (l : List Entry). IsLegalAfter grid l es) (append_assoc past front (e ∷ [])) legal.1),
-  )
-
-  all_asked : AllByRecursion (λ (e : Entry). IsRequested (past_of past) scripts e e.work) h.added
-  all_asked =
-      let none : past ++ [] ≡ past = append-nil past in
-      have_requests [] h.added refl (subst (λ (l : List Entry). IsLegalAfter grid l h.added) (sym none)
-      (legal_to_after grid past h.added (subst (IsLegal grid) h.goes_on h.headline.legal)))
+  -- so a line that asks for seats stands beside a request
+  is_asked : (s k : ℕ) (e : Entry) → s ≤ length scripts → length scripts ≤ length lists → slice_get (of_session s h.added) k ≡ Some e → (w : Work) → e.work ≡ w → IsRequested (requests_of scripts s) k w
+  is_asked zero k e low enough at (Seats c) work = absurd (no_seats (slice_get changes k) c (sym (slice_get-map Limit changes k) ∙ (work_at 0 (map Limit changes) managed k e at ∙ ap Some work)))
+  is_asked (suc i) k e low enough at (Seats c) work =
+      let lt : i < length lists = omega (arith, low, enough) in
+      let within : k < length (of_session (suc i) h.added) = slice_get_within (of_session (suc i) h.added) k e at in
+      subst (λ (l : List Request). k < length l) (sym (unwrap_or-slice_get scripts i [])) (omega (arith, within, own_count i lt))
+  is_asked s k e low enough at (Limit c) work = tt
 
   -- ---- each advice's booking
 
@@ -211,38 +171,32 @@ module _ (grid : Ladders) (past : List Entry) (flights : List Flown) (changes : 
   each_advised g [] told = tt
   each_advised g (a ∷ advices) told = (booked g a.number told.0, each_advised g advices told.1)
 
-  answer_each : IsGridOf flights grid → (lines : List Entry) → AllByRecursion (λ (e : Entry). IsRequested (past_of past) scripts e e.work) lines → AreAdvised grid history lines
-      → AllByRecursion (IsAnswerable flights (past_of past) scripts history) lines
-  answer_each g [] asked told = tt
-  answer_each g (e ∷ es) asked told = (
-    record { asked = asked.0; advised = record { each = all_of (λ (a : Advice). IsBooked flights history a.number) e.advices (each_advised g e.advices told.0) } },
-    answer_each g es asked.1 told.1,
-  )
+  book_each : IsGridOf flights grid → (lines : List Entry) → AreAdvised grid history lines → AllByRecursion (λ (e : Entry). AreBooked flights history e.advices) lines
+  book_each g [] told = tt
+  book_each g (e ∷ es) told = (record { each = all_of (λ (a : Advice). IsBooked flights history a.number) e.advices (each_advised g e.advices told.0) }, book_each g es told.1)
 
   added_advised : (xs ys : List Entry) → AreAdvised grid history (xs ++ ys) → AreAdvised grid history ys
   added_advised [] ys all = all
   added_advised (x ∷ xs) ys all = added_advised xs ys all.1
 
-  all_lines : IsGridOf flights grid → AllByRecursion (IsAnswerable flights (past_of past) scripts history) h.added
+  all_lines : IsGridOf flights grid → AllByRecursion (λ (e : Entry). AreBooked flights history e.advices) h.added
   all_lines g =
-      answer_each g h.added all_asked
-      (added_advised past h.added (subst (λ (l : List Entry). AreAdvised grid history l) h.goes_on (legal_is_advised grid history h.headline.legal)))
-
-  answer_sessions : (n : ℕ) (lines : List Entry) → AllByRecursion (IsAnswerable flights (past_of past) scripts history) lines
-      → AllByRecursion (AreAnswerable flights (past_of past) scripts history) (by_session n lines)
-  answer_sessions zero lines all =
-      let is = IsAnswerable flights (past_of past) scripts history in
-      (record { each = all_of is (of_session 0 lines) (all_kept is (λ (e : Entry). e.session == 0) lines all) }, tt)
-  answer_sessions (suc n) lines all =
-      let is = IsAnswerable flights (past_of past) scripts history in
-      all_push (AreAnswerable flights (past_of past) scripts history) (by_session n lines) (of_session (suc n) lines) (answer_sessions n lines all)
-      (record { each = all_of is (of_session (suc n) lines) (all_kept is (λ (e : Entry). e.session == suc n) lines all) })
+      book_each g h.added (added_advised past h.added (subst (λ (l : List Entry). AreAdvised grid history l) h.goes_on (legal_is_advised grid history h.headline.legal)))
 
   -- session by session
-  answerable : (n : ℕ) → IsGridOf flights grid → AreAllAnswerable flights (past_of past) scripts history (by_session n h.added)
-  answerable n g = record {
-    each = all_of (AreAnswerable flights (past_of past) scripts history) (by_session n h.added) (answer_sessions n h.added (all_lines g));
-  }
+  answerable : IsGridOf flights grid → length scripts ≤ length lists → AreAllAnswerable flights scripts history (by_session (length scripts) h.added)
+  answerable g enough = record { each = of_lines } where
+    of_lines : (s : ℕ) (lines : List Entry) → slice_get (by_session (length scripts) h.added) s ≡ Some lines → AreAnswerable flights (requests_of scripts s) history lines
+    of_lines s lines there =
+        let low : s < suc (length scripts) = omega (arith, slice_get_within (by_session (length scripts) h.added) s lines there, sessions_count (length scripts) h.added) in
+        let own : lines ≡ of_session s h.added = sym (get_or_from_slice_get (by_session (length scripts) h.added) s lines [] there) ∙ lines_at (length scripts) s h.added low in
+        subst (λ (l : List Entry). AreAnswerable flights (requests_of scripts s) history l) (sym own) (record {
+          each = λ k e at. record {
+            asked = is_asked s k e (omega (arith, low)) enough at e.work refl;
+            advised = each_at (λ (x : Entry). AreBooked flights history x.advices) (of_session s h.added) k e
+                (all_kept (λ (x : Entry). AreBooked flights history x.advices) (λ (x : Entry). x.session == s) h.added (all_lines g)) at;
+          };
+        })
 
   -- what the receipts of the scripts' sessions have behind the past
   receipts_behind : length scripts ≤ 8 → behind (past_of past).calls (take (length scripts + 1) (by_session (length lists) history)) ≡ by_session (length scripts) h.added
@@ -255,14 +209,16 @@ module _ (grid : Ladders) (past : List Entry) (flights : List Flown) (changes : 
 
   -- so these can be answered, and their answers are the replies
   behind_answerable : IsGridOf flights grid → length scripts ≤ 8
-      → AreAllAnswerable flights (past_of past) scripts history (behind (past_of past).calls (take (length scripts + 1) (by_session (length lists) history)))
-  behind_answerable g few = subst (λ (rows : List (List Entry)). AreAllAnswerable flights (past_of past) scripts history rows) (sym (receipts_behind few)) (answerable (length scripts) g)
+      → AreAllAnswerable flights scripts history (behind (past_of past).calls (take (length scripts + 1) (by_session (length lists) history)))
+  behind_answerable g few =
+      let enough : length scripts ≤ length lists = omega (arith, over_count past (map (commands_of flights) scripts), length-map scripts (commands_of flights)) in
+      subst (λ (rows : List (List Entry)). AreAllAnswerable flights scripts history rows) (sym (receipts_behind few)) (answerable g enough)
 
   pub as_replies : (text : List ℕ) → IsReplied flights past scripts history told text → AreReplies flights past scripts h.added text
   as_replies text r =
-      let lines = subst (λ (rows : List (List Entry)). IsText (at_any (AreAnswers flights (past_of past) scripts history)) 0 (behind (past_of past).calls (take (length scripts + 1) rows)) text) h.headline.own r.are_answers in
-      let rows = subst (λ (rows : List (List Entry)). IsText (at_any (AreAnswers flights (past_of past) scripts history)) 0 rows text) (receipts_behind r.few) lines in
-      subst (λ (l : List Entry). IsText (at_any (AreAnswers flights (past_of past) scripts l)) 0 (by_session (length scripts) h.added) text) h.goes_on rows
+      let lines = subst (λ (rows : List (List Entry)). IsText (AreSessions flights scripts history) 0 (behind (past_of past).calls (take (length scripts + 1) rows)) text) h.headline.own r.are_answers in
+      let rows = subst (λ (rows : List (List Entry)). IsText (AreSessions flights scripts history) 0 rows text) (receipts_behind r.few) lines in
+      subst (λ (l : List Entry). IsText (AreSessions flights scripts l) 0 (by_session (length scripts) h.added) text) h.goes_on rows
 
 -- ---- the same, said of what the host was asked and what it gave
 
@@ -282,19 +238,19 @@ module _ (grid : Ladders) (past : List Entry) (flights : List Flown) (changes : 
       let enough : length scripts ≤ length opened_lists = omega (arith, over_count past (map (commands_of flights) scripts), length-map scripts (commands_of flights)) in
       sym (length-take-le (length scripts + 1) receipts (omega (arith, rows, enough)))
 
-  pub lines_answerable : (told : List (List Entry)) → IsGridOf flights grid → IsHistoryOf grid past changes lists history told → AreAllAnswerable flights before scripts slice (behind before.calls (take (length scripts + 1) receipts))
+  pub lines_answerable : (told : List (List Entry)) → IsGridOf flights grid → IsHistoryOf grid past changes lists history told → AreAllAnswerable flights scripts slice (behind before.calls (take (length scripts + 1) receipts))
   lines_answerable told g h =
       let on = subst (λ (l : List (List Command)). IsHistoryOf grid past changes l history told) asked h in
-      subst (λ (b : Past). AreAllAnswerable flights b scripts slice (behind b.calls (take (length scripts + 1) receipts))) (sym known)
-      (subst (λ (l : List Entry). AreAllAnswerable flights (past_of past) scripts l (behind (past_of past).calls (take (length scripts + 1) receipts))) (sym same)
-      (subst (λ (rows : List (List Entry)). AreAllAnswerable flights (past_of past) scripts history (behind (past_of past).calls (take (length scripts + 1) rows))) (sym own_rows)
+      subst (λ (b : Past). AreAllAnswerable flights scripts slice (behind b.calls (take (length scripts + 1) receipts))) (sym known)
+      (subst (λ (l : List Entry). AreAllAnswerable flights scripts l (behind (past_of past).calls (take (length scripts + 1) receipts))) (sym same)
+      (subst (λ (rows : List (List Entry)). AreAllAnswerable flights scripts history (behind (past_of past).calls (take (length scripts + 1) rows))) (sym own_rows)
       (behind_answerable grid past flights changes scripts history told on g few)))
 
   pub lines_replied : (told : List (List Entry)) (text : List ℕ) → receipts ≡ told
-      → IsText (at_any (AreAnswers flights before scripts slice)) 0 (behind before.calls (take (length scripts + 1) receipts)) text → IsReplied flights past scripts history told text
+      → IsText (AreSessions flights scripts slice) 0 (behind before.calls (take (length scripts + 1) receipts)) text → IsReplied flights past scripts history told text
   lines_replied told text given said = record {
     few = few;
-    are_answers = subst (λ (rows : List (List Entry)). IsText (at_any (AreAnswers flights (past_of past) scripts history)) 0 (behind (past_of past).calls (take (length scripts + 1) rows)) text) given
-        (subst (λ (l : List Entry). IsText (at_any (AreAnswers flights (past_of past) scripts l)) 0 (behind (past_of past).calls (take (length scripts + 1) receipts)) text) same
-        (subst (λ (b : Past). IsText (at_any (AreAnswers flights b scripts slice)) 0 (behind b.calls (take (length scripts + 1) receipts)) text) known said));
+    are_answers = subst (λ (rows : List (List Entry)). IsText (AreSessions flights scripts history) 0 (behind (past_of past).calls (take (length scripts + 1) rows)) text) given
+        (subst (λ (l : List Entry). IsText (AreSessions flights scripts l) 0 (behind (past_of past).calls (take (length scripts + 1) receipts)) text) same
+        (subst (λ (b : Past). IsText (AreSessions flights scripts slice) 0 (behind b.calls (take (length scripts + 1) receipts)) text) known said));
   }

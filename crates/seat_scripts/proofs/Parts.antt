@@ -12,11 +12,10 @@ use Rattle.seat_journal.specs.declared.entry.Change.{Change}
 use Rattle.seat_journal.specs.declared.entry.Entry.{Entry}
 use Rattle.seat_journal.specs.declared.entry.Work.TheVariants.{Limit}
 use Rattle.seat_desk.specs.FlightsDesk.{IsPut, IsText}
-use Rattle.seat_scripts.specs.declared.past.Past.{Past}
 use Rattle.seat_scripts.specs.declared.replies.Answered.{Answered}
-use Rattle.seat_scripts.specs.Answering.{AreAllAnswerable, AreAnswerable, AreBooked, HasRequest, IsAnswerable, IsBehind, IsBooked}
+use Rattle.seat_scripts.specs.Answering.{AreAllAnswerable, AreAnswerable, AreBooked, IsAnswerable, IsBehind, IsBooked}
 use Rattle.seat_scripts.specs.Going.{behind}
-use Rattle.seat_scripts.specs.RunDesk.{AreAnswers, IsAdviceLine, IsAnswer, IsLineReply, IsReply, IsSeatsReply, at_any, booked_by, change_reply, made_by, of_command, of_request, of_work, reply_head, request_of, requested}
+use Rattle.seat_scripts.specs.RunDesk.{AreSessions, IsAdviceLine, IsAnswer, IsLineReply, IsReply, IsSeatsReply, at_any, booked_by, change_reply, made_by, of_command, of_request, of_work, reply_head, requests_of}
 use Rattle.seat_desk.proofs.Texts.{assoc_four, put_more, text_whole}
 
 -- ---- what can be answered
@@ -35,34 +34,19 @@ behind_at (k ∷ counts) (l ∷ lists) zero lines d le lt there = ap (λ (xs : L
 behind_at (k ∷ counts) (l ∷ lists) (suc i) lines d le lt there = behind_at counts lists i lines d (omega (arith, le)) (omega (arith, lt)) there
 
 -- the lines of the session at this place that stand behind the past
-pub session_answerable : (flights : List Flown) (past : Past) (scripts : List (List Request)) (history : List Entry) (counts : List ℕ) (lists : List (List Entry)) (i : ℕ) (lines added : List Entry)
-    → AreAllAnswerable flights past scripts history (behind counts lists) → length lists ≤ length counts → i < length lists
-    → lines ≡ get_or lists i lines → added ≡ drop (slice_index counts i) lines → AreAnswerable flights past scripts history added
-session_answerable flights past scripts history counts lists i lines added all le lt there is =
-    subst (AreAnswerable flights past scripts history) (sym (is ∙ behind_at counts lists i lines [] le lt there)) (all.each i [] (omega (arith, lt, behind_count counts lists le)))
+pub session_answerable : (flights : List Flown) (scripts : List (List Request)) (history : List Entry) (counts : List ℕ) (lists : List (List Entry)) (i : ℕ) (lines added : List Entry)
+    → AreAllAnswerable flights scripts history (behind counts lists) → length lists ≤ length counts → i < length lists
+    → lines ≡ get_or lists i lines → added ≡ drop (slice_index counts i) lines → AreAnswerable flights (requests_of scripts i) history added
+session_answerable flights scripts history counts lists i lines added all le lt there is =
+    all.each i added (slice_get_read (behind counts lists) (length lists) i added (sym (behind_count counts lists le)) lt (is ∙ behind_at counts lists i lines added le lt there))
 
-pub line_answerable : (flights : List Flown) (past : Past) (scripts : List (List Request)) (history lines : List Entry) (i : ℕ) (e : Entry)
-    → AreAnswerable flights past scripts history lines → i < length lines → e ≡ get_or lines i e → IsAnswerable flights past scripts history e
-line_answerable flights past scripts history lines i e all in_range here = subst (IsAnswerable flights past scripts history) (sym here) (all.each i e in_range)
+pub line_answerable : (flights : List Flown) (requests : List Request) (history lines : List Entry) (i : ℕ) (e : Entry)
+    → AreAnswerable flights requests history lines → i < length lines → e ≡ get_or lines i e → IsAnswerable flights requests history i e
+line_answerable flights requests history lines i e all in_range here = all.each i e (slice_get_read lines (length lines) i e refl in_range here)
 
 pub advice_booked : (flights : List Flown) (history : List Entry) (advices : List Advice) (i : ℕ) (a : Advice)
     → AreBooked flights history advices → i < length advices → a ≡ get_or advices i a → IsBooked flights history a.number
 advice_booked flights history advices i a all in_range here = subst (λ (x : Advice). IsBooked flights history x.number) (sym here) (all.each i a in_range)
-
--- ---- requests
-
--- the request at its call's place
-pub asked : (past : Past) (scripts : List (List Request)) (e : Entry) (script : List Request) (request : Request) → HasRequest past scripts e
-    → script ≡ get_or scripts (e.session - 1) script → request ≡ get_or script (e.call - slice_index past.calls e.session - 1) request
-    → request_of past scripts e ≡ Some request
-asked past scripts e script request has of_session of_call =
-    let in_scripts : e.session - 1 < length scripts = omega (arith, has.session.0, has.session.1) in
-    let there : slice_get scripts (e.session - 1) ≡ Some script = slice_get_read scripts (length scripts) (e.session - 1) script refl in_scripts of_session in
-    let same : script ≡ has.script = cc (there, has.at) in
-    let place = e.call - slice_index past.calls e.session in
-    let in_script : place - 1 < length script = omega (arith, has.call.0, has.call.1, ap (length {A = Request}) same) in
-    let here : slice_get script (place - 1) ≡ Some request = slice_get_read script (length script) (place - 1) request refl in_script of_call in
-    ap (λ (o : Option (List Request)). requested o place) there ∙ here
 
 -- ---- bookings
 
@@ -101,45 +85,45 @@ pub advices_more : (flights : List Flown) (history : List Entry) (e : Entry) (i 
 advices_more flights history e i xs a old mid new put in_range here behind =
     put_more (at_any (IsAdviceLine flights history e)) 0 i xs a old mid new behind.part put in_range here behind.is_part behind.written
 
-pub answers_more : (flights : List Flown) (past : Past) (scripts : List (List Request)) (history : List Entry) (i : ℕ) (xs : List Entry) (e : Entry) (old mid new : List ℕ)
-    → IsPut (at_any (IsAnswer flights past scripts history)) 0 (take i xs) old mid → i < length xs → e ≡ get_or xs i e
-    → IsBehind (IsAnswer flights past scripts history e) mid new → IsPut (at_any (IsAnswer flights past scripts history)) 0 (take (i + 1) xs) old new
-answers_more flights past scripts history i xs e old mid new put in_range here behind =
-    put_more (at_any (IsAnswer flights past scripts history)) 0 i xs e old mid new behind.part put in_range here behind.is_part behind.written
+pub answers_more : (flights : List Flown) (requests : List Request) (history : List Entry) (i : ℕ) (xs : List Entry) (e : Entry) (old mid new : List ℕ)
+    → IsPut (IsAnswer flights requests history) 0 (take i xs) old mid → i < length xs → e ≡ get_or xs i e
+    → IsBehind (IsAnswer flights requests history i e) mid new → IsPut (IsAnswer flights requests history) 0 (take (i + 1) xs) old new
+answers_more flights requests history i xs e old mid new put in_range here behind =
+    put_more (IsAnswer flights requests history) 0 i xs e old mid new behind.part put in_range here behind.is_part behind.written
 
-pub sessions_more : (flights : List Flown) (past : Past) (scripts : List (List Request)) (history : List Entry) (counts : List ℕ) (lists : List (List Entry)) (i : ℕ) (lines added : List Entry) (old mid new : List ℕ)
-    → IsPut (at_any (AreAnswers flights past scripts history)) 0 (take i (behind counts lists)) old mid → length lists ≤ length counts → i < length lists
+pub sessions_more : (flights : List Flown) (scripts : List (List Request)) (history : List Entry) (counts : List ℕ) (lists : List (List Entry)) (i : ℕ) (lines added : List Entry) (old mid new : List ℕ)
+    → IsPut (AreSessions flights scripts history) 0 (take i (behind counts lists)) old mid → length lists ≤ length counts → i < length lists
     → lines ≡ get_or lists i lines → added ≡ drop (slice_index counts i) lines
-    → IsPut (at_any (IsAnswer flights past scripts history)) 0 added mid new → IsPut (at_any (AreAnswers flights past scripts history)) 0 (take (i + 1) (behind counts lists)) old new
-sessions_more flights past scripts history counts lists i lines added old mid new put le in_range there is part =
-    put_more (at_any (AreAnswers flights past scripts history)) 0 i (behind counts lists) added old mid new part.part put
+    → IsPut (IsAnswer flights (requests_of scripts i) history) 0 added mid new → IsPut (AreSessions flights scripts history) 0 (take (i + 1) (behind counts lists)) old new
+sessions_more flights scripts history counts lists i lines added old mid new put le in_range there is part =
+    put_more (AreSessions flights scripts history) 0 i (behind counts lists) added old mid new part.part put
     (omega (arith, in_range, behind_count counts lists le)) (is ∙ behind_at counts lists i lines added le in_range there) part.is_text part.written
 
 -- the text is whole where all sessions are answered
-pub sessions_whole : (flights : List Flown) (past : Past) (scripts : List (List Request)) (history : List Entry) (counts : List ℕ) (i : ℕ) (lists : List (List Entry)) (new : List ℕ)
-    → IsPut (at_any (AreAnswers flights past scripts history)) 0 (take i (behind counts lists)) [] new → length lists ≤ length counts → length lists ≤ i
-    → IsText (at_any (AreAnswers flights past scripts history)) 0 (behind counts lists) new
-sessions_whole flights past scripts history counts i lists new put le over =
-    text_whole (at_any (AreAnswers flights past scripts history)) 0 i (length lists) (behind counts lists) new put (sym (behind_count counts lists le)) over
+pub sessions_whole : (flights : List Flown) (scripts : List (List Request)) (history : List Entry) (counts : List ℕ) (i : ℕ) (lists : List (List Entry)) (new : List ℕ)
+    → IsPut (AreSessions flights scripts history) 0 (take i (behind counts lists)) [] new → length lists ≤ length counts → length lists ≤ i
+    → IsText (AreSessions flights scripts history) 0 (behind counts lists) new
+sessions_whole flights scripts history counts i lists new put le over =
+    text_whole (AreSessions flights scripts history) 0 i (length lists) (behind counts lists) new put (sym (behind_count counts lists le)) over
 
 -- the reply to a request, and to a change
-pub seats_put : (past : Past) (scripts : List (List Request)) (e : Entry) (request : Request) (old new : List ℕ)
-    → request_of past scripts e ≡ Some request → IsBehind (IsReply e (of_request request) e.reply request.segment.seats) old new → IsBehind (IsSeatsReply past scripts e) old new
-seats_put past scripts e request old new requested reply = record {
+pub seats_put : (requests : List Request) (place : ℕ) (e : Entry) (request : Request) (old new : List ℕ)
+    → place < length requests → request ≡ get_or requests place request → IsBehind (IsReply e (of_request request) e.reply request.segment.seats) old new → IsBehind (IsSeatsReply requests place e) old new
+seats_put requests place e request old new in_range here reply = record {
   part = reply.part;
-  is_part = record { request = request; requested = requested; is_reply = reply.is_part };
+  is_part = record { request = request; requested = slice_get_read requests (length requests) place request refl in_range here; is_reply = reply.is_part };
   written = reply.written;
 }
 
-pub change_put : (past : Past) (scripts : List (List Request)) (e : Entry) (change : Change) (old new : List ℕ)
-    → new ≡ old ++ change_reply e change → IsBehind (IsLineReply past scripts e (Limit change)) old new
-change_put past scripts e change old new written = record { part = change_reply e change; is_part = refl; written = written }
+pub change_put : (requests : List Request) (place : ℕ) (e : Entry) (change : Change) (old new : List ℕ)
+    → new ≡ old ++ change_reply e change → IsBehind (IsLineReply requests place e (Limit change)) old new
+change_put requests place e change old new written = record { part = change_reply e change; is_part = refl; written = written }
 
 -- a reply and its advices
-pub answer_put : (flights : List Flown) (past : Past) (scripts : List (List Request)) (history : List Entry) (e : Entry) (old mid new : List ℕ)
-    → IsBehind (IsLineReply past scripts e e.work) old mid
-    → IsPut (at_any (IsAdviceLine flights history e)) 0 e.advices mid new → IsBehind (IsAnswer flights past scripts history e) old new
-answer_put flights past scripts history e old mid new reply put = record {
+pub answer_put : (flights : List Flown) (requests : List Request) (history : List Entry) (place : ℕ) (e : Entry) (old mid new : List ℕ)
+    → IsBehind (IsLineReply requests place e e.work) old mid
+    → IsPut (at_any (IsAdviceLine flights history e)) 0 e.advices mid new → IsBehind (IsAnswer flights requests history place e) old new
+answer_put flights requests history place e old mid new reply put = record {
   part = reply.part ++ put.part;
   is_part = record {
     line = reply.part;

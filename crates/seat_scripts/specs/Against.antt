@@ -131,6 +131,20 @@ pub record IsAuditAgainst (set limits : List ℕ) (first days : ℕ) (after jour
 abbrev pub OfFour : Option (List ℕ) → Option (List ℕ) → Option (List ℕ) → Option (List ℕ) → (List ℕ → List ℕ → List ℕ → List ℕ → Type 0) → Type 0
 OfFour set limits after journal P = IfSome set (λ xs. IfSome limits (λ ys. IfSome after (λ older. IfSome journal (λ zs. P xs ys older zs))))
 
+-- the inputs are right: these are the flights of the set, what the two journals come to over one grid, and the requests of the scripts
+pub record AreRead (set limits : List ℕ) (first days : ℕ) (after journal : List ℕ) (today : ℕ) (texts : List (Option (List ℕ)))
+    (flights : List Flown) (older core : Inventory) (scripts : List (List Request)) : Type 0 where
+  pub grid : Ladders
+  pub is_loaded : IsLoaded set limits first days flights grid
+  pub is_older : IsReplayWithin grid older after
+  pub is_replay : IsReplayWithin grid core journal
+  pub are_scripts : AreScripts today texts scripts
+
+abbrev pub AreReadOf : {S L : Type 0} → Bytes S → Bytes L → Inputs S L → Option (List ℕ) → Option (List ℕ) → ℕ → List (Option (List ℕ)) → List Flown → Inventory → Inventory → List (List Request) → Type 0
+AreReadOf set limits inputs after journal today texts flights older core scripts =
+    OfFour (set inputs.set) (limits inputs.limits) after journal
+    (λ xs ys before zs. AreRead xs ys inputs.first inputs.days before zs today texts flights older core scripts)
+
 abbrev pub IsAuditAgainstOf : {S L : Type 0} → Bytes S → Bytes L → Inputs S L → Option (List ℕ) → Option (List ℕ) → ℕ → List (Option (List ℕ)) → List ℕ → Type 0
 IsAuditAgainstOf set limits inputs after journal today texts line =
     OfFour (set inputs.set) (limits inputs.limits) after journal (λ xs ys older zs. IsAuditAgainst xs ys inputs.first inputs.days older zs today texts line)

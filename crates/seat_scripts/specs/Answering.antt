@@ -1,5 +1,5 @@
 -- Lines that can be answered: what they and their advices answer is there.
-use Rattle.std.specs.Prelude.{◌≡◌, ◌≤◌, ◌<◌, ◌-◌, ℕ, List, ◌++◌, length, Some, All, slice_get, slice_index}
+use Rattle.std.specs.Prelude.{◌≡◌, ◌≤◌, ◌<◌, ◌-◌, ℕ, List, ◌++◌, length, Some, All, slice_get}
 use Rattle.airimp_lines.specs.declared.requests.Request.{Request}
 use Rattle.airimp_lines.specs.declared.segment.Segment.{Segment}
 use Rattle.ssim_flights.specs.declared.flight.Flight.{Flight as Flown}
@@ -9,20 +9,12 @@ use Rattle.seat_journal.specs.declared.entry.Entry.{Entry}
 use Rattle.seat_journal.specs.declared.entry.Work.{Work}
 use Rattle.seat_journal.specs.declared.entry.Work.TheVariants.{Seats, Limit}
 use Rattle.seat_scripts.specs.Going.{segment_of}
-use Rattle.seat_scripts.specs.declared.past.Past.{Past}
+use Rattle.seat_scripts.specs.RunDesk.{requests_of}
 
--- the line's session has a script, and its call, behind those of the past, a request in it
-pub record HasRequest (past : Past) (scripts : List (List Request)) (e : Entry) : Type 0 where
-  pub session : (1 ≤ e.session) × (e.session ≤ length scripts)
-  pub script : List Request
-  pub at : slice_get scripts (e.session - 1) ≡ Some script
-  pub counted : e.session < length past.calls
-  pub call : (slice_index past.calls e.session < e.call) × (e.call - slice_index past.calls e.session ≤ length script)
-
--- seats are asked by a request; a change has none
-abbrev pub IsRequested : Past → List (List Request) → Entry → Work → Type 0
-IsRequested past scripts e (Seats command) = HasRequest past scripts e
-IsRequested past scripts e (Limit change) = Unit {0}
+-- seats are asked by the request at this place; a change has none
+abbrev pub IsRequested : List Request → ℕ → Work → Type 0
+IsRequested requests place (Seats command) = place < length requests
+IsRequested requests place (Limit change) = Unit {0}
 
 -- the line of this number asks for seats on legs that are flown
 pub record IsBooked (flights : List Flown) (history : List Entry) (number : ℕ) : Type 0 where
@@ -38,15 +30,17 @@ pub record IsBooked (flights : List Flown) (history : List Entry) (number : ℕ)
 pub record AreBooked (flights : List Flown) (history : List Entry) (advices : List Advice) : Type 0 where
   pub each : All (λ (a : Advice). IsBooked flights history a.number) advices
 
-pub record IsAnswerable (flights : List Flown) (past : Past) (scripts : List (List Request)) (history : List Entry) (e : Entry) : Type 0 where
-  pub asked : IsRequested past scripts e e.work
+pub record IsAnswerable (flights : List Flown) (requests : List Request) (history : List Entry) (place : ℕ) (e : Entry) : Type 0 where
+  pub asked : IsRequested requests place e.work
   pub advised : AreBooked flights history e.advices
 
-pub record AreAnswerable (flights : List Flown) (past : Past) (scripts : List (List Request)) (history lines : List Entry) : Type 0 where
-  pub each : All (IsAnswerable flights past scripts history) lines
+-- each line, beside the request at its place
+pub record AreAnswerable (flights : List Flown) (requests : List Request) (history lines : List Entry) : Type 0 where
+  pub each : (place : ℕ) (e : Entry) → slice_get lines place ≡ Some e → IsAnswerable flights requests history place e
 
-pub record AreAllAnswerable (flights : List Flown) (past : Past) (scripts : List (List Request)) (history : List Entry) (lists : List (List Entry)) : Type 0 where
-  pub each : All (AreAnswerable flights past scripts history) lists
+-- the lines of each session, beside what it is asked
+pub record AreAllAnswerable (flights : List Flown) (scripts : List (List Request)) (history : List Entry) (lists : List (List Entry)) : Type 0 where
+  pub each : (session : ℕ) (lines : List Entry) → slice_get lists session ≡ Some lines → AreAnswerable flights (requests_of scripts session) history lines
 
 -- such a text is written behind what was there
 pub record IsBehind (is : List ℕ → Type 0) (old new : List ℕ) : Type 0 where

@@ -1,5 +1,5 @@
 -- What `run` writes: an older journal and behind it what the scripts ask, and the replies to each script.
-use Rattle.std.specs.Prelude.{◌≡◌, ◌≤◌, ◌<◌, ◌+◌, ◌-◌, ◌⊎◌, nat_le, ℕ, List, [], ◌∷◌, ◌++◌, length, map, take, decimal, codes, Option, Some, None, IfSome, if◌then◌else◌, slice_get, slice_index}
+use Rattle.std.specs.Prelude.{◌≡◌, ◌≤◌, ◌<◌, ◌+◌, ◌-◌, ◌⊎◌, nat_le, ℕ, List, [], ◌∷◌, ◌++◌, length, map, take, decimal, codes, Option, Some, None, IfSome, if◌then◌else◌, slice_get, unwrap_or}
 use Rattle.std.specs.Io.KnownBytes.{Appends}
 use Rattle.std.specs.List.{AllByRecursion, AllZip}
 use Rattle.std.specs.Option.{option_map}
@@ -31,7 +31,6 @@ use Rattle.seat_scripts.specs.Asked.{IsAsked, OfThree}
 use Rattle.seat_scripts.specs.Changes.{IsUnchanged}
 use Rattle.seat_scripts.specs.Going.{IsPast, behind, lists_over, past_of, segment_of}
 use Rattle.seat_scripts.specs.Requests.{AreScripts, IsRefusedAmong, commands_of}
-use Rattle.seat_scripts.specs.declared.past.Past.{Past}
 use Rattle.seat_scripts.specs.declared.replies.Answered.{Answered}
 use Rattle.seat_desk.specs.declared.fault.DeskFault.{DeskFault}
 use Rattle.seat_desk.specs.declared.fault.DeskFault.TheVariants.{Change as BadChange, NoLeg, Script, Book, Journal, Memory, Replay}
@@ -79,13 +78,9 @@ change_head e c = line_head e ++ leg_text c ++ codes " " ++ limit_text c
 abbrev pub change_reply : Entry → Change → List ℕ
 change_reply e c = change_head e c ++ codes " " ++ e.reply ++ 10 ∷ []
 
--- the request that a line answers: its call's, counted from the end of the past, in its session's script
-abbrev pub requested : Option (List Request) → ℕ → Option Request
-requested None call = None
-requested (Some script) call = slice_get script (call - 1)
-
-abbrev pub request_of : Past → List (List Request) → Entry → Option Request
-request_of past scripts e = requested (slice_get scripts (e.session - 1)) (e.call - slice_index past.calls e.session)
+-- what a session is asked, in order: session 1 by the first script, and so on; the manager, session 0, has no script
+abbrev pub requests_of : List (List Request) → ℕ → List Request
+requests_of scripts session = unwrap_or (slice_get ([] ∷ scripts) session) []
 
 -- the locator and the segment of a request
 abbrev pub of_request : Request → Answered
@@ -113,38 +108,41 @@ pub record IsAdviceLine (flights : List Flown) (history : List Entry) (e : Entry
   pub booked : booked_by flights history a.number ≡ Some answered
   pub is_reply : IsReply e answered (codes "KL") a.seats line
 
--- the reply to a line's request, with the seats asked
-pub record IsSeatsReply (past : Past) (scripts : List (List Request)) (e : Entry) (line : List ℕ) : Type 0 where
+-- the reply to the request at this place, with the seats asked
+pub record IsSeatsReply (requests : List Request) (place : ℕ) (e : Entry) (line : List ℕ) : Type 0 where
   pub request : Request
-  pub requested : request_of past scripts e ≡ Some request
+  pub requested : slice_get requests place ≡ Some request
   pub is_reply : IsReply e (of_request request) e.reply request.segment.seats line
 
 -- the reply to what a line asks for
-abbrev pub IsLineReply : Past → List (List Request) → Entry → Work → List ℕ → Type 0
-IsLineReply past scripts e (Seats command) line = IsSeatsReply past scripts e line
-IsLineReply past scripts e (Limit change) line = line ≡ change_reply e change
+abbrev pub IsLineReply : List Request → ℕ → Entry → Work → List ℕ → Type 0
+IsLineReply requests place e (Seats command) line = IsSeatsReply requests place e line
+IsLineReply requests place e (Limit change) line = line ≡ change_reply e change
 
 -- and then its advices
-pub record IsAnswer (flights : List Flown) (past : Past) (scripts : List (List Request)) (history : List Entry) (e : Entry) (text : List ℕ) : Type 0 where
+pub record IsAnswer (flights : List Flown) (requests : List Request) (history : List Entry) (place : ℕ) (e : Entry) (text : List ℕ) : Type 0 where
   pub line : List ℕ
   pub advices : List ℕ
-  pub is_reply : IsLineReply past scripts e e.work line
+  pub is_reply : IsLineReply requests place e e.work line
   pub are_advices : IsText (at_any (IsAdviceLine flights history e)) 0 e.advices advices
   pub written : text ≡ line ++ advices
 
--- the answers to the lines of one session, in order
-abbrev pub AreAnswers : List Flown → Past → List (List Request) → List Entry → List Entry → List ℕ → Type 0
-AreAnswers flights past scripts history lines text = IsText (at_any (IsAnswer flights past scripts history)) 0 lines text
+-- the answers to the lines of a session, in order: the first line is that of its first request, and so on
+abbrev pub AreAnswers : List Flown → List Request → List Entry → List Entry → List ℕ → Type 0
+AreAnswers flights requests history lines text = IsText (IsAnswer flights requests history) 0 lines text
+
+-- session by session, each beside what it is asked
+abbrev pub AreSessions : List Flown → List (List Request) → List Entry → ℕ → List Entry → List ℕ → Type 0
+AreSessions flights scripts history session lines text = AreAnswers flights (requests_of scripts session) history lines text
 
 -- those to lines that were added behind the past: of session 0, the manager, then of session 1, and so on
 abbrev pub AreReplies : List Flown → List Entry → List (List Request) → List Entry → List ℕ → Type 0
-AreReplies flights past scripts added text =
-    IsText (at_any (AreAnswers flights (past_of past) scripts (past ++ added))) 0 (by_session (length scripts) added) text
+AreReplies flights past scripts added text = IsText (AreSessions flights scripts (past ++ added)) 0 (by_session (length scripts) added) text
 
 -- one to eight scripts: the answers to the receipts of the manager and of each script's session, but for those of the past
 pub record IsReplied (flights : List Flown) (past : List Entry) (scripts : List (List Request)) (history : List Entry) (receipts : List (List Entry)) (text : List ℕ) : Type 0 where
   pub few : length scripts ≤ 8
-  pub are_answers : IsText (at_any (AreAnswers flights (past_of past) scripts history)) 0 (behind (past_of past).calls (take (length scripts + 1) receipts)) text
+  pub are_answers : IsText (AreSessions flights scripts history) 0 (behind (past_of past).calls (take (length scripts + 1) receipts)) text
 
 -- ---- the whole
 

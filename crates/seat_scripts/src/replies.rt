@@ -1,13 +1,12 @@
 //! The reply to a line of a run, whose requests are answered by segment lines, and its advices.
-ghost use Rattle.std.specs.Prelude.{◌≡◌, ◌++◌, Some, OnOk};
+ghost use Rattle.std.specs.Prelude.{◌≡◌, ◌<◌, ◌++◌, Some, OnOk, length};
 ghost use Rattle.airimp_lines.specs.Grammar.{IsPlainLine, reply_of};
 ghost use Rattle.seat_desk.specs.FlightsDesk.{IsPut};
-ghost use Rattle.seat_scripts.specs.Answering.{AreBooked, HasRequest, IsAnswerable, IsRequested, IsBehind, IsBooked};
+ghost use Rattle.seat_scripts.specs.Answering.{AreBooked, IsAnswerable, IsRequested, IsBehind, IsBooked};
 ghost use Rattle.seat_scripts.specs.Going.{segment_at, segment_of};
-ghost use Rattle.seat_scripts.specs.RunDesk.{IsAdviceLine, IsAnswer, IsLineReply, IsReply, IsSeatsReply, at_any, booked_by, change_head, change_reply, leg_text, limit_text, line_head, of_command, of_request, of_work, reply_head, request_of};
+ghost use Rattle.seat_scripts.specs.RunDesk.{IsAdviceLine, IsAnswer, IsLineReply, IsReply, IsSeatsReply, at_any, booked_by, change_head, change_reply, leg_text, limit_text, line_head, of_command, of_request, of_work, reply_head};
 
-use crate::past::Past;
-use airimp_lines::{Request, Requests, Segment, reply_text};
+use airimp_lines::{Request, Segment, reply_text};
 use airline_base::{Code, Locator, Place};
 use seat_desk::{put, put_number};
 use seat_journal::{Advice, Change, Command, Entry, Work};
@@ -21,20 +20,20 @@ pub(crate) struct Answered {
     pub segment: Segment,
 }
 
-/// Adds the reply to what a line asks for, and its advices.
+/// Adds the reply to what a line asks for, which is the request at this place where it asks for seats, and its advices.
 #[tactic(auto, using(crate::proofs::Parts::answer_put))]
 pub fn put_answer(
     text: &mut Vec<u8>,
     flights: &Flights,
-    past: &Past,
-    scripts: &[Requests],
+    requests: &[Request],
     journal: &[Entry],
+    place: usize,
     entry: &Entry,
 ) -> Result<(), AllocError>
-    requires { IsAnswerable flights.now past.now scripts.now journal.now entry.now }
-    ensures { OnOk result (IsBehind (IsAnswer flights.now past.now scripts.now journal.now entry.now) text.old.items text.new.items) }
+    requires { IsAnswerable flights.now requests.now journal.now place entry.now }
+    ensures { OnOk result (IsBehind (IsAnswer flights.now requests.now journal.now place entry.now) text.old.items text.new.items) }
 {
-    put_line_reply(text, past, scripts, entry, entry.work)?;
+    put_line_reply(text, requests, place, entry, entry.work)?;
     put_advices(text, flights, journal, entry)?;
     Ok(())
 }
@@ -43,32 +42,32 @@ pub fn put_answer(
 #[tactic(auto, using(crate::proofs::Parts::change_put))]
 fn put_line_reply(
     text: &mut Vec<u8>,
-    past: &Past,
-    scripts: &[Requests],
+    requests: &[Request],
+    place: usize,
     entry: &Entry,
     work: Work,
 ) -> Result<(), AllocError>
-    requires { IsRequested past.now scripts.now entry.now work }
-    ensures { OnOk result (IsBehind (IsLineReply past.now scripts.now entry.now work) text.old.items text.new.items) }
+    requires { IsRequested requests.now place work }
+    ensures { OnOk result (IsBehind (IsLineReply requests.now place entry.now work) text.old.items text.new.items) }
 {
     match work {
-        Work::Seats(_) => put_seats_reply(text, past, scripts, entry),
+        Work::Seats(_) => put_seats_reply(text, requests, place, entry),
         Work::Limit(change) => put_change_reply(text, entry, &change),
     }
 }
 
-/// Adds the reply to a line's request.
+/// Adds the reply to the request at this place.
 #[tactic(auto, using(crate::proofs::Parts::seats_put))]
 fn put_seats_reply(
     text: &mut Vec<u8>,
-    past: &Past,
-    scripts: &[Requests],
+    requests: &[Request],
+    place: usize,
     entry: &Entry,
 ) -> Result<(), AllocError>
-    requires { HasRequest past.now scripts.now entry.now }
-    ensures { OnOk result (IsBehind (IsSeatsReply past.now scripts.now entry.now) text.old.items text.new.items) }
+    requires { place < length requests.now }
+    ensures { OnOk result (IsBehind (IsSeatsReply requests.now place entry.now) text.old.items text.new.items) }
 {
-    let request = request_of(past, scripts, entry);
+    let request = &requests[place];
     let seats = request.segment.seats;
     put_reply(text, entry, &of_request(request), entry.reply, seats)?;
     Ok(())
@@ -191,18 +190,6 @@ fn put_segment(
 {
     put(text, reply_text(segment, code, seats).as_slice())?;
     Ok(())
-}
-
-/// The request that a line answers.
-#[tactic(auto, using(crate::proofs::Parts::asked))]
-fn request_of<'a>(past: &Past, scripts: &'a [Requests], entry: &Entry) -> &'a Request
-    requires { HasRequest past.now scripts.now entry.now }
-    ensures { request_of past.now scripts.now entry.now ≡ Some result.now }
-{
-    let session = usize::from(entry.session);
-    let script = &scripts[session - 1];
-    let call = entry.call - past.calls[session];
-    &script.as_slice()[call as usize - 1]
 }
 
 fn of_request(request: &Request) -> Answered

@@ -8,7 +8,7 @@ use crate::refusal::{Refusal, told};
 use crate::streams::{Input, opened, standard_input, standard_output, taken, taken_or};
 use airline_base::Day;
 use seat_desk::{DeskFault, Inputs, NO_LINES, Question, answer_question};
-use seat_questions::{RoomsOf, Bars, BookingsOf, CityPair, Cover, Why};
+use seat_questions::{Bars, BookingsOf, CityPair, Cover, RoomsOf, Why};
 use seat_reports::{Audit, desk_check, desk_flights, desk_ladder};
 use seat_words::{Horizon, date_word, days_word, line_word, locator_word, pair_word};
 

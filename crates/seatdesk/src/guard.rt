@@ -6,8 +6,8 @@ use std::fs::Metadata;
 use std::os::unix::fs::MetadataExt;
 use std::{fs, io};
 
-/// The name under which a program finds its own standard output.
-const STANDARD_OUTPUT: &str = "/dev/stdout";
+/// What a program's own descriptor 1 is open on, whatever stands in /dev.
+const STANDARD_OUTPUT: &str = "/proc/self/fd/1";
 
 /// The file that a journal is to be written to, as it is before that.
 #[derive(Drop)]
@@ -45,14 +45,15 @@ impl<'a> Guard<'a> {
         Ok(())
     }
 
-    /// Refuses the file that standard output goes to, since the replies would be written over the journal.
+    /// Refuses the file that standard output goes to, since the replies would be written over the journal. Where that can't be
+    /// looked at, it may be this file.
     pub fn pass_output<'b>(&self, rt: &HostRuntime) -> Result<(), Refusal<'b>> {
         let Some(there) = &self.there else {
             return Ok(());
         };
         match fs::metadata(rt, STANDARD_OUTPUT) {
-            Ok(file) if is_same(&file, there) => Err(Refusal::of(DeskFault::BadJournal)),
-            _ => Ok(()),
+            Ok(file) if !is_same(&file, there) => Ok(()),
+            _ => Err(Refusal::of(DeskFault::BadJournal)),
         }
     }
 

@@ -2,8 +2,8 @@
 use Rattle.std.proofs.Common.{[], take}
 use Rattle.seat_desk.specs.FlightsDesk.{IsPut}
 use Rattle.seat_scripts.specs.Going.{behind}
-use Rattle.seat_scripts.specs.RunDesk.{AreAnswers, at_any}
+use Rattle.seat_scripts.specs.RunDesk.{AreSessions}
 use Rattle.seat_run.proofs.replies.replies.Given as goal
 
 abbrev pub invariant-loop-session : goal.invariant-loop-session
-invariant-loop-session l = IsPut (at_any (AreAnswers l.flights l.past l.scripts l.journal)) 0 (take l.session (behind l.past.calls l.receipts)) [] l.text.items
+invariant-loop-session l = IsPut (AreSessions l.flights l.scripts l.journal) 0 (take l.session (behind l.past.calls l.receipts)) [] l.text.items
