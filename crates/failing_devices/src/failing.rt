@@ -30,7 +30,8 @@ impl<R: Read> Read for FailingReader<R> {
 
     fn read(&mut self, buf: &mut [u8]) -> io::Result<usize>
         ensures bound { ReadsAtMost result buf.new }
-        ensures bytes { ReadConsumes (R.remaining (read_inner self.old)) (R.remaining (read_inner self.new)) result buf.new }
+        ensures bytes { ReadConsumes (R.remaining (read_inner self.old)) (R.remaining (read_inner self.new)) result
+            buf.new }
         ensures few { IfOk result (λ n. n ≤ max (reads_piece self.old) 1) }
         ensures fails { reads_left self.old ≡ 0 → IsErr result }
         ensures piece { reads_piece self.new ≡ reads_piece self.old }
@@ -94,7 +95,8 @@ impl<W: Write> Write for FailingWriter<W> {
 
     fn write(&mut self, buf: &[u8]) -> io::Result<usize>
         ensures bound { WritesAtMost result buf.now }
-        ensures bytes { WriteAppends (W.contents (write_inner self.old)) (W.contents (write_inner self.new)) result buf.now }
+        ensures bytes { WriteAppends (W.contents (write_inner self.old)) (W.contents (write_inner self.new)) result
+            buf.now }
         ensures few { IfOk result (λ n. n ≤ max (writes_piece self.old) 1) }
         ensures fails { writes_left self.old ≡ 0 → writes_stop self.old ≡ Stop.Fails → IsErr result }
         ensures takes_none { writes_left self.old ≡ 0 → writes_stop self.old ≡ Stop.TakesNone → result ≡ Ok 0 }

@@ -540,7 +540,8 @@ pub fn play<K: Hosting, R: Wait + Abort>(
     row: &Deeds,
     sessions: u8,
 ) -> bool
-    requires { (parts.grid ≡ K.grid) × (parts.cap ≡ K.cap) × (parts.book ≡ K.book) × (parts.sessions ≡ K.sessions) × (parts.names ≡ K.names) }
+    requires { (parts.grid ≡ K.grid) × (parts.cap ≡ K.cap) × (parts.book ≡ K.book) × (parts.sessions ≡ K.sessions)
+        × (parts.names ≡ K.names) }
 {
     let Ok((host, manager, seats)) = Host::<K>::open(rt, alloc, parts) else {
         return false;

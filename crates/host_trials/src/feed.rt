@@ -122,7 +122,8 @@ impl Feed {
 fn append_again<R: Abort>(rt: &R, publisher: &mut Publisher, entry: Entry, refused: &mut bool)
     requires legal { IsLegal publisher.old.grid ((publisher.old.visible ++ publisher.old.pending) ++ entry ∷ []) }
     requires short { length publisher.old.visible + length publisher.old.pending < 1000000 }
-    ensures lines { publisher.new.visible ++ publisher.new.pending ≡ (publisher.old.visible ++ publisher.old.pending) ++ entry ∷ [] }
+    ensures lines { publisher.new.visible ++ publisher.new.pending ≡ (publisher.old.visible ++ publisher.old.pending)
+        ++ entry ∷ [] }
     ensures same { (publisher.new.book ≡ publisher.old.book) × (publisher.new.grid ≡ publisher.old.grid) }
 {
     let (number, work) = (entry.number, entry.work);

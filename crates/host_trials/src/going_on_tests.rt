@@ -128,7 +128,8 @@ fn first_day<K: Hosting, R: Wait + Abort>(
     lines: &[Entry],
     row: &Row,
 ) -> Option<Settled>
-    requires { (parts.grid ≡ K.grid) × (parts.cap ≡ K.cap) × (parts.book ≡ K.book) × (parts.sessions ≡ K.sessions) × (parts.names ≡ K.names) }
+    requires { (parts.grid ≡ K.grid) × (parts.cap ≡ K.cap) × (parts.book ≡ K.book) × (parts.sessions ≡ K.sessions)
+        × (parts.names ≡ K.names) }
 {
     let (host, mut manager, mut seats) = Host::<K>::open(rt, alloc, parts).ok()?;
     let acted = act_all(rt, alloc, &host, &mut manager, &mut seats, lines, row);

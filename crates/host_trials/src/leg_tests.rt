@@ -153,7 +153,8 @@ fn open_and_look<K: Hosting, R: Wait + Abort>(
     parts: Parts,
     lines: &[Entry],
 ) -> Option<()>
-    requires { (parts.grid ≡ K.grid) × (parts.cap ≡ K.cap) × (parts.book ≡ K.book) × (parts.sessions ≡ K.sessions) × (parts.names ≡ K.names) }
+    requires { (parts.grid ≡ K.grid) × (parts.cap ≡ K.cap) × (parts.book ≡ K.book) × (parts.sessions ≡ K.sessions)
+        × (parts.names ≡ K.names) }
 {
     let (host, mut manager, mut sessions) = Host::<K>::open(rt, alloc, parts).ok()?;
     let looked = ask_and_look(rt, alloc, &host, &mut manager, &mut sessions, lines);

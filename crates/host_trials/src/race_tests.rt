@@ -168,7 +168,8 @@ fn change_and_gather<K: Hosting + Send + Sync, R: Threads + Wait + Abort + Sync>
     parts: Parts,
     changes: (Change, Change),
 ) -> Option<()>
-    requires { (parts.grid ≡ K.grid) × (parts.cap ≡ K.cap) × (parts.book ≡ K.book) × (parts.sessions ≡ K.sessions) × (parts.names ≡ K.names) }
+    requires { (parts.grid ≡ K.grid) × (parts.cap ≡ K.cap) × (parts.book ≡ K.book) × (parts.sessions ≡ K.sessions)
+        × (parts.names ≡ K.names) }
 {
     let (host, mut manager, mut sessions) = Host::<K>::open(rt, alloc, parts).ok()?;
     let raced = match sessions.as_mut_slice().first_mut() {

@@ -140,7 +140,8 @@ pub fn same_look(
 
 fn three(feed: &Feed, viewers: &mut Vec<Viewer>) -> Option<(Viewer, Viewer, Viewer)>
     requires { All (λ v. v ≡ opened feed.now.book feed.now.grid) viewers.old.items }
-    ensures { IfSome result (λ r. (r.0 ≡ opened feed.now.book feed.now.grid) × (r.1 ≡ opened feed.now.book feed.now.grid)) }
+    ensures { IfSome result (λ r. (r.0 ≡ opened feed.now.book feed.now.grid)
+        × (r.1 ≡ opened feed.now.book feed.now.grid)) }
 {
     let one = next(feed, viewers)?;
     let two = next(feed, viewers)?;

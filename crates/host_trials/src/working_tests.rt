@@ -266,7 +266,8 @@ fn run<K: Hosting + Send + Sync, R: Threads + Wait + Sync, G: Gate>(
     lists: &[CommandList],
     gate: &G,
 ) -> Option<(Result<(), RunFault>, Settled)>
-    requires parts { (parts.grid ≡ K.grid) × (parts.cap ≡ K.cap) × (parts.book ≡ K.book) × (parts.sessions ≡ K.sessions) × (parts.names ≡ K.names) }
+    requires parts { (parts.grid ≡ K.grid) × (parts.cap ≡ K.cap) × (parts.book ≡ K.book) × (parts.sessions ≡ K.sessions)
+        × (parts.names ≡ K.names) }
     requires changes { All (λ change. FitsChange parts.grid change) changes.now }
     requires lists { All (λ list. All (λ command. FitsCommand parts.grid command) list) lists.now }
 {

@@ -28,4 +28,5 @@ torn_content is_synced bytes torn = if is_synced then bytes else take (length by
 -- what a crash leaves under the name: the older file where the folder was not synced since and the crash goes back to it
 abbrev pub crashed_bytes : Folder → Bool → List ℕ → List ℕ
 crashed_bytes f goes_back torn =
-    if goes_back && f.is_renamed then torn_content f.older.is_synced f.older.bytes.items torn else torn_content f.named.is_synced f.named.bytes.items torn
+    if goes_back && f.is_renamed then torn_content f.older.is_synced f.older.bytes.items torn
+    else torn_content f.named.is_synced f.named.bytes.items torn

@@ -24,7 +24,7 @@ same_text (x ∷ xs) (y ∷ ys) h =
     let rest : xs ≡ ys = same_text xs ys p.1 in
     rw (first, rest) refl
 
-same_letter : (a b : Option ℕ) → option_eq nat_eq a b ≡ true → a ≡ b
+pub same_letter : (a b : Option ℕ) → option_eq nat_eq a b ≡ true → a ≡ b
 same_letter None None h = refl
 same_letter None (Some y) h = absurd cc
 same_letter (Some x) None h = absurd cc

@@ -7,10 +7,12 @@ use Rattle.seat_scripts.specs.RunDesk.{requests_of}
 pub managed : (scripts : List (List Request)) (session : ℕ) → session ≡ 0 → [] ≡ requests_of scripts session
 managed scripts session is = ap (requests_of scripts) (sym is)
 
-pub scripted : (scripts : List (List Request)) (session : ℕ) (script slice : List Request) → 1 ≤ session → slice_get scripts (session - 1) ≡ Some script → slice ≡ script → slice ≡ requests_of scripts session
+pub scripted : (scripts : List (List Request)) (session : ℕ) (script slice : List Request) → 1 ≤ session
+    → slice_get scripts (session - 1) ≡ Some script → slice ≡ script → slice ≡ requests_of scripts session
 scripted scripts zero script slice low at same = absurd (omega (arith, low))
 scripted scripts (suc i) script slice low at same = same ∙ sym (ap (λ o. unwrap_or o []) at)
 
-pub unscripted : (scripts : List (List Request)) (session : ℕ) → 1 ≤ session → slice_get scripts (session - 1) ≡ None → [] ≡ requests_of scripts session
+pub unscripted : (scripts : List (List Request)) (session : ℕ) → 1 ≤ session → slice_get scripts (session - 1) ≡ None
+    → [] ≡ requests_of scripts session
 unscripted scripts zero low at = absurd (omega (arith, low))
 unscripted scripts (suc i) low at = sym (ap (λ o. unwrap_or o []) at)

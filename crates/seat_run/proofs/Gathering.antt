@@ -45,10 +45,12 @@ seat_at past n i d lt = row_at (λ k. seated k past) (λ k. all_seated past k) r
 seat_count : (past : List Entry) (n : ℕ) → length (all_seated past n) ≡ suc n
 seat_count past n = row_count (λ k. seated k past) (λ k. all_seated past k) refl (λ k. refl) n
 
-pub as_many : (past : List Entry) (n : ℕ) (lists : List (List Command)) (sessions : List Seat) → sessions ≡ seated_sessions n past → length lists ≡ n → length lists ≡ length sessions
+pub as_many : (past : List Entry) (n : ℕ) (lists : List (List Command)) (sessions : List Seat)
+    → sessions ≡ seated_sessions n past → length lists ≡ n → length lists ≡ length sessions
 as_many past n lists sessions opened count = let fewer : length (seated_sessions n past) ≡ n = omega (arith, seat_count past n) in count ∙ (sym fewer ∙ ap length (sym opened))
 
-run_at : (lists : List (List Work)) (olds news : List Seat) (i : ℕ) (d e : Seat) → AllHaveRun lists olds news → length lists ≡ length olds → i < length lists
+run_at : (lists : List (List Work)) (olds news : List Seat) (i : ℕ) (d e : Seat) → AllHaveRun lists olds news
+    → length lists ≡ length olds → i < length lists
     → HasRun (get_or lists i []) (get_or olds i d) (get_or news i e) × (i < length news)
 run_at [] olds news i d e run same lt = absurd (omega (arith, lt))
 run_at (l ∷ lists) [] news i d e run same lt = absurd (omega (arith, same))
@@ -62,7 +64,8 @@ same_rest [] ys zs e = e
 same_rest (x ∷ xs) ys zs e = same_rest xs ys zs (cc e)
 
 -- a session that ran from the past has its list behind the past in the journal
-own_list : (n i : ℕ) (past added : List Entry) (list : List Work) (t : Seat) → HasRun list (seated i past) t → IsConfirmed n (past ++ added) t → works_in (of_session i added) ≡ list
+own_list : (n i : ℕ) (past added : List Entry) (list : List Work) (t : Seat) → HasRun list (seated i past) t
+    → IsConfirmed n (past ++ added) t → works_in (of_session i added) ≡ list
 own_list n i past added list t run confirmed =
     let all : of_session i past ++ run.lines ≡ of_session i past ++ of_session i added =
     sym run.receipts ∙ (confirmed.lines ∙ (ap (λ (k : ℕ). of_session k (past ++ added)) run.id ∙ own_append i past added)) in
@@ -73,7 +76,8 @@ record GoesOn (past journal : List Entry) : Type 0 where
   added : List Entry
   is : journal ≡ past ++ added
 
-goes_on : (past journal : List Entry) (n : ℕ) (list : List Work) (t : Seat) → HasRun list (seated 0 past) t → IsConfirmed n journal t → GoesOn past journal
+goes_on : (past journal : List Entry) (n : ℕ) (list : List Work) (t : Seat) → HasRun list (seated 0 past) t
+    → IsConfirmed n journal t → GoesOn past journal
 goes_on past journal n list t run confirmed =
     let seen : t.front ≡ past ++ run.before.rest = run.before.is in
     let shown = confirmed.front in
@@ -107,27 +111,36 @@ module _ (n : ℕ) (lists : List (List Work)) (news : List Seat) (past added : L
       ∙ (ap (λ (x : List Work). take (suc k) lists ++ x ∷ []) (list_at (suc k) (omega (arith, le))) ∙ sym (one_more (suc k) (omega (arith, le)))))
 
 -- the headline, said of a journal and its receipts
-of_journal : (grid : Ladders) (cap n most count : ℕ) (journal : List Entry) (receipts : List (List Entry)) (totals : Totals) → cap ≡ most → n ≡ count
+of_journal : (grid : Ladders) (cap n most count : ℕ) (journal : List Entry) (receipts : List (List Entry))
+    (totals : Totals) → cap ≡ most → n ≡ count
     → Headline grid cap n journal receipts totals → Headline grid most count journal receipts (totals_of journal)
 of_journal grid cap n most count journal receipts totals cap_is count_is h =
     let summed = subst (λ (t : Totals). Headline grid cap n journal receipts t) h.totals_are h in
     let capped = subst (λ (c : ℕ). Headline grid c n journal receipts (totals_of journal)) cap_is summed in
     subst (λ (k : ℕ). Headline grid most k journal receipts (totals_of journal)) count_is capped
 
-works_count : (changes : List Change) (lists : List (List Command)) → length (works_of changes lists) ≡ suc (length lists)
+works_count : (changes : List Change) (lists : List (List Command))
+    → length (works_of changes lists) ≡ suc (length lists)
 works_count changes lists = ap suc (length-map lists (λ (list : List Command). map Seats list))
 
-both_seated : (past : List Entry) (n : ℕ) (manager : Seat) (sessions : List Seat) → manager ≡ seated 0 past → sessions ≡ seated_sessions n past → manager ∷ sessions ≡ all_seated past n
+both_seated : (past : List Entry) (n : ℕ) (manager : Seat) (sessions : List Seat) → manager ≡ seated 0 past
+    → sessions ≡ seated_sessions n past → manager ∷ sessions ≡ all_seated past n
 both_seated past n manager sessions one others = ap (λ (m : Seat). m ∷ sessions) one ∙ ap (λ (l : List Seat). seated 0 past ∷ l) others
 
-first_run : (past journal : List Entry) (n : ℕ) (list : List Work) (lists : List (List Work)) (sessions news : List Seat)
-    → AllHaveRun (list ∷ lists) (seated 0 past ∷ sessions) news → AllByRecursion (IsConfirmed n journal) news → GoesOn past journal
+first_run : (past journal : List Entry) (n : ℕ) (list : List Work) (lists : List (List Work))
+    (sessions news : List Seat)
+    → AllHaveRun (list ∷ lists) (seated 0 past ∷ sessions) news → AllByRecursion (IsConfirmed n journal) news
+    → GoesOn past journal
 first_run past journal n list lists sessions [] run confirmed = absurd run
 first_run past journal n list lists sessions (t ∷ news) run confirmed = goes_on past journal n list t run.0 confirmed.0
 
-pub settled_history : (grid : Ladders) (cap n : ℕ) (past : List Entry) (changes : List Change) (lists : List (List Command)) (manager : Seat) (sessions news : List Seat) (journal : List Entry) (receipts : List (List Entry)) (totals : Totals)
-    → manager ≡ seated 0 past → sessions ≡ seated_sessions n past → length lists ≡ n → AllHaveRun (works_of changes lists) (manager ∷ sessions) news → AllByRecursion (IsConfirmed n journal) news
-    → cap ≡ most_lines → Headline grid cap n journal receipts totals → IsHistoryOf grid past changes lists journal receipts
+pub settled_history : (grid : Ladders) (cap n : ℕ) (past : List Entry) (changes : List Change)
+    (lists : List (List Command)) (manager : Seat) (sessions news : List Seat) (journal : List Entry)
+    (receipts : List (List Entry)) (totals : Totals)
+    → manager ≡ seated 0 past → sessions ≡ seated_sessions n past → length lists ≡ n
+    → AllHaveRun (works_of changes lists) (manager ∷ sessions) news → AllByRecursion (IsConfirmed n journal) news
+    → cap ≡ most_lines → Headline grid cap n journal receipts totals
+    → IsHistoryOf grid past changes lists journal receipts
 settled_history grid cap n past changes lists manager sessions news journal receipts totals begun opened count run confirmed most h =
     let works = works_of changes lists in
     let all : length works ≡ suc n = works_count changes lists ∙ ap suc count in
@@ -155,7 +168,8 @@ record IsTaken (lists : List (List Work)) (olds news : List Seat) : Type 0 where
 begun_length : (front list : List Work) → Begins front list → length front ≤ length list
 begun_length front list b = omega (arith, ap length b.is, length-append front b.rest)
 
-all_taken : (lists : List (List Work)) (olds news : List Seat) → length lists ≡ length olds → AllHaveBegun lists olds news → IsTaken lists olds news
+all_taken : (lists : List (List Work)) (olds news : List Seat) → length lists ≡ length olds
+    → AllHaveBegun lists olds news → IsTaken lists olds news
 all_taken [] olds [] same h = record { taken = []; run = h; count = refl; fewer = omega arith; each = tt }
 all_taken [] olds (t ∷ news) same h = absurd h
 all_taken (list ∷ lists) [] news same h = absurd (omega (arith, same))
@@ -171,7 +185,8 @@ all_taken (list ∷ lists) (s ∷ olds) (t ∷ news) same h =
     }
 
 -- the same, where a call of the session at some place was refused: the lists before its own were booked whole
-record IsStopped (grid : Ladders) (book : Book) (cap : ℕ) (fault : RunFault) (lists : List (List Work)) (olds news : List Seat) : Type 0 where
+record IsStopped (grid : Ladders) (book : Book) (cap : ℕ) (fault : RunFault) (lists : List (List Work))
+    (olds news : List Seat) : Type 0 where
   taken : List (List Work)
   run : AllHaveRun taken olds news
   count : length taken ≡ length lists
@@ -190,7 +205,8 @@ record IsStopped (grid : Ladders) (book : Book) (cap : ℕ) (fault : RunFault) (
 whole : (list : List Work) → Begins list list
 whole list = record { rest = []; is = sym (append-nil list) }
 
-stopped : (grid : Ladders) (book : Book) (cap : ℕ) (fault : RunFault) (lists : List (List Work)) (olds news : List Seat) → length lists ≡ length olds → AllHaveBegun lists olds news
+stopped : (grid : Ladders) (book : Book) (cap : ℕ) (fault : RunFault) (lists : List (List Work)) (olds news : List Seat)
+    → length lists ≡ length olds → AllHaveBegun lists olds news
     → NamesFirst grid book cap fault lists olds news → IsStopped grid book cap fault lists olds news
 stopped grid book cap fault [] olds news same h named = absurd named
 stopped grid book cap fault (list ∷ lists) [] news same h named = absurd named
@@ -218,7 +234,8 @@ stopped grid book cap fault (list ∷ lists) (s ∷ olds) (t ∷ news) same h na
             of_taken = refl;
           }
 
-      there : HasRun list s t → IsStopped grid book cap fault lists olds news → IsStopped grid book cap fault (list ∷ lists) (s ∷ olds) (t ∷ news)
+      there : HasRun list s t → IsStopped grid book cap fault lists olds news
+          → IsStopped grid book cap fault (list ∷ lists) (s ∷ olds) (t ∷ news)
       there ran rest = record {
         taken = list ∷ rest.taken;
         run = (ran, rest.run);
@@ -241,7 +258,9 @@ full_of session call Full not = refl
 full_of session call NoRoom not = absurd (not refl)
 
 -- the journal in which a call was refused is full
-is_full : (grid : Ladders) (book : Book) (cap n : ℕ) (fault : RunFault) (journal : List Entry) (lists : List (List Work)) (olds news : List Seat) → run_refusal fault ≢ Memory → NamesFirst grid book cap fault lists olds news
+is_full : (grid : Ladders) (book : Book) (cap n : ℕ) (fault : RunFault) (journal : List Entry)
+    (lists : List (List Work)) (olds news : List Seat) → run_refusal fault ≢ Memory
+    → NamesFirst grid book cap fault lists olds news
     → AllByRecursion (IsConfirmed n journal) news → cap ≤ length journal
 is_full grid book cap n fault journal [] olds news not named confirmed = absurd named
 is_full grid book cap n fault journal (list ∷ lists) [] news not named confirmed = absurd named
@@ -262,13 +281,15 @@ receipts_are_asked : (lists : List (List Entry)) → receipts_in lists ≡ asked
 receipts_are_asked [] = refl
 receipts_are_asked (list ∷ lists) = omega (arith, sum_by-cons (λ (receipts : List Entry). length receipts) list lists, receipts_are_asked lists)
 
-refusal_of : (grid : Ladders) (past : List Entry) (changes : List Change) (lists : List (List Command)) (session call : ℕ) (why : BookFault) → IsFull grid past changes lists session call
+refusal_of : (grid : Ladders) (past : List Entry) (changes : List Change) (lists : List (List Command))
+    (session call : ℕ) (why : BookFault) → IsFull grid past changes lists session call
     → call_refusal session call why ≢ Memory → IsUnbooked grid past changes lists (call_refusal session call why)
 refusal_of grid past changes lists session call Full is not = is
 refusal_of grid past changes lists session call NoRoom is not = absurd (not refl)
 
 -- what stands before the work that was refused
-front_of : (list booked left : List Work) (refused : Work) → list ≡ booked ++ refused ∷ left → take (length booked) list ≡ booked
+front_of : (list booked left : List Work) (refused : Work) → list ≡ booked ++ refused ∷ left
+    → take (length booked) list ≡ booked
 front_of list booked left refused parts =
     ap (λ (l : List Work). take (length booked) l) parts ∙ (take-append-le (length booked) booked (refused ∷ left) (omega arith) ∙ take_all (length booked) booked (omega arith))
 
@@ -283,7 +304,8 @@ only_front n past added only = record { none = λ s high. front_nil (of_session 
   front_nil [] ys e = refl
   front_nil (x ∷ xs) ys e = absurd cc
 
-both_asked : (n : ℕ) (past added : List Entry) → asked_in (by_session n (past ++ added)) ≡ asked_in (by_session n past) + asked_in (by_session n added)
+both_asked : (n : ℕ) (past added : List Entry)
+    → asked_in (by_session n (past ++ added)) ≡ asked_in (by_session n past) + asked_in (by_session n added)
 both_asked zero past added = omega (arith, ap length (own_append 0 past added), length-append (of_session 0 past) (of_session 0 added))
 both_asked (suc n) past added =
     omega (
@@ -365,16 +387,22 @@ module _ (grid : Ladders) (book : Book) (cap n : ℕ) (fault : RunFault) (past a
             (sym own_lists ∙ ap (λ (k : ℕ). map works_in (by_session k added)) (sym count)) booked_to;
       }
 
-first_begun : (past journal : List Entry) (n : ℕ) (list : List Work) (lists : List (List Work)) (sessions news : List Seat)
-    → AllHaveBegun (list ∷ lists) (seated 0 past ∷ sessions) news → AllByRecursion (IsConfirmed n journal) news → GoesOn past journal
+first_begun : (past journal : List Entry) (n : ℕ) (list : List Work) (lists : List (List Work))
+    (sessions news : List Seat)
+    → AllHaveBegun (list ∷ lists) (seated 0 past ∷ sessions) news → AllByRecursion (IsConfirmed n journal) news
+    → GoesOn past journal
 first_begun past journal n list lists sessions [] begun confirmed = absurd begun
 first_begun past journal n list lists sessions (t ∷ news) begun confirmed = goes_on past journal n begun.0.booked t begun.0.run confirmed.0
 
 -- the fault of such a run
-pub refused_run : (grid : Ladders) (book : Book) (cap n : ℕ) (fault : RunFault) (past : List Entry) (changes : List Change) (lists : List (List Command)) (manager : Seat) (sessions news : List Seat) (journal : List Entry) (receipts : List (List Entry)) (totals : Totals) (f : DeskFault)
+pub refused_run : (grid : Ladders) (book : Book) (cap n : ℕ) (fault : RunFault) (past : List Entry)
+    (changes : List Change) (lists : List (List Command)) (manager : Seat) (sessions news : List Seat)
+    (journal : List Entry) (receipts : List (List Entry)) (totals : Totals) (f : DeskFault)
     → f ≡ run_refusal fault → manager ≡ seated 0 past → sessions ≡ seated_sessions n past → length lists ≡ n
-    → AllHaveBegun (works_of changes lists) (manager ∷ sessions) news → NamesFirst grid book cap fault (works_of changes lists) (manager ∷ sessions) news
-    → AllByRecursion (IsConfirmed n journal) news → cap ≡ most_lines → Headline grid cap n journal receipts totals → f ≢ Memory → IsUnbooked grid past changes lists f
+    → AllHaveBegun (works_of changes lists) (manager ∷ sessions) news
+    → NamesFirst grid book cap fault (works_of changes lists) (manager ∷ sessions) news
+    → AllByRecursion (IsConfirmed n journal) news → cap ≡ most_lines → Headline grid cap n journal receipts totals
+    → f ≢ Memory → IsUnbooked grid past changes lists f
 refused_run grid book cap n fault past changes lists manager sessions news journal receipts totals f is one others count begun named confirmed most h =
     subst (λ (x : DeskFault). x ≢ Memory → IsUnbooked grid past changes lists x) (sym is) refused where
       opened : manager ∷ sessions ≡ all_seated past n
@@ -397,6 +425,7 @@ refused_run grid book cap n fault past changes lists manager sessions news journ
           refusal_of grid past changes lists fault.session fault.call fault.refusal.fault named_call not
 
 -- the same of the commands that scripts ask
-pub unbooked : (grid : Ladders) (past : List Entry) (changes : List Change) (asked lists : List (List Command)) (fault : DeskFault) → lists ≡ asked
+pub unbooked : (grid : Ladders) (past : List Entry) (changes : List Change) (asked lists : List (List Command))
+    (fault : DeskFault) → lists ≡ asked
     → IsUnbooked grid past changes lists fault → IsUnbooked grid past changes asked fault
 unbooked grid past changes asked lists fault is has = subst (λ (l : List (List Command)). IsUnbooked grid past changes l fault) is has

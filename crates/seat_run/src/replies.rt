@@ -25,7 +25,8 @@ pub fn replies(
 ) -> Result<Vec<u8>, AllocError>
     requires few { length receipts.now ≤ 9 }
     requires lines { AreAllAnswerable flights.now scripts.now journal.now (behind past.now.calls receipts.now) }
-    ensures { IfOk result (λ text. IsText (AreSessions flights.now scripts.now journal.now) 0 (behind past.now.calls receipts.now) text.items) }
+    ensures { IfOk result (λ text. IsText (AreSessions flights.now scripts.now journal.now) 0
+        (behind past.now.calls receipts.now) text.items) }
 {
     let mut text = Vec::new(alloc);
     for session in 0..receipts.len() {
@@ -46,7 +47,8 @@ fn put_session(
     receipts: &[Receipt],
 ) -> Result<(), AllocError>
     requires lines { AreAnswerable flights.now (requests_of scripts.now session) journal.now receipts.now }
-    ensures { OnOk result (IsPut (IsAnswer flights.now (requests_of scripts.now session) journal.now) 0 receipts.now text.old.items text.new.items) }
+    ensures { OnOk result (IsPut (IsAnswer flights.now (requests_of scripts.now session) journal.now) 0 receipts.now
+        text.old.items text.new.items) }
 {
     if session == 0 {
         return put_answers(text, flights, &[], journal, receipts);
@@ -76,7 +78,8 @@ fn put_answers(
     receipts: &[Receipt],
 ) -> Result<(), AllocError>
     requires lines { AreAnswerable flights.now requests.now journal.now receipts.now }
-    ensures { OnOk result (IsPut (IsAnswer flights.now requests.now journal.now) 0 receipts.now text.old.items text.new.items) }
+    ensures { OnOk result (IsPut (IsAnswer flights.now requests.now journal.now) 0 receipts.now text.old.items
+        text.new.items) }
 {
     for place in 0..receipts.len() {
         put_answer(

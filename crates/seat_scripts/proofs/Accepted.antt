@@ -1,35 +1,22 @@
 -- What `run` writes, `audit` accepts with the scripts of the run and behind the journal that it went on from.
 use Rattle.std.proofs.Common.{◌≡◌, ◌⊎◌, ⊎_elim, inl, ℕ, zero, suc, ◌-◌, ◌+◌, ◌<◌, ◌≤◌, false, List, [], ◌∷◌, ◌++◌, length, map, refl, sym, ap, ◌∙◌, subst, arith, get_or, Option, Some, IfSome}
-use Rattle.std.specs.Prelude.{slice_get}
+use Rattle.seat_scripts.proofs.Common.{slice_get, Request, Ladders, Change, Command, Entry, Work, Seats, of_session, IsLegal, totals_of, audit_line, most_journal_bytes, IsFirstTooLargeLoad, DeskFault, AreAskedBehind, done_by, HasLoaded, lists_over, AreScripts, IsRefusedAmong, IsTooLargeAmong, commands_of, IsHistoryOf, works_in}
 use Rattle.std.proofs.lemmas.Bool.{cases_lt}
 use Rattle.std.proofs.lemmas.List.{get_or_past, length-map}
 use Rattle.airimp_lines.specs.declared.fault.ScriptFault.{ScriptFault}
-use Rattle.airimp_lines.specs.declared.requests.Request.{Request}
 use Rattle.ssim_flights.specs.declared.flight.Flight.{Flight as Flown}
-use Rattle.seat_nesting.specs.Nesting.{Ladders}
 use Rattle.seat_journal.specs.Text.{IsJournalText}
-use Rattle.seat_journal.specs.declared.entry.Change.{Change}
-use Rattle.seat_journal.specs.declared.entry.Command.{Command}
-use Rattle.seat_journal.specs.declared.entry.Entry.{Entry}
-use Rattle.seat_journal.specs.declared.entry.Work.{Work}
-use Rattle.seat_journal.specs.declared.entry.Work.TheVariants.{Seats}
 use Rattle.seat_journal.proofs.TextLaws.{one_text}
-use Rattle.seat_rules.specs.Histories.{of_session}
 use Rattle.seat_rules.specs.Inventory.{Inventory}
-use Rattle.seat_rules.specs.Journal.{IsLegal}
-use Rattle.seat_rules.specs.Totals.{totals_of}
-use Rattle.seat_desk.specs.AuditDesk.{IsAudited, IsRefusedOver, audit_line, most_journal_bytes, most_lines}
+use Rattle.seat_desk.specs.AuditDesk.{IsAudited, IsRefusedOver, most_lines}
 use Rattle.seat_desk.specs.CheckDesk.{most_set_bytes}
-use Rattle.seat_desk.specs.Loading.{HasSchedule, IsBehind, IsFirstTooLargeLoad, most_limit_bytes}
-use Rattle.seat_desk.specs.declared.fault.DeskFault.{DeskFault}
+use Rattle.seat_desk.specs.Loading.{HasSchedule, IsBehind, most_limit_bytes}
 use Rattle.seat_desk.specs.declared.fault.DeskFault.TheVariants as faults
 use Rattle.seat_desk.proofs.Grounds.{loaded_replays_keep_limits}
-use Rattle.seat_scripts.specs.Against.{AgainstRefusal, AreAskedBehind, HasBoth, HasOlder, IsAuditAgainst, IsNoScriptBeside, IsTooLargeAgainst, IsUnlawfulBeside, asked_by, done_by, works_of_list}
-use Rattle.seat_scripts.specs.Asked.{HasLoaded}
+use Rattle.seat_scripts.specs.Against.{AgainstRefusal, HasBoth, HasOlder, IsAuditAgainst, IsNoScriptBeside, IsTooLargeAgainst, IsUnlawfulBeside, asked_by, works_of_list}
 use Rattle.seat_scripts.specs.Audits.{RunsAreAuditedAgainst}
-use Rattle.seat_scripts.specs.Going.{lists_over}
-use Rattle.seat_scripts.specs.Requests.{AreScripts, IsNoScript, IsReadable, IsRefusedAmong, IsTooLargeAmong, commands_of, most_script_bytes}
-use Rattle.seat_scripts.specs.RunDesk.{IsHistoryOf, IsRun, works_in}
+use Rattle.seat_scripts.specs.Requests.{IsNoScript, IsReadable, most_script_bytes}
+use Rattle.seat_scripts.specs.RunDesk.{IsRun}
 use Rattle.seat_scripts.proofs.Audits.{loads, one_grid}
 use Rattle.seat_scripts.proofs.Going.{over_count}
 use Rattle.seat_scripts.proofs.Histories.{no_more, own_works}
@@ -38,7 +25,9 @@ use Rattle.seat_scripts.proofs.Unasked.{unasked_is_not_audited}
 
 -- ---- the lines of each session are what its script asks
 
-asked_at : (flights : List Flown) (scripts : List (List Request)) (i : ℕ) → map Seats (commands_of flights (get_or scripts i [])) ≡ works_of_list (slice_get (map (commands_of flights) scripts) i)
+asked_at : (flights : List Flown) (scripts : List (List Request)) (i : ℕ)
+    → map Seats (commands_of flights (get_or scripts i []))
+    ≡ works_of_list (slice_get (map (commands_of flights) scripts) i)
 asked_at flights [] i = refl
 asked_at flights (script ∷ scripts) zero = refl
 asked_at flights (script ∷ scripts) (suc i) = asked_at flights scripts i
@@ -68,7 +57,8 @@ module _ (grid : Ladders) (past : List Entry) (flights : List Flown) (changes : 
 
 -- ---- scripts that are read are neither refused nor too large
 
-not_refused : (today n : ℕ) (texts : List (List ℕ)) (scripts : List (List Request)) (session : ℕ) (fault : ScriptFault) → AreScripts today (map Some texts) scripts
+not_refused : (today n : ℕ) (texts : List (List ℕ)) (scripts : List (List Request)) (session : ℕ) (fault : ScriptFault)
+    → AreScripts today (map Some texts) scripts
     → IsRefusedAmong today n (map Some texts) (faults.Script session fault) → ⊥
 not_refused today n [] scripts session fault are refused = refused
 not_refused today n (text ∷ texts) [] session fault are refused = are
@@ -78,7 +68,8 @@ not_refused today n (text ∷ texts) (x ∷ scripts) session fault are refused =
     (λ (later : IsReadable today (Some text) × IsRefusedAmong today (n + 1) (map Some texts) (faults.Script session fault)). not_refused today (n + 1) texts scripts session fault are.1 later.1)
     refused
 
-not_large : (today : ℕ) (texts : List (List ℕ)) (scripts : List (List Request)) → AreScripts today (map Some texts) scripts → IsTooLargeAmong today (map Some texts) → ⊥
+not_large : (today : ℕ) (texts : List (List ℕ)) (scripts : List (List Request))
+    → AreScripts today (map Some texts) scripts → IsTooLargeAmong today (map Some texts) → ⊥
 not_large today [] scripts are large = large
 not_large today (text ∷ texts) [] are large = are
 not_large today (text ∷ texts) (x ∷ scripts) are large =
@@ -110,7 +101,8 @@ module _ (set limits : List ℕ) (first days today : ℕ) (after : List ℕ) (te
   abbrev older : Inventory
   older = record { grid = run.grid; cap = most_lines; journal = run.past; spare = false; spares = [] }
 
-  is_line : IsAuditAgainst set limits first days after journal today (map Some texts) (audit_line (totals_of run.history))
+  is_line : IsAuditAgainst set limits first days after journal today (map Some texts)
+      (audit_line (totals_of run.history))
   is_line = record {
     flights = run.flights;
     grid = run.grid;
@@ -134,7 +126,8 @@ module _ (set limits : List ℕ) (first days today : ℕ) (after : List ℕ) (te
     are_asked = asked_behind run.grid run.past run.flights run.changes run.scripts run.history run.receipts run.is_history;
   }
 
-  same_line : (line : List ℕ) → IsAuditAgainst set limits first days after journal today (map Some texts) line → line ≡ audit_line (totals_of run.history)
+  same_line : (line : List ℕ) → IsAuditAgainst set limits first days after journal today (map Some texts) line
+      → line ≡ audit_line (totals_of run.history)
   same_line line other =
       let entries : other.is_audited.entries ≡ run.history = one_text journal other.is_audited.entries run.history other.is_audited.is_text text in
       other.is_audited.sums ∙ ap (λ (es : List Entry). audit_line (totals_of es)) entries
@@ -151,7 +144,8 @@ module _ (set limits : List ℕ) (first days today : ℕ) (after : List ℕ) (te
       let same : refused.grid ≡ run.grid = one_grid set limits first days refused.flights run.flights refused.grid run.grid refused.is_loaded.loaded run.is_asked.is_loaded.loaded in
       refused.is_unlawful.none run.history text (subst (λ (g : Ladders). IsLegal g run.history) (sym same) audited.legal) audited.few
 
-  both_lawful : (fault : DeskFault) → IsRefusedOver set limits first days fault after ⊎ IsUnlawfulBeside set limits first days after journal fault → ⊥
+  both_lawful : (fault : DeskFault)
+      → IsRefusedOver set limits first days fault after ⊎ IsUnlawfulBeside set limits first days after journal fault → ⊥
   both_lawful fault refused = ⊎_elim (older_lawful fault) (lawful fault) refused
 
   faultless : (fault : DeskFault) → AgainstRefusal set limits first days after journal today (map Some texts) fault → ⊥

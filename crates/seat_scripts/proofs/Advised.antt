@@ -1,30 +1,24 @@
 -- The advices of a legal history are for bookings of its lines that ask for seats on a place.
 use Rattle.std.proofs.Common.{◌≡◌, ℕ, zero, suc, ◌+◌, ◌-◌, ◌<◌, ◌≤◌, Bool, true, false, nat_le, List, [], ◌∷◌, ◌++◌, length, take, get_or, refl, sym, ap, ◌∙◌, subst, arith, length-append, Option, Some, IfSome}
-use Rattle.std.specs.Prelude.{slice_get}
-use Rattle.std.specs.List.{AllByRecursion}
+use Rattle.seat_scripts.proofs.Common.{slice_get, AllByRecursion, Place, Fits, Ladders, Advice, Command, Entry, Work, Seats, IsLegal, IsNext}
 use Rattle.std.proofs.lemmas.List.{take_more}
-use Rattle.airline_base.specs.declared.place.Place.{Place}
-use Rattle.seat_nesting.specs.Nesting.{Fits, Ladders}
-use Rattle.seat_journal.specs.declared.entry.Advice.{Advice}
-use Rattle.seat_journal.specs.declared.entry.Command.{Command}
-use Rattle.seat_journal.specs.declared.entry.Entry.{Entry}
-use Rattle.seat_journal.specs.declared.entry.Work.{Work}
-use Rattle.seat_journal.specs.declared.entry.Work.TheVariants.{Seats}
 use Rattle.seat_rules.specs.declared.booking.Booking.{Booking}
 use Rattle.seat_rules.specs.declared.booking.Status.TheVariants.{Held, Waiting}
 use Rattle.seat_rules.specs.Bookings.{is_for}
 use Rattle.seat_rules.specs.Sequential.{State, Outcome, answer, pass, may_confirm, confirmed, advice_of, reduced, booking_of, changed_by}
-use Rattle.seat_rules.specs.Journal.{replay, FitsWork, IsLegal, IsNext}
+use Rattle.seat_rules.specs.Journal.{replay, FitsWork}
 use Rattle.seat_rules.proofs.History.Lines.{replay_next}
 use Rattle.seat_rules.proofs.History.Legal.{each_legal}
 use Rattle.seat_rules.proofs.Step.Outcomes.{each_outcome}
+use Rattle.seat_rules.proofs.Kept.Commits.{get_last}
 
 module _ {A : Type 0} where
   pub all_push : (P : A → Type 0) (xs : List A) (x : A) → AllByRecursion P xs → P x → AllByRecursion P (xs ++ x ∷ [])
   all_push P [] x all last = (last, tt)
   all_push P (y ∷ ys) x all last = (all.0, all_push P ys x all.1 last)
 
-  pub all_more : (P : A → Type 0) (xs : List A) (i : ℕ) (x : A) → i < length xs → x ≡ get_or xs i x → AllByRecursion P (take i xs) → P x → AllByRecursion P (take (i + 1) xs)
+  pub all_more : (P : A → Type 0) (xs : List A) (i : ℕ) (x : A) → i < length xs → x ≡ get_or xs i x
+      → AllByRecursion P (take i xs) → P x → AllByRecursion P (take (i + 1) xs)
   all_more P xs i x lt is all here =
       let longer : take (i + 1) xs ≡ take i xs ++ x ∷ [] = take_more xs i x lt ∙ ap (λ (y : A). take i xs ++ y ∷ []) (sym is) in
       subst (AllByRecursion P) (sym longer) (all_push P (take i xs) x all here)
@@ -51,11 +45,8 @@ get_longer [] more i x at = absurd cc
 get_longer (y ∷ xs) more zero x at = at
 get_longer (y ∷ xs) more (suc i) x at = get_longer xs more i x at
 
-get_last : (xs : List Entry) (x : Entry) → slice_get (xs ++ x ∷ []) (length xs) ≡ Some x
-get_last [] x = refl
-get_last (y ∷ xs) x = get_last xs x
-
-placed_longer : (grid : Ladders) (past more : List Entry) (n : ℕ) → IsPlaced grid past n → IsPlaced grid (past ++ more) n
+placed_longer : (grid : Ladders) (past more : List Entry) (n : ℕ) → IsPlaced grid past n
+    → IsPlaced grid (past ++ more) n
 placed_longer grid past more n placed = record {
   within = (placed.within.0, omega (arith, placed.within.1, length-append past more));
   line = placed.line;
@@ -67,7 +58,8 @@ placed_longer grid past more n placed = record {
   fits = placed.fits;
 }
 
-placed_last : (grid : Ladders) (past : List Entry) (e : Entry) (c : Command) (p : Place) → FitsWork grid e.work → e.work ≡ Seats c → c.place ≡ Some p → IsPlaced grid (past ++ e ∷ []) (length past + 1)
+placed_last : (grid : Ladders) (past : List Entry) (e : Entry) (c : Command) (p : Place) → FitsWork grid e.work
+    → e.work ≡ Seats c → c.place ≡ Some p → IsPlaced grid (past ++ e ∷ []) (length past + 1)
 placed_last grid past e c p fits is on =
     let here : length past ≡ length past + 1 - 1 = omega arith in
     let all : FitsWork grid (Seats c) = subst (FitsWork grid) is fits in
@@ -96,7 +88,8 @@ record IsSound (grid : Ladders) (history : List Entry) (bookings : List Booking)
   seated : AllByRecursion (IsSeated grid history) bookings
   advised_all : AllByRecursion (IsTold grid history) advices
 
-sound_pass : (over : Ladders) (history : List Entry) (grid : Ladders) (done : List Booking) (told : List Advice) (bs : List Booking)
+sound_pass : (over : Ladders) (history : List Entry) (grid : Ladders) (done : List Booking) (told : List Advice)
+    (bs : List Booking)
     → IsSound over history done told → AllByRecursion (IsSeated over history) bs
     → IsSound over history (pass grid done told bs).bookings (pass grid done told bs).advices
 sound_pass over history grid done told [] sound all = sound
@@ -109,23 +102,29 @@ sound_pass over history grid done told (b ∷ bs) sound all =
     cases (may_confirm grid (done ++ b ∷ bs) b) refl
     (sound_pass over history grid (done ++ confirmed b ∷ []) (told ++ advice_of b ∷ []) bs told_more all.1)
     (sound_pass over history grid (done ++ b ∷ []) told bs passed_over all.1) where
-      cases : (t : Bool) → may_confirm grid (done ++ b ∷ bs) b ≡ t → IsSound over history (pass grid (done ++ confirmed b ∷ []) (told ++ advice_of b ∷ []) bs).bookings (pass grid (done ++ confirmed b ∷ []) (told ++ advice_of b ∷ []) bs).advices
-          → IsSound over history (pass grid (done ++ b ∷ []) told bs).bookings (pass grid (done ++ b ∷ []) told bs).advices
+      cases : (t : Bool) → may_confirm grid (done ++ b ∷ bs) b ≡ t
+          → IsSound over history (pass grid (done ++ confirmed b ∷ []) (told ++ advice_of b ∷ []) bs).bookings
+          (pass grid (done ++ confirmed b ∷ []) (told ++ advice_of b ∷ []) bs).advices
+          → IsSound over history (pass grid (done ++ b ∷ []) told bs).bookings
+          (pass grid (done ++ b ∷ []) told bs).advices
           → IsSound over history (pass grid done told (b ∷ bs)).bookings (pass grid done told (b ∷ bs)).advices
       cases true e told_on passed_on = rw e told_on
       cases false e told_on passed_on = rw e passed_on
 
-seated_reduced : (over : Ladders) (history : List Entry) (test : Booking → Bool) (n : ℕ) (bs : List Booking) → AllByRecursion (IsSeated over history) bs → AllByRecursion (IsSeated over history) (reduced test n bs)
+seated_reduced : (over : Ladders) (history : List Entry) (test : Booking → Bool) (n : ℕ) (bs : List Booking)
+    → AllByRecursion (IsSeated over history) bs → AllByRecursion (IsSeated over history) (reduced test n bs)
 seated_reduced over history test n [] all = tt
 seated_reduced over history test n (b ∷ bs) all = cases (test b) (nat_le b.seats n) refl refl (seated_reduced over history test n bs all.1) where
-  cases : (t u : Bool) → test b ≡ t → nat_le b.seats n ≡ u → AllByRecursion (IsSeated over history) (reduced test n bs) → AllByRecursion (IsSeated over history) (reduced test n (b ∷ bs))
+  cases : (t u : Bool) → test b ≡ t → nat_le b.seats n ≡ u → AllByRecursion (IsSeated over history) (reduced test n bs)
+      → AllByRecursion (IsSeated over history) (reduced test n (b ∷ bs))
   cases true true e g rest = rw (e, g) all.1
   cases true false e g rest = rw (e, g) (all.0, all.1)
   cases false u e g rest = rw e (all.0, rest)
 
 -- a line's answer, where the bookings before it are of the history, and so is its own
 sound_answer : (over : Ladders) (s : State) (history : List Entry) (number : ℕ) (w : Work)
-    → ((c : Command) (p : Place) → w ≡ Seats c → c.place ≡ Some p → IsPlaced over history number) → AllByRecursion (IsSeated over history) s.bookings
+    → ((c : Command) (p : Place) → w ≡ Seats c → c.place ≡ Some p → IsPlaced over history number)
+    → AllByRecursion (IsSeated over history) s.bookings
     → IsSound over history (answer s number w).state.bookings (answer s number w).advices
 sound_answer over s history number w asks all =
     each_outcome (λ v o. w ≡ v → IsSound over history o.state.bookings o.advices) s number
@@ -143,7 +142,8 @@ sound_answer over s history number w asks all =
 abbrev pub AreAdvised : Ladders → List Entry → List Entry → Type 0
 AreAdvised grid history lines = AllByRecursion (λ (e : Entry). AllByRecursion (λ (a : Advice). IsPlaced grid history a.number) e.advices) lines
 
-wider_advices : (grid : Ladders) (past more lines : List Entry) → AreAdvised grid past lines → AreAdvised grid (past ++ more) lines
+wider_advices : (grid : Ladders) (past more lines : List Entry) → AreAdvised grid past lines
+    → AreAdvised grid (past ++ more) lines
 wider_advices grid past more lines =
     all_weaker (λ (e : Entry). AllByRecursion (IsTold grid past) e.advices) (λ (e : Entry). AllByRecursion (IsTold grid (past ++ more)) e.advices) lines
     (λ e. all_weaker (IsTold grid past) (IsTold grid (past ++ more)) e.advices (λ a h. placed_longer grid past more a.number h))
@@ -152,7 +152,8 @@ record IsSoundHistory (grid : Ladders) (history : List Entry) : Type 0 where
   seated : AllByRecursion (IsSeated grid history) (replay grid history).bookings
   told : AreAdvised grid history history
 
-sound_next : (grid : Ladders) (past : List Entry) (e : Entry) → IsLegal grid past → IsNext grid past e → IsSoundHistory grid past → IsSoundHistory grid (past ++ e ∷ [])
+sound_next : (grid : Ladders) (past : List Entry) (e : Entry) → IsLegal grid past → IsNext grid past e
+    → IsSoundHistory grid past → IsSoundHistory grid (past ++ e ∷ [])
 sound_next grid past e legal next sound =
     let history = past ++ e ∷ [] in
     let n = length past in

@@ -1,30 +1,21 @@
 -- What `run` writes, `audit` accepts.
 use Rattle.std.proofs.Common.{◌≡◌, ◌⊎◌, ⊎_elim, inl, ℕ, ◌+◌, ◌<◌, ◌≤◌, List, [], ◌∷◌, length, map, refl, sym, ap, ◌∙◌, subst, arith, Result, Ok, Err}
+use Rattle.seat_scripts.proofs.Common.{authorised_grid, Ladders, LimitRow, Entry, IsLegal, totals_of, by_session, audit_line, most_journal_bytes, IsLoaded, DeskFault, lists_over, commands_of}
 use Rattle.std.specs.Str.Lines.{lines}
 use Rattle.ssim_records.specs.declared.set.DataSet.{DataSet}
 use Rattle.ssim_records.proofs.SetLaws.{one_data_set}
 use Rattle.ssim_flights.specs.declared.flight.Flight.{Flight as Flown}
-use Rattle.seat_limits.specs.Authorised.{authorised_grid}
 use Rattle.seat_limits.specs.LimitRows.{SpellsRows, rows_in}
-use Rattle.seat_nesting.specs.Nesting.{Ladders}
 use Rattle.seat_limits.specs.declared.limit_fault.LimitFault.{LimitFault}
-use Rattle.seat_limits.specs.declared.limit_row.LimitRow.{LimitRow}
 use Rattle.seat_limits.proofs.RowLaws.{row_again}
 use Rattle.seat_journal.specs.Text.{IsJournalText}
-use Rattle.seat_journal.specs.declared.entry.Entry.{Entry}
 use Rattle.seat_journal.proofs.TextLaws.{one_text}
-use Rattle.seat_rules.specs.Journal.{IsLegal}
-use Rattle.seat_rules.specs.Totals.{totals_of}
-use Rattle.seat_rules.specs.Histories.{by_session}
-use Rattle.seat_desk.specs.AuditDesk.{IsAudit, IsAudited, IsRefusedOver, AuditRefusal, IsTooLarge, audit_line, most_journal_bytes}
+use Rattle.seat_desk.specs.AuditDesk.{IsAudit, IsAudited, IsRefusedOver, AuditRefusal, IsTooLarge}
 use Rattle.seat_desk.specs.CheckDesk.{most_set_bytes, most_records}
 use Rattle.seat_desk.specs.FlightsDesk.{set_flights}
-use Rattle.seat_desk.specs.Loading.{IsLoaded, IsLoadedGrid, IsRefusedLoad, most_limit_bytes}
-use Rattle.seat_desk.specs.declared.fault.DeskFault.{DeskFault}
+use Rattle.seat_desk.specs.Loading.{IsLoadedGrid, IsRefusedLoad, most_limit_bytes}
 use Rattle.seat_desk.specs.declared.fault.DeskFault.TheVariants as faults
 use Rattle.seat_scripts.specs.Audits.{IsAccepted, RunsAreAudited}
-use Rattle.seat_scripts.specs.Going.{lists_over}
-use Rattle.seat_scripts.specs.Requests.{commands_of}
 use Rattle.seat_scripts.proofs.Lengths.{text_short}
 
 -- ---- one grid is loaded, and none is refused
@@ -35,7 +26,8 @@ Rows = Result (List LimitRow) LimitFault
 abbrev ok_rows : List LimitRow → Rows
 ok_rows rows = Ok rows
 
-rows_read : (texts : List (List ℕ)) (n : ℕ) (rows : List LimitRow) → SpellsRows texts rows → rows_in n texts ≡ ok_rows rows
+rows_read : (texts : List (List ℕ)) (n : ℕ) (rows : List LimitRow) → SpellsRows texts rows
+    → rows_in n texts ≡ ok_rows rows
 unfolding rows_in
 rows_read [] n [] h = refl
 rows_read [] n (row ∷ rows) h = absurd h
@@ -54,11 +46,13 @@ one_grid set limits first days flights flights' grid grid' a b =
     let rows : a.rows ≡ b.rows = same_rows a.rows b.rows (sym (rows_read (lines limits) 1 a.rows a.are_rows.spelled) ∙ rows_read (lines limits) 1 b.rows b.are_rows.spelled) in
     a.grid_is ∙ (ap (λ (r : List LimitRow). authorised_grid r flights) rows ∙ (ap (λ (f : List Flown). authorised_grid b.rows f) flown ∙ sym b.grid_is))
 
-no_limit_fault : (limits : List ℕ) (rows : List LimitRow) (fault : LimitFault) → SpellsRows (lines limits) rows → rows_in 1 (lines limits) ≡ Err fault → ⊥
+no_limit_fault : (limits : List ℕ) (rows : List LimitRow) (fault : LimitFault) → SpellsRows (lines limits) rows
+    → rows_in 1 (lines limits) ≡ Err fault → ⊥
 no_limit_fault limits rows fault h e = let read : rows_in 1 (lines limits) ≡ ok_rows rows = rows_read (lines limits) 1 rows h in cc
 
 -- what is loaded is not refused
-pub loads : (set limits : List ℕ) (first days : ℕ) (flights : List Flown) (grid : Ladders) (fault : DeskFault) → IsLoadedGrid set limits first days flights grid → IsRefusedLoad set limits first days fault → ⊥
+pub loads : (set limits : List ℕ) (first days : ℕ) (flights : List Flown) (grid : Ladders) (fault : DeskFault)
+    → IsLoadedGrid set limits first days flights grid → IsRefusedLoad set limits first days fault → ⊥
 loads set limits first days flights grid (faults.Set fault) loaded refused = refused.refusal.none flights loaded.is_schedule
 loads set limits first days flights grid (faults.Flight fault) loaded refused = refused.refusal.none flights loaded.is_schedule
 loads set limits first days flights grid (faults.Limit fault) loaded refused = no_limit_fault limits loaded.rows fault loaded.are_rows.spelled refused.refusal.wrong.first

@@ -1,23 +1,20 @@
 -- A journal beside an older one that it goes on from.
 use Rattle.std.proofs.Common.{◌≡◌, inr, ℕ, suc, ◌+◌, ◌<◌, ◌≤◌, Bool, true, false, List, [], ◌∷◌, ◌++◌, length, take, drop, get_or, refl, sym, ap, ◌∙◌, subst, Option, Some, None}
-use Rattle.std.specs.Prelude.{IsTrue, slice_get}
+use Rattle.seat_scripts.proofs.Common.{slice_get, Ladders, Command, Entry, Work, IsLegal, IsNext, Unasked, AreAskedBehind, IsUnasked}
+use Rattle.std.specs.Prelude.{IsTrue}
 use Rattle.std.proofs.Math.Seq.{drop-cons}
 use Rattle.std.proofs.lemmas.List.{take-append-drop, take_all, take_more}
 use Rattle.std.proofs.lemmas.Option.{get_or_from_slice_get, slice_get_within}
-use Rattle.seat_nesting.specs.Nesting.{Ladders}
-use Rattle.seat_journal.specs.declared.entry.Command.{Command}
-use Rattle.seat_journal.specs.declared.entry.Entry.{Entry}
-use Rattle.seat_journal.specs.declared.entry.Work.{Work}
-use Rattle.seat_rules.specs.Journal.{IsLegal, IsNext, calls_of, next_line}
+use Rattle.seat_rules.specs.Journal.{calls_of, next_line}
 use Rattle.seat_rules.specs.Prefixes.{Begins}
-use Rattle.seat_desk.specs.declared.fault.DeskFault.TheVariants.{Unasked}
-use Rattle.seat_scripts.specs.Against.{AreAskedBehind, AreAskedBelow, IsFirstUnasked, IsNoBeginning, IsUnasked, line_there}
+use Rattle.seat_scripts.specs.Against.{AreAskedBelow, IsFirstUnasked, IsNoBeginning, line_there}
 use Rattle.seat_scripts.proofs.Comparing.{all_asked}
 
 -- ---- legal histories
 
 -- the front of a list and the line behind it
-parts_at : (lines : List Entry) (i : ℕ) (e : Entry) → slice_get lines i ≡ Some e → lines ≡ (take i lines ++ e ∷ []) ++ drop (suc i) lines
+parts_at : (lines : List Entry) (i : ℕ) (e : Entry) → slice_get lines i ≡ Some e
+    → lines ≡ (take i lines ++ e ∷ []) ++ drop (suc i) lines
 parts_at lines i e at =
     let lt : i < length lines = slice_get_within lines i e at in
     let is : get_or lines i e ≡ e = get_or_from_slice_get lines i e e at in
@@ -28,11 +25,13 @@ parts_at lines i e at =
     behind [] ys = refl
     behind (x ∷ xs) ys = ap (λ (l : List Entry). x ∷ l) (behind xs ys)
 
-next_at : (grid : Ladders) (lines : List Entry) (i : ℕ) (e : Entry) → IsLegal grid lines → slice_get lines i ≡ Some e → IsNext grid (take i lines) e
+next_at : (grid : Ladders) (lines : List Entry) (i : ℕ) (e : Entry) → IsLegal grid lines → slice_get lines i ≡ Some e
+    → IsNext grid (take i lines) e
 next_at grid lines i e legal at = legal.each (take i lines) e (record { rest = drop (suc i) lines; is = parts_at lines i e at })
 
 -- of two lines that may follow the same past, those of one session that ask for the same are one
-same_next : (grid : Ladders) (past : List Entry) (a b : Entry) → IsNext grid past a → IsNext grid past b → a.session ≡ b.session → a.work ≡ b.work → a ≡ b
+same_next : (grid : Ladders) (past : List Entry) (a b : Entry) → IsNext grid past a → IsNext grid past b
+    → a.session ≡ b.session → a.work ≡ b.work → a ≡ b
 same_next grid past a b one two session work =
     let call : a.call ≡ b.call = one.call ∙ (ap (λ (s : ℕ). calls_of past s + 1) session ∙ sym two.call) in
     one.line
@@ -55,7 +54,8 @@ module _ (grid : Ladders) (older journal : List Entry) (old_legal : IsLegal grid
         (subst (λ (past : List Entry). IsNext grid past there) so_far (next_at grid journal i there legal here))
         (next_at grid older i line old_legal at) session work
 
-    pub same_more : (there.session ≡ line.session) × (there.work ≡ line.work) → take (i + 1) journal ≡ take (i + 1) older
+    pub same_more : (there.session ≡ line.session) × (there.work ≡ line.work)
+        → take (i + 1) journal ≡ take (i + 1) older
     same_more both =
         let is : there ≡ line = alike both.0 both.1 in
         take_more journal i there (slice_get_within journal i there here)
@@ -63,7 +63,9 @@ module _ (grid : Ladders) (older journal : List Entry) (old_legal : IsLegal grid
         ∙ (ap (λ (l : List Entry). l ++ line ∷ []) so_far
         ∙ (ap (λ (x : Entry). take i older ++ x ∷ []) (sym (get_or_from_slice_get older i line line at)) ∙ sym (take_more older i line within))))
 
-    pub part_here : (told : Bool) → told ≡ false → ((there.session ≡ line.session) × (there.work ≡ line.work) → IsTrue told) → IsNoBeginning older journal there.session there.call
+    pub part_here : (told : Bool) → told ≡ false
+        → ((there.session ≡ line.session) × (there.work ≡ line.work) → IsTrue told)
+        → IsNoBeginning older journal there.session there.call
     part_here told no_told says = record {
       place = i;
       named = there;
@@ -102,7 +104,8 @@ module _ (grid : Ladders) (older journal : List Entry) (old_legal : IsLegal grid
     some_is_none : Some line ≡ None → ⊥
     some_is_none e = cc
 
-pub begins_all : (older journal : List Entry) (i : ℕ) → length older ≤ i → take i journal ≡ take i older → Begins older journal
+pub begins_all : (older journal : List Entry) (i : ℕ) → length older ≤ i → take i journal ≡ take i older
+    → Begins older journal
 begins_all older journal i whole so_far = record {
   rest = drop i journal;
   is = sym (take-append-drop i journal) ∙ ap (λ (l : List Entry). l ++ drop i journal) (so_far ∙ take_all i older whole);
@@ -110,11 +113,13 @@ begins_all older journal i whole so_far = record {
 
 -- ---- the whole
 
-pub all_behind : (grid : Ladders) (lists : List (List Command)) (older journal added : List Entry) → IsLegal grid journal → journal ≡ older ++ added → length lists ≤ 8 → AreAskedBelow lists added 9
+pub all_behind : (grid : Ladders) (lists : List (List Command)) (older journal added : List Entry)
+    → IsLegal grid journal → journal ≡ older ++ added → length lists ≤ 8 → AreAskedBelow lists added 9
     → AreAskedBehind lists older journal
 all_behind grid lists older journal added legal is few below = record { goes_on = record { rest = added; is = is }; are_asked = all_asked grid lists older journal added legal is few below }
 
-pub unasked_behind : (lists : List (List Command)) (older journal added : List Entry) (session place call : ℕ) → journal ≡ older ++ added → IsFirstUnasked lists added session place
+pub unasked_behind : (lists : List (List Command)) (older journal added : List Entry) (session place call : ℕ)
+    → journal ≡ older ++ added → IsFirstUnasked lists added session place
     → call ≡ calls_of older session + place → IsUnasked lists older journal (Unasked session call)
 unasked_behind lists older journal added session place call is first call_is =
     inr (record { goes_on = record { rest = added; is = is }; place = place; first = first; call_is = call_is })

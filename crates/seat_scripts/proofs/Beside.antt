@@ -1,31 +1,29 @@
 -- What an audit with scripts writes or refuses is that of its inputs, where what was read of each is all of it.
 use Rattle.std.proofs.Common.{◌≡◌, ◌≢◌, ◌⊎◌, ◌<◌, inl, inr, ℕ, List, Option, Some, None, IfSome, length, map, subst, sym}
-use Rattle.airimp_lines.specs.declared.requests.Request.{Request}
+use Rattle.seat_scripts.proofs.Common.{Request, Ladders, totals_of, audit_line, most_journal_bytes, IsFirstTooLargeLoad, IsLoaded, DeskFault, Memory, Unasked, AreAskedBehind, IsUnasked, HasLoaded, OfThree, AreScripts, IsRefusedAmong, IsTooLargeAmong, commands_of}
 use Rattle.ssim_flights.specs.declared.flight.Flight.{Flight as Flown}
-use Rattle.seat_nesting.specs.Nesting.{Ladders}
 use Rattle.seat_rules.specs.Inventory.{Inventory}
-use Rattle.seat_rules.specs.Totals.{totals_of}
-use Rattle.seat_desk.specs.AuditDesk.{IsUnlawful, audit_line, most_journal_bytes}
+use Rattle.seat_desk.specs.AuditDesk.{IsUnlawful}
 use Rattle.seat_desk.specs.Desk.{IsOfInput}
-use Rattle.seat_desk.specs.Loading.{IsFirstTooLargeLoad, IsLoaded}
-use Rattle.seat_desk.specs.declared.fault.DeskFault.{DeskFault}
-use Rattle.seat_desk.specs.declared.fault.DeskFault.TheVariants.{Journal, Memory, Replay, Script, Unasked}
-use Rattle.seat_scripts.specs.Against.{AreAskedBehind, AreRead, HasBoth, HasOlder, IsAuditAgainst, IsRefusedAgainst, IsReplayWithin, IsTooLargeAgainst, IsUnasked, OfFour}
-use Rattle.seat_scripts.specs.Asked.{HasLoaded, OfThree}
-use Rattle.seat_scripts.specs.Requests.{AreScripts, IsOfScript, IsRefusedAmong, IsTooLargeAmong, commands_of}
+use Rattle.seat_desk.specs.declared.fault.DeskFault.TheVariants.{Journal, Replay, Script}
+use Rattle.seat_scripts.specs.Against.{AreRead, HasBoth, HasOlder, IsAuditAgainst, IsRefusedAgainst, IsReplayWithin, IsTooLargeAgainst, OfFour}
+use Rattle.seat_scripts.specs.Requests.{IsOfScript}
 use Rattle.seat_scripts.proofs.Inputs.{if_known as if_three_known}
 
 -- what is said of known bytes is said of those that may be known
-if_known : (P : List ℕ → List ℕ → Type 0) (A Q : List ℕ → Type 0) (R : List ℕ → List ℕ → List ℕ → List ℕ → Type 0) (set limits after journal : Option (List ℕ))
+if_known : (P : List ℕ → List ℕ → Type 0) (A Q : List ℕ → Type 0) (R : List ℕ → List ℕ → List ℕ → List ℕ → Type 0)
+    (set limits after journal : Option (List ℕ))
     → ((xs ys older zs : List ℕ) → P xs ys → A older → Q zs → R xs ys older zs)
-    → IfSome set (λ xs. IfSome limits (λ ys. P xs ys)) → IfSome after A → IfSome journal Q → OfFour set limits after journal R
+    → IfSome set (λ xs. IfSome limits (λ ys. P xs ys)) → IfSome after A → IfSome journal Q
+    → OfFour set limits after journal R
 if_known P A Q R (Some xs) (Some ys) (Some older) (Some zs) give p a q = give xs ys older zs p a q
 if_known P A Q R (Some xs) (Some ys) (Some older) None give p a q = tt
 if_known P A Q R (Some xs) (Some ys) None journal give p a q = tt
 if_known P A Q R (Some xs) None after journal give p a q = tt
 if_known P A Q R None limits after journal give p a q = tt
 
-if_four : (P Q : List ℕ → List ℕ → List ℕ → List ℕ → Type 0) (set limits after journal : Option (List ℕ)) → ((xs ys older zs : List ℕ) → P xs ys older zs → Q xs ys older zs)
+if_four : (P Q : List ℕ → List ℕ → List ℕ → List ℕ → Type 0) (set limits after journal : Option (List ℕ))
+    → ((xs ys older zs : List ℕ) → P xs ys older zs → Q xs ys older zs)
     → OfFour set limits after journal P → OfFour set limits after journal Q
 if_four P Q (Some xs) (Some ys) (Some older) (Some zs) give all = give xs ys older zs all
 if_four P Q (Some xs) (Some ys) (Some older) None give all = tt
@@ -53,7 +51,8 @@ module _ (set limits : List ℕ) (first days : ℕ) (after journal : List ℕ) (
           record { refusal = record { flights = flights; grid = grid; is_loaded = loaded; older = older; is_older = before; core = core; is_replay = replayed; is_refused = refused } }
       of_scripts _ script refused = absurd script
 
-      of_lines : (scripts : List (List Request)) → AreScripts today texts scripts → (fault : DeskFault) → IsUnasked (map (commands_of flights) scripts) older.journal core.journal fault → Refused fault
+      of_lines : (scripts : List (List Request)) → AreScripts today texts scripts → (fault : DeskFault)
+          → IsUnasked (map (commands_of flights) scripts) older.journal core.journal fault → Refused fault
       of_lines scripts are (Unasked session call) unasked = record {
         refusal = record {
           flights = flights;
@@ -79,20 +78,24 @@ module _ (set limits after journal : Option (List ℕ)) (first days today : ℕ)
   module _ (flights : List Flown) (grid : Ladders) (loaded : IfSome set (λ xs. IfSome limits (λ ys. IsLoaded xs ys first days flights grid)))
       (older : Inventory) (before : IfSome after (IsReplayWithin grid older)) where
     -- of the journal
-    pub refused_journal : (fault : DeskFault) → (IsOfInput fault → IfSome journal (IsUnlawful grid fault)) → IsOfInput fault → IsRefused fault
+    pub refused_journal : (fault : DeskFault) → (IsOfInput fault → IfSome journal (IsUnlawful grid fault))
+        → IsOfInput fault → IsRefused fault
     refused_journal fault refused input =
         if_known (λ xs ys. IsLoaded xs ys first days flights grid) (IsReplayWithin grid older) (IsUnlawful grid fault) (λ xs ys old zs. IsRefusedAgainst xs ys first days old zs today texts fault) set limits after journal
         (λ xs ys old zs is was unlawful. of_journal xs ys first days old zs today texts flights grid is older was fault unlawful) loaded before (refused input)
 
     module _ (core : Inventory) (replayed : IfSome journal (IsReplayWithin grid core)) where
       -- of a script
-      pub refused_script : (fault : DeskFault) → (IsOfInput fault → IsOfScript fault) → (IsOfInput fault → IsRefusedAmong today 1 texts fault) → IsOfInput fault → IsRefused fault
+      pub refused_script : (fault : DeskFault) → (IsOfInput fault → IsOfScript fault)
+          → (IsOfInput fault → IsRefusedAmong today 1 texts fault) → IsOfInput fault → IsRefused fault
       refused_script fault script refused input =
           if_known (λ xs ys. IsLoaded xs ys first days flights grid) (IsReplayWithin grid older) (IsReplayWithin grid core) (λ xs ys old zs. IsRefusedAgainst xs ys first days old zs today texts fault) set limits after journal
           (λ xs ys old zs is was h. of_scripts xs ys first days old zs today texts flights grid is older was core h fault (script input) (refused input)) loaded before replayed
 
       -- all is right
-      pub all_read : (scripts : List (List Request)) → AreScripts today texts scripts → OfFour set limits after journal (λ xs ys old zs. AreRead xs ys first days old zs today texts flights older core scripts)
+      pub all_read : (scripts : List (List Request)) → AreScripts today texts scripts
+          → OfFour set limits after journal
+          (λ xs ys old zs. AreRead xs ys first days old zs today texts flights older core scripts)
       all_read scripts are =
           if_known (λ xs ys. IsLoaded xs ys first days flights grid) (IsReplayWithin grid older) (IsReplayWithin grid core) (λ xs ys old zs. AreRead xs ys first days old zs today texts flights older core scripts) set limits after journal
           (λ xs ys old zs is was h. record { grid = grid; is_loaded = is; is_older = was; is_replay = h; are_scripts = are }) loaded before replayed
@@ -103,13 +106,16 @@ module _ (set limits after journal : Option (List ℕ)) (first days today : ℕ)
     here are = subst (AreScripts today texts) (sym same) are
 
     -- of a line that is not asked
-    pub refused_unasked : (fault : DeskFault) → (fault ≢ Memory → IsUnasked (map (commands_of flights) slice) older.journal core.journal fault) → IsOfInput fault → IsRefused fault
+    pub refused_unasked : (fault : DeskFault)
+        → (fault ≢ Memory → IsUnasked (map (commands_of flights) slice) older.journal core.journal fault)
+        → IsOfInput fault → IsRefused fault
     refused_unasked fault unasked input =
         if_four (λ xs ys old zs. AreRead xs ys first days old zs today texts flights older core scripts) (λ xs ys old zs. IsRefusedAgainst xs ys first days old zs today texts fault) set limits after journal
         (λ xs ys old zs r. of_lines xs ys first days old zs today texts flights r.grid r.is_loaded older r.is_older core r.is_replay slice (here r.are_scripts) fault (unasked (λ (e : fault ≡ Memory). subst IsOfInput e input))) read
 
     -- the line of the audit
-    pub audited : (line : List ℕ) → line ≡ audit_line (totals_of core.journal) → AreAskedBehind (map (commands_of flights) slice) older.journal core.journal
+    pub audited : (line : List ℕ) → line ≡ audit_line (totals_of core.journal)
+        → AreAskedBehind (map (commands_of flights) slice) older.journal core.journal
         → OfFour set limits after journal (λ xs ys old zs. IsAuditAgainst xs ys first days old zs today texts line)
     audited line sums asked =
         if_four (λ xs ys old zs. AreRead xs ys first days old zs today texts flights older core scripts) (λ xs ys old zs. IsAuditAgainst xs ys first days old zs today texts line) set limits after journal
@@ -137,7 +143,8 @@ module _ (set limits after journal : Option (List ℕ)) (first days today : ℕ)
 -- ---- inputs that are too large, or fail
 
 -- where the journals are not asked, and where the second is not
-four_load : (P : List ℕ → List ℕ → Type 0) (R : List ℕ → List ℕ → List ℕ → List ℕ → Type 0) (set limits after journal : Option (List ℕ)) → ((xs ys older zs : List ℕ) → P xs ys → R xs ys older zs)
+four_load : (P : List ℕ → List ℕ → Type 0) (R : List ℕ → List ℕ → List ℕ → List ℕ → Type 0)
+    (set limits after journal : Option (List ℕ)) → ((xs ys older zs : List ℕ) → P xs ys → R xs ys older zs)
     → IfSome set (λ xs. IfSome limits (λ ys. P xs ys)) → OfFour set limits after journal R
 four_load P R (Some xs) (Some ys) (Some older) (Some zs) give p = give xs ys older zs p
 four_load P R (Some xs) (Some ys) (Some older) None give p = tt
@@ -145,7 +152,8 @@ four_load P R (Some xs) (Some ys) None journal give p = tt
 four_load P R (Some xs) None after journal give p = tt
 four_load P R None limits after journal give p = tt
 
-four_older : (P : List ℕ → List ℕ → Type 0) (A : List ℕ → Type 0) (R : List ℕ → List ℕ → List ℕ → List ℕ → Type 0) (set limits after journal : Option (List ℕ)) → ((xs ys older zs : List ℕ) → P xs ys → A older → R xs ys older zs)
+four_older : (P : List ℕ → List ℕ → Type 0) (A : List ℕ → Type 0) (R : List ℕ → List ℕ → List ℕ → List ℕ → Type 0)
+    (set limits after journal : Option (List ℕ)) → ((xs ys older zs : List ℕ) → P xs ys → A older → R xs ys older zs)
     → IfSome set (λ xs. IfSome limits (λ ys. P xs ys)) → IfSome after A → OfFour set limits after journal R
 four_older P A R (Some xs) (Some ys) (Some older) (Some zs) give p a = give xs ys older zs p a
 four_older P A R (Some xs) (Some ys) (Some older) None give p a = tt
@@ -163,7 +171,8 @@ module _ (set limits after journal : Option (List ℕ)) (first days today : ℕ)
   module _ (flights : List Flown) (grid : Ladders) (loaded : IfSome set (λ xs. IfSome limits (λ ys. IsLoaded xs ys first days flights grid))) where
     pub load_known : IfSome set (λ xs. IfSome limits (λ ys. HasLoaded xs ys first days))
     load_known = by set limits loaded where
-      by : (s l : Option (List ℕ)) → IfSome s (λ xs. IfSome l (λ ys. IsLoaded xs ys first days flights grid)) → IfSome s (λ xs. IfSome l (λ ys. HasLoaded xs ys first days))
+      by : (s l : Option (List ℕ)) → IfSome s (λ xs. IfSome l (λ ys. IsLoaded xs ys first days flights grid))
+          → IfSome s (λ xs. IfSome l (λ ys. HasLoaded xs ys first days))
       by (Some xs) (Some ys) is = record { flights = flights; grid = grid; is_loaded = is }
       by (Some xs) None is = tt
       by None l is = tt
@@ -174,7 +183,8 @@ module _ (set limits after journal : Option (List ℕ)) (first days today : ℕ)
         (λ xs ys older zs is large. inr (inl (record { flights = flights; grid = grid; is_loaded = is }, large))) loaded over
 
     module _ (older : Inventory) (before : IfSome after (IsReplayWithin grid older)) where
-      abbrev an_older : (xs ys zs : List ℕ) → IsLoaded xs ys first days flights grid → IsReplayWithin grid older zs → HasOlder xs ys first days zs
+      abbrev an_older : (xs ys zs : List ℕ) → IsLoaded xs ys first days flights grid → IsReplayWithin grid older zs
+          → HasOlder xs ys first days zs
       an_older xs ys zs is was = record { flights = flights; grid = grid; is_loaded = is; older = older; is_older = was }
 
       pub too_large_journal : IfSome journal (λ zs. most_journal_bytes < length zs) → IsLarge
@@ -186,7 +196,8 @@ module _ (set limits after journal : Option (List ℕ)) (first days today : ℕ)
       older_known = if_three_known (λ xs ys. IsLoaded xs ys first days flights grid) (IsReplayWithin grid older) (λ xs ys zs. HasOlder xs ys first days zs) set limits after an_older loaded before
 
       module _ (core : Inventory) (replayed : IfSome journal (IsReplayWithin grid core)) where
-        abbrev a_both : (xs ys old zs : List ℕ) → IsLoaded xs ys first days flights grid → IsReplayWithin grid older old → IsReplayWithin grid core zs → HasBoth xs ys first days old zs
+        abbrev a_both : (xs ys old zs : List ℕ) → IsLoaded xs ys first days flights grid → IsReplayWithin grid older old
+            → IsReplayWithin grid core zs → HasBoth xs ys first days old zs
         a_both xs ys old zs is was h = record { flights = flights; grid = grid; is_loaded = is; older = older; is_older = was; core = core; is_replay = h }
 
         pub too_large_script : IsTooLargeAmong today texts → IsLarge
@@ -201,16 +212,20 @@ module _ (set limits after journal : Option (List ℕ)) (first days today : ℕ)
 
 -- ---- refusals of the older journal
 
-of_older : (set limits : List ℕ) (first days : ℕ) (after journal : List ℕ) (today : ℕ) (texts : List (Option (List ℕ))) (flights : List Flown) (grid : Ladders) (fault : DeskFault)
-    → IsLoaded set limits first days flights grid → IsUnlawful grid fault after → IsRefusedAgainst set limits first days after journal today texts fault
+of_older : (set limits : List ℕ) (first days : ℕ) (after journal : List ℕ) (today : ℕ) (texts : List (Option (List ℕ)))
+    (flights : List Flown) (grid : Ladders) (fault : DeskFault)
+    → IsLoaded set limits first days flights grid → IsUnlawful grid fault after
+    → IsRefusedAgainst set limits first days after journal today texts fault
 of_older set limits first days after journal today texts flights grid (Journal fault) loaded unlawful =
     record { refusal = inl (record { flights = flights; grid = grid; is_loaded = loaded; is_unlawful = unlawful }) }
 of_older set limits first days after journal today texts flights grid (Replay fault) loaded unlawful =
     record { refusal = inl (record { flights = flights; grid = grid; is_loaded = loaded; is_unlawful = unlawful }) }
 of_older set limits first days after journal today texts flights grid _ loaded unlawful = absurd unlawful.refused
 
-pub refused_older : (set limits after journal : Option (List ℕ)) (first days today : ℕ) (texts : List (Option (List ℕ))) (flights : List Flown) (grid : Ladders)
-    → IfSome set (λ xs. IfSome limits (λ ys. IsLoaded xs ys first days flights grid)) → (fault : DeskFault) → (IsOfInput fault → IfSome after (IsUnlawful grid fault)) → IsOfInput fault
+pub refused_older : (set limits after journal : Option (List ℕ)) (first days today : ℕ) (texts : List (Option (List ℕ)))
+    (flights : List Flown) (grid : Ladders)
+    → IfSome set (λ xs. IfSome limits (λ ys. IsLoaded xs ys first days flights grid)) → (fault : DeskFault)
+    → (IsOfInput fault → IfSome after (IsUnlawful grid fault)) → IsOfInput fault
     → OfFour set limits after journal (λ xs ys older zs. IsRefusedAgainst xs ys first days older zs today texts fault)
 refused_older set limits after journal first days today texts flights grid loaded fault refused input =
     four_older (λ xs ys. IsLoaded xs ys first days flights grid) (IsUnlawful grid fault) (λ xs ys older zs. IsRefusedAgainst xs ys first days older zs today texts fault) set limits after journal

@@ -1,41 +1,27 @@
 -- A journal beside what is asked, one line after the other.
 use Rattle.std.proofs.Common.{◌≡◌, ◌≢◌, ◌⊎◌, ⊎_elim, inl, inr, ℕ, zero, suc, ◌+◌, ◌-◌, ◌<◌, ◌≤◌, ◌==◌, ◌&&◌, Bool, true, false, nat_eq, List, [], ◌∷◌, ◌++◌, length, take, drop, map, get_or, refl, sym, ap, ◌∙◌, subst, arith, Option, Some, None}
-use Rattle.std.specs.Prelude.{IfNone, IfSome, IsTrue, slice_get}
+use Rattle.seat_scripts.proofs.Common.{slice_get, option_map, Ladders, Place, Change, Command, Entry, Work, Seats, IsLegal, of_session, done_by, works_in}
+use Rattle.std.specs.Prelude.{IfNone, IfSome, IsTrue}
 use Rattle.std.specs.Cmp.Lexicographic.{pointwise, same_text}
-use Rattle.std.specs.Option.{option_eq, option_map}
+use Rattle.std.specs.Option.{option_eq}
 use Rattle.std.proofs.Math.Seq.{drop-cons, take-append_seam, take-length}
 use Rattle.std.proofs.lemmas.Bool.Decides.{nat_tests}
 use Rattle.std.proofs.lemmas.List.{map-append, length-append, length-map, take-append-drop, take_all, take_more}
 use Rattle.std.proofs.lemmas.Option.{get_or_from_slice_get, slice_get_cases, slice_get-map, slice_get_past, slice_get_read, slice_get_within}
-use Rattle.seat_nesting.specs.Nesting.{Ladders}
-use Rattle.airline_base.specs.declared.place.Place.{Place}
-use Rattle.seat_journal.specs.declared.entry.Change.{Change}
-use Rattle.seat_journal.specs.declared.entry.Command.{Command}
-use Rattle.seat_journal.specs.declared.entry.Entry.{Entry}
-use Rattle.seat_journal.specs.declared.entry.Work.{Work}
-use Rattle.seat_journal.specs.declared.entry.Work.TheVariants.{Seats, Limit}
-use Rattle.seat_rules.specs.Journal.{IsLegal}
+use Rattle.seat_journal.specs.declared.entry.Work.TheVariants.{Limit}
 use Rattle.seat_rules.specs.Bookings.{same_place}
-use Rattle.seat_rules.proofs.History.Faults.{place_same}
+use Rattle.seat_rules.proofs.History.Faults.{place_same, nat_same}
 use Rattle.seat_rules.proofs.History.Legal.{each_legal}
-use Rattle.seat_rules.specs.Histories.{of_session}
 use Rattle.seat_rules.proofs.Own.{own_append, own_one, own_other}
-use Rattle.seat_scripts.specs.Against.{AreAsked, AreAskedBelow, DifferAt, asked_by, done_by, same_command, works_of_list}
-use Rattle.seat_scripts.specs.RunDesk.{works_in}
-use Rattle.seat_scripts.proofs.Going.{few_may}
+use Rattle.seat_scripts.specs.Against.{AreAsked, AreAskedBelow, DifferAt, asked_by, same_command, works_of_list}
 use Rattle.airline_base.proofs.Tests.{both_true}
+use Rattle.seat_rules.proofs.Step.Apart.{letters_same}
+use Rattle.seat_bookings.proofs.Kept.Books.{session_most}
 
 -- ---- tests
 
-nat_same : (m n : ℕ) → (m == n) ≡ true → m ≡ n
-nat_same m n e = grind (arith, nat_tests)
-
 same_nat : (n : ℕ) → (n == n) ≡ true
 same_nat n = grind (arith, nat_tests)
-
-text_itself : (xs : List ℕ) → pointwise nat_eq xs xs ≡ true
-text_itself [] = refl
-text_itself (x ∷ xs) = rw (same_nat x) (text_itself xs)
 
 places_same : (p q : Option Place) → option_eq same_place p q ≡ true → p ≡ q
 places_same None None e = refl
@@ -47,7 +33,8 @@ place_itself : (p : Option Place) → option_eq same_place p p ≡ true
 place_itself None = refl
 place_itself (Some p) = rw (same_nat p.flight, same_nat p.from, same_nat p.to) refl
 
-command_is : (a b : Command) → a.locator ≡ b.locator → a.place ≡ b.place → a.class ≡ b.class → a.code ≡ b.code → a.seats ≡ b.seats → a ≡ b
+command_is : (a b : Command) → a.locator ≡ b.locator → a.place ≡ b.place → a.class ≡ b.class → a.code ≡ b.code
+    → a.seats ≡ b.seats → a ≡ b
 command_is a b e f g h k = λ i. record { locator = e i; place = f i; class = g i; code = h i; seats = k i }
 
 command_same : (a b : Command) → same_command a b ≡ true → a ≡ b
@@ -59,16 +46,18 @@ command_same a b e =
     command_is a b (same_text a.locator b.locator (sym one.0)) (places_same a.place b.place one.1) (nat_same a.class b.class two.1) (same_text a.code b.code (sym three.1)) (nat_same a.seats b.seats four.1)
 
 command_itself : (a : Command) → same_command a a ≡ true
-command_itself a = rw (text_itself a.locator, place_itself a.place, same_nat a.class, text_itself a.code, same_nat a.seats) refl
+command_itself a = rw (letters_same a.locator, place_itself a.place, same_nat a.class, letters_same a.code, same_nat a.seats) refl
 
 -- a test of two commands says whether they are one
-pub commands_same : (a b : Command) (told : Bool) → told ≡ same_command a b → (IsTrue told → a ≡ b) × (a ≡ b → IsTrue told)
+pub commands_same : (a b : Command) (told : Bool) → told ≡ same_command a b
+    → (IsTrue told → a ≡ b) × (a ≡ b → IsTrue told)
 commands_same a b told e = (
   λ (is : IsTrue told). command_same a b (sym e ∙ is),
   λ (same : a ≡ b). e ∙ (ap (same_command a) (sym same) ∙ command_itself a),
 )
 
-pub limits_same : (a b : Change) (told : Bool) → (IsTrue told → a ≡ b) × (a ≡ b → IsTrue told) → (IsTrue told → Limit a ≡ Limit b) × (Limit a ≡ Limit b → IsTrue told)
+pub limits_same : (a b : Change) (told : Bool) → (IsTrue told → a ≡ b) × (a ≡ b → IsTrue told)
+    → (IsTrue told → Limit a ≡ Limit b) × (Limit a ≡ Limit b → IsTrue told)
 limits_same a b told same = (λ (is : IsTrue told). ap Limit (same.0 is), λ (e : Limit a ≡ Limit b). same.1 (one e)) where
   one : Limit a ≡ Limit b → a ≡ b
   one e = cc
@@ -77,7 +66,8 @@ pub no_seats : (a : Change) (c : Command) → Limit a ≡ Seats c → ⊥
 no_seats a c e = cc
 
 -- of works that ask for seats, too
-pub works_same : (a b : Command) (told : Bool) → (IsTrue told → a ≡ b) × (a ≡ b → IsTrue told) → (IsTrue told → Seats a ≡ Seats b) × (Seats a ≡ Seats b → IsTrue told)
+pub works_same : (a b : Command) (told : Bool) → (IsTrue told → a ≡ b) × (a ≡ b → IsTrue told)
+    → (IsTrue told → Seats a ≡ Seats b) × (Seats a ≡ Seats b → IsTrue told)
 works_same a b told same = (λ (is : IsTrue told). ap Seats (same.0 is), λ (e : Seats a ≡ Seats b). same.1 (one e)) where
   one : Seats a ≡ Seats b → a ≡ b
   one e = cc
@@ -86,9 +76,11 @@ pub no_limit : (a : Command) (c : Change) → Seats a ≡ Limit c → ⊥
 no_limit a c e = cc
 
 -- the command that stands there asks for this, or none stands there
-pub asked_there : (commands : List Command) (calls : ℕ) (command : Command) (work : Work) (told : Bool) → slice_get commands calls ≡ Some command
+pub asked_there : (commands : List Command) (calls : ℕ) (command : Command) (work : Work) (told : Bool)
+    → slice_get commands calls ≡ Some command
     → (IsTrue told → Seats command ≡ work) × (Seats command ≡ work → IsTrue told)
-    → (IsTrue told → slice_get (map Seats commands) calls ≡ Some work) × (slice_get (map Seats commands) calls ≡ Some work → IsTrue told)
+    → (IsTrue told → slice_get (map Seats commands) calls ≡ Some work)
+    × (slice_get (map Seats commands) calls ≡ Some work → IsTrue told)
 asked_there commands calls command work told at same =
     let here : slice_get (map Seats commands) calls ≡ Some (Seats command) = slice_get-map Seats commands calls ∙ ap (option_map Seats) at in
     (λ (is : IsTrue told). here ∙ ap Some (same.0 is), λ (e : slice_get (map Seats commands) calls ≡ Some work). same.1 (one (Seats command) work (sym here ∙ e)))
@@ -96,7 +88,8 @@ asked_there commands calls command work told at same =
     one : (v w : Work) → Some v ≡ Some w → v ≡ w
     one v w e = cc
 
-pub asked_past : (commands : List Command) (calls : ℕ) (work : Work) → slice_get commands calls ≡ None → slice_get (map Seats commands) calls ≡ Some work → ⊥
+pub asked_past : (commands : List Command) (calls : ℕ) (work : Work) → slice_get commands calls ≡ None
+    → slice_get (map Seats commands) calls ≡ Some work → ⊥
 asked_past commands calls work past e =
     let here : slice_get (map Seats commands) calls ≡ None = slice_get-map Seats commands calls ∙ ap (option_map Seats) past in
     none_is_some work (sym here ∙ e)
@@ -105,7 +98,8 @@ asked_past commands calls work past e =
     none_is_some w e = cc
 
 -- a list that was looked up at a session's place
-pub listed : (lists : List (List Command)) (session place : ℕ) (list : List Command) → place ≡ session → place - 1 < length lists → list ≡ get_or lists (place - 1) list → slice_get lists (session - 1) ≡ Some list
+pub listed : (lists : List (List Command)) (session place : ℕ) (list : List Command) → place ≡ session
+    → place - 1 < length lists → list ≡ get_or lists (place - 1) list → slice_get lists (session - 1) ≡ Some list
 listed lists session place list e lt is = subst (λ (k : ℕ). slice_get lists (k - 1) ≡ Some list) e (slice_get_read lists (length lists) (place - 1) list refl lt is)
 
 pub untold : (told : Bool) (P : Type 0) → told ≡ false → (P → IsTrue told) → P → ⊥
@@ -123,7 +117,8 @@ at_seam (y ∷ front) rest x = at_seam front rest x
 next_call : (calls : ℕ) → calls ≡ calls + 1 - 1
 next_call calls = omega arith
 
-differ_at : (calls : ℕ) (done asked : List Work) → take calls done ≡ take calls asked → slice_get done calls ≢ slice_get asked calls → DifferAt (calls + 1) done asked
+differ_at : (calls : ℕ) (done asked : List Work) → take calls done ≡ take calls asked
+    → slice_get done calls ≢ slice_get asked calls → DifferAt (calls + 1) done asked
 differ_at calls done asked before there = record {
   from_one = omega arith;
   before = subst (λ (k : ℕ). take k done ≡ take k asked) (next_call calls) before;
@@ -131,7 +126,8 @@ differ_at calls done asked before there = record {
 }
 
 -- at a line that is not asked
-differ_seam : (calls : ℕ) (done asked front rest : List Work) (x : Work) → done ≡ front ++ x ∷ rest → calls ≡ length front → front ≡ take calls asked
+differ_seam : (calls : ℕ) (done asked front rest : List Work) (x : Work) → done ≡ front ++ x ∷ rest
+    → calls ≡ length front → front ≡ take calls asked
     → slice_get asked calls ≢ Some x → DifferAt (calls + 1) done asked
 differ_seam calls done asked front rest x is count begun not =
     differ_at calls done asked
@@ -140,7 +136,8 @@ differ_seam calls done asked front rest x is count begun not =
     not (sym same ∙ (ap (λ (l : List Work). slice_get l calls) is ∙ (ap (λ (k : ℕ). slice_get (front ++ x ∷ rest) k) count ∙ at_seam front rest x))))
 
 -- behind the lines, where more is asked
-differ_over : (calls : ℕ) (done asked : List Work) → calls ≡ length done → done ≡ take calls asked → calls < length asked → DifferAt (calls + 1) done asked
+differ_over : (calls : ℕ) (done asked : List Work) → calls ≡ length done → done ≡ take calls asked
+    → calls < length asked → DifferAt (calls + 1) done asked
 differ_over calls done asked count begun more =
     differ_at calls done asked (ap (λ (k : ℕ). take k done) count ∙ (take-length done ∙ begun))
     (λ (same : slice_get done calls ≡ slice_get asked calls).
@@ -171,7 +168,8 @@ done_other : (session : ℕ) (e : Entry) → e.session ≢ session → done_by s
 done_other session e not = ap works_in (own_other session e not)
 
 -- the front and its next line
-one_more : (journal : List Entry) (i : ℕ) (e : Entry) → i < length journal → e ≡ get_or journal i e → take (i + 1) journal ≡ take i journal ++ e ∷ []
+one_more : (journal : List Entry) (i : ℕ) (e : Entry) → i < length journal → e ≡ get_or journal i e
+    → take (i + 1) journal ≡ take i journal ++ e ∷ []
 one_more journal i e lt is = take_more journal i e lt ∙ ap (λ (x : Entry). take i journal ++ x ∷ []) (sym is)
 
 module _ (session : ℕ) (commands : List Command) (journal : List Entry) (calls i : ℕ) (e : Entry) (lt : i < length journal) (is : e ≡ get_or journal i e)
@@ -193,7 +191,8 @@ module _ (session : ℕ) (commands : List Command) (journal : List Entry) (calls
       append_none [] = refl
       append_none (x ∷ l) = ap (λ (k : List Work). x ∷ k) (append_none l)
 
-  pub agree_own : e.session ≡ session → slice_get (map Seats commands) calls ≡ Some e.work → AgreeSoFar session commands (calls + 1) (take (i + 1) journal)
+  pub agree_own : e.session ≡ session → slice_get (map Seats commands) calls ≡ Some e.work
+      → AgreeSoFar session commands (calls + 1) (take (i + 1) journal)
   agree_own own at =
       let more : done_by session (take i journal ++ e ∷ []) ≡ done_by session (take i journal) ++ e.work ∷ [] =
       done_append session (take i journal) (e ∷ []) ∙ ap (λ (l : List Work). done_by session (take i journal) ++ l) (done_own session e own) in
@@ -208,7 +207,8 @@ module _ (session : ℕ) (commands : List Command) (journal : List Entry) (calls
         few = omega (arith, so_far.few, longer (take i journal));
       })
 
-  pub differ_here : e.session ≡ session → slice_get (map Seats commands) calls ≢ Some e.work → DifferAt (calls + 1) (done_by session journal) (map Seats commands)
+  pub differ_here : e.session ≡ session → slice_get (map Seats commands) calls ≢ Some e.work
+      → DifferAt (calls + 1) (done_by session journal) (map Seats commands)
   differ_here own not =
       let rest : List Entry = drop (suc i) journal in
       let parts : journal ≡ take i journal ++ e ∷ rest =
@@ -233,18 +233,22 @@ module _ (lists : List (List Command)) (journal : List Entry) (session : ℕ) (l
   its_works : map Seats slice ≡ asked_by lists session
   its_works = ap (λ (l : List Command). map Seats l) same ∙ sym (ap works_of_list at)
 
-  pub as_listed : (answer : Option ℕ) → IfNone answer (done_by session journal ≡ map Seats slice) → IfNone answer (done_by session journal ≡ asked_by lists session)
+  pub as_listed : (answer : Option ℕ) → IfNone answer (done_by session journal ≡ map Seats slice)
+      → IfNone answer (done_by session journal ≡ asked_by lists session)
   as_listed answer told = subst (λ (asked : List Work). IfNone answer (done_by session journal ≡ asked)) its_works told
 
-  pub not_as_listed : (answer : Option ℕ) → IfSome answer (λ call. DifferAt call (done_by session journal) (map Seats slice)) → IfSome answer (λ call. DifferAt call (done_by session journal) (asked_by lists session))
+  pub not_as_listed : (answer : Option ℕ)
+      → IfSome answer (λ call. DifferAt call (done_by session journal) (map Seats slice))
+      → IfSome answer (λ call. DifferAt call (done_by session journal) (asked_by lists session))
   not_as_listed answer told = subst (λ (asked : List Work). IfSome answer (λ call. DifferAt call (done_by session journal) asked)) its_works told
 
 -- ---- session by session
 
-none_beyond : (s : ℕ) → 8 < s → (grid : Ladders) (journal : List Entry) → IsLegal grid journal → of_session s journal ≡ []
+none_beyond : (s : ℕ) → 8 < s → (grid : Ladders) (journal : List Entry) → IsLegal grid journal
+    → of_session s journal ≡ []
 none_beyond s beyond grid journal legal =
     each_legal grid (λ (j : List Entry). of_session s j ≡ [])
-    (λ past e l next h. own_append s past (e ∷ []) ∙ (ap (λ (lines : List Entry). lines ++ of_session s (e ∷ [])) h ∙ own_other s e (λ (is : e.session ≡ s). let most : e.session ≤ 8 = few_may e.session e.work next.session in absurd (omega (arith, is, most, beyond)))))
+    (λ past e l next h. own_append s past (e ∷ []) ∙ (ap (λ (lines : List Entry). lines ++ of_session s (e ∷ [])) h ∙ own_other s e (λ (is : e.session ≡ s). let most : e.session ≤ 8 = session_most e.session e.work next.session in absurd (omega (arith, is, most, beyond)))))
     [] journal refl legal
 
 none_added : (s : ℕ) (older added : List Entry) → of_session s (older ++ added) ≡ [] → of_session s added ≡ []
@@ -253,7 +257,8 @@ none_added s older added e = second (of_session s older) (of_session s added) (s
   second [] ys e = e
   second (x ∷ xs) ys e = absurd cc
 
-pub all_asked : (grid : Ladders) (lists : List (List Command)) (older journal added : List Entry) → IsLegal grid journal → journal ≡ older ++ added → length lists ≤ 8 → AreAskedBelow lists added 9 → AreAsked lists added
+pub all_asked : (grid : Ladders) (lists : List (List Command)) (older journal added : List Entry) → IsLegal grid journal
+    → journal ≡ older ++ added → length lists ≤ 8 → AreAskedBelow lists added 9 → AreAsked lists added
 all_asked grid lists older journal added legal is few below = record { each = λ session low. ⊎_elim (λ (lt : session < 9). below.each session low lt) (λ (high : 9 ≤ session). beyond session high) (either session 9) } where
   either : (a b : ℕ) → (a < b) ⊎ (b ≤ a)
   either a zero = inr (omega arith)

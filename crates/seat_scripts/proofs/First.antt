@@ -1,15 +1,12 @@
 -- Behind a journal without lines all is new.
 use Rattle.std.proofs.Common.{◌≡◌, ℕ, ◌-◌, List, [], ◌++◌, length, map, refl, sym, ap, ◌∙◌, subst, arith}
+use Rattle.seat_scripts.proofs.Common.{Command, Entry, by_session, idle, lists_over, commands_of, IsHistoryOf, works_in}
 use Rattle.std.proofs.lemmas.List.{append-nil}
-use Rattle.seat_journal.specs.declared.entry.Command.{Command}
-use Rattle.seat_journal.specs.declared.entry.Entry.{Entry}
 use Rattle.seat_journal.proofs.TextLaws.{one_text}
-use Rattle.seat_rules.specs.Histories.{by_session}
 use Rattle.seat_scripts.proofs.Histories.{as_replies}
 use Rattle.seat_scripts.specs.First.{RunsFromNoLines}
-use Rattle.seat_scripts.specs.Going.{highest_to, idle, lists_over}
-use Rattle.seat_scripts.specs.Requests.{commands_of}
-use Rattle.seat_scripts.specs.RunDesk.{AreReplies, IsHistoryOf, works_in}
+use Rattle.seat_scripts.specs.Going.{highest_to}
+use Rattle.seat_scripts.specs.RunDesk.{AreReplies}
 
 -- no session is opened but for the lists
 lists_alone : (past : List Entry) (lists : List (List Command)) → past ≡ [] → lists_over past lists ≡ lists

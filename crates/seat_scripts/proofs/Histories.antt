@@ -1,36 +1,22 @@
 -- The lines that a history adds to the past can be answered: what they and their advices answer is there.
 use Rattle.std.proofs.Common.{◌≡◌, ⊎_elim, ℕ, zero, suc, ◌+◌, ◌-◌, ◌<◌, ◌≤◌, List, [], ◌∷◌, ◌++◌, length, map, refl, sym, ap, ◌∙◌, subst, arith, get_or, Option, Some, None, length-append, append_assoc, take, ◌==◌}
-use Rattle.std.specs.Prelude.{slice_get, unwrap_or}
-use Rattle.std.specs.List.{AllByRecursion}
-use Rattle.std.specs.Option.{option_map}
+use Rattle.seat_scripts.proofs.Common.{slice_get, AllByRecursion, option_map, Request, Segment, Place, DatedLeg, Advice, Change, Command, Entry, Work, Seats, authorised_grid, Fits, Ladders, LimitRow, IsLegal, of_session, by_session, behind, idle, lists_over, commands_of, IsHistoryOf, works_in}
+use Rattle.std.specs.Prelude.{unwrap_or}
 use Rattle.std.proofs.lemmas.Bool.{cases_lt}
 use Rattle.std.proofs.lemmas.List.{append-nil, get_or_past, length-map, length-take-le}
 use Rattle.std.proofs.lemmas.Option.{get_or_from_slice_get, slice_get-get_or, slice_get-map, slice_get_cases, slice_get_within, unwrap_or-slice_get}
-use Rattle.airimp_lines.specs.declared.requests.Request.{Request}
-use Rattle.airimp_lines.specs.declared.segment.Segment.{Segment}
-use Rattle.airline_base.specs.declared.place.Place.{Place}
-use Rattle.ssim_flights.specs.declared.flight.DatedLeg.{DatedLeg}
 use Rattle.ssim_flights.specs.declared.flight.Flight.{Flight as Flown}
-use Rattle.seat_journal.specs.declared.entry.Advice.{Advice}
-use Rattle.seat_journal.specs.declared.entry.Change.{Change}
-use Rattle.seat_journal.specs.declared.entry.Command.{Command}
-use Rattle.seat_journal.specs.declared.entry.Entry.{Entry}
-use Rattle.seat_journal.specs.declared.entry.Work.{Work}
-use Rattle.seat_journal.specs.declared.entry.Work.TheVariants.{Seats, Limit}
-use Rattle.seat_limits.specs.Authorised.{authorised_grid, authorised_legs}
-use Rattle.seat_nesting.specs.Nesting.{Fits, Ladders, Steps, legs_of}
-use Rattle.seat_limits.specs.declared.limit_row.LimitRow.{LimitRow}
-use Rattle.seat_rules.specs.Journal.{IsLegal}
+use Rattle.seat_journal.specs.declared.entry.Work.TheVariants.{Limit}
+use Rattle.seat_limits.specs.Authorised.{authorised_legs}
+use Rattle.seat_nesting.specs.Nesting.{Steps, legs_of}
 use Rattle.seat_rules.proofs.History.Legal.{legal_to_after}
-use Rattle.seat_rules.specs.Histories.{of_session, by_session}
 use Rattle.seat_rules.proofs.Own.{own_append, own_one, calls_own}
 use Rattle.seat_desk.specs.FlightsDesk.{IsText}
 use Rattle.seat_desk.specs.Loading.{IsGridOf}
 use Rattle.seat_scripts.specs.declared.past.Past.{Past}
 use Rattle.seat_scripts.specs.Answering.{AreAllAnswerable, AreAnswerable, AreBooked, IsRequested, IsBooked}
-use Rattle.seat_scripts.specs.Going.{behind, idle, lists_over, past_of, segment_at, segment_between, segment_from, segment_of, segment_on}
-use Rattle.seat_scripts.specs.Requests.{commands_of}
-use Rattle.seat_scripts.specs.RunDesk.{AreReplies, AreSessions, IsHistoryOf, IsReplied, requests_of, works_in, works_of}
+use Rattle.seat_scripts.specs.Going.{past_of, segment_at, segment_between, segment_from, segment_of, segment_on}
+use Rattle.seat_scripts.specs.RunDesk.{AreReplies, AreSessions, IsReplied, requests_of, works_of}
 use Rattle.seat_scripts.proofs.Advised.{AreAdvised, IsPlaced, all_push, legal_is_advised}
 use Rattle.seat_scripts.proofs.Going.{added_lines, idle_at, over_count, lines_at, past_calls, past_counts, sessions_count}
 use Rattle.seat_scripts.proofs.Rows.{all_kept, all_of, each_at}
@@ -54,7 +40,8 @@ record IsFlown (flights : List Flown) (c : Command) : Type 0 where
   segment : Segment
   is : segment_of flights c ≡ Some segment
 
-flown_on : (flights : List Flown) (c : Command) (place : Place) (flight : Flown) → c.place ≡ Some place → slice_get flights place.flight ≡ Some flight
+flown_on : (flights : List Flown) (c : Command) (place : Place) (flight : Flown) → c.place ≡ Some place
+    → slice_get flights place.flight ≡ Some flight
     → place.from < length flight.legs → place.to < length flight.legs → IsFlown flights c
 flown_on flights c place flight on at from to =
     let first = leg_there flight.legs place.from from in
@@ -66,12 +53,14 @@ flown_on flights c place flight on at from to =
           ∙ ap (λ (o : Option DatedLeg). segment_between c flight (Some first.leg) o) last.at));
     }
 
-no_legs : (rows : List LimitRow) (flights : List Flown) (i : ℕ) → slice_get flights i ≡ None → length (legs_of (authorised_grid rows flights) i) ≡ 0
+no_legs : (rows : List LimitRow) (flights : List Flown) (i : ℕ) → slice_get flights i ≡ None
+    → length (legs_of (authorised_grid rows flights) i) ≡ 0
 no_legs rows flights i at =
     let none : slice_get (authorised_grid rows flights) i ≡ None = slice_get-map (authorised_legs rows) flights i ∙ ap (λ (o : Option Flown). option_map (authorised_legs rows) o) at in
     ap (λ (o : Option (List Steps)). length (unwrap_or o [])) none
 
-flown : (flights : List Flown) (grid : Ladders) (c : Command) (place : Place) → IsGridOf flights grid → c.place ≡ Some place → Fits grid place → IsFlown flights c
+flown : (flights : List Flown) (grid : Ladders) (c : Command) (place : Place) → IsGridOf flights grid
+    → c.place ≡ Some place → Fits grid place → IsFlown flights c
 flown flights grid c place g on fits =
     let i = place.flight in
     let to : place.to < length (legs_of (authorised_grid g.rows flights) i) = subst (λ (l : Ladders). place.to < length (legs_of l i)) g.is fits.1 in
@@ -85,7 +74,8 @@ flown flights grid c place g on fits =
 -- ---- each line's request
 
 -- the list of each session is that of its script, and none beyond the scripts
-list_of : (flights : List Flown) (scripts : List (List Request)) (k i : ℕ) → get_or (map (commands_of flights) scripts ++ idle k) i [] ≡ commands_of flights (get_or scripts i [])
+list_of : (flights : List Flown) (scripts : List (List Request)) (k i : ℕ)
+    → get_or (map (commands_of flights) scripts ++ idle k) i [] ≡ commands_of flights (get_or scripts i [])
 list_of flights [] k i = idle_at k i
 list_of flights (script ∷ scripts) k zero = refl
 list_of flights (script ∷ scripts) k (suc i) = list_of flights scripts k i
@@ -96,7 +86,8 @@ module _ (grid : Ladders) (past : List Entry) (flights : List Flown) (changes : 
   lists = lists_over past (map (commands_of flights) scripts)
 
   -- the lines of a session behind the past are what its script asks
-  pub own_works : (i : ℕ) → i < length lists → works_in (of_session (suc i) h.added) ≡ map Seats (commands_of flights (get_or scripts i []))
+  pub own_works : (i : ℕ) → i < length lists
+      → works_in (of_session (suc i) h.added) ≡ map Seats (commands_of flights (get_or scripts i []))
   own_works i lt =
       let within : suc i < length (by_session (length lists) h.added) = omega (arith, lt, sessions_count (length lists) h.added) in
       let here : slice_get (by_session (length lists) h.added) (suc i) ≡ Some (of_session (suc i) h.added) =
@@ -124,7 +115,8 @@ module _ (grid : Ladders) (past : List Entry) (flights : List Flown) (changes : 
       rest_nil (x ∷ xs) ys e = absurd cc
 
   -- the line of a session at a place behind the past asks for what stands there
-  work_at : (s : ℕ) (works : List Work) → works_in (of_session s h.added) ≡ works → (k : ℕ) (e : Entry) → slice_get (of_session s h.added) k ≡ Some e → slice_get works k ≡ Some e.work
+  work_at : (s : ℕ) (works : List Work) → works_in (of_session s h.added) ≡ works → (k : ℕ) (e : Entry)
+      → slice_get (of_session s h.added) k ≡ Some e → slice_get works k ≡ Some e.work
   work_at s works same k e at =
       ap (λ (l : List Work). slice_get l k) (sym same) ∙ (slice_get-map (λ (x : Entry). x.work) (of_session s h.added) k ∙ ap (option_map (λ (x : Entry). x.work)) at)
 
@@ -141,7 +133,8 @@ module _ (grid : Ladders) (past : List Entry) (flights : List Flown) (changes : 
   no_seats (Some x) c e = cc
 
   -- so a line that asks for seats stands beside a request
-  is_asked : (s k : ℕ) (e : Entry) → s ≤ length scripts → length scripts ≤ length lists → slice_get (of_session s h.added) k ≡ Some e → (w : Work) → e.work ≡ w → IsRequested (requests_of scripts s) k w
+  is_asked : (s k : ℕ) (e : Entry) → s ≤ length scripts → length scripts ≤ length lists
+      → slice_get (of_session s h.added) k ≡ Some e → (w : Work) → e.work ≡ w → IsRequested (requests_of scripts s) k w
   is_asked zero k e low enough at (Seats c) work = absurd (no_seats (slice_get changes k) c (sym (slice_get-map Limit changes k) ∙ (work_at 0 (map Limit changes) managed k e at ∙ ap Some work)))
   is_asked (suc i) k e low enough at (Seats c) work =
       let lt : i < length lists = omega (arith, low, enough) in
@@ -166,12 +159,14 @@ module _ (grid : Ladders) (past : List Entry) (flights : List Flown) (changes : 
 
   -- ---- all lines that were added
 
-  each_advised : IsGridOf flights grid → (advices : List Advice) → AllByRecursion (λ (a : Advice). IsPlaced grid history a.number) advices
+  each_advised : IsGridOf flights grid → (advices : List Advice)
+      → AllByRecursion (λ (a : Advice). IsPlaced grid history a.number) advices
       → AllByRecursion (λ (a : Advice). IsBooked flights history a.number) advices
   each_advised g [] told = tt
   each_advised g (a ∷ advices) told = (booked g a.number told.0, each_advised g advices told.1)
 
-  book_each : IsGridOf flights grid → (lines : List Entry) → AreAdvised grid history lines → AllByRecursion (λ (e : Entry). AreBooked flights history e.advices) lines
+  book_each : IsGridOf flights grid → (lines : List Entry) → AreAdvised grid history lines
+      → AllByRecursion (λ (e : Entry). AreBooked flights history e.advices) lines
   book_each g [] told = tt
   book_each g (e ∷ es) told = (record { each = all_of (λ (a : Advice). IsBooked flights history a.number) e.advices (each_advised g e.advices told.0) }, book_each g es told.1)
 
@@ -184,9 +179,11 @@ module _ (grid : Ladders) (past : List Entry) (flights : List Flown) (changes : 
       book_each g h.added (added_advised past h.added (subst (λ (l : List Entry). AreAdvised grid history l) h.goes_on (legal_is_advised grid history h.headline.legal)))
 
   -- session by session
-  answerable : IsGridOf flights grid → length scripts ≤ length lists → AreAllAnswerable flights scripts history (by_session (length scripts) h.added)
+  answerable : IsGridOf flights grid → length scripts ≤ length lists
+      → AreAllAnswerable flights scripts history (by_session (length scripts) h.added)
   answerable g enough = record { each = of_lines } where
-    of_lines : (s : ℕ) (lines : List Entry) → slice_get (by_session (length scripts) h.added) s ≡ Some lines → AreAnswerable flights (requests_of scripts s) history lines
+    of_lines : (s : ℕ) (lines : List Entry) → slice_get (by_session (length scripts) h.added) s ≡ Some lines
+        → AreAnswerable flights (requests_of scripts s) history lines
     of_lines s lines there =
         let low : s < suc (length scripts) = omega (arith, slice_get_within (by_session (length scripts) h.added) s lines there, sessions_count (length scripts) h.added) in
         let own : lines ≡ of_session s h.added = sym (get_or_from_slice_get (by_session (length scripts) h.added) s lines [] there) ∙ lines_at (length scripts) s h.added low in
@@ -199,7 +196,9 @@ module _ (grid : Ladders) (past : List Entry) (flights : List Flown) (changes : 
         })
 
   -- what the receipts of the scripts' sessions have behind the past
-  receipts_behind : length scripts ≤ 8 → behind (past_of past).calls (take (length scripts + 1) (by_session (length lists) history)) ≡ by_session (length scripts) h.added
+  receipts_behind : length scripts ≤ 8
+      → behind (past_of past).calls (take (length scripts + 1) (by_session (length lists) history))
+      ≡ by_session (length scripts) h.added
   receipts_behind few =
       let enough : length scripts ≤ length lists = omega (arith, over_count past (map (commands_of flights) scripts), length-map scripts (commands_of flights)) in
       let up : length scripts + 1 ≡ suc (length scripts) = omega arith in
@@ -209,12 +208,14 @@ module _ (grid : Ladders) (past : List Entry) (flights : List Flown) (changes : 
 
   -- so these can be answered, and their answers are the replies
   behind_answerable : IsGridOf flights grid → length scripts ≤ 8
-      → AreAllAnswerable flights scripts history (behind (past_of past).calls (take (length scripts + 1) (by_session (length lists) history)))
+      → AreAllAnswerable flights scripts history
+      (behind (past_of past).calls (take (length scripts + 1) (by_session (length lists) history)))
   behind_answerable g few =
       let enough : length scripts ≤ length lists = omega (arith, over_count past (map (commands_of flights) scripts), length-map scripts (commands_of flights)) in
       subst (λ (rows : List (List Entry)). AreAllAnswerable flights scripts history rows) (sym (receipts_behind few)) (answerable g enough)
 
-  pub as_replies : (text : List ℕ) → IsReplied flights past scripts history told text → AreReplies flights past scripts h.added text
+  pub as_replies : (text : List ℕ) → IsReplied flights past scripts history told text
+      → AreReplies flights past scripts h.added text
   as_replies text r =
       let lines = subst (λ (rows : List (List Entry)). IsText (AreSessions flights scripts history) 0 (behind (past_of past).calls (take (length scripts + 1) rows)) text) h.headline.own r.are_answers in
       let rows = subst (λ (rows : List (List Entry)). IsText (AreSessions flights scripts history) 0 rows text) (receipts_behind r.few) lines in
@@ -238,7 +239,9 @@ module _ (grid : Ladders) (past : List Entry) (flights : List Flown) (changes : 
       let enough : length scripts ≤ length opened_lists = omega (arith, over_count past (map (commands_of flights) scripts), length-map scripts (commands_of flights)) in
       sym (length-take-le (length scripts + 1) receipts (omega (arith, rows, enough)))
 
-  pub lines_answerable : (told : List (List Entry)) → IsGridOf flights grid → IsHistoryOf grid past changes lists history told → AreAllAnswerable flights scripts slice (behind before.calls (take (length scripts + 1) receipts))
+  pub lines_answerable : (told : List (List Entry)) → IsGridOf flights grid
+      → IsHistoryOf grid past changes lists history told
+      → AreAllAnswerable flights scripts slice (behind before.calls (take (length scripts + 1) receipts))
   lines_answerable told g h =
       let on = subst (λ (l : List (List Command)). IsHistoryOf grid past changes l history told) asked h in
       subst (λ (b : Past). AreAllAnswerable flights scripts slice (behind b.calls (take (length scripts + 1) receipts))) (sym known)
@@ -247,7 +250,8 @@ module _ (grid : Ladders) (past : List Entry) (flights : List Flown) (changes : 
       (behind_answerable grid past flights changes scripts history told on g few)))
 
   pub lines_replied : (told : List (List Entry)) (text : List ℕ) → receipts ≡ told
-      → IsText (AreSessions flights scripts slice) 0 (behind before.calls (take (length scripts + 1) receipts)) text → IsReplied flights past scripts history told text
+      → IsText (AreSessions flights scripts slice) 0 (behind before.calls (take (length scripts + 1) receipts)) text
+      → IsReplied flights past scripts history told text
   lines_replied told text given said = record {
     few = few;
     are_answers = subst (λ (rows : List (List Entry)). IsText (AreSessions flights scripts history) 0 (behind (past_of past).calls (take (length scripts + 1) rows)) text) given

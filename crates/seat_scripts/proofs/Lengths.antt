@@ -1,24 +1,18 @@
 -- How long the text of a history may be.
 use Rattle.std.proofs.Common.{◌≡◌, ℕ, ◌+◌, ◌*◌, ◌^◌, ◌<◌, ◌≤◌, Bool, true, false, nat_le, List, [], ◌∷◌, ◌++◌, length, refl, sym, ap, ◌∙◌, arith, length-append, Option, Some, None, IfSome, decimal, codes}
-use Rattle.std.specs.List.{AllByRecursion, flat_map}
+use Rattle.seat_scripts.proofs.Common.{AllByRecursion, Place, Ladders, Advice, Change, Command, Entry, Work, Seats, IsLegal, IsNext, most_journal_bytes}
+use Rattle.std.specs.List.{flat_map}
 use Rattle.std.proofs.lemmas.Fmt.{length-decimal-le}
 use Rattle.airline_base.proofs.LeadingFields.{length_code, length_locator}
-use Rattle.airline_base.specs.declared.place.Place.{Place}
-use Rattle.seat_nesting.specs.Nesting.{Ladders}
 use Rattle.seat_journal.specs.Text.{IsAdvice, IsChange, IsCommand, IsEntry, IsPlace, IsStem, IsWork, advice_text, blank, change_text, colon, dot, newline, command_text, end_text, entry_text, head_text, journal_text, place_text, stem_text, wanted_text, work_text}
-use Rattle.seat_journal.specs.declared.entry.Advice.{Advice}
-use Rattle.seat_journal.specs.declared.entry.Change.{Change}
-use Rattle.seat_journal.specs.declared.entry.Command.{Command}
-use Rattle.seat_journal.specs.declared.entry.Entry.{Entry}
-use Rattle.seat_journal.specs.declared.entry.Work.{Work}
-use Rattle.seat_journal.specs.declared.entry.Work.TheVariants.{Seats, Limit}
+use Rattle.seat_journal.specs.declared.entry.Work.TheVariants.{Limit}
 use Rattle.seat_rules.specs.declared.booking.Booking.{Booking}
 use Rattle.seat_rules.specs.declared.booking.Status.{Status}
 use Rattle.seat_rules.specs.declared.booking.Status.TheVariants.{Held, Waiting}
 use Rattle.seat_rules.specs.Bookings.{is_for, is_waiting}
 use Rattle.seat_rules.specs.Sequential.{State, Outcome, answer, pass, may_confirm, confirmed, advice_of, reduced, booking_of, changed_by}
-use Rattle.seat_rules.specs.Journal.{replay, IsLegal, IsNext}
-use Rattle.seat_desk.specs.AuditDesk.{most_journal_bytes, most_lines}
+use Rattle.seat_rules.specs.Journal.{replay}
+use Rattle.seat_desk.specs.AuditDesk.{most_lines}
 use Rattle.seat_rules.proofs.History.Lines.{replay_next}
 use Rattle.seat_rules.proofs.History.Legal.{each_legal}
 use Rattle.seat_rules.proofs.Step.Outcomes.{each_outcome}
@@ -44,7 +38,8 @@ waiting_one Waiting e = refl
 
 -- what a pass tells, it takes from those that wait
 pass_waits : (grid : Ladders) (done : List Booking) (told : List Advice) (bs : List Booking)
-    → waits (pass grid done told bs).bookings + length (pass grid done told bs).advices ≡ waits done + length told + waits bs
+    → waits (pass grid done told bs).bookings + length (pass grid done told bs).advices ≡ waits done + length told
+    + waits bs
 pass_waits grid done told [] = omega arith
 pass_waits grid done told (b ∷ bs) =
     cases (may_confirm grid (done ++ b ∷ bs) b) refl (pass_waits grid (done ++ confirmed b ∷ []) (told ++ advice_of b ∷ []) bs) (pass_waits grid (done ++ b ∷ []) told bs) where
@@ -61,16 +56,21 @@ pass_waits grid done told (b ∷ bs) =
         by false is = absurd cc
 
       cases : (t : Bool) → may_confirm grid (done ++ b ∷ bs) b ≡ t
-          → waits (pass grid (done ++ confirmed b ∷ []) (told ++ advice_of b ∷ []) bs).bookings + length (pass grid (done ++ confirmed b ∷ []) (told ++ advice_of b ∷ []) bs).advices ≡ waits (done ++ confirmed b ∷ []) + length (told ++ advice_of b ∷ []) + waits bs
-          → waits (pass grid (done ++ b ∷ []) told bs).bookings + length (pass grid (done ++ b ∷ []) told bs).advices ≡ waits (done ++ b ∷ []) + length told + waits bs
-          → waits (pass grid done told (b ∷ bs)).bookings + length (pass grid done told (b ∷ bs)).advices ≡ waits done + length told + waits (b ∷ bs)
+          → waits (pass grid (done ++ confirmed b ∷ []) (told ++ advice_of b ∷ []) bs).bookings
+          + length (pass grid (done ++ confirmed b ∷ []) (told ++ advice_of b ∷ []) bs).advices
+          ≡ waits (done ++ confirmed b ∷ []) + length (told ++ advice_of b ∷ []) + waits bs
+          → waits (pass grid (done ++ b ∷ []) told bs).bookings + length (pass grid (done ++ b ∷ []) told bs).advices
+          ≡ waits (done ++ b ∷ []) + length told + waits bs
+          → waits (pass grid done told (b ∷ bs)).bookings + length (pass grid done told (b ∷ bs)).advices ≡ waits done
+          + length told + waits (b ∷ bs)
       cases true e one other = rw e (omega (arith, one, held_now, waited e, length-append told (advice_of b ∷ [])))
       cases false e one other = rw e (omega (arith, other, still))
 
 reduced_waits : (test : Booking → Bool) (n : ℕ) (bs : List Booking) → waits (reduced test n bs) ≤ waits bs
 reduced_waits test n [] = omega arith
 reduced_waits test n (b ∷ bs) = cases (test b) (nat_le b.seats n) refl refl (reduced_waits test n bs) where
-  cases : (t u : Bool) → test b ≡ t → nat_le b.seats n ≡ u → waits (reduced test n bs) ≤ waits bs → waits (reduced test n (b ∷ bs)) ≤ waits (b ∷ bs)
+  cases : (t u : Bool) → test b ≡ t → nat_le b.seats n ≡ u → waits (reduced test n bs) ≤ waits bs
+      → waits (reduced test n (b ∷ bs)) ≤ waits (b ∷ bs)
   cases true true e g rest = rw (e, g) (omega arith)
   cases true false e g rest = rw (e, g) (omega arith)
   cases false u e g rest = rw e (omega (arith, rest))
@@ -102,7 +102,8 @@ advices_append (x ∷ xs) ys = omega (arith, advices_append xs ys)
 record IsFew (grid : Ladders) (history : List Entry) : Type 0 where
   few : waits (replay grid history).bookings + advices_in history ≤ length history
 
-few_next : (grid : Ladders) (past : List Entry) (e : Entry) → IsLegal grid past → IsNext grid past e → IsFew grid past → IsFew grid (past ++ e ∷ [])
+few_next : (grid : Ladders) (past : List Entry) (e : Entry) → IsLegal grid past → IsNext grid past e → IsFew grid past
+    → IsFew grid (past ++ e ∷ [])
 few_next grid past e legal next before =
     let o : Outcome = answer (replay grid past) e.number e.work in
     let number : e.number ≡ length past + 1 = ap (λ (x : Entry). x.number) next.line in
@@ -212,7 +213,8 @@ stem_short e is =
       five e.released is.released,
     )
 
-advices_short : (advices : List Advice) → AllByRecursion IsAdvice advices → length (flat_map advice_text advices) ≤ 41 * length advices
+advices_short : (advices : List Advice) → AllByRecursion IsAdvice advices
+    → length (flat_map advice_text advices) ≤ 41 * length advices
 advices_short [] is = omega arith
 advices_short (a ∷ advices) is = omega (arith, length-append (advice_text a) (flat_map advice_text advices), advice_short a is.0, advices_short advices is.1)
 
@@ -227,7 +229,8 @@ entry_short e is =
       advices_short e.advices is.advices,
     )
 
-entries_short : (es : List Entry) → AllByRecursion IsEntry es → length (flat_map entry_text es) ≤ 72 * length es + 41 * advices_in es
+entries_short : (es : List Entry) → AllByRecursion IsEntry es
+    → length (flat_map entry_text es) ≤ 72 * length es + 41 * advices_in es
 entries_short [] is = omega arith
 entries_short (e ∷ es) is = omega (arith, length-append (entry_text e) (flat_map entry_text es), entry_short e is.0, entries_short es is.1)
 
@@ -236,7 +239,8 @@ unfolding end_text
 end_short count lt = omega (arith, length-append (codes "END ") (decimal count ++ newline ∷ []), length-append (decimal count) (newline ∷ []), ten count lt)
 
 -- the text of a legal history of so many lines is not too large
-pub text_short : (grid : Ladders) (history : List Entry) → IsLegal grid history → AllByRecursion IsEntry history → length history ≤ most_lines → length (journal_text history) ≤ most_journal_bytes
+pub text_short : (grid : Ladders) (history : List Entry) → IsLegal grid history → AllByRecursion IsEntry history
+    → length history ≤ most_lines → length (journal_text history) ≤ most_journal_bytes
 unfolding journal_text
 text_short grid history legal are few =
     let count : length history < 2 ^ 32 = omega (arith, few) in

@@ -1,3 +1,4 @@
+pub mod Common
 pub mod Advised
 mod Comparing
 pub mod Rows

@@ -1,7 +1,7 @@
 -- Lists by place: what holds of each, and rows that are made one by one.
 use Rattle.std.proofs.Common.{◌≡◌, ◌⊎◌, ⊎_elim, ℕ, zero, suc, ◌<◌, Bool, true, false, List, [], ◌∷◌, ◌++◌, length, refl, ap, ◌∙◌, subst, arith, get_or, Some, length-append, inl, inr}
-use Rattle.std.specs.Prelude.{slice_get, All, filter}
-use Rattle.std.specs.List.{AllByRecursion}
+use Rattle.seat_scripts.proofs.Common.{slice_get, AllByRecursion}
+use Rattle.std.specs.Prelude.{All, filter}
 use Rattle.std.proofs.Math.ListN.{get_or-append}
 use Rattle.std.proofs.Math.Seq.{get_or-append_seam}
 
@@ -11,14 +11,16 @@ module _ {A : Type 0} where
   all_of P (x ∷ xs) all zero d lt = all.0
   all_of P (x ∷ xs) all (suc k) d lt = all_of P xs all.1 k d (omega (arith, lt))
 
-  pub all_kept : (P : A → Type 0) (test : A → Bool) (xs : List A) → AllByRecursion P xs → AllByRecursion P (filter test xs)
+  pub all_kept : (P : A → Type 0) (test : A → Bool) (xs : List A) → AllByRecursion P xs
+      → AllByRecursion P (filter test xs)
   all_kept P test [] all = tt
   all_kept P test (x ∷ xs) all = cases (test x) refl (all_kept P test xs all.1) where
     cases : (t : Bool) → test x ≡ t → AllByRecursion P (filter test xs) → AllByRecursion P (filter test (x ∷ xs))
     cases true e rest = rw e (all.0, rest)
     cases false e rest = rw e rest
 
-  pub all_append : (P : A → Type 0) (xs ys : List A) → AllByRecursion P xs → AllByRecursion P ys → AllByRecursion P (xs ++ ys)
+  pub all_append : (P : A → Type 0) (xs ys : List A) → AllByRecursion P xs → AllByRecursion P ys
+      → AllByRecursion P (xs ++ ys)
   all_append P [] ys one two = two
   all_append P (x ∷ xs) ys one two = (one.0, all_append P xs ys one.1 two)
 

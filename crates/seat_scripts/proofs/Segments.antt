@@ -1,19 +1,13 @@
 -- A place that serves a request is on a flight of the request's name, from its board point to its off point.
 use Rattle.std.proofs.Common.{◌≡◌, ℕ, zero, suc, ◌+◌, ◌==◌, ◌&&◌, Bool, true, false, nat_eq, List, [], ◌∷◌, ◌++◌, refl, sym, ap, ◌∙◌, subst, arith, Option, Some, None}
-use Rattle.std.specs.Prelude.{slice_get}
+use Rattle.seat_scripts.proofs.Common.{slice_get, AllByRecursion, option_map, Request, Segment, Place, place_wanted, DatedLeg, Command}
 use Rattle.std.specs.Cmp.Lexicographic.{pointwise, same_text}
-use Rattle.std.specs.List.{AllByRecursion}
 use Rattle.std.specs.Map.{lookup}
-use Rattle.std.specs.Option.{option_eq, option_map}
+use Rattle.std.specs.Option.{option_eq}
 use Rattle.std.proofs.lemmas.Bool.Decides.{nat_tests}
-use Rattle.airimp_lines.specs.declared.requests.Request.{Request}
-use Rattle.airimp_lines.specs.declared.segment.Segment.{Segment}
-use Rattle.airline_base.specs.declared.place.Place.{Place}
-use Rattle.ssim_flights.specs.Places.{ends_from, place, place_wanted, places, places_from, same_wanted, wish}
-use Rattle.ssim_flights.specs.declared.flight.DatedLeg.{DatedLeg}
+use Rattle.ssim_flights.specs.Places.{ends_from, place, places, places_from, same_wanted, wish}
 use Rattle.ssim_flights.specs.declared.flight.Flight.{Flight as Flown}
 use Rattle.ssim_flights.specs.declared.flight.Wanted.{Wanted}
-use Rattle.seat_journal.specs.declared.entry.Command.{Command}
 use Rattle.seat_scripts.specs.Going.{segment_at, segment_between, segment_from, segment_of, segment_on}
 use Rattle.seat_scripts.specs.Requests.{command_of, wanted_of}
 use Rattle.seat_scripts.specs.RunDesk.{of_command, of_request}
@@ -21,19 +15,13 @@ use Rattle.seat_scripts.specs.Segments.{RequestsAreFlown}
 use Rattle.seat_scripts.specs.declared.replies.Answered.{Answered}
 use Rattle.seat_scripts.proofs.Rows.{all_append}
 use Rattle.airline_base.proofs.Tests.{both_true}
+use Rattle.seat_limits.proofs.RowIndexing.{same_letter}
+use Rattle.seat_rules.proofs.History.Faults.{nat_same}
 
 -- ---- what is found serves what is wanted
 
-nat_same : (m n : ℕ) → (m == n) ≡ true → m ≡ n
-nat_same m n e = grind (arith, nat_tests)
-
-suffix_same : (a b : Option ℕ) → option_eq nat_eq a b ≡ true → a ≡ b
-suffix_same None None e = refl
-suffix_same None (Some q) e = absurd cc
-suffix_same (Some p) None e = absurd cc
-suffix_same (Some p) (Some q) e = ap Some (nat_same p q e)
-
-wanted_is : (a b : Wanted) → a.airline ≡ b.airline → a.number ≡ b.number → a.suffix ≡ b.suffix → a.day ≡ b.day → a.board ≡ b.board → a.off ≡ b.off → a ≡ b
+wanted_is : (a b : Wanted) → a.airline ≡ b.airline → a.number ≡ b.number → a.suffix ≡ b.suffix → a.day ≡ b.day
+    → a.board ≡ b.board → a.off ≡ b.off → a ≡ b
 wanted_is a b e f g h k l = λ i. record { airline = e i; number = f i; suffix = g i; day = h i; board = k i; off = l i }
 
 wanted_same : (a b : Wanted) → same_wanted a b ≡ true → a ≡ b
@@ -43,7 +31,7 @@ wanted_same a b e =
     let three = both_true (option_eq nat_eq a.suffix b.suffix) ((a.day == b.day) && (pointwise nat_eq a.board b.board && pointwise nat_eq a.off b.off)) two.1 in
     let four = both_true (a.day == b.day) (pointwise nat_eq a.board b.board && pointwise nat_eq a.off b.off) three.1 in
     let five = both_true (pointwise nat_eq a.board b.board) (pointwise nat_eq a.off b.off) four.1 in
-    wanted_is a b (same_text a.airline b.airline (sym one.0)) (nat_same a.number b.number two.0) (suffix_same a.suffix b.suffix three.0) (nat_same a.day b.day four.0)
+    wanted_is a b (same_text a.airline b.airline (sym one.0)) (nat_same a.number b.number two.0) (same_letter a.suffix b.suffix three.0) (nat_same a.day b.day four.0)
     (same_text a.board b.board (sym five.0)) (same_text a.off b.off (sym five.1))
 
 -- the place is of a flight, and this is what is wanted by who flies on it
@@ -67,17 +55,20 @@ module _ (flights : List Flown) (n : ℕ) (flight : Flown) (at : slice_get fligh
   next_behind : (i : ℕ) (leg : DatedLeg) (legs : List DatedLeg) → AreBehind i (leg ∷ legs) → AreBehind (i + 1) legs
   next_behind i leg legs are = record { each = λ k x there. let e : i + suc k ≡ i + 1 + k = omega arith in subst (λ (j : ℕ). slice_get flight.legs j ≡ Some x) e (are.each (suc k) x there) }
 
-  here_behind : (i : ℕ) (leg : DatedLeg) (legs : List DatedLeg) → AreBehind i (leg ∷ legs) → slice_get flight.legs i ≡ Some leg
+  here_behind : (i : ℕ) (leg : DatedLeg) (legs : List DatedLeg) → AreBehind i (leg ∷ legs)
+      → slice_get flight.legs i ≡ Some leg
   here_behind i leg legs are = let e : i + 0 ≡ i = omega arith in subst (λ (j : ℕ). slice_get flight.legs j ≡ Some leg) e (are.each 0 leg refl)
 
-  ends_serve : (from : ℕ) (first : DatedLeg) (to : ℕ) (legs : List DatedLeg) → slice_get flight.legs from ≡ Some first → AreBehind to legs → AllByRecursion (Serving flights) (ends_from flight n from first to legs)
+  ends_serve : (from : ℕ) (first : DatedLeg) (to : ℕ) (legs : List DatedLeg) → slice_get flight.legs from ≡ Some first
+      → AreBehind to legs → AllByRecursion (Serving flights) (ends_from flight n from first to legs)
   ends_serve from first to [] start are = tt
   ends_serve from first to (leg ∷ legs) start are = (
     record { flight = flight; at = at; first = first; from = start; last = leg; to = here_behind to leg legs are; wanted = refl },
     ends_serve from first (to + 1) legs start (next_behind to leg legs are),
   )
 
-  from_serve : (from : ℕ) (legs : List DatedLeg) → AreBehind from legs → AllByRecursion (Serving flights) (places_from flight n from legs)
+  from_serve : (from : ℕ) (legs : List DatedLeg) → AreBehind from legs
+      → AllByRecursion (Serving flights) (places_from flight n from legs)
   from_serve from [] are = tt
   from_serve from (leg ∷ legs) are =
       all_append (Serving flights) (ends_from flight n from leg from (leg ∷ legs)) (places_from flight n (from + 1) legs)
@@ -86,7 +77,9 @@ module _ (flights : List Flown) (n : ℕ) (flight : Flown) (at : slice_get fligh
   own_legs : AreBehind 0 flight.legs
   own_legs = record { each = λ k leg there. let e : k ≡ 0 + k = omega arith in subst (λ (j : ℕ). slice_get flight.legs j ≡ Some leg) e there }
 
-all_serve : (flights : List Flown) (n : ℕ) (rest : List Flown) → ((i : ℕ) (flight : Flown) → slice_get rest i ≡ Some flight → slice_get flights (n + i) ≡ Some flight) → AllByRecursion (Serving flights) (places n rest)
+all_serve : (flights : List Flown) (n : ℕ) (rest : List Flown)
+    → ((i : ℕ) (flight : Flown) → slice_get rest i ≡ Some flight → slice_get flights (n + i) ≡ Some flight)
+    → AllByRecursion (Serving flights) (places n rest)
 all_serve flights n [] h = tt
 all_serve flights n (flight ∷ rest) h =
     let here : n + 0 ≡ n = omega arith in
@@ -100,7 +93,8 @@ record IsFound (flights : List Flown) (test : Wanted → Bool) (p : Place) : Typ
   told : test w ≡ true
   serves : IsServing flights w p
 
-find_serves : (flights : List Flown) (test : Wanted → Bool) (entries : List (Wanted × Place)) (p : Place) → AllByRecursion (Serving flights) entries → lookup test entries ≡ Some p → IsFound flights test p
+find_serves : (flights : List Flown) (test : Wanted → Bool) (entries : List (Wanted × Place)) (p : Place)
+    → AllByRecursion (Serving flights) entries → lookup test entries ≡ Some p → IsFound flights test p
 find_serves flights test [] p all is = absurd cc
 find_serves flights test (e ∷ entries) p all is = cases (test e.0) refl (find_serves flights test entries p all.1) where
   cases : (t : Bool) → test e.0 ≡ t → (lookup test entries ≡ Some p → IsFound flights test p) → IsFound flights test p
@@ -110,7 +104,8 @@ find_serves flights test (e ∷ entries) p all is = cases (test e.0) refl (find_
       record { w = e.0; told = told; serves = subst (λ (q : Place). IsServing flights e.0 q) same all.0 }
   cases false told later = later (rw told at is)
 
-found : (flights : List Flown) (wanted : Wanted) (p : Place) → place_wanted flights wanted ≡ Some p → IsServing flights wanted p
+found : (flights : List Flown) (wanted : Wanted) (p : Place) → place_wanted flights wanted ≡ Some p
+    → IsServing flights wanted p
 unfolding place_wanted
 found flights wanted p is =
     let f = find_serves flights (λ w. same_wanted w wanted) (places 0 flights) p
@@ -119,7 +114,8 @@ found flights wanted p is =
 
 -- ---- so its segment is that of the request
 
-segment_is : (flights : List Flown) (r : Request) (c : Command) (p : Place) → c ≡ command_of flights r → IsServing flights (wanted_of r.segment) p → (first last : DatedLeg) (flight : Flown)
+segment_is : (flights : List Flown) (r : Request) (c : Command) (p : Place) → c ≡ command_of flights r
+    → IsServing flights (wanted_of r.segment) p → (first last : DatedLeg) (flight : Flown)
     → wanted_of r.segment ≡ wish flight first last → segment_from c flight first last ≡ r.segment
 segment_is flights r c p is serves first last flight same = λ i. record {
   airline = ap (λ (w : Wanted). w.airline) (sym same) i;

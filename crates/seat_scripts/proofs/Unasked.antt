@@ -1,33 +1,27 @@
 -- What is refused as unasked has no line of an audit.
 use Rattle.std.proofs.Common.{◌≡◌, ⊎_elim, ◌-◌, ◌<◌, ℕ, zero, suc, List, [], ◌∷◌, ◌++◌, length, map, refl, sym, ap, ◌∙◌, subst, arith, Some}
-use Rattle.std.specs.Prelude.{slice_get}
+use Rattle.seat_scripts.proofs.Common.{slice_get, Request, Ladders, Command, Entry, Work, DeskFault, Unasked, AreAskedBehind, IsUnasked, done_by, AreScripts, commands_of}
 use Rattle.std.proofs.lemmas.List.{append_cancel_left}
 use Rattle.ssim_records.specs.declared.set.DataSet.{DataSet}
 use Rattle.ssim_records.proofs.SetLaws.{one_data_set}
-use Rattle.airimp_lines.specs.declared.requests.Request.{Request}
 use Rattle.airimp_lines.proofs.Uniqueness.{one_script}
 use Rattle.ssim_flights.specs.declared.flight.Flight.{Flight as Flown}
-use Rattle.seat_nesting.specs.Nesting.{Ladders}
-use Rattle.seat_journal.specs.declared.entry.Command.{Command}
-use Rattle.seat_journal.specs.declared.entry.Entry.{Entry}
-use Rattle.seat_journal.specs.declared.entry.Work.{Work}
 use Rattle.seat_journal.proofs.TextLaws.{one_text}
 use Rattle.seat_rules.specs.Prefixes.{Begins}
 use Rattle.seat_desk.specs.CheckDesk.{most_records}
 use Rattle.seat_desk.specs.FlightsDesk.{set_flights}
 use Rattle.seat_desk.specs.Loading.{IsLoadedGrid}
-use Rattle.seat_desk.specs.declared.fault.DeskFault.{DeskFault}
-use Rattle.seat_desk.specs.declared.fault.DeskFault.TheVariants.{Unasked}
-use Rattle.seat_scripts.specs.Against.{AreAsked, AreAskedBehind, AuditsBehindNoLines, DifferAt, IsNoBeginning, IsUnasked, IsUnaskedBehind, UnaskedIsNotAudited, done_by}
-use Rattle.seat_scripts.specs.Requests.{AreScripts, commands_of}
+use Rattle.seat_scripts.specs.Against.{AreAsked, AuditsBehindNoLines, DifferAt, IsNoBeginning, IsUnaskedBehind, UnaskedIsNotAudited}
 
 one_schedule : (set limits : List ℕ) (first days : ℕ) (flights flights' : List Flown) (grid grid' : Ladders)
-    → IsLoadedGrid set limits first days flights grid → IsLoadedGrid set limits first days flights' grid' → flights ≡ flights'
+    → IsLoadedGrid set limits first days flights grid → IsLoadedGrid set limits first days flights' grid'
+    → flights ≡ flights'
 one_schedule set limits first days flights flights' grid grid' a b =
     let sets : a.is_schedule.set ≡ b.is_schedule.set = one_data_set most_records most_records set a.is_schedule.set b.is_schedule.set a.is_schedule.is_set b.is_schedule.is_set in
     a.is_schedule.are_flights ∙ (ap (λ (s : DataSet). set_flights s first days) sets ∙ sym b.is_schedule.are_flights)
 
-same_scripts : (today : ℕ) (texts : List (List ℕ)) (a b : List (List Request)) → AreScripts today (map Some texts) a → AreScripts today (map Some texts) b → a ≡ b
+same_scripts : (today : ℕ) (texts : List (List ℕ)) (a b : List (List Request)) → AreScripts today (map Some texts) a
+    → AreScripts today (map Some texts) b → a ≡ b
 same_scripts today [] [] [] h k = refl
 same_scripts today [] [] (y ∷ b) h k = absurd k
 same_scripts today [] (x ∷ a) b h k = absurd h
@@ -45,16 +39,19 @@ same_there [] ys i lt = absurd (omega (arith, lt))
 same_there (x ∷ xs) ys zero lt = refl
 same_there (x ∷ xs) ys (suc i) lt = same_there xs ys i (omega (arith, lt))
 
-begins_not : (older journal : List Entry) (session call : ℕ) → IsNoBeginning older journal session call → Begins older journal → ⊥
+begins_not : (older journal : List Entry) (session call : ℕ) → IsNoBeginning older journal session call
+    → Begins older journal → ⊥
 begins_not older journal session call parts begins =
     parts.part.there (ap (λ (l : List Entry). slice_get l parts.place) begins.is ∙ same_there older begins.rest parts.place parts.part.within)
 
-behind_not : (lists : List (List Command)) (older journal : List Entry) (session call : ℕ) → IsUnaskedBehind lists older journal session call → AreAskedBehind lists older journal → ⊥
+behind_not : (lists : List (List Command)) (older journal : List Entry) (session call : ℕ)
+    → IsUnaskedBehind lists older journal session call → AreAskedBehind lists older journal → ⊥
 behind_not lists older journal session call unasked asked =
     let same : unasked.goes_on.rest ≡ asked.goes_on.rest = append_cancel_left older unasked.goes_on.rest asked.goes_on.rest (sym unasked.goes_on.is ∙ asked.goes_on.is) in
     differs unasked.place _ _ unasked.first.differ (ap (done_by session) same ∙ asked.are_asked.each session unasked.first.from_one)
 
-not_asked : (lists : List (List Command)) (older journal : List Entry) (fault : DeskFault) → IsUnasked lists older journal fault → AreAskedBehind lists older journal → ⊥
+not_asked : (lists : List (List Command)) (older journal : List Entry) (fault : DeskFault)
+    → IsUnasked lists older journal fault → AreAskedBehind lists older journal → ⊥
 not_asked lists older journal (Unasked session call) unasked asked =
     ⊎_elim
     (λ (parts : IsNoBeginning older journal session call). begins_not older journal session call parts asked.goes_on)

@@ -96,16 +96,20 @@ pub record IsUnaskedBehind (lists : List (List Command)) (older journal : List E
 
 -- the fault names that session and that call
 abbrev pub IsUnasked : List (List Command) → List Entry → List Entry → DeskFault → Type 0
-IsUnasked lists older journal (Unasked session call) = IsNoBeginning older journal session call ⊎ IsUnaskedBehind lists older journal session call
+IsUnasked lists older journal (Unasked session call) =
+    IsNoBeginning older journal session call ⊎ IsUnaskedBehind lists older journal session call
 IsUnasked lists older journal _ = ⊥
 
 -- a test of two commands, field by field
 abbrev pub same_command : Command → Command → Bool
-same_command a b = pointwise nat_eq a.locator b.locator && option_eq same_place a.place b.place && (a.class == b.class) && pointwise nat_eq a.code b.code && (a.seats == b.seats)
+same_command a b =
+    pointwise nat_eq a.locator b.locator && option_eq same_place a.place b.place && (a.class == b.class)
+    && pointwise nat_eq a.code b.code && (a.seats == b.seats)
 
 -- and of two changes
 abbrev pub same_change : Change → Change → Bool
-same_change a b = (a.flight == b.flight) && (a.leg == b.leg) && (a.class == b.class) && (a.limit == b.limit) && (a.wait == b.wait)
+same_change a b =
+    (a.flight == b.flight) && (a.leg == b.leg) && (a.class == b.class) && (a.limit == b.limit) && (a.wait == b.wait)
 
 -- ---- the whole
 
@@ -115,7 +119,8 @@ pub record IsReplayWithin (grid : Ladders) (core : Inventory) (bytes : List ℕ)
   pub is_replay : IsReplayOf grid bytes core
 
 -- the line audits the journal over the loaded grid; the journal goes on from the older one, and behind its lines those of each session are the requests of its script, in order, each on the place that is wanted
-pub record IsAuditAgainst (set limits : List ℕ) (first days : ℕ) (after journal : List ℕ) (today : ℕ) (texts : List (Option (List ℕ))) (line : List ℕ) : Type 0 where
+pub record IsAuditAgainst (set limits : List ℕ) (first days : ℕ) (after journal : List ℕ) (today : ℕ)
+    (texts : List (Option (List ℕ))) (line : List ℕ) : Type 0 where
   pub flights : List Flown
   pub grid : Ladders
   pub is_loaded : IsLoaded set limits first days flights grid
@@ -128,11 +133,14 @@ pub record IsAuditAgainst (set limits : List ℕ) (first days : ℕ) (after jour
   pub are_asked : AreAskedBehind (map (commands_of flights) scripts) older.journal is_audited.entries
 
 -- where the bytes of the set, of the limits and of both journals are known
-abbrev pub OfFour : Option (List ℕ) → Option (List ℕ) → Option (List ℕ) → Option (List ℕ) → (List ℕ → List ℕ → List ℕ → List ℕ → Type 0) → Type 0
-OfFour set limits after journal P = IfSome set (λ xs. IfSome limits (λ ys. IfSome after (λ older. IfSome journal (λ zs. P xs ys older zs))))
+abbrev pub OfFour : Option (List ℕ) → Option (List ℕ) → Option (List ℕ) → Option (List ℕ)
+    → (List ℕ → List ℕ → List ℕ → List ℕ → Type 0) → Type 0
+OfFour set limits after journal P =
+    IfSome set (λ xs. IfSome limits (λ ys. IfSome after (λ older. IfSome journal (λ zs. P xs ys older zs))))
 
 -- the inputs are right: these are the flights of the set, what the two journals come to over one grid, and the requests of the scripts
-pub record AreRead (set limits : List ℕ) (first days : ℕ) (after journal : List ℕ) (today : ℕ) (texts : List (Option (List ℕ)))
+pub record AreRead (set limits : List ℕ) (first days : ℕ) (after journal : List ℕ) (today : ℕ)
+    (texts : List (Option (List ℕ)))
     (flights : List Flown) (older core : Inventory) (scripts : List (List Request)) : Type 0 where
   pub grid : Ladders
   pub is_loaded : IsLoaded set limits first days flights grid
@@ -140,26 +148,31 @@ pub record AreRead (set limits : List ℕ) (first days : ℕ) (after journal : L
   pub is_replay : IsReplayWithin grid core journal
   pub are_scripts : AreScripts today texts scripts
 
-abbrev pub AreReadOf : {S L : Type 0} → Bytes S → Bytes L → Inputs S L → Option (List ℕ) → Option (List ℕ) → ℕ → List (Option (List ℕ)) → List Flown → Inventory → Inventory → List (List Request) → Type 0
+abbrev pub AreReadOf : {S L : Type 0} → Bytes S → Bytes L → Inputs S L → Option (List ℕ) → Option (List ℕ) → ℕ
+    → List (Option (List ℕ)) → List Flown → Inventory → Inventory → List (List Request) → Type 0
 AreReadOf set limits inputs after journal today texts flights older core scripts =
     OfFour (set inputs.set) (limits inputs.limits) after journal
     (λ xs ys before zs. AreRead xs ys inputs.first inputs.days before zs today texts flights older core scripts)
 
-abbrev pub IsAuditAgainstOf : {S L : Type 0} → Bytes S → Bytes L → Inputs S L → Option (List ℕ) → Option (List ℕ) → ℕ → List (Option (List ℕ)) → List ℕ → Type 0
+abbrev pub IsAuditAgainstOf : {S L : Type 0} → Bytes S → Bytes L → Inputs S L → Option (List ℕ) → Option (List ℕ) → ℕ
+    → List (Option (List ℕ)) → List ℕ → Type 0
 IsAuditAgainstOf set limits inputs after journal today texts line =
-    OfFour (set inputs.set) (limits inputs.limits) after journal (λ xs ys older zs. IsAuditAgainst xs ys inputs.first inputs.days older zs today texts line)
+    OfFour (set inputs.set) (limits inputs.limits) after journal
+    (λ xs ys older zs. IsAuditAgainst xs ys inputs.first inputs.days older zs today texts line)
 
 -- the older journal is right, and the fault is that of the journal
-pub record IsUnlawfulBeside (set limits : List ℕ) (first days : ℕ) (after journal : List ℕ) (fault : DeskFault) : Type 0 where
-  pub flights : List Flown
-  pub grid : Ladders
-  pub is_loaded : IsLoaded set limits first days flights grid
-  pub older : Inventory
-  pub is_older : IsReplayWithin grid older after
-  pub is_unlawful : IsUnlawful grid fault journal
+pub record IsUnlawfulBeside (set limits : List ℕ) (first days : ℕ) (after journal : List ℕ) (fault : DeskFault) : Type 0
+  where
+    pub flights : List Flown
+    pub grid : Ladders
+    pub is_loaded : IsLoaded set limits first days flights grid
+    pub older : Inventory
+    pub is_older : IsReplayWithin grid older after
+    pub is_unlawful : IsUnlawful grid fault journal
 
 -- both journals are right, and the fault is that of the first script that is none
-pub record IsNoScriptBeside (set limits : List ℕ) (first days : ℕ) (after journal : List ℕ) (today : ℕ) (texts : List (Option (List ℕ))) (fault : DeskFault) : Type 0 where
+pub record IsNoScriptBeside (set limits : List ℕ) (first days : ℕ) (after journal : List ℕ) (today : ℕ)
+    (texts : List (Option (List ℕ))) (fault : DeskFault) : Type 0 where
   pub flights : List Flown
   pub grid : Ladders
   pub is_loaded : IsLoaded set limits first days flights grid
@@ -170,7 +183,8 @@ pub record IsNoScriptBeside (set limits : List ℕ) (first days : ℕ) (after jo
   pub is_refused : IsRefusedAmong today 1 texts fault
 
 -- the journals and the scripts are right, but the journal does not begin with the older lines, or the lines behind them are not what the scripts ask for, and the fault names where they differ first
-pub record IsUnaskedBeside (set limits : List ℕ) (first days : ℕ) (after journal : List ℕ) (today : ℕ) (texts : List (Option (List ℕ))) (fault : DeskFault) : Type 0 where
+pub record IsUnaskedBeside (set limits : List ℕ) (first days : ℕ) (after journal : List ℕ) (today : ℕ)
+    (texts : List (Option (List ℕ))) (fault : DeskFault) : Type 0 where
   pub flights : List Flown
   pub grid : Ladders
   pub is_loaded : IsLoaded set limits first days flights grid
@@ -186,14 +200,19 @@ pub record IsUnaskedBeside (set limits : List ℕ) (first days : ℕ) (after jou
 -- one of a call stands where the journals, or the journal and the scripts, differ first. Any other is of the set, of its flights or of the limits
 abbrev pub AgainstRefusal : List ℕ → List ℕ → ℕ → ℕ → List ℕ → List ℕ → ℕ → List (Option (List ℕ)) → DeskFault → Type 0
 AgainstRefusal set limits first days after journal today texts (Journal fault) =
-    IsRefusedOver set limits first days (Journal fault) after ⊎ IsUnlawfulBeside set limits first days after journal (Journal fault)
+    IsRefusedOver set limits first days (Journal fault) after
+    ⊎ IsUnlawfulBeside set limits first days after journal (Journal fault)
 AgainstRefusal set limits first days after journal today texts (Replay fault) =
-    IsRefusedOver set limits first days (Replay fault) after ⊎ IsUnlawfulBeside set limits first days after journal (Replay fault)
-AgainstRefusal set limits first days after journal today texts (Script session fault) = IsNoScriptBeside set limits first days after journal today texts (Script session fault)
-AgainstRefusal set limits first days after journal today texts (Unasked session call) = IsUnaskedBeside set limits first days after journal today texts (Unasked session call)
+    IsRefusedOver set limits first days (Replay fault) after
+    ⊎ IsUnlawfulBeside set limits first days after journal (Replay fault)
+AgainstRefusal set limits first days after journal today texts (Script session fault) =
+    IsNoScriptBeside set limits first days after journal today texts (Script session fault)
+AgainstRefusal set limits first days after journal today texts (Unasked session call) =
+    IsUnaskedBeside set limits first days after journal today texts (Unasked session call)
 AgainstRefusal set limits first days after journal today texts fault = IsRefusedLoad set limits first days fault
 
-pub record IsRefusedAgainst (set limits : List ℕ) (first days : ℕ) (after journal : List ℕ) (today : ℕ) (texts : List (Option (List ℕ))) (fault : DeskFault) : Type 0 where
+pub record IsRefusedAgainst (set limits : List ℕ) (first days : ℕ) (after journal : List ℕ) (today : ℕ)
+    (texts : List (Option (List ℕ))) (fault : DeskFault) : Type 0 where
   pub refusal : AgainstRefusal set limits first days after journal today texts fault
 
 -- as far as the inputs are right: the set, the limits and the older journal
@@ -223,30 +242,44 @@ IsTooLargeAgainst set limits first days after journal today texts =
     ⊎ (HasBoth set limits first days after journal × IsTooLargeAmong today texts)))
 
 -- the set or the limits failed, as the first says, or the older journal behind a right set and limits, or the journal behind a right older one, or a script behind right journals and right scripts
-abbrev pub FailsAgainst : {S L : Type 0} → Bytes S → Bytes L → Inputs S L → Option (List ℕ) → Option (List ℕ) → Type 0 → Type 0 → Type 0 → Type 0 → Type 0
+abbrev pub FailsAgainst : {S L : Type 0} → Bytes S → Bytes L → Inputs S L → Option (List ℕ) → Option (List ℕ) → Type 0
+    → Type 0 → Type 0 → Type 0 → Type 0
 FailsAgainst set limits inputs after journal load_failed older_failed journal_failed script_failed =
     load_failed
-    ⊎ ((IfSome (set inputs.set) (λ xs. IfSome (limits inputs.limits) (λ ys. HasLoaded xs ys inputs.first inputs.days)) × older_failed)
-    ⊎ ((OfThree (set inputs.set) (limits inputs.limits) after (λ xs ys older. HasOlder xs ys inputs.first inputs.days older) × journal_failed)
-    ⊎ (OfFour (set inputs.set) (limits inputs.limits) after journal (λ xs ys older zs. HasBoth xs ys inputs.first inputs.days older zs) × script_failed)))
+    ⊎ ((IfSome (set inputs.set) (λ xs. IfSome (limits inputs.limits) (λ ys. HasLoaded xs ys inputs.first inputs.days))
+    × older_failed)
+    ⊎ ((OfThree (set inputs.set) (limits inputs.limits) after
+    (λ xs ys older. HasOlder xs ys inputs.first inputs.days older) × journal_failed)
+    ⊎ (OfFour (set inputs.set) (limits inputs.limits) after journal
+    (λ xs ys older zs. HasBoth xs ys inputs.first inputs.days older zs) × script_failed)))
 
 -- where the bytes of the four inputs are known
-abbrev pub IsRefusedAgainstOf : {S L : Type 0} → Bytes S → Bytes L → Inputs S L → Option (List ℕ) → Option (List ℕ) → ℕ → List (Option (List ℕ)) → DeskFault → Type 0
+abbrev pub IsRefusedAgainstOf : {S L : Type 0} → Bytes S → Bytes L → Inputs S L → Option (List ℕ) → Option (List ℕ) → ℕ
+    → List (Option (List ℕ)) → DeskFault → Type 0
 IsRefusedAgainstOf set limits inputs after journal today texts fault =
-    OfFour (set inputs.set) (limits inputs.limits) after journal (λ xs ys older zs. IsRefusedAgainst xs ys inputs.first inputs.days older zs today texts fault)
+    OfFour (set inputs.set) (limits inputs.limits) after journal
+    (λ xs ys older zs. IsRefusedAgainst xs ys inputs.first inputs.days older zs today texts fault)
 
-abbrev pub IsTooLargeAgainstOf : {S L : Type 0} → Bytes S → Bytes L → Inputs S L → Option (List ℕ) → Option (List ℕ) → ℕ → List (Option (List ℕ)) → Type 0
+abbrev pub IsTooLargeAgainstOf : {S L : Type 0} → Bytes S → Bytes L → Inputs S L → Option (List ℕ) → Option (List ℕ) → ℕ
+    → List (Option (List ℕ)) → Type 0
 IsTooLargeAgainstOf set limits inputs after journal today texts =
-    OfFour (set inputs.set) (limits inputs.limits) after journal (λ xs ys older zs. IsTooLargeAgainst xs ys inputs.first inputs.days older zs today texts)
+    OfFour (set inputs.set) (limits inputs.limits) after journal
+    (λ xs ys older zs. IsTooLargeAgainst xs ys inputs.first inputs.days older zs today texts)
 
 -- ---- the laws
 
 -- behind a journal without lines the lines of each session are what its script asks
 abbrev pub AuditsBehindNoLines : Type 0
-AuditsBehindNoLines = (set limits : List ℕ) (first days : ℕ) (after journal : List ℕ) (today : ℕ) (texts : List (Option (List ℕ))) (line : List ℕ) →
-    IsJournalText after [] → (audit : IsAuditAgainst set limits first days after journal today texts line) → AreAsked (map (commands_of audit.flights) audit.scripts) audit.is_audited.entries
+AuditsBehindNoLines =
+    (set limits : List ℕ) (first days : ℕ) (after journal : List ℕ) (today : ℕ) (texts : List (Option (List ℕ)))
+    (line : List ℕ) →
+    IsJournalText after [] → (audit : IsAuditAgainst set limits first days after journal today texts line)
+    → AreAsked (map (commands_of audit.flights) audit.scripts) audit.is_audited.entries
 
 -- what is refused has no line: over the same inputs, each known, no journal that differs from the older one or from the scripts at a call also goes on from the one with just what the others ask
 abbrev pub UnaskedIsNotAudited : Type 0
-UnaskedIsNotAudited = (set limits : List ℕ) (first days : ℕ) (after journal : List ℕ) (today : ℕ) (texts : List (List ℕ)) (fault : DeskFault) (line : List ℕ) →
-    IsUnaskedBeside set limits first days after journal today (map Some texts) fault → IsAuditAgainst set limits first days after journal today (map Some texts) line → ⊥
+UnaskedIsNotAudited =
+    (set limits : List ℕ) (first days : ℕ) (after journal : List ℕ) (today : ℕ) (texts : List (List ℕ))
+    (fault : DeskFault) (line : List ℕ) →
+    IsUnaskedBeside set limits first days after journal today (map Some texts) fault
+    → IsAuditAgainst set limits first days after journal today (map Some texts) line → ⊥

@@ -30,7 +30,8 @@ pub record IsBooked (flights : List Flown) (history : List Entry) (number : ℕ)
 pub record AreBooked (flights : List Flown) (history : List Entry) (advices : List Advice) : Type 0 where
   pub each : All (λ (a : Advice). IsBooked flights history a.number) advices
 
-pub record IsAnswerable (flights : List Flown) (requests : List Request) (history : List Entry) (place : ℕ) (e : Entry) : Type 0 where
+pub record IsAnswerable (flights : List Flown) (requests : List Request) (history : List Entry) (place : ℕ)
+    (e : Entry) : Type 0 where
   pub asked : IsRequested requests place e.work
   pub advised : AreBooked flights history e.advices
 
@@ -39,8 +40,10 @@ pub record AreAnswerable (flights : List Flown) (requests : List Request) (histo
   pub each : (place : ℕ) (e : Entry) → slice_get lines place ≡ Some e → IsAnswerable flights requests history place e
 
 -- the lines of each session, beside what it is asked
-pub record AreAllAnswerable (flights : List Flown) (scripts : List (List Request)) (history : List Entry) (lists : List (List Entry)) : Type 0 where
-  pub each : (session : ℕ) (lines : List Entry) → slice_get lists session ≡ Some lines → AreAnswerable flights (requests_of scripts session) history lines
+pub record AreAllAnswerable (flights : List Flown) (scripts : List (List Request)) (history : List Entry)
+    (lists : List (List Entry)) : Type 0 where
+  pub each : (session : ℕ) (lines : List Entry) → slice_get lists session ≡ Some lines
+      → AreAnswerable flights (requests_of scripts session) history lines
 
 -- such a text is written behind what was there
 pub record IsBehind (is : List ℕ → Type 0) (old new : List ℕ) : Type 0 where

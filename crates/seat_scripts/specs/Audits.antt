@@ -34,19 +34,26 @@ pub record IsAccountedFor (set limits : List ℕ) (first days sessions : ℕ) (j
 -- so it is with every journal that a run of these scripts and changes behind an older journal writes, with as many sessions as
 -- scripts, or more where the older journal has more
 abbrev pub RunsAreAudited : Type 0
-RunsAreAudited = (set limits : List ℕ) (first days today : ℕ) (after : List ℕ) (texts : List (Option (List ℕ))) (changing : Option (List ℕ)) (journal replies : List ℕ) →
+RunsAreAudited =
+    (set limits : List ℕ) (first days today : ℕ) (after : List ℕ) (texts : List (Option (List ℕ)))
+    (changing : Option (List ℕ)) (journal replies : List ℕ) →
     (run : IsRun set limits first days today after texts changing journal replies) →
-    IsAccountedFor set limits first days (length (lists_over run.past (map (commands_of run.flights) run.scripts))) journal
+    IsAccountedFor set limits first days (length (lists_over run.past (map (commands_of run.flights) run.scripts)))
+    journal
 
 -- audit with scripts finds just these totals in the journal behind the older one, no fault, and no input too large
-pub record IsAcceptedAgainst (set limits : List ℕ) (first days : ℕ) (after journal : List ℕ) (today : ℕ) (texts : List (Option (List ℕ))) (totals : Totals) : Type 0 where
+pub record IsAcceptedAgainst (set limits : List ℕ) (first days : ℕ) (after journal : List ℕ) (today : ℕ)
+    (texts : List (Option (List ℕ))) (totals : Totals) : Type 0 where
   pub line : IsAuditAgainst set limits first days after journal today texts (audit_line totals)
-  pub only : (text : List ℕ) → IsAuditAgainst set limits first days after journal today texts text → text ≡ audit_line totals
+  pub only : (text : List ℕ) → IsAuditAgainst set limits first days after journal today texts text
+      → text ≡ audit_line totals
   pub faultless : (fault : DeskFault) → IsRefusedAgainst set limits first days after journal today texts fault → ⊥
   pub small : IsTooLargeAgainst set limits first days after journal today texts → ⊥
 
 -- so it is with the journal of every run, with its scripts and behind the journal that it went on from
 abbrev pub RunsAreAuditedAgainst : Type 0
-RunsAreAuditedAgainst = (set limits : List ℕ) (first days today : ℕ) (after : List ℕ) (texts : List (List ℕ)) (changing : Option (List ℕ)) (journal replies : List ℕ) →
+RunsAreAuditedAgainst =
+    (set limits : List ℕ) (first days today : ℕ) (after : List ℕ) (texts : List (List ℕ)) (changing : Option (List ℕ))
+    (journal replies : List ℕ) →
     (run : IsRun set limits first days today after (map Some texts) changing journal replies) →
     IsAcceptedAgainst set limits first days after journal today (map Some texts) (totals_of run.history)

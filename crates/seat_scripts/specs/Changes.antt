@@ -22,7 +22,8 @@ most_change_bytes = 16_777_216
 
 -- the flight, the day and the two stations that a row names
 abbrev pub wanted_by : ChangeRow → Wanted
-wanted_by r = record { airline = r.airline; number = r.number; suffix = r.suffix; day = r.day; board = r.board; off = r.off }
+wanted_by r =
+    record { airline = r.airline; number = r.number; suffix = r.suffix; day = r.day; board = r.board; off = r.off }
 
 -- the row's limit and wait for its class, on that leg
 abbrev pub on_leg : ChangeRow → Place → Change

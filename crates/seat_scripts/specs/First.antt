@@ -15,13 +15,18 @@ use Rattle.seat_scripts.specs.Requests.{commands_of}
 use Rattle.seat_scripts.specs.RunDesk.{AreReplies, IsRun, works_in, works_of}
 
 -- the whole history is asked for: its lines of session 0 are the changes, in order, those of session 1 the first list, and so on, and the replies answer all of it
-pub record IsFirst (grid : Ladders) (flights : List Flown) (changes : List Change) (scripts : List (List Request)) (lists : List (List Command)) (history : List Entry) (receipts : List (List Entry)) (replies : List ℕ) : Type 0 where
-  pub headline : Headline grid most_lines (length lists) history receipts (totals_of history)
-  pub asked : map works_in (by_session (length lists) history) ≡ works_of changes lists
-  pub are_replies : AreReplies flights [] scripts history replies
+pub record IsFirst (grid : Ladders) (flights : List Flown) (changes : List Change) (scripts : List (List Request))
+    (lists : List (List Command)) (history : List Entry) (receipts : List (List Entry)) (replies : List ℕ) : Type 0
+  where
+    pub headline : Headline grid most_lines (length lists) history receipts (totals_of history)
+    pub asked : map works_in (by_session (length lists) history) ≡ works_of changes lists
+    pub are_replies : AreReplies flights [] scripts history replies
 
 -- so it is with every run behind a journal without lines, with as many sessions as scripts
 abbrev pub RunsFromNoLines : Type 0
-RunsFromNoLines = (set limits : List ℕ) (first days today : ℕ) (after : List ℕ) (texts : List (Option (List ℕ))) (changing : Option (List ℕ)) (journal replies : List ℕ) →
+RunsFromNoLines =
+    (set limits : List ℕ) (first days today : ℕ) (after : List ℕ) (texts : List (Option (List ℕ)))
+    (changing : Option (List ℕ)) (journal replies : List ℕ) →
     IsJournalText after [] → (run : IsRun set limits first days today after texts changing journal replies) →
-    IsFirst run.grid run.flights run.changes run.scripts (map (commands_of run.flights) run.scripts) run.history run.receipts replies
+    IsFirst run.grid run.flights run.changes run.scripts (map (commands_of run.flights) run.scripts) run.history
+    run.receipts replies

@@ -74,7 +74,8 @@ segment_between c flight None last = None
 
 -- from the leg where a place begins to the leg where it ends
 abbrev pub segment_at : Command → Place → Option Flown → Option Segment
-segment_at c place (Some flight) = segment_between c flight (slice_get flight.legs place.from) (slice_get flight.legs place.to)
+segment_at c place (Some flight) =
+    segment_between c flight (slice_get flight.legs place.from) (slice_get flight.legs place.to)
 segment_at c place None = None
 
 abbrev pub segment_on : List Flown → Command → Option Place → Option Segment

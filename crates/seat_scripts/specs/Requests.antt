@@ -21,7 +21,8 @@ use Rattle.seat_desk.specs.declared.fault.DeskFault.TheVariants.{Script, Memory}
 
 -- the flight, the day and the two stations that a segment names
 abbrev pub wanted_of : Segment → Wanted
-wanted_of s = record { airline = s.airline; number = s.number; suffix = s.suffix; day = s.day; board = s.board; off = s.off }
+wanted_of s =
+    record { airline = s.airline; number = s.number; suffix = s.suffix; day = s.day; board = s.board; off = s.off }
 
 -- a request, on the first place that serves it, where there is one
 abbrev pub command_of : List Flown → Request → Command
@@ -86,7 +87,8 @@ pub record IsReadable (today : ℕ) (text : Option (List ℕ)) : Type 0 where
 -- the fault is that of the first of these that is no script; the first of them is that of session n
 abbrev pub IsRefusedAmong : ℕ → ℕ → List (Option (List ℕ)) → DeskFault → Type 0
 IsRefusedAmong today n [] fault = ⊥
-IsRefusedAmong today n (text ∷ texts) fault = IfSome text (IsRefusedScript today n fault) ⊎ (IsReadable today text × IsRefusedAmong today (n + 1) texts fault)
+IsRefusedAmong today n (text ∷ texts) fault =
+    IfSome text (IsRefusedScript today n fault) ⊎ (IsReadable today text × IsRefusedAmong today (n + 1) texts fault)
 
 -- the desk's fault for one of a session's script
 abbrev pub script_refusal_of : ScriptKind → ℕ → ScriptFault → DeskFault
@@ -99,11 +101,13 @@ script_refusal session fault = script_refusal_of fault.kind session fault
 -- one of the scripts is too large, and those before it are right
 abbrev pub IsTooLargeAmong : ℕ → List (Option (List ℕ)) → Type 0
 IsTooLargeAmong today [] = ⊥
-IsTooLargeAmong today (text ∷ texts) = IfSome text (λ bytes. most_script_bytes < length bytes) ⊎ (IsReadable today text × IsTooLargeAmong today texts)
+IsTooLargeAmong today (text ∷ texts) =
+    IfSome text (λ bytes. most_script_bytes < length bytes) ⊎ (IsReadable today text × IsTooLargeAmong today texts)
 
 -- one of the counts has risen by a failure, and the scripts before it are right
 abbrev pub HasRisenAmong : ℕ → List (Option (List ℕ)) → List ℕ → List ℕ → Type 0
-HasRisenAmong today (text ∷ texts) (old ∷ olds) (new ∷ news) = (new ≡ noted old) ⊎ (IsReadable today text × HasRisenAmong today texts olds news)
+HasRisenAmong today (text ∷ texts) (old ∷ olds) (new ∷ news) =
+    (new ≡ noted old) ⊎ (IsReadable today text × HasRisenAmong today texts olds news)
 HasRisenAmong today _ _ _ = ⊥
 
 -- one of these devices has failed, and the scripts before it are right

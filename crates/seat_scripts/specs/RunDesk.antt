@@ -36,7 +36,8 @@ use Rattle.seat_desk.specs.declared.fault.DeskFault.{DeskFault}
 use Rattle.seat_desk.specs.declared.fault.DeskFault.TheVariants.{Change as BadChange, NoLeg, Script, Book, Journal, Memory, Replay}
 
 -- a history that goes on from the past: the headline holds of it and of the receipts that the sessions were given, it begins with the past, and behind that the lines of session 0 are the changes, in order, those of session 1 the first list, and so on
-pub record IsHistoryOf (grid : Ladders) (past : List Entry) (changes : List Change) (lists : List (List Command)) (history : List Entry) (receipts : List (List Entry)) : Type 0 where
+pub record IsHistoryOf (grid : Ladders) (past : List Entry) (changes : List Change) (lists : List (List Command))
+    (history : List Entry) (receipts : List (List Entry)) : Type 0 where
   pub headline : Headline grid most_lines (length lists) history receipts (totals_of history)
   pub added : List Entry
   pub goes_on : history ≡ past ++ added
@@ -103,10 +104,11 @@ abbrev pub booked_by : List Flown → List Entry → ℕ → Option Answered
 booked_by flights history number = made_by flights (slice_get history (number - 1))
 
 -- KL and its seats, with the locator and the segment of the booking
-pub record IsAdviceLine (flights : List Flown) (history : List Entry) (e : Entry) (a : Advice) (line : List ℕ) : Type 0 where
-  pub answered : Answered
-  pub booked : booked_by flights history a.number ≡ Some answered
-  pub is_reply : IsReply e answered (codes "KL") a.seats line
+pub record IsAdviceLine (flights : List Flown) (history : List Entry) (e : Entry) (a : Advice) (line : List ℕ) : Type 0
+  where
+    pub answered : Answered
+    pub booked : booked_by flights history a.number ≡ Some answered
+    pub is_reply : IsReply e answered (codes "KL") a.seats line
 
 -- the reply to the request at this place, with the seats asked
 pub record IsSeatsReply (requests : List Request) (place : ℕ) (e : Entry) (line : List ℕ) : Type 0 where
@@ -120,7 +122,8 @@ IsLineReply requests place e (Seats command) line = IsSeatsReply requests place 
 IsLineReply requests place e (Limit change) line = line ≡ change_reply e change
 
 -- and then its advices
-pub record IsAnswer (flights : List Flown) (requests : List Request) (history : List Entry) (place : ℕ) (e : Entry) (text : List ℕ) : Type 0 where
+pub record IsAnswer (flights : List Flown) (requests : List Request) (history : List Entry) (place : ℕ) (e : Entry)
+    (text : List ℕ) : Type 0 where
   pub line : List ℕ
   pub advices : List ℕ
   pub is_reply : IsLineReply requests place e e.work line
@@ -133,21 +136,26 @@ AreAnswers flights requests history lines text = IsText (IsAnswer flights reques
 
 -- session by session, each beside what it is asked
 abbrev pub AreSessions : List Flown → List (List Request) → List Entry → ℕ → List Entry → List ℕ → Type 0
-AreSessions flights scripts history session lines text = AreAnswers flights (requests_of scripts session) history lines text
+AreSessions flights scripts history session lines text =
+    AreAnswers flights (requests_of scripts session) history lines text
 
 -- those to lines that were added behind the past: of session 0, the manager, then of session 1, and so on
 abbrev pub AreReplies : List Flown → List Entry → List (List Request) → List Entry → List ℕ → Type 0
-AreReplies flights past scripts added text = IsText (AreSessions flights scripts (past ++ added)) 0 (by_session (length scripts) added) text
+AreReplies flights past scripts added text =
+    IsText (AreSessions flights scripts (past ++ added)) 0 (by_session (length scripts) added) text
 
 -- one to eight scripts: the answers to the receipts of the manager and of each script's session, but for those of the past
-pub record IsReplied (flights : List Flown) (past : List Entry) (scripts : List (List Request)) (history : List Entry) (receipts : List (List Entry)) (text : List ℕ) : Type 0 where
+pub record IsReplied (flights : List Flown) (past : List Entry) (scripts : List (List Request)) (history : List Entry)
+    (receipts : List (List Entry)) (text : List ℕ) : Type 0 where
   pub few : length scripts ≤ 8
-  pub are_answers : IsText (AreSessions flights scripts history) 0 (behind (past_of past).calls (take (length scripts + 1) receipts)) text
+  pub are_answers : IsText (AreSessions flights scripts history) 0
+      (behind (past_of past).calls (take (length scripts + 1) receipts)) text
 
 -- ---- the whole
 
 -- the texts of one history that goes on from the older journal with what the scripts and the changes ask, over the grid of the set and the limits
-pub record IsRun (set limits : List ℕ) (first days today : ℕ) (after : List ℕ) (texts : List (Option (List ℕ))) (changing : Option (List ℕ)) (journal replies : List ℕ) : Type 0 where
+pub record IsRun (set limits : List ℕ) (first days today : ℕ) (after : List ℕ) (texts : List (Option (List ℕ)))
+    (changing : Option (List ℕ)) (journal replies : List ℕ) : Type 0 where
   pub flights : List Flown
   pub grid : Ladders
   pub past : List Entry
@@ -162,12 +170,15 @@ pub record IsRun (set limits : List ℕ) (first days today : ℕ) (after : List 
   pub is_replied : IsReplied flights past scripts history receipts replies
 
 -- where the bytes of the set, of the limits and of the older journal are known
-abbrev pub IsRunOf : {S L : Type 0} → Bytes S → Bytes L → Inputs S L → ℕ → Option (List ℕ) → List (Option (List ℕ)) → Option (List ℕ) → List ℕ → List ℕ → Type 0
+abbrev pub IsRunOf : {S L : Type 0} → Bytes S → Bytes L → Inputs S L → ℕ → Option (List ℕ) → List (Option (List ℕ))
+    → Option (List ℕ) → List ℕ → List ℕ → Type 0
 IsRunOf set limits inputs today after texts changing journal replies =
-    OfThree (set inputs.set) (limits inputs.limits) after (λ xs ys zs. IsRun xs ys inputs.first inputs.days today zs texts changing journal replies)
+    OfThree (set inputs.set) (limits inputs.limits) after
+    (λ xs ys zs. IsRun xs ys inputs.first inputs.days today zs texts changing journal replies)
 
 -- both texts are written, whole
-pub record AreWritten (answers : List ℕ → List ℕ → Type 0) (journal_old journal_new out_old out_new : Option (List ℕ)) : Type 0 where
+pub record AreWritten (answers : List ℕ → List ℕ → Type 0) (journal_old journal_new out_old out_new : Option (List ℕ)) :
+    Type 0 where
   pub journal : List ℕ
   pub replies : List ℕ
   pub right : answers journal replies
@@ -182,13 +193,15 @@ pub record AreTexts (journal replies first second : List ℕ) : Type 0 where
 -- ---- devices that fail
 
 -- an input failed, and nothing was written, neither journal nor reply
-pub record InputFailed {J W : Type 0} (failed : Type 0) (journal_old journal_new : J) (out_old out_new : W) : Type 0 where
-  pub counted : failed
-  pub no_line : journal_new ≡ journal_old
-  pub no_reply : out_new ≡ out_old
+pub record InputFailed {J W : Type 0} (failed : Type 0) (journal_old journal_new : J) (out_old out_new : W) : Type 0
+  where
+    pub counted : failed
+    pub no_line : journal_new ≡ journal_old
+    pub no_reply : out_new ≡ out_old
 
 -- the journal failed: it took a beginning of the journal of two texts that answer, and no reply was written
-pub record JournalFailed {J W : Type 0} (failures : J → ℕ) (contents : J → Option (List ℕ)) (journal_old journal_new : J) (out_old out_new : W)
+pub record JournalFailed {J W : Type 0} (failures : J → ℕ) (contents : J → Option (List ℕ))
+    (journal_old journal_new : J) (out_old out_new : W)
     (answers : List ℕ → List ℕ → Type 0) : Type 0 where
   pub counted : HasFailed failures journal_old journal_new
   pub journal : List ℕ
@@ -198,7 +211,8 @@ pub record JournalFailed {J W : Type 0} (failures : J → ℕ) (contents : J →
   pub no_reply : out_new ≡ out_old
 
 -- the output of the replies failed: the journal of two texts that answer is whole, and the replies are begun
-pub record RepliesFailed {J W : Type 0} (lines : J → Option (List ℕ)) (journal_old journal_new : J) (failures : W → ℕ) (contents : W → Option (List ℕ)) (out_old out_new : W)
+pub record RepliesFailed {J W : Type 0} (lines : J → Option (List ℕ)) (journal_old journal_new : J) (failures : W → ℕ)
+    (contents : W → Option (List ℕ)) (out_old out_new : W)
     (answers : List ℕ → List ℕ → Type 0) : Type 0 where
   pub counted : HasFailed failures out_old out_new
   pub journal : List ℕ
@@ -223,7 +237,8 @@ pub record IsBookedTo (session place : ℕ) (lists booked : List (List Work)) : 
 
 -- more is asked than a journal has lines behind the past, and a call of a session was refused, which counts on from the session's
 -- calls of the past: a history that has as many lines as a journal may goes on from the past with what was booked of all that was asked
-pub record IsFull (grid : Ladders) (past : List Entry) (changes : List Change) (lists : List (List Command)) (session call : ℕ) : Type 0 where
+pub record IsFull (grid : Ladders) (past : List Entry) (changes : List Change) (lists : List (List Command))
+    (session call : ℕ) : Type 0 where
   pub many : most_lines < length past + asked_in (works_of changes lists)
   pub list : List Work
   pub at : slice_get (works_of changes lists) session ≡ Some list
@@ -234,7 +249,8 @@ pub record IsFull (grid : Ladders) (past : List Entry) (changes : List Change) (
   pub full : length history ≡ most_lines
   pub added : List Entry
   pub goes_on : history ≡ past ++ added
-  pub booked : IsBookedTo session (call - calls_of past session) (works_of changes lists) (map works_in (by_session (length lists) added))
+  pub booked : IsBookedTo session (call - calls_of past session) (works_of changes lists)
+      (map works_in (by_session (length lists) added))
 
 -- the fault is that of the first session that was not booked whole, at the call that was refused
 abbrev pub IsUnbooked : Ladders → List Entry → List Change → List (List Command) → DeskFault → Type 0
@@ -242,7 +258,8 @@ IsUnbooked grid past changes lists (Book session call) = IsFull grid past change
 IsUnbooked grid past changes lists _ = ⊥
 
 -- the set, the limits, the older journal, the scripts and the changes are right, and something that they ask was not booked
-pub record IsUnbookedOf (set limits : List ℕ) (first days today : ℕ) (after : List ℕ) (texts : List (Option (List ℕ))) (changing : Option (List ℕ)) (fault : DeskFault) : Type 0 where
+pub record IsUnbookedOf (set limits : List ℕ) (first days today : ℕ) (after : List ℕ) (texts : List (Option (List ℕ)))
+    (changing : Option (List ℕ)) (fault : DeskFault) : Type 0 where
   pub flights : List Flown
   pub grid : Ladders
   pub past : List Entry
@@ -252,7 +269,8 @@ pub record IsUnbookedOf (set limits : List ℕ) (first days today : ℕ) (after 
   pub is_unbooked : IsUnbooked grid past changes (lists_over past (map (commands_of flights) scripts)) fault
 
 -- the set, the limits, the older journal and the scripts are right, and the fault is that of the changes
-pub record IsUnchangedOf (set limits : List ℕ) (first days today : ℕ) (after : List ℕ) (texts : List (Option (List ℕ))) (changing : Option (List ℕ)) (fault : DeskFault) : Type 0 where
+pub record IsUnchangedOf (set limits : List ℕ) (first days today : ℕ) (after : List ℕ) (texts : List (Option (List ℕ)))
+    (changing : Option (List ℕ)) (fault : DeskFault) : Type 0 where
   pub flights : List Flown
   pub grid : Ladders
   pub is_loaded : IsLoaded set limits first days flights grid
@@ -263,7 +281,8 @@ pub record IsUnchangedOf (set limits : List ℕ) (first days today : ℕ) (after
   pub is_refused : IfSome changing (IsUnchanged flights fault)
 
 -- the set, the limits and the older journal are right, and the fault is that of the first script that is none
-pub record IsRefusedOf (set limits : List ℕ) (first days today : ℕ) (after : List ℕ) (texts : List (Option (List ℕ))) (fault : DeskFault) : Type 0 where
+pub record IsRefusedOf (set limits : List ℕ) (first days today : ℕ) (after : List ℕ) (texts : List (Option (List ℕ)))
+    (fault : DeskFault) : Type 0 where
   pub flights : List Flown
   pub grid : Ladders
   pub is_loaded : IsLoaded set limits first days flights grid
@@ -275,19 +294,29 @@ pub record IsRefusedOf (set limits : List ℕ) (first days today : ℕ) (after :
 -- changes is the first of their rows, or, where these are right, names the first that not one leg serves, and all scripts are read.
 -- A call's names the first session that was not booked whole, and all is read. Any other is the first of the set, of its flights or
 -- of the limits
-abbrev pub RunRefusal : List ℕ → List ℕ → ℕ → ℕ → ℕ → List ℕ → List (Option (List ℕ)) → Option (List ℕ) → DeskFault → Type 0
-RunRefusal set limits first days today after texts changing (Journal fault) = IsRefusedOver set limits first days (Journal fault) after
-RunRefusal set limits first days today after texts changing (Replay fault) = IsRefusedOver set limits first days (Replay fault) after
-RunRefusal set limits first days today after texts changing (Script session fault) = IsRefusedOf set limits first days today after texts (Script session fault)
-RunRefusal set limits first days today after texts changing (BadChange fault) = IsUnchangedOf set limits first days today after texts changing (BadChange fault)
-RunRefusal set limits first days today after texts changing (NoLeg line) = IsUnchangedOf set limits first days today after texts changing (NoLeg line)
-RunRefusal set limits first days today after texts changing (Book session call) = IsUnbookedOf set limits first days today after texts changing (Book session call)
+abbrev pub RunRefusal : List ℕ → List ℕ → ℕ → ℕ → ℕ → List ℕ → List (Option (List ℕ)) → Option (List ℕ) → DeskFault
+    → Type 0
+RunRefusal set limits first days today after texts changing (Journal fault) =
+    IsRefusedOver set limits first days (Journal fault) after
+RunRefusal set limits first days today after texts changing (Replay fault) =
+    IsRefusedOver set limits first days (Replay fault) after
+RunRefusal set limits first days today after texts changing (Script session fault) =
+    IsRefusedOf set limits first days today after texts (Script session fault)
+RunRefusal set limits first days today after texts changing (BadChange fault) =
+    IsUnchangedOf set limits first days today after texts changing (BadChange fault)
+RunRefusal set limits first days today after texts changing (NoLeg line) =
+    IsUnchangedOf set limits first days today after texts changing (NoLeg line)
+RunRefusal set limits first days today after texts changing (Book session call) =
+    IsUnbookedOf set limits first days today after texts changing (Book session call)
 RunRefusal set limits first days today after texts changing fault = IsRefusedLoad set limits first days fault
 
-pub record IsRefusedRun (set limits : List ℕ) (first days today : ℕ) (after : List ℕ) (texts : List (Option (List ℕ))) (changing : Option (List ℕ)) (fault : DeskFault) : Type 0 where
+pub record IsRefusedRun (set limits : List ℕ) (first days today : ℕ) (after : List ℕ) (texts : List (Option (List ℕ)))
+    (changing : Option (List ℕ)) (fault : DeskFault) : Type 0 where
   pub refusal : RunRefusal set limits first days today after texts changing fault
 
 -- where the bytes of the set, of the limits and of the older journal are known
-abbrev pub IsRefusedRunOf : {S L : Type 0} → Bytes S → Bytes L → Inputs S L → ℕ → Option (List ℕ) → List (Option (List ℕ)) → Option (List ℕ) → DeskFault → Type 0
+abbrev pub IsRefusedRunOf : {S L : Type 0} → Bytes S → Bytes L → Inputs S L → ℕ → Option (List ℕ)
+    → List (Option (List ℕ)) → Option (List ℕ) → DeskFault → Type 0
 IsRefusedRunOf set limits inputs today after texts changing fault =
-    OfThree (set inputs.set) (limits inputs.limits) after (λ xs ys zs. IsRefusedRun xs ys inputs.first inputs.days today zs texts changing fault)
+    OfThree (set inputs.set) (limits inputs.limits) after
+    (λ xs ys zs. IsRefusedRun xs ys inputs.first inputs.days today zs texts changing fault)

@@ -10,4 +10,5 @@ use Rattle.seat_scripts.specs.RunDesk.{of_command, of_request}
 -- where a place serves a request, the locator and the segment on its flight are those of the request
 abbrev pub RequestsAreFlown : Type 0
 RequestsAreFlown = (flights : List Flown) (request : Request) (place : Place) →
-    place_wanted flights (wanted_of request.segment) ≡ Some place → of_command flights (command_of flights request) ≡ Some (of_request request)
+    place_wanted flights (wanted_of request.segment) ≡ Some place
+    → of_command flights (command_of flights request) ≡ Some (of_request request)

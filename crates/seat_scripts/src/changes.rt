@@ -25,7 +25,8 @@ pub fn limit_changes<D: NotedRead>(
     ensures legs { IfOk result (λ read. AllByRecursion (IsOnLeg flights.now) read.items) }
     ensures fault { IfErr result (λ f. IsOfInput f → IfSome (D.remaining changes.old) (IsUnchanged flights.now f)) }
     ensures changes { IfErr result (λ f. IsOfInput f → IsOfChanges f) }
-    ensures large { IfErr result (λ f. f ≡ DeskFault.TooLarge → IfSome (D.remaining changes.old) (λ bytes. most_change_bytes < length bytes)) }
+    ensures large { IfErr result (λ f. f ≡ DeskFault.TooLarge
+        → IfSome (D.remaining changes.old) (λ bytes. most_change_bytes < length bytes)) }
     ensures device { IfErr result (λ f. f ≡ DeskFault.Device → HasFailed D.failure_count changes.old changes.new) }
 {
     let bytes = read_input(alloc, changes, MOST_CHANGE_BYTES)?;

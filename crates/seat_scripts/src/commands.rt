@@ -17,7 +17,8 @@ pub fn lists_over(
     flights: &Flights,
     scripts: &[Requests],
 ) -> Result<Vec<CommandList>, AllocError>
-    ensures { IfOk result (λ lists. lists.items ≡ lists_over past.now.journal (map (commands_of flights.now) scripts.now)) }
+    ensures { IfOk result (λ lists. lists.items
+        ≡ lists_over past.now.journal (map (commands_of flights.now) scripts.now)) }
 {
     let mut lists = command_lists(alloc, flights, scripts)?;
     add_idle(alloc, &mut lists, highest(past))?;

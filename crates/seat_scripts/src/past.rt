@@ -31,7 +31,8 @@ pub fn replayed_from<J: NotedRead>(
     ensures cap { IfOk result (λ core. core.cap ≡ most_lines) }
     ensures few { IfOk result (λ core. length core.journal ≤ most_lines) }
     ensures fault { IfErr result (λ f. IsOfInput f → IfSome (J.remaining journal.old) (IsUnlawful grid f)) }
-    ensures large { IfErr result (λ f. f ≡ DeskFault.TooLarge → IfSome (J.remaining journal.old) (λ bytes. most_journal_bytes < length bytes)) }
+    ensures large { IfErr result (λ f. f ≡ DeskFault.TooLarge
+        → IfSome (J.remaining journal.old) (λ bytes. most_journal_bytes < length bytes)) }
     ensures device { IfErr result (λ f. f ≡ DeskFault.Device → HasFailed J.failure_count journal.old journal.new) }
 {
     let bytes = read_input(alloc, journal, MOST_JOURNAL_BYTES)?;

@@ -31,7 +31,8 @@ pub fn put_answer(
     entry: &Entry,
 ) -> Result<(), AllocError>
     requires { IsAnswerable flights.now requests.now journal.now place entry.now }
-    ensures { OnOk result (IsBehind (IsAnswer flights.now requests.now journal.now place entry.now) text.old.items text.new.items) }
+    ensures { OnOk result (IsBehind (IsAnswer flights.now requests.now journal.now place entry.now) text.old.items
+        text.new.items) }
 {
     put_line_reply(text, requests, place, entry, entry.work)?;
     put_advices(text, flights, journal, entry)?;
@@ -118,7 +119,8 @@ fn put_advices(
     entry: &Entry,
 ) -> Result<(), AllocError>
     requires { AreBooked flights.now journal.now entry.now.advices }
-    ensures { OnOk result (IsPut (at_any (IsAdviceLine flights.now journal.now entry.now)) 0 entry.now.advices text.old.items text.new.items) }
+    ensures { OnOk result (IsPut (at_any (IsAdviceLine flights.now journal.now entry.now)) 0 entry.now.advices
+        text.old.items text.new.items) }
 {
     for advice in entry.advices.as_slice() {
         put_advice(text, flights, journal, entry, advice)?;
@@ -136,7 +138,8 @@ fn put_advice(
     advice: &Advice,
 ) -> Result<(), AllocError>
     requires { IsBooked flights.now journal.now advice.now.number }
-    ensures { OnOk result (IsBehind (IsAdviceLine flights.now journal.now entry.now advice.now) text.old.items text.new.items) }
+    ensures { OnOk result (IsBehind (IsAdviceLine flights.now journal.now entry.now advice.now) text.old.items
+        text.new.items) }
 {
     let Some(answered) = booked_by(flights, journal, advice.number) else {
         unreachable!()

@@ -31,7 +31,8 @@ pub fn read_scripts<C: NotedRead>(
     ensures fault { IfErr result (λ f. IsOfInput f → IsRefusedAmong today 1 (map C.remaining scripts.old) f) }
     ensures script { IfErr result (λ f. IsOfInput f → IsOfScript f) }
     ensures large { IfErr result (λ f. f ≡ DeskFault.TooLarge → IsTooLargeAmong today (map C.remaining scripts.old)) }
-    ensures device { IfErr result (λ f. f ≡ DeskFault.Device → HasFailedAmong today (map C.remaining scripts.old) C.failure_count scripts.old scripts.new) }
+    ensures device { IfErr result (λ f. f ≡ DeskFault.Device
+        → HasFailedAmong today (map C.remaining scripts.old) C.failure_count scripts.old scripts.new) }
 {
     let mut read = Scripts::new(alloc);
     read_from(alloc, scripts, 1, today, &mut read)?;
@@ -53,7 +54,8 @@ fn read_from<C: NotedRead>(
     ensures fault { IfErr result (λ f. IsOfInput f → IsRefusedAmong today session (map C.remaining scripts.old) f) }
     ensures script { IfErr result (λ f. IsOfInput f → IsOfScript f) }
     ensures large { IfErr result (λ f. f ≡ DeskFault.TooLarge → IsTooLargeAmong today (map C.remaining scripts.old)) }
-    ensures device { IfErr result (λ f. f ≡ DeskFault.Device → HasFailedAmong today (map C.remaining scripts.old) C.failure_count scripts.old scripts.new) }
+    ensures device { IfErr result (λ f. f ≡ DeskFault.Device
+        → HasFailedAmong today (map C.remaining scripts.old) C.failure_count scripts.old scripts.new) }
 {
     let Some((script, later)) = scripts.split_first_mut() else {
         return Ok(());
@@ -75,9 +77,11 @@ fn read_one<C: NotedRead>(
     requires today { IsCenturyDay today }
     ensures ok { IfOk result (λ requests. IfSome (C.remaining script.old) (IsScriptOf today requests)) }
     ensures right { IfOk result AreRight }
-    ensures fault { IfErr result (λ f. IsOfInput f → IfSome (C.remaining script.old) (IsRefusedScript today session f)) }
+    ensures fault { IfErr result (λ f. IsOfInput f
+        → IfSome (C.remaining script.old) (IsRefusedScript today session f)) }
     ensures script { IfErr result (λ f. IsOfInput f → IsOfScript f) }
-    ensures large { IfErr result (λ f. f ≡ DeskFault.TooLarge → IfSome (C.remaining script.old) (λ bytes. most_script_bytes < length bytes)) }
+    ensures large { IfErr result (λ f. f ≡ DeskFault.TooLarge
+        → IfSome (C.remaining script.old) (λ bytes. most_script_bytes < length bytes)) }
     ensures device { IfErr result (λ f. f ≡ DeskFault.Device → HasFailed C.failure_count script.old script.new) }
 {
     let bytes = read_input(alloc, script, MOST_SCRIPT_BYTES)?;

@@ -204,7 +204,7 @@ shown_next opening cap journal books calls counts e k legal =
     standing_same g h t u p q = λ i. record { limits = p i; seats = q i }
 
 -- sessions are 0 to 8
-session_most : (session : ℕ) (w : Work) → MayAsk session w → session ≤ 8
+pub session_most : (session : ℕ) (w : Work) → MayAsk session w → session ≤ 8
 session_most session (Seats c) may = may.1
 session_most session (Limit c) may = omega (arith, may)
 

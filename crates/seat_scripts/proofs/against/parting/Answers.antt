@@ -9,14 +9,17 @@ use Rattle.seat_scripts.proofs.Beginnings.{begins_all, part_end, part_here, same
 use Rattle.seat_scripts.proofs.against.parting.Goals as goal
 
 -- the slices are legal over one grid
-over_one : (old grid : Ladders) (older slice : List Entry) → old ≡ grid → slice ≡ older → IsLegal old older → IsLegal grid slice
+over_one : (old grid : Ladders) (older slice : List Entry) → old ≡ grid → slice ≡ older → IsLegal old older
+    → IsLegal grid slice
 over_one old grid older slice same is legal = subst (IsLegal grid) (sym is) (subst (λ (g : Ladders). IsLegal g older) same legal)
 
-of_slices : (lines older slice journal : List Entry) (session call : ℕ) → lines ≡ older → slice ≡ journal → IsNoBeginning lines slice session call → IsNoBeginning older journal session call
+of_slices : (lines older slice journal : List Entry) (session call : ℕ) → lines ≡ older → slice ≡ journal
+    → IsNoBeginning lines slice session call → IsNoBeginning older journal session call
 of_slices lines older slice journal session call is also parts =
     subst (λ (l : List Entry). IsNoBeginning l journal session call) is (subst (λ (j : List Entry). IsNoBeginning lines j session call) also parts)
 
-begins_slices : (lines older slice journal : List Entry) → lines ≡ older → slice ≡ journal → Begins lines slice → Begins older journal
+begins_slices : (lines older slice journal : List Entry) → lines ≡ older → slice ≡ journal → Begins lines slice
+    → Begins older journal
 begins_slices lines older slice journal is also begins = subst (λ (l : List Entry). Begins l journal) is (subst (λ (j : List Entry). Begins lines j) also begins)
 
 pub returns-in_default-clause-named : goal.returns-in_default-clause-named
