@@ -200,7 +200,7 @@ date_of day month year (a ∷ b ∷ c ∷ []) x y h =
     ∙ ap (λ (i : ℕ). civil_in (2000 + i) month (two_value t u)) q.1
     ∙ ap (λ (i : ℕ). civil_in (2000 + year) month i) p.1
 
-short_month : (leap : Bool) (m d : ℕ)
+pub short_month : (leap : Bool) (m d : ℕ)
     → d ≤ cond (eqb m 2) (cond leap 29 28) (cond (eqb m 4 || eqb m 6 || eqb m 9 || eqb m 11) 30 31) → d < 100
 short_month leap m d h = grind (arith, nat_tests, h)
 

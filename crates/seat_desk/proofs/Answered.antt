@@ -12,8 +12,10 @@ use Rattle.seat_desk.specs.declared.fault.DeskFault.{DeskFault}
 use Rattle.seat_desk.specs.declared.fault.DeskFault.TheVariants.{Memory}
 
 -- what follows from what is known of the set and the limits, and of the journal
-if_known : (P : List ℕ → List ℕ → Type 0) (Q : List ℕ → Type 0) (R : List ℕ → List ℕ → List ℕ → Type 0) (set limits journal : Option (List ℕ))
-    → ((xs ys zs : List ℕ) → P xs ys → Q zs → R xs ys zs) → IfSome set (λ xs. IfSome limits (λ ys. P xs ys)) → IfSome journal Q
+if_known : (P : List ℕ → List ℕ → Type 0) (Q : List ℕ → Type 0) (R : List ℕ → List ℕ → List ℕ → Type 0)
+    (set limits journal : Option (List ℕ))
+    → ((xs ys zs : List ℕ) → P xs ys → Q zs → R xs ys zs) → IfSome set (λ xs. IfSome limits (λ ys. P xs ys))
+    → IfSome journal Q
     → IfSome set (λ xs. IfSome limits (λ ys. IfSome journal (λ zs. R xs ys zs)))
 if_known P Q R (Some xs) (Some ys) (Some zs) step p q = step xs ys zs p q
 if_known P Q R (Some xs) (Some ys) None step p q = tt
@@ -22,9 +24,11 @@ if_known P Q R None limits journal step p q = tt
 
 module _ (set limits journal : Option (List ℕ)) (first days : ℕ) (flights : List Flown) (rows : List LimitRow) (grid : Ladders) (bytes : List ℕ) where
   pub refused_of : (refuses : Ladders → DeskFault → List ℕ → Type 0) (fault : DeskFault)
-      → IfSome set (λ xs. IfSome limits (λ ys. IsGround xs ys first days flights rows)) → grid ≡ authorised_grid rows flights → IfSome journal (λ zs. bytes ≡ zs)
+      → IfSome set (λ xs. IfSome limits (λ ys. IsGround xs ys first days flights rows))
+      → grid ≡ authorised_grid rows flights → IfSome journal (λ zs. bytes ≡ zs)
       → length bytes ≤ most_journal_bytes → (fault ≢ Memory → refuses grid fault bytes) → IsOfInput fault
-      → IfSome set (λ xs. IfSome limits (λ ys. IfSome journal (λ zs. IsRefusedAnswer refuses xs ys first days zs fault)))
+      → IfSome set (λ xs. IfSome limits
+      (λ ys. IfSome journal (λ zs. IsRefusedAnswer refuses xs ys first days zs fault)))
   refused_of refuses fault ground same whole within wrong input =
       let refused : refuses (authorised_grid rows flights) fault bytes = subst (λ (g : Ladders). refuses g fault bytes) same (wrong (λ (e : fault ≡ Memory). subst IsOfInput e input)) in
       if_known (λ xs ys. IsGround xs ys first days flights rows) (λ zs. bytes ≡ zs) (λ xs ys zs. IsRefusedAnswer refuses xs ys first days zs fault) set limits journal

@@ -19,26 +19,32 @@ use Rattle.seat_desk.specs.declared.fault.DeskFault.TheVariants.{Limit, Memory}
 use Rattle.seat_desk.specs.declared.fault.DeskFault.{DeskFault}
 use Rattle.seat_desk.specs.Desk.{IsOfInput}
 
-cases : (limits : List ℕ) (kind : LimitKind) (fault : LimitFault) → length limits ≤ most_limit_bytes → (kind ≢ limit_kinds.Memory → rows_in 1 (lines limits) ≡ Err fault)
+cases : (limits : List ℕ) (kind : LimitKind) (fault : LimitFault) → length limits ≤ most_limit_bytes
+    → (kind ≢ limit_kinds.Memory → rows_in 1 (lines limits) ≡ Err fault)
     → limit_refusal_of kind fault ≢ Memory → IsUnlimited limits (limit_refusal_of kind fault)
 cases limits limit_kinds.Memory fault within first not = absurd (not refl)
 cases limits kind fault within first not = record { within = within; first = first (λ e. cc) }
 
-pub refused_limits : (limits : List ℕ) (fault : LimitFault) → length limits ≤ most_limit_bytes → (fault.kind ≢ limit_kinds.Memory → rows_in 1 (lines limits) ≡ Err fault)
+pub refused_limits : (limits : List ℕ) (fault : LimitFault) → length limits ≤ most_limit_bytes
+    → (fault.kind ≢ limit_kinds.Memory → rows_in 1 (lines limits) ≡ Err fault)
     → limit_refusal fault ≢ Memory → IsUnlimited limits (limit_refusal fault)
 refused_limits limits fault = cases limits fault.kind fault
 
-of_limits : (set limits : List ℕ) (first days : ℕ) (flights : List Flown) (fault : DeskFault) → length set ≤ most_set_bytes → IsSchedule set first days flights
+of_limits : (set limits : List ℕ) (first days : ℕ) (flights : List Flown) (fault : DeskFault)
+    → length set ≤ most_set_bytes → IsSchedule set first days flights
     → IsUnlimited limits fault → IsRefusedLoad set limits first days fault
 of_limits set limits first days flights (Limit fault) within schedule wrong =
     record { refusal = record { flights = flights; set_within = within; is_schedule = schedule; wrong = wrong } }
 of_limits set limits first days flights _ within schedule wrong = absurd wrong
 
 -- what was read of each input is all of it, and the limits are refused
-pub load_refused : (set limits : Option (List ℕ)) (first days : ℕ) (fault : DeskFault) (bytes slice text text_slice : List ℕ) (flights : List Flown)
-    → slice ≡ bytes → IfSome set (λ xs. bytes ≡ xs) → length bytes ≤ most_set_bytes → IsSchedule slice first days flights
+pub load_refused : (set limits : Option (List ℕ)) (first days : ℕ) (fault : DeskFault)
+    (bytes slice text text_slice : List ℕ) (flights : List Flown)
+    → slice ≡ bytes → IfSome set (λ xs. bytes ≡ xs) → length bytes ≤ most_set_bytes
+    → IsSchedule slice first days flights
     → text_slice ≡ text → IfSome limits (λ ys. text ≡ ys)
-    → (fault ≢ Memory → IsUnlimited text_slice fault) → IsOfInput fault → IfSome set (λ xs. IfSome limits (λ ys. IsRefusedLoad xs ys first days fault))
+    → (fault ≢ Memory → IsUnlimited text_slice fault) → IsOfInput fault
+    → IfSome set (λ xs. IfSome limits (λ ys. IsRefusedLoad xs ys first days fault))
 load_refused (Some xs) (Some ys) first days fault bytes slice text text_slice flights of_set set_is set_fits schedule of_text text_is wrong input =
     of_limits xs ys first days flights fault (subst (λ (l : List ℕ). length l ≤ most_set_bytes) set_is set_fits)
     (subst (λ (l : List ℕ). IsSchedule l first days flights) (of_set ∙ set_is) schedule)
@@ -47,10 +53,13 @@ load_refused (Some xs) None first days fault bytes slice text text_slice flights
 load_refused None limits first days fault bytes slice text text_slice flights of_set set_is set_fits schedule of_text text_is wrong input = tt
 
 -- what was read of each input is all of it
-pub loaded_whole : (set limits : Option (List ℕ)) (first days : ℕ) (bytes slice text text_slice : List ℕ) (flights : List Flown) (rows : List LimitRow) (grid : Ladders)
-    → slice ≡ bytes → IfSome set (λ xs. bytes ≡ xs) → length bytes ≤ most_set_bytes → IsSchedule slice first days flights
+pub loaded_whole : (set limits : Option (List ℕ)) (first days : ℕ) (bytes slice text text_slice : List ℕ)
+    (flights : List Flown) (rows : List LimitRow) (grid : Ladders)
+    → slice ≡ bytes → IfSome set (λ xs. bytes ≡ xs) → length bytes ≤ most_set_bytes
+    → IsSchedule slice first days flights
     → text_slice ≡ text → IfSome limits (λ ys. text ≡ ys) → length text ≤ most_limit_bytes → IsLimitText text_slice rows
-    → grid ≡ authorised_grid rows flights → IfSome set (λ xs. IfSome limits (λ ys. IsLoaded xs ys first days flights grid))
+    → grid ≡ authorised_grid rows flights
+    → IfSome set (λ xs. IfSome limits (λ ys. IsLoaded xs ys first days flights grid))
 loaded_whole (Some xs) (Some ys) first days bytes slice text text_slice flights rows grid of_set set_is set_fits schedule of_limits limits_are limits_fit is_text grid_is = record {
   set_within = subst (λ (l : List ℕ). length l ≤ most_set_bytes) set_is set_fits;
   limits_within = subst (λ (l : List ℕ). length l ≤ most_limit_bytes) limits_are limits_fit;
@@ -65,8 +74,10 @@ loaded_whole (Some xs) None first days bytes slice text text_slice flights rows 
 loaded_whole None limits first days bytes slice text text_slice flights rows grid of_set set_is set_fits schedule of_limits limits_are limits_fit is_text grid_is = tt
 
 -- and so for the rows themselves
-pub ground_whole : (set limits : Option (List ℕ)) (first days : ℕ) (bytes slice text text_slice : List ℕ) (flights : List Flown) (rows : List LimitRow)
-    → slice ≡ bytes → IfSome set (λ xs. bytes ≡ xs) → length bytes ≤ most_set_bytes → IsSchedule slice first days flights
+pub ground_whole : (set limits : Option (List ℕ)) (first days : ℕ) (bytes slice text text_slice : List ℕ)
+    (flights : List Flown) (rows : List LimitRow)
+    → slice ≡ bytes → IfSome set (λ xs. bytes ≡ xs) → length bytes ≤ most_set_bytes
+    → IsSchedule slice first days flights
     → text_slice ≡ text → IfSome limits (λ ys. text ≡ ys) → length text ≤ most_limit_bytes → IsLimitText text_slice rows
     → IfSome set (λ xs. IfSome limits (λ ys. IsGround xs ys first days flights rows))
 ground_whole (Some xs) (Some ys) first days bytes slice text text_slice flights rows of_set set_is set_fits schedule of_limits limits_are limits_fit is_text = record {
@@ -79,7 +90,8 @@ ground_whole (Some xs) None first days bytes slice text text_slice flights rows 
 ground_whole None limits first days bytes slice text text_slice flights rows of_set set_is set_fits schedule of_limits limits_are limits_fit is_text = tt
 
 -- flights and rows that are right make a loaded grid, and a loaded grid has such rows
-pub loaded_of_ground : (set limits : List ℕ) (first days : ℕ) (flights : List Flown) (rows : List LimitRow) → IsGround set limits first days flights rows
+pub loaded_of_ground : (set limits : List ℕ) (first days : ℕ) (flights : List Flown) (rows : List LimitRow)
+    → IsGround set limits first days flights rows
     → IsLoaded set limits first days flights (authorised_grid rows flights)
 loaded_of_ground set limits first days flights rows is = record {
   set_within = is.set_within;
@@ -87,13 +99,15 @@ loaded_of_ground set limits first days flights rows is = record {
   loaded = record { rows = rows; is_schedule = is.is_schedule; are_rows = is.are_rows; grid_is = refl };
 }
 
-pub ground_of_loaded : (set limits : List ℕ) (first days : ℕ) (flights : List Flown) (grid : Ladders) (is : IsLoaded set limits first days flights grid)
+pub ground_of_loaded : (set limits : List ℕ) (first days : ℕ) (flights : List Flown) (grid : Ladders)
+    (is : IsLoaded set limits first days flights grid)
     → IsGround set limits first days flights is.loaded.rows
 ground_of_loaded set limits first days flights grid is =
     record { set_within = is.set_within; limits_within = is.limits_within; is_schedule = is.loaded.is_schedule; are_rows = is.loaded.are_rows }
 
 -- a grid that limit rows give is one
-pub grid_of_rows : (rows : List LimitRow) (flights : List Flown) (grid : Ladders) → grid ≡ authorised_grid rows flights → IsGridOf flights grid
+pub grid_of_rows : (rows : List LimitRow) (flights : List Flown) (grid : Ladders) → grid ≡ authorised_grid rows flights
+    → IsGridOf flights grid
 grid_of_rows rows flights grid is = record { rows = rows; is = is }
 
 -- each row of the limits' text has a ladder, so each leg of the loaded grid has one or none

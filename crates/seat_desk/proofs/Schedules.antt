@@ -13,14 +13,17 @@ use Rattle.seat_desk.specs.declared.fault.DeskFault.{DeskFault}
 use Rattle.seat_desk.specs.declared.fault.DeskFault.TheVariants.{Memory, Set}
 
 -- bytes that are no data set have no flights
-no_set : (first days : ℕ) (bytes : List ℕ) → ((set : DataSet) → IsDataSet most_records bytes set → ⊥) → HasNoSchedule first days bytes
+no_set : (first days : ℕ) (bytes : List ℕ) → ((set : DataSet) → IsDataSet most_records bytes set → ⊥)
+    → HasNoSchedule first days bytes
 no_set first days bytes none flights s = none s.set s.is_set
 
-of_set : (first days : ℕ) (bytes : List ℕ) (fault : DeskFault) → IsRefusedSet fault bytes → IsUnscheduled first days fault bytes
+of_set : (first days : ℕ) (bytes : List ℕ) (fault : DeskFault) → IsRefusedSet fault bytes
+    → IsUnscheduled first days fault bytes
 of_set first days bytes (Set fault) refused = record { within = refused.within; refused = refused; none = no_set first days bytes refused.none }
 of_set first days bytes _ refused = absurd refused
 
-pub refused_set : (first days : ℕ) (bytes : List ℕ) (fault : DeskFault) → (fault ≢ Memory → IsRefusedSet fault bytes) → fault ≢ Memory → IsUnscheduled first days fault bytes
+pub refused_set : (first days : ℕ) (bytes : List ℕ) (fault : DeskFault) → (fault ≢ Memory → IsRefusedSet fault bytes)
+    → fault ≢ Memory → IsUnscheduled first days fault bytes
 refused_set first days bytes fault refused not = of_set first days bytes fault (refused not)
 
 -- nor has a data set with a fault
@@ -33,11 +36,13 @@ faulty first days bytes set fault is wrong flights s =
     let both : Some fault ≡ None = sym wrong ∙ right in
     cc
 
-found : (fault : FlightFault) (first : Option FlightFault) → fault.kind ≢ flight_kinds.Memory → IsRefusal fault first → first ≡ Some fault
+found : (fault : FlightFault) (first : Option FlightFault) → fault.kind ≢ flight_kinds.Memory → IsRefusal fault first
+    → first ≡ Some fault
 found fault first not refused =
     ⊎_elim (λ (m : fault ≡ memory_fault). absurd (not (ap (λ (f : FlightFault). f.kind) m))) (λ (s : first ≡ Some fault). s) refused
 
-cases : (first days : ℕ) (bytes : List ℕ) (set : DataSet) (kind : FlightKind) (fault : FlightFault) → length bytes ≤ most_set_bytes → IsDataSet most_records bytes set
+cases : (first days : ℕ) (bytes : List ℕ) (set : DataSet) (kind : FlightKind) (fault : FlightFault)
+    → length bytes ≤ most_set_bytes → IsDataSet most_records bytes set
     → (kind ≢ flight_kinds.Memory → flights_fault set first days ≡ Some fault) → expansion_fault_of kind fault ≢ Memory
     → IsUnscheduled first days (expansion_fault_of kind fault) bytes
 cases first days bytes set flight_kinds.Memory fault within is first_is not = absurd (not refl)
@@ -45,7 +50,8 @@ cases first days bytes set kind fault within is first_is not =
     let wrong : flights_fault set first days ≡ Some fault = first_is (λ e. cc) in
     record { within = within; refused = record { set = set; is_set = is; wrong = wrong }; none = faulty first days bytes set fault is wrong }
 
-pub refused_expansion : (first days : ℕ) (bytes : List ℕ) (set : DataSet) (fault : FlightFault) → length bytes ≤ most_set_bytes → IsDataSet most_records bytes set
+pub refused_expansion : (first days : ℕ) (bytes : List ℕ) (set : DataSet) (fault : FlightFault)
+    → length bytes ≤ most_set_bytes → IsDataSet most_records bytes set
     → IsRefusal fault (flights_fault set first days) → expansion_fault fault ≢ Memory
     → IsUnscheduled first days (expansion_fault fault) bytes
 refused_expansion first days bytes set fault within is refused =

@@ -62,7 +62,8 @@ IsRefusedJournal grid _ bytes = ⊥
 
 -- and there is no such history
 abbrev pub IsUnaudited : Ladders → List ℕ → Type 0
-IsUnaudited grid bytes = (entries : List Entry) → IsJournalText bytes entries → IsLegal grid entries → length entries ≤ most_lines → ⊥
+IsUnaudited grid bytes = (entries : List Entry) → IsJournalText bytes entries → IsLegal grid entries
+    → length entries ≤ most_lines → ⊥
 
 -- the bytes are not too large, but they are refused
 pub record IsUnlawful (grid : Ladders) (fault : DeskFault) (bytes : List ℕ) : Type 0 where
@@ -96,7 +97,8 @@ pub record IsAudit (set limits : List ℕ) (first days : ℕ) (journal line : Li
 -- where the bytes of the three inputs are known
 abbrev pub IsAuditOf : {S L : Type 0} → Bytes S → Bytes L → Inputs S L → Option (List ℕ) → List ℕ → Type 0
 IsAuditOf set limits inputs journal line =
-    IfSome (set inputs.set) (λ xs. IfSome (limits inputs.limits) (λ ys. IfSome journal (λ zs. IsAudit xs ys inputs.first inputs.days zs line)))
+    IfSome (set inputs.set) (λ xs. IfSome (limits inputs.limits)
+    (λ ys. IfSome journal (λ zs. IsAudit xs ys inputs.first inputs.days zs line)))
 
 -- a journal that is refused over that grid
 pub record IsRefusedOver (set limits : List ℕ) (first days : ℕ) (fault : DeskFault) (journal : List ℕ) : Type 0 where
@@ -121,7 +123,8 @@ IsTooLarge set limits journal = IsTooLargeLoad set limits ⊎ (most_journal_byte
 -- where the bytes of the three inputs are known
 abbrev pub IsRefusedAuditOf : {S L : Type 0} → Bytes S → Bytes L → Inputs S L → Option (List ℕ) → DeskFault → Type 0
 IsRefusedAuditOf set limits inputs journal fault =
-    IfSome (set inputs.set) (λ xs. IfSome (limits inputs.limits) (λ ys. IfSome journal (λ zs. IsRefusedAudit xs ys inputs.first inputs.days zs fault)))
+    IfSome (set inputs.set) (λ xs. IfSome (limits inputs.limits)
+    (λ ys. IfSome journal (λ zs. IsRefusedAudit xs ys inputs.first inputs.days zs fault)))
 
 abbrev pub IsTooLargeOf : {S L : Type 0} → Bytes S → Bytes L → Inputs S L → Option (List ℕ) → Type 0
 IsTooLargeOf set limits inputs journal =

@@ -32,7 +32,8 @@ pub record InputFailed {W : Type 0} (failed : Type 0) (out_old out_new : W) : Ty
   pub untouched : out_new ≡ out_old
 
 -- the output failed, and took a beginning of a text that answers
-pub record OutputFailed {W : Type 0} (failures : W → ℕ) (contents : W → Option (List ℕ)) (out_old out_new : W) (answers : List ℕ → Type 0) : Type 0 where
+pub record OutputFailed {W : Type 0} (failures : W → ℕ) (contents : W → Option (List ℕ)) (out_old out_new : W)
+    (answers : List ℕ → Type 0) : Type 0 where
   pub counted : HasFailed failures out_old out_new
   pub text : List ℕ
   pub right : answers text

@@ -19,7 +19,8 @@ use Rattle.seat_desk.specs.declared.fault.DeskFault.TheVariants.{Set, Flight, Me
 -- the text is a part for each of these, in order, of which the first has the number n
 abbrev pub IsText : {A : Type 0} → (ℕ → A → List ℕ → Type 0) → ℕ → List A → List ℕ → Type 0
 IsText {A} IsPart n [] text = text ≡ []
-IsText {A} IsPart n (x ∷ xs) text = (part rest : List ℕ) × IsPart n x part × (text ≡ part ++ rest) × IsText IsPart (n + 1) xs rest
+IsText {A} IsPart n (x ∷ xs) text =
+    (part rest : List ℕ) × IsPart n x part × (text ≡ part ++ rest) × IsText IsPart (n + 1) xs rest
 
 -- such a text is written behind what was there
 pub record IsPut {A : Type 0} (IsPart : ℕ → A → List ℕ → Type 0) (n : ℕ) (xs : List A) (old new : List ℕ) : Type 0 where

@@ -13,5 +13,6 @@ LoadedLaddersDiffer = (set limits : List ℕ) (first days : ℕ) (flights : List
 
 -- from a loaded grid no replay holds more seats in a class of a leg and those below it than the limit that it leaves
 abbrev pub LoadedReplaysKeepLimits : Type 0
-LoadedReplaysKeepLimits = (set limits : List ℕ) (first days : ℕ) (flights : List Flown) (grid : Ladders) (journal : List Entry) →
+LoadedReplaysKeepLimits =
+    (set limits : List ℕ) (first days : ℕ) (flights : List Flown) (grid : Ladders) (journal : List Entry) →
     IsLoaded set limits first days flights grid → HoldsWithinLimits grid journal

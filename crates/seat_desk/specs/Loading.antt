@@ -45,7 +45,8 @@ Bytes D = D → Option (List ℕ)
 -- where the bytes of both are known
 abbrev pub IsLoadedOf : {S L : Type 0} → Bytes S → Bytes L → Inputs S L → List Flown → Ladders → Type 0
 IsLoadedOf set limits inputs flights grid =
-    IfSome (set inputs.set) (λ xs. IfSome (limits inputs.limits) (λ ys. IsLoaded xs ys inputs.first inputs.days flights grid))
+    IfSome (set inputs.set) (λ xs. IfSome (limits inputs.limits)
+    (λ ys. IsLoaded xs ys inputs.first inputs.days flights grid))
 
 -- the desk's fault for one of limit rows
 abbrev pub limit_refusal_of : LimitKind → LimitFault → DeskFault
@@ -88,10 +89,12 @@ IsTooLargeLoad set limits = (most_set_bytes < length set) ⊎ (most_limit_bytes 
 -- where the bytes of both are known
 abbrev pub IsRefusedLoadOf : {S L : Type 0} → Bytes S → Bytes L → Inputs S L → DeskFault → Type 0
 IsRefusedLoadOf set limits inputs fault =
-    IfSome (set inputs.set) (λ xs. IfSome (limits inputs.limits) (λ ys. IsRefusedLoad xs ys inputs.first inputs.days fault))
+    IfSome (set inputs.set) (λ xs. IfSome (limits inputs.limits)
+    (λ ys. IsRefusedLoad xs ys inputs.first inputs.days fault))
 
 abbrev pub IsTooLargeLoadOf : {S L : Type 0} → Bytes S → Bytes L → Inputs S L → Type 0
-IsTooLargeLoadOf set limits inputs = IfSome (set inputs.set) (λ xs. IfSome (limits inputs.limits) (λ ys. IsTooLargeLoad xs ys))
+IsTooLargeLoadOf set limits inputs =
+    IfSome (set inputs.set) (λ xs. IfSome (limits inputs.limits) (λ ys. IsTooLargeLoad xs ys))
 
 -- one of the two has failed
 abbrev pub HaveFailed : {S L : Type 0} → (S → ℕ) → (L → ℕ) → Inputs S L → Inputs S L → Type 0
@@ -109,7 +112,8 @@ pub record IsGround (set limits : List ℕ) (first days : ℕ) (flights : List F
 -- where the bytes of both are known
 abbrev pub IsGroundOf : {S L : Type 0} → Bytes S → Bytes L → Inputs S L → List Flown → List LimitRow → Type 0
 IsGroundOf set limits inputs flights rows =
-    IfSome (set inputs.set) (λ xs. IfSome (limits inputs.limits) (λ ys. IsGround xs ys inputs.first inputs.days flights rows))
+    IfSome (set inputs.set) (λ xs. IfSome (limits inputs.limits)
+    (λ ys. IsGround xs ys inputs.first inputs.days flights rows))
 
 -- the set is not too large, and has flights
 pub record HasSchedule (first days : ℕ) (set : List ℕ) : Type 0 where
@@ -124,13 +128,16 @@ pub record IsBehind (right wrong : Type 0) : Type 0 where
 
 -- the set is too large, or the limits are behind a right set
 abbrev pub IsFirstTooLargeLoad : List ℕ → List ℕ → ℕ → ℕ → Type 0
-IsFirstTooLargeLoad set limits first days = (most_set_bytes < length set) ⊎ IsBehind (HasSchedule first days set) (most_limit_bytes < length limits)
+IsFirstTooLargeLoad set limits first days =
+    (most_set_bytes < length set) ⊎ IsBehind (HasSchedule first days set) (most_limit_bytes < length limits)
 
 abbrev pub IsFirstTooLargeLoadOf : {S L : Type 0} → Bytes S → Bytes L → Inputs S L → Type 0
 IsFirstTooLargeLoadOf set limits inputs =
-    IfSome (set inputs.set) (λ xs. IfSome (limits inputs.limits) (λ ys. IsFirstTooLargeLoad xs ys inputs.first inputs.days))
+    IfSome (set inputs.set) (λ xs. IfSome (limits inputs.limits)
+    (λ ys. IsFirstTooLargeLoad xs ys inputs.first inputs.days))
 
 -- the set has failed, or the limits have behind a right set
 abbrev pub HasFirstLoadFailed : {S L : Type 0} → Bytes S → (S → ℕ) → (L → ℕ) → Inputs S L → Inputs S L → Type 0
 HasFirstLoadFailed set of_set of_limits old new =
-    HasFailed of_set old.set new.set ⊎ IsBehind (IfSome (set old.set) (HasSchedule old.first old.days)) (HasFailed of_limits old.limits new.limits)
+    HasFailed of_set old.set new.set
+    ⊎ IsBehind (IfSome (set old.set) (HasSchedule old.first old.days)) (HasFailed of_limits old.limits new.limits)

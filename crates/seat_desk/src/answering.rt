@@ -29,7 +29,8 @@ pub fn answer_question<Q: Question, S: NotedRead, L: NotedRead, J: NotedRead, W:
         (IsAnswerOf (Q.answers question.now) S.remaining L.remaining inputs.old (J.remaining journal.old)) (W.contents out.old) (W.contents out.new)) }
     ensures fault { IfErr result (λ f. IsOfInput f →
         IsRefusedAnswerOf (Q.refuses question.now) S.remaining L.remaining inputs.old (J.remaining journal.old) f) }
-    ensures large { IfErr result (λ f. f ≡ DeskFault.TooLarge → IsFirstTooLargeOf S.remaining L.remaining inputs.old (J.remaining journal.old)) }
+    ensures large { IfErr result (λ f. f ≡ DeskFault.TooLarge
+        → IsFirstTooLargeOf S.remaining L.remaining inputs.old (J.remaining journal.old)) }
     ensures device { IfErr result (λ f. f ≡ DeskFault.Device →
         InputFailed (HasFirstFailed S.remaining L.remaining S.failure_count L.failure_count J.failure_count inputs.old inputs.new journal.old journal.new)
         out.old out.new
@@ -56,10 +57,12 @@ fn answered<Q: Question, S: NotedRead, L: NotedRead, J: NotedRead>(
 ) -> Result<Vec<u8>, DeskFault>
     requires first { IsOfCentury inputs.old.first }
     requires days { (1 ≤ inputs.old.days) × (inputs.old.days ≤ 366) }
-    ensures ok { IfOk result (λ text. IsAnswerOf (Q.answers question.now) S.remaining L.remaining inputs.old (J.remaining journal.old) text.items) }
+    ensures ok { IfOk result (λ text. IsAnswerOf (Q.answers question.now) S.remaining L.remaining inputs.old
+        (J.remaining journal.old) text.items) }
     ensures fault { IfErr result (λ f. IsOfInput f →
         IsRefusedAnswerOf (Q.refuses question.now) S.remaining L.remaining inputs.old (J.remaining journal.old) f) }
-    ensures large { IfErr result (λ f. f ≡ DeskFault.TooLarge → IsFirstTooLargeOf S.remaining L.remaining inputs.old (J.remaining journal.old)) }
+    ensures large { IfErr result (λ f. f ≡ DeskFault.TooLarge
+        → IsFirstTooLargeOf S.remaining L.remaining inputs.old (J.remaining journal.old)) }
     ensures device { IfErr result (λ f. f ≡ DeskFault.Device →
         HasFirstFailed S.remaining L.remaining S.failure_count L.failure_count J.failure_count inputs.old inputs.new journal.old journal.new) }
 {

@@ -38,26 +38,8 @@ pub enum DeskFault {
     Unasked { session: u8, call: u32 },
     /// A call of a session, to which a full journal gave no line.
     Book { session: u8, call: u32 },
-    /// The first day is no day of 2000 to 2099.
-    BadFirst,
-    /// The number of days is not one of 1 to 366.
-    BadDays,
-    /// The day of reference is no day of 2000 to 2099.
-    BadToday,
-    /// There are no scripts where some are needed, or more than sessions.
-    BadScripts,
-    /// The day of departure is no day of 2000 to 2099.
-    BadDay,
-    /// The pair is not two stations of three letters each.
-    BadPair,
-    /// The locator is not six letters and digits.
-    BadLocator,
-    /// The journal has no line of this number.
-    BadLine,
-    /// The file of the journal is an input, or may not be overwritten.
-    BadJournal,
-    /// A word of the command line is not UTF-8.
-    BadWords,
+    /// The journal has no line of the number that the command line asks for.
+    NoLine,
     /// An input has more bytes than it may have.
     TooLarge,
     /// A device failed.
@@ -91,16 +73,7 @@ impl fmt::Display for DeskFault {
             }
             DeskFault::Unasked { session, call } => write!(f, "P8 {session} {call}"),
             DeskFault::Book { session, call } => write!(f, "B1 {session} {call}"),
-            DeskFault::BadFirst => f.write_str("E2 first"),
-            DeskFault::BadDays => f.write_str("E2 days"),
-            DeskFault::BadToday => f.write_str("E2 today"),
-            DeskFault::BadScripts => f.write_str("E2 script"),
-            DeskFault::BadDay => f.write_str("E2 day"),
-            DeskFault::BadPair => f.write_str("E2 pair"),
-            DeskFault::BadLocator => f.write_str("E2 locator"),
-            DeskFault::BadLine => f.write_str("E2 line"),
-            DeskFault::BadJournal => f.write_str("E2 journal"),
-            DeskFault::BadWords => f.write_str("E2 words"),
+            DeskFault::NoLine => f.write_str("E2 line"),
             DeskFault::TooLarge => f.write_str("R2"),
             DeskFault::Device => f.write_str("DEVICE"),
             DeskFault::Memory => f.write_str("MEMORY"),
@@ -129,21 +102,12 @@ impl DeskFault {
         }
     }
 
-    /// The exit status: 2 for the command line, 3 for a device or memory, 1 for an input that is refused.
+    /// The exit status: 2 for a line that is asked for and not there, 3 for a device or memory, 1 for an input that is refused.
     pub fn status(&self) -> u8
         ensures { result ≡ status_of self.now }
     {
         match self {
-            DeskFault::BadFirst
-            | DeskFault::BadDays
-            | DeskFault::BadToday
-            | DeskFault::BadScripts
-            | DeskFault::BadDay
-            | DeskFault::BadPair
-            | DeskFault::BadLocator
-            | DeskFault::BadLine
-            | DeskFault::BadJournal
-            | DeskFault::BadWords => 2,
+            DeskFault::NoLine => 2,
             DeskFault::Device | DeskFault::Memory => 3,
             _ => 1,
         }

@@ -41,9 +41,11 @@ pub fn load<S: NotedRead, L: NotedRead>(
     ensures ladders { IfOk result (λ loaded. loaded.grid ≡ authorised_grid loaded.rows loaded.flights) }
     ensures fault { IfErr result (λ f. IsOfInput f → IsRefusedLoadOf S.remaining L.remaining inputs.old f) }
     ensures large { IfErr result (λ f. f ≡ DeskFault.TooLarge → IsTooLargeLoadOf S.remaining L.remaining inputs.old) }
-    ensures device { IfErr result (λ f. f ≡ DeskFault.Device → HaveFailed S.failure_count L.failure_count inputs.old inputs.new) }
+    ensures device { IfErr result (λ f. f ≡ DeskFault.Device
+        → HaveFailed S.failure_count L.failure_count inputs.old inputs.new) }
     // The limits are at fault only behind a set that is right.
-    ensures first_large { IfErr result (λ f. f ≡ DeskFault.TooLarge → IsFirstTooLargeLoadOf S.remaining L.remaining inputs.old) }
+    ensures first_large { IfErr result
+        (λ f. f ≡ DeskFault.TooLarge → IsFirstTooLargeLoadOf S.remaining L.remaining inputs.old) }
     ensures first_failed { IfErr result (λ f. f ≡ DeskFault.Device →
         HasFirstLoadFailed S.remaining S.failure_count L.failure_count inputs.old inputs.new) }
 {

@@ -25,7 +25,8 @@ pub trait Question {
     fn text(&self, alloc: Global, loaded: Loaded, journal: Vec<u8>) -> Result<Vec<u8>, DeskFault>
         requires size { length journal.items ≤ most_journal_bytes }
         requires grid { loaded.grid ≡ authorised_grid loaded.rows loaded.flights }
-        ensures ok { IfOk result (λ text. answers self.now loaded.flights loaded.rows loaded.grid journal.items text.items) }
+        ensures ok { IfOk result (λ text. answers self.now loaded.flights loaded.rows loaded.grid journal.items
+            text.items) }
         ensures fault { IfErr result (λ f. f ≢ DeskFault.Memory → refuses self.now loaded.grid f journal.items) }
         ensures kind { IfErr result (λ f. (f ≢ DeskFault.Device) × (f ≢ DeskFault.TooLarge)) };
 }

@@ -14,7 +14,8 @@ pub fn read_input<R: NotedRead>(
 ) -> Result<Vec<u8>, DeskFault>
     ensures whole { IfOk result (λ bytes. IfSome (R.remaining input.old) (λ xs. bytes.items ≡ xs)) }
     ensures within { IfOk result (λ bytes. length bytes.items ≤ most) }
-    ensures large { IfErr result (λ f. f ≡ DeskFault.TooLarge → IfSome (R.remaining input.old) (λ xs. most < length xs)) }
+    ensures large { IfErr result (λ f. f ≡ DeskFault.TooLarge
+        → IfSome (R.remaining input.old) (λ xs. most < length xs)) }
     ensures device { IfErr result (λ f. f ≡ DeskFault.Device → HasFailed R.failure_count input.old input.new) }
     ensures kind { IfErr result (λ f. (f ≡ DeskFault.TooLarge) ⊎ ((f ≡ DeskFault.Device) ⊎ (f ≡ DeskFault.Memory))) }
 {

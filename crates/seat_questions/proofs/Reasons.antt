@@ -16,7 +16,7 @@ use Rattle.seat_rules.specs.Replaying.{replay_fault}
 use Rattle.seat_rules.proofs.History.Faults.{legal_has_no_fault, get_at}
 use Rattle.seat_desk.specs.AuditDesk.{journal_fault, journal_fault_of, most_journal_bytes, most_lines}
 use Rattle.seat_desk.specs.declared.fault.DeskFault.{DeskFault}
-use Rattle.seat_desk.specs.declared.fault.DeskFault.TheVariants.{BadLine, Memory, Replay}
+use Rattle.seat_desk.specs.declared.fault.DeskFault.TheVariants.{NoLine, Memory, Replay}
 use Rattle.seat_questions.specs.Why.{HasLine, IsExplained, IsPlacePut, IsReasoned, IsRefusedPast, IsUnexplained, IsUnreasoned, IsWhyBy, IsWhyText, answer_text, can_ask, lines_before, place_of_line, right_line, verdict_text}
 
 -- ---- what is refused
@@ -48,7 +48,7 @@ refused_text grid n bytes fault = text_cases grid n bytes fault.kind fault
 -- a line that is not there
 pub refused_line : (grid : Ladders) (n : ℕ) (bytes : List ℕ) (entries : List Entry) → length bytes ≤ most_journal_bytes
     → IsJournalText bytes entries
-    → (HasLine n entries → ⊥) → IsUnreasoned grid n BadLine bytes
+    → (HasLine n entries → ⊥) → IsUnreasoned grid n NoLine bytes
 refused_line grid n bytes entries within is not = record {
   within = within;
   refused = (entries, is, not);
@@ -63,12 +63,12 @@ not_beyond n entries high has = let within = has.within in absurd (omega (arith,
 
 pub refused_below : (grid : Ladders) (n : ℕ) (bytes : List ℕ) (entries : List Entry) → length bytes ≤ most_journal_bytes
     → IsJournalText bytes entries
-    → n < 1 → IsUnreasoned grid n BadLine bytes
+    → n < 1 → IsUnreasoned grid n NoLine bytes
 refused_below grid n bytes entries within is low = refused_line grid n bytes entries within is (not_below n entries low)
 
 pub refused_beyond : (grid : Ladders) (n : ℕ) (bytes : List ℕ) (entries lines : List Entry)
     → length bytes ≤ most_journal_bytes → IsJournalText bytes entries
-    → lines ≡ entries → length lines < n → IsUnreasoned grid n BadLine bytes
+    → lines ≡ entries → length lines < n → IsUnreasoned grid n NoLine bytes
 refused_beyond grid n bytes entries lines within is same high =
     refused_line grid n bytes entries within is (not_beyond n entries (subst (λ (l : List Entry). length l < n) same high))
 

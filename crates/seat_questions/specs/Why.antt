@@ -18,7 +18,7 @@ use Rattle.seat_rules.specs.Sequential.{State, room_left}
 use Rattle.seat_desk.specs.AuditDesk.{most_journal_bytes, most_lines}
 use Rattle.seat_desk.specs.FlightsDesk.{IsLegText, IsText}
 use Rattle.seat_desk.specs.declared.fault.DeskFault.{DeskFault}
-use Rattle.seat_desk.specs.declared.fault.DeskFault.TheVariants.{Journal, Replay, BadLine}
+use Rattle.seat_desk.specs.declared.fault.DeskFault.TheVariants.{Journal, Replay, NoLine}
 
 -- ---- a leg, its classes in the ladder's order
 
@@ -197,7 +197,7 @@ IsRefusedPast grid past _ = ⊥
 -- the fault is the first of the text, or the text has no such line, or the fault is that of the lines before it
 abbrev pub IsRefusedLine : Ladders → ℕ → DeskFault → List ℕ → Type 0
 IsRefusedLine grid n (Journal fault) bytes = IsFirstFault bytes fault.line fault.kind
-IsRefusedLine grid n BadLine bytes = (entries : List Entry) × IsJournalText bytes entries × (HasLine n entries → ⊥)
+IsRefusedLine grid n NoLine bytes = (entries : List Entry) × IsJournalText bytes entries × (HasLine n entries → ⊥)
 IsRefusedLine grid n (Replay fault) bytes =
     (entries : List Entry) × IsJournalText bytes entries × HasLine n entries
     × (replay_fault grid most_lines (lines_before n entries) ≡ Some fault)

@@ -13,34 +13,39 @@ or_false true false e = refl
 or_false x true e = absurd cc
 
 -- a command with one more argument
-argued_on : (a : App) (r : Rule) (old : Command) (arg : Arg) (new : Command) → IsBuiltAs a old → IsReadAs r arg → AddsArg old arg new → IsBuiltAs (with_rule a r) new
+argued_on : (a : App) (r : Rule) (old : Command) (arg : Arg) (new : Command) → IsBuiltAs a old → IsReadAs r arg
+    → AddsArg old arg new → IsBuiltAs (with_rule a r) new
 argued_on a r old arg new was has adds = record {
   app = adds.shape has.local ∙ ap₂ with_rule was.app has.rule;
   local = adds.globals ∙ (or_false _ _ has.local ∙ was.local);
 }
 
-pub argued : {E : Type 0} (a : App) (r : Rule) (old new : Result Command E) (arg : Arg) → IfOk old (IsBuiltAs a) → IsReadAs r arg
+pub argued : {E : Type 0} (a : App) (r : Rule) (old new : Result Command E) (arg : Arg) → IfOk old (IsBuiltAs a)
+    → IsReadAs r arg
     → IfOk new (λ x. IsOkAnd old (λ y. AddsArg y arg x)) → IfOk new (IsBuiltAs (with_rule a r))
 argued a r (Ok x) (Ok y) arg was has adds = argued_on a r x arg y was has adds
 argued a r (Err e) (Ok y) arg was has adds = absurd adds
 argued a r old (Err e) arg was has adds = tt
 
 -- a command with one more subcommand
-joined_on : (a s : App) (old new sub : Command) → IsBuiltAs a old → IsBuiltAs s sub → AddsSubcommand old sub new → IsBuiltAs (with_subcommand a s.top) new
+joined_on : (a s : App) (old new sub : Command) → IsBuiltAs a old → IsBuiltAs s sub → AddsSubcommand old sub new
+    → IsBuiltAs (with_subcommand a s.top) new
 joined_on a s old new sub was built adds = record {
   app = adds.shape built.local ∙ ap₂ with_subcommand was.app (ap (λ (y : App). y.top) built.app);
   local = adds.globals ∙ (or_false _ _ built.local ∙ was.local);
 }
 
 pub joined : {E : Type 0} (a s : App) (old sub new : Result Command E) → IfOk old (IsBuiltAs a) → IfOk sub (IsBuiltAs s)
-    → IfOk new (λ x. IsOkAnd old (λ y. IsOkAnd sub (λ z. AddsSubcommand y z x))) → IfOk new (IsBuiltAs (with_subcommand a s.top))
+    → IfOk new (λ x. IsOkAnd old (λ y. IsOkAnd sub (λ z. AddsSubcommand y z x)))
+    → IfOk new (IsBuiltAs (with_subcommand a s.top))
 joined a s (Ok x) (Ok z) (Ok y) was built adds = joined_on a s x y z was built adds
 joined a s (Err e) sub (Ok y) was built adds = absurd adds
 joined a s (Ok x) (Err e) (Ok y) was built adds = absurd adds
 joined a s old sub (Err e) was built adds = tt
 
 -- an argument that may be given more than once
-pub valued : (r : Rule) (one many : Arg) → many ≡ record one { action = Some Append } → IsReadAs r one → IsReadAs (record r { action = Some Append }) many
+pub valued : (r : Rule) (one many : Arg) → many ≡ record one { action = Some Append } → IsReadAs r one
+    → IsReadAs (record r { action = Some Append }) many
 valued r one many e has = subst (IsReadAs (record r { action = Some Append })) (sym e) (record {
   rule = ap (λ (x : Rule). record x { action = Some Append }) has.rule;
   local = has.local;

@@ -4,7 +4,7 @@ use Rattle.std.proofs.lemmas.Bool.{eqb-true}
 use Rattle.std.proofs.lemmas.Bool.Decides.{nat_tests}
 use Rattle.airline_base.specs.Fields.{two_are, two_value}
 use Rattle.airline_base.specs.Days.{civil_in, two_digits}
-use Rattle.airline_base.proofs.DateLaws.{civil_again, civil_takes, two_again, two_small, two_takes}
+use Rattle.airline_base.proofs.DateLaws.{civil_again, civil_takes, two_again, two_small, two_takes, short_month}
 use Rattle.airline_base.proofs.Tests.{both_are, both_true, guarded, kept}
 use Rattle.seat_words.specs.DayWords.{IsDateWord, date_text, date_word_in}
 
@@ -68,10 +68,8 @@ date_takes (c ∷ d ∷ y ∷ z ∷ g ∷ m ∷ o ∷ h ∷ t ∷ u ∷ []) n e 
     }
 date_takes (c ∷ d ∷ y ∷ z ∷ g ∷ m ∷ o ∷ h ∷ t ∷ u ∷ k ∷ word) n e = absurd cc
 
-short_month : (leap : Bool) (m d : ℕ) → d ≤ cond (eqb m 2) (cond leap 29 28) (cond (eqb m 4 || eqb m 6 || eqb m 9 || eqb m 11) 30 31) → d < 100
-short_month leap m d h = grind (arith, nat_tests, h)
-
-date_of : (y m d : ℕ) → y < 100 → m < 100 → d < 100 → date_word_in (50 ∷ 48 ∷ two_digits y ++ 45 ∷ two_digits m ++ 45 ∷ two_digits d) ≡ civil_in (2000 + y) m d
+date_of : (y m d : ℕ) → y < 100 → m < 100 → d < 100
+    → date_word_in (50 ∷ 48 ∷ two_digits y ++ 45 ∷ two_digits m ++ 45 ∷ two_digits d) ≡ civil_in (2000 + y) m d
 unfolding date_word_in
 date_of y m d a b c =
     let p = two_again y a in

@@ -25,20 +25,23 @@ neither [] b e = (refl, e)
 neither (k ∷ ks) b e = cc
 
 -- a subcommand that is wanted is there
-pub wanted : (help has needs argument : Bool) → needs ≡ true → check_kinds help (not has && needs) argument ≡ [] → has ≡ true
+pub wanted : (help has needs argument : Bool) → needs ≡ true → check_kinds help (not has && needs) argument ≡ []
+    → has ≡ true
 wanted help true needs argument n e = refl
 wanted help false false argument n e = cc
 wanted true false true argument n e = cc
 wanted false false true argument n e = cc
 
-needed : (s : Shape) (rows : List Row) (has : Bool) → s.subcommand_required ≡ true → check_fault s rows has ≡ [] → has ≡ true
+needed : (s : Shape) (rows : List Row) (has : Bool) → s.subcommand_required ≡ true → check_fault s rows has ≡ []
+    → has ≡ true
 needed s rows has needs e = wanted _ has s.subcommand_required _ needs e
 
 -- what holds of each shape's rows, where its words have no fault, holds of the line
 pub record Yields (P : Line → Bool) (s : Shape) : Type 0 where
   pub rows : (words : List Text) → level_fault s [] nothing_held words false [] ≡ [] → P (rows_at s words) ≡ true
 
-found_in : (P : Line → Bool) (p : Shape → Bool) (words : List Text) (subs : List Shape) → Each (λ s. p s ≡ true → Yields P s) subs
+found_in : (P : Line → Bool) (p : Shape → Bool) (words : List Text) (subs : List Shape)
+    → Each (λ s. p s ≡ true → Yields P s) subs
     → is_some (option_map (λ s. rows_at s words) (find p subs)) ≡ true
     → option_map_or (λ s. level_fault s [] nothing_held words false []) (find p subs) [] ≡ []
     → option_map_or P (option_map (λ s. rows_at s words) (find p subs)) false ≡ true
@@ -57,8 +60,10 @@ is_other stop = option_map_or (λ p. is_no_help p.0) stop true
 abbrev pub YieldsBy : (Line → Bool) → Text → List Shape → Type 0
 YieldsBy P name subs = Each (λ s. answers_to name (label_of s) ≡ true → Yields P s) subs
 
-entered_in : (P : Line → Bool) (a : App) (stop : Option (Text × List Text)) → ((name : Text) → is_no_help name ≡ true → YieldsBy P name a.subs)
-    → is_other stop ≡ true → is_some (entered a stop) ≡ true → entered_fault a stop ≡ [] → option_map_or P (entered a stop) false ≡ true
+entered_in : (P : Line → Bool) (a : App) (stop : Option (Text × List Text))
+    → ((name : Text) → is_no_help name ≡ true → YieldsBy P name a.subs)
+    → is_other stop ≡ true → is_some (entered a stop) ≡ true → entered_fault a stop ≡ []
+    → option_map_or P (entered a stop) false ≡ true
 entered_in P a None each o e f = cc
 entered_in P a (Some p) each o e f = found_in P (λ s. answers_to p.0 (label_of s)) p.1 a.subs (each p.0 o) e f
 
@@ -68,18 +73,21 @@ abbrev is_other_step : Step → Bool
 is_other_step (subcommand name) = is_no_help name
 is_other_step _ = true
 
-plain_other : (c : List Rule) (waiting : Waiting) (word : Text) (h : Held) → is_other_step (plain_word c waiting word h).1 ≡ true
+plain_other : (c : List Rule) (waiting : Waiting) (word : Text) (h : Held)
+    → is_other_step (plain_word c waiting word h).1 ≡ true
 plain_other c idle word h = refl
 plain_other c (option id) word h = refl
 plain_other c positional word h = refl
 
-flag_other : (c : List Rule) (waiting : Waiting) (word : Text) (h : Held) (o : Outcome) → is_other_step (after_flag c waiting word h o).1 ≡ true
+flag_other : (c : List Rule) (waiting : Waiting) (word : Text) (h : Held) (o : Outcome)
+    → is_other_step (after_flag c waiting word h o).1 ≡ true
 flag_other c waiting word h done = refl
 flag_other c waiting word h (waits id) = refl
 flag_other c waiting word h plain = plain_other c waiting word h
 flag_other c waiting word h refused = plain_other c waiting word h
 
-short_other : (c : List Rule) (waiting : Waiting) (word : Text) (flags : Option Text) (h : Held) → is_other_step (short_or_plain c waiting word flags h).1 ≡ true
+short_other : (c : List Rule) (waiting : Waiting) (word : Text) (flags : Option Text) (h : Held)
+    → is_other_step (short_or_plain c waiting word flags h).1 ≡ true
 short_other c waiting word None h = plain_other c waiting word h
 short_other c waiting word (Some flags) h = flag_other c waiting word (bundle c flags h).0 (bundle c flags h).1
 
@@ -89,12 +97,14 @@ long_other c waiting word None h = short_other c waiting word (short_of word) h
 long_other c waiting word (Some p) h =
     flag_other c waiting word (long_met c (arg_by_long c p.0) p.1 h).0 (long_met c (arg_by_long c p.0) p.1 h).1
 
-helpless : (is_help off : Bool) (kinds : Kinds) → off ≡ false → (if is_help && not off then DisplayHelp ∷ InvalidSubcommand ∷ [] else []) ≡ [] → not is_help ≡ true
+helpless : (is_help off : Bool) (kinds : Kinds) → off ≡ false
+    → (if is_help && not off then DisplayHelp ∷ InvalidSubcommand ∷ [] else []) ≡ [] → not is_help ≡ true
 helpless true true kinds off e = cc
 helpless true false kinds off e = cc
 helpless false off kinds e f = refl
 
-other_step : (s : Shape) → s.disable_help_subcommand ≡ false → (met : Option Text) (waiting : Waiting) (position : ℕ) (word : Text) (h : Held)
+other_step : (s : Shape) → s.disable_help_subcommand ≡ false
+    → (met : Option Text) (waiting : Waiting) (position : ℕ) (word : Text) (h : Held)
     → other_fault s met word h ≡ [] → is_other_step (subcommand_or_other s.rules met waiting position word h).1 ≡ true
 other_step s on (Some name) waiting position word h f = helpless (bytes_eq name (codes "help")) s.disable_help_subcommand [] on f
 other_step s on None waiting position word h f =
@@ -102,8 +112,10 @@ other_step s on None waiting position word h f =
     (λ e. rw e refl)
     (λ e. rw e (long_other s.rules waiting word (long_of word) h))
 
-word_step : (s : Shape) → s.disable_help_subcommand ≡ false → (names : Names) (is_trailing : Bool) (waiting : Waiting) (position : ℕ) (word : Text) (h : Held)
-    → word_fault s names is_trailing waiting word h ≡ [] → is_other_step (word_met s.rules names is_trailing waiting position word h).1 ≡ true
+word_step : (s : Shape) → s.disable_help_subcommand ≡ false
+    → (names : Names) (is_trailing : Bool) (waiting : Waiting) (position : ℕ) (word : Text) (h : Held)
+    → word_fault s names is_trailing waiting word h ≡ []
+    → is_other_step (word_met s.rules names is_trailing waiting position word h).1 ≡ true
 word_step s on names true waiting position word h f = refl
 word_step s on names false waiting position word h f = other_step s on (subcommand_met names waiting word) waiting position word h f
 
@@ -112,14 +124,16 @@ positional_other : (c : List Rule) (found : Option Rule) (word : Text) (w : Walk
 positional_other c None word w h o = o
 positional_other c (Some a) word w h o = refl
 
-step_other : (c : List Rule) (w : Walk) (word : Text) (h : Held) (step : Step) → is_other w.stopped ≡ true → is_other_step step ≡ true
+step_other : (c : List Rule) (w : Walk) (word : Text) (h : Held) (step : Step) → is_other w.stopped ≡ true
+    → is_other_step step ≡ true
     → is_other (after_step c word w h step).stopped ≡ true
 step_other c w word h (next waiting) o p = o
 step_other c w word h (trailing position) o p = o
 step_other c w word h (subcommand name) o p = p
 step_other c w word h value o p = positional_other c (arg_by_index c w.position) word w h o
 
-turn_other : (s : Shape) → s.disable_help_subcommand ≡ false → (names : Names) (w : Walk) (word : Text) → turn_fault s names w word ≡ []
+turn_other : (s : Shape) → s.disable_help_subcommand ≡ false → (names : Names) (w : Walk) (word : Text)
+    → turn_fault s names w word ≡ []
     → is_other w.stopped ≡ true → is_other (walked s.rules names w word).stopped ≡ true
 unfolding walked
 turn_other s on names w word f o = from w.stopped o f
@@ -135,7 +149,8 @@ turn_other s on names w word f o = from w.stopped o f
         let both = neither (word_fault s names w.is_trailing w.waiting word w.held) (step_fault s w.position met.0 met.1) f in
         step_other s.rules w word met.0 met.1 o (word_step s on names w.is_trailing w.waiting w.position word w.held both.0)
 
-walk_other : (s : Shape) → s.disable_help_subcommand ≡ false → (names : Names) (words : List Text) (w : Walk) → walk_fault s names w words ≡ []
+walk_other : (s : Shape) → s.disable_help_subcommand ≡ false → (names : Names) (words : List Text) (w : Walk)
+    → walk_fault s names w words ≡ []
     → is_other w.stopped ≡ true → is_other (fold (walked s.rules names) w words).stopped ≡ true
 unfolding walk_fault
 walk_other s on names [] w f o = o
@@ -144,7 +159,8 @@ walk_other s on names (word ∷ rest) w f o =
     walk_other s on names rest (walked s.rules names w word) both.1 (turn_other s on names w word both.0 o)
 
 -- the line of a command that needs one
-pub line_in : (P : Line → Bool) (a : App) (words : List Text) → a.top.subcommand_required ≡ true → a.top.disable_help_subcommand ≡ false
+pub line_in : (P : Line → Bool) (a : App) (words : List Text) → a.top.subcommand_required ≡ true
+    → a.top.disable_help_subcommand ≡ false
     → ((name : Text) → is_no_help name ≡ true → YieldsBy P name a.subs)
     → built_fault a nothing_held words ≡ []
     → option_map_or P (entered a (stop_after a.top.rules (names_of a) words)) false ≡ true

@@ -15,7 +15,8 @@ pub some_text : (f : Found) (id t : Text) → Some t ≡ first_value f id → fi
 some_text f id t e = sym (e ∙ first_value-rows f id)
 
 -- and so where there may be none
-pub may_text : (f : Found) (id : Text) (found : Option Text) → found ≡ first_value f id → first_of id (rows_of f) ≡ found
+pub may_text : (f : Found) (id : Text) (found : Option Text) → found ≡ first_value f id
+    → first_of id (rows_of f) ≡ found
 may_text f id found e = sym (e ∙ first_value-rows f id)
 
 -- a value that is in the rows is got
@@ -26,36 +27,44 @@ no_text f id e h = let bad : false ≡ true = ap is_some (e ∙ first_value-rows
 abbrev says_so : Option Text → Bool
 says_so found = option_map_or (λ text. bytes_eq text (codes "true")) found false
 
-pub some_flag : (f : Found) (id t : Text) → Some t ≡ first_value f id → is_flagged id (rows_of f) ≡ bytes_eq t (codes "true")
+pub some_flag : (f : Found) (id t : Text) → Some t ≡ first_value f id
+    → is_flagged id (rows_of f) ≡ bytes_eq t (codes "true")
 some_flag f id t e = ap says_so (some_text f id t e)
 
 pub no_flag : (f : Found) (id : Text) → None ≡ first_value f id → is_flagged id (rows_of f) ≡ false
 no_flag f id e = ap says_so (may_text f id None e)
 
 -- and so of several values
-pub some_texts : (f : Found) (id : Text) (ts : List Text) → Some ts ≡ option_map raw_values (matched_of f id) → all_of id (rows_of f) ≡ Some ts
+pub some_texts : (f : Found) (id : Text) (ts : List Text) → Some ts ≡ option_map raw_values (matched_of f id)
+    → all_of id (rows_of f) ≡ Some ts
 some_texts f id ts e = sym (e ∙ raw_values-rows f id)
 
-pub any_texts : (f : Found) (id : Text) (ts : List Text) → Some ts ≡ option_map raw_values (matched_of f id) → unwrap_or (all_of id (rows_of f)) [] ≡ ts
+pub any_texts : (f : Found) (id : Text) (ts : List Text) → Some ts ≡ option_map raw_values (matched_of f id)
+    → unwrap_or (all_of id (rows_of f)) [] ≡ ts
 any_texts f id ts e = ap (λ (found : Option (List Text)). unwrap_or found []) (some_texts f id ts e)
 
-pub none_of_texts : (f : Found) (id : Text) → None ≡ option_map raw_values (matched_of f id) → unwrap_or (all_of id (rows_of f)) [] ≡ []
+pub none_of_texts : (f : Found) (id : Text) → None ≡ option_map raw_values (matched_of f id)
+    → unwrap_or (all_of id (rows_of f)) [] ≡ []
 none_of_texts f id e = ap (λ (found : Option (List Text)). unwrap_or found []) (sym (e ∙ raw_values-rows f id))
 
-pub no_texts : (f : Found) (id : Text) → None ≡ option_map raw_values (matched_of f id) → is_some (first_of id (rows_of f)) ≡ true → ⊥
+pub no_texts : (f : Found) (id : Text) → None ≡ option_map raw_values (matched_of f id)
+    → is_some (first_of id (rows_of f)) ≡ true → ⊥
 no_texts f id e h = none_first (find (λ r. bytes_eq r.id id) (rows_of f)) (e ∙ raw_values-rows f id) h
   where
-    none_first : (found : Option Row) → None ≡ option_map (λ r. r.values) found → is_some (option_and_then (λ r. slice_get r.values 0) found) ≡ true → ⊥
+    none_first : (found : Option Row) → None ≡ option_map (λ r. r.values) found
+        → is_some (option_and_then (λ r. slice_get r.values 0) found) ≡ true → ⊥
     none_first None e h = cc
     none_first (Some r) e h = cc
 
 module _ {Z : Type 0} where
-  pub nothing_found : (sub : Option (Box SubCommand Z)) → false ≡ is_some sub → is_answerable (subcommand_rows sub) ≡ true → ⊥
+  pub nothing_found : (sub : Option (Box SubCommand Z)) → false ≡ is_some sub
+      → is_answerable (subcommand_rows sub) ≡ true → ⊥
   nothing_found None e h = cc
   nothing_found (Some b) e h = cc
 
   -- the name and the rows of the subcommand are its line
-  pub line_found : (sub : Option (Box SubCommand Z)) (name : Text) (rows : List Row) → Some name ≡ option_map (λ b. (out-SubCommand (box_value b)).name.now) sub
+  pub line_found : (sub : Option (Box SubCommand Z)) (name : Text) (rows : List Row)
+      → Some name ≡ option_map (λ b. (out-SubCommand (box_value b)).name.now) sub
       → Some rows ≡ option_map (λ p. p.1) (subcommand_rows sub) → subcommand_rows sub ≡ Some (name, rows)
   line_found None name rows e f = cc
   line_found (Some b) name rows e f = cc

@@ -21,7 +21,8 @@ seatdesk_is_free = refl
 -- ---- words without a fault give a line of one of the commands
 
 -- the words of a leaf give what holds of all rows with its required values
-leaf_line : (P : Line → Bool) (s : Shape) → Each Keeps s.rules → ((rows : List Row) → has_required s.rules rows ≡ true → P (s.name, rows) ≡ true)
+leaf_line : (P : Line → Bool) (s : Shape) → Each Keeps s.rules
+    → ((rows : List Row) → has_required s.rules rows ≡ true → P (s.name, rows) ≡ true)
     → Yields P s
 leaf_line P s each given = record { rows = λ words e. given (rows_after s.rules [] words) (leaf_values s each words e) }
 
@@ -82,7 +83,8 @@ no_help name o h = let e : name ≡ codes "help" = sym ((bytes_eq-Decides (codes
     either_true true h = refl
     either_true false h = cc
 
-pub seatdesk_line : (words : List Text) → fault_of seatdesk_app words ≡ [] → is_answerable (subcommand_of seatdesk_app words) ≡ true
+pub seatdesk_line : (words : List Text) → fault_of seatdesk_app words ≡ []
+    → is_answerable (subcommand_of seatdesk_app words) ≡ true
 unfolding seatdesk_app selling_app bare_app named_app ladder_app check_app flights_app cover_app rooms_app run_app bookings_app audit_app why_app explain_app horizon_app
 seatdesk_line words e = line_in is_complete (built seatdesk_app) (argument_words seatdesk_app words) refl refl
     (λ name o. (

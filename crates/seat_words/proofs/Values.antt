@@ -38,7 +38,8 @@ filled_both : (xs ys : List Row) → Filled xs → Filled ys → Filled (xs ++ y
 filled_both [] ys h k = k
 filled_both (x ∷ xs) ys h k = (h.0, filled_both xs ys h.1 k)
 
-filled_at : (id : Text) (change : Row → List Row) (missing rows : List Row) → ((r : Row) → HasValue r → Filled (change r)) → Filled missing
+filled_at : (id : Text) (change : Row → List Row) (missing rows : List Row)
+    → ((r : Row) → HasValue r → Filled (change r)) → Filled missing
     → Filled rows → Filled (at_row id change missing rows)
 filled_at id change missing [] ch m h = m
 filled_at id change missing (r ∷ rs) ch m h =
@@ -72,7 +73,8 @@ abbrev one : Option ValueRange
 one = Some (record { start_inclusive = 1; end_inclusive = 1 })
 
 is_used : (a : Rule) (range : Option ValueRange) (values : List Text) → a.range ≡ range → range ≡ one
-    → range_kinds (unwrap_or_range a.range).start_inclusive (most_values a) (length values) ≡ [] → has_some values ≡ true
+    → range_kinds (unwrap_or_range a.range).start_inclusive (most_values a) (length values) ≡ []
+    → has_some values ≡ true
 is_used a range [] e f h =
     let bad = subst (λ (r : Option ValueRange). range_kinds (unwrap_or_range r).start_inclusive (unwrap_or_range r).end_inclusive 0 ≡ []) (e ∙ f) h in cc
 is_used a range (v ∷ vs) e f h = refl
@@ -80,7 +82,8 @@ is_used a range (v ∷ vs) e f h = refl
 pub set_keeps : (a : Rule) → action_of a ≡ Set → a.range ≡ one → Keeps a
 set_keeps a e range = record { use_of = go }
   where
-    go : (again : Bool) (values : List Text) (rows : List Row) → use_fault again a values rows ≡ [] → Filled rows → Filled (used a values rows)
+    go : (again : Bool) (values : List Text) (rows : List Row) → use_fault again a values rows ≡ [] → Filled rows
+        → Filled (used a values rows)
     go again [] rows f h = let bad = is_used a one [] range refl (neither _ _ f).0 in cc
     go again (v ∷ vs) rows f h = subst (λ (x : ArgAction). Filled (used_as x a.id (reading_by a) (v ∷ vs) rows)) (sym e)
         (filled_with a.id (reading_by a) _ v vs (without a.id rows) (filled_without a.id rows h))
@@ -88,7 +91,8 @@ set_keeps a e range = record { use_of = go }
 pub append_keeps : (a : Rule) → action_of a ≡ Append → a.range ≡ one → Keeps a
 append_keeps a e range = record { use_of = go }
   where
-    go : (again : Bool) (values : List Text) (rows : List Row) → use_fault again a values rows ≡ [] → Filled rows → Filled (used a values rows)
+    go : (again : Bool) (values : List Text) (rows : List Row) → use_fault again a values rows ≡ [] → Filled rows
+        → Filled (used a values rows)
     go again [] rows f h = let bad = is_used a one [] range refl (neither _ _ f).0 in cc
     go again (v ∷ vs) rows f h = subst (λ (x : ArgAction). Filled (used_as x a.id (reading_by a) (v ∷ vs) rows)) (sym e)
         (filled_with a.id (reading_by a) _ v vs rows h)
@@ -106,14 +110,16 @@ flag_keeps a e v given = record { use_of = go }
     some_given [] = rw given refl
     some_given (w ∷ ws) = refl
 
-    go : (again : Bool) (values : List Text) (rows : List Row) → use_fault again a values rows ≡ [] → Filled rows → Filled (used a values rows)
+    go : (again : Bool) (values : List Text) (rows : List Row) → use_fault again a values rows ≡ [] → Filled rows
+        → Filled (used a values rows)
     go again values rows f h = subst (λ (x : ArgAction). Filled (used_as x a.id (reading_by a) (values_or_missing a values) rows)) (sym e)
         (put rows (values_or_missing a values) (some_given values) h)
 
 pub help_keeps : (a : Rule) → action_of a ≡ Help → Keeps a
 help_keeps a e = record { use_of = go }
   where
-    go : (again : Bool) (values : List Text) (rows : List Row) → use_fault again a values rows ≡ [] → Filled rows → Filled (used a values rows)
+    go : (again : Bool) (values : List Text) (rows : List Row) → use_fault again a values rows ≡ [] → Filled rows
+        → Filled (used a values rows)
     go again values rows f h = subst (λ (x : ArgAction). Filled (used_as x a.id (reading_by a) (values_or_missing a values) rows)) (sym e) h
 
 -- ---- what is held during the walk
@@ -128,18 +134,23 @@ found_keeps p (x ∷ xs) each a e =
     some_inside : (x a : Rule) → Some x ≡ Some a → x ≡ a
     some_inside x a e = cc
 
-by_id : (again : Bool) (found : Option Rule) (values : List Text) (rows : List Row) → ((a : Rule) → found ≡ Some a → Keeps a)
-    → option_map_or (λ a. use_fault again a values rows) found [] ≡ [] → Filled rows → Filled (used_by_id found values rows)
+by_id : (again : Bool) (found : Option Rule) (values : List Text) (rows : List Row)
+    → ((a : Rule) → found ≡ Some a → Keeps a)
+    → option_map_or (λ a. use_fault again a values rows) found [] ≡ [] → Filled rows
+    → Filled (used_by_id found values rows)
 by_id again None values rows keeps f h = h
 by_id again (Some a) values rows keeps f h = (keeps a refl).use_of again values rows f h
 
-settled_pending : (c : List Rule) → Each Keeps c → (again : Bool) (pending : Option (Text × List Text)) (rows : List Row)
-    → option_map_or (λ p. option_map_or (λ a. use_fault again a p.1 rows) (arg_by_id c p.0) []) pending [] ≡ [] → Filled rows
+settled_pending : (c : List Rule) → Each Keeps c
+    → (again : Bool) (pending : Option (Text × List Text)) (rows : List Row)
+    → option_map_or (λ p. option_map_or (λ a. use_fault again a p.1 rows) (arg_by_id c p.0) []) pending [] ≡ []
+    → Filled rows
     → Filled (settled_rows c pending rows)
 settled_pending c each again None rows f h = h
 settled_pending c each again (Some p) rows f h = by_id again (arg_by_id c p.0) p.1 rows (λ a e. found_keeps (λ a. bytes_eq a.id p.0) c each a e) f h
 
-settled_filled : (c : List Rule) → Each Keeps c → (again : Bool) (h : Held) → settle_fault c again h ≡ [] → Filled h.rows → Filled (settled c h).rows
+settled_filled : (c : List Rule) → Each Keeps c → (again : Bool) (h : Held) → settle_fault c again h ≡ []
+    → Filled h.rows → Filled (settled c h).rows
 settled_filled c each again h f k = settled_pending c each again h.pending h.rows f k
 
 reacted_filled : (c : List Rule) → Each Keeps c → (again : Bool) (a : Rule) → Keeps a → (values : List Text) (h : Held)
@@ -153,7 +164,8 @@ option_filled : (c : List Rule) → Each Keeps c → (again : Bool) (a : Rule) �
 option_filled c each again a keeps None h f k = settled_filled c each again h f k
 option_filled c each again a keeps (Some v) h f k = reacted_filled c each again a keeps (v ∷ []) h f k
 
-long_filled : (c : List Rule) → Each Keeps c → (again : Bool) (found : Option Rule) → ((a : Rule) → found ≡ Some a → Keeps a) → (v : Option Text) (h : Held)
+long_filled : (c : List Rule) → Each Keeps c → (again : Bool) (found : Option Rule)
+    → ((a : Rule) → found ≡ Some a → Keeps a) → (v : Option Text) (h : Held)
     → long_fault c again found v h ≡ [] → Filled h.rows → Filled (long_met c found v h).0.rows
 long_filled c each again None keeps v h f k = k
 long_filled c each again (Some a) keeps v h f k =
@@ -161,11 +173,13 @@ long_filled c each again (Some a) keeps v h f k =
     (λ e. rw e (option_filled c each again a (keeps a refl) v h (rw e at f) k))
     (λ e. rw e (flag_filled v (rw e at f)))
   where
-    flag_filled : (v : Option Text) → (if is_some v then TooManyValues ∷ [] else react_fault c again a [] h) ≡ [] → Filled (flag_met c a v h).0.rows
+    flag_filled : (v : Option Text) → (if is_some v then TooManyValues ∷ [] else react_fault c again a [] h) ≡ []
+        → Filled (flag_met c a v h).0.rows
     flag_filled None f = reacted_filled c each again a (keeps a refl) [] h f k
     flag_filled (Some v) f = k
 
-short_filled : (c : List Rule) → Each Keeps c → (again : Bool) (found : Option Rule) → ((a : Rule) → found ≡ Some a → Keeps a) → (rest : Text) (h : Held)
+short_filled : (c : List Rule) → Each Keeps c → (again : Bool) (found : Option Rule)
+    → ((a : Rule) → found ≡ Some a → Keeps a) → (rest : Text) (h : Held)
     (fault : Held → Kinds) (step : Held → Held × Outcome) → ((h : Held) → fault h ≡ [] → Filled h.rows → Filled (step h).0.rows)
     → short_fault c again found rest h fault ≡ [] → Filled h.rows → Filled (short_met c found rest h step).0.rows
 short_filled c each again None keeps rest h fault step after f k = k
@@ -174,12 +188,14 @@ short_filled c each again (Some a) keeps rest h fault step after f k =
     (λ e. rw e (option_filled c each again a (keeps a refl) (attached_value rest) h (rw e at f) k))
     (λ e. rw e (flag_filled (rw e at f)))
   where
-    flag_filled : or_else (react_fault c again a [] h) (fault (reacted c a [] h)) ≡ [] → Filled (step (reacted c a [] h)).0.rows
+    flag_filled : or_else (react_fault c again a [] h) (fault (reacted c a [] h)) ≡ []
+        → Filled (step (reacted c a [] h)).0.rows
     flag_filled g =
         let both = neither (react_fault c again a [] h) (fault (reacted c a [] h)) g in
         after (reacted c a [] h) both.1 (reacted_filled c each again a (keeps a refl) [] h both.0 k)
 
-bundle_filled : (c : List Rule) → Each Keeps c → (again : Bool) (k : ℕ) (flags : Text) (skip : ℕ) (so_far : Outcome) (h : Held)
+bundle_filled : (c : List Rule) → Each Keeps c
+    → (again : Bool) (k : ℕ) (flags : Text) (skip : ℕ) (so_far : Outcome) (h : Held)
     → flags_fault c again k flags skip h ≡ [] → Filled h.rows → Filled (bundle_met c k flags skip so_far h).0.rows
 unfolding flags_fault bundle_met
 bundle_filled c each again zero flags skip so_far h f k = k
@@ -187,10 +203,13 @@ bundle_filled c each again (suc n) flags skip so_far h f k =
     step_filled c each again (slice_get (chars flags) 0) flags skip so_far h (flags_fault c again n) (bundle_met c n)
     (λ flags skip so_far h g r. bundle_filled c each again n flags skip so_far h g r) f k
   where
-    step_filled : (c : List Rule) → Each Keeps c → (again : Bool) (x : Option ℕ) (flags : Text) (skip : ℕ) (so_far : Outcome) (h : Held)
+    step_filled : (c : List Rule) → Each Keeps c
+        → (again : Bool) (x : Option ℕ) (flags : Text) (skip : ℕ) (so_far : Outcome) (h : Held)
         (fault : Text → ℕ → Held → Kinds) (step : Text → ℕ → Outcome → Held → Held × Outcome)
-        → ((flags : Text) (skip : ℕ) (so_far : Outcome) (h : Held) → fault flags skip h ≡ [] → Filled h.rows → Filled (step flags skip so_far h).0.rows)
-        → bundle_step_fault c again x flags skip h fault ≡ [] → Filled h.rows → Filled (bundle_step c x flags skip so_far h step).0.rows
+        → ((flags : Text) (skip : ℕ) (so_far : Outcome) (h : Held) → fault flags skip h ≡ [] → Filled h.rows
+        → Filled (step flags skip so_far h).0.rows)
+        → bundle_step_fault c again x flags skip h fault ≡ [] → Filled h.rows
+        → Filled (bundle_step c x flags skip so_far h step).0.rows
     step_filled c each again None flags skip so_far h fault step after f k = k
     step_filled c each again (Some x) flags zero so_far h fault step after f k =
         let rest = drop (length (encode_utf8 x)) flags in
@@ -199,7 +218,8 @@ bundle_filled c each again (suc n) flags skip so_far h f k =
     step_filled c each again (Some x) flags (suc skip) so_far h fault step after f k =
         after (drop (length (encode_utf8 x)) flags) skip so_far h f k
 
-plain_rows : (c : List Rule) (waiting : Waiting) (word : Text) (h : Held) → Filled h.rows → Filled (plain_word c waiting word h).0.rows
+plain_rows : (c : List Rule) (waiting : Waiting) (word : Text) (h : Held) → Filled h.rows
+    → Filled (plain_word c waiting word h).0.rows
 plain_rows c idle word h k = k
 plain_rows c (option id) word h k = named (arg_by_id c id)
   where
@@ -208,47 +228,57 @@ plain_rows c (option id) word h k = named (arg_by_id c id)
     named (Some a) = k
 plain_rows c positional word h k = k
 
-after_rows : (c : List Rule) (waiting : Waiting) (word : Text) (h : Held) (o : Outcome) → Filled h.rows → Filled (after_flag c waiting word h o).0.rows
+after_rows : (c : List Rule) (waiting : Waiting) (word : Text) (h : Held) (o : Outcome) → Filled h.rows
+    → Filled (after_flag c waiting word h o).0.rows
 after_rows c waiting word h done k = k
 after_rows c waiting word h (waits id) k = k
 after_rows c waiting word h plain k = plain_rows c waiting word h k
 after_rows c waiting word h refused k = plain_rows c waiting word h k
 
-short_word_filled : (c : List Rule) → Each Keeps c → (again : Bool) (waiting : Waiting) (word : Text) (flags : Option Text) (h : Held)
-    → option_map_or (λ flags. bundle_fault c again flags h) flags [] ≡ [] → Filled h.rows → Filled (short_or_plain c waiting word flags h).0.rows
+short_word_filled : (c : List Rule) → Each Keeps c
+    → (again : Bool) (waiting : Waiting) (word : Text) (flags : Option Text) (h : Held)
+    → option_map_or (λ flags. bundle_fault c again flags h) flags [] ≡ [] → Filled h.rows
+    → Filled (short_or_plain c waiting word flags h).0.rows
 short_word_filled c each again waiting word None h f k = plain_rows c waiting word h k
 short_word_filled c each again waiting word (Some flags) h f k =
     after_rows c waiting word (bundle c flags h).0 (bundle c flags h).1
     (bundle_filled c each again (length flags) flags h.skip plain (record h { skip = 0 }) f k)
 
-flag_word_filled : (c : List Rule) → Each Keeps c → (again : Bool) (waiting : Waiting) (word : Text) (long : Option (Text × Option Text)) (h : Held)
+flag_word_filled : (c : List Rule) → Each Keeps c
+    → (again : Bool) (waiting : Waiting) (word : Text) (long : Option (Text × Option Text)) (h : Held)
     → flag_word_fault c again long word h ≡ [] → Filled h.rows → Filled (long_or_other c waiting word long h).0.rows
 flag_word_filled c each again waiting word None h f k = short_word_filled c each again waiting word (short_of word) h f k
 flag_word_filled c each again waiting word (Some p) h f k =
     after_rows c waiting word (long_met c (arg_by_long c p.0) p.1 h).0 (long_met c (arg_by_long c p.0) p.1 h).1
     (long_filled c each again (arg_by_long c p.0) (λ a e. found_keeps (λ a. not (is_some a.index) && has_long a p.0) c each a e) p.1 h f k)
 
-other_filled : (s : Shape) → Each Keeps s.rules → (met : Option Text) (waiting : Waiting) (position : ℕ) (word : Text) (h : Held)
-    → other_fault s met word h ≡ [] → Filled h.rows → Filled (subcommand_or_other s.rules met waiting position word h).0.rows
+other_filled : (s : Shape) → Each Keeps s.rules
+    → (met : Option Text) (waiting : Waiting) (position : ℕ) (word : Text) (h : Held)
+    → other_fault s met word h ≡ [] → Filled h.rows
+    → Filled (subcommand_or_other s.rules met waiting position word h).0.rows
 other_filled s each (Some name) waiting position word h f k = k
 other_filled s each None waiting position word h f k =
     cases (bytes_eq word (45 ∷ 45 ∷ [])) (bytes_eq word (45 ∷ 45 ∷ [])) refl
     (λ e. rw e k)
     (λ e. rw e (flag_word_filled s.rules each s.args_override_self waiting word (long_of word) h (rw e at f) k))
 
-word_filled : (s : Shape) → Each Keeps s.rules → (names : Names) (is_trailing : Bool) (waiting : Waiting) (position : ℕ) (word : Text) (h : Held)
-    → word_fault s names is_trailing waiting word h ≡ [] → Filled h.rows → Filled (word_met s.rules names is_trailing waiting position word h).0.rows
+word_filled : (s : Shape) → Each Keeps s.rules
+    → (names : Names) (is_trailing : Bool) (waiting : Waiting) (position : ℕ) (word : Text) (h : Held)
+    → word_fault s names is_trailing waiting word h ≡ [] → Filled h.rows
+    → Filled (word_met s.rules names is_trailing waiting position word h).0.rows
 word_filled s each names true waiting position word h f k = k
 word_filled s each names false waiting position word h f k = other_filled s each (subcommand_met names waiting word) waiting position word h f k
 
-step_filled : (s : Shape) → Each Keeps s.rules → (w : Walk) (word : Text) (h : Held) (step : Step) → step_fault s w.position h step ≡ []
+step_filled : (s : Shape) → Each Keeps s.rules → (w : Walk) (word : Text) (h : Held) (step : Step)
+    → step_fault s w.position h step ≡ []
     → Filled h.rows → Filled (after_step s.rules word w h step).held.rows
 step_filled s each w word h (next waiting) f k = k
 step_filled s each w word h (trailing position) f k = k
 step_filled s each w word h (subcommand name) f k = k
 step_filled s each w word h value f k = taken (arg_by_index s.rules w.position) f
   where
-    taken : (found : Option Rule) → option_map_or (λ a. positional_fault s.rules s.args_override_self a h) found (stray_fault s) ≡ []
+    taken : (found : Option Rule)
+        → option_map_or (λ a. positional_fault s.rules s.args_override_self a h) found (stray_fault s) ≡ []
         → Filled (to_positional s.rules found word w h).held.rows
     taken None f = k
     taken (Some a) f =
@@ -256,7 +286,8 @@ step_filled s each w word h value f k = taken (arg_by_index s.rules w.position) 
         (λ e. rw e k)
         (λ e. rw e (settled_filled s.rules each s.args_override_self h (rw e at f) k))
 
-turn_filled : (s : Shape) → Each Keeps s.rules → (names : Names) (w : Walk) (word : Text) → turn_fault s names w word ≡ [] → Filled w.held.rows
+turn_filled : (s : Shape) → Each Keeps s.rules → (names : Names) (w : Walk) (word : Text)
+    → turn_fault s names w word ≡ [] → Filled w.held.rows
     → Filled (walked s.rules names w word).held.rows
 unfolding walked
 turn_filled s each names w word f k = from w.stopped f
@@ -273,7 +304,8 @@ turn_filled s each names w word f k = from w.stopped f
         step_filled s each w word met.0 met.1 both.1
         (word_filled s each names w.is_trailing w.waiting w.position word w.held both.0 k)
 
-walk_filled : (s : Shape) → Each Keeps s.rules → (names : Names) (words : List Text) (w : Walk) → walk_fault s names w words ≡ [] → Filled w.held.rows
+walk_filled : (s : Shape) → Each Keeps s.rules → (names : Names) (words : List Text) (w : Walk)
+    → walk_fault s names w words ≡ [] → Filled w.held.rows
     → Filled (fold (walked s.rules names) w words).held.rows
 unfolding walk_fault
 walk_filled s each names [] w f k = k
@@ -283,7 +315,8 @@ walk_filled s each names (word ∷ rest) w f k =
 
 -- ---- after the walk
 
-default_filled : (id : Text) (how : Reading) (values : List Text) (rows : List Row) → Filled rows → Filled (default_rows id how values rows)
+default_filled : (id : Text) (how : Reading) (values : List Text) (rows : List Row) → Filled rows
+    → Filled (default_rows id how values rows)
 default_filled id how [] rows k = k
 default_filled id how (v ∷ vs) rows k = filled_with id how _ v vs rows k
 
@@ -308,7 +341,8 @@ given_value id (r ∷ rs) k e =
 abbrev pub has_required : List Rule → List Row → Bool
 has_required c rows = list_all (λ a. not a.required || is_some (first_of a.id rows)) c
 
-required_given : (c : List Rule) (rows : List Row) → Filled rows → list_any (λ a. a.required && not (is_given a.id rows)) c ≡ false → has_required c rows ≡ true
+required_given : (c : List Rule) (rows : List Row) → Filled rows
+    → list_any (λ a. a.required && not (is_given a.id rows)) c ≡ false → has_required c rows ≡ true
 required_given [] rows k e = refl
 required_given (a ∷ rest) rows k e =
     let both = neither_true (a.required && not (is_given a.id rows)) _ e in
@@ -318,13 +352,15 @@ required_given (a ∷ rest) rows k e =
     neither_true true y e = cc
     neither_true false y e = (refl, e)
 
-    here : (required given : Bool) → (required && not given) ≡ false → (given ≡ true → is_some (first_of a.id rows) ≡ true)
+    here : (required given : Bool) → (required && not given) ≡ false
+        → (given ≡ true → is_some (first_of a.id rows) ≡ true)
         → ((not required || is_some (first_of a.id rows)) && true) ≡ true
     here false given e h = refl
     here true true e h = rw (h refl) refl
     here true false e h = cc
 
-no_wanting : (help subcommand negates wants : Bool) → check_kinds help subcommand (not (negates && false) && wants) ≡ [] → wants ≡ false
+no_wanting : (help subcommand negates wants : Bool) → check_kinds help subcommand (not (negates && false) && wants) ≡ []
+    → wants ≡ false
 no_wanting help sub negates false e = refl
 no_wanting true sub negates true e = cc
 no_wanting false true negates true e = cc
@@ -332,7 +368,8 @@ no_wanting false false true true e = cc
 no_wanting false false false true e = cc
 
 -- words without a fault give each argument that a leaf requires a value
-pub leaf_values : (s : Shape) → Each Keeps s.rules → (words : List Text) → level_fault s [] nothing_held words false [] ≡ []
+pub leaf_values : (s : Shape) → Each Keeps s.rules → (words : List Text)
+    → level_fault s [] nothing_held words false [] ≡ []
     → has_required s.rules (rows_after s.rules [] words) ≡ true
 leaf_values s each words e =
     let end = (walk s.rules [] nothing_held words).held in

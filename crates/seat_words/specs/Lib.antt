@@ -1,5 +1,6 @@
 pub mod CommandLine
 pub mod DayWords
 pub mod Examples
+pub mod FaultText
 pub mod Jobs
 pub mod NameWords

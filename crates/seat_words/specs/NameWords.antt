@@ -7,7 +7,8 @@ use Rattle.airline_base.specs.Names.{is_station}
 
 -- two stations, the board point and behind it the off point
 abbrev pub pair_word_in : List ℕ → Option (List ℕ × List ℕ)
-pair_word_in word = if is_station (take 3 word) && is_station (drop 3 word) then Some (take 3 word, drop 3 word) else None
+pair_word_in word =
+    if is_station (take 3 word) && is_station (drop 3 word) then Some (take 3 word, drop 3 word) else None
 
 -- the word is n in one to six digits, from 1 on
 pub record IsLineWord (word : List ℕ) (n : ℕ) : Type 0 where

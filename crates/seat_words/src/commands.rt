@@ -93,7 +93,8 @@ fn with_command<'a>(
     program: Result<Command<'a>, AllocError>,
     command: Result<Command<'a>, AllocError>,
 ) -> Result<Command<'a>, AllocError>
-    ensures { IfOk result (λ new. IsOkAnd program.entry (λ old. IsOkAnd command.entry (λ sub. AddsSubcommand old sub new))) }
+    ensures { IfOk result (λ new. IsOkAnd program.entry
+        (λ old. IsOkAnd command.entry (λ sub. AddsSubcommand old sub new))) }
 {
     program?.subcommand(command?)
 }

@@ -5,12 +5,14 @@
 mod commands;
 mod days;
 mod examples;
+mod fault;
 mod job;
 mod names;
 mod several;
 
 pub use days::{date_word, days_word};
 pub use examples::examples_are_read;
+pub use fault::WordFault;
 pub use job::{CommandLine, Horizon, Job, read_words, wrong_value};
 pub use names::{line_word, locator_word, pair_word};
 pub use several::Several;

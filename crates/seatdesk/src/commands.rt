@@ -7,10 +7,10 @@ use crate::locale::is_utf_8;
 use crate::refusal::{Refusal, told};
 use crate::streams::{Input, opened, standard_input, standard_output, taken, taken_or};
 use airline_base::Day;
-use seat_desk::{DeskFault, Inputs, NO_LINES, Question, answer_question};
+use seat_desk::{Inputs, NO_LINES, Question, answer_question};
 use seat_questions::{Bars, BookingsOf, CityPair, Cover, RoomsOf, Why};
 use seat_reports::{Audit, desk_check, desk_flights, desk_ladder};
-use seat_words::{Horizon, date_word, days_word, line_word, locator_word, pair_word};
+use seat_words::{Horizon, WordFault, date_word, days_word, line_word, locator_word, pair_word};
 
 pub fn ladder<'a>(rt: &HostRuntime) -> Result<(), Refusal<'a>> {
     let mut input = standard_input(rt);
@@ -71,7 +71,7 @@ pub fn bookings<'a>(
 ) -> Result<(), Refusal<'a>> {
     let days = days_of(over.first, over.days)?;
     let Some(locator) = locator_word(locator) else {
-        return Err(Refusal::of(DeskFault::BadLocator));
+        return Err(Refusal::from(WordFault::BadLocator));
     };
     answered(rt, over, days, &BookingsOf { locator }, Some(journal))
 }
@@ -84,7 +84,7 @@ pub fn why<'a>(
 ) -> Result<(), Refusal<'a>> {
     let days = days_of(over.first, over.days)?;
     let Some(line) = line_word(line) else {
-        return Err(Refusal::of(DeskFault::BadLine));
+        return Err(Refusal::from(WordFault::BadLine));
     };
     answered(rt, over, days, &Why { line }, Some(journal))
 }
@@ -144,35 +144,35 @@ pub fn inputs_of<'a>(
 
 /// The first day and the number of days.
 #[tactic(auto, using(crate::proofs::Horizons::of_word))]
-pub fn days_of(first: &str, days: &str) -> Result<(Day, u16), DeskFault>
+pub fn days_of(first: &str, days: &str) -> Result<(Day, u16), WordFault>
     ensures first { IfOk result (λ r. IsOfCentury r.0) }
     ensures days { IfOk result (λ r. (1 ≤ r.1) × (r.1 ≤ 366)) }
 {
     let Some(first) = date_word(first) else {
-        return Err(DeskFault::BadFirst);
+        return Err(WordFault::BadFirst);
     };
     let Some(days) = days_word(days) else {
-        return Err(DeskFault::BadDays);
+        return Err(WordFault::BadDays);
     };
     Ok((first, days))
 }
 
-fn day_asked(day: Option<&str>) -> Result<Option<Day>, DeskFault> {
+fn day_asked(day: Option<&str>) -> Result<Option<Day>, WordFault> {
     match day {
         None => Ok(None),
         Some(word) => match date_word(word) {
             Some(day) => Ok(Some(day)),
-            None => Err(DeskFault::BadDay),
+            None => Err(WordFault::BadDay),
         },
     }
 }
 
-fn pair_asked(pair: Option<&str>) -> Result<Option<CityPair>, DeskFault> {
+fn pair_asked(pair: Option<&str>) -> Result<Option<CityPair>, WordFault> {
     match pair {
         None => Ok(None),
         Some(word) => match pair_word(word) {
             Some((board, off)) => Ok(Some(CityPair { board, off })),
-            None => Err(DeskFault::BadPair),
+            None => Err(WordFault::BadPair),
         },
     }
 }

@@ -80,8 +80,8 @@ fn write<'a>(rt: &HostRuntime, text: &str) -> Result<(), Undone<'a>> {
     let mut out = standard_output(rt);
     match put_all(&mut out, text.as_bytes()) {
         Ok(()) => Ok(()),
-        Err(WriteFault::Device) => Err(Undone::Refused(Refusal::of(DeskFault::Device).noting_output(
-            &out,
-        ))),
+        Err(WriteFault::Device) => Err(Undone::Refused(Refusal::from(
+            DeskFault::Device,
+        ).noting_output(&out))),
     }
 }

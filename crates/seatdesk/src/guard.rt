@@ -1,7 +1,8 @@
 //! What the file of a journal may not be: one of the inputs, or the file that the replies go to.
 use crate::refusal::Refusal;
 use crate::streams::Input;
-use seat_desk::{DeskFault, Inputs};
+use seat_desk::Inputs;
+use seat_words::WordFault;
 use std::fs::Metadata;
 use std::os::unix::fs::MetadataExt;
 use std::{fs, io};
@@ -53,14 +54,14 @@ impl<'a> Guard<'a> {
         };
         match fs::metadata(rt, STANDARD_OUTPUT) {
             Ok(file) if !is_same(&file, there) => Ok(()),
-            _ => Err(Refusal::of(DeskFault::BadJournal)),
+            _ => Err(Refusal::from(WordFault::BadJournal)),
         }
     }
 
     /// Refuses a file that is there and not empty.
     pub fn keep<'b>(&self) -> Result<(), Refusal<'b>> {
         match &self.there {
-            Some(file) if file.len() > 0 => Err(Refusal::of(DeskFault::BadJournal)),
+            Some(file) if file.len() > 0 => Err(Refusal::from(WordFault::BadJournal)),
             _ => Ok(()),
         }
     }
@@ -68,7 +69,7 @@ impl<'a> Guard<'a> {
     fn pass_one<'b>(&self, input: &Input<'b>) -> Result<(), Refusal<'b>> {
         let is_named = !self.path.is_empty() && input.name() == self.path;
         if is_named || self.is_same(input)? {
-            return Err(Refusal::of(DeskFault::BadJournal));
+            return Err(Refusal::from(WordFault::BadJournal));
         }
         Ok(())
     }

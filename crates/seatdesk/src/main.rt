@@ -5,6 +5,7 @@
 mod commands;
 mod explain;
 mod explanations;
+mod fault;
 mod guard;
 mod keeping;
 mod locale;
@@ -15,7 +16,7 @@ mod streams;
 use clap::error::ErrorKind;
 use refusal::{Refusal, Undone};
 use seat_desk::DeskFault;
-use seat_words::{Job, read_words};
+use seat_words::{Job, WordFault, read_words};
 use selling::Asking;
 use std::io;
 use std::process::ExitCode;
@@ -25,16 +26,16 @@ use std::thread::Threads;
 fn main(rt: HostRuntime) -> ExitCode {
     match start(&rt, &rt) {
         Ok(status) => status,
-        Err(error) => refused(&rt, false, &Refusal::of(unread(&error))),
+        Err(error) => refused(&rt, false, &unread(&error)),
     }
 }
 
 /// Why the words are not read: one of them is not UTF-8, or a growth was refused.
-fn unread(error: &io::Error) -> DeskFault {
+fn unread<'a>(error: &io::Error) -> Refusal<'a> {
     if error.kind() == io::ErrorKind::InvalidData {
-        DeskFault::BadWords
+        Refusal::from(WordFault::BadWords)
     } else {
-        DeskFault::Memory
+        Refusal::from(DeskFault::Memory)
     }
 }
 
@@ -127,7 +128,7 @@ fn refused(rt: &HostRuntime, is_verbose: bool, refusal: &Refusal<'_>) -> ExitCod
 /// The status of words that name no command: help and version are clap's, and no fault.
 fn misread(rt: &HostRuntime, error: &clap::Error) -> ExitCode {
     if error.kind() == ErrorKind::OutOfMemory {
-        return refused(rt, false, &Refusal::of(DeskFault::Memory));
+        return refused(rt, false, &Refusal::from(DeskFault::Memory));
     }
     let _ = error.print(rt);
     ExitCode::from(error.exit_code() as u8)

@@ -1,20 +1,22 @@
 //! What a command is refused with, and the file that it is refused for.
+use crate::fault::Fault;
 use crate::streams::{Input, Output};
 use airline_base::Failures;
 use seat_desk::DeskFault;
+use seat_words::WordFault;
 use std::alloc::AllocError;
 use std::io;
 
 /// A fault, with the name of the file that failed or is too large where that is known, and the system's number for the failure.
 #[derive(Clone, Copy)]
 pub struct Refusal<'a> {
-    pub fault: DeskFault,
+    pub fault: Fault,
     file: Option<&'a str>,
     reason: Option<i32>,
 }
 
 impl<'a> Refusal<'a> {
-    pub fn of(fault: DeskFault) -> Refusal<'a> {
+    fn of(fault: Fault) -> Refusal<'a> {
         Refusal {
             fault,
             file: None,
@@ -25,10 +27,10 @@ impl<'a> Refusal<'a> {
     /// The fault of a file that does not open.
     pub fn unopened(path: &'a str, error: &io::Error) -> Refusal<'a> {
         if error.kind() == io::ErrorKind::OutOfMemory {
-            return Refusal::of(DeskFault::Memory);
+            return Refusal::from(DeskFault::Memory);
         }
         Refusal {
-            fault: DeskFault::Device,
+            fault: Fault::Desk(DeskFault::Device),
             file: Some(path),
             reason: error.raw_os_error(),
         }
@@ -38,8 +40,11 @@ impl<'a> Refusal<'a> {
     /// that order, the last one that was read is too large, and the last one that failed has failed.
     fn noting(self, input: &Input<'a>) -> Refusal<'a> {
         match self.fault {
-            DeskFault::TooLarge if input.is_used() => self.at(input.name(), None),
-            DeskFault::Device if input.failures() > 0 => self.at(input.name(), input.reason()),
+            Fault::Desk(DeskFault::TooLarge) if input.is_used() => self.at(input.name(), None),
+            Fault::Desk(DeskFault::Device) if input.failures() > 0 => self.at(
+                input.name(),
+                input.reason(),
+            ),
             _ => self,
         }
     }
@@ -74,7 +79,10 @@ impl<'a> Refusal<'a> {
     /// The same for an output.
     pub fn noting_output(self, output: &Output<'a>) -> Refusal<'a> {
         match self.fault {
-            DeskFault::Device if output.failures() > 0 => self.at(output.name(), output.reason()),
+            Fault::Desk(DeskFault::Device) if output.failures() > 0 => self.at(
+                output.name(),
+                output.reason(),
+            ),
             _ => self,
         }
     }
@@ -92,7 +100,7 @@ impl<'a> Refusal<'a> {
         let Some(file) = self.file else {
             return;
         };
-        if let DeskFault::TooLarge = self.fault {
+        if let Fault::Desk(DeskFault::TooLarge) = self.fault {
             let _ = eprintln!(rt; "seatdesk: {file}: Too large");
             return;
         }
@@ -110,7 +118,13 @@ impl<'a> Refusal<'a> {
 
 impl<'a> From<DeskFault> for Refusal<'a> {
     fn from(fault: DeskFault) -> Refusal<'a> {
-        Refusal::of(fault)
+        Refusal::of(Fault::Desk(fault))
+    }
+}
+
+impl<'a> From<WordFault> for Refusal<'a> {
+    fn from(fault: WordFault) -> Refusal<'a> {
+        Refusal::of(Fault::Word(fault))
     }
 }
 
@@ -123,7 +137,7 @@ pub fn told<'a>(
     match outcome {
         Ok(()) => Ok(()),
         Err(fault) => Err(
-            Refusal::of(fault)
+            Refusal::from(fault)
                 .noting_all(inputs)
                 .noting_outputs(outputs),
         ),
@@ -146,6 +160,6 @@ impl<'a> From<Refusal<'a>> for Undone<'a> {
 
 impl<'a> From<AllocError> for Undone<'a> {
     fn from(_error: AllocError) -> Undone<'a> {
-        Undone::Refused(Refusal::of(DeskFault::Memory))
+        Undone::Refused(Refusal::from(DeskFault::Memory))
     }
 }

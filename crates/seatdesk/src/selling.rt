@@ -10,10 +10,10 @@ use crate::guard::Guard;
 use crate::refusal::{Refusal, told};
 use crate::streams::{Input, Output, all_opened, made, opened_or, standard_output, taken};
 use airline_base::Day;
-use seat_desk::{DeskFault, NO_LINES};
+use seat_desk::NO_LINES;
 use seat_run::desk_run;
 use seat_scripts::desk_audit_against;
-use seat_words::{Horizon, date_word};
+use seat_words::{Horizon, WordFault, date_word};
 use seat_workers::NoGate;
 use std::sync::Wait;
 use std::thread::Threads;
@@ -37,15 +37,15 @@ pub fn audit<'a>(
     };
     if scripts.is_empty() {
         if after.is_some() {
-            return Err(Refusal::of(DeskFault::BadScripts));
+            return Err(Refusal::from(WordFault::BadScripts));
         }
         return commands::audit(rt, over, days, journal);
     }
     let Some(today) = today else {
-        return Err(Refusal::of(DeskFault::BadToday));
+        return Err(Refusal::from(WordFault::BadToday));
     };
     if scripts.len() > MOST_SCRIPTS {
-        return Err(Refusal::of(DeskFault::BadScripts));
+        return Err(Refusal::from(WordFault::BadScripts));
     }
     audit_against(rt, over, days, after, today, journal, scripts)
 }
@@ -111,7 +111,7 @@ pub fn run<'a, T: Threads + Wait + Sync>(
     let days = days_of(over.first, over.days)?;
     let today = day_of_run(asking.today)?;
     if asking.scripts.is_empty() || asking.scripts.len() > MOST_SCRIPTS {
-        return Err(Refusal::of(DeskFault::BadScripts));
+        return Err(Refusal::from(WordFault::BadScripts));
     }
     let mut inputs = match inputs_of(rt, over, days) {
         Ok(inputs) => inputs,
@@ -163,11 +163,11 @@ fn behind<'a>(
 }
 
 #[tactic(auto, using(crate::proofs::Horizons::day_of_word))]
-fn day_of_run(today: &str) -> Result<Day, DeskFault>
+fn day_of_run(today: &str) -> Result<Day, WordFault>
     ensures { IfOk result IsCenturyDay }
 {
     match date_word(today) {
         Some(today) => Ok(today),
-        None => Err(DeskFault::BadToday),
+        None => Err(WordFault::BadToday),
     }
 }

@@ -27,8 +27,10 @@ returns-in_err-matches-clause-kinds c =
     (subst (λ (a : App). HasKind (fault_of a (texts c.args.words.now)) c.in_err-matches.field-0.0) c.in_ok-command.ensures.app (c.in_err-matches.ensures.kinds free))
 
 -- a parse that succeeds: the rows and the line that clap found are those of our command line, and no fault comes
-matched : (a : App) (m : ArgMatches) (words : List Text) → a ≡ seatdesk_app → HasMatchesOf a words m → (is_simple_and_free a ≡ true → fault_of a words ≡ [])
-    → (rows_of (found_of m) ≡ matches_of seatdesk_app words) × (subcommand_rows_of m ≡ subcommand_of seatdesk_app words) × (fault_of seatdesk_app words ≡ [])
+matched : (a : App) (m : ArgMatches) (words : List Text) → a ≡ seatdesk_app → HasMatchesOf a words m
+    → (is_simple_and_free a ≡ true → fault_of a words ≡ [])
+    → (rows_of (found_of m) ≡ matches_of seatdesk_app words) × (subcommand_rows_of m ≡ subcommand_of seatdesk_app words)
+    × (fault_of seatdesk_app words ≡ [])
 matched a m words e has none = (
   (has (ap is_simple e ∙ seatdesk_is_simple)).0 ∙ ap (λ (x : App). matches_of x words) e,
   (has (ap is_simple e ∙ seatdesk_is_simple)).1 ∙ ap (λ (x : App). subcommand_of x words) e,

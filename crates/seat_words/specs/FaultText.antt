@@ -1,0 +1,17 @@
+-- The printed text of what a word of the command line is refused with.
+use Rattle.std.specs.Prelude.{ℕ, List, codes}
+use Rattle.seat_words.specs.declared.fault.WordFault.{WordFault}
+use Rattle.seat_words.specs.declared.fault.WordFault.TheVariants as faults
+
+-- the code, and which word it is of
+abbrev pub word_text : WordFault → List ℕ
+word_text faults.BadFirst = codes "E2 first"
+word_text faults.BadDays = codes "E2 days"
+word_text faults.BadToday = codes "E2 today"
+word_text faults.BadScripts = codes "E2 script"
+word_text faults.BadDay = codes "E2 day"
+word_text faults.BadPair = codes "E2 pair"
+word_text faults.BadLocator = codes "E2 locator"
+word_text faults.BadLine = codes "E2 line"
+word_text faults.BadJournal = codes "E2 journal"
+word_text faults.BadWords = codes "E2 words"

@@ -1,0 +1,50 @@
+//! What the words of a command line are refused with.
+use std::fmt;
+
+/// A word of the command line is not what it may be. Its text is `E2` and which word it is.
+#[derive(Clone, Copy)]
+pub enum WordFault {
+    /// The first day is no day of 2000 to 2099.
+    BadFirst,
+    /// The number of days is not one of 1 to 366.
+    BadDays,
+    /// The day of reference is no day of 2000 to 2099, or it is missing.
+    BadToday,
+    /// There are no scripts where some are needed, or more than sessions.
+    BadScripts,
+    /// The day of departure is no day of 2000 to 2099.
+    BadDay,
+    /// The pair is not two stations of three letters each.
+    BadPair,
+    /// The locator is not six characters of A to Z and 0 to 9.
+    BadLocator,
+    /// The number of a line is not one of 1 to 999999.
+    BadLine,
+    /// The file of the journal is an input or that of the replies, or may not be written over.
+    BadJournal,
+    /// A word is not UTF-8.
+    BadWords,
+}
+
+impl fmt::Display for WordFault {
+    ghost use Rattle.std.specs.Prelude.{Some};
+    ghost use Rattle.seat_words.specs.FaultText.{word_text};
+
+    ghost output = { λ fault. Some (word_text fault) };
+
+    /// The code, and which word it is of.
+    fn fmt<W: fmt::Write>(&self, f: &mut fmt::Formatter<W>) -> fmt::Result {
+        f.write_str(match self {
+            WordFault::BadFirst => "E2 first",
+            WordFault::BadDays => "E2 days",
+            WordFault::BadToday => "E2 today",
+            WordFault::BadScripts => "E2 script",
+            WordFault::BadDay => "E2 day",
+            WordFault::BadPair => "E2 pair",
+            WordFault::BadLocator => "E2 locator",
+            WordFault::BadLine => "E2 line",
+            WordFault::BadJournal => "E2 journal",
+            WordFault::BadWords => "E2 words",
+        })
+    }
+}

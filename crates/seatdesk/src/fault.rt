@@ -1,0 +1,41 @@
+//! What the program is refused with: by a command, or for a word of its command line.
+use seat_desk::DeskFault;
+use seat_words::WordFault;
+use std::fmt;
+
+/// A fault of a command or of a word. Its text is the code, and where the fault stands.
+#[derive(Clone, Copy)]
+pub enum Fault {
+    Desk(DeskFault),
+    Word(WordFault),
+}
+
+impl fmt::Display for Fault {
+    ghost use Rattle.std.specs.Prelude.{Some};
+    ghost use Rattle.seatdesk.specs.Faults.{printed};
+
+    ghost output = { λ fault. Some (printed fault) };
+
+    /// The code, and where the fault stands.
+    fn fmt<W: fmt::Write>(&self, f: &mut fmt::Formatter<W>) -> fmt::Result {
+        match self {
+            Fault::Desk(fault) => fault.fmt(f),
+            Fault::Word(fault) => fault.fmt(f),
+        }
+    }
+}
+
+impl Fault {
+    ghost use Rattle.std.specs.Prelude.{◌≡◌};
+    ghost use Rattle.seatdesk.specs.Faults.{exit_status};
+
+    /// The exit status: 2 for the command line, else that of the command's fault.
+    pub fn status(&self) -> u8
+        ensures { result ≡ exit_status self.now }
+    {
+        match self {
+            Fault::Desk(fault) => fault.status(),
+            Fault::Word(_) => 2,
+        }
+    }
+}
