@@ -16,7 +16,7 @@ use Rattle.seat_rules.proofs.Own.{own_append, own_one, own_other}
 use Rattle.seat_scripts.specs.Against.{AreAsked, AreAskedBelow, DifferAt, asked_by, same_command, works_of_list}
 use Rattle.airline_base.proofs.Tests.{both_true}
 use Rattle.seat_rules.proofs.Step.Apart.{letters_same}
-use Rattle.seat_bookings.proofs.Kept.Books.{session_most}
+use Rattle.seat_scripts.proofs.Going.{few_may}
 
 -- ---- tests
 
@@ -248,7 +248,7 @@ none_beyond : (s : ℕ) → 8 < s → (grid : Ladders) (journal : List Entry) �
     → of_session s journal ≡ []
 none_beyond s beyond grid journal legal =
     each_legal grid (λ (j : List Entry). of_session s j ≡ [])
-    (λ past e l next h. own_append s past (e ∷ []) ∙ (ap (λ (lines : List Entry). lines ++ of_session s (e ∷ [])) h ∙ own_other s e (λ (is : e.session ≡ s). let most : e.session ≤ 8 = session_most e.session e.work next.session in absurd (omega (arith, is, most, beyond)))))
+    (λ past e l next h. own_append s past (e ∷ []) ∙ (ap (λ (lines : List Entry). lines ++ of_session s (e ∷ [])) h ∙ own_other s e (λ (is : e.session ≡ s). let most : e.session ≤ 8 = few_may e.session e.work next.session in absurd (omega (arith, is, most, beyond)))))
     [] journal refl legal
 
 none_added : (s : ℕ) (older added : List Entry) → of_session s (older ++ added) ≡ [] → of_session s added ≡ []

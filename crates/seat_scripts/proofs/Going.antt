@@ -13,7 +13,6 @@ use Rattle.seat_rules.specs.Histories.{OnlyFirst}
 use Rattle.seat_rules.proofs.Own.{calls_own, own_append, own_other}
 use Rattle.seat_scripts.specs.Going.{calls_to, highest_to, past_of}
 use Rattle.seat_scripts.proofs.Rows.{place_below, row_at, row_count}
-use Rattle.seat_bookings.proofs.Kept.Books.{session_most}
 
 -- ---- the counts of lines
 
@@ -165,10 +164,15 @@ no_lines_of : (xs : List Entry) → length xs ≡ 0 → xs ≡ []
 no_lines_of [] e = refl
 no_lines_of (x ∷ xs) e = absurd (omega (arith, e))
 
+-- no line is of a session above 8
+pub few_may : (session : ℕ) (w : Work) → MayAsk session w → session ≤ 8
+few_may session (Seats c) may = may.1
+few_may session (Limit c) may = omega (arith, may)
+
 beyond : (grid : Ladders) (s : ℕ) (past es : List Entry) → 8 < s → IsLegalAfter grid past es → of_session s es ≡ []
 beyond grid s past [] high legal = refl
 beyond grid s past (e ∷ es) high legal =
-    let low : e.session ≤ 8 = session_most e.session e.work legal.0.session in
+    let low : e.session ≤ 8 = few_may e.session e.work legal.0.session in
     own_append s (e ∷ []) es ∙ (ap (λ (l : List Entry). l ++ of_session s es) (own_other s e (λ same. absurd (omega (arith, same, low, high)))) ∙ beyond grid s (past ++ e ∷ []) es high legal.1)
 
 above_all : (grid : Ladders) (past : List Entry) (s : ℕ) → IsLegal grid past → highest_to 8 past < s

@@ -1,5 +1,5 @@
 -- The replies, part by part.
-use Rattle.std.proofs.Common.{◌≡◌, ℕ, zero, suc, ◌+◌, ◌-◌, ◌<◌, ◌≤◌, List, [], ◌∷◌, ◌++◌, length, take, drop, refl, sym, ap, ◌∙◌, subst, arith, append_assoc, get_or, Option, Some, None, codes}
+use Rattle.std.proofs.Common.{◌≡◌, ℕ, zero, suc, ◌+◌, ◌-◌, ◌<◌, ◌≤◌, List, [], ◌∷◌, ◌++◌, length, take, drop, refl, sym, ap, ◌∙◌, subst, arith, append_assoc, zero-add, get_or, Option, Some, None, codes}
 use Rattle.seat_scripts.proofs.Common.{slice_get, option_map, Request, Segment, Advice, Change, Entry, behind}
 use Rattle.std.specs.Prelude.{slice_index}
 use Rattle.std.proofs.lemmas.Option.{slice_get_read}
@@ -96,8 +96,9 @@ pub answers_more : (flights : List Flown) (requests : List Request) (history : L
     → IsPut (IsAnswer flights requests history) 0 (take i xs) old mid → i < length xs → e ≡ get_or xs i e
     → IsBehind (IsAnswer flights requests history i e) mid new
     → IsPut (IsAnswer flights requests history) 0 (take (i + 1) xs) old new
-answers_more flights requests history i xs e old mid new put in_range here behind =
-    put_more (IsAnswer flights requests history) 0 i xs e old mid new behind.part put in_range here behind.is_part behind.written
+answers_more flights requests history i xs e old mid new put in_range here answer =
+    put_more (IsAnswer flights requests history) 0 i xs e old mid new answer.part put in_range here
+    (subst (λ (k : ℕ). IsAnswer flights requests history k e answer.part) (sym (zero-add i)) answer.is_part) answer.written
 
 pub sessions_more : (flights : List Flown) (scripts : List (List Request)) (history : List Entry) (counts : List ℕ)
     (lists : List (List Entry)) (i : ℕ) (lines added : List Entry) (old mid new : List ℕ)
@@ -108,7 +109,8 @@ pub sessions_more : (flights : List Flown) (scripts : List (List Request)) (hist
     → IsPut (AreSessions flights scripts history) 0 (take (i + 1) (behind counts lists)) old new
 sessions_more flights scripts history counts lists i lines added old mid new put le in_range there is part =
     put_more (AreSessions flights scripts history) 0 i (behind counts lists) added old mid new part.part put
-    (omega (arith, in_range, behind_count counts lists le)) (is ∙ behind_at counts lists i lines added le in_range there) part.is_text part.written
+    (omega (arith, in_range, behind_count counts lists le)) (is ∙ behind_at counts lists i lines added le in_range there)
+    (subst (λ (k : ℕ). AreSessions flights scripts history k added part.part) (sym (zero-add i)) part.is_text) part.written
 
 -- the text is whole where all sessions are answered
 pub sessions_whole : (flights : List Flown) (scripts : List (List Request)) (history : List Entry) (counts : List ℕ)
