@@ -72,3 +72,13 @@ fn begins_behind_a_killed_replacement(rt: HostRuntime) -> Result<(), Fail> {
     assert!(rt; file.failures() == 1);
     Ok(())
 }
+
+#[test]
+fn replaces_by_nothing(rt: HostRuntime) -> Result<(), Fail> {
+    let mut file = folder(rt.alloc())?;
+    assert!(rt; replace_whole(&mut file, b"").is_ok());
+    assert!(rt; file.failures() == 0);
+    file.crash(true, b"torn");
+    assert!(rt; file.bytes().is_empty());
+    Ok(())
+}

@@ -72,3 +72,13 @@ fn cuts_and_reads(rt: HostRuntime) -> Result<(), Fail> {
     }
     Ok(())
 }
+
+#[test]
+fn keeps_nothing_more(rt: HostRuntime) -> Result<(), Fail> {
+    let mut file = tape(rt.alloc())?;
+    assert!(rt; keep(&mut file, b"").is_ok());
+    assert!(rt; file.failures() == 0);
+    file.crash(b"torn");
+    assert!(rt; file.bytes() == KEPT.as_slice());
+    Ok(())
+}
