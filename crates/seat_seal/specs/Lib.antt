@@ -1,0 +1,9 @@
+pub mod Comparing
+pub mod Dates
+pub mod Digests
+pub mod Faults
+pub mod Imprints
+pub mod Laws
+pub mod Reading
+pub mod Rules
+pub mod Text

@@ -1,0 +1,165 @@
+-- Reading a seal from left to right, leading zeros and capital hex digits too: who reads it spells it again.
+use Rattle.std.specs.Prelude.{ℕ, zero, suc, ◌+◌, ◌*◌, ◌&&◌, nat_le, if◌then◌else◌, List, [], ◌∷◌, ◌++◌, length, take, drop, Option, Some, None, codes}
+use Rattle.std.specs.Char.{is_ascii_digit}
+use Rattle.std.specs.List.{prefix_len}
+use Rattle.std.specs.Str.Parse.{digits_value}
+use Rattle.airline_base.specs.Fields.{Field, ◌>>=◌, word_at, byte_at, two_are, two_value}
+use Rattle.seat_seal.specs.declared.date.Date.{Date}
+use Rattle.seat_seal.specs.declared.imprint.Imprint.{Imprint}
+use Rattle.seat_seal.specs.declared.scripts.Script.{Script}
+use Rattle.seat_seal.specs.declared.seal.JournalState.{JournalState}
+use Rattle.seat_seal.specs.declared.seal.JournalState.TheVariants.{Open, Closed}
+use Rattle.seat_seal.specs.declared.seal.SealedJournal.{SealedJournal}
+use Rattle.seat_seal.specs.declared.seal.Sealed.{Sealed as Belonging}
+use Rattle.seat_seal.specs.declared.seal.SealEntry.{SealEntry}
+use Rattle.seat_seal.specs.declared.seal.SealEntry.TheVariants.{Sealed, Other}
+use Rattle.seat_seal.specs.declared.seal.Seal.{Seal}
+use Rattle.seat_seal.specs.Digests.{digest_in}
+use Rattle.seat_seal.specs.Text.{blank, dash, newline}
+
+-- ---- fields
+
+-- 64 hex digits
+unfoldable pub digest_at : List ℕ → Field (List ℕ)
+digest_at bytes = digest_in (take 64 bytes) >>= (λ digest. Some (digest, drop 64 bytes))
+
+abbrev pub number_in : ℕ → List ℕ → List ℕ → Field ℕ
+number_in most run rest =
+    if nat_le (length run) 10 && nat_le (digits_value 10 run) most then Some (digits_value 10 run, rest) else None
+
+-- the run of digits, at most ten, which writes a number of at most `most`
+unfoldable pub number_at : ℕ → List ℕ → Field ℕ
+number_at most bytes =
+    number_in most (take (prefix_len is_ascii_digit bytes) bytes) (drop (prefix_len is_ascii_digit bytes) bytes)
+
+abbrev pub two_at : List ℕ → Field ℕ
+two_at (t ∷ u ∷ rest) = if two_are t u then Some (two_value t u, rest) else None
+two_at _ = None
+
+-- YYYY-MM-DD
+unfoldable pub date_at : List ℕ → Field Date
+date_at bytes = do
+  century ← two_at bytes
+  year ← two_at century.1
+  month ← byte_at dash year.1 >>= two_at
+  day ← byte_at dash month.1 >>= two_at
+  Some (record { year = century.0 * 100 + year.0; month = month.0; day = day.0 }, day.1)
+
+unfoldable pub imprint_at : List ℕ → Field Imprint
+imprint_at bytes = do
+  digest ← digest_at bytes
+  count ← word_at (codes " bytes ") digest.1 >>= number_at 9_999_999_999
+  Some (record { digest = digest.0; bytes = count.0 }, count.1)
+
+abbrev pub state_from : Option (List ℕ) → Option (List ℕ) → Field JournalState
+state_from (Some rest) closed = Some (Open, rest)
+state_from None (Some rest) = Some (Closed, rest)
+state_from None None = None
+
+unfoldable pub state_at : List ℕ → Field JournalState
+state_at bytes = state_from (word_at (codes " open") bytes) (word_at (codes " closed") bytes)
+
+unfoldable pub journal_at : List ℕ → Field SealedJournal
+journal_at bytes = do
+  digest ← digest_at bytes
+  lines ← word_at (codes " lines ") digest.1 >>= number_at 999_999
+  count ← word_at (codes " bytes ") lines.1 >>= number_at 9_999_999_999
+  state ← state_at count.1
+  Some (record { imprint = record { digest = digest.0; bytes = count.0 }; lines = lines.0; state = state.0 }, state.1)
+
+unfoldable pub script_at : List ℕ → Field Script
+script_at bytes = do
+  session ← number_at 8 bytes
+  digest ← byte_at blank session.1 >>= digest_at
+  Some (record { session = session.0; digest = digest.0 }, digest.1)
+
+-- ---- lines
+
+-- a word, a field behind it, and LF
+unfoldable pub line_at : {A : Type 0} → List ℕ → (List ℕ → Field A) → List ℕ → Field A
+line_at word field bytes = do
+  x ← word_at word bytes >>= field
+  rest ← byte_at newline x.1
+  Some (x.0, rest)
+
+abbrev pub script_line_at : List ℕ → Field Script
+script_line_at bytes = line_at (codes "script ") script_at bytes
+
+abbrev pub scripts_from : (List Script → List ℕ → List Script × List ℕ) → List Script → List ℕ → Field Script
+    → List Script × List ℕ
+scripts_from next read bytes None = (read, bytes)
+scripts_from next read bytes (Some s) = next (read ++ s.0 ∷ []) s.1
+
+-- the scripts behind those that were read, at most n more
+unfoldable pub scripts_in : ℕ → List Script → List ℕ → List Script × List ℕ
+scripts_in zero read bytes = (read, bytes)
+scripts_in (suc n) read bytes = scripts_from (scripts_in n) read bytes (script_line_at bytes)
+
+abbrev pub scripts_at : List ℕ → List Script × List ℕ
+scripts_at bytes = scripts_in 8 [] bytes
+
+abbrev pub changes_from : List ℕ → Field (List ℕ) → Option (List ℕ) × List ℕ
+changes_from bytes None = (None, bytes)
+changes_from bytes (Some digest) = (Some digest.0, digest.1)
+
+-- the line of changes, where it stands there
+unfoldable pub changes_at : List ℕ → Option (List ℕ) × List ℕ
+changes_at bytes = changes_from bytes (line_at (codes "changes ") digest_at bytes)
+
+-- ---- entries
+
+unfoldable pub sealed_at : List ℕ → Field Belonging
+sealed_at bytes = do
+  set ← line_at (codes "set ") digest_at bytes
+  limits ← line_at (codes "limits ") digest_at set.1
+  first ← line_at (codes "first ") date_at limits.1
+  days ← line_at (codes "days ") (number_at 366) first.1
+  journal ← line_at (codes "journal ") journal_at days.1
+  behind ← line_at (codes "behind ") (number_at 999_999) journal.1
+  today ← line_at (codes "today ") date_at behind.1
+  rest ← word_at (codes "END\n") (changes_at (scripts_at today.1).1).1
+  Some (
+    record {
+      set = set.0;
+      limits = limits.0;
+      first = first.0;
+      days = days.0;
+      journal = journal.0;
+      behind = behind.0;
+      today = today.0;
+      scripts = (scripts_at today.1).0;
+      changes = (changes_at (scripts_at today.1).1).0;
+    },
+    rest,
+  )
+
+unfoldable pub other_at : List ℕ → Field Imprint
+other_at bytes = do
+  imprint ← line_at (codes "other ") imprint_at bytes
+  rest ← word_at (codes "END\n") imprint.1
+  Some (imprint.0, rest)
+
+abbrev pub entry_from : Field Imprint → Field Belonging → Field SealEntry
+entry_from (Some other) sealed = Some (Other other.0, other.1)
+entry_from None (Some sealed) = Some (Sealed sealed.0, sealed.1)
+entry_from None None = None
+
+unfoldable pub entry_at : List ℕ → Field SealEntry
+entry_at bytes = entry_from (other_at bytes) (sealed_at bytes)
+
+abbrev pub one_entry : SealEntry → Seal
+one_entry first = record { first = first; second = None }
+
+abbrev pub two_entries : SealEntry → SealEntry → Seal
+two_entries first second = record { first = first; second = Some second }
+
+-- the end of the bytes, or a second entry
+abbrev pub second_at : SealEntry → List ℕ → Option Seal
+second_at first [] = Some (one_entry first)
+second_at first (c ∷ rest) = entry_at (c ∷ rest) >>= (λ second. Some (two_entries first second.0))
+
+unfoldable pub seal_at : List ℕ → Option Seal
+seal_at bytes = do
+  rest ← word_at (codes "SEATSEAL 1\n") bytes
+  first ← entry_at rest
+  second_at first.0 first.1

@@ -1,0 +1,63 @@
+-- What a seal may say.
+use Rattle.std.specs.Prelude.{ℕ, Bool, true, ◌&&◌, nat_le, nat_lt, List, [], ◌∷◌, Option, None, Some, IfSome, IsTrue}
+use Rattle.std.specs.List.{AllByRecursion}
+use Rattle.seat_seal.specs.declared.imprint.Imprint.{Imprint}
+use Rattle.seat_seal.specs.declared.scripts.Script.{Script}
+use Rattle.seat_seal.specs.declared.seal.SealedJournal.{SealedJournal}
+use Rattle.seat_seal.specs.declared.seal.Sealed.{Sealed as Belonging}
+use Rattle.seat_seal.specs.declared.seal.SealEntry.{SealEntry}
+use Rattle.seat_seal.specs.declared.seal.SealEntry.TheVariants.{Sealed, Other}
+use Rattle.seat_seal.specs.declared.seal.Seal.{Seal}
+use Rattle.seat_seal.specs.Dates.{is_date}
+use Rattle.seat_seal.specs.Digests.{IsDigest}
+
+-- at most ten digits
+abbrev pub is_imprint : Imprint → Bool
+is_imprint i = nat_le i.bytes 9_999_999_999
+
+abbrev pub is_journal : SealedJournal → Bool
+is_journal j = is_imprint j.imprint && nat_le j.lines 999_999
+
+-- sessions above this one, each above the one before it and none above 8
+abbrev pub are_rising : ℕ → List Script → Bool
+are_rising last [] = true
+are_rising last (s ∷ more) = nat_lt last s.session && nat_le s.session 8 && are_rising s.session more
+
+-- the rules of an entry: 1 to 366 days, no more lines behind than there are, scripts of sessions 1 to 8 in order
+unfoldable pub is_sealed : Belonging → Bool
+is_sealed s =
+    is_date s.first && nat_le 1 s.days && nat_le s.days 366 && is_journal s.journal
+    && nat_le s.behind s.journal.lines && is_date s.today && are_rising 0 s.scripts
+
+abbrev pub is_entry : SealEntry → Bool
+is_entry (Sealed s) = is_sealed s
+is_entry (Other i) = is_imprint i
+
+abbrev pub is_second : Option SealEntry → Bool
+is_second None = true
+is_second (Some entry) = is_entry entry
+
+unfoldable pub is_seal : Seal → Bool
+is_seal s = is_entry s.first && is_second s.second
+
+-- ---- the values of the fields' types
+
+abbrev pub IsScript : Script → Type 0
+IsScript s = IsDigest s.digest
+
+pub record HasDigests (s : Belonging) : Type 0 where
+  pub set : IsDigest s.set
+  pub limits : IsDigest s.limits
+  pub journal : IsDigest s.journal.imprint.digest
+  pub scripts : AllByRecursion IsScript s.scripts
+  pub changes : IfSome s.changes IsDigest
+
+abbrev pub HasTypes : SealEntry → Type 0
+HasTypes (Sealed s) = HasDigests s
+HasTypes (Other i) = IsDigest i.digest
+
+-- what a seal may be
+pub record IsSeal (s : Seal) : Type 0 where
+  pub first : HasTypes s.first
+  pub second : IfSome s.second HasTypes
+  pub rules : IsTrue (is_seal s)

@@ -1,0 +1,87 @@
+-- The text of a seal, version 1.
+use Rattle.std.specs.Prelude.{ℕ, ◌/◌, ◌%◌, List, [], ◌∷◌, ◌++◌, Option, None, Some, codes, decimal}
+use Rattle.std.specs.List.{flat_map}
+use Rattle.hex.specs.Hex.{encode_lower}
+use Rattle.airline_base.specs.Days.{two_digits}
+use Rattle.seat_seal.specs.declared.date.Date.{Date}
+use Rattle.seat_seal.specs.declared.imprint.Imprint.{Imprint}
+use Rattle.seat_seal.specs.declared.scripts.Script.{Script}
+use Rattle.seat_seal.specs.declared.seal.JournalState.{JournalState}
+use Rattle.seat_seal.specs.declared.seal.JournalState.TheVariants.{Open, Closed}
+use Rattle.seat_seal.specs.declared.seal.SealedJournal.{SealedJournal}
+use Rattle.seat_seal.specs.declared.seal.Sealed.{Sealed as Belonging}
+use Rattle.seat_seal.specs.declared.seal.SealEntry.{SealEntry}
+use Rattle.seat_seal.specs.declared.seal.SealEntry.TheVariants.{Sealed, Other}
+use Rattle.seat_seal.specs.declared.seal.Seal.{Seal}
+
+abbrev pub blank : ℕ
+blank = 32
+
+abbrev pub dash : ℕ
+dash = 45
+
+abbrev pub newline : ℕ
+newline = 10
+
+-- a word, what stands behind it, and LF
+abbrev pub line : List ℕ → List ℕ → List ℕ
+line word value = word ++ value ++ newline ∷ []
+
+-- YYYY-MM-DD
+unfoldable pub date_text : Date → List ℕ
+date_text d =
+    two_digits (d.year / 100) ++ two_digits (d.year % 100) ++ dash ∷ two_digits d.month ++ dash ∷ two_digits d.day
+
+-- a digest, and a count of bytes
+unfoldable pub imprint_text : Imprint → List ℕ
+imprint_text i = encode_lower i.digest ++ codes " bytes " ++ decimal i.bytes
+
+abbrev pub state_text : JournalState → List ℕ
+state_text Open = codes " open"
+state_text Closed = codes " closed"
+
+-- a digest, the count of lines, the count of bytes, and the state
+unfoldable pub journal_text : SealedJournal → List ℕ
+journal_text j =
+    encode_lower j.imprint.digest ++ codes " lines " ++ decimal j.lines ++ codes " bytes " ++ decimal j.imprint.bytes
+    ++ state_text j.state
+
+-- a session, and its script's digest
+unfoldable pub script_text : Script → List ℕ
+script_text s = decimal s.session ++ blank ∷ encode_lower s.digest
+
+abbrev pub script_line : Script → List ℕ
+script_line s = line (codes "script ") (script_text s)
+
+abbrev pub changes_text : Option (List ℕ) → List ℕ
+changes_text None = []
+changes_text (Some digest) = line (codes "changes ") (encode_lower digest)
+
+-- the lines of an entry
+unfoldable pub sealed_text : Belonging → List ℕ
+sealed_text s =
+    line (codes "set ") (encode_lower s.set)
+    ++ line (codes "limits ") (encode_lower s.limits)
+    ++ line (codes "first ") (date_text s.first)
+    ++ line (codes "days ") (decimal s.days)
+    ++ line (codes "journal ") (journal_text s.journal)
+    ++ line (codes "behind ") (decimal s.behind)
+    ++ line (codes "today ") (date_text s.today)
+    ++ flat_map script_line s.scripts
+    ++ changes_text s.changes
+    ++ codes "END\n"
+
+unfoldable pub other_text : Imprint → List ℕ
+other_text i = line (codes "other ") (imprint_text i) ++ codes "END\n"
+
+abbrev pub entry_text : SealEntry → List ℕ
+entry_text (Sealed s) = sealed_text s
+entry_text (Other i) = other_text i
+
+abbrev pub second_text : Option SealEntry → List ℕ
+second_text None = []
+second_text (Some entry) = entry_text entry
+
+-- the head, and a block for each entry
+unfoldable pub seal_text : Seal → List ℕ
+seal_text s = codes "SEATSEAL 1\n" ++ entry_text s.first ++ second_text s.second

@@ -1,0 +1,136 @@
+//! What a seal says beside what is given.
+ghost use Rattle.std.specs.Prelude.{◌≡◌, option_map};
+ghost use Rattle.airline_base.specs.Bytes.{same_text};
+ghost use Rattle.seat_seal.specs.Comparing.{same_imprint, same_date, compared, is_its_journal, entry_for, has_script};
+
+use crate::date::Date;
+use crate::digest::Digest;
+use crate::imprint::Imprint;
+use crate::seal::{Seal, SealEntry, Sealed};
+use std::fmt;
+
+/// What is wrong with a seal.
+#[derive(Clone, Copy, Debug, PartialEq, Eq)]
+pub enum SealFault {
+    /// The text is no seal.
+    Form,
+    /// The data set is another.
+    Set,
+    /// The limit rows are others.
+    Limits,
+    /// The first day is another.
+    First,
+    /// The count of days is another.
+    Days,
+    /// The journal is another.
+    Journal,
+    /// A script stands in the journal.
+    Again,
+}
+
+impl fmt::Display for SealFault {
+    ghost use Rattle.std.specs.Prelude.{Some};
+    ghost use Rattle.seat_seal.specs.Faults.{words_of};
+
+    ghost output = { λ fault. Some (words_of fault) };
+
+    /// SEAL and one word.
+    fn fmt<W: fmt::Write>(&self, f: &mut fmt::Formatter<W>) -> fmt::Result {
+        match self {
+            SealFault::Form => f.write_str("SEAL form"),
+            SealFault::Set => f.write_str("SEAL set"),
+            SealFault::Limits => f.write_str("SEAL limits"),
+            SealFault::First => f.write_str("SEAL first"),
+            SealFault::Days => f.write_str("SEAL days"),
+            SealFault::Journal => f.write_str("SEAL journal"),
+            SealFault::Again => f.write_str("SEAL again"),
+        }
+    }
+}
+
+/// What a journal that goes on is to belong to.
+#[derive(Clone, Copy, Debug, PartialEq, Eq)]
+pub struct Given {
+    pub set: Digest,
+    pub limits: Digest,
+    pub first: Date,
+    pub days: u16,
+    pub journal: Imprint,
+}
+
+/// The first in which the entry differs from what is given: set, limits, first, days, journal.
+#[tactic(auto, unfolding(crate::specs::Comparing::compared))]
+pub fn compared(entry: &Sealed, given: &Given) -> Option<SealFault>
+    ensures { result ≡ compared entry.now given.now }
+{
+    if !same_digest(&entry.set, &given.set) {
+        return Some(SealFault::Set);
+    }
+    if !same_digest(&entry.limits, &given.limits) {
+        return Some(SealFault::Limits);
+    }
+    if !same_date(&entry.first, &given.first) {
+        return Some(SealFault::First);
+    }
+    if entry.days != given.days {
+        return Some(SealFault::Days);
+    }
+    if !same_imprint(&entry.journal.imprint, &given.journal) {
+        return Some(SealFault::Journal);
+    }
+    None
+}
+
+/// The first entry whose journal it is, by the imprint of its head and entries and by that of all its bytes.
+pub fn entry_for<'a>(seal: &'a Seal, entries: &Imprint, whole: &Imprint) -> Option<&'a SealEntry>
+    ensures { option_map (λ e. e.now) result ≡ entry_for seal.now entries.now whole.now }
+{
+    if is_its_journal(&seal.first, entries, whole) {
+        return Some(&seal.first);
+    }
+    match &seal.second {
+        Some(second) if is_its_journal(second, entries, whole) => Some(second),
+        _ => None,
+    }
+}
+
+fn is_its_journal(entry: &SealEntry, entries: &Imprint, whole: &Imprint) -> bool
+    ensures { result ≡ is_its_journal entry.now entries.now whole.now }
+{
+    match entry {
+        SealEntry::Sealed(sealed) => same_imprint(&sealed.journal.imprint, entries),
+        SealEntry::Other(imprint) => same_imprint(imprint, whole),
+    }
+}
+
+/// Whether the entry names a script of this digest.
+pub fn has_script(entry: &Sealed, digest: &Digest) -> bool
+    ensures { result ≡ has_script entry.now digest.now }
+{
+    let mut rest = entry.scripts.as_slice();
+    while let [script, more @ ..] = rest {
+        if same_digest(&script.digest, digest) {
+            return true;
+        }
+        rest = more;
+    }
+    false
+}
+
+fn same_digest(a: &Digest, b: &Digest) -> bool
+    ensures { result ≡ same_text a.now b.now }
+{
+    a.bytes() == b.bytes()
+}
+
+fn same_imprint(a: &Imprint, b: &Imprint) -> bool
+    ensures { result ≡ same_imprint a.now b.now }
+{
+    same_digest(&a.digest, &b.digest) && a.bytes == b.bytes
+}
+
+fn same_date(a: &Date, b: &Date) -> bool
+    ensures { result ≡ same_date a.now b.now }
+{
+    a.year == b.year && a.month == b.month && a.day == b.day
+}

@@ -1,0 +1,207 @@
+//! The fields of a seal's text, and its lines.
+ghost use Rattle.std.specs.Prelude.{◌≡◌, ◌≤◌, ◌<◌, IfSome, option_map, length};
+ghost use Rattle.seat_seal.specs.Reading.{digest_at, number_at, two_at, date_at, imprint_at, state_at, journal_at, script_at, line_at};
+
+use crate::date::Date;
+use crate::digest::Digest;
+use crate::imprint::Imprint;
+use crate::scripts::Script;
+use crate::seal::{JournalState, SealedJournal};
+use airline_base::fields::{byte_of, digits_of, long_value_of, two_are, two_value, word_of};
+
+#[tactic(auto, unfolding(crate::specs::Reading::digest_at))]
+pub fn digest_at(bytes: &[u8]) -> Option<(Digest, &[u8])>
+    ensures { option_map (λ x. (x.0, x.1.now)) result ≡ digest_at bytes.now }
+{
+    let (front, rest) = bytes.split_at_checked(64)?;
+    Some((Digest::read(front)?, rest))
+}
+
+#[tactic(auto, unfolding(crate::specs::Reading::number_at))]
+pub fn number_at(bytes: &[u8], most: u64) -> Option<(u64, &[u8])>
+    ensures value { option_map (λ x. (x.0, x.1.now)) result ≡ number_at most bytes.now }
+    ensures bound { IfSome result (λ x. x.0 ≤ most) }
+{
+    let (digits, rest) = digits_of(bytes);
+    if digits.len() > 10 {
+        return None;
+    }
+    let number = long_value_of(digits);
+    if number > most {
+        return None;
+    }
+    Some((number, rest))
+}
+
+fn two_at(bytes: &[u8]) -> Option<(u8, &[u8])>
+    ensures value { option_map (λ x. (x.0, x.1.now)) result ≡ two_at bytes.now }
+    ensures bound { IfSome result (λ x. x.0 ≤ 99) }
+{
+    match bytes {
+        [tens, units, rest @ ..] if two_are(*tens, *units) => Some((
+            two_value(*tens, *units),
+            rest,
+        )),
+        _ => None,
+    }
+}
+
+#[tactic(auto, unfolding(crate::specs::Reading::date_at))]
+pub fn date_at(bytes: &[u8]) -> Option<(Date, &[u8])>
+    ensures { option_map (λ x. (x.0, x.1.now)) result ≡ date_at bytes.now }
+{
+    let Some((century, rest)) = two_at(bytes) else {
+        return None;
+    };
+    let Some((year, rest)) = two_at(rest) else {
+        return None;
+    };
+    let Some((month, rest)) = two_at(byte_of(b'-', rest)?) else {
+        return None;
+    };
+    let Some((day, rest)) = two_at(byte_of(b'-', rest)?) else {
+        return None;
+    };
+    let date = Date {
+        year: century as u16 * 100 + year as u16,
+        month,
+        day,
+    };
+    Some((date, rest))
+}
+
+#[tactic(auto, unfolding(crate::specs::Reading::imprint_at))]
+pub fn imprint_at(bytes: &[u8]) -> Option<(Imprint, &[u8])>
+    ensures { option_map (λ x. (x.0, x.1.now)) result ≡ imprint_at bytes.now }
+{
+    let Some((digest, rest)) = digest_at(bytes) else {
+        return None;
+    };
+    let Some((count, rest)) = number_at(word_of(b" bytes ", rest)?, 9_999_999_999) else {
+        return None;
+    };
+    Some((
+        Imprint {
+            digest,
+            bytes: count,
+        },
+        rest,
+    ))
+}
+
+#[tactic(auto, unfolding(crate::specs::Reading::state_at))]
+fn state_at(bytes: &[u8]) -> Option<(JournalState, &[u8])>
+    ensures { option_map (λ x. (x.0, x.1.now)) result ≡ state_at bytes.now }
+{
+    match word_of(b" open", bytes) {
+        Some(rest) => Some((JournalState::Open, rest)),
+        None => Some((JournalState::Closed, word_of(b" closed", bytes)?)),
+    }
+}
+
+#[tactic(auto, unfolding(crate::specs::Reading::journal_at))]
+pub fn journal_at(bytes: &[u8]) -> Option<(SealedJournal, &[u8])>
+    ensures { option_map (λ x. (x.0, x.1.now)) result ≡ journal_at bytes.now }
+{
+    let Some((digest, rest)) = digest_at(bytes) else {
+        return None;
+    };
+    let Some((lines, rest)) = number_at(word_of(b" lines ", rest)?, 999_999) else {
+        return None;
+    };
+    let Some((count, rest)) = number_at(word_of(b" bytes ", rest)?, 9_999_999_999) else {
+        return None;
+    };
+    let Some((state, rest)) = state_at(rest) else {
+        return None;
+    };
+    let journal = SealedJournal {
+        imprint: Imprint {
+            digest,
+            bytes: count,
+        },
+        lines: lines as u32,
+        state,
+    };
+    Some((journal, rest))
+}
+
+#[tactic(auto, unfolding(crate::specs::Reading::script_at))]
+fn script_at(bytes: &[u8]) -> Option<(Script, &[u8])>
+    ensures { option_map (λ x. (x.0, x.1.now)) result ≡ script_at bytes.now }
+{
+    let Some((session, rest)) = number_at(bytes, 8) else {
+        return None;
+    };
+    let Some((digest, rest)) = digest_at(byte_of(b' ', rest)?) else {
+        return None;
+    };
+    let script = Script {
+        session: session as u8,
+        digest,
+    };
+    Some((script, rest))
+}
+
+// ---- lines: a word, a field and LF
+
+#[tactic(auto, unfolding(crate::specs::Reading::line_at))]
+pub fn digest_line<'a>(word: &[u8], bytes: &'a [u8]) -> Option<(Digest, &'a [u8])>
+    ensures { option_map (λ x. (x.0, x.1.now)) result ≡ line_at word.now digest_at bytes.now }
+{
+    let Some((digest, rest)) = digest_at(word_of(word, bytes)?) else {
+        return None;
+    };
+    Some((digest, byte_of(b'\n', rest)?))
+}
+
+#[tactic(auto, unfolding(crate::specs::Reading::line_at))]
+pub fn date_line<'a>(word: &[u8], bytes: &'a [u8]) -> Option<(Date, &'a [u8])>
+    ensures { option_map (λ x. (x.0, x.1.now)) result ≡ line_at word.now date_at bytes.now }
+{
+    let Some((date, rest)) = date_at(word_of(word, bytes)?) else {
+        return None;
+    };
+    Some((date, byte_of(b'\n', rest)?))
+}
+
+#[tactic(auto, unfolding(crate::specs::Reading::line_at))]
+pub fn number_line<'a>(word: &[u8], bytes: &'a [u8], most: u64) -> Option<(u64, &'a [u8])>
+    ensures value { option_map (λ x. (x.0, x.1.now)) result ≡ line_at word.now (number_at most) bytes.now }
+    ensures bound { IfSome result (λ x. x.0 ≤ most) }
+{
+    let Some((number, rest)) = number_at(word_of(word, bytes)?, most) else {
+        return None;
+    };
+    Some((number, byte_of(b'\n', rest)?))
+}
+
+#[tactic(auto, unfolding(crate::specs::Reading::line_at))]
+pub fn imprint_line<'a>(word: &[u8], bytes: &'a [u8]) -> Option<(Imprint, &'a [u8])>
+    ensures { option_map (λ x. (x.0, x.1.now)) result ≡ line_at word.now imprint_at bytes.now }
+{
+    let Some((imprint, rest)) = imprint_at(word_of(word, bytes)?) else {
+        return None;
+    };
+    Some((imprint, byte_of(b'\n', rest)?))
+}
+
+#[tactic(auto, unfolding(crate::specs::Reading::line_at))]
+pub fn journal_line<'a>(word: &[u8], bytes: &'a [u8]) -> Option<(SealedJournal, &'a [u8])>
+    ensures { option_map (λ x. (x.0, x.1.now)) result ≡ line_at word.now journal_at bytes.now }
+{
+    let Some((journal, rest)) = journal_at(word_of(word, bytes)?) else {
+        return None;
+    };
+    Some((journal, byte_of(b'\n', rest)?))
+}
+
+#[tactic(auto, unfolding(crate::specs::Reading::line_at))]
+pub fn script_line<'a>(word: &[u8], bytes: &'a [u8]) -> Option<(Script, &'a [u8])>
+    ensures { option_map (λ x. (x.0, x.1.now)) result ≡ line_at word.now script_at bytes.now }
+{
+    let Some((script, rest)) = script_at(word_of(word, bytes)?) else {
+        return None;
+    };
+    Some((script, byte_of(b'\n', rest)?))
+}

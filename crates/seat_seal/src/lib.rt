@@ -1,0 +1,26 @@
+//! Seals: the text beside a journal that says what the journal belongs to, and the digests that it names.
+//! It knows digests, days and counts, and nothing of a journal's lines, of sessions or of files.
+#![tactic(auto)]
+
+mod comparing;
+mod date;
+mod digest;
+mod fields;
+mod imprint;
+mod laws;
+mod reading;
+mod rules;
+mod scripts;
+mod seal;
+mod spelling;
+
+pub use comparing::{Given, SealFault, compared, entry_for, has_script};
+pub use date::Date;
+pub use digest::{Digest, digest_of};
+pub use imprint::{Imprint, Tally, imprint_of};
+pub use laws::seals_are_unique;
+pub use reading::read_seal;
+pub use rules::is_seal;
+pub use scripts::{Script, Scripts};
+pub use seal::{JournalState, Seal, SealEntry, Sealed, SealedJournal};
+pub use spelling::{SealText, seal_text};

@@ -1,0 +1,77 @@
+//! Whether a seal keeps its rules.
+ghost use Rattle.std.specs.Prelude.{◌≡◌};
+ghost use Rattle.seat_seal.specs.Rules.{is_imprint, is_journal, are_rising, is_sealed, is_entry, is_second, is_seal};
+
+use crate::imprint::Imprint;
+use crate::scripts::Script;
+use crate::seal::{Seal, SealEntry, Sealed, SealedJournal};
+
+/// The most lines of a journal.
+const MOST_LINES: u32 = 999_999;
+
+/// Whether each entry keeps the rules of an entry.
+#[tactic(auto, unfolding(crate::specs::Rules::is_seal))]
+pub fn is_seal(seal: &Seal) -> bool
+    ensures { result ≡ is_seal seal.now }
+{
+    is_entry(&seal.first) && is_second(&seal.second)
+}
+
+fn is_second(entry: &Option<SealEntry>) -> bool
+    ensures { result ≡ is_second entry.now }
+{
+    match entry {
+        Some(entry) => is_entry(entry),
+        None => true,
+    }
+}
+
+fn is_entry(entry: &SealEntry) -> bool
+    ensures { result ≡ is_entry entry.now }
+{
+    match entry {
+        SealEntry::Sealed(sealed) => is_sealed(sealed),
+        SealEntry::Other(imprint) => is_imprint(imprint),
+    }
+}
+
+#[tactic(auto, unfolding(crate::specs::Rules::is_sealed))]
+fn is_sealed(sealed: &Sealed) -> bool
+    ensures { result ≡ is_sealed sealed.now }
+{
+    sealed.first.day().is_some()
+        && 1 <= sealed.days
+        && sealed.days <= 366
+        && is_journal(&sealed.journal)
+        && sealed.behind <= sealed.journal.lines
+        && sealed.today.day().is_some()
+        && are_rising(sealed.scripts.as_slice())
+}
+
+fn is_journal(journal: &SealedJournal) -> bool
+    ensures { result ≡ is_journal journal.now }
+{
+    is_imprint(&journal.imprint) && journal.lines <= MOST_LINES
+}
+
+// At most ten digits.
+fn is_imprint(imprint: &Imprint) -> bool
+    ensures { result ≡ is_imprint imprint.now }
+{
+    imprint.bytes <= 9_999_999_999
+}
+
+fn are_rising(scripts: &[Script]) -> bool
+    ensures { result ≡ are_rising 0 scripts.now }
+{
+    let mut last = 0;
+    let mut rest = scripts;
+    while let [script, more @ ..] = rest {
+        if !(last < script.session && script.session <= 8) {
+            return false;
+        }
+        last = script.session;
+        rest = more;
+    }
+    true
+}

@@ -1,0 +1,54 @@
+//! What a seal says.
+use crate::date::Date;
+use crate::digest::Digest;
+use crate::imprint::Imprint;
+use crate::scripts::Scripts;
+
+/// Whether more lines may come.
+#[derive(Clone, Copy, Debug, PartialEq, Eq)]
+pub enum JournalState {
+    Open,
+    Closed,
+}
+
+/// A journal: the imprint of its head line and its entries, without its END line, and the count of its entries.
+#[derive(Clone, Copy, Debug, PartialEq, Eq)]
+pub struct SealedJournal {
+    pub imprint: Imprint,
+    pub lines: u32,
+    pub state: JournalState,
+}
+
+/// What a journal belongs to.
+#[derive(Drop)]
+pub struct Sealed {
+    /// Of the data set's bytes.
+    pub set: Digest,
+    /// Of the limit rows' bytes.
+    pub limits: Digest,
+    /// The first day of the flights, and the count of their days.
+    pub first: Date,
+    pub days: u16,
+    pub journal: SealedJournal,
+    /// How many of its lines the run went on from, 0 where from none.
+    pub behind: u32,
+    pub today: Date,
+    pub scripts: Scripts,
+    /// Of the change rows' bytes, where there are any.
+    pub changes: Option<Digest>,
+}
+
+/// A journal and what is known of it.
+#[derive(Drop)]
+pub enum SealEntry {
+    Sealed(Sealed),
+    /// Nothing: the imprint of all its bytes.
+    Other(Imprint),
+}
+
+/// One entry, or two while the second's journal replaces the first's.
+#[derive(Drop)]
+pub struct Seal {
+    pub first: SealEntry,
+    pub second: Option<SealEntry>,
+}

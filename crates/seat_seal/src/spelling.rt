@@ -1,0 +1,221 @@
+//! The text of a seal, each part put behind those before it. It takes no memory.
+ghost use Rattle.std.specs.Prelude.{◌≡◌, ◌+◌, ◌≤◌, ◌++◌, codes, decimal, length, IfSome};
+ghost use Rattle.std.specs.List.{flat_map, AllByRecursion};
+ghost use Rattle.hex.specs.Hex.{encode_lower};
+ghost use Rattle.seat_seal.specs.Digests.{IsDigest};
+ghost use Rattle.seat_seal.specs.Rules.{HasDigests, HasTypes, IsScript};
+ghost use Rattle.seat_seal.specs.Text.{line, date_text, imprint_text, journal_text, script_text, script_line, changes_text, sealed_text, other_text, entry_text, second_text, seal_text, state_text};
+
+use crate::date::Date;
+use crate::digest::Digest;
+use crate::imprint::Imprint;
+use crate::scripts::Script;
+use crate::seal::{JournalState, Seal, SealEntry, Sealed, SealedJournal};
+use airline_base::spelling::{put, put_number};
+use arrayvec::ArrayVec;
+use itoa::Buffer;
+
+/// A head line, and two entries of at most 1,120 bytes.
+pub type SealText = ArrayVec<u8, 2304>;
+
+/// The text of a seal.
+pub fn seal_text(seal: &Seal) -> ArrayVec<u8, 2304>
+    ensures text { result.items ≡ seal_text seal.now }
+    ensures first { HasTypes seal.now.first }
+    ensures second { IfSome seal.now.second HasTypes }
+{
+    let mut text = ArrayVec::new();
+    put(&mut text, b"SEATSEAL 1\n");
+    put_entry(&mut text, &seal.first);
+    put_second(&mut text, &seal.second);
+    text
+}
+
+fn put_second(text: &mut SealText, entry: &Option<SealEntry>)
+    requires room { length text.old.items + 1120 ≤ 2304 }
+    ensures text { text.new.items ≡ text.old.items ++ second_text entry.now }
+    ensures is { IfSome entry.now HasTypes }
+{
+    match entry {
+        Some(entry) => put_entry(text, entry),
+        None => {}
+    }
+}
+
+fn put_entry(text: &mut SealText, entry: &SealEntry)
+    requires room { length text.old.items + 1120 ≤ 2304 }
+    ensures text { text.new.items ≡ text.old.items ++ entry_text entry.now }
+    ensures len { length text.new.items ≤ length text.old.items + 1120 }
+    ensures is { HasTypes entry.now }
+{
+    match entry {
+        SealEntry::Sealed(sealed) => put_sealed(text, sealed),
+        SealEntry::Other(imprint) => put_other(text, imprint),
+    }
+}
+
+fn put_other(text: &mut SealText, imprint: &Imprint)
+    requires room { length text.old.items + 1120 ≤ 2304 }
+    ensures text { text.new.items ≡ text.old.items ++ other_text imprint.now }
+    ensures len { length text.new.items ≤ length text.old.items + 1120 }
+    ensures is { IsDigest imprint.now.digest }
+{
+    put(text, b"other ");
+    put_digest(text, &imprint.digest);
+    put(text, b" bytes ");
+    put_count(text, imprint.bytes);
+    put(text, b"\nEND\n");
+}
+
+fn put_sealed(text: &mut SealText, sealed: &Sealed)
+    requires room { length text.old.items + 1120 ≤ 2304 }
+    ensures text { text.new.items ≡ text.old.items ++ sealed_text sealed.now }
+    ensures len { length text.new.items ≤ length text.old.items + 1120 }
+    ensures is { HasDigests sealed.now }
+{
+    put_digest_line(text, b"set ", &sealed.set);
+    put_digest_line(text, b"limits ", &sealed.limits);
+    put_date_line(text, b"first ", sealed.first);
+    put_number_line(text, b"days ", sealed.days as u32);
+    put_journal_line(text, &sealed.journal);
+    put_number_line(text, b"behind ", sealed.behind);
+    put_date_line(text, b"today ", sealed.today);
+    put_scripts(text, sealed.scripts.as_slice());
+    put_changes(text, &sealed.changes);
+    put(text, b"END\n");
+}
+
+fn put_journal_line(text: &mut SealText, journal: &SealedJournal)
+    requires room { length text.old.items + 160 ≤ 2304 }
+    ensures text { text.new.items ≡ text.old.items ++ line (codes "journal ") (journal_text journal.now) }
+    ensures len { length text.new.items ≤ length text.old.items + 160 }
+    ensures is { IsDigest journal.now.imprint.digest }
+{
+    put(text, b"journal ");
+    put_digest(text, &journal.imprint.digest);
+    put(text, b" lines ");
+    put_number(text, journal.lines);
+    put(text, b" bytes ");
+    put_count(text, journal.imprint.bytes);
+    put_state(text, journal.state);
+    put(text, b"\n");
+}
+
+fn put_state(text: &mut SealText, state: JournalState)
+    requires room { length text.old.items + 7 ≤ 2304 }
+    ensures text { text.new.items ≡ text.old.items ++ state_text state }
+    ensures len { length text.new.items ≤ length text.old.items + 7 }
+{
+    match state {
+        JournalState::Open => put(text, b" open"),
+        JournalState::Closed => put(text, b" closed"),
+    }
+}
+
+fn put_scripts(text: &mut SealText, scripts: &[Script])
+    requires few { length scripts.now ≤ 8 }
+    requires room { length text.old.items + 664 ≤ 2304 }
+    ensures text { text.new.items ≡ text.old.items ++ flat_map script_line scripts.now }
+    ensures len { length text.new.items ≤ length text.old.items + 664 }
+    ensures is { AllByRecursion IsScript scripts.now }
+{
+    for script in scripts {
+        put_script(text, script);
+    }
+}
+
+fn put_script(text: &mut SealText, script: &Script)
+    requires room { length text.old.items + 83 ≤ 2304 }
+    ensures text { text.new.items ≡ text.old.items ++ script_line script.now }
+    ensures len { length text.new.items ≤ length text.old.items + 83 }
+    ensures is { IsScript script.now }
+{
+    put(text, b"script ");
+    put_number(text, script.session as u32);
+    put(text, b" ");
+    put_digest(text, &script.digest);
+    put(text, b"\n");
+}
+
+fn put_changes(text: &mut SealText, changes: &Option<Digest>)
+    requires room { length text.old.items + 73 ≤ 2304 }
+    ensures text { text.new.items ≡ text.old.items ++ changes_text changes.now }
+    ensures len { length text.new.items ≤ length text.old.items + 73 }
+    ensures is { IfSome changes.now IsDigest }
+{
+    match changes {
+        Some(digest) => put_digest_line(text, b"changes ", digest),
+        None => {}
+    }
+}
+
+fn put_digest_line(text: &mut SealText, word: &[u8], digest: &Digest)
+    requires room { length text.old.items + length word.now + 65 ≤ 2304 }
+    ensures text { text.new.items ≡ text.old.items ++ line word.now (encode_lower digest.now) }
+    ensures len { length text.new.items ≡ length text.old.items + length word.now + 65 }
+    ensures is { IsDigest digest.now }
+{
+    put(text, word);
+    put_digest(text, digest);
+    put(text, b"\n");
+}
+
+fn put_date_line(text: &mut SealText, word: &[u8], date: Date)
+    requires room { length text.old.items + length word.now + 11 ≤ 2304 }
+    ensures text { text.new.items ≡ text.old.items ++ line word.now (date_text date) }
+    ensures len { length text.new.items ≡ length text.old.items + length word.now + 11 }
+{
+    put(text, word);
+    put(text, &date_text(date));
+    put(text, b"\n");
+}
+
+fn put_number_line(text: &mut SealText, word: &[u8], number: u32)
+    requires room { length text.old.items + length word.now + 11 ≤ 2304 }
+    ensures text { text.new.items ≡ text.old.items ++ line word.now (decimal number) }
+    ensures len { length text.new.items ≤ length text.old.items + length word.now + 11 }
+{
+    put(text, word);
+    put_number(text, number);
+    put(text, b"\n");
+}
+
+// 64 hex digits.
+fn put_digest(text: &mut SealText, digest: &Digest)
+    requires room { length text.old.items + 64 ≤ 2304 }
+    ensures text { text.new.items ≡ text.old.items ++ encode_lower digest.now }
+    ensures len { length text.new.items ≡ length text.old.items + 64 }
+    ensures is { IsDigest digest.now }
+{
+    put(text, &digest.letters());
+}
+
+// A number of at most twenty digits.
+fn put_count(text: &mut SealText, number: u64)
+    requires room { length text.old.items + 20 ≤ 2304 }
+    ensures text { text.new.items ≡ text.old.items ++ decimal number }
+    ensures len { length text.new.items ≤ length text.old.items + 20 }
+{
+    let mut buffer = Buffer::new();
+    put(text, buffer.format(number).as_bytes());
+}
+
+#[tactic(auto, unfolding(crate::specs::Text::date_text))]
+fn date_text(date: Date) -> [u8; 10]
+    ensures { result ≡ date_text date }
+{
+    let century = date.year / 100;
+    let year = date.year % 100;
+    [
+        b'0' + (century / 10) as u8,
+        b'0' + (century % 10) as u8,
+        b'0' + (year / 10) as u8,
+        b'0' + (year % 10) as u8,
+        b'-',
+        b'0' + date.month / 10,
+        b'0' + date.month % 10,
+        b'-',
+        b'0' + date.day / 10,
+        b'0' + date.day % 10,
+    ]
+}
