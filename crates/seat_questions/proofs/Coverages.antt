@@ -17,7 +17,7 @@ use Rattle.std.proofs.lemmas.Option.{get_or_from_slice_get, slice_get_within}
 use Rattle.airline_base.specs.Days.{IsDay}
 use Rattle.seat_limits.specs.Authorised.{holds_day, leg_pair, row_pair, same_pair}
 use Rattle.seat_limits.proofs.RowIndexing.{pair_is}
-use Rattle.seat_questions.specs.Cover.{IsCoverText, IsFlightPartBy, IsRowPartBy, covered_by, has_leg, has_row, is_on, is_row_of, leg_count, row_text, sums_text}
+use Rattle.seat_questions.specs.Cover.{IsCoverText, IsFlightPartBy, IsRowPartBy, covered_by, effect_among, has_leg, has_row, is_on, is_row_of, leg_count, row_text, sums_text}
 use Rattle.seat_desk.specs.FlightsDesk.{IsText}
 use Rattle.seat_desk.proofs.Texts.{each_more}
 use Rattle.seat_questions.specs.Coverage.{IsCoverage, IsDatedRow, IsRanking, begin_of, below, day_of, days_of, end_of, finds_leg, finds_row, point, row_number}
@@ -110,7 +110,7 @@ any_within b e le ns =
 
 -- ---- rows and legs
 
-any_same : {X : Type 0} (p q : X → Bool) (xs : List X) → ((k : ℕ) (x : X) → slice_get xs k ≡ Some x → p x ≡ q x)
+pub any_same : {X : Type 0} (p q : X → Bool) (xs : List X) → ((k : ℕ) (x : X) → slice_get xs k ≡ Some x → p x ≡ q x)
     → list_any p xs ≡ list_any q xs
 any_same p q [] same = refl
 any_same p q (x ∷ xs) same = let here : p x ≡ q x = same 0 x refl in let rest = any_same p q xs (λ k y at. same (suc k) y at) in rw (here, rest) refl
@@ -241,12 +241,23 @@ leg_found c flights rows h k row at =
 
 -- ---- the text
 
-rows_text : (p q : LimitRow → Bool) (n : ℕ) (rows : List LimitRow) (text : List ℕ)
+rows_text : (p q : LimitRow → Bool) (r s : ℕ → LimitRow → Bool) (n : ℕ) (rows : List LimitRow) (text : List ℕ)
     → ((k : ℕ) (row : LimitRow) → slice_get rows k ≡ Some row → p row ≡ q row)
-    → IsText (IsRowPartBy p) n rows text → IsText (IsRowPartBy q) n rows text
-rows_text p q n [] text same is = is
-rows_text p q n (row ∷ rows) text same is =
-    (is.0, is.1, is.2 ∙ ap (row_text n) (same 0 row refl), is.3, rows_text p q (n + 1) rows is.1 (λ k r at. same (suc k) r at) is.4)
+    → ((k : ℕ) (row : LimitRow) → slice_get rows k ≡ Some row → r (n + k) row ≡ s (n + k) row)
+    → IsText (IsRowPartBy p r) n rows text → IsText (IsRowPartBy q s) n rows text
+rows_text p q r s n [] text same alike is = is
+rows_text p q r s n (row ∷ rows) text same alike is =
+    let first : n + 0 ≡ n = omega arith in
+    let here : r n row ≡ s n row = subst (λ (m : ℕ). r m row ≡ s m row) first (alike 0 row refl) in (
+      is.0,
+      is.1,
+      is.2 ∙ ap (λ (b : Bool). row_text n b (r n row)) (same 0 row refl) ∙ ap (row_text n (q row)) here,
+      is.3,
+      rows_text p q r s (n + 1) rows is.1 (λ k x at. same (suc k) x at) (λ k x at. later k x (alike (suc k) x at)) is.4,
+    )
+  where
+    later : (k : ℕ) (x : LimitRow) → r (n + suc k) x ≡ s (n + suc k) x → r ((n + 1) + k) x ≡ s ((n + 1) + k) x
+    later k x e = let next : n + suc k ≡ (n + 1) + k = omega arith in subst (λ (m : ℕ). r m x ≡ s m x) next e
 
 rows_counted : (p q : LimitRow → Bool) (rows : List LimitRow)
     → ((k : ℕ) (row : LimitRow) → slice_get rows k ≡ Some row → p row ≡ q row) → count_by p rows ≡ count_by q rows
@@ -257,16 +268,18 @@ rows_counted p q (row ∷ rows) same =
     ∙ ap (λ (n : ℕ). one (q row) + n) (rows_counted p q rows (λ k r at. same (suc k) r at))
     ∙ sym (sum_by-cons (λ r. one (q r)) row rows)
 
-pub found_text : (c : Coverage) (rows : List LimitRow) (flights : List Flight) (start mid legs new : List ℕ)
-    (covered count found : ℕ) → IsCoverage c flights rows → start ≡ []
-    → IsPut (IsRowPartBy (finds_leg c)) 1 rows start mid → IsPut (IsFlightPartBy (finds_row c)) 0 flights mid legs
+pub found_text : (c : Coverage) (rows : List LimitRow) (flights : List Flight) (effect : ℕ → LimitRow → Bool)
+    (start mid legs new : List ℕ) (covered count found : ℕ) → IsCoverage c flights rows
+    → ((k : ℕ) (row : LimitRow) → slice_get rows k ≡ Some row
+    → effect (1 + k) row ≡ effect_among rows flights (1 + k) row) → start ≡ []
+    → IsPut (IsRowPartBy (finds_leg c) effect) 1 rows start mid → IsPut (IsFlightPartBy (finds_row c)) 0 flights mid legs
     → new ≡ legs ++ sums_text covered count found (length rows)
     → covered ≡ sum_by (covered_by (finds_row c)) flights → count ≡ sum_by leg_count flights
     → found ≡ count_by (finds_leg c) rows
     → IsCoverText rows flights new
-found_text c rows flights start mid legs new covered count found h empty of_rows of_legs written is_covered is_count is_found =
+found_text c rows flights effect start mid legs new covered count found h alike empty of_rows of_legs written is_covered is_count is_found =
     cover_text rows flights start mid legs new covered count found empty
-    (record { part = of_rows.part; is_text = rows_text (finds_leg c) (has_leg flights) 1 rows of_rows.part (leg_found c flights rows h) of_rows.is_text; written = of_rows.written })
+    (record { part = of_rows.part; is_text = rows_text (finds_leg c) (has_leg flights) effect (effect_among rows flights) 1 rows of_rows.part (leg_found c flights rows h) alike of_rows.is_text; written = of_rows.written })
     (subst (λ (test : Flight → DatedLeg → Bool). IsPut (IsFlightPartBy test) 0 flights mid legs) same of_legs)
     written
     (is_covered ∙ ap (λ (test : Flight → DatedLeg → Bool). sum_by (covered_by test) flights) same)

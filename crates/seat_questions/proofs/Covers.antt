@@ -46,7 +46,7 @@ leg_bare test i flight j leg old new e put =
     record { part = put.line; is_part = subst (λ (b : Bool). IsLegTextBy b i flight j leg put.line) (sym e) put.is_line; written = put.written }
 
 pub cover_text : (rows : List LimitRow) (flights : List Flight) (start mid legs new : List ℕ) (a b c : ℕ) → start ≡ []
-    → IsPut (IsRowPart flights) 1 rows start mid → IsPut (IsFlightPart rows) 0 flights mid legs
+    → IsPut (IsRowPart rows flights) 1 rows start mid → IsPut (IsFlightPart rows) 0 flights mid legs
     → new ≡ legs ++ sums_text a b c (length rows)
     → a ≡ sum_by (covered_legs rows) flights → b ≡ sum_by leg_count flights → c ≡ count_by (has_leg flights) rows
     → IsCoverText rows flights new

@@ -1,7 +1,6 @@
 -- What can't be explained, and what is.
-use Rattle.std.proofs.Common.{◌≡◌, ◌≢◌, ℕ, ◌-◌, ◌<◌, ◌≤◌, Bool, true, false, List, [], ◌++◌, length, take, Option, Some, None, IfSome, slice_get, get_or, codes, arith, refl, ap, sym, subst, ◌∙◌}
+use Rattle.std.proofs.Common.{◌≡◌, ◌≢◌, ℕ, ◌-◌, ◌<◌, ◌≤◌, Bool, true, false, List, [], ◌++◌, length, take, Option, Some, None, IfSome, slice_get, get_or, arith, refl, ap, sym, subst, ◌∙◌}
 use Rattle.seat_questions.proofs.Common.{Place, Fits, Ladders, Entry, Seats, replay}
-use Rattle.std.proofs.lemmas.Option.{slice_get-get_or}
 use Rattle.ssim_flights.specs.declared.flight.Flight.{Flight as Flown}
 use Rattle.seat_journal.specs.Reading.{IsFirstFault}
 use Rattle.seat_journal.specs.Text.{IsJournalText, entry_text}
@@ -11,13 +10,13 @@ use Rattle.seat_journal.specs.declared.fault.JournalFault.{JournalFault}
 use Rattle.seat_journal.specs.declared.fault.JournalKind.{JournalKind}
 use Rattle.seat_journal.specs.declared.fault.JournalKind.TheVariants as journal_kinds
 use Rattle.seat_journal.proofs.TextLaws.{one_text}
-use Rattle.seat_rules.specs.Journal.{FitsWork, next_line}
+use Rattle.seat_rules.specs.Journal.{FitsWork}
 use Rattle.seat_rules.specs.Replaying.{replay_fault}
 use Rattle.seat_rules.proofs.History.Faults.{legal_has_no_fault, get_at}
 use Rattle.seat_desk.specs.AuditDesk.{journal_fault, journal_fault_of, most_journal_bytes, most_lines}
 use Rattle.seat_desk.specs.declared.fault.DeskFault.{DeskFault}
 use Rattle.seat_desk.specs.declared.fault.DeskFault.TheVariants.{NoLine, Memory, Replay}
-use Rattle.seat_questions.specs.Why.{HasLine, IsExplained, IsPlacePut, IsReasoned, IsRefusedPast, IsUnexplained, IsUnreasoned, IsWhyBy, IsWhyText, answer_text, can_ask, lines_before, place_of_line, right_line, verdict_text}
+use Rattle.seat_questions.specs.Why.{HasLine, IsExplained, IsPlacePut, IsReasoned, IsRefusedPast, IsUnexplained, IsUnreasoned, IsWhyBy, IsWhyText, can_ask, compared_text, lines_before, place_of_line, right_line, unasked_text}
 
 -- ---- what is refused
 
@@ -116,11 +115,6 @@ explained_line flights grid n at bytes entries lines past entry text is same low
 
 -- ---- the text of one line
 
--- the answer of a line does not depend on who asks
-pub answer_whoever : (grid : Ladders) (past : List Entry) (session call other next : ℕ) (work : Work)
-    → answer_text (next_line grid past session call work) ≡ answer_text (next_line grid past other next work)
-answer_whoever grid past session call other next work = refl
-
 -- the place of a line that may be asked is there
 pub place_fits : (grid : Ladders) (work : Work) (place : Option Place) → place ≡ place_of_line work → FitsWork grid work
     → IfSome place (Fits grid)
@@ -129,29 +123,30 @@ place_fits grid work place same fits = subst (λ (p : Option Place). IfSome p (F
   cases (Seats c) f = f.2
   cases (Limit c) f = (omega arith, f.there)
 
--- with its legs and the right answer
-pub why_asked : (flights : List Flown) (grid : Ladders) (past : List Entry) (e prepared shown : Entry)
+-- with its legs and the right line
+pub why_asked : (flights : List Flown) (grid : Ladders) (past asked_past : List Entry) (e prepared shown : Entry)
     (place : Option Place) (start line legs new : List ℕ) → can_ask grid past e.work ≡ true
     → start ≡ [] → line ≡ start ++ entry_text e → place ≡ place_of_line e.work
     → IsPlacePut flights (replay grid past) place line legs
-    → answer_text prepared ≡ answer_text (right_line grid past e) → shown ≡ prepared
-    → new ≡ legs ++ verdict_text (answer_text shown) e → IsWhyText flights grid past e new
-why_asked flights grid past e prepared shown place start line legs new asked empty is_line is_place put is_right same is_new =
+    → prepared ≡ right_line grid past e → shown ≡ prepared → asked_past ≡ past
+    → new ≡ legs ++ compared_text asked_past shown e → IsWhyText flights grid past e new
+why_asked flights grid past asked_past e prepared shown place start line legs new asked empty is_line is_place put is_right same same_past is_new =
     let here : IsPlacePut flights (replay grid past) (place_of_line e.work) line legs = subst (λ (p : Option Place). IsPlacePut flights (replay grid past) p line legs) is_place put in
-    let right : answer_text shown ≡ answer_text (right_line grid past e) = ap (λ (x : Entry). answer_text x) same ∙ is_right in
+    let right : shown ≡ right_line grid past e = same ∙ is_right in
     subst (λ (b : Bool). IsWhyBy b flights grid past e new) (sym asked) (record {
       legs = here.part;
       are_legs = here.is_text;
       written = is_new
-          ∙ ap (λ (l : List ℕ). legs ++ verdict_text l e) right
-          ∙ ap (λ (l : List ℕ). l ++ verdict_text (answer_text (right_line grid past e)) e) (here.put ∙ ap (λ (l : List ℕ). l ++ here.part) (is_line ∙ ap (λ (l : List ℕ). l ++ entry_text e) empty));
+          ∙ ap (λ (l : List Entry). legs ++ compared_text l shown e) same_past
+          ∙ ap (λ (x : Entry). legs ++ compared_text past x e) right
+          ∙ ap (λ (l : List ℕ). l ++ compared_text past (right_line grid past e) e) (here.put ∙ ap (λ (l : List ℕ). l ++ here.part) (is_line ∙ ap (λ (l : List ℕ). l ++ entry_text e) empty));
     })
 
 -- without them
 pub why_unasked : (flights : List Flown) (grid : Ladders) (past : List Entry) (e : Entry) (start line new : List ℕ)
     → can_ask grid past e.work ≡ false
-    → start ≡ [] → line ≡ start ++ entry_text e → new ≡ line ++ verdict_text (codes "NONE") e
+    → start ≡ [] → line ≡ start ++ entry_text e → new ≡ line ++ unasked_text e
     → IsWhyText flights grid past e new
 why_unasked flights grid past e start line new asked empty is_line is_new =
     subst (λ (b : Bool). IsWhyBy b flights grid past e new) (sym asked)
-    (is_new ∙ ap (λ (l : List ℕ). l ++ verdict_text (codes "NONE") e) (is_line ∙ ap (λ (l : List ℕ). l ++ entry_text e) empty))
+    (is_new ∙ ap (λ (l : List ℕ). l ++ unasked_text e) (is_line ∙ ap (λ (l : List ℕ). l ++ entry_text e) empty))

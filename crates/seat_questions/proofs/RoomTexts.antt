@@ -1,22 +1,26 @@
 -- The texts of places, of their rooms and of bars.
-use Rattle.std.proofs.Common.{arith, Bool, true, false, ◌≡◌, ℕ, zero, suc, ◌+◌, ◌-◌, ◌<◌, List, [], ◌∷◌, ◌++◌, length, drop, get_or, refl, sym, ap, ◌∙◌, subst, append_assoc}
+use Rattle.std.proofs.Common.{arith, Bool, true, false, ◌≡◌, ◌&&◌, ℕ, zero, suc, ◌+◌, ◌-◌, ◌<◌, List, [], ◌∷◌, ◌++◌, length, drop, get_or, refl, sym, ap, ◌∙◌, subst, append_assoc}
 use Rattle.seat_questions.proofs.Common.{Place, DatedLeg, Flight, Ladders, Steps, Entry, replay, State, IsLegText}
-use Rattle.std.specs.Prelude.{slice_get, unwrap_or, option_map, Option, Some}
+use Rattle.std.specs.Prelude.{slice_get, unwrap_or, option_map, Option, Some, None}
+use Rattle.std.proofs.lemmas.Bool.{and_parts, eq-eqb}
 use Rattle.std.proofs.lemmas.List.{append-nil, length-map}
 use Rattle.std.proofs.lemmas.Option.{slice_get-map}
 use Rattle.seat_limits.specs.Authorised.{authorised_grid, authorised_legs}
 use Rattle.seat_nesting.specs.Nesting.{ByClass, held_from, legs_of}
 use Rattle.seat_nesting.specs.declared.ladder.Step.{Step}
 use Rattle.seat_journal.proofs.TextLaws.{one_text}
+use Rattle.seat_rules.specs.Bookings.{same_place}
 use Rattle.seat_rules.specs.Inventory.{Inventory, state_now}
+use Rattle.seat_rules.proofs.History.Faults.{place_same}
 use Rattle.seat_desk.specs.AuditDesk.{IsReplayOf}
 use Rattle.seat_desk.specs.FlightsDesk.{head_text}
 use Rattle.seat_desk.specs.Loading.{IsGridOf}
 use Rattle.seat_desk.proofs.Texts.{assoc_four}
 use Rattle.seat_questions.proofs.Covers.{assoc_six}
-use Rattle.seat_questions.specs.Rooms.{AreRoomsAfter, IsAdded, IsPlaceText, IsPlaceTextBy, IsRoomsText, IsRunText, OpeningRoomsAreOfNoLines, bar_line, bar_lines, bars_text, block_bar, keeps, rooms_part, times}
+use Rattle.seat_questions.specs.Rooms.{AreRoomsAfter, FoundPlacesAreWritten, IsAdded, IsAnsweredHere, IsPlaceText, IsPlaceTextBy, IsRoomsText, IsRunText, OpeningRoomsAreOfNoLines, WrittenPlacesAreFound, bar_line, bar_lines, bars_text, block_bar, is_found, is_place, is_shown, keeps, rooms_part, times, wanted_of}
 use Rattle.seat_questions.specs.declared.rooms.RoomsOf.{RoomsOf}
 use Rattle.seat_questions.specs.declared.rooms.Bars.{Bars}
+use Rattle.ssim_flights.specs.Places.{place_wanted}
 use Rattle.ssim_flights.proofs.Walks.{drop_step}
 
 -- ---- the state
@@ -53,24 +57,57 @@ legs_alike flights grid i flight is at =
 
 -- ---- places
 
-pub run_left : (asked : RoomsOf) (state : State) (flight : Flight) (place : Place) (run : DatedLeg) (text : List ℕ)
-    → keeps asked run ≡ false
-    → IsAdded (IsRunText asked state flight place run) text text
-run_left asked state flight place run text e = record {
+pub run_left : (flights : List Flight) (asked : RoomsOf) (state : State) (flight : Flight) (place : Place)
+    (run : DatedLeg) (text : List ℕ) → is_shown flights asked flight place run ≡ false
+    → IsAdded (IsRunText flights asked state flight place run) text text
+run_left flights asked state flight place run text e = record {
   part = [];
   is_part = subst (λ (b : Bool). IsPlaceTextBy b asked.bars state flight place run []) (sym e) refl;
   written = sym (append-nil text);
 }
 
-pub run_kept : (asked : RoomsOf) (state : State) (flight : Flight) (place : Place) (run : DatedLeg) (old new : List ℕ)
-    → keeps asked run ≡ true
+pub run_shown : (flights : List Flight) (asked : RoomsOf) (state : State) (flight : Flight) (place : Place)
+    (run : DatedLeg) (old new : List ℕ) → is_shown flights asked flight place run ≡ true
     → IsAdded (IsPlaceText asked.bars state flight place run) old new
-    → IsAdded (IsRunText asked state flight place run) old new
-run_kept asked state flight place run old new e added = record {
+    → IsAdded (IsRunText flights asked state flight place run) old new
+run_shown flights asked state flight place run old new e added = record {
   part = added.part;
   is_part = subst (λ (b : Bool). IsPlaceTextBy b asked.bars state flight place run added.part) (sym e) added.is_part;
   written = added.written;
 }
+
+place_is : (place : Place) (o : Option Place) → is_place place o ≡ true → o ≡ Some place
+place_is place None e = absurd cc
+place_is place (Some other) e = ap (λ (p : Place). Some p) (place_same other place e)
+
+-- what is written of a place is its line, and a request finds it
+pub written_places_are_found : WrittenPlacesAreFound
+written_places_are_found flights asked state flight place run text is some =
+    cases (is_shown flights asked flight place run) refl is
+  where
+    cases : (b : Bool) → is_shown flights asked flight place run ≡ b
+        → IsPlaceTextBy b asked.bars state flight place run text
+        → IsAnsweredHere flights asked.bars state flight place run text
+    cases true e line = record {
+      found = place_is place (place_wanted flights (wanted_of flight run))
+          (and_parts (keeps asked run) (is_found flights flight place run) e).1;
+      line = line;
+    }
+    cases false e none = absurd (some none)
+
+-- one that is kept and found is written
+pub found_places_are_written : FoundPlacesAreWritten
+found_places_are_written flights asked state flight place run text is kept found =
+    subst (λ (b : Bool). IsPlaceTextBy b asked.bars state flight place run text) shown is
+  where
+    itself : (p : Place) → same_place p p ≡ true
+    itself p = rw (eq-eqb p.flight p.flight refl, eq-eqb p.from p.from refl, eq-eqb p.to p.to refl) refl
+
+    shown : is_shown flights asked flight place run ≡ true
+    shown =
+        ap (λ (o : Option Place). keeps asked run && is_place place o) found
+        ∙ ap (λ (b : Bool). b && same_place place place) kept
+        ∙ itself place
 
 pub place_added : (bars : Option Bars) (state : State) (flight : Flight) (place : Place) (run : DatedLeg)
     (old head mid rooms end new : List ℕ)

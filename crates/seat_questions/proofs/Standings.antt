@@ -1,5 +1,5 @@
 -- The legs of a place, and the seats that are held and wait on them.
-use Rattle.std.proofs.Common.{◌≡◌, ◌==◌, ◌&&◌, ℕ, ◌+◌, ◌≤◌, nat_le, Bool, true, false, List, [], ◌∷◌, ◌++◌, length, fold, drop, get_or, drop-cons, suc, ◌<◌, add-one, Some, None, slice_get, codes, arith, refl, ap, sym, subst, ◌∙◌, append_assoc}
+use Rattle.std.proofs.Common.{◌≡◌, ◌==◌, ◌&&◌, ℕ, ◌+◌, ◌≤◌, nat_le, Bool, true, false, List, [], ◌∷◌, ◌++◌, length, fold, drop, get_or, ◌<◌, Some, None, slice_get, codes, arith, refl, ap, sym, subst, ◌∙◌, append_assoc}
 use Rattle.seat_questions.proofs.Common.{Place, DatedLeg, Flight, Fits, Ladders, Steps, Booking, Entry, replay, State, IsLegText, IsPut}
 use Rattle.std.proofs.lemmas.List.{append-nil}
 use Rattle.std.proofs.lemmas.Bool.Decides.{nat_tests}

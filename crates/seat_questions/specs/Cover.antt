@@ -1,9 +1,9 @@
--- What `cover` writes: the limit rows that are for no leg, the legs without a row, and how many there are of both.
-use Rattle.std.specs.Prelude.{◌≡◌, ℕ, Bool, true, false, List, [], ◌∷◌, ◌++◌, length, count_by, decimal, codes}
+-- What `cover` writes: the limit rows that are for no leg or hidden by those behind them, the legs without a row, and how many there are of both.
+use Rattle.std.specs.Prelude.{◌≡◌, ◌&&◌, ℕ, Bool, true, false, not, List, [], ◌∷◌, ◌++◌, length, drop, count_by, decimal, codes}
 use Rattle.std.specs.List.{list_any, sum_by}
 use Rattle.ssim_flights.specs.declared.flight.DatedLeg.{DatedLeg}
 use Rattle.ssim_flights.specs.declared.flight.Flight.{Flight as Flown}
-use Rattle.seat_limits.specs.Authorised.{is_for, leg_pair}
+use Rattle.seat_limits.specs.Authorised.{authorised_grid, is_for, leg_pair}
 use Rattle.seat_limits.specs.declared.limit_row.LimitRow.{LimitRow}
 use Rattle.seat_desk.specs.FlightsDesk.{IsLegText, IsText, designator_text}
 
@@ -22,17 +22,33 @@ is_on row flight = list_any (λ (leg : DatedLeg). is_row_of row flight leg) flig
 abbrev pub has_leg : List Flown → LimitRow → Bool
 has_leg flights row = list_any (λ flight. is_on row flight) flights
 
--- ROW N NO LEG, where it is for none
-abbrev pub row_text : ℕ → Bool → List ℕ
-row_text n true = []
-row_text n false = codes "ROW " ++ decimal n ++ codes " NO LEG" ++ 10 ∷ []
+-- the row gives the leg its ladder: it is for the leg, and none of the rows behind it is
+abbrev pub gives : List LimitRow → LimitRow → Flown → DatedLeg → Bool
+gives behind row flight leg = is_row_of row flight leg && not (has_row behind flight leg)
 
--- by a test of rows, and for these flights
-abbrev pub IsRowPartBy : (LimitRow → Bool) → ℕ → LimitRow → List ℕ → Type 0
-IsRowPartBy test n row text = text ≡ row_text n (test row)
+-- it gives some leg its ladder: of the flight, of any flight
+abbrev pub gives_on : List LimitRow → LimitRow → Flown → Bool
+gives_on behind row flight = list_any (λ (leg : DatedLeg). gives behind row flight leg) flight.legs
 
-abbrev pub IsRowPart : List Flown → ℕ → LimitRow → List ℕ → Type 0
-IsRowPart flights = IsRowPartBy (has_leg flights)
+abbrev pub has_effect : List Flown → List LimitRow → LimitRow → Bool
+has_effect flights behind row = list_any (λ flight. gives_on behind row flight) flights
+
+-- ROW N NO LEG where it is for none, and ROW N HIDDEN where each leg that it is for has the ladder of a row behind it
+abbrev pub row_text : ℕ → Bool → Bool → List ℕ
+row_text n true true = []
+row_text n true false = codes "ROW " ++ decimal n ++ codes " HIDDEN" ++ 10 ∷ []
+row_text n false effect = codes "ROW " ++ decimal n ++ codes " NO LEG" ++ 10 ∷ []
+
+-- by tests of rows: for some leg, and of some effect, by the row's number too
+abbrev pub IsRowPartBy : (LimitRow → Bool) → (ℕ → LimitRow → Bool) → ℕ → LimitRow → List ℕ → Type 0
+IsRowPartBy has effect n row text = text ≡ row_text n (has row) (effect n row)
+
+-- row n of these, counted from 1, for these flights
+abbrev pub effect_among : List LimitRow → List Flown → ℕ → LimitRow → Bool
+effect_among rows flights n row = has_effect flights (drop n rows) row
+
+abbrev pub IsRowPart : List LimitRow → List Flown → ℕ → LimitRow → List ℕ → Type 0
+IsRowPart rows flights = IsRowPartBy (has_leg flights) (effect_among rows flights)
 
 -- LEG I.J DESIGNATOR
 abbrev pub bare_head : ℕ → Flown → ℕ → List ℕ
@@ -98,6 +114,12 @@ covered_line rows flights =
 pub record IsCoverText (rows : List LimitRow) (flights : List Flown) (text : List ℕ) : Type 0 where
   pub of_rows : List ℕ
   pub of_legs : List ℕ
-  pub are_rows : IsText (IsRowPart flights) 1 rows of_rows
+  pub are_rows : IsText (IsRowPart rows flights) 1 rows of_rows
   pub are_legs : IsText (IsFlightPart rows) 0 flights of_legs
   pub written : text ≡ of_rows ++ of_legs ++ covered_line rows flights
+
+-- without a row that gives no leg its ladder each leg of each flight has the ladder that it has
+abbrev pub RowsWithoutEffectGiveNothing : Type 0
+RowsWithoutEffectGiveNothing = (ahead behind : List LimitRow) (row : LimitRow) (flights : List Flown)
+    → has_effect flights behind row ≡ false →
+    authorised_grid (ahead ++ row ∷ behind) flights ≡ authorised_grid (ahead ++ behind) flights

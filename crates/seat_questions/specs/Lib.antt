@@ -4,3 +4,4 @@ pub mod LiveBookings
 pub mod PairNumbers
 pub mod Rooms
 pub mod Why
+pub mod Winning

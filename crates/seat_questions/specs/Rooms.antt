@@ -1,15 +1,17 @@
 -- What `rooms` writes: one line for each place of a flight, with the seats that are left on it in each class.
-use Rattle.std.specs.Prelude.{◌≡◌, ◌≤◌, ℕ, zero, suc, ◌-◌, ◌*◌, ◌/◌, ◌%◌, ◌==◌, ◌&&◌, nat_eq, nat_le, Bool, true, false, if◌then◌else◌, List, [], ◌∷◌, ◌++◌, length, drop, decimal, codes, Option, Some, None}
+use Rattle.std.specs.Prelude.{◌≡◌, ◌≢◌, ◌≤◌, ℕ, zero, suc, ◌-◌, ◌*◌, ◌/◌, ◌%◌, ◌==◌, ◌&&◌, nat_eq, nat_le, Bool, true, false, if◌then◌else◌, List, [], ◌∷◌, ◌++◌, length, drop, decimal, codes, Option, Some, None}
 use Rattle.std.specs.List.{flat_map}
 use Rattle.std.specs.Cmp.Lexicographic.{pointwise}
 use Rattle.airline_base.specs.declared.place.Place.{Place}
 use Rattle.ssim_flights.specs.declared.flight.DatedLeg.{DatedLeg}
 use Rattle.ssim_flights.specs.declared.flight.Flight.{Flight as Flown}
+use Rattle.ssim_flights.specs.declared.flight.Wanted.{Wanted}
+use Rattle.ssim_flights.specs.Places.{place_wanted}
 use Rattle.seat_nesting.specs.Nesting.{ByClass, Ladders, Steps, held_from, ladder_at}
 use Rattle.seat_nesting.specs.declared.ladder.Step.{Step}
 use Rattle.seat_journal.specs.Text.{IsJournalText}
 use Rattle.seat_journal.specs.declared.entry.Entry.{Entry}
-use Rattle.seat_rules.specs.Bookings.{held}
+use Rattle.seat_rules.specs.Bookings.{held, same_place}
 use Rattle.seat_rules.specs.Journal.{IsLegal, replay}
 use Rattle.seat_rules.specs.Sequential.{State, room_left}
 use Rattle.seat_desk.specs.AuditDesk.{most_lines}
@@ -41,6 +43,29 @@ keeps_pair (Some pair) run = pointwise nat_eq run.board pair.board && pointwise 
 
 abbrev pub keeps : RoomsOf → DatedLeg → Bool
 keeps asked run = keeps_day asked.day run.day && keeps_pair asked.pair run
+
+-- what a request names that is for this run of the flight's legs: its designator, the day and the two stations
+abbrev pub wanted_of : Flown → DatedLeg → Wanted
+wanted_of flight run = record {
+  airline = flight.airline;
+  number = flight.number;
+  suffix = flight.suffix;
+  day = run.day;
+  board = run.board;
+  off = run.off;
+}
+
+abbrev pub is_place : Place → Option Place → Bool
+is_place place None = false
+is_place place (Some other) = same_place other place
+
+-- such a request is answered from this very place, and from none ahead of it
+abbrev pub is_found : List Flown → Flown → Place → DatedLeg → Bool
+is_found flights flight place run = is_place place (place_wanted flights (wanted_of flight run))
+
+-- the place is kept, and a request finds it
+abbrev pub is_shown : List Flown → RoomsOf → Flown → Place → DatedLeg → Bool
+is_shown flights asked flight place run = keeps asked run && is_found flights flight place run
 
 -- ---- rooms
 
@@ -119,31 +144,32 @@ abbrev pub IsPlaceText : Option Bars → State → Flown → Place → DatedLeg 
 IsPlaceText bars state flight place run text = (way : List ℕ) × IsLegText 0 run way
     × (text ≡ (head_text place.flight flight ++ way ++ rooms_part state place ++ 10 ∷ []) ++ bars_text bars state place)
 
--- where the place is kept
+-- where the place is shown
 abbrev pub IsPlaceTextBy : Bool → Option Bars → State → Flown → Place → DatedLeg → List ℕ → Type 0
 IsPlaceTextBy true bars state flight place run text = IsPlaceText bars state flight place run text
 IsPlaceTextBy false bars state flight place run text = text ≡ []
 
-abbrev pub IsRunText : RoomsOf → State → Flown → Place → DatedLeg → List ℕ → Type 0
-IsRunText asked state flight place run text = IsPlaceTextBy (keeps asked run) asked.bars state flight place run text
+abbrev pub IsRunText : List Flown → RoomsOf → State → Flown → Place → DatedLeg → List ℕ → Type 0
+IsRunText flights asked state flight place run text =
+    IsPlaceTextBy (is_shown flights asked flight place run) asked.bars state flight place run text
 
 -- the place that ends with this leg
-abbrev pub IsLastPart : RoomsOf → State → ℕ → Flown → ℕ → DatedLeg → ℕ → DatedLeg → List ℕ → Type 0
-IsLastPart asked state i flight from first to last text =
-    IsRunText asked state flight (place_of i from to) (run_of first last) text
+abbrev pub IsLastPart : List Flown → RoomsOf → State → ℕ → Flown → ℕ → DatedLeg → ℕ → DatedLeg → List ℕ → Type 0
+IsLastPart flights asked state i flight from first to last text =
+    IsRunText flights asked state flight (place_of i from to) (run_of first last) text
 
 -- the places that begin with this leg
-abbrev pub IsFirstPart : RoomsOf → State → ℕ → Flown → ℕ → DatedLeg → List ℕ → Type 0
-IsFirstPart asked state i flight from first text =
-    IsText (IsLastPart asked state i flight from first) from (drop from flight.legs) text
+abbrev pub IsFirstPart : List Flown → RoomsOf → State → ℕ → Flown → ℕ → DatedLeg → List ℕ → Type 0
+IsFirstPart flights asked state i flight from first text =
+    IsText (IsLastPart flights asked state i flight from first) from (drop from flight.legs) text
 
 -- the places of a flight, by first leg and then by last leg
-abbrev pub IsFlightPart : RoomsOf → State → ℕ → Flown → List ℕ → Type 0
-IsFlightPart asked state i flight text = IsText (IsFirstPart asked state i flight) 0 flight.legs text
+abbrev pub IsFlightPart : List Flown → RoomsOf → State → ℕ → Flown → List ℕ → Type 0
+IsFlightPart flights asked state i flight text = IsText (IsFirstPart flights asked state i flight) 0 flight.legs text
 
 -- those of all flights, flights and legs counted from 0
 abbrev pub IsRoomsText : RoomsOf → State → List Flown → List ℕ → Type 0
-IsRoomsText asked state flights text = IsText (IsFlightPart asked state) 0 flights text
+IsRoomsText asked state flights text = IsText (IsFlightPart flights asked state) 0 flights text
 
 -- a text with such a property is written behind what was there
 pub record IsAdded (IsPart : List ℕ → Type 0) (old new : List ℕ) : Type 0 where
@@ -167,3 +193,22 @@ abbrev pub OpeningRoomsAreOfNoLines : Type 0
 OpeningRoomsAreOfNoLines = (asked : RoomsOf) (flights : List Flown) (grid : Ladders) (journal text : List ℕ)
     → IsJournalText journal [] →
     AreRoomsAfter asked flights grid journal text → IsRoomsText asked (replay grid []) flights text
+
+-- a request that names what the place has is answered from this very place, and the text is its line, with its rooms
+pub record IsAnsweredHere (flights : List Flown) (bars : Option Bars) (state : State) (flight : Flown) (place : Place)
+    (run : DatedLeg) (text : List ℕ) : Type 0 where
+  pub found : place_wanted flights (wanted_of flight run) ≡ Some place
+  pub line : IsPlaceText bars state flight place run text
+
+-- so it is with each place of which anything is written
+abbrev pub WrittenPlacesAreFound : Type 0
+WrittenPlacesAreFound = (flights : List Flown) (asked : RoomsOf) (state : State) (flight : Flown) (place : Place)
+    (run : DatedLeg) (text : List ℕ) → IsRunText flights asked state flight place run text → text ≢ [] →
+    IsAnsweredHere flights asked.bars state flight place run text
+
+-- and each place that is kept and that such a request finds is written
+abbrev pub FoundPlacesAreWritten : Type 0
+FoundPlacesAreWritten = (flights : List Flown) (asked : RoomsOf) (state : State) (flight : Flown) (place : Place)
+    (run : DatedLeg) (text : List ℕ) → IsRunText flights asked state flight place run text
+    → keeps asked run ≡ true → place_wanted flights (wanted_of flight run) ≡ Some place →
+    IsPlaceText asked.bars state flight place run text

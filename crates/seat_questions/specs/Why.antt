@@ -1,5 +1,5 @@
 -- What `why` writes: a line of the journal, its legs as they stood before it, and the right answer beside the one that was given.
-use Rattle.std.specs.Prelude.{◌≡◌, ◌≤◌, ◌&&◌, ℕ, ◌-◌, nat_le, nat_lt, Bool, true, false, List, [], ◌∷◌, ◌++◌, length, take, slice_get, decimal, codes, Option, Some, None}
+use Rattle.std.specs.Prelude.{◌≡◌, ◌≤◌, ◌==◌, ◌&&◌, ℕ, ◌+◌, ◌-◌, nat_le, nat_lt, Bool, true, false, List, [], ◌∷◌, ◌++◌, length, take, slice_get, decimal, codes, Option, Some, None, if◌then◌else◌}
 use Rattle.std.specs.List.{flat_map}
 use Rattle.airline_base.specs.declared.place.Place.{Place}
 use Rattle.ssim_flights.specs.declared.flight.DatedLeg.{DatedLeg}
@@ -12,8 +12,8 @@ use Rattle.seat_journal.specs.declared.entry.Entry.{Entry}
 use Rattle.seat_journal.specs.declared.entry.Work.{Work}
 use Rattle.seat_journal.specs.declared.entry.Work.TheVariants.{Seats, Limit}
 use Rattle.seat_rules.specs.Bookings.{held, waiting}
-use Rattle.seat_rules.specs.Journal.{IsLegal, next_line, replay}
-use Rattle.seat_rules.specs.Replaying.{fits_work, replay_fault}
+use Rattle.seat_rules.specs.Journal.{IsLegal, asker, calls_of, next_line, replay}
+use Rattle.seat_rules.specs.Replaying.{fits_work, is_called, may_ask, replay_fault}
 use Rattle.seat_rules.specs.Sequential.{State, room_left}
 use Rattle.seat_desk.specs.AuditDesk.{most_journal_bytes, most_lines}
 use Rattle.seat_desk.specs.FlightsDesk.{IsLegText, IsText}
@@ -130,17 +130,45 @@ place_of_line (Limit c) = Some (one_leg c.flight c.leg)
 abbrev pub answer_text : Entry → List ℕ
 answer_text e = e.reply ++ codes " " ++ decimal e.released ++ flat_map advice_text e.advices
 
--- the line that the sequential step gives over the lines before
+-- the session that asks: that of the line, where it may ask for this, and else the one that asks where one asks for all
+abbrev pub right_session : Entry → ℕ
+right_session e = (if may_ask e.session e.work then e.session else asker e.work)
+
+-- the line that the sequential step gives over the lines before, as the next one and the next call of its session
 abbrev pub right_line : Ladders → List Entry → Entry → Entry
-right_line grid past e = next_line grid past e.session e.call e.work
+right_line grid past e =
+    next_line grid past (right_session e) (calls_of past (right_session e) + 1) e.work
+
+-- the line is the next one, its session may ask for this, and its call is that session's next
+abbrev pub is_next_call : List Entry → Entry → Bool
+is_next_call past e = (e.number == length past + 1) && is_called past e
+
+-- number, session and call, and the answer behind them
+abbrev pub called_text : Entry → List ℕ
+called_text e =
+    decimal e.number ++ codes " " ++ decimal e.session ++ codes " " ++ decimal e.call ++ codes " " ++ answer_text e
+
+-- the answer alone, or with the number, the session and the call ahead of it
+abbrev pub told_text : Bool → Entry → List ℕ
+told_text true e = answer_text e
+told_text false e = called_text e
 
 -- GIVEN and what the line says
-abbrev pub given_text : Entry → List ℕ
-given_text e = codes " GIVEN " ++ answer_text e ++ 10 ∷ []
+abbrev pub given_text : List ℕ → List ℕ
+given_text given = codes " GIVEN " ++ given ++ 10 ∷ []
 
 -- RIGHT and what is right, beside what was given
-abbrev pub verdict_text : List ℕ → Entry → List ℕ
-verdict_text right e = codes "RIGHT " ++ right ++ given_text e
+abbrev pub verdict_text : List ℕ → List ℕ → List ℕ
+verdict_text right given = codes "RIGHT " ++ right ++ given_text given
+
+-- the right line beside the given one: their answers, and also their numbers, sessions and calls where these are not right
+abbrev pub compared_text : List Entry → Entry → Entry → List ℕ
+compared_text past right e =
+    verdict_text (told_text (is_next_call past e) right) (told_text (is_next_call past e) e)
+
+-- no answer is right
+abbrev pub unasked_text : Entry → List ℕ
+unasked_text e = verdict_text (codes "NONE") (answer_text e)
 
 -- ---- the whole
 
@@ -148,17 +176,17 @@ verdict_text right e = codes "RIGHT " ++ right ++ given_text e
 abbrev pub can_ask : Ladders → List Entry → Work → Bool
 can_ask grid past work = fits_work grid work && nat_lt (length past) most_lines
 
--- the line, its legs, and the right answer beside the given one
+-- the line, its legs, and the right line beside the given one
 pub record IsReason (flights : List Flown) (grid : Ladders) (past : List Entry) (e : Entry) (text : List ℕ) : Type 0
   where
     pub legs : List ℕ
     pub are_legs : IsPlaceText flights (replay grid past) (place_of_line e.work) legs
-    pub written : text ≡ entry_text e ++ legs ++ verdict_text (answer_text (right_line grid past e)) e
+    pub written : text ≡ entry_text e ++ legs ++ compared_text past (right_line grid past e) e
 
 -- without legs, and none is right, where the step can't be asked
 abbrev pub IsWhyBy : Bool → List Flown → Ladders → List Entry → Entry → List ℕ → Type 0
 IsWhyBy true flights grid past e text = IsReason flights grid past e text
-IsWhyBy false flights grid past e text = text ≡ entry_text e ++ verdict_text (codes "NONE") e
+IsWhyBy false flights grid past e text = text ≡ entry_text e ++ unasked_text e
 
 -- the text says why the entry behind these lines has its answer
 abbrev pub IsWhyText : List Flown → Ladders → List Entry → Entry → List ℕ → Type 0

@@ -1,18 +1,20 @@
-//! `cover`: the limit rows that are for no leg, and the legs that have no row.
-ghost use Rattle.std.specs.Prelude.{if◌then◌else◌, ◌≡◌, ◌++◌, ◌+◌, ◌<◌, ◌≤◌, IfErr, IfOk, OnOk, length, count_by};
+//! `cover`: the limit rows that are for no leg or hidden by later ones, and the legs that have no row.
+ghost use Rattle.std.specs.Prelude.{if◌then◌else◌, ◌≡◌, ◌++◌, ◌+◌, ◌<◌, ◌≤◌, IfErr, IfOk, OnOk, codes, count_by, decimal, false, length, slice_index_or};
 ghost use Rattle.std.specs.List.{sum_by};
 ghost use Rattle.seat_desk.specs.FlightsDesk.{IsPut};
 ghost use Rattle.seat_questions.specs.Cover.{IsBarePut, IsCoverText, IsFlightPartBy, IsLegPartBy, IsLegPut, IsRowPartBy, bare_head, covered_by, leg_count, row_text, share_text, sums_text};
 ghost use Rattle.seat_questions.specs.Coverage.{IsSearchable, finds_leg, finds_row};
+ghost use Rattle.seat_questions.specs.Winning.{is_marked};
 
 use crate::coverage::Coverage;
+use crate::winning::winners;
 use airline_base::Memory;
 use seat_desk::{DeskFault, Loaded, Question, put, put_designator, put_number, put_way};
 use seat_limits::LimitRow;
 use ssim_flights::{DatedLeg, Flight, Flights};
 use std::alloc::{AllocError, Global};
 
-/// A line for each limit row that is for no leg, one for each dated leg without a row, and last how many legs have a row and
+/// A line for each limit row that is for no leg or that later ones hide, one for each dated leg without a row, and last how many legs have a row and
 /// how many rows a leg. It asks nothing of the journal.
 pub struct Cover;
 
@@ -51,7 +53,8 @@ fn text_of(alloc: Global, flights: &Flights, rows: &[LimitRow]) -> Result<Vec<u8
 {
     let coverage = Coverage::new(alloc, flights, rows)?;
     let mut text = Vec::new(alloc);
-    let found = put_rows(&mut text, &coverage, rows)?;
+    let marks = winners(alloc, flights, rows)?;
+    let found = put_rows(&mut text, &coverage, marks.as_slice(), rows)?;
     let covered = put_flights(&mut text, flights, &coverage)?;
     put_sums(
         &mut text,
@@ -83,31 +86,57 @@ fn put_share(text: &mut Vec<u8>, a: u64, b: u64) -> Result<(), AllocError>
     put_number(text, b)
 }
 
-/// Adds a line for each row that is for no leg, and answers how many are for one.
-fn put_rows(text: &mut Vec<u8>, coverage: &Coverage, rows: &[LimitRow]) -> Result<u64, AllocError>
-    requires { IsSearchable coverage.now }
-    ensures put { OnOk result (IsPut (IsRowPartBy (finds_leg coverage.now)) 1 rows.now text.old.items text.new.items) }
+/// Adds a line for each row that is for no leg or gives none its ladder, and answers how many are for one.
+fn put_rows(
+    text: &mut Vec<u8>,
+    coverage: &Coverage,
+    marks: &[bool],
+    rows: &[LimitRow],
+) -> Result<u64, AllocError>
+    requires searchable { IsSearchable coverage.now }
+    requires marks { length marks.now ≡ length rows.now }
+    ensures put { OnOk result (IsPut (IsRowPartBy (finds_leg coverage.now) (is_marked marks.now)) 1 rows.now
+        text.old.items text.new.items) }
     ensures count { IfOk result (λ n. n ≡ count_by (finds_leg coverage.now) rows.now) }
 {
     let mut count = 0u64;
     for i in 0..rows.len() {
-        count += put_row(text, i as u64 + 1, coverage.has_leg(&rows[i]))?;
+        let has_leg = coverage.has_leg(&rows[i]);
+        count += put_row(text, i as u64 + 1, has_leg, is_marked(marks, i))?;
     }
     Ok(count)
 }
 
-/// Adds the line of a row, if it is for no leg. Else it counts 1.
-fn put_row(text: &mut Vec<u8>, n: u64, has_leg: bool) -> Result<u64, AllocError>
-    ensures put { OnOk result (text.new.items ≡ text.old.items ++ row_text n has_leg) }
+/// Whether the row with this number, counted from 0, is marked.
+fn is_marked(marks: &[bool], i: usize) -> bool
+    requires { i < length marks.now }
+    ensures { result ≡ slice_index_or marks.now i false }
+{
+    marks[i]
+}
+
+/// Adds the line of a row, if it is for no leg or of no effect. It counts 1 where it is for one.
+fn put_row(text: &mut Vec<u8>, n: u64, has_leg: bool, effect: bool) -> Result<u64, AllocError>
+    ensures put { OnOk result (text.new.items ≡ text.old.items ++ row_text n has_leg effect) }
     ensures count { IfOk result (λ c. c ≡ (if has_leg then 1 else 0)) }
 {
-    if has_leg {
-        return Ok(1);
+    if !has_leg {
+        put_told(text, n, b" NO LEG\n")?;
+        return Ok(0);
     }
+    if !effect {
+        put_told(text, n, b" HIDDEN\n")?;
+    }
+    Ok(1)
+}
+
+/// Adds ROW, a number and these words.
+fn put_told(text: &mut Vec<u8>, n: u64, words: &[u8]) -> Result<(), AllocError>
+    ensures { OnOk result (text.new.items ≡ text.old.items ++ codes "ROW " ++ decimal n ++ words.now) }
+{
     put(text, b"ROW ")?;
     put_number(text, n)?;
-    put(text, b" NO LEG\n")?;
-    Ok(0)
+    put(text, words)
 }
 
 /// How many legs there are.

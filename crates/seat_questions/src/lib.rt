@@ -11,9 +11,13 @@ mod line;
 mod pair_numbers;
 mod rooms;
 mod why;
+mod winning;
 
 pub use bookings::BookingsOf;
 pub use cover::Cover;
-pub use laws::opening_rooms_are_of_no_lines;
+pub use laws::{
+    found_places_are_written, opening_rooms_are_of_no_lines, rows_without_effect_give_nothing,
+    written_places_are_found,
+};
 pub use rooms::{Bars, CityPair, RoomsOf};
 pub use why::Why;

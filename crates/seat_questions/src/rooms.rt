@@ -5,13 +5,13 @@ ghost use Rattle.seat_rules.specs.Inventory.{state_now};
 ghost use Rattle.seat_desk.specs.AuditDesk.{IsUnlawful, most_journal_bytes};
 ghost use Rattle.seat_desk.specs.FlightsDesk.{IsPut};
 ghost use Rattle.seat_desk.specs.Loading.{IsGridOf};
-ghost use Rattle.seat_questions.specs.Rooms.{AreRoomsAfter, IsAdded, IsFirstPart, IsLastPart, IsPlaceText, IsRoomsText, IsRunText, bar, bar_line, bar_share, bars_text, block_bar, filled, has_half, keeps, keeps_day, keeps_pair, leg_bars, place_bars, plain_bar, room_text, rooms_part, rooms_text, run_of, times};
+ghost use Rattle.seat_questions.specs.Rooms.{AreRoomsAfter, IsAdded, IsFirstPart, IsLastPart, IsPlaceText, IsRoomsText, IsRunText, bar, bar_line, bar_share, bars_text, block_bar, filled, has_half, is_found, is_place, is_shown, keeps, keeps_day, keeps_pair, leg_bars, place_bars, plain_bar, room_text, rooms_part, rooms_text, run_of, times, wanted_of};
 
 use airline_base::{Class, Day, Place, Station};
 use seat_core::Core;
 use seat_desk::{DeskFault, Loaded, Question, put, put_head, put_number, put_way, replayed};
 use seat_nesting::{Grid, Step};
-use ssim_flights::{DatedLeg, Flight, Flights};
+use ssim_flights::{DatedLeg, Flight, Flights, Served, Wanted};
 use std::alloc::{AllocError, Global};
 
 /// Two stations: a board point and an off point.
@@ -41,8 +41,8 @@ pub struct RoomsOf {
     pub bars: Option<Bars>,
 }
 
-/// A line for each place of a flight, by flight, first leg and last leg, with the seats that are left on it after the journal
-/// in each class of its first leg. A journal is refused as an audit refuses it.
+/// A line for each place that a request finds, by flight, first leg and last leg, with the seats that are left on it after the
+/// journal in each class of its first leg. A journal is refused as an audit refuses it.
 impl Question for RoomsOf {
     ghost use Rattle.seat_desk.specs.AuditDesk.{IsUnlawful};
     ghost use Rattle.seat_questions.specs.Rooms.{AreRoomsAfter};
@@ -99,7 +99,6 @@ fn listed(
     }
 }
 
-#[tactic(auto, using(crate::proofs::RoomTexts::legs_alike))]
 fn text_of(
     alloc: Global,
     flights: &Flights,
@@ -109,9 +108,28 @@ fn text_of(
     requires grid { IsGridOf flights.now core.now.grid }
     ensures { IfOk result (λ text. IsRoomsText asked.now (state_now core.now) flights.now text.items) }
 {
+    match Served::new(alloc, flights) {
+        Ok(served) => text_over(alloc, flights, &served, core, asked),
+        Err(_) => Err(AllocError),
+    }
+}
+
+/// The same by the index of the flights' places.
+#[tactic(auto, using(crate::proofs::RoomTexts::legs_alike))]
+fn text_over(
+    alloc: Global,
+    flights: &Flights,
+    served: &Served<'_>,
+    core: &Core,
+    asked: &RoomsOf,
+) -> Result<Vec<u8>, AllocError>
+    requires grid { IsGridOf flights.now core.now.grid }
+    requires served { served.now ≡ flights.now }
+    ensures { IfOk result (λ text. IsRoomsText asked.now (state_now core.now) flights.now text.items) }
+{
     let mut text = Vec::new(alloc);
     for index in 0..flights.len() {
-        put_flight(&mut text, core, asked, index, flights.flight(index))?;
+        put_flight(&mut text, served, core, asked, index, flights.flight(index))?;
     }
     Ok(text)
 }
@@ -119,6 +137,7 @@ fn text_of(
 /// Adds the lines of the places of a flight.
 fn put_flight(
     text: &mut Vec<u8>,
+    served: &Served<'_>,
     core: &Core,
     asked: &RoomsOf,
     index: u32,
@@ -126,7 +145,7 @@ fn put_flight(
 ) -> Result<(), AllocError>
     requires few { length flight.now.legs ≤ 8 }
     requires legs { length (legs_of core.now.grid index) ≡ length flight.now.legs }
-    ensures { OnOk result (IsPut (IsFirstPart asked.now (state_now core.now) index flight.now) 0 flight.now.legs
+    ensures { OnOk result (IsPut (IsFirstPart served.now asked.now (state_now core.now) index flight.now) 0 flight.now.legs
         text.old.items text.new.items) }
 {
     let legs = flight.legs.as_slice();
@@ -137,7 +156,7 @@ fn put_flight(
             from: start,
             to: start,
         };
-        put_runs(text, core, asked, flight, place, &legs[from])?;
+        put_runs(text, served, core, asked, flight, place, &legs[from])?;
     }
     Ok(())
 }
@@ -145,6 +164,7 @@ fn put_flight(
 /// Adds the lines of the places that begin with a leg.
 fn put_runs(
     text: &mut Vec<u8>,
+    served: &Served<'_>,
     core: &Core,
     asked: &RoomsOf,
     flight: &Flight,
@@ -154,7 +174,8 @@ fn put_runs(
     requires few { length flight.now.legs ≤ 8 }
     requires legs { length (legs_of core.now.grid start.flight) ≡ length flight.now.legs }
     requires start { start.from < length flight.now.legs }
-    ensures { OnOk result (IsPut (IsLastPart asked.now (state_now core.now) start.flight flight.now start.from first.now)
+    ensures { OnOk result (IsPut
+        (IsLastPart served.now asked.now (state_now core.now) start.flight flight.now start.from first.now)
         start.from (drop start.from flight.now.legs) text.old.items text.new.items) }
 {
     let legs = flight.legs.as_slice();
@@ -166,7 +187,7 @@ fn put_runs(
             to: start.from + k as u8,
         };
         let run = run_of(first, &rest[k]);
-        put_run(text, core, asked, flight, place, &run)?;
+        put_run(text, served, core, asked, flight, place, &run)?;
     }
     Ok(())
 }
@@ -182,10 +203,11 @@ fn run_of(first: &DatedLeg, last: &DatedLeg) -> DatedLeg
     }
 }
 
-/// Adds the lines of a place, if it is kept.
-#[tactic(auto, using(crate::proofs::RoomTexts::run_left, crate::proofs::RoomTexts::run_kept))]
+/// Adds the lines of a place, if it is shown.
+#[tactic(auto, using(crate::proofs::RoomTexts::run_left, crate::proofs::RoomTexts::run_shown))]
 fn put_run(
     text: &mut Vec<u8>,
+    served: &Served<'_>,
     core: &Core,
     asked: &RoomsOf,
     flight: &Flight,
@@ -193,13 +215,58 @@ fn put_run(
     run: &DatedLeg,
 ) -> Result<(), AllocError>
     requires { Fits core.now.grid place }
-    ensures { OnOk result (IsAdded (IsRunText asked.now (state_now core.now) flight.now place run.now) text.old.items
-        text.new.items) }
+    ensures { OnOk result (IsAdded (IsRunText served.now asked.now (state_now core.now) flight.now place run.now)
+        text.old.items text.new.items) }
 {
-    if !keeps(asked, run) {
+    if !is_shown(served, asked, flight, place, run) {
         return Ok(());
     }
     put_place(text, core, asked.bars, flight, place, run)
+}
+
+/// Whether a place is kept, and a request finds it.
+fn is_shown(
+    served: &Served<'_>,
+    asked: &RoomsOf,
+    flight: &Flight,
+    place: Place,
+    run: &DatedLeg,
+) -> bool
+    ensures { result ≡ is_shown served.now asked.now flight.now place run.now }
+{
+    keeps(asked, run) && is_found(served, flight, place, run)
+}
+
+/// Whether a request for a place's own designator, day and stations is answered from this very place.
+fn is_found(served: &Served<'_>, flight: &Flight, place: Place, run: &DatedLeg) -> bool
+    ensures { result ≡ is_found served.now flight.now place run.now }
+{
+    is_place(place, served.find(&wanted_of(flight, run)))
+}
+
+/// What a request for a run of legs names.
+fn wanted_of(flight: &Flight, run: &DatedLeg) -> Wanted
+    ensures { result ≡ wanted_of flight.now run.now }
+{
+    Wanted {
+        airline: flight.airline,
+        number: flight.number,
+        suffix: flight.suffix,
+        day: run.day,
+        board: run.board,
+        off: run.off,
+    }
+}
+
+fn is_place(place: Place, found: Option<Place>) -> bool
+    ensures { result ≡ is_place place found }
+{
+    match found {
+        Some(other) => {
+            other.flight == place.flight && other.from == place.from && other.to == place.to
+        }
+        None => false,
+    }
 }
 
 /// Whether a run of legs is asked for.

@@ -1,0 +1,12 @@
+use Rattle.std.proofs.Common.{◌≤◌, length, arith}
+use Rattle.seat_questions.proofs.Winners.{all_marked, flight_marked}
+use Rattle.seat_questions.proofs.winning.winners.Goals as goal
+
+pub loop-i-preserved : goal.loop-i-preserved
+loop-i-preserved c =
+    flight_marked c.args.rows.now c.args.flights.now c.loop-i.i c.flight.result.now c.loop-i.marks.items c.mark_legs.new.marks.items c.loop-i.invariant c.flight.ensures.value c.mark_legs.ensures
+
+pub returns : goal.returns
+returns c =
+    let over : length c.args.flights.now ≤ c.loop-i.i = omega (arith, c.loop-i-test.false, c.len-i-end.ensures.value) in
+    all_marked c.args.rows.now c.args.flights.now c.loop-i.i c.loop-i.marks.items c.loop-i.invariant over
