@@ -13,29 +13,47 @@ fn folder(alloc: Global) -> Result<Folder, Fail> {
     Ok(Folder::over(alloc, Vec::from_slice(alloc, &OLD)?))
 }
 
-// A replacement passes five calls on: begin, append, sync, rename, sync of the folder.
+// A replacement that keeps what the name has passes six calls on: begin, append, sync, keep, rename, sync of the folder.
 #[test]
 fn leaves_the_old_or_the_new(rt: HostRuntime) -> Result<(), Fail> {
-    let rows: [(u64, bool, &[u8]); 8] = [
+    let rows: [(u64, bool, &[u8]); 10] = [
         (0, false, &OLD),
         (1, false, &OLD),
         (2, false, &OLD),
         (3, false, &OLD),
-        (3, true, &OLD),
-        (4, false, &NEW),
+        (4, false, &OLD),
         (4, true, &OLD),
-        (5, true, &NEW),
+        (5, false, &NEW),
+        (5, true, &OLD),
+        (6, false, &NEW),
+        (6, true, &NEW),
     ];
     for (calls, goes_back, left) in rows {
         let mut fused = Fuse::new(folder(rt.alloc())?, calls);
-        let is_whole = replace_whole(&mut fused, &NEW).is_ok();
-        assert!(rt; is_whole == (calls == 5), "Ok after {calls}");
+        let is_whole = replace_whole(&mut fused, &NEW, true).is_ok();
+        assert!(rt; is_whole == (calls == 6), "Ok after {calls}");
         let failures = if is_whole { 0 } else { 1 };
         assert!(rt; fused.failures() == failures, "failures after {calls}");
         let mut file = fused.into_inner();
         file.crash(goes_back, b"torn");
         assert!(rt; file.bytes() == left, "left after {calls}");
+        let kept = if calls >= 4 { 1 } else { 0 };
+        assert!(rt; file.kept_count() == kept, "kept after {calls}");
+        assert!(rt;
+            kept == 0 || file.kept_bytes(0) == Some(OLD.as_slice()),
+            "what is kept after {calls}"
+        );
     }
+    Ok(())
+}
+
+#[test]
+fn keeps_nothing_unasked(rt: HostRuntime) -> Result<(), Fail> {
+    let mut fused = Fuse::new(folder(rt.alloc())?, 5);
+    assert!(rt; replace_whole(&mut fused, &NEW, false).is_ok());
+    let file = fused.into_inner();
+    assert!(rt; file.bytes() == NEW.as_slice());
+    assert!(rt; file.kept_count() == 0);
     Ok(())
 }
 
@@ -63,10 +81,10 @@ fn tears_a_file_that_was_not_synced(rt: HostRuntime) -> Result<(), Fail> {
 #[test]
 fn begins_behind_a_killed_replacement(rt: HostRuntime) -> Result<(), Fail> {
     let mut fused = Fuse::new(folder(rt.alloc())?, 3);
-    assert!(rt; replace_whole(&mut fused, b"half of it").is_err());
+    assert!(rt; replace_whole(&mut fused, b"half of it", false).is_err());
     let mut file = fused.into_inner();
     file.crash(true, b"");
-    assert!(rt; replace_whole(&mut file, &NEW).is_ok());
+    assert!(rt; replace_whole(&mut file, &NEW, false).is_ok());
     assert!(rt; file.bytes() == NEW.as_slice());
     assert!(rt; file.rename().is_err());
     assert!(rt; file.failures() == 1);
@@ -76,7 +94,7 @@ fn begins_behind_a_killed_replacement(rt: HostRuntime) -> Result<(), Fail> {
 #[test]
 fn replaces_by_nothing(rt: HostRuntime) -> Result<(), Fail> {
     let mut file = folder(rt.alloc())?;
-    assert!(rt; replace_whole(&mut file, b"").is_ok());
+    assert!(rt; replace_whole(&mut file, b"", false).is_ok());
     assert!(rt; file.failures() == 0);
     file.crash(true, b"torn");
     assert!(rt; file.bytes().is_empty());

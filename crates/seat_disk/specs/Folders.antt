@@ -1,5 +1,6 @@
 -- What a clause reads of a `Folder`.
-use Rattle.std.specs.Prelude.{◌⊎◌, ℕ, Bool, ◌&&◌, if◌then◌else◌, List, length, take, IsTrue}
+use Rattle.std.specs.Prelude.{◌≡◌, ◌⊎◌, ℕ, Bool, ◌&&◌, if◌then◌else◌, List, length, map, take, IsTrue}
+use Rattle.seat_disk.specs.declared.replaced.Content.{Content}
 use Rattle.seat_disk.specs.declared.replaced.Folder.{Folder}
 use Rattle.seat_disk.specs.Leaving.{IsLeft}
 
@@ -30,3 +31,19 @@ abbrev pub crashed_bytes : Folder → Bool → List ℕ → List ℕ
 crashed_bytes f goes_back torn =
     if goes_back && f.is_renamed then torn_content f.older.is_synced f.older.bytes.items torn
     else torn_content f.named.is_synced f.named.bytes.items torn
+
+-- the bytes of files
+abbrev pub bytes_of_files : List Content → List (List ℕ)
+bytes_of_files files = map (λ file. file.bytes.items) files
+
+-- the files that were kept
+abbrev pub kept_files : Folder → List (List ℕ)
+kept_files f = bytes_of_files f.kept.items
+
+-- a crash leaves each of these
+abbrev pub are_left : List Content → List (List ℕ) → Type 0
+are_left files left = left ≡ bytes_of_files files
+
+-- a crash leaves each file that was kept
+abbrev pub folder_keeps : Folder → List (List ℕ) → Type 0
+folder_keeps f left = are_left f.kept.items left

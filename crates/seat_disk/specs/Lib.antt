@@ -2,5 +2,6 @@ pub mod Counts
 pub mod Folders
 pub mod Fuses
 pub mod Growing
+pub mod Keeping
 pub mod Leaving
 pub mod Tapes
