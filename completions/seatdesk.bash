@@ -2,10 +2,17 @@
 # Completions of seatdesk for bash, made by completions/write from the program's help.
 
 _seatdesk() {
-    local current=${COMP_WORDS[COMP_CWORD]} before=${COMP_WORDS[COMP_CWORD - 1]} command='' words files values place i
-    # (--first=2024-07-01 is three words here)
+    local current=${COMP_WORDS[COMP_CWORD]} before=${COMP_WORDS[COMP_CWORD - 1]} ahead='' command='' words files values place i
+    # (--first=2024-07-01 is three words here, or one where COMP_WORDBREAKS lacks the sign; so is 3=lisbon.txt)
     [ "$current" != = ] || current=
     [ "$before" != = ] || before=${COMP_WORDS[COMP_CWORD - 2]}
+    case $current in
+    --*=* | [1-8]=*)
+        ahead=${current%%=*}=
+        before=${current%%=*}
+        current=${current#*=}
+        ;;
+    esac
     for ((i = 1; i < COMP_CWORD; i++)); do
         case ${COMP_WORDS[i]} in
         ladder | check | flights | cover | rooms | run | bookings | audit | why | explain | help)
@@ -22,61 +29,61 @@ _seatdesk() {
         place=''
         ;;
     ladder)
-        words='-h --help'
+        words='-v --verbose -h --help'
         files=''
         values=''
         place=''
         ;;
     check)
-        words='-h --help'
+        words='-v --verbose -h --help'
         files=''
         values=''
         place='files'
         ;;
     flights)
-        words='--first --days -h --help'
+        words='--first --days -v --verbose -h --help'
         files=''
         values='--first --days'
         place='files'
         ;;
     cover)
-        words='--set --limits --first --days -h --help'
+        words='--set --limits --first --days -v --verbose -h --help'
         files='--set --limits'
         values='--first --days'
         place=''
         ;;
     rooms)
-        words='--set --limits --first --days --day --pair --bars -h --help'
+        words='--set --limits --first --days --day --pair --bars -v --verbose -h --help'
         files='--set --limits'
         values='--first --days --day --pair'
         place='files'
         ;;
     run)
-        words='--set --limits --first --days --after --today --journal --changes --no-clobber -h --help'
+        words='--set --limits --first --days --after --today --journal --changes --no-clobber -v --verbose -h --help'
         files='--set --limits --after --journal --changes'
         values='--first --days --today'
         place='files'
         ;;
     bookings)
-        words='--set --limits --first --days --locator -h --help'
+        words='--set --limits --first --days --locator -v --verbose -h --help'
         files='--set --limits'
         values='--first --days --locator'
         place='files'
         ;;
     audit)
-        words='--set --limits --first --days --after --today -h --help'
+        words='--set --limits --first --days --after --today -v --verbose -h --help'
         files='--set --limits --after'
         values='--first --days --today'
         place='files'
         ;;
     why)
-        words='--set --limits --first --days --line -h --help'
+        words='--set --limits --first --days --line -v --verbose -h --help'
         files='--set --limits'
         values='--first --days --line'
         place='files'
         ;;
     explain)
-        words='A1 A2 A3 A4 A5 A6 A7 A8 A9 B1 C1 DEVICE E1 E2 F1 F2 F3 F4 F5 F6 F7 F8 F9 J1 J2 J3 J4 L1 L2 L3 L4 M1 M2 M3 M4 M5 M6 M7 MEMORY P1 P2 P3 P4 P5 P6 P7 P8 Q1 Q2 Q3 R2 S1 S2 S3 S4 S5 S6 S7 S8 S9 S10 S11 S12 S13 S14 S15 U1 -h --help'
+        words='A1 A2 A3 A4 A5 A6 A7 A8 A9 B1 C1 DEVICE E1 E2 F1 F2 F3 F4 F5 F6 F7 F8 F9 J1 J2 J3 J4 L1 L2 L3 L4 M1 M2 M3 M4 M5 M6 M7 MEMORY P1 P2 P3 P4 P5 P6 P7 P8 Q1 Q2 Q3 R2 S1 S2 S3 S4 S5 S6 S7 S8 S9 S10 S11 S12 S13 S14 S15 U1 -v --verbose -h --help'
         [ "$before" != E2 ] || words='day days first journal line locator pair script today words'
         files=''
         values=''
@@ -98,7 +105,7 @@ _seatdesk() {
     esac
     if [ "$place" = files ] && [[ $current != -* ]]; then
         compopt -o filenames 2>/dev/null
-        mapfile -t COMPREPLY < <(compgen -f -- "$current")
+        mapfile -t COMPREPLY < <(compgen -P "$ahead" -f -- "$current")
     else
         mapfile -t COMPREPLY < <(compgen -W "$words" -- "$current")
     fi

@@ -1,7 +1,7 @@
 # Completions of seatdesk for fish, made by completions/write from the program's help.
 
 complete -c seatdesk -f
-complete -c seatdesk -n __fish_use_subcommand -s v -l verbose -d 'Names the file of a fault that is DEVICE or R2, and the system\'s reason'
+complete -c seatdesk -n __fish_use_subcommand -s v -l verbose -d 'Names the file of a fault, and where in it the fault stands, or the system\'s reason'
 complete -c seatdesk -n __fish_use_subcommand -s h -l help -d 'Print help'
 complete -c seatdesk -n __fish_use_subcommand -s V -l version -d 'Print version'
 complete -c seatdesk -n __fish_use_subcommand -a ladder -d 'Sells the seats of one leg: its limits and requests from standard input'
@@ -13,16 +13,19 @@ complete -c seatdesk -n __fish_use_subcommand -a run -d 'Books the requests of s
 complete -c seatdesk -n __fish_use_subcommand -a bookings -d 'Writes the live bookings of a locator, in the codes of AIRIMP'
 complete -c seatdesk -n __fish_use_subcommand -a audit -d 'Replays a journal against its schedule and limits, and writes one summary line'
 complete -c seatdesk -n __fish_use_subcommand -a why -d 'Writes the reason of one reply of a journal: what the limits left, and the right answer'
-complete -c seatdesk -n __fish_use_subcommand -a explain -d 'Says what a fault line means'
+complete -c seatdesk -n __fish_use_subcommand -a explain -d 'Says what a fault line means, or the code of a reply'
 complete -c seatdesk -n __fish_use_subcommand -a help -d 'Print this message or the help of the given subcommand(s)'
 
+complete -c seatdesk -n '__fish_seen_subcommand_from ladder' -s v -l verbose -d 'Names the file of a fault, and where in it the fault stands, or the system\'s reason'
 complete -c seatdesk -n '__fish_seen_subcommand_from ladder' -s h -l help -d 'Print help'
 
+complete -c seatdesk -n '__fish_seen_subcommand_from check' -s v -l verbose -d 'Names the file of a fault, and where in it the fault stands, or the system\'s reason'
 complete -c seatdesk -n '__fish_seen_subcommand_from check' -s h -l help -d 'Print help'
 complete -c seatdesk -n '__fish_seen_subcommand_from check' -F
 
 complete -c seatdesk -n '__fish_seen_subcommand_from flights' -l first -x -d 'The first day of departure, as 2024-06-01, from 2000 to 2099'
 complete -c seatdesk -n '__fish_seen_subcommand_from flights' -l days -x -d 'How many days from the first on, 1 to 366'
+complete -c seatdesk -n '__fish_seen_subcommand_from flights' -s v -l verbose -d 'Names the file of a fault, and where in it the fault stands, or the system\'s reason'
 complete -c seatdesk -n '__fish_seen_subcommand_from flights' -s h -l help -d 'Print help'
 complete -c seatdesk -n '__fish_seen_subcommand_from flights' -F
 
@@ -30,6 +33,7 @@ complete -c seatdesk -n '__fish_seen_subcommand_from cover' -l set -r -F -d 'The
 complete -c seatdesk -n '__fish_seen_subcommand_from cover' -l limits -r -F -d 'The booking limits of the legs, in seats from 0 to 999 (a file)'
 complete -c seatdesk -n '__fish_seen_subcommand_from cover' -l first -x -d 'The first day of departure, as 2024-06-01, from 2000 to 2099'
 complete -c seatdesk -n '__fish_seen_subcommand_from cover' -l days -x -d 'How many days from the first on, 1 to 366'
+complete -c seatdesk -n '__fish_seen_subcommand_from cover' -s v -l verbose -d 'Names the file of a fault, and where in it the fault stands, or the system\'s reason'
 complete -c seatdesk -n '__fish_seen_subcommand_from cover' -s h -l help -d 'Print help'
 
 complete -c seatdesk -n '__fish_seen_subcommand_from rooms' -l set -r -F -d 'The data set of the schedule (SSIM chapter 7, a file)'
@@ -39,6 +43,7 @@ complete -c seatdesk -n '__fish_seen_subcommand_from rooms' -l days -x -d 'How m
 complete -c seatdesk -n '__fish_seen_subcommand_from rooms' -l day -x -d 'The places that depart on this day alone, as 2024-06-01'
 complete -c seatdesk -n '__fish_seen_subcommand_from rooms' -l pair -x -d 'The places between these two stations alone, as LHRJFK'
 complete -c seatdesk -n '__fish_seen_subcommand_from rooms' -l bars -d 'Shows the seats held of each limit as a bar, behind each leg'
+complete -c seatdesk -n '__fish_seen_subcommand_from rooms' -s v -l verbose -d 'Names the file of a fault, and where in it the fault stands, or the system\'s reason'
 complete -c seatdesk -n '__fish_seen_subcommand_from rooms' -s h -l help -d 'Print help'
 complete -c seatdesk -n '__fish_seen_subcommand_from rooms' -F
 
@@ -48,9 +53,10 @@ complete -c seatdesk -n '__fish_seen_subcommand_from run' -l first -x -d 'The fi
 complete -c seatdesk -n '__fish_seen_subcommand_from run' -l days -x -d 'How many days from the first on, 1 to 366'
 complete -c seatdesk -n '__fish_seen_subcommand_from run' -l after -r -F -d 'The journal to go on from (a file that run wrote); its lines stand ahead of the new ones'
 complete -c seatdesk -n '__fish_seen_subcommand_from run' -l today -x -d 'The day of the run, as 2024-06-01, from 2000 to 2099; it gives the requests their year'
-complete -c seatdesk -n '__fish_seen_subcommand_from run' -l journal -r -F -d 'The file that the journal is written to, which may be no input'
+complete -c seatdesk -n '__fish_seen_subcommand_from run' -l journal -r -F -d 'The file that the journal is written to, which may be no input but the journal of --after'
 complete -c seatdesk -n '__fish_seen_subcommand_from run' -l changes -r -F -d 'Changes of the limits, made beside the sessions (a file); without it no limit changes'
 complete -c seatdesk -n '__fish_seen_subcommand_from run' -l no-clobber -d 'Refuses an OUT that is there and is not empty'
+complete -c seatdesk -n '__fish_seen_subcommand_from run' -s v -l verbose -d 'Names the file of a fault, and where in it the fault stands, or the system\'s reason'
 complete -c seatdesk -n '__fish_seen_subcommand_from run' -s h -l help -d 'Print help'
 complete -c seatdesk -n '__fish_seen_subcommand_from run' -F
 
@@ -59,6 +65,7 @@ complete -c seatdesk -n '__fish_seen_subcommand_from bookings' -l limits -r -F -
 complete -c seatdesk -n '__fish_seen_subcommand_from bookings' -l first -x -d 'The first day of departure, as 2024-06-01, from 2000 to 2099'
 complete -c seatdesk -n '__fish_seen_subcommand_from bookings' -l days -x -d 'How many days from the first on, 1 to 366'
 complete -c seatdesk -n '__fish_seen_subcommand_from bookings' -l locator -x -d 'The locator of the bookings: six letters and digits, as B3N6VC'
+complete -c seatdesk -n '__fish_seen_subcommand_from bookings' -s v -l verbose -d 'Names the file of a fault, and where in it the fault stands, or the system\'s reason'
 complete -c seatdesk -n '__fish_seen_subcommand_from bookings' -s h -l help -d 'Print help'
 complete -c seatdesk -n '__fish_seen_subcommand_from bookings' -F
 
@@ -68,6 +75,7 @@ complete -c seatdesk -n '__fish_seen_subcommand_from audit' -l first -x -d 'The 
 complete -c seatdesk -n '__fish_seen_subcommand_from audit' -l days -x -d 'How many days from the first on, 1 to 366'
 complete -c seatdesk -n '__fish_seen_subcommand_from audit' -l after -r -F -d 'The journal that JOURNAL goes on from (a file); the scripts ask for the lines behind its own'
 complete -c seatdesk -n '__fish_seen_subcommand_from audit' -l today -x -d 'The day of the run, as 2024-06-01, from 2000 to 2099; it gives the requests their year'
+complete -c seatdesk -n '__fish_seen_subcommand_from audit' -s v -l verbose -d 'Names the file of a fault, and where in it the fault stands, or the system\'s reason'
 complete -c seatdesk -n '__fish_seen_subcommand_from audit' -s h -l help -d 'Print help'
 complete -c seatdesk -n '__fish_seen_subcommand_from audit' -F
 
@@ -76,9 +84,11 @@ complete -c seatdesk -n '__fish_seen_subcommand_from why' -l limits -r -F -d 'Th
 complete -c seatdesk -n '__fish_seen_subcommand_from why' -l first -x -d 'The first day of departure, as 2024-06-01, from 2000 to 2099'
 complete -c seatdesk -n '__fish_seen_subcommand_from why' -l days -x -d 'How many days from the first on, 1 to 366'
 complete -c seatdesk -n '__fish_seen_subcommand_from why' -l line -x -d 'The line of the journal, counted from 1'
+complete -c seatdesk -n '__fish_seen_subcommand_from why' -s v -l verbose -d 'Names the file of a fault, and where in it the fault stands, or the system\'s reason'
 complete -c seatdesk -n '__fish_seen_subcommand_from why' -s h -l help -d 'Print help'
 complete -c seatdesk -n '__fish_seen_subcommand_from why' -F
 
+complete -c seatdesk -n '__fish_seen_subcommand_from explain' -s v -l verbose -d 'Names the file of a fault, and where in it the fault stands, or the system\'s reason'
 complete -c seatdesk -n '__fish_seen_subcommand_from explain' -s h -l help -d 'Print help'
 complete -c seatdesk -n '__fish_seen_subcommand_from explain' -a 'A1 A2 A3 A4 A5 A6 A7 A8 A9 B1 C1 DEVICE E1 E2 F1 F2 F3 F4 F5 F6 F7 F8 F9 J1 J2 J3 J4 L1 L2 L3 L4 M1 M2 M3 M4 M5 M6 M7 MEMORY P1 P2 P3 P4 P5 P6 P7 P8 Q1 Q2 Q3 R2 S1 S2 S3 S4 S5 S6 S7 S8 S9 S10 S11 S12 S13 S14 S15 U1'
 

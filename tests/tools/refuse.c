@@ -1,5 +1,6 @@
-/* A library to preload into an executable: it refuses one growth, or fails one sync or one look at a file, or fails or shortens
- * one read or write, of those that the executable makes from the start of its `main` on. The environment says which; numbers count from 1.
+/* A library to preload into an executable: it refuses one growth, fails one call that changes or looks at a file, fails or shortens
+ * one read or write, or kills the executable ahead of one such call, of those that it makes from the start of its `main` on. The
+ * environment says which; numbers count from 1.
  *
  *   REFUSE_ALLOC=N   the Nth malloc, calloc, realloc, reallocarray, memalign, aligned_alloc or posix_memalign
  *                    answers that there is no memory
@@ -11,6 +12,17 @@
  *   ONE_BYTE=1       every read gives, and every write takes, one byte at most
  *   FAIL_SYNC=N      the Nth fsync or fdatasync fails (EIO, or the number in FAIL_ERROR)
  *   FAIL_STAT=N      the Nth statx, by which a file is looked at, fails (EIO, or the number in FAIL_ERROR)
+ *   FAIL_TRUNCATE=N  the Nth ftruncate fails, and likewise
+ *   FAIL_LINK=N      the Nth link or linkat,
+ *   FAIL_RENAME=N    the Nth rename or renameat,
+ *   FAIL_UNLINK=N    the Nth unlink or unlinkat,
+ *   FAIL_LOCK=N      the Nth flock, and
+ *   FAIL_CHMOD=N     the Nth fchmod
+ *   KILL_WRITE=N     the Nth write takes half of its bytes, and the process is killed (SIGKILL)
+ *   KILL_SYNC=N      the process is killed ahead of the Nth fsync or fdatasync, and likewise
+ *   KILL_TRUNCATE=N, KILL_LINK=N, KILL_RENAME=N, KILL_UNLINK=N, KILL_LOCK=N, KILL_CHMOD=N
+ *   SLOW_RENAME=MS   each rename waits so many milliseconds, and
+ *   SLOW_LOCK=MS     each flock
  *   REFUSE_MET=FILE  FILE is made once the Nth call was met
  *
  * Writes to standard error are neither counted nor touched: the fault line goes there. A shortened call counts as met
@@ -23,12 +35,15 @@
 #include <dlfcn.h>
 #include <errno.h>
 #include <fcntl.h>
+#include <signal.h>
 #include <stdatomic.h>
 #include <stdint.h>
 #include <stdlib.h>
+#include <sys/file.h>
 #include <sys/stat.h>
 #include <sys/syscall.h>
 #include <sys/uio.h>
+#include <time.h>
 #include <unistd.h>
 
 extern void *__libc_malloc(size_t);
@@ -36,11 +51,27 @@ extern void *__libc_calloc(size_t, size_t);
 extern void *__libc_realloc(void *, size_t);
 extern void *__libc_memalign(size_t, size_t);
 
-static long refuse_alloc, fail_read, fail_write, short_read, short_write, zero_write, one_byte, fail_sync, fail_stat;
+static long refuse_alloc, fail_read, fail_write, short_read, short_write, zero_write, one_byte, fail_stat, kill_write;
 static int fail_error = EIO;
 static const char *met_file;
 static atomic_bool in_main;
-static atomic_long allocs, reads, writes, syncs, looks;
+static atomic_long allocs, reads, writes, looks;
+
+/* Calls of one kind that change a file: how many there were, which one fails, which one is not lived to see, how long each waits. */
+struct deed {
+    const char *fails, *kills, *waits;
+    long fail, kill, wait;
+    atomic_long count;
+};
+
+static struct deed syncs = {.fails = "FAIL_SYNC", .kills = "KILL_SYNC"};
+static struct deed truncates = {.fails = "FAIL_TRUNCATE", .kills = "KILL_TRUNCATE"};
+static struct deed links = {.fails = "FAIL_LINK", .kills = "KILL_LINK"};
+static struct deed renames = {.fails = "FAIL_RENAME", .kills = "KILL_RENAME", .waits = "SLOW_RENAME"};
+static struct deed unlinks = {.fails = "FAIL_UNLINK", .kills = "KILL_UNLINK"};
+static struct deed locks = {.fails = "FAIL_LOCK", .kills = "KILL_LOCK", .waits = "SLOW_LOCK"};
+static struct deed chmods = {.fails = "FAIL_CHMOD", .kills = "KILL_CHMOD"};
+static struct deed *const deeds[] = {&syncs, &truncates, &links, &renames, &unlinks, &locks, &chmods};
 
 static long number_of(const char *name) {
     const char *text = getenv(name);
@@ -69,8 +100,13 @@ static int counted_main(int count, char **words, char **environment) {
     short_write = number_of("SHORT_WRITE");
     zero_write = number_of("ZERO_WRITE");
     one_byte = number_of("ONE_BYTE");
-    fail_sync = number_of("FAIL_SYNC");
     fail_stat = number_of("FAIL_STAT");
+    kill_write = number_of("KILL_WRITE");
+    for (size_t i = 0; i < sizeof deeds / sizeof *deeds; i++) {
+        deeds[i]->fail = number_of(deeds[i]->fails);
+        deeds[i]->kill = number_of(deeds[i]->kills);
+        deeds[i]->wait = deeds[i]->waits ? number_of(deeds[i]->waits) : 0;
+    }
     met_file = getenv("REFUSE_MET");
     if (number_of("FAIL_ERROR"))
         fail_error = (int)number_of("FAIL_ERROR");
@@ -143,6 +179,11 @@ static ssize_t failed(void) {
     return -1;
 }
 
+static void die(void) {
+    note_met();
+    syscall(SYS_kill, syscall(SYS_getpid), SIGKILL);
+}
+
 static ssize_t do_read(int from, void *bytes, size_t size) {
     if (!atomic_load(&in_main))
         return syscall(SYS_read, from, bytes, size);
@@ -162,6 +203,10 @@ static ssize_t do_write(int to, const void *bytes, size_t size) {
     if (!atomic_load(&in_main) || to == STDERR_FILENO || size == 0)
         return syscall(SYS_write, to, bytes, size);
     long turn = atomic_fetch_add(&writes, 1) + 1;
+    if (turn == kill_write) {
+        syscall(SYS_write, to, bytes, size / 2);
+        die();
+    }
     if (turn == fail_write)
         return failed();
     if (turn == zero_write) {
@@ -201,16 +246,49 @@ ssize_t writev(int to, const struct iovec *pieces, int count) {
     return piece ? do_write(to, piece->iov_base, piece->iov_len) : syscall(SYS_writev, to, pieces, count);
 }
 
-/* Syncs. */
+/* Syncs, and what changes a name or a file otherwise. */
 
-static int do_sync(long how, int file) {
-    if (atomic_load(&in_main) && atomic_fetch_add(&syncs, 1) + 1 == fail_sync)
-        return (int)failed();
-    return (int)syscall(how, file);
+/* Whether a call of this kind fails. */
+static int is_failed(struct deed *deed) {
+    if (!atomic_load(&in_main))
+        return 0;
+    long turn = atomic_fetch_add(&deed->count, 1) + 1;
+    if (deed->wait) {
+        struct timespec time = {deed->wait / 1000, deed->wait % 1000 * 1000000};
+        nanosleep(&time, NULL);
+    }
+    if (turn == deed->kill)
+        die();
+    return turn == deed->fail;
 }
 
-int fsync(int file) { return do_sync(SYS_fsync, file); }
-int fdatasync(int file) { return do_sync(SYS_fdatasync, file); }
+int fsync(int file) { return is_failed(&syncs) ? (int)failed() : (int)syscall(SYS_fsync, file); }
+int fdatasync(int file) { return is_failed(&syncs) ? (int)failed() : (int)syscall(SYS_fdatasync, file); }
+
+int ftruncate(int file, off_t size) { return is_failed(&truncates) ? (int)failed() : (int)syscall(SYS_ftruncate, file, size); }
+int ftruncate64(int file, off64_t size) { return ftruncate(file, size); }
+
+int linkat(int from, const char *old, int to, const char *new, int flags) {
+    return is_failed(&links) ? (int)failed() : (int)syscall(SYS_linkat, from, old, to, new, flags);
+}
+
+int link(const char *old, const char *new) { return linkat(AT_FDCWD, old, AT_FDCWD, new, 0); }
+
+int renameat(int from, const char *old, int to, const char *new) {
+    return is_failed(&renames) ? (int)failed() : (int)syscall(SYS_renameat2, from, old, to, new, 0);
+}
+
+int rename(const char *old, const char *new) { return renameat(AT_FDCWD, old, AT_FDCWD, new); }
+
+int unlinkat(int folder, const char *path, int flags) {
+    return is_failed(&unlinks) ? (int)failed() : (int)syscall(SYS_unlinkat, folder, path, flags);
+}
+
+int unlink(const char *path) { return unlinkat(AT_FDCWD, path, 0); }
+
+int flock(int file, int how) { return is_failed(&locks) ? (int)failed() : (int)syscall(SYS_flock, file, how); }
+
+int fchmod(int file, mode_t mode) { return is_failed(&chmods) ? (int)failed() : (int)syscall(SYS_fchmod, file, mode); }
 
 /* Looks at a file. */
 

@@ -1,6 +1,6 @@
 -- What `run` writes, `audit` accepts with the scripts of the run and behind the journal that it went on from.
-use Rattle.std.proofs.Common.{◌≡◌, ◌⊎◌, ⊎_elim, inl, ℕ, zero, suc, ◌-◌, ◌+◌, ◌<◌, ◌≤◌, false, List, [], ◌∷◌, ◌++◌, length, map, refl, sym, ap, ◌∙◌, subst, arith, get_or, Option, Some, IfSome}
-use Rattle.seat_scripts.proofs.Common.{slice_get, Request, Ladders, Change, Command, Entry, Work, Seats, of_session, IsLegal, totals_of, audit_line, most_journal_bytes, IsFirstTooLargeLoad, DeskFault, AreAskedBehind, done_by, HasLoaded, lists_over, AreScripts, IsRefusedAmong, IsTooLargeAmong, commands_of, IsHistoryOf, works_in}
+use Rattle.std.proofs.Common.{◌≡◌, ◌⊎◌, ⊎_elim, inl, ℕ, zero, suc, ◌-◌, ◌+◌, ◌<◌, ◌≤◌, false, List, [], ◌∷◌, length, map, refl, sym, ap, ◌∙◌, subst, arith, get_or, Option, Some}
+use Rattle.seat_scripts.proofs.Common.{Request, Ladders, Change, Command, Entry, Work, Seats, of_session, IsLegal, totals_of, audit_line, most_journal_bytes, IsFirstTooLargeLoad, DeskFault, AreAskedBehind, done_by, HasLoaded, lists_over, AreScripts, IsRefusedAmong, IsTooLargeAmong, commands_of, IsHistoryOf, works_in}
 use Rattle.std.proofs.lemmas.Bool.{cases_lt}
 use Rattle.std.proofs.lemmas.List.{get_or_past, length-map}
 use Rattle.airimp_lines.specs.declared.fault.ScriptFault.{ScriptFault}
@@ -13,47 +13,50 @@ use Rattle.seat_desk.specs.CheckDesk.{most_set_bytes}
 use Rattle.seat_desk.specs.Loading.{HasSchedule, IsBehind, most_limit_bytes}
 use Rattle.seat_desk.specs.declared.fault.DeskFault.TheVariants as faults
 use Rattle.seat_desk.proofs.Grounds.{loaded_replays_keep_limits}
-use Rattle.seat_scripts.specs.Against.{AgainstRefusal, HasBoth, HasOlder, IsAuditAgainst, IsNoScriptBeside, IsTooLargeAgainst, IsUnlawfulBeside, asked_by, works_of_list}
+use Rattle.seat_scripts.specs.Against.{AgainstRefusal, HasBoth, HasOlder, IsAuditAgainst, IsTooLargeAgainst, IsUnlawfulBeside, AreVeryRequests}
 use Rattle.seat_scripts.specs.Audits.{RunsAreAuditedAgainst}
 use Rattle.seat_scripts.specs.Requests.{IsNoScript, IsReadable, most_script_bytes}
-use Rattle.seat_scripts.specs.RunDesk.{IsRun}
+use Rattle.seat_scripts.specs.RunDesk.{IsRun, requests_of}
 use Rattle.seat_scripts.proofs.Audits.{loads, one_grid}
 use Rattle.seat_scripts.proofs.Going.{over_count}
 use Rattle.seat_scripts.proofs.Histories.{no_more, own_works}
 use Rattle.seat_scripts.proofs.Lengths.{text_short}
 use Rattle.seat_scripts.proofs.Unasked.{unasked_is_not_audited}
+use Rattle.seat_scripts.proofs.Very.{commands_agree}
 
 -- ---- the lines of each session are what its script asks
 
-asked_at : (flights : List Flown) (scripts : List (List Request)) (i : ℕ)
-    → map Seats (commands_of flights (get_or scripts i []))
-    ≡ works_of_list (slice_get (map (commands_of flights) scripts) i)
-asked_at flights [] i = refl
-asked_at flights (script ∷ scripts) zero = refl
-asked_at flights (script ∷ scripts) (suc i) = asked_at flights scripts i
+its_requests : (scripts : List (List Request)) (i : ℕ) → get_or scripts i [] ≡ requests_of scripts (suc i)
+its_requests [] i = refl
+its_requests (script ∷ scripts) zero = refl
+its_requests (script ∷ scripts) (suc i) = its_requests scripts i
 
 module _ (grid : Ladders) (past : List Entry) (flights : List Flown) (changes : List Change) (scripts : List (List Request)) (history : List Entry) (told : List (List Entry))
     (h : IsHistoryOf grid past changes (lists_over past (map (commands_of flights) scripts)) history told) where
   abbrev lists : List (List Command)
   lists = lists_over past (map (commands_of flights) scripts)
 
-  each_of : (i : ℕ) → done_by (suc i) h.added ≡ works_of_list (slice_get (map (commands_of flights) scripts) i)
+  abbrev its_works : List Request → List Work
+  its_works requests = map Seats (commands_of flights requests)
+
+  each_of : (i : ℕ) → done_by (suc i) h.added ≡ map Seats (commands_of flights (requests_of scripts (suc i)))
   each_of i =
       ⊎_elim
-      (λ (lt : i < length lists). own_works grid past flights changes scripts history told h i lt ∙ asked_at flights scripts i)
+      (λ (lt : i < length lists). own_works grid past flights changes scripts history told h i lt ∙ ap its_works (its_requests scripts i))
       (λ (le : length lists ≤ i).
       let enough : length scripts ≤ length lists = omega (arith, over_count past (map (commands_of flights) scripts), length-map scripts (commands_of flights)) in
       let nobody : get_or scripts i [] ≡ [] = get_or_past scripts i [] (omega (arith, enough, le)) in
       let nothing : of_session (suc i) h.added ≡ [] = no_more grid past flights changes scripts history told h (suc i) (omega (arith, le)) in
-      ap works_in nothing ∙ (sym (ap (λ (l : List Request). map Seats (commands_of flights l)) nobody) ∙ asked_at flights scripts i))
+      ap works_in nothing ∙ (sym (ap its_works nobody) ∙ ap its_works (its_requests scripts i)))
       (cases_lt i (length lists))
 
-  asked_behind : AreAskedBehind (map (commands_of flights) scripts) past history
+  asked_behind : AreAskedBehind flights scripts past history
   asked_behind = record { goes_on = record { rest = h.added; is = h.goes_on }; are_asked = record { each = each } } where
-    each : (session : ℕ) → 1 ≤ session → done_by session h.added ≡ asked_by (map (commands_of flights) scripts) session
+    each : (session : ℕ) → 1 ≤ session → AreVeryRequests flights (requests_of scripts session) (done_by session h.added)
     each session low =
         let up : suc (session - 1) ≡ session = omega (arith, low) in
-        ap (λ (k : ℕ). done_by k h.added) (sym up) ∙ each_of (session - 1)
+        subst (λ (k : ℕ). AreVeryRequests flights (requests_of scripts k) (done_by k h.added)) up
+        (subst (AreVeryRequests flights (requests_of scripts (suc (session - 1)))) (sym (each_of (session - 1))) (record { each = commands_agree flights (requests_of scripts (suc (session - 1))) }))
 
 -- ---- scripts that are read are neither refused nor too large
 

@@ -1,6 +1,7 @@
 -- A journal beside an older one that it goes on from.
 use Rattle.std.proofs.Common.{◌≡◌, inr, ℕ, suc, ◌+◌, ◌<◌, ◌≤◌, Bool, true, false, List, [], ◌∷◌, ◌++◌, length, take, drop, get_or, refl, sym, ap, ◌∙◌, subst, Option, Some, None}
-use Rattle.seat_scripts.proofs.Common.{slice_get, Ladders, Command, Entry, Work, IsLegal, IsNext, Unasked, AreAskedBehind, IsUnasked}
+use Rattle.ssim_flights.specs.declared.flight.Flight.{Flight as Flown}
+use Rattle.seat_scripts.proofs.Common.{slice_get, Ladders, Request, Entry, Work, IsLegal, IsNext, Unasked, AreAskedBehind, IsUnasked}
 use Rattle.std.specs.Prelude.{IsTrue}
 use Rattle.std.proofs.Math.Seq.{drop-cons}
 use Rattle.std.proofs.lemmas.List.{take-append-drop, take_all, take_more}
@@ -113,13 +114,14 @@ begins_all older journal i whole so_far = record {
 
 -- ---- the whole
 
-pub all_behind : (grid : Ladders) (lists : List (List Command)) (older journal added : List Entry)
-    → IsLegal grid journal → journal ≡ older ++ added → length lists ≤ 8 → AreAskedBelow lists added 9
-    → AreAskedBehind lists older journal
-all_behind grid lists older journal added legal is few below = record { goes_on = record { rest = added; is = is }; are_asked = all_asked grid lists older journal added legal is few below }
+pub all_behind : (flights : List Flown) (grid : Ladders) (scripts : List (List Request)) (older journal added : List Entry)
+    → IsLegal grid journal → journal ≡ older ++ added → length scripts ≤ 8 → AreAskedBelow flights scripts added 9
+    → AreAskedBehind flights scripts older journal
+all_behind flights grid scripts older journal added legal is few below =
+    record { goes_on = record { rest = added; is = is }; are_asked = all_asked flights grid scripts older journal added legal is few below }
 
-pub unasked_behind : (lists : List (List Command)) (older journal added : List Entry) (session place call : ℕ)
-    → journal ≡ older ++ added → IsFirstUnasked lists added session place
-    → call ≡ calls_of older session + place → IsUnasked lists older journal (Unasked session call)
-unasked_behind lists older journal added session place call is first call_is =
+pub unasked_behind : (flights : List Flown) (scripts : List (List Request)) (older journal added : List Entry)
+    (session place call : ℕ) → journal ≡ older ++ added → IsFirstUnasked flights scripts added session place
+    → call ≡ calls_of older session + place → IsUnasked flights scripts older journal (Unasked session call)
+unasked_behind flights scripts older journal added session place call is first call_is =
     inr (record { goes_on = record { rest = added; is = is }; place = place; first = first; call_is = call_is })

@@ -1,6 +1,6 @@
 -- What an audit with scripts writes or refuses is that of its inputs, where what was read of each is all of it.
-use Rattle.std.proofs.Common.{◌≡◌, ◌≢◌, ◌⊎◌, ◌<◌, inl, inr, ℕ, List, Option, Some, None, IfSome, length, map, subst, sym}
-use Rattle.seat_scripts.proofs.Common.{Request, Ladders, totals_of, audit_line, most_journal_bytes, IsFirstTooLargeLoad, IsLoaded, DeskFault, Memory, Unasked, AreAskedBehind, IsUnasked, HasLoaded, OfThree, AreScripts, IsRefusedAmong, IsTooLargeAmong, commands_of}
+use Rattle.std.proofs.Common.{◌≡◌, ◌≢◌, ◌<◌, inl, inr, ℕ, List, Option, Some, None, IfSome, length, subst, sym}
+use Rattle.seat_scripts.proofs.Common.{Request, Ladders, totals_of, audit_line, most_journal_bytes, IsFirstTooLargeLoad, IsLoaded, DeskFault, Memory, Unasked, AreAskedBehind, IsUnasked, HasLoaded, OfThree, AreScripts, IsRefusedAmong, IsTooLargeAmong}
 use Rattle.ssim_flights.specs.declared.flight.Flight.{Flight as Flown}
 use Rattle.seat_rules.specs.Inventory.{Inventory}
 use Rattle.seat_desk.specs.AuditDesk.{IsUnlawful}
@@ -52,7 +52,7 @@ module _ (set limits : List ℕ) (first days : ℕ) (after journal : List ℕ) (
       of_scripts _ script refused = absurd script
 
       of_lines : (scripts : List (List Request)) → AreScripts today texts scripts → (fault : DeskFault)
-          → IsUnasked (map (commands_of flights) scripts) older.journal core.journal fault → Refused fault
+          → IsUnasked flights scripts older.journal core.journal fault → Refused fault
       of_lines scripts are (Unasked session call) unasked = record {
         refusal = record {
           flights = flights;
@@ -107,7 +107,7 @@ module _ (set limits after journal : Option (List ℕ)) (first days today : ℕ)
 
     -- of a line that is not asked
     pub refused_unasked : (fault : DeskFault)
-        → (fault ≢ Memory → IsUnasked (map (commands_of flights) slice) older.journal core.journal fault)
+        → (fault ≢ Memory → IsUnasked flights slice older.journal core.journal fault)
         → IsOfInput fault → IsRefused fault
     refused_unasked fault unasked input =
         if_four (λ xs ys old zs. AreRead xs ys first days old zs today texts flights older core scripts) (λ xs ys old zs. IsRefusedAgainst xs ys first days old zs today texts fault) set limits after journal
@@ -115,7 +115,7 @@ module _ (set limits after journal : Option (List ℕ)) (first days today : ℕ)
 
     -- the line of the audit
     pub audited : (line : List ℕ) → line ≡ audit_line (totals_of core.journal)
-        → AreAskedBehind (map (commands_of flights) slice) older.journal core.journal
+        → AreAskedBehind flights slice older.journal core.journal
         → OfFour set limits after journal (λ xs ys old zs. IsAuditAgainst xs ys first days old zs today texts line)
     audited line sums asked =
         if_four (λ xs ys old zs. AreRead xs ys first days old zs today texts flights older core scripts) (λ xs ys old zs. IsAuditAgainst xs ys first days old zs today texts line) set limits after journal

@@ -1,19 +1,24 @@
--- A journal beside what is asked, one line after the other.
-use Rattle.std.proofs.Common.{◌≡◌, ◌≢◌, ◌⊎◌, ⊎_elim, inl, inr, ℕ, zero, suc, ◌+◌, ◌-◌, ◌<◌, ◌≤◌, ◌==◌, ◌&&◌, Bool, true, false, nat_eq, List, [], ◌∷◌, ◌++◌, length, take, drop, map, get_or, refl, sym, ap, ◌∙◌, subst, arith, Option, Some, None}
-use Rattle.seat_scripts.proofs.Common.{slice_get, option_map, Ladders, Place, Change, Command, Entry, Work, Seats, IsLegal, of_session, done_by, works_in}
-use Rattle.std.specs.Prelude.{IfNone, IfSome, IsTrue}
+-- A journal beside the requests of scripts, one line after the other.
+use Rattle.std.proofs.Common.{◌≡◌, ◌≢◌, ⊎_elim, inl, inr, ℕ, zero, suc, ◌+◌, ◌-◌, ◌<◌, ◌≤◌, ◌==◌, ◌&&◌, Bool, true, false, nat_eq, List, [], ◌∷◌, ◌++◌, length, take, drop, get_or, refl, sym, ap, ◌∙◌, subst, arith, Option, Some, None}
+use Rattle.seat_scripts.proofs.Common.{slice_get, Ladders, Request, Place, Change, Command, Entry, Work, Seats, IsLegal, of_session, done_by, works_in}
+use Rattle.std.specs.Prelude.{IsTrue, unwrap_or}
 use Rattle.std.specs.Cmp.Lexicographic.{pointwise, same_text}
 use Rattle.std.specs.Option.{option_eq}
-use Rattle.std.proofs.Math.Seq.{drop-cons, take-append_seam, take-length}
+use Rattle.std.proofs.Math.Seq.{drop-cons}
 use Rattle.std.proofs.lemmas.Bool.Decides.{nat_tests}
-use Rattle.std.proofs.lemmas.List.{map-append, length-append, length-map, take-append-drop, take_all, take_more}
-use Rattle.std.proofs.lemmas.Option.{get_or_from_slice_get, slice_get_cases, slice_get-map, slice_get_past, slice_get_read, slice_get_within}
+use Rattle.std.proofs.lemmas.List.{map-append, length-append, take-append-drop, take_all, take_more}
+use Rattle.std.proofs.lemmas.Bool.{cases_lt}
+use Rattle.std.proofs.lemmas.Option.{slice_get_cases, slice_get_past, slice_get_read}
 use Rattle.seat_journal.specs.declared.entry.Work.TheVariants.{Limit}
 use Rattle.seat_rules.specs.Bookings.{same_place}
 use Rattle.seat_rules.proofs.History.Faults.{place_same, nat_same}
 use Rattle.seat_rules.proofs.History.Legal.{each_legal}
 use Rattle.seat_rules.proofs.Own.{own_append, own_one, own_other}
-use Rattle.seat_scripts.specs.Against.{AreAsked, AreAskedBelow, DifferAt, asked_by, same_command, works_of_list}
+use Rattle.seat_scripts.specs.Against.{AreAsked, AreAskedBelow, AreVeryRequests, DifferAt, same_command}
+use Rattle.seat_scripts.specs.RunDesk.{requests_of}
+use Rattle.seat_scripts.specs.VeryRequest.{Agree}
+use Rattle.ssim_flights.specs.declared.flight.Flight.{Flight as Flown}
+use Rattle.seat_scripts.proofs.Rows.{place_below}
 use Rattle.airline_base.proofs.Tests.{both_true}
 use Rattle.seat_rules.proofs.Step.Apart.{letters_same}
 use Rattle.seat_scripts.proofs.Going.{few_may}
@@ -75,32 +80,19 @@ works_same a b told same = (λ (is : IsTrue told). ap Seats (same.0 is), λ (e :
 pub no_limit : (a : Command) (c : Change) → Seats a ≡ Limit c → ⊥
 no_limit a c e = cc
 
--- the command that stands there asks for this, or none stands there
-pub asked_there : (commands : List Command) (calls : ℕ) (command : Command) (work : Work) (told : Bool)
-    → slice_get commands calls ≡ Some command
-    → (IsTrue told → Seats command ≡ work) × (Seats command ≡ work → IsTrue told)
-    → (IsTrue told → slice_get (map Seats commands) calls ≡ Some work)
-    × (slice_get (map Seats commands) calls ≡ Some work → IsTrue told)
-asked_there commands calls command work told at same =
-    let here : slice_get (map Seats commands) calls ≡ Some (Seats command) = slice_get-map Seats commands calls ∙ ap (option_map Seats) at in
-    (λ (is : IsTrue told). here ∙ ap Some (same.0 is), λ (e : slice_get (map Seats commands) calls ≡ Some work). same.1 (one (Seats command) work (sym here ∙ e)))
-  where
-    one : (v w : Work) → Some v ≡ Some w → v ≡ w
-    one v w e = cc
+-- a script that was looked up at a session's place
+pub listed : (scripts : List (List Request)) (session place : ℕ) (script : List Request) → 1 ≤ session → place ≡ session
+    → place - 1 < length scripts → script ≡ get_or scripts (place - 1) script → requests_of scripts session ≡ script
+listed scripts zero place script low e lt is = absurd (omega (arith, low))
+listed scripts (suc n) place script low e lt is =
+    let at : slice_get scripts (place - 1) ≡ Some script = slice_get_read scripts (length scripts) (place - 1) script refl lt is in
+    let here : place - 1 ≡ n = omega (arith, e) in
+    ap (λ (o : Option (List Request)). unwrap_or o []) (ap (slice_get scripts) (sym here) ∙ at)
 
-pub asked_past : (commands : List Command) (calls : ℕ) (work : Work) → slice_get commands calls ≡ None
-    → slice_get (map Seats commands) calls ≡ Some work → ⊥
-asked_past commands calls work past e =
-    let here : slice_get (map Seats commands) calls ≡ None = slice_get-map Seats commands calls ∙ ap (option_map Seats) past in
-    none_is_some work (sym here ∙ e)
-  where
-    none_is_some : (w : Work) → None ≡ Some w → ⊥
-    none_is_some w e = cc
-
--- a list that was looked up at a session's place
-pub listed : (lists : List (List Command)) (session place : ℕ) (list : List Command) → place ≡ session
-    → place - 1 < length lists → list ≡ get_or lists (place - 1) list → slice_get lists (session - 1) ≡ Some list
-listed lists session place list e lt is = subst (λ (k : ℕ). slice_get lists (k - 1) ≡ Some list) e (slice_get_read lists (length lists) (place - 1) list refl lt is)
+pub unlisted : (scripts : List (List Request)) (session place : ℕ) → 1 ≤ session → place ≡ session
+    → length scripts ≤ place - 1 → requests_of scripts session ≡ []
+unlisted scripts zero place low e past = absurd (omega (arith, low))
+unlisted scripts (suc n) place low e past = ap (λ (o : Option (List Request)). unwrap_or o []) (slice_get_past scripts n (omega (arith, e, past)))
 
 pub untold : (told : Bool) (P : Type 0) → told ≡ false → (P → IsTrue told) → P → ⊥
 untold true P e says p = absurd cc
@@ -108,57 +100,28 @@ untold false P e says p = let t : IsTrue false = says p in absurd (false_true t)
   false_true : IsTrue false → ⊥
   false_true h = cc
 
--- ---- where two lists differ
+-- ---- where the lines and the requests differ
 
 at_seam : (front rest : List Work) (x : Work) → slice_get (front ++ x ∷ rest) (length front) ≡ Some x
 at_seam [] rest x = refl
 at_seam (y ∷ front) rest x = at_seam front rest x
 
-next_call : (calls : ℕ) → calls ≡ calls + 1 - 1
-next_call calls = omega arith
-
-differ_at : (calls : ℕ) (done asked : List Work) → take calls done ≡ take calls asked
-    → slice_get done calls ≢ slice_get asked calls → DifferAt (calls + 1) done asked
-differ_at calls done asked before there = record {
-  from_one = omega arith;
-  before = subst (λ (k : ℕ). take k done ≡ take k asked) (next_call calls) before;
-  there = subst (λ (k : ℕ). slice_get done k ≢ slice_get asked k) (next_call calls) there;
-}
-
--- at a line that is not asked
-differ_seam : (calls : ℕ) (done asked front rest : List Work) (x : Work) → done ≡ front ++ x ∷ rest
-    → calls ≡ length front → front ≡ take calls asked
-    → slice_get asked calls ≢ Some x → DifferAt (calls + 1) done asked
-differ_seam calls done asked front rest x is count begun not =
-    differ_at calls done asked
-    (ap (λ (l : List Work). take calls l) is ∙ (ap (λ (k : ℕ). take k (front ++ x ∷ rest)) count ∙ (take-append_seam front (x ∷ rest) ∙ begun)))
-    (λ (same : slice_get done calls ≡ slice_get asked calls).
-    not (sym same ∙ (ap (λ (l : List Work). slice_get l calls) is ∙ (ap (λ (k : ℕ). slice_get (front ++ x ∷ rest) k) count ∙ at_seam front rest x))))
-
--- behind the lines, where more is asked
-differ_over : (calls : ℕ) (done asked : List Work) → calls ≡ length done → done ≡ take calls asked
-    → calls < length asked → DifferAt (calls + 1) done asked
-differ_over calls done asked count begun more =
-    differ_at calls done asked (ap (λ (k : ℕ). take k done) count ∙ (take-length done ∙ begun))
-    (λ (same : slice_get done calls ≡ slice_get asked calls).
-    let past : slice_get done calls ≡ None = slice_get_past done calls (omega (arith, count)) in
-    ⊎_elim
-    (λ (at : (x : Work) × (calls < length asked) × (slice_get asked calls ≡ Some x) × (get_or asked calls x ≡ x)). absurd (some_is_none at.0 (sym at.2 ∙ (sym same ∙ past))))
-    (λ (over : (length asked ≤ calls) × (slice_get asked calls ≡ None)). absurd (omega (arith, over.0, more)))
-    (slice_get_cases asked calls).1)
-  where
-    some_is_none : (x : Work) → Some x ≡ None → ⊥
-    some_is_none x e = cc
+pub at_front : (front rest : List Work) (i : ℕ) → i < length front → slice_get (front ++ rest) i ≡ slice_get front i
+at_front [] rest i lt = absurd (omega (arith, lt))
+at_front (x ∷ front) rest zero lt = refl
+at_front (x ∷ front) rest (suc i) lt = at_front front rest i (omega (arith, lt))
 
 -- ---- the lines of a session so far
 
--- so many lines of the session stand in the front, and they ask for the beginning of the commands
-pub record AgreeSoFar (session : ℕ) (commands : List Command) (calls : ℕ) (front : List Entry) : Type 0 where
+-- so many lines of the session stand in the front, and they are the first requests
+pub record AgreeSoFar (flights : List Flown) (session : ℕ) (requests : List Request) (calls : ℕ) (front : List Entry) :
+    Type 0 where
   pub count : calls ≡ length (done_by session front)
-  pub begun : done_by session front ≡ take calls (map Seats commands)
+  pub begun : (place : ℕ) → place < calls
+      → Agree flights (slice_get requests place) (slice_get (done_by session front) place)
   pub few : calls ≤ length front
 
-done_append : (session : ℕ) (xs ys : List Entry) → done_by session (xs ++ ys) ≡ done_by session xs ++ done_by session ys
+pub done_append : (session : ℕ) (xs ys : List Entry) → done_by session (xs ++ ys) ≡ done_by session xs ++ done_by session ys
 done_append session xs ys = ap works_in (own_append session xs ys) ∙ map-append _ (of_session session xs) (of_session session ys)
 
 done_own : (session : ℕ) (e : Entry) → e.session ≡ session → done_by session (e ∷ []) ≡ e.work ∷ []
@@ -172,18 +135,36 @@ one_more : (journal : List Entry) (i : ℕ) (e : Entry) → i < length journal �
     → take (i + 1) journal ≡ take i journal ++ e ∷ []
 one_more journal i e lt is = take_more journal i e lt ∙ ap (λ (x : Entry). take i journal ++ x ∷ []) (sym is)
 
-module _ (session : ℕ) (commands : List Command) (journal : List Entry) (calls i : ℕ) (e : Entry) (lt : i < length journal) (is : e ≡ get_or journal i e)
-    (so_far : AgreeSoFar session commands calls (take i journal)) where
+module _ (flights : List Flown) (session : ℕ) (requests : List Request) (journal : List Entry) (calls i : ℕ) (e : Entry) (lt : i < length journal) (is : e ≡ get_or journal i e)
+    (so_far : AgreeSoFar flights session requests calls (take i journal)) where
   longer : (xs : List Entry) → length (xs ++ e ∷ []) ≡ length xs + 1
   longer xs = length-append xs (e ∷ [])
 
-  pub agree_other : e.session ≢ session → AgreeSoFar session commands calls (take (i + 1) journal)
+  abbrev there : ℕ → List Work → Type 0
+  there place works = Agree flights (slice_get requests place) (slice_get works place)
+
+  -- places of the front
+  in_front : (works rest : List Work) → works ≡ done_by session (take i journal) ++ rest → (place : ℕ) → place < calls
+      → there place works
+  in_front works rest parts place low =
+      let within : place < length (done_by session (take i journal)) = omega (arith, low, so_far.count) in
+      subst (λ (o : Option Work). Agree flights (slice_get requests place) o)
+      (sym (ap (λ (l : List Work). slice_get l place) parts ∙ at_front (done_by session (take i journal)) rest place within)) (so_far.begun place low)
+
+  -- the place behind the front
+  behind_front : (works rest : List Work) → works ≡ done_by session (take i journal) ++ e.work ∷ rest
+      → slice_get works calls ≡ Some e.work
+  behind_front works rest parts =
+      ap (λ (l : List Work). slice_get l calls) parts
+      ∙ (ap (slice_get (done_by session (take i journal) ++ e.work ∷ rest)) so_far.count ∙ at_seam (done_by session (take i journal)) rest e.work)
+
+  pub agree_other : e.session ≢ session → AgreeSoFar flights session requests calls (take (i + 1) journal)
   agree_other not =
       let same : done_by session (take i journal ++ e ∷ []) ≡ done_by session (take i journal) =
       done_append session (take i journal) (e ∷ []) ∙ (ap (λ (l : List Work). done_by session (take i journal) ++ l) (done_other session e not) ∙ append_none (done_by session (take i journal))) in
-      subst (AgreeSoFar session commands calls) (sym (one_more journal i e lt is)) (record {
+      subst (AgreeSoFar flights session requests calls) (sym (one_more journal i e lt is)) (record {
         count = so_far.count ∙ ap length (sym same);
-        begun = same ∙ so_far.begun;
+        begun = λ place low. subst (there place) (sym same) (so_far.begun place low);
         few = omega (arith, so_far.few, longer (take i journal));
       })
     where
@@ -191,24 +172,44 @@ module _ (session : ℕ) (commands : List Command) (journal : List Entry) (calls
       append_none [] = refl
       append_none (x ∷ l) = ap (λ (k : List Work). x ∷ k) (append_none l)
 
-  pub agree_own : e.session ≡ session → slice_get (map Seats commands) calls ≡ Some e.work
-      → AgreeSoFar session commands (calls + 1) (take (i + 1) journal)
+  pub agree_own : e.session ≡ session → Agree flights (slice_get requests calls) (Some e.work)
+      → AgreeSoFar flights session requests (calls + 1) (take (i + 1) journal)
   agree_own own at =
       let more : done_by session (take i journal ++ e ∷ []) ≡ done_by session (take i journal) ++ e.work ∷ [] =
       done_append session (take i journal) (e ∷ []) ∙ ap (λ (l : List Work). done_by session (take i journal) ++ l) (done_own session e own) in
-      let within : calls < length (map Seats commands) = slice_get_within (map Seats commands) calls e.work at in
-      let asked : take (calls + 1) (map Seats commands) ≡ take calls (map Seats commands) ++ e.work ∷ [] =
-      take_more (map Seats commands) calls e.work within ∙ ap (λ (x : Work). take calls (map Seats commands) ++ x ∷ []) (get_or_from_slice_get (map Seats commands) calls e.work e.work at) in
       let counted : length (done_by session (take i journal ++ e ∷ [])) ≡ length (done_by session (take i journal)) + 1 =
       ap length more ∙ length-append (done_by session (take i journal)) (e.work ∷ []) in
-      subst (AgreeSoFar session commands (calls + 1)) (sym (one_more journal i e lt is)) (record {
+      let here : there calls (done_by session (take i journal ++ e ∷ [])) =
+      subst (λ (o : Option Work). Agree flights (slice_get requests calls) o) (sym (behind_front (done_by session (take i journal ++ e ∷ [])) [] more)) at in
+      subst (AgreeSoFar flights session requests (calls + 1)) (sym (one_more journal i e lt is)) (record {
         count = omega (arith, so_far.count, counted);
-        begun = more ∙ (ap (λ (l : List Work). l ++ e.work ∷ []) so_far.begun ∙ sym asked);
+        begun = λ place low. either place low (in_front (done_by session (take i journal ++ e ∷ [])) (e.work ∷ []) more place) here;
         few = omega (arith, so_far.few, longer (take i journal));
       })
+    where
+      either : (place : ℕ) → place < calls + 1
+          → (place < calls → there place (done_by session (take i journal ++ e ∷ [])))
+          → there calls (done_by session (take i journal ++ e ∷ [])) → there place (done_by session (take i journal ++ e ∷ []))
+      either place low below here =
+          let up : place < suc calls = omega (arith, low) in
+          ⊎_elim below (λ (same : calls ≡ place). subst (λ (k : ℕ). there k (done_by session (take i journal ++ e ∷ []))) same here) (place_below place calls up)
 
-  pub differ_here : e.session ≡ session → slice_get (map Seats commands) calls ≢ Some e.work
-      → DifferAt (calls + 1) (done_by session journal) (map Seats commands)
+  -- the session has the line, whatever the request there is
+  pub line_here : e.session ≡ session → calls + 1 ≤ length (done_by session journal)
+  line_here own =
+      let rest : List Entry = drop (suc i) journal in
+      let parts : journal ≡ take i journal ++ e ∷ rest =
+      sym (take-append-drop i journal) ∙ ap (λ (l : List Entry). take i journal ++ l) (drop-cons journal i e lt ∙ ap (λ (x : Entry). x ∷ rest) (sym is)) in
+      let own_part : done_by session (e ∷ rest) ≡ e.work ∷ done_by session rest =
+      done_append session (e ∷ []) rest ∙ ap (λ (l : List Work). l ++ done_by session rest) (done_own session e own) in
+      let done : done_by session journal ≡ done_by session (take i journal) ++ e.work ∷ done_by session rest =
+      ap (done_by session) parts ∙ (done_append session (take i journal) (e ∷ rest) ∙ ap (λ (l : List Work). done_by session (take i journal) ++ l) own_part) in
+      let long : length (done_by session journal) ≡ length (done_by session (take i journal)) + length (e.work ∷ done_by session rest) =
+      ap length done ∙ length-append (done_by session (take i journal)) (e.work ∷ done_by session rest) in
+      omega (arith, long, so_far.count)
+
+  pub differ_here : e.session ≡ session → (Agree flights (slice_get requests calls) (Some e.work) → ⊥)
+      → DifferAt flights (calls + 1) requests (done_by session journal)
   differ_here own not =
       let rest : List Entry = drop (suc i) journal in
       let parts : journal ≡ take i journal ++ e ∷ rest =
@@ -217,30 +218,42 @@ module _ (session : ℕ) (commands : List Command) (journal : List Entry) (calls
       done_append session (e ∷ []) rest ∙ ap (λ (l : List Work). l ++ done_by session rest) (done_own session e own) in
       let done : done_by session journal ≡ done_by session (take i journal) ++ e.work ∷ done_by session rest =
       ap (done_by session) parts ∙ (done_append session (take i journal) (e ∷ rest) ∙ ap (λ (l : List Work). done_by session (take i journal) ++ l) own_part) in
-      differ_seam calls (done_by session journal) (map Seats commands) (done_by session (take i journal)) (done_by session rest) e.work done so_far.count so_far.begun not
+      let here : calls + 1 - 1 ≡ calls = omega arith in
+      record {
+        from_one = omega arith;
+        before = λ place low. in_front (done_by session journal) (e.work ∷ done_by session rest) done place (omega (arith, low));
+        there = λ agree. not (subst (λ (o : Option Work). Agree flights (slice_get requests calls) o) (behind_front (done_by session journal) (done_by session rest) done) (subst (λ (k : ℕ). there k (done_by session journal)) here agree));
+      }
 
-module _ (session : ℕ) (commands : List Command) (journal : List Entry) (calls i : ℕ) (whole : length journal ≤ i) (so_far : AgreeSoFar session commands calls (take i journal)) where
-  all_lines : AgreeSoFar session commands calls journal
-  all_lines = subst (AgreeSoFar session commands calls) (take_all i journal whole) so_far
+module _ (flights : List Flown) (session : ℕ) (requests : List Request) (journal : List Entry) (calls i : ℕ) (whole : length journal ≤ i) (so_far : AgreeSoFar flights session requests calls (take i journal)) where
+  pub all_lines : AgreeSoFar flights session requests calls journal
+  all_lines = subst (AgreeSoFar flights session requests calls) (take_all i journal whole) so_far
 
-  pub differ_end : calls < length commands → DifferAt (calls + 1) (done_by session journal) (map Seats commands)
+  ended : (place : ℕ) → calls ≤ place → slice_get (done_by session journal) place ≡ None
+  ended place past = slice_get_past (done_by session journal) place (omega (arith, past, all_lines.count))
+
+  -- more is asked
+  pub differ_end : calls < length requests → DifferAt flights (calls + 1) requests (done_by session journal)
   differ_end more =
-      differ_over calls (done_by session journal) (map Seats commands) all_lines.count all_lines.begun (let n : length (map Seats commands) ≡ length commands = length-map commands Seats in omega (arith, more, n))
+      let here : calls + 1 - 1 ≡ calls = omega arith in
+      record {
+        from_one = omega arith;
+        before = λ place low. all_lines.begun place (omega (arith, low));
+        there = λ agree. not (slice_get requests calls) refl (subst (λ (o : Option Work). Agree flights (slice_get requests calls) o) (ended calls (omega arith)) (subst (λ (k : ℕ). Agree flights (slice_get requests k) (slice_get (done_by session journal) k)) here agree));
+      }
+    where
+      not : (o : Option Request) → slice_get requests calls ≡ o → Agree flights o None → ⊥
+      not None at agree = elim (slice_get_cases requests calls).1 [
+        | inl there ↦ let bad : Some there.0 ≡ None = sym there.2 ∙ at in absurd cc
+        | inr past ↦ absurd (omega (arith, more, past.0))
+      ]
+      not (Some r) at agree = agree
 
--- ---- a session that has a list
-
-module _ (lists : List (List Command)) (journal : List Entry) (session : ℕ) (list slice : List Command) (at : slice_get lists (session - 1) ≡ Some list) (same : slice ≡ list) where
-  its_works : map Seats slice ≡ asked_by lists session
-  its_works = ap (λ (l : List Command). map Seats l) same ∙ sym (ap works_of_list at)
-
-  pub as_listed : (answer : Option ℕ) → IfNone answer (done_by session journal ≡ map Seats slice)
-      → IfNone answer (done_by session journal ≡ asked_by lists session)
-  as_listed answer told = subst (λ (asked : List Work). IfNone answer (done_by session journal ≡ asked)) its_works told
-
-  pub not_as_listed : (answer : Option ℕ)
-      → IfSome answer (λ call. DifferAt call (done_by session journal) (map Seats slice))
-      → IfSome answer (λ call. DifferAt call (done_by session journal) (asked_by lists session))
-  not_as_listed answer told = subst (λ (asked : List Work). IfSome answer (λ call. DifferAt call (done_by session journal) asked)) its_works told
+  -- no more is asked
+  pub agree_end : length requests ≤ calls → AreVeryRequests flights requests (done_by session journal)
+  agree_end few = record { each = λ place. ⊎_elim (all_lines.begun place) (beyond place) (cases_lt place calls) } where
+    beyond : (place : ℕ) → calls ≤ place → Agree flights (slice_get requests place) (slice_get (done_by session journal) place)
+    beyond place past = rw (slice_get_past requests place (omega (arith, few, past)), ended place past) tt
 
 -- ---- session by session
 
@@ -257,16 +270,13 @@ none_added s older added e = second (of_session s older) (of_session s added) (s
   second [] ys e = e
   second (x ∷ xs) ys e = absurd cc
 
-pub all_asked : (grid : Ladders) (lists : List (List Command)) (older journal added : List Entry) → IsLegal grid journal
-    → journal ≡ older ++ added → length lists ≤ 8 → AreAskedBelow lists added 9 → AreAsked lists added
-all_asked grid lists older journal added legal is few below = record { each = λ session low. ⊎_elim (λ (lt : session < 9). below.each session low lt) (λ (high : 9 ≤ session). beyond session high) (either session 9) } where
-  either : (a b : ℕ) → (a < b) ⊎ (b ≤ a)
-  either a zero = inr (omega arith)
-  either zero (suc b) = inl (omega arith)
-  either (suc a) (suc b) = ⊎_elim (λ (lt : a < b). inl (omega (arith, lt))) (λ (le : b ≤ a). inr (omega (arith, le))) (either a b)
-
-  beyond : (session : ℕ) → 9 ≤ session → done_by session added ≡ asked_by lists session
-  beyond session high =
-      let past : slice_get lists (session - 1) ≡ None = slice_get_past lists (session - 1) (omega (arith, high, few)) in
+pub all_asked : (flights : List Flown) (grid : Ladders) (scripts : List (List Request)) (older journal added : List Entry)
+    → IsLegal grid journal → journal ≡ older ++ added → length scripts ≤ 8 → AreAskedBelow flights scripts added 9
+    → AreAsked flights scripts added
+all_asked flights grid scripts older journal added legal is few below = record { each = λ session low. ⊎_elim (λ (lt : session < 9). below.each session low lt) (λ (high : 9 ≤ session). beyond session low high) (cases_lt session 9) } where
+  beyond : (session : ℕ) → 1 ≤ session → 9 ≤ session → AreVeryRequests flights (requests_of scripts session) (done_by session added)
+  beyond session low high =
+      let nobody : requests_of scripts session ≡ [] = unlisted scripts session session low refl (omega (arith, high, few)) in
       let none : of_session session (older ++ added) ≡ [] = subst (λ (lines : List Entry). of_session session lines ≡ []) is (none_beyond session (omega (arith, high)) grid journal legal) in
-      ap works_in (none_added session older added none) ∙ sym (ap works_of_list past)
+      let nothing : done_by session added ≡ [] = ap works_in (none_added session older added none) in
+      subst (λ (requests : List Request). AreVeryRequests flights requests (done_by session added)) (sym nobody) (subst (AreVeryRequests flights []) (sym nothing) (record { each = λ place. tt }))

@@ -11,7 +11,7 @@ pub mod Histories
 mod Changing
 pub mod Reading
 pub mod Written
-mod Keeping
+mod Replacing
 mod Lengths
 mod Audits
 mod Unasked
@@ -19,3 +19,5 @@ mod Beside
 mod Accepted
 mod First
 mod Segments
+mod Grown
+mod Very

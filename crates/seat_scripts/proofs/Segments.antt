@@ -1,16 +1,14 @@
 -- A place that serves a request is on a flight of the request's name, from its board point to its off point.
-use Rattle.std.proofs.Common.{◌≡◌, ℕ, zero, suc, ◌+◌, ◌==◌, ◌&&◌, Bool, true, false, nat_eq, List, [], ◌∷◌, ◌++◌, refl, sym, ap, ◌∙◌, subst, arith, Option, Some, None}
+use Rattle.std.proofs.Common.{◌≡◌, ℕ, suc, ◌+◌, ◌==◌, ◌&&◌, Bool, true, false, nat_eq, List, [], ◌∷◌, refl, sym, ap, ◌∙◌, subst, arith, Option, Some}
 use Rattle.seat_scripts.proofs.Common.{slice_get, AllByRecursion, option_map, Request, Segment, Place, place_wanted, DatedLeg, Command}
 use Rattle.std.specs.Cmp.Lexicographic.{pointwise, same_text}
 use Rattle.std.specs.Map.{lookup}
 use Rattle.std.specs.Option.{option_eq}
-use Rattle.std.proofs.lemmas.Bool.Decides.{nat_tests}
-use Rattle.ssim_flights.specs.Places.{ends_from, place, places, places_from, same_wanted, wish}
+use Rattle.ssim_flights.specs.Places.{ends_from, places, places_from, same_wanted, wish}
 use Rattle.ssim_flights.specs.declared.flight.Flight.{Flight as Flown}
 use Rattle.ssim_flights.specs.declared.flight.Wanted.{Wanted}
 use Rattle.seat_scripts.specs.Going.{segment_at, segment_between, segment_from, segment_of, segment_on}
 use Rattle.seat_scripts.specs.Requests.{command_of, wanted_of}
-use Rattle.seat_scripts.specs.RunDesk.{of_command, of_request}
 use Rattle.seat_scripts.specs.Segments.{RequestsAreFlown}
 use Rattle.seat_scripts.specs.declared.replies.Answered.{Answered}
 use Rattle.seat_scripts.proofs.Rows.{all_append}
@@ -129,13 +127,18 @@ segment_is flights r c p is serves first last flight same = λ i. record {
   seats = ap (λ (x : Command). x.seats) is i;
 }
 
-pub requests_are_flown : RequestsAreFlown
-requests_are_flown flights r p is =
+pub segments_are_flown : (flights : List Flown) (r : Request) (p : Place)
+    → place_wanted flights (wanted_of r.segment) ≡ Some p → segment_of flights (command_of flights r) ≡ Some r.segment
+segments_are_flown flights r p is =
     let c = command_of flights r in
     let s : IsServing flights (wanted_of r.segment) p = found flights (wanted_of r.segment) p is in
     let flown : segment_of flights c ≡ Some (segment_from c s.flight s.first s.last) =
     ap (segment_on flights c) is ∙ (ap (segment_at c p) s.at
     ∙ (ap (λ (o : Option DatedLeg). segment_between c s.flight o (slice_get s.flight.legs p.to)) s.from ∙ ap (λ (o : Option DatedLeg). segment_between c s.flight (Some s.first) o) s.to)) in
     let own : segment_from c s.flight s.first s.last ≡ r.segment = segment_is flights r c p refl s s.first s.last s.flight s.wanted in
-    let named : Segment → Answered = λ x. record { locator = c.locator; segment = x } in
-    ap (option_map named) (flown ∙ ap Some own)
+    flown ∙ ap Some own
+
+pub requests_are_flown : RequestsAreFlown
+requests_are_flown flights r p is =
+    let named : Segment → Answered = λ x. record { locator = r.locator; segment = x } in
+    ap (option_map named) (segments_are_flown flights r p is)

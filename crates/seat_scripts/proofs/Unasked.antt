@@ -1,6 +1,7 @@
 -- What is refused as unasked has no line of an audit.
 use Rattle.std.proofs.Common.{◌≡◌, ⊎_elim, ◌-◌, ◌<◌, ℕ, zero, suc, List, [], ◌∷◌, ◌++◌, length, map, refl, sym, ap, ◌∙◌, subst, arith, Some}
-use Rattle.seat_scripts.proofs.Common.{slice_get, Request, Ladders, Command, Entry, Work, DeskFault, Unasked, AreAskedBehind, IsUnasked, done_by, AreScripts, commands_of}
+use Rattle.seat_scripts.specs.RunDesk.{requests_of}
+use Rattle.seat_scripts.proofs.Common.{slice_get, Request, Ladders, Entry, Work, DeskFault, Unasked, AreAskedBehind, IsUnasked, done_by, AreScripts}
 use Rattle.std.proofs.lemmas.List.{append_cancel_left}
 use Rattle.ssim_records.specs.declared.set.DataSet.{DataSet}
 use Rattle.ssim_records.proofs.SetLaws.{one_data_set}
@@ -11,7 +12,7 @@ use Rattle.seat_rules.specs.Prefixes.{Begins}
 use Rattle.seat_desk.specs.CheckDesk.{most_records}
 use Rattle.seat_desk.specs.FlightsDesk.{set_flights}
 use Rattle.seat_desk.specs.Loading.{IsLoadedGrid}
-use Rattle.seat_scripts.specs.Against.{AreAsked, AuditsBehindNoLines, DifferAt, IsNoBeginning, IsUnaskedBehind, UnaskedIsNotAudited}
+use Rattle.seat_scripts.specs.Against.{AreAsked, AreVeryRequests, AuditsBehindNoLines, DifferAt, IsNoBeginning, IsUnaskedBehind, UnaskedIsNotAudited}
 
 one_schedule : (set limits : List ℕ) (first days : ℕ) (flights flights' : List Flown) (grid grid' : Ladders)
     → IsLoadedGrid set limits first days flights grid → IsLoadedGrid set limits first days flights' grid'
@@ -30,8 +31,9 @@ same_scripts today (text ∷ texts) (x ∷ a) [] h k = absurd k
 same_scripts today (text ∷ texts) (x ∷ a) (y ∷ b) h k =
     ap (λ (l : List (List Request)). x ∷ l) (same_scripts today texts a b h.1 k.1) ∙ ap (λ (r : List Request). r ∷ b) (one_script today text x y h.0.is_script k.0.is_script)
 
-differs : (call : ℕ) (done asked : List Work) → DifferAt call done asked → done ≡ asked → ⊥
-differs call done asked differ same = differ.there (ap (λ (l : List Work). slice_get l (call - 1)) same)
+differs : (flights : List Flown) (call : ℕ) (requests : List Request) (done : List Work)
+    → DifferAt flights call requests done → AreVeryRequests flights requests done → ⊥
+differs flights call requests done differ very = differ.there (very.each (call - 1))
 
 -- a beginning has the same lines
 same_there : (xs ys : List Entry) (i : ℕ) → i < length xs → slice_get (xs ++ ys) i ≡ slice_get xs i
@@ -44,20 +46,21 @@ begins_not : (older journal : List Entry) (session call : ℕ) → IsNoBeginning
 begins_not older journal session call parts begins =
     parts.part.there (ap (λ (l : List Entry). slice_get l parts.place) begins.is ∙ same_there older begins.rest parts.place parts.part.within)
 
-behind_not : (lists : List (List Command)) (older journal : List Entry) (session call : ℕ)
-    → IsUnaskedBehind lists older journal session call → AreAskedBehind lists older journal → ⊥
-behind_not lists older journal session call unasked asked =
+behind_not : (flights : List Flown) (scripts : List (List Request)) (older journal : List Entry) (session call : ℕ)
+    → IsUnaskedBehind flights scripts older journal session call → AreAskedBehind flights scripts older journal → ⊥
+behind_not flights scripts older journal session call unasked asked =
     let same : unasked.goes_on.rest ≡ asked.goes_on.rest = append_cancel_left older unasked.goes_on.rest asked.goes_on.rest (sym unasked.goes_on.is ∙ asked.goes_on.is) in
-    differs unasked.place _ _ unasked.first.differ (ap (done_by session) same ∙ asked.are_asked.each session unasked.first.from_one)
+    differs flights unasked.place (requests_of scripts session) (done_by session unasked.goes_on.rest) unasked.first.differ
+    (subst (λ (lines : List Entry). AreVeryRequests flights (requests_of scripts session) (done_by session lines)) (sym same) (asked.are_asked.each session unasked.first.from_one))
 
-not_asked : (lists : List (List Command)) (older journal : List Entry) (fault : DeskFault)
-    → IsUnasked lists older journal fault → AreAskedBehind lists older journal → ⊥
-not_asked lists older journal (Unasked session call) unasked asked =
+not_asked : (flights : List Flown) (scripts : List (List Request)) (older journal : List Entry) (fault : DeskFault)
+    → IsUnasked flights scripts older journal fault → AreAskedBehind flights scripts older journal → ⊥
+not_asked flights scripts older journal (Unasked session call) unasked asked =
     ⊎_elim
     (λ (parts : IsNoBeginning older journal session call). begins_not older journal session call parts asked.goes_on)
-    (λ (behind : IsUnaskedBehind lists older journal session call). behind_not lists older journal session call behind asked)
+    (λ (behind : IsUnaskedBehind flights scripts older journal session call). behind_not flights scripts older journal session call behind asked)
     unasked
-not_asked lists older journal _ none asked = none
+not_asked flights scripts older journal _ none asked = none
 
 pub unasked_is_not_audited : UnaskedIsNotAudited
 unasked_is_not_audited set limits first days after journal today texts fault line refused audited =
@@ -65,16 +68,15 @@ unasked_is_not_audited set limits first days after journal today texts fault lin
     let entries : refused.core.journal ≡ audited.is_audited.entries = one_text journal refused.core.journal audited.is_audited.entries refused.is_replay.is_replay.is_text audited.is_audited.is_text in
     let lines : refused.older.journal ≡ audited.older.journal = one_text after refused.older.journal audited.older.journal refused.is_older.is_replay.is_text audited.is_older.is_replay.is_text in
     let scripts : refused.scripts ≡ audited.scripts = same_scripts today texts refused.scripts audited.scripts refused.are_scripts audited.are_scripts in
-    let lists : map (commands_of audited.flights) audited.scripts ≡ map (commands_of refused.flights) refused.scripts =
-    ap (λ (f : List Flown). map (commands_of f) audited.scripts) (sym flown) ∙ ap (λ (s : List (List Request)). map (commands_of refused.flights) s) (sym scripts) in
-    not_asked (map (commands_of refused.flights) refused.scripts) refused.older.journal refused.core.journal fault refused.is_unasked
-    (subst (λ (l : List (List Command)). AreAskedBehind l refused.older.journal refused.core.journal) lists
-    (subst (λ (es : List Entry). AreAskedBehind (map (commands_of audited.flights) audited.scripts) es refused.core.journal) (sym lines)
-    (subst (λ (es : List Entry). AreAskedBehind (map (commands_of audited.flights) audited.scripts) audited.older.journal es) (sym entries) audited.are_asked)))
+    not_asked refused.flights refused.scripts refused.older.journal refused.core.journal fault refused.is_unasked
+    (subst (λ (f : List Flown). AreAskedBehind f refused.scripts refused.older.journal refused.core.journal) (sym flown)
+    (subst (λ (s : List (List Request)). AreAskedBehind audited.flights s refused.older.journal refused.core.journal) (sym scripts)
+    (subst (λ (es : List Entry). AreAskedBehind audited.flights audited.scripts es refused.core.journal) (sym lines)
+    (subst (λ (es : List Entry). AreAskedBehind audited.flights audited.scripts audited.older.journal es) (sym entries) audited.are_asked))))
 
 pub audits_behind_no_lines : AuditsBehindNoLines
 audits_behind_no_lines set limits first days after journal today texts line empty audit =
     let nothing : audit.older.journal ≡ [] = one_text after audit.older.journal [] audit.is_older.is_replay.is_text empty in
     let asked = audit.are_asked in
     let all : audit.is_audited.entries ≡ asked.goes_on.rest = asked.goes_on.is ∙ ap (λ (lines : List Entry). lines ++ asked.goes_on.rest) nothing in
-    subst (AreAsked (map (commands_of audit.flights) audit.scripts)) (sym all) asked.are_asked
+    subst (AreAsked audit.flights audit.scripts) (sym all) asked.are_asked

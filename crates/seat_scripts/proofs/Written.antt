@@ -67,52 +67,56 @@ module _ (set limits after : Option (List ℕ)) (first days today : ℕ) (texts 
       (subst (λ (l : List ℕ). IsRunIn set limits first days today after texts changing (journal_text history) l) (sym (are.second_is ∙ said)) is_run_of)
 
   -- whole, where both were written
-  pub run_written : (journal_old journal_new out_old out_new : Option (List ℕ)) (slice : List Entry) (text : List ℕ)
-      (r : Result (Unit {0}) DeskFault)
+  pub run_written : (named_old named_new : Option (List ℕ)) (leaves : List ℕ → Type 0) (out_old out_new : Option (List ℕ))
+      (slice : List Entry) (text : List ℕ) (r : Result (Unit {0}) DeskFault)
       → slice ≡ history → text ≡ replies
-      → OnOk r (AreWritten (AreTexts (journal_text slice) text) journal_old journal_new out_old out_new)
-      → OnOk r (AreWritten (IsRunIn set limits first days today after texts changing) journal_old journal_new out_old
+      → OnOk r (AreWritten (AreTexts (journal_text slice) text) named_old named_new leaves out_old out_new)
+      → OnOk r (AreWritten (IsRunIn set limits first days today after texts changing) named_old named_new leaves out_old
       out_new)
-  run_written journal_old journal_new out_old out_new slice text (Ok done) same said both = record {
+  run_written named_old named_new leaves out_old out_new slice text (Ok done) same said both = record {
     journal = both.journal;
     replies = both.replies;
     right = of_texts slice text both.journal both.replies same said both.right;
     first = both.first;
+    kept = both.kept;
     second = both.second;
   }
-  run_written journal_old journal_new out_old out_new slice text (Err fault) same said both = tt
+  run_written named_old named_new leaves out_old out_new slice text (Err fault) same said both = tt
 
-  -- or as far as a writer that failed let it
+  -- or as far as a device that failed let it
   pub run_stopped : {J W : Type 0}
-      → (input : Type 0) (journal_failures : J → ℕ) (lines : J → Option (List ℕ)) (journal_old journal_new : J)
+      → (input : Type 0) (journal_failures : J → ℕ) (named : J → Option (List ℕ)) (leaves : J → List ℕ → Type 0)
+      (journal_old journal_new : J)
       (out_failures : W → ℕ) (contents : W → Option (List ℕ)) (out_old out_new : W) (slice : List Entry) (text : List ℕ) (r : Result (Unit {0}) DeskFault)
       → slice ≡ history → text ≡ replies
-      → OnErr r (JournalFailed journal_failures lines journal_old journal_new out_old out_new
+      → IfErr r (λ f. f ≡ Device → JournalFailed journal_failures named leaves journal_old journal_new out_old out_new
       (AreTexts (journal_text slice) text)
-      ⊎ RepliesFailed lines journal_old journal_new out_failures contents out_old out_new (AreTexts (journal_text slice) text))
+      ⊎ RepliesFailed named leaves journal_old journal_new out_failures contents out_old out_new (AreTexts (journal_text slice) text))
       → IfErr r (λ f. f ≡ Device → InputFailed input journal_old journal_new out_old out_new
-      ⊎ (JournalFailed journal_failures lines journal_old journal_new out_old out_new (IsRunIn set limits first days today after texts changing)
-      ⊎ RepliesFailed lines journal_old journal_new out_failures contents out_old out_new (IsRunIn set limits first days today after texts changing)))
-  run_stopped input journal_failures lines journal_old journal_new out_failures contents out_old out_new slice text (Ok done) same said stopped = tt
-  run_stopped input journal_failures lines journal_old journal_new out_failures contents out_old out_new slice text (Err fault) same said stopped = λ device.
+      ⊎ (JournalFailed journal_failures named leaves journal_old journal_new out_old out_new (IsRunIn set limits first days today after texts changing)
+      ⊎ RepliesFailed named leaves journal_old journal_new out_failures contents out_old out_new (IsRunIn set limits first days today after texts changing)))
+  run_stopped input journal_failures named leaves journal_old journal_new out_failures contents out_old out_new slice text (Ok done) same said stopped = tt
+  run_stopped input journal_failures named leaves journal_old journal_new out_failures contents out_old out_new slice text (Err fault) same said stopped = λ device.
       inr (⊎_elim
-      (λ (one : JournalFailed journal_failures lines journal_old journal_new out_old out_new (AreTexts (journal_text slice) text)). inl (record {
+      (λ (one : JournalFailed journal_failures named leaves journal_old journal_new out_old out_new (AreTexts (journal_text slice) text)). inl (record {
         counted = one.counted;
         journal = one.journal;
         replies = one.replies;
         right = of_texts slice text one.journal one.replies same said one.right;
-        begun = one.begun;
+        either = one.either;
+        crash = one.crash;
         no_reply = one.no_reply;
       }))
-      (λ (two : RepliesFailed lines journal_old journal_new out_failures contents out_old out_new (AreTexts (journal_text slice) text)). inr (record {
+      (λ (two : RepliesFailed named leaves journal_old journal_new out_failures contents out_old out_new (AreTexts (journal_text slice) text)). inr (record {
         counted = two.counted;
         journal = two.journal;
         replies = two.replies;
         right = of_texts slice text two.journal two.replies same said two.right;
         whole = two.whole;
+        kept = two.kept;
         begun = two.begun;
       }))
-      stopped)
+      (stopped device))
 
 module _ (first days today : ℕ) (after : List ℕ) (texts : List (Option (List ℕ))) (changing : Option (List ℕ)) (flights : List Flown) (grid : Ladders) where
   of_past : (set limits : List ℕ) (fault : DeskFault) → IsLoaded set limits first days flights grid

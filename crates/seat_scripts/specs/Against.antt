@@ -10,7 +10,6 @@ use Rattle.seat_journal.specs.declared.entry.Change.{Change}
 use Rattle.seat_journal.specs.declared.entry.Command.{Command}
 use Rattle.seat_journal.specs.declared.entry.Entry.{Entry}
 use Rattle.seat_journal.specs.declared.entry.Work.{Work}
-use Rattle.seat_journal.specs.declared.entry.Work.TheVariants.{Seats}
 use Rattle.seat_rules.specs.Bookings.{same_place}
 use Rattle.seat_rules.specs.Inventory.{Inventory}
 use Rattle.seat_rules.specs.Journal.{calls_of}
@@ -22,8 +21,9 @@ use Rattle.seat_desk.specs.declared.inputs.Inputs.{Inputs}
 use Rattle.seat_desk.specs.declared.fault.DeskFault.{DeskFault}
 use Rattle.seat_desk.specs.declared.fault.DeskFault.TheVariants.{Journal, Replay, Script, Unasked}
 use Rattle.seat_scripts.specs.Asked.{HasLoaded, OfThree}
-use Rattle.seat_scripts.specs.Requests.{AreScripts, IsRefusedAmong, IsTooLargeAmong, commands_of}
-use Rattle.seat_scripts.specs.RunDesk.{works_in}
+use Rattle.seat_scripts.specs.Requests.{AreScripts, IsRefusedAmong, IsTooLargeAmong}
+use Rattle.seat_scripts.specs.RunDesk.{requests_of, works_in}
+use Rattle.seat_scripts.specs.VeryRequest.{Agree}
 
 -- ---- what is asked, and what is in the journal
 
@@ -31,41 +31,41 @@ use Rattle.seat_scripts.specs.RunDesk.{works_in}
 abbrev pub done_by : ℕ → List Entry → List Work
 done_by session journal = works_in (of_session session journal)
 
--- what a list asks for, in order; no list asks for nothing
-abbrev pub works_of_list : Option (List Command) → List Work
-works_of_list None = []
-works_of_list (Some commands) = map Seats commands
+-- at each place the line is the very request there, and both end at one
+pub record AreVeryRequests (flights : List Flown) (requests : List Request) (done : List Work) : Type 0 where
+  pub each : (place : ℕ) → Agree flights (slice_get requests place) (slice_get done place)
 
--- what the list of a session asks for: that of session 1 is the first, and sessions beyond the lists have none
-abbrev pub asked_by : List (List Command) → ℕ → List Work
-asked_by lists session = works_of_list (slice_get lists (session - 1))
-
--- the lines of each session below this one are what its list asks for, whatever the manager's are
-pub record AreAskedBelow (lists : List (List Command)) (journal : List Entry) (limit : ℕ) : Type 0 where
-  pub each : (session : ℕ) → 1 ≤ session → session < limit → done_by session journal ≡ asked_by lists session
+-- the lines of each session below this one are the very requests of its script, whatever the manager's are; sessions beyond the scripts have none
+pub record AreAskedBelow (flights : List Flown) (scripts : List (List Request)) (journal : List Entry) (limit : ℕ) :
+    Type 0 where
+  pub each : (session : ℕ) → 1 ≤ session → session < limit
+      → AreVeryRequests flights (requests_of scripts session) (done_by session journal)
 
 -- so are those of each session
-pub record AreAsked (lists : List (List Command)) (journal : List Entry) : Type 0 where
-  pub each : (session : ℕ) → 1 ≤ session → done_by session journal ≡ asked_by lists session
+pub record AreAsked (flights : List Flown) (scripts : List (List Request)) (journal : List Entry) : Type 0 where
+  pub each : (session : ℕ) → 1 ≤ session
+      → AreVeryRequests flights (requests_of scripts session) (done_by session journal)
 
--- the two are the same before this place, which counts from 1, and differ at it: one has another there, or has ended
-pub record DifferAt (call : ℕ) (done asked : List Work) : Type 0 where
+-- before this place, which counts from 1, each line is the very request there; at it the line is another, or one of the two has ended
+pub record DifferAt (flights : List Flown) (call : ℕ) (requests : List Request) (done : List Work) : Type 0 where
   pub from_one : 1 ≤ call
-  pub before : take (call - 1) done ≡ take (call - 1) asked
-  pub there : slice_get done (call - 1) ≢ slice_get asked (call - 1)
+  pub before : (place : ℕ) → place < call - 1 → Agree flights (slice_get requests place) (slice_get done place)
+  pub there : Agree flights (slice_get requests (call - 1)) (slice_get done (call - 1)) → ⊥
 
--- the first session whose lines are not what its list asks for, and the first call at which they differ
-pub record IsFirstUnasked (lists : List (List Command)) (journal : List Entry) (session call : ℕ) : Type 0 where
+-- the first session whose lines are not the requests of its script, and the first call at which they differ
+pub record IsFirstUnasked (flights : List Flown) (scripts : List (List Request)) (journal : List Entry)
+    (session call : ℕ) : Type 0 where
   pub from_one : 1 ≤ session
-  pub before : AreAskedBelow lists journal session
-  pub differ : DifferAt call (done_by session journal) (asked_by lists session)
+  pub before : AreAskedBelow flights scripts journal session
+  pub differ : DifferAt flights call (requests_of scripts session) (done_by session journal)
 
 -- ---- behind an older journal
 
--- the journal begins with the older lines, and the lines of each session behind them are what its list asks for. Behind no lines that is AreAsked of the journal
-pub record AreAskedBehind (lists : List (List Command)) (older journal : List Entry) : Type 0 where
-  pub goes_on : Begins older journal
-  pub are_asked : AreAsked lists goes_on.rest
+-- the journal begins with the older lines, and the lines of each session behind them are the very requests of its script. Behind no lines that is AreAsked of the journal
+pub record AreAskedBehind (flights : List Flown) (scripts : List (List Request)) (older journal : List Entry) : Type 0
+  where
+    pub goes_on : Begins older journal
+    pub are_asked : AreAsked flights scripts goes_on.rest
 
 -- the line of the journal at a place, or the older one there where the journal has ended
 abbrev pub line_there : Option Entry → Option Entry → Option Entry
@@ -88,17 +88,18 @@ pub record IsNoBeginning (older journal : List Entry) (session call : ℕ) : Typ
   pub call_is : call ≡ named.call
 
 -- it does, and of the lines behind them this is the first that is not asked: its call, which goes on from those of the older lines
-pub record IsUnaskedBehind (lists : List (List Command)) (older journal : List Entry) (session call : ℕ) : Type 0 where
+pub record IsUnaskedBehind (flights : List Flown) (scripts : List (List Request)) (older journal : List Entry)
+    (session call : ℕ) : Type 0 where
   pub goes_on : Begins older journal
   pub place : ℕ
-  pub first : IsFirstUnasked lists goes_on.rest session place
+  pub first : IsFirstUnasked flights scripts goes_on.rest session place
   pub call_is : call ≡ calls_of older session + place
 
 -- the fault names that session and that call
-abbrev pub IsUnasked : List (List Command) → List Entry → List Entry → DeskFault → Type 0
-IsUnasked lists older journal (Unasked session call) =
-    IsNoBeginning older journal session call ⊎ IsUnaskedBehind lists older journal session call
-IsUnasked lists older journal _ = ⊥
+abbrev pub IsUnasked : List Flown → List (List Request) → List Entry → List Entry → DeskFault → Type 0
+IsUnasked flights scripts older journal (Unasked session call) =
+    IsNoBeginning older journal session call ⊎ IsUnaskedBehind flights scripts older journal session call
+IsUnasked flights scripts older journal _ = ⊥
 
 -- a test of two commands, field by field
 abbrev pub same_command : Command → Command → Bool
@@ -118,7 +119,7 @@ pub record IsReplayWithin (grid : Ladders) (core : Inventory) (bytes : List ℕ)
   pub within : length bytes ≤ most_journal_bytes
   pub is_replay : IsReplayOf grid bytes core
 
--- the line audits the journal over the loaded grid; the journal goes on from the older one, and behind its lines those of each session are the requests of its script, in order, each on the place that is wanted
+-- the line audits the journal over the loaded grid; the journal goes on from the older one, and behind its lines those of each session are the very requests of its script, in order
 pub record IsAuditAgainst (set limits : List ℕ) (first days : ℕ) (after journal : List ℕ) (today : ℕ)
     (texts : List (Option (List ℕ))) (line : List ℕ) : Type 0 where
   pub flights : List Flown
@@ -130,7 +131,7 @@ pub record IsAuditAgainst (set limits : List ℕ) (first days : ℕ) (after jour
   pub is_audited : IsAudited grid journal line
   pub scripts : List (List Request)
   pub are_scripts : AreScripts today texts scripts
-  pub are_asked : AreAskedBehind (map (commands_of flights) scripts) older.journal is_audited.entries
+  pub are_asked : AreAskedBehind flights scripts older.journal is_audited.entries
 
 -- where the bytes of the set, of the limits and of both journals are known
 abbrev pub OfFour : Option (List ℕ) → Option (List ℕ) → Option (List ℕ) → Option (List ℕ)
@@ -194,7 +195,7 @@ pub record IsUnaskedBeside (set limits : List ℕ) (first days : ℕ) (after jou
   pub is_replay : IsReplayWithin grid core journal
   pub scripts : List (List Request)
   pub are_scripts : AreScripts today texts scripts
-  pub is_unasked : IsUnasked (map (commands_of flights) scripts) older.journal core.journal fault
+  pub is_unasked : IsUnasked flights scripts older.journal core.journal fault
 
 -- a fault of a journal is that of the older one, or else of the one behind it. A script's is the first of the first script that is none, and
 -- one of a call stands where the journals, or the journal and the scripts, differ first. Any other is of the set, of its flights or of the limits
@@ -268,13 +269,13 @@ IsTooLargeAgainstOf set limits inputs after journal today texts =
 
 -- ---- the laws
 
--- behind a journal without lines the lines of each session are what its script asks
+-- behind a journal without lines the lines of each session are the very requests of its script
 abbrev pub AuditsBehindNoLines : Type 0
 AuditsBehindNoLines =
     (set limits : List ℕ) (first days : ℕ) (after journal : List ℕ) (today : ℕ) (texts : List (Option (List ℕ)))
     (line : List ℕ) →
     IsJournalText after [] → (audit : IsAuditAgainst set limits first days after journal today texts line)
-    → AreAsked (map (commands_of audit.flights) audit.scripts) audit.is_audited.entries
+    → AreAsked audit.flights audit.scripts audit.is_audited.entries
 
 -- what is refused has no line: over the same inputs, each known, no journal that differs from the older one or from the scripts at a call also goes on from the one with just what the others ask
 abbrev pub UnaskedIsNotAudited : Type 0

@@ -6,5 +6,7 @@ pub mod Changes
 pub mod First
 pub mod Going
 pub mod Requests
+pub mod Resuming
 pub mod RunDesk
 pub mod Segments
+pub mod VeryRequest

@@ -23,6 +23,7 @@ use Rattle.seat_rules.specs.Headline.{Headline}
 use Rattle.seat_rules.specs.Histories.{by_session}
 pub use Rattle.seat_rules.specs.Histories.{works_in, works_of}
 use Rattle.seat_desk.specs.AuditDesk.{IsRefusedOver, most_lines}
+use Rattle.seat_disk.specs.Leaving.{OldOr, Only, replaced_by}
 use Rattle.seat_desk.specs.Desk.{HasFailed}
 use Rattle.seat_desk.specs.FlightsDesk.{IsText}
 use Rattle.seat_desk.specs.Loading.{Bytes, IsLoaded, IsRefusedLoad}
@@ -176,13 +177,14 @@ IsRunOf set limits inputs today after texts changing journal replies =
     OfThree (set inputs.set) (limits inputs.limits) after
     (λ xs ys zs. IsRun xs ys inputs.first inputs.days today zs texts changing journal replies)
 
--- both texts are written, whole
-pub record AreWritten (answers : List ℕ → List ℕ → Type 0) (journal_old journal_new out_old out_new : Option (List ℕ)) :
-    Type 0 where
+-- both texts are written, whole: the journal has its name, and a crash leaves nothing else
+pub record AreWritten (answers : List ℕ → List ℕ → Type 0) (named_old named_new : Option (List ℕ))
+    (leaves : List ℕ → Type 0) (out_old out_new : Option (List ℕ)) : Type 0 where
   pub journal : List ℕ
   pub replies : List ℕ
   pub right : answers journal replies
-  pub first : Appends journal_old journal_new journal
+  pub first : named_new ≡ replaced_by named_old journal
+  pub kept : Only journal leaves
   pub second : Appends out_old out_new replies
 
 -- exactly these two texts
@@ -199,26 +201,31 @@ pub record InputFailed {J W : Type 0} (failed : Type 0) (journal_old journal_new
     pub no_line : journal_new ≡ journal_old
     pub no_reply : out_new ≡ out_old
 
--- the journal failed: it took a beginning of the journal of two texts that answer, and no reply was written
-pub record JournalFailed {J W : Type 0} (failures : J → ℕ) (contents : J → Option (List ℕ))
+-- the journal failed: its name has what it had, or the journal of two texts that answer, whole; so does what a crash leaves, and no
+-- reply was written
+pub record JournalFailed {J W : Type 0} (failures : J → ℕ) (named : J → Option (List ℕ)) (leaves : J → List ℕ → Type 0)
     (journal_old journal_new : J) (out_old out_new : W)
     (answers : List ℕ → List ℕ → Type 0) : Type 0 where
   pub counted : HasFailed failures journal_old journal_new
   pub journal : List ℕ
   pub replies : List ℕ
   pub right : answers journal replies
-  pub begun : TookFront (contents journal_old) (contents journal_new) journal
+  pub either : (named journal_new ≡ named journal_old) ⊎ (named journal_new ≡ replaced_by (named journal_old) journal)
+  pub crash : OldOr journal (leaves journal_old) (leaves journal_new)
   pub no_reply : out_new ≡ out_old
 
--- the output of the replies failed: the journal of two texts that answer is whole, and the replies are begun
-pub record RepliesFailed {J W : Type 0} (lines : J → Option (List ℕ)) (journal_old journal_new : J) (failures : W → ℕ)
+-- the output of the replies failed: the journal of two texts that answer has its name, a crash leaves nothing else, and the replies
+-- are begun
+pub record RepliesFailed {J W : Type 0} (named : J → Option (List ℕ)) (leaves : J → List ℕ → Type 0)
+    (journal_old journal_new : J) (failures : W → ℕ)
     (contents : W → Option (List ℕ)) (out_old out_new : W)
     (answers : List ℕ → List ℕ → Type 0) : Type 0 where
   pub counted : HasFailed failures out_old out_new
   pub journal : List ℕ
   pub replies : List ℕ
   pub right : answers journal replies
-  pub whole : Appends (lines journal_old) (lines journal_new) journal
+  pub whole : named journal_new ≡ replaced_by (named journal_old) journal
+  pub kept : Only journal (leaves journal_new)
   pub begun : TookFront (contents out_old) (contents out_new) replies
 
 -- ---- refusals

@@ -37,7 +37,7 @@ fn add_idle(alloc: Global, lists: &mut Vec<CommandList>, sessions: u8) -> Result
 }
 
 /// The commands of each script, in the order of the scripts.
-pub fn command_lists(
+fn command_lists(
     alloc: Global,
     flights: &Flights,
     scripts: &[Requests],

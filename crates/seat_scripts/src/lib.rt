@@ -7,24 +7,25 @@ mod against;
 mod asked;
 mod changes;
 mod commands;
-mod kept_write;
 mod laws;
 mod past;
 mod readable;
 mod replies;
+mod resuming;
 mod scripts;
+mod very_request;
 mod writing;
 
 pub use against::desk_audit_against;
 pub use asked::{Asked, read_asked};
 pub use commands::lists_over;
-pub use kept_write::KeptWrite;
 pub use laws::{
-    audits_behind_no_lines, requests_are_flown, runs_are_audited, runs_are_audited_against,
-    runs_from_no_lines, unasked_is_not_audited,
+    audits_behind_no_lines, commands_are_very_requests, nothing_is_left, requests_are_flown,
+    runs_are_audited, runs_are_audited_against, runs_from_no_lines, unasked_is_not_audited,
 };
 pub use past::{Past, past_of};
 pub use readable::prove_entries;
 pub use replies::put_answer;
+pub use resuming::what_is_left;
 pub use scripts::Scripts;
 pub use writing::write_both;

@@ -235,7 +235,7 @@ fn of_command(flights: &Flights, command: &Command) -> Option<Answered>
 }
 
 /// The segment that a command asks for, on the flight of its place.
-fn segment_of(flights: &Flights, command: &Command) -> Option<Segment>
+pub(crate) fn segment_of(flights: &Flights, command: &Command) -> Option<Segment>
     ensures { result ≡ segment_of flights.now command.now }
 {
     let place = command.place?;

@@ -1,7 +1,6 @@
 -- A date that is read is written so, and what is written so is read.
-use Rattle.std.proofs.Common.{◌≡◌, ◌∙◌, ap, sym, refl, ℕ, ◌+◌, ◌-◌, ◌/◌, ◌%◌, ◌<◌, ◌≤◌, ◌&&◌, ◌||◌, true, Bool, cond, eqb, List, [], ◌∷◌, ◌++◌, Some, arith, codes}
+use Rattle.std.proofs.Common.{◌≡◌, ◌∙◌, ap, sym, refl, ℕ, ◌+◌, ◌-◌, ◌/◌, ◌%◌, ◌<◌, ◌&&◌, true, Bool, eqb, List, [], ◌∷◌, ◌++◌, Some, arith, codes}
 use Rattle.std.proofs.lemmas.Bool.{eqb-true}
-use Rattle.std.proofs.lemmas.Bool.Decides.{nat_tests}
 use Rattle.airline_base.specs.Fields.{two_are, two_value}
 use Rattle.airline_base.specs.Days.{civil_in, two_digits}
 use Rattle.airline_base.proofs.DateLaws.{civil_again, civil_takes, two_again, two_small, two_takes, short_month}

@@ -3,4 +3,5 @@ pub mod Lines
 pub mod Taken
 mod DayLaws
 mod Found
+mod Served
 mod Values

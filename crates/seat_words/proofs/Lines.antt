@@ -1,5 +1,5 @@
 -- What the reading of the matches cites.
-use Rattle.std.proofs.Common.{◌≡◌, ◌∙◌, ap, sym, Bool, true, false, Some, None, Option, List, find, slice_get, option_and_then, Box, is_some, option_map, unwrap_or, [], codes}
+use Rattle.std.proofs.Common.{◌≡◌, ◌∙◌, ap, sym, Bool, true, false, Some, None, Option, List, Box, is_some, option_map, unwrap_or, [], codes}
 use Rattle.std.specs.Box.{box_value}
 use Rattle.std.specs.Str.{bytes_eq}
 use Rattle.std.specs.Option.{option_map_or}
@@ -35,7 +35,7 @@ pub no_flag : (f : Found) (id : Text) → None ≡ first_value f id → is_flagg
 no_flag f id e = ap says_so (may_text f id None e)
 
 -- and so of several values
-pub some_texts : (f : Found) (id : Text) (ts : List Text) → Some ts ≡ option_map raw_values (matched_of f id)
+some_texts : (f : Found) (id : Text) (ts : List Text) → Some ts ≡ option_map raw_values (matched_of f id)
     → all_of id (rows_of f) ≡ Some ts
 some_texts f id ts e = sym (e ∙ raw_values-rows f id)
 
@@ -46,15 +46,6 @@ any_texts f id ts e = ap (λ (found : Option (List Text)). unwrap_or found []) (
 pub none_of_texts : (f : Found) (id : Text) → None ≡ option_map raw_values (matched_of f id)
     → unwrap_or (all_of id (rows_of f)) [] ≡ []
 none_of_texts f id e = ap (λ (found : Option (List Text)). unwrap_or found []) (sym (e ∙ raw_values-rows f id))
-
-pub no_texts : (f : Found) (id : Text) → None ≡ option_map raw_values (matched_of f id)
-    → is_some (first_of id (rows_of f)) ≡ true → ⊥
-no_texts f id e h = none_first (find (λ r. bytes_eq r.id id) (rows_of f)) (e ∙ raw_values-rows f id) h
-  where
-    none_first : (found : Option Row) → None ≡ option_map (λ r. r.values) found
-        → is_some (option_and_then (λ r. slice_get r.values 0) found) ≡ true → ⊥
-    none_first None e h = cc
-    none_first (Some r) e h = cc
 
 module _ {Z : Type 0} where
   pub nothing_found : (sub : Option (Box SubCommand Z)) → false ≡ is_some sub

@@ -5,7 +5,7 @@ use Rattle.clap.specs.Words.{Row, Shape, Text, fault_of, is_simple, is_simple_an
 use Rattle.clap.specs.Walk.{answers_to, rows_after}
 use Rattle.clap.specs.Simple.{argument_words, built, built_leaf}
 use Rattle.clap.proofs.OnLiterals.{clap_on_literals}
-use Rattle.seat_words.specs.CommandLine.{audit_app, bare_app, bookings_app, check_app, cover_app, explain_app, flights_app, horizon_app, ladder_app, named_app, rooms_app, run_app, seatdesk_app, selling_app, why_app}
+use Rattle.seat_words.specs.CommandLine.{audit_app, bare_app, bookings_app, check_app, cover_app, explain_app, flights_app, horizon_app, ladder_app, named_app, rooms_app, run_app, seatdesk_app, selling_app, why_app, with_verbose}
 use Rattle.seat_words.specs.Jobs.{Line, is_answerable, is_complete}
 use Rattle.seat_words.proofs.Found.{Each, Yields, is_no_help, line_in}
 use Rattle.seat_words.proofs.Values.{Keeps, append_keeps, flag_keeps, has_required, help_keeps, leaf_values, set_keeps}
@@ -26,53 +26,53 @@ leaf_line : (P : Line → Bool) (s : Shape) → Each Keeps s.rules
     → Yields P s
 leaf_line P s each given = record { rows = λ words e. given (rows_after s.rules [] words) (leaf_values s each words e) }
 
-ladder_line : Yields is_complete (built_leaf ladder_app.top)
+ladder_line : Yields is_complete (built_leaf (with_verbose ladder_app).top)
 unfolding ladder_app
-ladder_line = leaf_line is_complete (built_leaf ladder_app.top) (help_keeps _ refl, tt) (λ rows h. refl)
+ladder_line = leaf_line is_complete (built_leaf (with_verbose ladder_app).top) (flag_keeps _ refl _ refl, (help_keeps _ refl, tt)) (λ rows h. refl)
 
-check_line : Yields is_complete (built_leaf check_app.top)
+check_line : Yields is_complete (built_leaf (with_verbose check_app).top)
 unfolding check_app
-check_line = leaf_line is_complete (built_leaf check_app.top) (set_keeps _ refl refl, (help_keeps _ refl, tt)) (λ rows h. h)
+check_line = leaf_line is_complete (built_leaf (with_verbose check_app).top) (set_keeps _ refl refl, (flag_keeps _ refl _ refl, (help_keeps _ refl, tt))) (λ rows h. h)
 
-flights_line : Yields is_complete (built_leaf flights_app.top)
+flights_line : Yields is_complete (built_leaf (with_verbose flights_app).top)
 unfolding flights_app
-flights_line = leaf_line is_complete (built_leaf flights_app.top)
-    (set_keeps _ refl refl, (set_keeps _ refl refl, (set_keeps _ refl refl, (help_keeps _ refl, tt)))) (λ rows h. h)
+flights_line = leaf_line is_complete (built_leaf (with_verbose flights_app).top)
+    (set_keeps _ refl refl, (set_keeps _ refl refl, (set_keeps _ refl refl, (flag_keeps _ refl _ refl, (help_keeps _ refl, tt))))) (λ rows h. h)
 
-cover_line : Yields is_complete (built_leaf cover_app.top)
+cover_line : Yields is_complete (built_leaf (with_verbose cover_app).top)
 unfolding cover_app horizon_app
-cover_line = leaf_line is_complete (built_leaf cover_app.top)
-    (set_keeps _ refl refl, (set_keeps _ refl refl, (set_keeps _ refl refl, (set_keeps _ refl refl, (help_keeps _ refl, tt))))) (λ rows h. h)
+cover_line = leaf_line is_complete (built_leaf (with_verbose cover_app).top)
+    (set_keeps _ refl refl, (set_keeps _ refl refl, (set_keeps _ refl refl, (set_keeps _ refl refl, (flag_keeps _ refl _ refl, (help_keeps _ refl, tt)))))) (λ rows h. h)
 
-rooms_line : Yields is_complete (built_leaf rooms_app.top)
+rooms_line : Yields is_complete (built_leaf (with_verbose rooms_app).top)
 unfolding rooms_app horizon_app
-rooms_line = leaf_line is_complete (built_leaf rooms_app.top)
-    (set_keeps _ refl refl, (set_keeps _ refl refl, (set_keeps _ refl refl, (set_keeps _ refl refl, (set_keeps _ refl refl, (set_keeps _ refl refl, (flag_keeps _ refl _ refl, (set_keeps _ refl refl, (help_keeps _ refl, tt))))))))) (λ rows h. h)
+rooms_line = leaf_line is_complete (built_leaf (with_verbose rooms_app).top)
+    (set_keeps _ refl refl, (set_keeps _ refl refl, (set_keeps _ refl refl, (set_keeps _ refl refl, (set_keeps _ refl refl, (set_keeps _ refl refl, (flag_keeps _ refl _ refl, (set_keeps _ refl refl, (flag_keeps _ refl _ refl, (help_keeps _ refl, tt)))))))))) (λ rows h. h)
 
-run_line : Yields is_complete (built_leaf run_app.top)
+run_line : Yields is_complete (built_leaf (with_verbose run_app).top)
 unfolding run_app horizon_app
-run_line = leaf_line is_complete (built_leaf run_app.top)
-    (set_keeps _ refl refl, (set_keeps _ refl refl, (set_keeps _ refl refl, (set_keeps _ refl refl, (set_keeps _ refl refl, (set_keeps _ refl refl, (set_keeps _ refl refl, (set_keeps _ refl refl, (flag_keeps _ refl _ refl, (append_keeps _ refl refl, (help_keeps _ refl, tt))))))))))) (λ rows h. h)
+run_line = leaf_line is_complete (built_leaf (with_verbose run_app).top)
+    (set_keeps _ refl refl, (set_keeps _ refl refl, (set_keeps _ refl refl, (set_keeps _ refl refl, (set_keeps _ refl refl, (set_keeps _ refl refl, (set_keeps _ refl refl, (set_keeps _ refl refl, (flag_keeps _ refl _ refl, (append_keeps _ refl refl, (flag_keeps _ refl _ refl, (help_keeps _ refl, tt)))))))))))) (λ rows h. h)
 
-bookings_line : Yields is_complete (built_leaf bookings_app.top)
+bookings_line : Yields is_complete (built_leaf (with_verbose bookings_app).top)
 unfolding bookings_app horizon_app
-bookings_line = leaf_line is_complete (built_leaf bookings_app.top)
-    (set_keeps _ refl refl, (set_keeps _ refl refl, (set_keeps _ refl refl, (set_keeps _ refl refl, (set_keeps _ refl refl, (set_keeps _ refl refl, (help_keeps _ refl, tt))))))) (λ rows h. h)
+bookings_line = leaf_line is_complete (built_leaf (with_verbose bookings_app).top)
+    (set_keeps _ refl refl, (set_keeps _ refl refl, (set_keeps _ refl refl, (set_keeps _ refl refl, (set_keeps _ refl refl, (set_keeps _ refl refl, (flag_keeps _ refl _ refl, (help_keeps _ refl, tt)))))))) (λ rows h. h)
 
-audit_line : Yields is_complete (built_leaf audit_app.top)
+audit_line : Yields is_complete (built_leaf (with_verbose audit_app).top)
 unfolding audit_app horizon_app
-audit_line = leaf_line is_complete (built_leaf audit_app.top)
-    (set_keeps _ refl refl, (set_keeps _ refl refl, (set_keeps _ refl refl, (set_keeps _ refl refl, (set_keeps _ refl refl, (set_keeps _ refl refl, (set_keeps _ refl refl, (append_keeps _ refl refl, (help_keeps _ refl, tt))))))))) (λ rows h. h)
+audit_line = leaf_line is_complete (built_leaf (with_verbose audit_app).top)
+    (set_keeps _ refl refl, (set_keeps _ refl refl, (set_keeps _ refl refl, (set_keeps _ refl refl, (set_keeps _ refl refl, (set_keeps _ refl refl, (set_keeps _ refl refl, (append_keeps _ refl refl, (flag_keeps _ refl _ refl, (help_keeps _ refl, tt)))))))))) (λ rows h. h)
 
-why_line : Yields is_complete (built_leaf why_app.top)
+why_line : Yields is_complete (built_leaf (with_verbose why_app).top)
 unfolding why_app horizon_app
-why_line = leaf_line is_complete (built_leaf why_app.top)
-    (set_keeps _ refl refl, (set_keeps _ refl refl, (set_keeps _ refl refl, (set_keeps _ refl refl, (set_keeps _ refl refl, (set_keeps _ refl refl, (help_keeps _ refl, tt))))))) (λ rows h. h)
+why_line = leaf_line is_complete (built_leaf (with_verbose why_app).top)
+    (set_keeps _ refl refl, (set_keeps _ refl refl, (set_keeps _ refl refl, (set_keeps _ refl refl, (set_keeps _ refl refl, (set_keeps _ refl refl, (flag_keeps _ refl _ refl, (help_keeps _ refl, tt)))))))) (λ rows h. h)
 
-explain_line : Yields is_complete (built_leaf explain_app.top)
+explain_line : Yields is_complete (built_leaf (with_verbose explain_app).top)
 unfolding explain_app
-explain_line = leaf_line is_complete (built_leaf explain_app.top)
-    (set_keeps _ refl refl, (append_keeps _ refl refl, (help_keeps _ refl, tt))) (λ rows h. h)
+explain_line = leaf_line is_complete (built_leaf (with_verbose explain_app).top)
+    (set_keeps _ refl refl, (append_keeps _ refl refl, (flag_keeps _ refl _ refl, (help_keeps _ refl, tt)))) (λ rows h. h)
 
 -- the help that clap adds is met by its own name alone
 no_help : (name : Text) → is_no_help name ≡ true → (answers_to name (codes "help", []) ≡ true) → ⊥

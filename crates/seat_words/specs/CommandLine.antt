@@ -26,10 +26,6 @@ lettered_flag id letter = record (flag id) { short = Some letter }
 abbrev pub required_value : Text → Rule
 required_value id = record (new_rule id) { required = true; value_names = 1 }
 
--- the same, of which there may be more
-abbrev pub required_values : Text → Rule
-required_values id = record (required_value id) { action = Some Append }
-
 -- a value by its place, which may be left out
 abbrev pub optional_value : Text → Rule
 optional_value id = record (new_rule id) { value_names = 1 }
@@ -37,6 +33,10 @@ optional_value id = record (new_rule id) { value_names = 1 }
 -- the same, of which there may be more
 abbrev pub optional_values : Text → Rule
 optional_values id = record (optional_value id) { action = Some Append }
+
+-- with the option -v, which stands ahead of a command or behind it
+abbrev pub with_verbose : App → App
+with_verbose a = with_rule a (lettered_flag (codes "verbose") 118)
 
 unfoldable pub ladder_app : App
 ladder_app = new_app (codes "ladder")
@@ -75,7 +75,7 @@ run_app = with_rule (with_rule (with_rule (with_rule (with_rule (with_rule (hori
     (required_option (codes "journal")))
     (optional (codes "changes")))
     (flag (codes "no-clobber")))
-    (required_values (codes "scripts"))
+    (optional_values (codes "scripts"))
 
 unfoldable pub bookings_app : App
 bookings_app = with_rule (with_rule (horizon_app (codes "bookings"))
@@ -112,17 +112,21 @@ named_app = record {
 
 -- the program before its commands
 unfoldable pub bare_app : App
-bare_app = with_rule named_app (lettered_flag (codes "verbose") 118)
+bare_app = with_verbose named_app
+
+-- with one more command, which has the option -v too
+abbrev pub with_command : App → App → App
+with_command program command = with_subcommand program (with_verbose command).top
 
 -- the commands that work on a schedule, or on one leg
 unfoldable pub selling_app : App
-selling_app = with_subcommand (with_subcommand (with_subcommand (with_subcommand (with_subcommand (with_subcommand
-    bare_app ladder_app.top) check_app.top) flights_app.top) cover_app.top) rooms_app.top) run_app.top
+selling_app = with_command (with_command (with_command (with_command (with_command (with_command
+    bare_app ladder_app) check_app) flights_app) cover_app) rooms_app) run_app
 
 -- the program: one of its commands must be named
 unfoldable pub seatdesk_app : App
-seatdesk_app = with_subcommand (with_subcommand (with_subcommand (with_subcommand
-    selling_app bookings_app.top) audit_app.top) why_app.top) explain_app.top
+seatdesk_app = with_command (with_command (with_command (with_command
+    selling_app bookings_app) audit_app) why_app) explain_app
 
 -- the command is read as a, and its options are its own
 pub record IsBuiltAs (a : App) (c : Command) : Type 0 where

@@ -1,5 +1,5 @@
 -- What a job says of the words that it was read from.
-use Rattle.std.specs.Prelude.{◌≡◌, Bool, List, [], ◌∷◌, ◌++◌, Option, Some, codes, find, is_some, false, unwrap_or}
+use Rattle.std.specs.Prelude.{◌≡◌, ◌||◌, Bool, List, [], ◌∷◌, ◌++◌, Option, Some, codes, find, is_some, false, unwrap_or}
 use Rattle.std.specs.Str.{bytes_eq}
 use Rattle.std.specs.List.{list_all}
 use Rattle.std.specs.Option.{option_map, option_map_or}
@@ -31,6 +31,11 @@ is_flagged id rows = option_map_or (λ text. bytes_eq text (codes "true")) (firs
 abbrev pub HasFlag : Line → Text → Bool → Type 0
 HasFlag line id is_there = is_flagged id line.1 ≡ is_there
 
+-- -v is among the words ahead of the command, or behind it
+abbrev pub is_verbose : List Row → Option Line → Bool
+is_verbose ahead line =
+    is_flagged (codes "verbose") ahead || option_map_or (λ behind. is_flagged (codes "verbose") behind.1) line false
+
 -- the flights and limits over which the command works
 abbrev pub IsOver : List Row → Horizon → Type 0
 IsOver rows over = (first_of (codes "set") rows ≡ Some over.set.now)
@@ -60,7 +65,7 @@ Asks (Run over after today journal changes no_clobber scripts) line = (line.0 �
     × Has line (codes "journal") journal.now
     × MayHave line (codes "changes") (option_map (λ text. text.now) changes)
     × HasFlag line (codes "no-clobber") no_clobber
-    × (all_of (codes "scripts") line.1 ≡ Some scripts)
+    × HasAny line (codes "scripts") scripts
 Asks (Bookings over locator journal) line = (line.0 ≡ codes "bookings")
     × IsOver line.1 over
     × Has line (codes "locator") locator.now
@@ -92,7 +97,7 @@ asked_values = (codes "ladder", [])
     ∷ (codes "flights", codes "first" ∷ codes "days" ∷ codes "set" ∷ [])
     ∷ (codes "cover", horizon_values)
     ∷ (codes "rooms", horizon_values)
-    ∷ (codes "run", horizon_values ++ codes "today" ∷ codes "journal" ∷ codes "scripts" ∷ [])
+    ∷ (codes "run", horizon_values ++ codes "today" ∷ codes "journal" ∷ [])
     ∷ (codes "bookings", horizon_values ++ codes "locator" ∷ codes "journal" ∷ [])
     ∷ (codes "audit", horizon_values ++ codes "journal" ∷ [])
     ∷ (codes "why", horizon_values ++ codes "line" ∷ codes "journal" ∷ [])

@@ -4,3 +4,4 @@ pub mod Examples
 pub mod FaultText
 pub mod Jobs
 pub mod NameWords
+pub mod SessionWords

@@ -1,14 +1,14 @@
 //! The commands, as clap reads them and as their help shows them.
 ghost use Rattle.std.specs.Prelude.{IfOk, IsOkAnd, codes};
-ghost use Rattle.clap.specs.Words.{AddsArg, AddsSubcommand, new_app};
-ghost use Rattle.seat_words.specs.CommandLine.{IsBuiltAs, IsReadAlike, IsReadAs, audit_app, bare_app, bookings_app, check_app, cover_app, explain_app, flag, flights_app, horizon_app, ladder_app, lettered_flag, named_app, optional, optional_value, optional_values, required_option, required_value, required_values, rooms_app, run_app, seatdesk_app, selling_app, why_app};
+ghost use Rattle.clap.specs.Words.{AddsArg, App, new_app};
+ghost use Rattle.seat_words.specs.CommandLine.{IsBuiltAs, IsReadAlike, IsReadAs, audit_app, bare_app, bookings_app, check_app, cover_app, explain_app, flag, flights_app, horizon_app, ladder_app, lettered_flag, named_app, optional, optional_value, optional_values, required_option, required_value, rooms_app, run_app, seatdesk_app, selling_app, why_app, with_command, with_verbose};
 
 use clap::{Arg, ArgAction, Command};
 use std::alloc::{AllocError, Global};
 
 const VERSION: &str = "1.0.0";
 
-const LONG_VERSION: &str = "1.0.0\nproved and built with rattle-kit-13b logic dac8208d650f15bf";
+const LONG_VERSION: &str = "1.0.0\nproved and built with rattle-kit-13f logic dac8208d650f15bf";
 
 const SET_HELP: &str = "The data set of the schedule (SSIM chapter 7, a file)";
 
@@ -24,7 +24,8 @@ const DAYS_HELP: &str = "How many days from the first on, 1 to 366";
 const TODAY_HELP: &str =
     "The day of the run, as 2024-06-01, from 2000 to 2099; it gives the requests their year";
 
-const OUT_HELP: &str = "The file that the journal is written to, which may be no input";
+const OUT_HELP: &str =
+    "The file that the journal is written to, which may be no input but the journal of --after";
 
 const AFTER_HELP: &str =
     "The journal to go on from (a file that run wrote); its lines stand ahead of the new ones";
@@ -39,10 +40,11 @@ const CHANGES_HELP: &str =
 
 const NO_CLOBBER_HELP: &str = "Refuses an OUT that is there and is not empty";
 
-const SCRIPTS_HELP: &str = "The scripts of the sessions, 1 to 8 files of AIRIMP messages";
+const SCRIPTS_HELP: &str =
+    "The scripts of the sessions, up to 8 files of AIRIMP messages; 3=FILE is that of session 3";
 
 const ASKED_HELP: &str =
-    "The scripts that the journal must be of, up to 8 files of AIRIMP messages; they need --today";
+    "The scripts that the journal must be of, up to 8 files of AIRIMP messages, as run has them; they need --today";
 
 const DAY_HELP: &str = "The places that depart on this day alone, as 2024-06-01";
 
@@ -57,22 +59,26 @@ const LOCATOR_HELP: &str = "The locator of the bookings: six letters and digits,
 
 const LINE_HELP: &str = "The line of the journal, counted from 1";
 
-const CODE_HELP: &str = "The code of a fault line, as Q2 of seatdesk: Q2 A5 1 2";
+const CODE_HELP: &str =
+    "The code of a fault line, as Q2 of seatdesk: Q2 A5 1 2, the line itself, or US of a reply";
 
 const NUMBERS_HELP: &str = "What stands behind it in the fault line";
 
 const STATUSES: &str =
     "Example: seatdesk check examples/summer.ssim\nEach command tells more: seatdesk help run\n\nExit status:\n  0  All is done\n  1  An input is refused, or the journal is full\n  2  The command line is wrong\n  3  A device failed, a file did not open, or memory was refused\n\nA fault is one line on standard error; seatdesk explain says what its code means.";
 
+const VERBOSE_HELP: &str =
+    "Names the file of a fault, and where in it the fault stands, or the system's reason";
+
 /// The whole command line.
 pub(crate) fn seatdesk_command<'a>(alloc: Global) -> Result<Command<'a>, AllocError>
     ensures { IfOk result (IsBuiltAs seatdesk_app) }
 {
     let program = selling_command(alloc);
-    let program = with_command(program, bookings_command(alloc));
-    let program = with_command(program, audit_command(alloc));
-    let program = with_command(program, why_command(alloc));
-    with_command(program, explain_command(alloc))
+    let program = with_command(alloc, program, bookings_command(alloc));
+    let program = with_command(alloc, program, audit_command(alloc));
+    let program = with_command(alloc, program, why_command(alloc));
+    with_command(alloc, program, explain_command(alloc))
 }
 
 // The program with the commands that work on a schedule, or on one leg.
@@ -80,36 +86,42 @@ fn selling_command<'a>(alloc: Global) -> Result<Command<'a>, AllocError>
     ensures { IfOk result (IsBuiltAs selling_app) }
 {
     let program = bare_command(alloc);
-    let program = with_command(program, Ok(ladder_command(alloc)));
-    let program = with_command(program, check_command(alloc));
-    let program = with_command(program, flights_command(alloc));
-    let program = with_command(program, cover_command(alloc));
-    let program = with_command(program, rooms_command(alloc));
-    with_command(program, run_command(alloc))
+    let program = with_command(alloc, program, Ok(ladder_command(alloc)));
+    let program = with_command(alloc, program, check_command(alloc));
+    let program = with_command(alloc, program, flights_command(alloc));
+    let program = with_command(alloc, program, cover_command(alloc));
+    let program = with_command(alloc, program, rooms_command(alloc));
+    with_command(alloc, program, run_command(alloc))
 }
 
-// The program with one more command, if both could be made.
+// The program with one more command, which has -v too, if both could be made.
 fn with_command<'a>(
+    alloc: Global,
     program: Result<Command<'a>, AllocError>,
     command: Result<Command<'a>, AllocError>,
 ) -> Result<Command<'a>, AllocError>
-    ensures { IfOk result (λ new. IsOkAnd program.entry
-        (λ old. IsOkAnd command.entry (λ sub. AddsSubcommand old sub new))) }
+    ensures { (a sub : App) → IfOk program.entry (IsBuiltAs a) → IfOk command.entry (IsBuiltAs sub)
+        → IfOk result (IsBuiltAs (with_command a sub)) }
 {
+    let command = with_verbose(alloc, command);
     program?.subcommand(command?)
 }
 
-// The program with its own options.
+// The program before its commands. The option -v stands ahead of a command, or behind it.
 fn bare_command<'a>(alloc: Global) -> Result<Command<'a>, AllocError>
     ensures { IfOk result (IsBuiltAs bare_app) }
 {
-    let verbose = lettered_flag(
-        alloc,
-        "verbose",
-        'v',
-        "Names the file of a fault that is DEVICE or R2, and the system's reason",
-    );
-    with_argument(named_program(alloc), verbose)
+    with_verbose(alloc, named_program(alloc))
+}
+
+// The program or a command with the option -v, if it could be made.
+fn with_verbose<'a>(
+    alloc: Global,
+    command: Result<Command<'a>, AllocError>,
+) -> Result<Command<'a>, AllocError>
+    ensures { (a : App) → IfOk command.entry (IsBuiltAs a) → IfOk result (IsBuiltAs (with_verbose a)) }
+{
+    with_argument(command, lettered_flag(alloc, "verbose", 'v', VERBOSE_HELP))
 }
 
 #[tactic(auto, unfolding(crate::specs::CommandLine::named_app))]
@@ -203,14 +215,17 @@ fn run_command<'a>(alloc: Global) -> Result<Command<'a>, AllocError>
         alloc,
         "run",
         "Books the requests of scripts, one session on a thread for each script, and writes the replies",
-        "OUT is created, empty, after the inputs open and before they are read; a refused run leaves it empty.\nThe journal of --after belongs to its set, limits, first day and days: name the same ones.\n\nExample: seatdesk run --set examples/summer.ssim --limits examples/limits.txt --first 2024-07-01 --days 31 --today 2024-06-20 --journal journal.txt examples/london.txt examples/lisbon.txt\n\nWith changes of the limits: seatdesk run --set examples/summer.ssim --limits examples/limits.txt --first 2024-07-01 --days 31 --today 2024-06-20 --journal journal.txt --changes examples/changes.txt examples/london.txt examples/lisbon.txt\n\nThe day after: seatdesk run --set examples/summer.ssim --limits examples/limits.txt --first 2024-07-01 --days 31 --after examples/journal.txt --today 2024-06-21 --journal journal-2.txt examples/london-2.txt",
+        "OUT has its old bytes until the new journal is whole and takes its name; a refused run leaves it as it was.\nWhat it had is kept beside it, as OUT.kept-1, unless --after names OUT itself, as the daily command does.\nThe journal of --after belongs to its set, limits, first day and days: name the same ones.\n\nExample: seatdesk run --set examples/summer.ssim --limits examples/limits.txt --first 2024-07-01 --days 31 --today 2024-06-20 --journal journal.txt examples/london.txt examples/lisbon.txt\n\nWith changes of the limits: seatdesk run --set examples/summer.ssim --limits examples/limits.txt --first 2024-07-01 --days 31 --today 2024-06-20 --journal journal.txt --changes examples/changes.txt examples/london.txt examples/lisbon.txt\n\nChanges alone: seatdesk run --set examples/summer.ssim --limits examples/limits.txt --first 2024-07-01 --days 31 --today 2024-06-20 --journal journal.txt --changes examples/changes.txt\n\nDesks that keep their numbers, as sessions 1 and 3: seatdesk run --set examples/summer.ssim --limits examples/limits.txt --first 2024-07-01 --days 31 --today 2024-06-20 --journal journal.txt 1=examples/london.txt 3=examples/lisbon.txt\n\nThe day after: seatdesk run --set examples/summer.ssim --limits examples/limits.txt --first 2024-07-01 --days 31 --after examples/journal.txt --today 2024-06-21 --journal journal-2.txt examples/london-2.txt",
     );
     let run = with_argument(run, optional_option(alloc, "after", "JOURNAL", AFTER_HELP));
     let run = with_argument(run, wanted_option(alloc, "today", "DATE", TODAY_HELP));
     let run = with_argument(run, wanted_option(alloc, "journal", "OUT", OUT_HELP));
     let run = with_argument(run, optional_option(alloc, "changes", "FILE", CHANGES_HELP));
     let run = with_argument(run, flag(alloc, "no-clobber", NO_CLOBBER_HELP));
-    with_argument(run, wanted_values(alloc, "scripts", "SCRIPT", SCRIPTS_HELP))
+    with_argument(
+        run,
+        optional_values(alloc, "scripts", "SCRIPT", SCRIPTS_HELP),
+    )
 }
 
 fn bookings_command<'a>(alloc: Global) -> Result<Command<'a>, AllocError>
@@ -275,8 +290,8 @@ fn explain_command<'a>(alloc: Global) -> Result<Command<'a>, AllocError>
     let explain = named_command(
         alloc,
         "explain",
-        "Says what a fault line means",
-        "Example: seatdesk explain Q2 A5 1 2",
+        "Says what a fault line means, or the code of a reply",
+        "Example: seatdesk explain Q2 A5 1 2\n\nAs it was printed: seatdesk explain seatdesk: Q2 A5 1 2",
     );
     let explain = with_argument(Ok(explain), wanted_value(alloc, "code", "CODE", CODE_HELP));
     with_argument(
@@ -364,13 +379,6 @@ fn optional_option<'a>(alloc: Global, id: &'a str, value: &'a str, help: &'a str
     ensures { IsReadAs (optional id.entry.now) result }
 {
     Arg::new(alloc, id).value_name(value).help(help).long(id)
-}
-
-// A value by its place, of which there may be more.
-fn wanted_values<'a>(alloc: Global, id: &'a str, value: &'a str, help: &'a str) -> Arg<'a>
-    ensures { IsReadAs (required_values id.entry.now) result }
-{
-    wanted_value(alloc, id, value, help).action(ArgAction::Append)
 }
 
 // A value by its place, which may be left out.

@@ -4,19 +4,23 @@ ghost use Rattle.seat_words.specs.Examples.{IsReadTo};
 
 /// Each command's example is taken, with the values that stand in it.
 pub fn examples_are_read()
-    ensures ladder { IsReadTo (codes "seatdesk ladder") (codes "ladder") [] }
+    ensures ladder { IsReadTo (codes "seatdesk ladder") (codes "ladder")
+        ((codes "verbose", codes "false" ∷ []) ∷ []) }
     ensures check { IsReadTo (codes "seatdesk check examples/summer.ssim") (codes "check")
-        ((codes "set", codes "examples/summer.ssim" ∷ []) ∷ []) }
+        ((codes "set", codes "examples/summer.ssim" ∷ [])
+        ∷ (codes "verbose", codes "false" ∷ []) ∷ []) }
     ensures flights { IsReadTo (codes "seatdesk flights --first 2024-07-01 --days 31 examples/summer.ssim")
         (codes "flights")
         ((codes "first", codes "2024-07-01" ∷ []) ∷ (codes "days", codes "31" ∷ [])
-        ∷ (codes "set", codes "examples/summer.ssim" ∷ []) ∷ []) }
+        ∷ (codes "set", codes "examples/summer.ssim" ∷ [])
+        ∷ (codes "verbose", codes "false" ∷ []) ∷ []) }
     ensures audit { IsReadTo
         (codes "seatdesk audit --set examples/summer.ssim --limits examples/limits.txt --first 2024-07-01 --days 31 examples/journal.txt")
         (codes "audit")
         ((codes "set", codes "examples/summer.ssim" ∷ []) ∷ (codes "limits", codes "examples/limits.txt" ∷ [])
         ∷ (codes "first", codes "2024-07-01" ∷ []) ∷ (codes "days", codes "31" ∷ [])
-        ∷ (codes "journal", codes "examples/journal.txt" ∷ []) ∷ []) }
+        ∷ (codes "journal", codes "examples/journal.txt" ∷ [])
+        ∷ (codes "verbose", codes "false" ∷ []) ∷ []) }
     ensures run { IsReadTo
         (codes "seatdesk run --set examples/summer.ssim --limits examples/limits.txt --first 2024-07-01 --days 31 --today 2024-06-20 --journal journal.txt examples/london.txt examples/lisbon.txt")
         (codes "run")
@@ -24,7 +28,8 @@ pub fn examples_are_read()
         ∷ (codes "first", codes "2024-07-01" ∷ []) ∷ (codes "days", codes "31" ∷ [])
         ∷ (codes "today", codes "2024-06-20" ∷ []) ∷ (codes "journal", codes "journal.txt" ∷ [])
         ∷ (codes "scripts", codes "examples/london.txt" ∷ codes "examples/lisbon.txt" ∷ [])
-        ∷ (codes "no-clobber", codes "false" ∷ []) ∷ []) }
+        ∷ (codes "no-clobber", codes "false" ∷ [])
+        ∷ (codes "verbose", codes "false" ∷ []) ∷ []) }
     ensures changes { IsReadTo
         (codes "seatdesk run --set examples/summer.ssim --limits examples/limits.txt --first 2024-07-01 --days 31 --today 2024-06-20 --journal journal.txt --changes examples/changes.txt examples/london.txt examples/lisbon.txt")
         (codes "run")
@@ -33,7 +38,26 @@ pub fn examples_are_read()
         ∷ (codes "today", codes "2024-06-20" ∷ []) ∷ (codes "journal", codes "journal.txt" ∷ [])
         ∷ (codes "changes", codes "examples/changes.txt" ∷ [])
         ∷ (codes "scripts", codes "examples/london.txt" ∷ codes "examples/lisbon.txt" ∷ [])
-        ∷ (codes "no-clobber", codes "false" ∷ []) ∷ []) }
+        ∷ (codes "no-clobber", codes "false" ∷ [])
+        ∷ (codes "verbose", codes "false" ∷ []) ∷ []) }
+    ensures desks { IsReadTo
+        (codes "seatdesk run --set examples/summer.ssim --limits examples/limits.txt --first 2024-07-01 --days 31 --today 2024-06-20 --journal journal.txt 1=examples/london.txt 3=examples/lisbon.txt")
+        (codes "run")
+        ((codes "set", codes "examples/summer.ssim" ∷ []) ∷ (codes "limits", codes "examples/limits.txt" ∷ [])
+        ∷ (codes "first", codes "2024-07-01" ∷ []) ∷ (codes "days", codes "31" ∷ [])
+        ∷ (codes "today", codes "2024-06-20" ∷ []) ∷ (codes "journal", codes "journal.txt" ∷ [])
+        ∷ (codes "scripts", codes "1=examples/london.txt" ∷ codes "3=examples/lisbon.txt" ∷ [])
+        ∷ (codes "no-clobber", codes "false" ∷ [])
+        ∷ (codes "verbose", codes "false" ∷ []) ∷ []) }
+    ensures manager { IsReadTo
+        (codes "seatdesk run --set examples/summer.ssim --limits examples/limits.txt --first 2024-07-01 --days 31 --today 2024-06-20 --journal journal.txt --changes examples/changes.txt")
+        (codes "run")
+        ((codes "set", codes "examples/summer.ssim" ∷ []) ∷ (codes "limits", codes "examples/limits.txt" ∷ [])
+        ∷ (codes "first", codes "2024-07-01" ∷ []) ∷ (codes "days", codes "31" ∷ [])
+        ∷ (codes "today", codes "2024-06-20" ∷ []) ∷ (codes "journal", codes "journal.txt" ∷ [])
+        ∷ (codes "changes", codes "examples/changes.txt" ∷ [])
+        ∷ (codes "no-clobber", codes "false" ∷ [])
+        ∷ (codes "verbose", codes "false" ∷ []) ∷ []) }
     ensures after { IsReadTo
         (codes "seatdesk run --set examples/summer.ssim --limits examples/limits.txt --first 2024-07-01 --days 31 --after examples/journal.txt --today 2024-06-21 --journal journal-2.txt examples/london-2.txt")
         (codes "run")
@@ -41,12 +65,14 @@ pub fn examples_are_read()
         ∷ (codes "first", codes "2024-07-01" ∷ []) ∷ (codes "days", codes "31" ∷ [])
         ∷ (codes "after", codes "examples/journal.txt" ∷ []) ∷ (codes "today", codes "2024-06-21" ∷ [])
         ∷ (codes "journal", codes "journal-2.txt" ∷ []) ∷ (codes "scripts", codes "examples/london-2.txt" ∷ [])
-        ∷ (codes "no-clobber", codes "false" ∷ []) ∷ []) }
+        ∷ (codes "no-clobber", codes "false" ∷ [])
+        ∷ (codes "verbose", codes "false" ∷ []) ∷ []) }
     ensures cover { IsReadTo
         (codes "seatdesk cover --set examples/summer.ssim --limits examples/limits.txt --first 2024-07-01 --days 31")
         (codes "cover")
         ((codes "set", codes "examples/summer.ssim" ∷ []) ∷ (codes "limits", codes "examples/limits.txt" ∷ [])
-        ∷ (codes "first", codes "2024-07-01" ∷ []) ∷ (codes "days", codes "31" ∷ []) ∷ []) }
+        ∷ (codes "first", codes "2024-07-01" ∷ []) ∷ (codes "days", codes "31" ∷ [])
+        ∷ (codes "verbose", codes "false" ∷ []) ∷ []) }
     ensures rooms { IsReadTo
         (codes "seatdesk rooms --set examples/summer.ssim --limits examples/limits.txt --first 2024-07-01 --days 31 --day 2024-07-27 --pair LHRKEF examples/journal.txt")
         (codes "rooms")
@@ -54,33 +80,45 @@ pub fn examples_are_read()
         ∷ (codes "first", codes "2024-07-01" ∷ []) ∷ (codes "days", codes "31" ∷ [])
         ∷ (codes "day", codes "2024-07-27" ∷ []) ∷ (codes "pair", codes "LHRKEF" ∷ [])
         ∷ (codes "journal", codes "examples/journal.txt" ∷ [])
-        ∷ (codes "bars", codes "false" ∷ []) ∷ []) }
+        ∷ (codes "bars", codes "false" ∷ [])
+        ∷ (codes "verbose", codes "false" ∷ []) ∷ []) }
     ensures bookings { IsReadTo
         (codes "seatdesk bookings --set examples/summer.ssim --limits examples/limits.txt --first 2024-07-01 --days 31 --locator B3N6VC examples/journal.txt")
         (codes "bookings")
         ((codes "set", codes "examples/summer.ssim" ∷ []) ∷ (codes "limits", codes "examples/limits.txt" ∷ [])
         ∷ (codes "first", codes "2024-07-01" ∷ []) ∷ (codes "days", codes "31" ∷ [])
-        ∷ (codes "locator", codes "B3N6VC" ∷ []) ∷ (codes "journal", codes "examples/journal.txt" ∷ []) ∷ []) }
+        ∷ (codes "locator", codes "B3N6VC" ∷ []) ∷ (codes "journal", codes "examples/journal.txt" ∷ [])
+        ∷ (codes "verbose", codes "false" ∷ []) ∷ []) }
     ensures against { IsReadTo
         (codes "seatdesk audit --set examples/summer.ssim --limits examples/limits.txt --first 2024-07-01 --days 31 --today 2024-06-20 examples/journal.txt examples/london.txt examples/lisbon.txt")
         (codes "audit")
         ((codes "set", codes "examples/summer.ssim" ∷ []) ∷ (codes "limits", codes "examples/limits.txt" ∷ [])
         ∷ (codes "first", codes "2024-07-01" ∷ []) ∷ (codes "days", codes "31" ∷ [])
         ∷ (codes "today", codes "2024-06-20" ∷ []) ∷ (codes "journal", codes "examples/journal.txt" ∷ [])
-        ∷ (codes "scripts", codes "examples/london.txt" ∷ codes "examples/lisbon.txt" ∷ []) ∷ []) }
+        ∷ (codes "scripts", codes "examples/london.txt" ∷ codes "examples/lisbon.txt" ∷ [])
+        ∷ (codes "verbose", codes "false" ∷ []) ∷ []) }
     ensures behind { IsReadTo
         (codes "seatdesk audit --set examples/summer.ssim --limits examples/limits.txt --first 2024-07-01 --days 31 --after examples/journal.txt --today 2024-06-21 journal-2.txt examples/london-2.txt")
         (codes "audit")
         ((codes "set", codes "examples/summer.ssim" ∷ []) ∷ (codes "limits", codes "examples/limits.txt" ∷ [])
         ∷ (codes "first", codes "2024-07-01" ∷ []) ∷ (codes "days", codes "31" ∷ [])
         ∷ (codes "after", codes "examples/journal.txt" ∷ []) ∷ (codes "today", codes "2024-06-21" ∷ [])
-        ∷ (codes "journal", codes "journal-2.txt" ∷ []) ∷ (codes "scripts", codes "examples/london-2.txt" ∷ []) ∷ []) }
+        ∷ (codes "journal", codes "journal-2.txt" ∷ []) ∷ (codes "scripts", codes "examples/london-2.txt" ∷ [])
+        ∷ (codes "verbose", codes "false" ∷ []) ∷ []) }
     ensures why { IsReadTo
         (codes "seatdesk why --set examples/summer.ssim --limits examples/limits.txt --first 2024-07-01 --days 31 --line 6 examples/journal.txt")
         (codes "why")
         ((codes "set", codes "examples/summer.ssim" ∷ []) ∷ (codes "limits", codes "examples/limits.txt" ∷ [])
         ∷ (codes "first", codes "2024-07-01" ∷ []) ∷ (codes "days", codes "31" ∷ [])
-        ∷ (codes "line", codes "6" ∷ []) ∷ (codes "journal", codes "examples/journal.txt" ∷ []) ∷ []) }
+        ∷ (codes "line", codes "6" ∷ []) ∷ (codes "journal", codes "examples/journal.txt" ∷ [])
+        ∷ (codes "verbose", codes "false" ∷ []) ∷ []) }
     ensures explain { IsReadTo (codes "seatdesk explain Q2 A5 1 2") (codes "explain")
-        ((codes "code", codes "Q2" ∷ []) ∷ (codes "numbers", codes "A5" ∷ codes "1" ∷ codes "2" ∷ []) ∷ []) }
+        ((codes "code", codes "Q2" ∷ []) ∷ (codes "numbers", codes "A5" ∷ codes "1" ∷ codes "2" ∷ [])
+        ∷ (codes "verbose", codes "false" ∷ []) ∷ []) }
+    ensures pasted { IsReadTo (codes "seatdesk explain seatdesk: Q2 A5 1 2") (codes "explain")
+        ((codes "code", codes "seatdesk:" ∷ [])
+        ∷ (codes "numbers", codes "Q2" ∷ codes "A5" ∷ codes "1" ∷ codes "2" ∷ [])
+        ∷ (codes "verbose", codes "false" ∷ []) ∷ []) }
+    ensures verbose { IsReadTo (codes "seatdesk check -v examples/summer.ssim") (codes "check")
+        ((codes "verbose", codes "true" ∷ []) ∷ (codes "set", codes "examples/summer.ssim" ∷ []) ∷ []) }
 {}

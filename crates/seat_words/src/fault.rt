@@ -20,7 +20,7 @@ pub enum WordFault {
     BadLocator,
     /// The number of a line is not one of 1 to 999999.
     BadLine,
-    /// The file of the journal is an input or that of the replies, or may not be written over.
+    /// The file of the journal is an input or that of the replies, is another run's, or may not be replaced.
     BadJournal,
     /// A word is not UTF-8.
     BadWords,

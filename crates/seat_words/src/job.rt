@@ -1,10 +1,10 @@
 //! What the command line asks for.
-ghost use Rattle.std.specs.Prelude.{◌≡◌, [], IfOk, IfErr, IsSomeAnd, Some, codes, is_some, option_map, true, unwrap_or};
+ghost use Rattle.std.specs.Prelude.{◌≡◌, [], IfOk, IfErr, IsSomeAnd, Some, is_some, option_map, true, unwrap_or};
 ghost use Rattle.clap.specs.Walk.{texts};
 ghost use Rattle.clap.specs.Words.{FailsBy, all_of, fault_of, first_of, found_of, kind_of, matches_of, rows_of, subcommand_of, subcommand_rows_of, takes};
 ghost use Rattle.clap.specs.declared.error.kind.ErrorKind.TheVariants.{InvalidValue, OutOfMemory};
 ghost use Rattle.seat_words.specs.CommandLine.{seatdesk_app};
-ghost use Rattle.seat_words.specs.Jobs.{Asks, IsOver, has_values, horizon_values, is_answerable, is_complete, is_flagged};
+ghost use Rattle.seat_words.specs.Jobs.{Asks, IsOver, has_values, horizon_values, is_answerable, is_complete, is_flagged, is_verbose};
 
 use super::commands::seatdesk_command;
 use super::several::Several;
@@ -48,7 +48,7 @@ pub enum Job<'a> {
         bars: bool,
         journal: Option<&'a str>,
     },
-    /// `seatdesk run` over a horizon `[--after JOURNAL] --today DATE --journal OUT [--changes FILE] [--no-clobber] SCRIPT...`
+    /// `seatdesk run` over a horizon `[--after JOURNAL] --today DATE --journal OUT [--changes FILE] [--no-clobber] [SCRIPT...]`
     Run {
         over: Horizon<'a>,
         after: Option<&'a str>,
@@ -56,7 +56,7 @@ pub enum Job<'a> {
         journal: &'a str,
         changes: Option<&'a str>,
         no_clobber: bool,
-        /// One or more.
+        /// None or more.
         scripts: Several<'a>,
     },
     /// `seatdesk bookings` over a horizon `--locator LOCATOR JOURNAL`
@@ -88,7 +88,7 @@ pub enum Job<'a> {
     },
 }
 
-/// A command line: the command that it names, and whether `-v` or `--verbose` stands ahead of it.
+/// A command line: the command that it names, and whether `-v` or `--verbose` stands ahead of it or behind it.
 #[derive(Drop)]
 pub struct CommandLine<'a> {
     pub job: Job<'a>,
@@ -100,17 +100,27 @@ pub struct CommandLine<'a> {
 pub fn read_words<'a>(alloc: Global, words: &'a [&'a str]) -> Result<CommandLine<'a>, Error>
     ensures asks { IfOk result (λ asked.
         IsSomeAnd (subcommand_of seatdesk_app (texts words.entry.now)) (Asks asked.job)) }
-    ensures verbose { IfOk result (λ asked.
-        is_flagged (codes "verbose") (matches_of seatdesk_app (texts words.entry.now)) ≡ asked.is_verbose) }
+    ensures verbose { IfOk result (λ asked. is_verbose (matches_of seatdesk_app (texts words.entry.now))
+        (subcommand_of seatdesk_app (texts words.entry.now)) ≡ asked.is_verbose) }
     ensures passes { IfErr result (λ e.
         takes seatdesk_app (texts words.entry.now) ≡ true → kind_of e ≡ OutOfMemory) }
     ensures kinds { FailsBy (fault_of seatdesk_app (texts words.entry.now)) result }
 {
     let command = seatdesk_command(alloc)?;
     let matches = command.try_get_matches_from(words)?;
-    let is_verbose = flag_of(&matches, "verbose");
+    let is_verbose = is_verbose(&matches);
     let job = job_of(alloc, &matches)?;
     Ok(CommandLine { job, is_verbose })
+}
+
+// Whether -v or --verbose stands ahead of the command or behind it.
+fn is_verbose(matches: &ArgMatches<'_>) -> bool
+    ensures { is_verbose (rows_of (found_of matches.now)) (subcommand_rows_of matches.now) ≡ result }
+{
+    match matches.subcommand() {
+        Some((_, inner)) => flag_of(matches, "verbose") || flag_of(inner, "verbose"),
+        None => flag_of(matches, "verbose"),
+    }
 }
 
 /// The fault of a word that is no value of its place, with the usage of the program. An error is want of memory.
@@ -163,7 +173,7 @@ fn job_named<'a>(alloc: Global, name: &str, matches: &ArgMatches<'a>) -> Result<
             journal: value_of(matches, "journal"),
             changes: may_value_of(matches, "changes"),
             no_clobber: flag_of(matches, "no-clobber"),
-            scripts: values_of(alloc, matches, "scripts")?,
+            scripts: any_values_of(alloc, matches, "scripts")?,
         },
         "bookings" => Job::Bookings {
             over: horizon_of(matches),
@@ -228,21 +238,6 @@ fn flag_of(matches: &ArgMatches<'_>, id: &str) -> bool
     match matches.get_str(id) {
         Some(text) => text == "true",
         None => false,
-    }
-}
-
-#[tactic(auto, using(crate::proofs::Lines::some_texts, crate::proofs::Lines::no_texts))]
-fn values_of<'a>(
-    alloc: Global,
-    matches: &ArgMatches<'a>,
-    id: &str,
-) -> Result<Several<'a>, AllocError>
-    requires { is_some (first_of id.now (rows_of (found_of matches.now))) ≡ true }
-    ensures { IfOk result (λ several. all_of id.now (rows_of (found_of matches.now)) ≡ Some several) }
-{
-    match matches.get_strs(id) {
-        Some(texts) => Several::of(alloc, texts),
-        None => unreachable!(),
     }
 }
 

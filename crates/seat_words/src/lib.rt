@@ -8,6 +8,7 @@ mod examples;
 mod fault;
 mod job;
 mod names;
+mod sessions;
 mod several;
 
 pub use days::{date_word, days_word};
@@ -15,4 +16,5 @@ pub use examples::examples_are_read;
 pub use fault::WordFault;
 pub use job::{CommandLine, Horizon, Job, read_words, wrong_value};
 pub use names::{line_word, locator_word, pair_word};
+pub use sessions::{audit_lacks, session_file, sessions_of, sessions_of_run};
 pub use several::Several;

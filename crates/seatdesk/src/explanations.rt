@@ -12,7 +12,7 @@ pub struct Explanation {
     pub text: &'static str,
 }
 
-/// The row of a code that stands behind another, or first where that is the empty text.
+/// The row of a code that stands behind another, or first where that is the empty text. Small letters stand for capitals.
 pub fn row_behind(behind: &str, code: &str) -> Option<&'static Explanation> {
     first_behind(records(), behind, code)
         .or(first_behind(records_on(), behind, code))
@@ -41,13 +41,12 @@ pub fn row_of(code: &str) -> Option<&'static Explanation> {
 }
 
 fn first_behind<'a>(rows: &'a [Explanation], behind: &str, code: &str) -> Option<&'a Explanation> {
-    rows.iter()
-        .find(|row| row.behind == behind && row.code == code)
+    rows.iter().find(|row| row.behind.eq_ignore_ascii_case(behind)
+        && row.code.eq_ignore_ascii_case(code))
 }
 
 fn first_of<'a>(rows: &'a [Explanation], code: &str) -> Option<&'a Explanation> {
-    rows.iter()
-        .find(|row| row.code == code && row.behind != "E2")
+    rows.iter().find(|row| row.code.eq_ignore_ascii_case(code) && row.behind != "E2")
 }
 
 fn records() -> &'static [Explanation] {
@@ -114,7 +113,7 @@ const RECORDS: &[Explanation] = &[
         behind: "",
         code: "S2",
         numbers: RECORD,
-        text: "A byte of the record is no printable ASCII character, 0x20 to 0x7E.\nA line end inside the 200 bytes is one too: look whether the record is too short.",
+        text: "A byte of the record is no printable ASCII character, 0x20 to 0x7E.\nA line end inside the 200 bytes is one too: look whether the record is too short.\nA byte order mark ahead of the header is such a byte: seatdesk -v says where there is one.",
     },
     Explanation {
         behind: "",
@@ -264,7 +263,7 @@ const LIMITS: &[Explanation] = &[
         behind: "",
         code: "M1",
         numbers: LINE,
-        text: "The line of limits or changes does not begin with AU and a blank.",
+        text: "The line of limits or changes does not begin with AU and a blank.\nA byte order mark ahead of the text makes its first line such a one: seatdesk -v says where there is one.",
     },
     Explanation {
         behind: "",
@@ -288,7 +287,7 @@ const LIMITS: &[Explanation] = &[
         behind: "",
         code: "M5",
         numbers: LINE,
-        text: "No classes with their limits follow, or one of them is malformed.\nThey are written as Y098/010, with one blank ahead of each and none at the end.",
+        text: "No classes with their limits follow, or one of them is malformed.\nThey are written as Y098/010, with one blank ahead of each and none at the end.\nA byte order mark ahead of a ladder does that: seatdesk -v says where there is one.",
     },
     Explanation {
         behind: "",
@@ -344,13 +343,13 @@ const SCRIPTS: &[Explanation] = &[
         behind: "",
         code: "Q1",
         numbers: SCRIPT,
-        text: "A message of the script does not begin with an address and a locator, as LONLZ B3N6VC.\nScripts count from 1. The line behind an empty one begins a new message.",
+        text: "A message of the script does not begin with an address and a locator, as LONLZ B3N6VC.\nA script counts as its session. The line behind an empty one begins a new message.\nA byte order mark ahead of the text makes its first line such a one: seatdesk -v says where there is one.",
     },
     Explanation {
         behind: "",
         code: "Q2",
         numbers: SCRIPT,
-        text: "A line of the script is no segment line, as LZ601Q27JUL LHRKEF NN12.\nThe code behind it says why. Scripts count from 1.",
+        text: "A line of the script is no segment line, as LZ601Q27JUL LHRKEF NN12.\nThe code behind it says why. A script counts as its session.",
     },
     Explanation {
         behind: "",
@@ -362,7 +361,7 @@ const SCRIPTS: &[Explanation] = &[
         behind: "",
         code: "B1",
         numbers: &["session", "call of that session"],
-        text: "The journal has no line left for a request or a change.\nIt has at most 999,999 lines, with those of --after: take fewer requests into one run.",
+        text: "The journal has no line left for a request or a change.\nIt has at most 999,999 lines, with those of --after. Nothing was booked: take fewer requests into one run,\nor begin a new journal, by a run without --after over days on which the old one has no live booking;\nthe bookings of the old one are not known there.",
     },
     Explanation {
         behind: "",
@@ -448,7 +447,7 @@ const JOURNALS: &[Explanation] = &[
         behind: "",
         code: "J1",
         numbers: LINE,
-        text: "The journal does not begin with the line SEATJOURNAL 2 or SEATJOURNAL 1.\nIt may be another file, or an empty one.\nWith --after it may be the older journal, which is read first.",
+        text: "The journal does not begin with the line SEATJOURNAL 2 or SEATJOURNAL 1.\nIt may be another file, or an empty one.\nWith --after it may be the older journal, which is read first.\nA byte order mark ahead of the text makes its first line such a one: seatdesk -v says where there is one.",
     },
     Explanation {
         behind: "",
@@ -564,7 +563,7 @@ const WORDS: &[Explanation] = &[
         behind: "E2",
         code: "script",
         numbers: NONE,
-        text: "There are more than 8 scripts, or audit has --after and no script.",
+        text: "There are more than 8 scripts, or some have a number ahead of their file, as 3=lisbon.txt, and some have none,\nor a number is not 1 to 8, stands twice or has no file behind it. A file whose name begins so is ./3=lisbon.txt.\nOr there is no script: run needs one unless it has --changes, and audit where it has --after or --today.",
     },
     Explanation {
         behind: "E2",
@@ -594,7 +593,7 @@ const WORDS: &[Explanation] = &[
         behind: "E2",
         code: "journal",
         numbers: NONE,
-        text: "The file of --journal is one of the inputs, also the journal of --after, or that of standard output,\nor --no-clobber keeps it: it is there and not empty. Nothing was written.",
+        text: "The file of --journal is one of the inputs, other than the journal of --after, or that of standard output,\nor another run has it, or its name is - or ends in .seal, .unfinished or .kept-N,\nor --no-clobber keeps it: it is there and not empty. Nothing was written.",
     },
     Explanation {
         behind: "E2",

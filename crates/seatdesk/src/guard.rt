@@ -1,14 +1,21 @@
 //! What the file of a journal may not be: one of the inputs, or the file that the replies go to.
+use crate::journal_file::{UNFINISHED, is_same};
+use crate::kept_file::KEPT_BEFORE;
 use crate::refusal::Refusal;
 use crate::streams::Input;
-use seat_desk::Inputs;
+use seat_desk::{DeskFault, Inputs};
 use seat_words::WordFault;
 use std::fs::Metadata;
-use std::os::unix::fs::MetadataExt;
 use std::{fs, io};
 
 /// What a program's own descriptor 1 is open on, whatever stands in /dev.
 const STANDARD_OUTPUT: &str = "/proc/self/fd/1";
+
+/// The name of standard output among the words.
+const STANDARD: &str = "-";
+
+/// What the name of a journal's seal ends with.
+const SEAL: &str = ".seal";
 
 /// The file that a journal is to be written to, as it is before that.
 #[derive(Drop)]
@@ -18,8 +25,12 @@ pub struct Guard<'a> {
 }
 
 impl<'a> Guard<'a> {
-    /// Looks at the file. Only a regular one is looked at: a pipe or a device may be written to at any time.
+    /// Looks at the file. Only a regular one is looked at: a pipe or a device may be written to at any time. A name that a journal may
+    /// not have is refused.
     pub fn new(rt: &HostRuntime, path: &'a str) -> Result<Guard<'a>, Refusal<'a>> {
+        if is_reserved(path) {
+            return Err(Refusal::from(WordFault::BadJournal));
+        }
         let there = match fs::metadata(rt, path) {
             Ok(file) => Some(file).filter(|file| file.is_file()),
             Err(error) if error.kind() == io::ErrorKind::NotFound => None,
@@ -85,6 +96,47 @@ impl<'a> Guard<'a> {
     }
 }
 
-fn is_same(one: &Metadata, other: &Metadata) -> bool {
-    one.dev() == other.dev() && one.ino() == other.ino()
+/// The files of all inputs and of standard output, as far as they have one.
+pub fn files_taken<'b>(
+    rt: &HostRuntime,
+    inputs: &Inputs<Input<'b>, Input<'b>>,
+    scripts: &[Input<'b>],
+    more: &[&Input<'b>],
+) -> Result<Vec<Metadata>, Refusal<'b>> {
+    let mut files = Vec::new(rt.alloc());
+    add_file(&mut files, inputs.set.metadata()?)?;
+    add_file(&mut files, inputs.limits.metadata()?)?;
+    for script in scripts {
+        add_file(&mut files, script.metadata()?)?;
+    }
+    for input in more {
+        add_file(&mut files, input.metadata()?)?;
+    }
+    add_file(&mut files, fs::metadata(rt, STANDARD_OUTPUT).ok())?;
+    Ok(files)
+}
+
+fn add_file<'b>(files: &mut Vec<Metadata>, file: Option<Metadata>) -> Result<(), Refusal<'b>> {
+    let Some(file) = file else {
+        return Ok(());
+    };
+    match files.push(file) {
+        Ok(()) => Ok(()),
+        Err(_) => Err(Refusal::from(DeskFault::Memory)),
+    }
+}
+
+/// Whether a name may not be that of a journal: it is that of standard output, or ends as the name of a file does that stands beside
+/// a journal.
+fn is_reserved(path: &str) -> bool {
+    path == STANDARD || path.ends_with(SEAL) || path.ends_with(UNFINISHED) || is_kept(path)
+}
+
+fn is_kept(path: &str) -> bool {
+    match path.rfind(KEPT_BEFORE) {
+        Some(place) => path[place + KEPT_BEFORE.len()..]
+            .bytes()
+            .all(|byte| byte.is_ascii_digit()),
+        None => false,
+    }
 }

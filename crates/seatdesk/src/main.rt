@@ -7,10 +7,14 @@ mod explain;
 mod explanations;
 mod fault;
 mod guard;
-mod keeping;
+mod heard;
+mod journal_file;
+mod kept_file;
 mod locale;
 mod refusal;
+mod replies;
 mod selling;
+mod sessions;
 mod streams;
 
 use clap::error::ErrorKind;
@@ -19,6 +23,7 @@ use seat_desk::DeskFault;
 use seat_words::{Job, WordFault, read_words};
 use selling::Asking;
 use std::io;
+use std::io::IsTerminal;
 use std::process::ExitCode;
 use std::sync::Wait;
 use std::thread::Threads;
@@ -58,7 +63,7 @@ fn start<T: Threads + Wait + Sync>(rt: &HostRuntime, threads: &T) -> io::Result<
 }
 
 fn carry_out<'a, T: Threads + Wait + Sync>(
-    rt: &HostRuntime,
+    rt: &'a HostRuntime,
     threads: &T,
     job: &Job<'a>,
 ) -> Result<(), Undone<'a>> {
@@ -115,21 +120,30 @@ fn carry_out<'a, T: Threads + Wait + Sync>(
     Ok(())
 }
 
-/// The status of a command that was refused: its fault is one line on standard error, with one more where the words ask for it.
+/// The status of a command that was refused: its fault is one line on standard error, with one more where the words ask for it,
+/// and with what it means where standard error is a terminal. Where the reader of standard output has gone away nothing is said.
 fn refused(rt: &HostRuntime, is_verbose: bool, refusal: &Refusal<'_>) -> ExitCode {
     let fault = refusal.fault;
-    let _ = eprintln!(rt; "seatdesk: {fault}");
-    if is_verbose {
-        refusal.tell_more(rt);
+    if !refusal.is_unheard() {
+        let _ = eprintln!(rt; "seatdesk: {fault}");
+        if is_verbose {
+            refusal.tell_more(rt);
+        }
+        if rt.stderr().is_terminal() {
+            explain::tell(rt, &fault);
+        }
     }
     ExitCode::from(fault.status())
 }
 
-/// The status of words that name no command: help and version are clap's, and no fault.
+/// The status of words that name no command. Help and version are clap's and no fault, unless standard output fails.
 fn misread(rt: &HostRuntime, error: &clap::Error) -> ExitCode {
     if error.kind() == ErrorKind::OutOfMemory {
         return refused(rt, false, &Refusal::from(DeskFault::Memory));
     }
-    let _ = error.print(rt);
-    ExitCode::from(error.exit_code() as u8)
+    let status = error.exit_code() as u8;
+    match error.print(rt) {
+        Err(reason) if status == 0 => refused(rt, false, &Refusal::unwritten(&reason)),
+        _ => ExitCode::from(status),
+    }
 }

@@ -1,18 +1,27 @@
 //! What a command is refused with, and the file that it is refused for.
 use crate::fault::Fault;
+use crate::journal_file::JournalFile;
 use crate::streams::{Input, Output};
 use airline_base::Failures;
 use seat_desk::DeskFault;
 use seat_words::WordFault;
 use std::alloc::AllocError;
-use std::io;
+use std::fmt::Write;
+use std::{fmt, io};
 
-/// A fault, with the name of the file that failed or is too large where that is known, and the system's number for the failure.
+/// The system's number for a pipe whose reader has gone away (EPIPE).
+const READER_GONE: i32 = 32;
+
+/// A fault, with the name of its file where that is known, and the system's number for a failure.
 #[derive(Clone, Copy)]
 pub struct Refusal<'a> {
     pub fault: Fault,
     file: Option<&'a str>,
     reason: Option<i32>,
+    /// The file begins with a byte order mark.
+    has_mark: bool,
+    /// Whoever read standard output has gone away, and is told nothing.
+    is_unheard: bool,
 }
 
 impl<'a> Refusal<'a> {
@@ -21,6 +30,8 @@ impl<'a> Refusal<'a> {
             fault,
             file: None,
             reason: None,
+            has_mark: false,
+            is_unheard: false,
         }
     }
 
@@ -29,24 +40,42 @@ impl<'a> Refusal<'a> {
         if error.kind() == io::ErrorKind::OutOfMemory {
             return Refusal::from(DeskFault::Memory);
         }
-        Refusal {
-            fault: Fault::Desk(DeskFault::Device),
-            file: Some(path),
-            reason: error.raw_os_error(),
+        Refusal::from(DeskFault::Device).at(path, error.raw_os_error())
+    }
+
+    /// The fault of standard output where help or the version is written to it.
+    pub fn unwritten(error: &io::Error) -> Refusal<'a> {
+        let refusal = Refusal::from(DeskFault::Device).at("standard output", error.raw_os_error());
+        refusal.hushed()
+    }
+
+    /// Names the input where it may be the one that the fault is of. Inputs are read and checked one behind the other, and noted
+    /// in that order: the fault of an input is one of the last that was read, and a device that failed is the last that did.
+    fn noting(self, input: &Input<'a>) -> Refusal<'a> {
+        if let Fault::Desk(DeskFault::Device) = self.fault {
+            if input.failures() > 0 {
+                return self.at(input.name(), input.reason());
+            }
+            return self;
+        }
+        if input.is_used() && is_of_input(&self.fault) {
+            return self.of_input(input);
+        }
+        self
+    }
+
+    /// Names the journal where one of its lines is not what the scripts ask.
+    pub fn noting_unasked(self, journal: &Input<'a>) -> Refusal<'a> {
+        match self.fault {
+            Fault::Desk(DeskFault::Unasked { .. }) => self.of_input(journal),
+            _ => self,
         }
     }
 
-    /// Names the input where it may be the one that the fault is of: of inputs that are read one behind the other, and noted in
-    /// that order, the last one that was read is too large, and the last one that failed has failed.
-    fn noting(self, input: &Input<'a>) -> Refusal<'a> {
-        match self.fault {
-            Fault::Desk(DeskFault::TooLarge) if input.is_used() => self.at(input.name(), None),
-            Fault::Desk(DeskFault::Device) if input.failures() > 0 => self.at(
-                input.name(),
-                input.reason(),
-            ),
-            _ => self,
-        }
+    fn of_input(self, input: &Input<'a>) -> Refusal<'a> {
+        let mut refusal = self.at(input.name(), None);
+        refusal.has_mark = input.has_mark();
+        refusal
     }
 
     /// The same for several, in order.
@@ -76,34 +105,63 @@ impl<'a> Refusal<'a> {
         refusal
     }
 
-    /// The same for an output.
-    pub fn noting_output(self, output: &Output<'a>) -> Refusal<'a> {
+    /// The same for the file of a journal.
+    pub fn noting_journal(self, journal: &JournalFile<'a>) -> Refusal<'a> {
         match self.fault {
-            Fault::Desk(DeskFault::Device) if output.failures() > 0 => self.at(
-                output.name(),
-                output.reason(),
+            Fault::Desk(DeskFault::Device) if journal.failures() > 0 => self.at(
+                journal.name(),
+                journal.reason(),
             ),
             _ => self,
         }
     }
 
-    fn at(self, file: &'a str, reason: Option<i32>) -> Refusal<'a> {
-        Refusal {
-            fault: self.fault,
-            file: Some(file),
-            reason,
+    /// The same for an output.
+    pub fn noting_output(self, output: &Output<'a>) -> Refusal<'a> {
+        match self.fault {
+            Fault::Desk(DeskFault::Device) if output.failures() > 0 => {
+                let refusal = self.at(output.name(), output.reason());
+                refusal.hushed()
+            }
+            _ => self,
         }
     }
 
-    /// Says what is known of the file, in one line on standard error.
+    /// Nobody is told of a failure of standard output whose reader has gone away.
+    fn hushed(self) -> Refusal<'a> {
+        let mut refusal = self;
+        refusal.is_unheard = self.reason == Some(READER_GONE);
+        refusal
+    }
+
+    fn at(self, file: &'a str, reason: Option<i32>) -> Refusal<'a> {
+        let mut refusal = self;
+        refusal.file = Some(file);
+        refusal.reason = reason;
+        refusal
+    }
+
+    /// Whether whoever read standard output has gone away. Nothing is said of that.
+    pub fn is_unheard(&self) -> bool {
+        self.is_unheard
+    }
+
+    /// Says what is known of the file, in a line on standard error, and in one more where it begins with a byte order mark.
     pub fn tell_more(&self, rt: &HostRuntime) {
         let Some(file) = self.file else {
             return;
         };
-        if let Fault::Desk(DeskFault::TooLarge) = self.fault {
-            let _ = eprintln!(rt; "seatdesk: {file}: Too large");
-            return;
+        let file = Shown { name: file };
+        match self.fault {
+            Fault::Desk(DeskFault::TooLarge) => {
+                let _ = eprintln!(rt; "seatdesk: {file}: Too large");
+            }
+            Fault::Desk(DeskFault::Device) => self.tell_reason(rt, &file),
+            _ => self.tell_place(rt, &file),
         }
+    }
+
+    fn tell_reason(&self, rt: &HostRuntime, file: &Shown<'_>) {
         match self.reason {
             Some(code) => {
                 let error = io::Error::from_raw_os_error(code);
@@ -113,6 +171,75 @@ impl<'a> Refusal<'a> {
                 let _ = eprintln!(rt; "seatdesk: {file}: Failed");
             }
         }
+    }
+
+    fn tell_place(&self, rt: &HostRuntime, file: &Shown<'_>) {
+        match place_of(&self.fault) {
+            Some((what, number)) => {
+                let _ = eprintln!(rt; "seatdesk: {file}: {what} {number}");
+            }
+            None => {
+                let _ = eprintln!(rt; "seatdesk: {file}");
+            }
+        }
+        if self.has_mark {
+            let _ = eprintln!(rt; "seatdesk: {file}: Begins with a byte order mark");
+        }
+    }
+}
+
+/// The name of a file as it may be shown: each byte of a control character as `\xHH`.
+#[derive(Clone, Copy)]
+struct Shown<'a> {
+    name: &'a str,
+}
+
+impl fmt::Display for Shown<'_> {
+    fn fmt<W: fmt::Write>(&self, f: &mut fmt::Formatter<W>) -> fmt::Result {
+        for letter in self.name.chars() {
+            if letter.is_control() {
+                let mut room = [0; 4];
+                for byte in letter.encode_utf8(&mut room).bytes() {
+                    write!(f, "\\x{byte:02X}")?;
+                }
+            } else {
+                f.write_char(letter)?;
+            }
+        }
+        Ok(())
+    }
+}
+
+/// Whether the fault is one of an input, and of the one that was read last.
+fn is_of_input(fault: &Fault) -> bool {
+    match fault {
+        Fault::Desk(fault) => !matches!(
+            fault,
+            DeskFault::Unasked { .. }
+                | DeskFault::Book { .. }
+                | DeskFault::Device
+                | DeskFault::Memory
+        ),
+        Fault::Word(_) => false,
+    }
+}
+
+/// Where in its input a fault stands, as its line counts it.
+fn place_of(fault: &Fault) -> Option<(&'static str, u32)> {
+    let Fault::Desk(fault) = fault else {
+        return None;
+    };
+    match fault {
+        DeskFault::Set(fault) => Some(("record", fault.nth)),
+        DeskFault::Limit(fault) => Some(("line", fault.line)),
+        DeskFault::Change(fault) => Some(("line", fault.line)),
+        DeskFault::NoLeg { line } => Some(("line", *line)),
+        DeskFault::Command { line } => Some(("line", *line)),
+        DeskFault::Full { line } => Some(("line", *line)),
+        DeskFault::Journal(fault) => Some(("line", fault.line)),
+        DeskFault::Replay(fault) => Some(("entry", fault.number)),
+        DeskFault::Script { fault, .. } => Some(("line", fault.line)),
+        _ => None,
     }
 }
 

@@ -6,22 +6,23 @@ ghost use Rattle.ssim_flights.specs.Right.{IsOfCentury};
 
 use crate::commands;
 use crate::commands::{days_of, inputs_of};
-use crate::guard::Guard;
+use crate::guard::{Guard, files_taken};
+use crate::heard::Heard;
+use crate::journal_file::{JournalFile, is_one_file, is_same};
+use crate::kept_file::{Content, KEPT_BEFORE};
 use crate::refusal::{Refusal, told};
-use crate::streams::{Input, Output, all_opened, made, opened_or, standard_output, taken};
+use crate::sessions::scripts_opened;
+use crate::streams::{Input, Output, opened_or, standard_output, taken};
 use airline_base::Day;
-use seat_desk::NO_LINES;
+use seat_desk::{Inputs, NO_LINES};
 use seat_run::desk_run;
 use seat_scripts::desk_audit_against;
-use seat_words::{Horizon, WordFault, date_word};
+use seat_words::{Horizon, WordFault, audit_lacks, date_word, sessions_of_run};
 use seat_workers::NoGate;
 use std::sync::Wait;
 use std::thread::Threads;
 
-/// As many sessions as a run may have.
-const MOST_SCRIPTS: usize = 8;
-
-/// Without a script the journal is looked at alone. Scripts need the day of the run, and an older journal needs scripts.
+/// Without a script the journal is looked at alone. Scripts need the day of the run, and it needs scripts, as an older journal does.
 pub fn audit<'a>(
     rt: &HostRuntime,
     over: &Horizon<'a>,
@@ -35,18 +36,12 @@ pub fn audit<'a>(
         Some(today) => Some(day_of_run(today)?),
         None => None,
     };
-    if scripts.is_empty() {
-        if after.is_some() {
-            return Err(Refusal::from(WordFault::BadScripts));
-        }
-        return commands::audit(rt, over, days, journal);
+    if let Some(fault) = audit_lacks(!scripts.is_empty(), after.is_some(), today.is_some()) {
+        return Err(Refusal::from(fault));
     }
     let Some(today) = today else {
-        return Err(Refusal::from(WordFault::BadToday));
+        return commands::audit(rt, over, days, journal);
     };
-    if scripts.len() > MOST_SCRIPTS {
-        return Err(Refusal::from(WordFault::BadScripts));
-    }
     audit_against(rt, over, days, after, today, journal, scripts)
 }
 
@@ -62,15 +57,17 @@ fn audit_against<'a>(
     requires first { IsOfCentury days.0 }
     requires days { (1 ≤ days.1) × (days.1 ≤ 366) }
     requires today { IsCenturyDay today }
-    requires scripts { (1 ≤ length scripts.now) × (length scripts.now ≤ 8) }
 {
+    let Some(sessions) = sessions_of_run(scripts, false) else {
+        return Err(Refusal::from(WordFault::BadScripts));
+    };
     let mut inputs = match inputs_of(rt, over, days) {
         Ok(inputs) => inputs,
         Err(refusal) => return Err(refusal),
     };
     let mut after = opened_or(rt, after, &NO_LINES)?;
     let mut journal = taken(rt, journal)?;
-    let mut scripts = all_opened(rt, scripts)?;
+    let mut scripts = scripts_opened(rt, scripts, sessions)?;
     let mut out = standard_output(rt);
     let outcome = desk_audit_against(
         rt.alloc(),
@@ -86,7 +83,10 @@ fn audit_against<'a>(
         &[&inputs.set, &inputs.limits, &after, &journal],
         &[],
     );
-    behind(ahead, scripts.as_slice(), &[], &[&out])
+    match behind(ahead, scripts.as_slice(), &[], &[&out]) {
+        Ok(()) => Ok(()),
+        Err(refusal) => Err(refusal.noting_unasked(&journal)),
+    }
 }
 
 /// What a run is asked for beside its flights and limits, as it was written.
@@ -100,34 +100,96 @@ pub struct Asking<'a, 'b> {
     pub scripts: &'b [&'a str],
 }
 
-/// OUT, the file of the journal, is looked at and made once each input is open, and before the first is read. Without an older
-/// journal the run goes on from no line, and without a file of changes there are none.
+/// OUT, the file of the journal, is looked at, locked and made where it is not there, once each input is open and before the first is
+/// read. Without an older journal the run goes on from no line, and without a file of changes there are none. Without changes it needs
+/// a script.
 pub fn run<'a, T: Threads + Wait + Sync>(
-    rt: &HostRuntime,
+    rt: &'a HostRuntime,
     threads: &T,
     over: &Horizon<'a>,
     asking: &Asking<'a, '_>,
 ) -> Result<(), Refusal<'a>> {
     let days = days_of(over.first, over.days)?;
     let today = day_of_run(asking.today)?;
-    if asking.scripts.is_empty() || asking.scripts.len() > MOST_SCRIPTS {
+    let Some(sessions) = sessions_of_run(asking.scripts, asking.changes.is_some()) else {
         return Err(Refusal::from(WordFault::BadScripts));
-    }
-    let mut inputs = match inputs_of(rt, over, days) {
+    };
+    let inputs = match inputs_of(rt, over, days) {
         Ok(inputs) => inputs,
         Err(refusal) => return Err(refusal),
     };
-    let mut after = opened_or(rt, asking.after, &NO_LINES)?;
-    let mut scripts = all_opened(rt, asking.scripts)?;
-    let mut changes = opened_or(rt, asking.changes, b"")?;
+    let after = opened_or(rt, asking.after, &NO_LINES)?;
+    let scripts = scripts_opened(rt, asking.scripts, sessions)?;
+    let changes = opened_or(rt, asking.changes, b"")?;
+    let texts = Texts {
+        inputs,
+        after,
+        scripts,
+        changes,
+    };
+    let mut journal = locked_out(rt, asking, &texts)?;
+    let outcome = sell(rt, threads, asking, today, texts, &mut journal);
+    journal.leave();
+    tell_kept(rt, &journal);
+    outcome
+}
+
+/// What a run reads.
+#[derive(Drop)]
+struct Texts<'a> {
+    inputs: Inputs<Input<'a>, Input<'a>>,
+    after: Input<'a>,
+    scripts: Vec<Input<'a>>,
+    changes: Input<'a>,
+}
+
+/// OUT under its lock. It is none of the inputs but the older journal, nor the file of the replies.
+fn locked_out<'a>(
+    rt: &'a HostRuntime,
+    asking: &Asking<'a, '_>,
+    texts: &Texts<'a>,
+) -> Result<JournalFile<'a>, Refusal<'a>> {
+    let scripts = texts.scripts.as_slice();
     let guard = Guard::new(rt, asking.journal)?;
-    guard.pass(&inputs, scripts.as_slice(), &[&after, &changes])?;
+    guard.pass(&texts.inputs, scripts, &[&texts.changes])?;
     guard.pass_output(rt)?;
     if asking.no_clobber {
         guard.keep()?;
     }
-    let mut journal = made(rt, asking.journal)?;
-    let mut out = standard_output(rt);
+    let files = files_taken(rt, &texts.inputs, scripts, &[&texts.changes, &texts.after])?;
+    JournalFile::open(rt, asking.journal, files.as_slice())
+}
+
+/// Books what the texts ask into the file of the journal, which is locked. An older journal that is a regular file is opened once more,
+/// since it may be that file.
+fn sell<'a, T: Threads + Wait + Sync>(
+    rt: &'a HostRuntime,
+    threads: &T,
+    asking: &Asking<'a, '_>,
+    today: Day,
+    texts: Texts<'a>,
+    journal: &mut JournalFile<'a>,
+) -> Result<(), Refusal<'a>>
+    requires first { IsOfCentury texts.inputs.first }
+    requires days { (1 ≤ texts.inputs.days) × (texts.inputs.days ≤ 366) }
+    requires today { IsCenturyDay today }
+    requires scripts { (1 ≤ length texts.scripts.items) × (length texts.scripts.items ≤ 8) }
+{
+    if asking.no_clobber && !journal.is_empty()? {
+        return Err(Refusal::from(WordFault::BadJournal));
+    }
+    let Texts {
+        inputs,
+        after,
+        scripts,
+        changes,
+    } = texts;
+    let mut inputs = inputs;
+    let mut after = again_opened(rt, asking.after, after)?;
+    let mut scripts = scripts;
+    let mut changes = changes;
+    let keeps = !is_gone_on_from(&after, journal)?;
+    let mut out = Heard::new(standard_output(rt));
     let outcome = desk_run(
         threads,
         rt.alloc(),
@@ -137,11 +199,73 @@ pub fn run<'a, T: Threads + Wait + Sync>(
         &mut changes,
         today,
         &NoGate,
-        &mut journal,
+        keeps,
+        journal,
         &mut out,
     );
     let ahead = told(outcome, &[&inputs.set, &inputs.limits, &after], &[]);
-    behind(ahead, scripts.as_slice(), &[&changes], &[&journal, &out])
+    match behind(ahead, scripts.as_slice(), &[&changes], &[]) {
+        Ok(()) => {
+            out.tell(rt);
+            Ok(())
+        }
+        Err(refusal) => Err(refusal.noting_journal(journal).noting_output(out.output())),
+    }
+}
+
+/// An older journal that is a regular file, opened once more: the name may lead to another file by now.
+fn again_opened<'a>(
+    rt: &HostRuntime,
+    path: Option<&'a str>,
+    after: Input<'a>,
+) -> Result<Input<'a>, Refusal<'a>> {
+    if is_regular(&after)? {
+        return opened_or(rt, path, &NO_LINES);
+    }
+    Ok(after)
+}
+
+fn is_regular<'a>(input: &Input<'a>) -> Result<bool, Refusal<'a>> {
+    match input.metadata()? {
+        Some(file) => Ok(file.is_file()),
+        None => Ok(false),
+    }
+}
+
+/// Whether the older journal is the very file that the new one is put into.
+fn is_gone_on_from<'a>(after: &Input<'a>, journal: &JournalFile<'a>) -> Result<bool, Refusal<'a>> {
+    let Some(out) = journal.metadata()? else {
+        return Ok(false);
+    };
+    match after.metadata()? {
+        Some(older) => Ok(is_same(&older, &out)),
+        None => Ok(false),
+    }
+}
+
+/// Says on standard error under which name OUT's old bytes are kept, and how a run goes on from a journal.
+fn tell_kept(rt: &HostRuntime, journal: &JournalFile<'_>) {
+    let Some(kept) = journal.kept() else {
+        return;
+    };
+    let path = kept.path.as_str();
+    match format!(in rt.alloc(); "{}{KEPT_BEFORE}{}", journal.name(), kept.number) {
+        Ok(near) if is_one_file(rt, near.as_str(), path) => tell_content(
+            rt,
+            near.as_str(),
+            kept.content,
+        ),
+        _ => tell_content(rt, path, kept.content),
+    }
+}
+
+fn tell_content(rt: &HostRuntime, path: &str, content: Content) {
+    let _ = match content {
+        Content::Journal { lines } => {
+            eprintln!(rt; "seatdesk: kept {path} {lines} lines, to go on from it: --after")
+        }
+        Content::Other { bytes } => eprintln!(rt; "seatdesk: kept {path} {bytes} bytes"),
+    };
 }
 
 /// The refusal of a command that reads scripts behind its other inputs, and more behind those.

@@ -14,7 +14,7 @@ returns-clause-ok g c =
     c.in_ok-asked.asked.flights c.in_ok-asked.asked.past.grid c.in_ok-asked.asked.past.journal c.in_ok-asked.asked.scripts c.in_ok-asked.asked.changes.items c.in_ok-asked.ensures.ok
     c.in_ok-answer.answer.settled.journal c.in_ok-answer.answer.settled.receipts c.in_ok-answer.answer.replies.items
     (record { is_history = c.in_ok-answer.ensures.ok; are_entries = c.in_ok-answer.ensures.entries; is_replied = c.in_ok-answer.ensures.replies })
-    (g.J.Write.contents c.args.journal.now) (g.J.Write.contents c.write_both.new.journal) (g.W.Write.contents c.args.out.now) (g.W.Write.contents c.write_both.new.out)
+    (g.J.Replaced.named c.args.journal.now) (g.J.Replaced.named c.write_both.new.journal) (g.J.Replaced.may_leave c.write_both.new.journal) (g.W.Write.contents c.args.out.now) (g.W.Write.contents c.write_both.new.out)
     c.as_slice.result.now c.deref.result.now c.write_both.result c.as_slice.ensures c.deref.ensures.value c.write_both.ensures.ok
 
 pub returns-clause-device : goal.returns-clause-device
@@ -28,7 +28,7 @@ returns-clause-device g c =
     (HasFirstLoadFailed g.S.Read.remaining g.S.Failures.failure_count g.L.Failures.failure_count c.args.inputs.now c.read_asked.new.inputs) (HasFailed g.A.Failures.failure_count c.args.after.now c.read_asked.new.after)
     (HasFailedAmong c.args.today (map g.C.Read.remaining c.args.scripts.now) g.C.Failures.failure_count c.args.scripts.now c.read_asked.new.scripts)
     (HasFailed g.D.Failures.failure_count c.args.changes.now c.read_asked.new.changes))
-    g.J.Failures.failure_count g.J.Write.contents c.args.journal.now c.write_both.new.journal g.W.Failures.failure_count g.W.Write.contents c.args.out.now c.write_both.new.out
+    g.J.Failures.failure_count g.J.Replaced.named g.J.Replaced.may_leave c.args.journal.now c.write_both.new.journal g.W.Failures.failure_count g.W.Write.contents c.args.out.now c.write_both.new.out
     c.as_slice.result.now c.deref.result.now c.write_both.result c.as_slice.ensures c.deref.ensures.value c.write_both.ensures.stopped
 
 pub returns-in_err-answer-clause-fault : goal.returns-in_err-answer-clause-fault

@@ -7,7 +7,7 @@ abbrev pub invariant-loop-session : goal.invariant-loop-session
 invariant-loop-session l = record {
   from_one : 1 ≤ l.session;
   within : l.session ≤ 9;
-  below : AreAskedBelow l.lists l.lines l.session;
+  below : AreAskedBelow l.flights l.scripts l.lines l.session;
 }
 
 abbrev pub decreases-loop-session : goal.decreases-loop-session

@@ -10,4 +10,4 @@ returns c =
     let journal = argued _ _ c.with_argument-run-2.result c.with_argument-run-3.result c.wanted_option-2.result today c.wanted_option-2.ensures c.with_argument-run-3.ensures in
     let changes = argued _ _ c.with_argument-run-3.result c.with_argument-run-4.result c.optional_option-2.result journal c.optional_option-2.ensures c.with_argument-run-4.ensures in
     let clobber = argued _ _ c.with_argument-run-4.result c.with_argument-run-5.result c.flag.result changes c.flag.ensures c.with_argument-run-5.ensures in
-    argued _ _ c.with_argument-run-5.result c.with_argument.result c.wanted_values.result clobber c.wanted_values.ensures c.with_argument.ensures
+    argued _ _ c.with_argument-run-5.result c.with_argument.result c.optional_values.result clobber c.optional_values.ensures c.with_argument.ensures

@@ -1,4 +1,4 @@
-use Rattle.std.proofs.Common.{◌≡◌, ◌∙◌, ap, List, sym, subst, true, [], IsSomeAnd, codes}
+use Rattle.std.proofs.Common.{◌≡◌, ◌∙◌, ap, ap₂, List, sym, subst, true, [], IsSomeAnd}
 use Rattle.std.specs.Prelude.{Option}
 use Rattle.clap.specs.Walk.{texts}
 use Rattle.clap.specs.Words.{App, HasKind, HasMatchesOf, Text, app_of, fault_of, found_of, is_simple, is_simple_and_free, matches_of, rows_of, subcommand_of, subcommand_rows_of, takes, kind_of}
@@ -7,7 +7,7 @@ use Rattle.clap.specs.declared.parser.matches.ArgMatches.{ArgMatches}
 use Rattle.clap.proofs.TakesLemmas.{passed_up}
 use Rattle.clap.proofs.FaultLemmas.{failed_up}
 use Rattle.seat_words.specs.CommandLine.{seatdesk_app}
-use Rattle.seat_words.specs.Jobs.{Line, Asks, is_answerable, is_flagged}
+use Rattle.seat_words.specs.Jobs.{Line, Asks, is_answerable, is_verbose}
 use Rattle.seat_words.proofs.Taken.{seatdesk_is_simple, seatdesk_is_free, seatdesk_line}
 use Rattle.seat_words.proofs.job.read_words.Goals as goal
 
@@ -50,7 +50,7 @@ returns-clause-asks c =
 pub returns-clause-verbose : goal.returns-clause-verbose
 returns-clause-verbose c =
     let found = matched _ _ (texts c.args.words.now) c.in_ok-command.ensures.app c.in_ok-matches.ensures.matches c.in_ok-matches.ensures.kinds in
-    ap (is_flagged (codes "verbose")) (sym found.0) ∙ c.flag_of-is_verbose.ensures
+    ap₂ is_verbose (sym found.0) (sym found.1) ∙ c.is_verbose-is_verbose.ensures
 
 pub returns-clause-kinds : goal.returns-clause-kinds
 returns-clause-kinds c =

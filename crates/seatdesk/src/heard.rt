@@ -1,0 +1,105 @@
+//! Replies on their way out, and whether one of them found a flight.
+//! It knows the code at the end of a reply's line, and nothing of what the other codes say.
+use crate::streams::Output;
+use airline_base::{Failures, NotedWrite};
+use std::io;
+use std::io::Write;
+
+/// The code of a request that found no flight.
+const NO_FLIGHT: [u8; 2] = *b"UN";
+
+/// What was heard of replies. A reply's line ends with a word that begins with its code.
+#[derive(Drop)]
+struct Ear {
+    /// How many bytes of a word went out, and its first two.
+    length: u64,
+    code: [u8; 2],
+    has_reply: bool,
+    has_flight: bool,
+}
+
+impl Ear {
+    fn hear(&mut self, bytes: &[u8]) {
+        for byte in bytes {
+            self.hear_one(*byte);
+        }
+    }
+
+    fn hear_one(&mut self, byte: u8) {
+        match byte {
+            b' ' => self.length = 0,
+            b'\n' => {
+                self.has_reply = true;
+                self.has_flight |= self.code != NO_FLIGHT;
+                self.length = 0;
+            }
+            _ => {
+                if self.length == 0 {
+                    self.code = [byte, 0];
+                }
+                if self.length == 1 {
+                    self.code[1] = byte;
+                }
+                self.length = self.length.saturating_add(1);
+            }
+        }
+    }
+}
+
+/// An output of replies, and what was heard of them.
+#[derive(Drop)]
+pub struct Heard<'a> {
+    out: Output<'a>,
+    ear: Ear,
+}
+
+impl<'a> Heard<'a> {
+    pub fn new(out: Output<'a>) -> Heard<'a> {
+        let ear = Ear {
+            length: 0,
+            code: [0; 2],
+            has_reply: false,
+            has_flight: false,
+        };
+        Heard { out, ear }
+    }
+
+    pub fn output(&self) -> &Output<'a> {
+        &self.out
+    }
+
+    /// Says on standard error where there are replies and none of them found a flight. It is no fault.
+    pub fn tell(&self, rt: &HostRuntime) {
+        if self.ear.has_reply && !self.ear.has_flight {
+            let _ = eprintln!(rt;
+                "seatdesk: note: no request found a flight: look at --first, --days and --today"
+            );
+        }
+    }
+}
+
+impl Failures for Heard<'_> {
+    ghost failure_count = { λ s. s.out.failures };
+
+    fn failures(&self) -> u64 {
+        self.out.failures()
+    }
+}
+
+impl Write for Heard<'_> {
+    fn write(&mut self, buf: &[u8]) -> io::Result<usize> {
+        self.write_noted(buf)
+    }
+
+    fn flush(&mut self) -> io::Result<()> {
+        self.out.flush()
+    }
+}
+
+impl NotedWrite for Heard<'_> {
+    fn write_noted(&mut self, buf: &[u8]) -> io::Result<usize> {
+        let wrote = self.out.write_noted(buf)?;
+        self.ear.hear(&buf[..wrote]);
+        Ok(wrote)
+    }
+}

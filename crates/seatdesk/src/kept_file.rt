@@ -1,0 +1,171 @@
+//! What a file has, kept beside it under a name of its own before another file takes its name.
+ghost use Rattle.std.specs.Prelude.{◌≡◌, ◌+◌, ◌≤◌, IfOk, length};
+
+use crate::journal_file::UNFINISHED;
+use std::fs::File;
+use std::io::Read;
+use std::{fs, io};
+
+/// What stands ahead of the number in the name of a file that was kept.
+pub const KEPT_BEFORE: &str = ".kept-";
+
+/// How a journal's first line begins, in each version.
+const JOURNAL_HEAD: &[u8] = b"SEATJOURNAL ";
+
+/// How many bytes are looked at at once.
+const PIECE: usize = 65536;
+
+/// A file that was kept: its name ends with the number.
+#[derive(Drop)]
+pub struct Kept {
+    pub path: String,
+    pub number: u32,
+    pub content: Content,
+}
+
+/// What a file has, as far as it is told.
+#[derive(Clone, Copy)]
+pub enum Content {
+    /// A journal with so many lines, its head and its END line left out.
+    Journal { lines: u64 },
+    Other { bytes: u64 },
+}
+
+/// Keeps what the file at the path has, which is open here too, under the first name `PATH.kept-N` that is free. One that is empty is
+/// not kept, and neither is one of which a file that was kept before has the same bytes.
+pub fn keep_beside(rt: &HostRuntime, path: &str, file: &File) -> io::Result<Option<Kept>> {
+    if file.metadata()?.len() == 0 {
+        return Ok(None);
+    }
+    file.sync_all()?;
+    for number in 1..u32::MAX {
+        let kept = format!(in rt.alloc(); "{path}{KEPT_BEFORE}{number}")?;
+        if fs::exists(rt, kept.as_str())? {
+            if has_same_bytes(rt, path, kept.as_str())? {
+                fs::open(rt, kept.as_str())?.sync_all()?;
+                return Ok(None);
+            }
+            continue;
+        }
+        match fs::hard_link(rt, path, kept.as_str()) {
+            Ok(()) => {}
+            Err(error) if error.kind() == io::ErrorKind::AlreadyExists => continue,
+            // (a file system without links)
+            Err(_) => copy_to(rt, path, kept.as_str())?,
+        }
+        return kept_as(rt, kept, number);
+    }
+    Err(io::Error::other("no name is free"))
+}
+
+fn kept_as(rt: &HostRuntime, path: String, number: u32) -> io::Result<Option<Kept>> {
+    let content = content_of(rt, path.as_str())?;
+    Ok(Some(Kept {
+        path,
+        number,
+        content,
+    }))
+}
+
+/// A copy under a name of its own, which is the kept one's once it is whole and on its disk.
+fn copy_to(rt: &HostRuntime, path: &str, kept: &str) -> io::Result<()> {
+    let part = format!(in rt.alloc(); "{kept}{UNFINISHED}")?;
+    match copy_whole(rt, path, part.as_str()) {
+        Ok(()) => fs::rename(rt, part.as_str(), kept),
+        Err(error) => {
+            let _ = fs::remove_file(rt, part.as_str());
+            Err(error)
+        }
+    }
+}
+
+fn copy_whole(rt: &HostRuntime, path: &str, part: &str) -> io::Result<()> {
+    let mut from = fs::open(rt, path)?;
+    let mut to = fs::create(rt, part)?;
+    let _ = io::copy(&mut from, &mut to)?;
+    to.set_permissions(from.metadata()?.permissions())?;
+    to.sync_all()
+}
+
+/// Whether the two files have the same bytes. Something else than a regular file has others.
+fn has_same_bytes(rt: &HostRuntime, one: &str, other: &str) -> io::Result<bool> {
+    let ours = fs::metadata(rt, one)?;
+    let theirs = match fs::metadata(rt, other) {
+        Ok(theirs) => theirs,
+        Err(_) => return Ok(false),
+    };
+    if !theirs.is_file() || ours.len() != theirs.len() {
+        return Ok(false);
+    }
+    let mut one = fs::open(rt, one)?;
+    let mut other = match fs::open(rt, other) {
+        Ok(other) => other,
+        Err(_) => return Ok(false),
+    };
+    are_alike(rt, &mut one, &mut other)
+}
+
+fn are_alike(rt: &HostRuntime, one: &mut File, other: &mut File) -> io::Result<bool> {
+    let mut ours = vec![in rt.alloc(); 0u8; PIECE]?;
+    let mut theirs = vec![in rt.alloc(); 0u8; PIECE]?;
+    for _ in 0..u64::MAX {
+        let n = fill(one, &mut ours)?;
+        let m = fill(other, &mut theirs)?;
+        if n != m || ours[..n] != theirs[..m] {
+            return Ok(false);
+        }
+        if n == 0 {
+            break;
+        }
+    }
+    Ok(true)
+}
+
+fn content_of(rt: &HostRuntime, path: &str) -> io::Result<Content> {
+    let mut file = fs::open(rt, path)?;
+    let bytes = file.metadata()?.len();
+    let mut piece = vec![in rt.alloc(); 0u8; PIECE]?;
+    let mut ends: u64 = 0;
+    let mut is_journal = false;
+    for turn in 0..u64::MAX {
+        let n = fill(&mut file, &mut piece)?;
+        if turn == 0 {
+            is_journal = piece[..n].starts_with(JOURNAL_HEAD);
+        }
+        if n == 0 {
+            break;
+        }
+        ends = ends.saturating_add(piece[..n].iter().filter(|byte| **byte == b'\n').count() as u64);
+    }
+    if is_journal {
+        return Ok(Content::Journal {
+            lines: ends.saturating_sub(2),
+        });
+    }
+    Ok(Content::Other { bytes })
+}
+
+/// As many bytes as fit, or as there are.
+fn fill(file: &mut File, piece: &mut [u8]) -> io::Result<usize>
+    ensures bound { IfOk result (λ n. n ≤ length piece.new) }
+    ensures length { length piece.new ≡ length piece.old }
+{
+    let mut filled = 0;
+    while filled < piece.len() {
+        let n = read_behind(file, piece, filled)?;
+        if n == 0 {
+            break;
+        }
+        filled += n;
+    }
+    Ok(filled)
+}
+
+/// Reads behind so many bytes, and says how many came.
+fn read_behind(file: &mut File, piece: &mut [u8], filled: usize) -> io::Result<usize>
+    requires { filled ≤ length piece.old }
+    ensures bound { IfOk result (λ n. filled + n ≤ length piece.new) }
+    ensures length { length piece.new ≡ length piece.old }
+{
+    file.read(&mut piece[filled..])
+}

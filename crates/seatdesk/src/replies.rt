@@ -1,0 +1,80 @@
+//! What each code of a reply or an advice says, and when it is given, in one table.
+//! It knows the codes of AIRIMP, and nothing of how an answer is found.
+use crate::explanations::Explanation;
+
+/// The row of a reply's code, in small letters or capitals.
+pub fn reply_row(code: &str) -> Option<&'static Explanation> {
+    rows()
+        .iter()
+        .find(|row| row.code.eq_ignore_ascii_case(code))
+}
+
+fn rows() -> &'static [Explanation] {
+    REPLIES
+}
+
+const NONE: &[&str] = &[];
+
+// In the order of the rows of the reply table, and behind them those of a change and of an advice.
+const REPLIES: &[Explanation] = &[
+    Explanation {
+        behind: "",
+        code: "NO",
+        numbers: NONE,
+        text: "No action taken. The code of the request is not NN, SS, LL or XX; or a request for seats has a live booking\nof the same locator, place and class; or a cancellation has none, or has more seats than its booking.\nOf a change of a limit: its leg lacks the class, or the limit is out of the order of the ranks or below the seats held.",
+    },
+    Explanation {
+        behind: "",
+        code: "UN",
+        numbers: NONE,
+        text: "Unable, the flight does not operate: on its day no flight of its number goes from the one city to the other\nin the days of --first and --days. The day of a request has its year by --today.",
+    },
+    Explanation {
+        behind: "",
+        code: "KK",
+        numbers: NONE,
+        text: "Confirming: the seats of NN or SS fit in the room of each leg, and are held.",
+    },
+    Explanation {
+        behind: "",
+        code: "UU",
+        numbers: NONE,
+        text: "Unable, have waitlisted: the seats of NN do not fit, each leg has the class with the mark N,\nand there is waiting room.",
+    },
+    Explanation {
+        behind: "",
+        code: "UC",
+        numbers: NONE,
+        text: "Unable, and not waitlisted: the seats of NN do not fit, and a leg lacks the mark N or waiting room;\nor those of SS do not fit, and there is no waiting room; or LL finds no waiting room.",
+    },
+    Explanation {
+        behind: "",
+        code: "US",
+        numbers: NONE,
+        text: "Unable, have waitlisted: the seats of SS do not fit, and there is waiting room.",
+    },
+    Explanation {
+        behind: "",
+        code: "HL",
+        numbers: NONE,
+        text: "Have listed: there is waiting room for the seats of LL. A KL follows where they fit at once.",
+    },
+    Explanation {
+        behind: "",
+        code: "HX",
+        numbers: NONE,
+        text: "Have cancelled: XX has a live booking of the same locator, place and class with so many seats.\nA KL follows for each booking that is confirmed in their place.",
+    },
+    Explanation {
+        behind: "",
+        code: "OK",
+        numbers: NONE,
+        text: "The change of a limit is made: the limit keeps the order of the ranks and is not below the seats held.\nA KL follows for each booking that it confirms.",
+    },
+    Explanation {
+        behind: "",
+        code: "KL",
+        numbers: NONE,
+        text: "An advice: the seats of a booking that waited are confirmed, behind an HL, an HX or the OK of a change.",
+    },
+];

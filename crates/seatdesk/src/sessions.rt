@@ -1,0 +1,32 @@
+//! The scripts of a command, one for each session. It knows which word a session has, and nothing of what is in a script.
+ghost use Rattle.std.specs.Prelude.{◌≡◌, IfOk, length};
+
+use crate::refusal::Refusal;
+use crate::streams::{Input, opened};
+use seat_desk::DeskFault;
+use seat_words::session_file;
+
+/// The script of each session, open. A session without a word has an empty one.
+pub fn scripts_opened<'a>(
+    rt: &HostRuntime,
+    words: &[&'a str],
+    sessions: usize,
+) -> Result<Vec<Input<'a>>, Refusal<'a>>
+    ensures { IfOk result (λ files. length files.items ≡ sessions) }
+{
+    let mut files = Vec::new(rt.alloc());
+    for place in 0..sessions {
+        let file = script_opened(rt, session_file(words, place + 1))?;
+        if files.push(file).is_err() {
+            return Err(Refusal::from(DeskFault::Memory));
+        }
+    }
+    Ok(files)
+}
+
+fn script_opened<'a>(rt: &HostRuntime, path: Option<&'a str>) -> Result<Input<'a>, Refusal<'a>> {
+    match path {
+        Some(path) => opened(rt, path),
+        None => Ok(Input::of_text(b"")),
+    }
+}
