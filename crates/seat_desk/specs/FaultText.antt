@@ -26,6 +26,7 @@ fault_text (faults.Script session fault) =
 fault_text (faults.Unasked session call) = codes "P8 " ++ decimal session ++ codes " " ++ decimal call
 fault_text (faults.Book session call) = codes "B1 " ++ decimal session ++ codes " " ++ decimal call
 fault_text faults.NoLine = codes "E2 line"
+fault_text faults.NoBehind = codes "E2 behind"
 fault_text faults.TooLarge = codes "R2"
 fault_text faults.Device = codes "DEVICE"
 fault_text faults.Memory = codes "MEMORY"

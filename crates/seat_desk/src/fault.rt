@@ -40,6 +40,8 @@ pub enum DeskFault {
     Book { session: u8, call: u32 },
     /// The journal has no line of the number that the command line asks for.
     NoLine,
+    /// The journal has fewer lines than the command line says that it began with.
+    NoBehind,
     /// An input has more bytes than it may have.
     TooLarge,
     /// A device failed.
@@ -74,6 +76,7 @@ impl fmt::Display for DeskFault {
             DeskFault::Unasked { session, call } => write!(f, "P8 {session} {call}"),
             DeskFault::Book { session, call } => write!(f, "B1 {session} {call}"),
             DeskFault::NoLine => f.write_str("E2 line"),
+            DeskFault::NoBehind => f.write_str("E2 behind"),
             DeskFault::TooLarge => f.write_str("R2"),
             DeskFault::Device => f.write_str("DEVICE"),
             DeskFault::Memory => f.write_str("MEMORY"),
@@ -102,12 +105,12 @@ impl DeskFault {
         }
     }
 
-    /// The exit status: 2 for a line that is asked for and not there, 3 for a device or memory, 1 for an input that is refused.
+    /// The exit status: 2 for a line that is asked for and not there, or for more lines than there are, 3 for a device or memory, 1 for an input that is refused.
     pub fn status(&self) -> u8
         ensures { result ≡ status_of self.now }
     {
         match self {
-            DeskFault::NoLine => 2,
+            DeskFault::NoLine | DeskFault::NoBehind => 2,
             DeskFault::Device | DeskFault::Memory => 3,
             _ => 1,
         }

@@ -2,7 +2,7 @@
 use Rattle.std.proofs.Common.{◌≡◌, ◌⊎◌, ⊎_elim, inl, ℕ, zero, suc, ◌-◌, ◌+◌, ◌<◌, ◌≤◌, false, List, [], ◌∷◌, length, map, refl, sym, ap, ◌∙◌, subst, arith, get_or, Option, Some}
 use Rattle.seat_scripts.proofs.Common.{Request, Ladders, Change, Command, Entry, Work, Seats, of_session, IsLegal, totals_of, audit_line, most_journal_bytes, IsFirstTooLargeLoad, DeskFault, AreAskedBehind, done_by, HasLoaded, lists_over, AreScripts, IsRefusedAmong, IsTooLargeAmong, commands_of, IsHistoryOf, works_in}
 use Rattle.std.proofs.lemmas.Bool.{cases_lt}
-use Rattle.std.proofs.lemmas.List.{get_or_past, length-map}
+use Rattle.std.proofs.lemmas.List.{append-nil, get_or_past, length-map}
 use Rattle.airimp_lines.specs.declared.fault.ScriptFault.{ScriptFault}
 use Rattle.ssim_flights.specs.declared.flight.Flight.{Flight as Flown}
 use Rattle.seat_journal.specs.Text.{IsJournalText}
@@ -13,13 +13,14 @@ use Rattle.seat_desk.specs.CheckDesk.{most_set_bytes}
 use Rattle.seat_desk.specs.Loading.{HasSchedule, IsBehind, most_limit_bytes}
 use Rattle.seat_desk.specs.declared.fault.DeskFault.TheVariants as faults
 use Rattle.seat_desk.proofs.Grounds.{loaded_replays_keep_limits}
-use Rattle.seat_scripts.specs.Against.{AgainstRefusal, HasBoth, HasOlder, IsAuditAgainst, IsTooLargeAgainst, IsUnlawfulBeside, AreVeryRequests}
+use Rattle.seat_scripts.specs.Against.{AgainstRefusal, HasBoth, HasOlder, IsAuditAgainst, IsTooLargeAgainst, IsUnlawfulBeside, AreAsked, AreVeryRequests, IsParted, IsReplayWithin}
+use Rattle.seat_scripts.specs.Replying.{AreRepliesOver, RepliesAreThoseOfTheRun}
 use Rattle.seat_scripts.specs.Audits.{RunsAreAuditedAgainst}
 use Rattle.seat_scripts.specs.Requests.{IsNoScript, IsReadable, most_script_bytes}
 use Rattle.seat_scripts.specs.RunDesk.{IsRun, requests_of}
 use Rattle.seat_scripts.proofs.Audits.{loads, one_grid}
 use Rattle.seat_scripts.proofs.Going.{over_count}
-use Rattle.seat_scripts.proofs.Histories.{no_more, own_works}
+use Rattle.seat_scripts.proofs.Histories.{as_replies, no_more, own_works}
 use Rattle.seat_scripts.proofs.Lengths.{text_short}
 use Rattle.seat_scripts.proofs.Unasked.{unasked_is_not_audited}
 use Rattle.seat_scripts.proofs.Very.{commands_agree}
@@ -50,13 +51,19 @@ module _ (grid : Ladders) (past : List Entry) (flights : List Flown) (changes : 
       ap works_in nothing ∙ (sym (ap its_works nobody) ∙ ap its_works (its_requests scripts i)))
       (cases_lt i (length lists))
 
-  asked_behind : AreAskedBehind flights scripts past history
-  asked_behind = record { goes_on = record { rest = h.added; is = h.goes_on }; are_asked = record { each = each } } where
+  run_parted : IsParted past 0 past h.added history
+  run_parted = record { whole = h.goes_on; goes_on = record { rest = []; is = sym (append-nil past) }; count = omega arith }
+
+  run_asked : AreAsked flights scripts h.added
+  run_asked = record { each = each } where
     each : (session : ℕ) → 1 ≤ session → AreVeryRequests flights (requests_of scripts session) (done_by session h.added)
     each session low =
         let up : suc (session - 1) ≡ session = omega (arith, low) in
         subst (λ (k : ℕ). AreVeryRequests flights (requests_of scripts k) (done_by k h.added)) up
         (subst (AreVeryRequests flights (requests_of scripts (suc (session - 1)))) (sym (each_of (session - 1))) (record { each = commands_agree flights (requests_of scripts (suc (session - 1))) }))
+
+  asked_behind : AreAskedBehind flights scripts past 0 history
+  asked_behind = record { past = past; added = h.added; parted = run_parted; are_asked = run_asked }
 
 -- ---- scripts that are read are neither refused nor too large
 
@@ -104,24 +111,64 @@ module _ (set limits : List ℕ) (first days today : ℕ) (after : List ℕ) (te
   abbrev older : Inventory
   older = record { grid = run.grid; cap = most_lines; journal = run.past; spare = false; spares = [] }
 
-  is_line : IsAuditAgainst set limits first days after journal today (map Some texts)
+  is_older : IsReplayWithin run.grid older after
+  is_older = record {
+    within = run.is_asked.is_past.within;
+    is_replay = record {
+      grid_is = refl;
+      cap_is = refl;
+      is_text = run.is_asked.is_past.is_text;
+      legal = run.is_asked.is_past.legal;
+      few = run.is_asked.is_past.few;
+      within = loaded_replays_keep_limits set limits first days run.flights run.grid run.past run.is_asked.is_loaded;
+    };
+  }
+
+  -- and of the journal
+  abbrev core : Inventory
+  core = record { grid = run.grid; cap = most_lines; journal = run.history; spare = false; spares = [] }
+
+  is_core : IsReplayWithin run.grid core journal
+  is_core = record {
+    within = few;
+    is_replay = record {
+      grid_is = refl;
+      cap_is = refl;
+      is_text = text;
+      legal = run.is_history.headline.legal;
+      few = run.is_history.headline.capped;
+      within = run.is_history.headline.within;
+    };
+  }
+
+  are_replies : AreRepliesOver set limits first days after 0 journal today (map Some texts) replies
+  are_replies = record {
+    flights = run.flights;
+    grid = run.grid;
+    is_loaded = run.is_asked.is_loaded;
+    older = older;
+    is_older = is_older;
+    core = core;
+    is_replay = is_core;
+    scripts = run.scripts;
+    are_scripts = run.is_asked.are_scripts;
+    are_replies = record {
+      past = run.past;
+      added = run.is_history.added;
+      parted = run_parted run.grid run.past run.flights run.changes run.scripts run.history run.receipts run.is_history;
+      are_asked = run_asked run.grid run.past run.flights run.changes run.scripts run.history run.receipts run.is_history;
+      are_replies = as_replies run.grid run.past run.flights run.changes run.scripts run.history run.receipts run.is_history replies run.is_replied;
+    };
+  }
+
+  is_line : IsAuditAgainst set limits first days after 0 journal today (map Some texts)
       (audit_line (totals_of run.history))
   is_line = record {
     flights = run.flights;
     grid = run.grid;
     is_loaded = run.is_asked.is_loaded;
     older = older;
-    is_older = record {
-      within = run.is_asked.is_past.within;
-      is_replay = record {
-        grid_is = refl;
-        cap_is = refl;
-        is_text = run.is_asked.is_past.is_text;
-        legal = run.is_asked.is_past.legal;
-        few = run.is_asked.is_past.few;
-        within = loaded_replays_keep_limits set limits first days run.flights run.grid run.past run.is_asked.is_loaded;
-      };
-    };
+    is_older = is_older;
     within = few;
     is_audited = audited;
     scripts = run.scripts;
@@ -129,7 +176,7 @@ module _ (set limits : List ℕ) (first days today : ℕ) (after : List ℕ) (te
     are_asked = asked_behind run.grid run.past run.flights run.changes run.scripts run.history run.receipts run.is_history;
   }
 
-  same_line : (line : List ℕ) → IsAuditAgainst set limits first days after journal today (map Some texts) line
+  same_line : (line : List ℕ) → IsAuditAgainst set limits first days after 0 journal today (map Some texts) line
       → line ≡ audit_line (totals_of run.history)
   same_line line other =
       let entries : other.is_audited.entries ≡ run.history = one_text journal other.is_audited.entries run.history other.is_audited.is_text text in
@@ -151,12 +198,14 @@ module _ (set limits : List ℕ) (first days today : ℕ) (after : List ℕ) (te
       → IsRefusedOver set limits first days fault after ⊎ IsUnlawfulBeside set limits first days after journal fault → ⊥
   both_lawful fault refused = ⊎_elim (older_lawful fault) (lawful fault) refused
 
-  faultless : (fault : DeskFault) → AgainstRefusal set limits first days after journal today (map Some texts) fault → ⊥
+  faultless : (fault : DeskFault) → AgainstRefusal set limits first days after 0 journal today (map Some texts) fault → ⊥
   faultless (faults.Journal fault) refused = both_lawful (faults.Journal fault) refused
   faultless (faults.Replay fault) refused = both_lawful (faults.Replay fault) refused
   faultless (faults.Script session fault) refused = not_refused today 1 texts run.scripts session fault run.is_asked.are_scripts refused.is_refused
   faultless (faults.Unasked session call) refused =
-      unasked_is_not_audited set limits first days after journal today texts (faults.Unasked session call) (audit_line (totals_of run.history)) refused is_line
+      unasked_is_not_audited set limits first days after 0 journal today texts (faults.Unasked session call) (audit_line (totals_of run.history)) refused is_line
+  faultless faults.NoBehind refused =
+      unasked_is_not_audited set limits first days after 0 journal today texts faults.NoBehind (audit_line (totals_of run.history)) refused is_line
   faultless (faults.Set fault) refused = loads set limits first days run.flights run.grid (faults.Set fault) run.is_asked.is_loaded.loaded refused
   faultless (faults.Flight fault) refused = loads set limits first days run.flights run.grid (faults.Flight fault) run.is_asked.is_loaded.loaded refused
   faultless (faults.Limit fault) refused = loads set limits first days run.flights run.grid (faults.Limit fault) run.is_asked.is_loaded.loaded refused
@@ -186,3 +235,7 @@ runs_are_audited_against set limits first days today after texts changing journa
   faultless = λ fault refused. faultless set limits first days today after texts changing journal replies run fault refused.refusal;
   small = small set limits first days today after texts changing journal replies run;
 }
+
+pub replies_are_those_of_the_run : RepliesAreThoseOfTheRun
+replies_are_those_of_the_run set limits first days today after texts changing journal replies run =
+    are_replies set limits first days today after texts changing journal replies run

@@ -1,15 +1,16 @@
 -- A journal beside an older one that it goes on from.
-use Rattle.std.proofs.Common.{◌≡◌, inr, ℕ, suc, ◌+◌, ◌<◌, ◌≤◌, Bool, true, false, List, [], ◌∷◌, ◌++◌, length, take, drop, get_or, refl, sym, ap, ◌∙◌, subst, Option, Some, None}
+use Rattle.std.proofs.Common.{◌≡◌, inl, inr, ℕ, suc, ◌+◌, ◌-◌, zero-add, arith, ◌<◌, ◌≤◌, Bool, true, false, List, [], ◌∷◌, ◌++◌, length, take, drop, get_or, refl, sym, ap, ◌∙◌, subst, Option, Some, None}
 use Rattle.ssim_flights.specs.declared.flight.Flight.{Flight as Flown}
-use Rattle.seat_scripts.proofs.Common.{slice_get, Ladders, Request, Entry, Work, IsLegal, IsNext, Unasked, AreAskedBehind, IsUnasked}
+use Rattle.seat_scripts.proofs.Common.{slice_get, Ladders, Request, Entry, Work, IsLegal, IsNext, Unasked, IsUnasked}
 use Rattle.std.specs.Prelude.{IsTrue}
 use Rattle.std.proofs.Math.Seq.{drop-cons}
-use Rattle.std.proofs.lemmas.List.{take-append-drop, take_all, take_more}
+use Rattle.std.proofs.lemmas.List.{length-append, length-take-le, take-append-drop, take_all, take_more}
 use Rattle.std.proofs.lemmas.Option.{get_or_from_slice_get, slice_get_within}
 use Rattle.seat_rules.specs.Journal.{calls_of, next_line}
 use Rattle.seat_rules.specs.Prefixes.{Begins}
-use Rattle.seat_scripts.specs.Against.{AreAskedBelow, IsFirstUnasked, IsNoBeginning, line_there}
-use Rattle.seat_scripts.proofs.Comparing.{all_asked}
+use Rattle.seat_desk.specs.declared.fault.DeskFault.{DeskFault}
+use Rattle.seat_desk.specs.declared.fault.DeskFault.TheVariants.{NoBehind}
+use Rattle.seat_scripts.specs.Against.{IsFirstUnasked, IsNoBeginning, IsNoPast, IsParted, IsShort, line_there}
 
 -- ---- legal histories
 
@@ -112,16 +113,45 @@ begins_all older journal i whole so_far = record {
   is = sym (take-append-drop i journal) ∙ ap (λ (l : List Entry). l ++ drop i journal) (so_far ∙ take_all i older whole);
 }
 
+pub older_within : (older journal : List Entry) → Begins older journal → length older ≤ length journal
+older_within older journal begins = omega (arith, ap length begins.is, length-append older begins.rest)
+
+-- ---- a past
+
+take_over : (older rest : List Entry) (more : ℕ) → take (length older + more) (older ++ rest) ≡ older ++ take more rest
+take_over [] rest more = ap (λ (k : ℕ). take k rest) (zero-add more)
+take_over (x ∷ older) rest more =
+    let up : suc (length older) + more ≡ suc (length older + more) = omega arith in
+    ap (λ (k : ℕ). take k (x ∷ older ++ rest)) up ∙ ap (λ (l : List Entry). x ∷ l) (take_over older rest more)
+
+pub parted_at : (older journal : List Entry) (more past : ℕ) → Begins older journal → past ≡ length older + more
+    → past ≤ length journal → IsParted older more (take past journal) (drop past journal) journal
+parted_at older journal more past begins is within = record {
+  whole = sym (take-append-drop past journal);
+  goes_on = record {
+    rest = take more begins.rest;
+    is = ap (λ (k : ℕ). take k journal) is ∙ (ap (take (length older + more)) begins.is ∙ take_over older begins.rest more);
+  };
+  count = length-take-le past journal within ∙ is;
+}
+
+pub too_short : (older journal : List Entry) (more : ℕ) → Begins older journal
+    → length journal - length older < more → IsShort older more journal
+too_short older journal more begins few = record { goes_on = begins; short = omega (arith, few, older_within older journal begins) }
+
 -- ---- the whole
 
-pub all_behind : (flights : List Flown) (grid : Ladders) (scripts : List (List Request)) (older journal added : List Entry)
-    → IsLegal grid journal → journal ≡ older ++ added → length scripts ≤ 8 → AreAskedBelow flights scripts added 9
-    → AreAskedBehind flights scripts older journal
-all_behind flights grid scripts older journal added legal is few below =
-    record { goes_on = record { rest = added; is = is }; are_asked = all_asked flights grid scripts older journal added legal is few below }
+pub unasked_behind : (flights : List Flown) (scripts : List (List Request)) (older : List Entry) (more : ℕ)
+    (past added journal : List Entry) (session place call : ℕ) → IsParted older more past added journal
+    → IsFirstUnasked flights scripts added session place
+    → call ≡ calls_of past session + place → IsUnasked flights scripts older more journal (Unasked session call)
+unasked_behind flights scripts older more past added journal session place call parted first call_is =
+    inr (record { past = past; added = added; parted = parted; place = place; first = first; call_is = call_is })
 
-pub unasked_behind : (flights : List Flown) (scripts : List (List Request)) (older journal added : List Entry)
-    (session place call : ℕ) → journal ≡ older ++ added → IsFirstUnasked flights scripts added session place
-    → call ≡ calls_of older session + place → IsUnasked flights scripts older journal (Unasked session call)
-unasked_behind flights scripts older journal added session place call is first call_is =
-    inr (record { goes_on = record { rest = added; is = is }; place = place; first = first; call_is = call_is })
+-- a journal without such a past is refused
+pub no_past : (flights : List Flown) (scripts : List (List Request)) (older : List Entry) (more : ℕ)
+    (journal : List Entry) (fault : DeskFault)
+    → IsNoPast older more journal fault → IsUnasked flights scripts older more journal fault
+no_past flights scripts older more journal (Unasked session call) none = inl none
+no_past flights scripts older more journal NoBehind none = none
+no_past flights scripts older more journal _ none = absurd none

@@ -5,8 +5,9 @@ use Rattle.ssim_flights.specs.declared.flight.Flight.{Flight as Flown}
 use Rattle.seat_rules.specs.Inventory.{Inventory}
 use Rattle.seat_desk.specs.AuditDesk.{IsUnlawful}
 use Rattle.seat_desk.specs.Desk.{IsOfInput}
-use Rattle.seat_desk.specs.declared.fault.DeskFault.TheVariants.{Journal, Replay, Script}
+use Rattle.seat_desk.specs.declared.fault.DeskFault.TheVariants.{Journal, NoBehind, Replay, Script}
 use Rattle.seat_scripts.specs.Against.{AreRead, HasBoth, HasOlder, IsAuditAgainst, IsRefusedAgainst, IsReplayWithin, IsTooLargeAgainst, OfFour}
+use Rattle.seat_scripts.specs.Replying.{AreRepliesBehind, AreRepliesOver}
 use Rattle.seat_scripts.specs.Requests.{IsOfScript}
 use Rattle.seat_scripts.proofs.Inputs.{if_known as if_three_known}
 
@@ -33,9 +34,9 @@ if_four P Q None limits after journal give all = tt
 
 -- ---- refusals, where all is known
 
-module _ (set limits : List ℕ) (first days : ℕ) (after journal : List ℕ) (today : ℕ) (texts : List (Option (List ℕ))) where
+module _ (set limits : List ℕ) (first days : ℕ) (after : List ℕ) (more : ℕ) (journal : List ℕ) (today : ℕ) (texts : List (Option (List ℕ))) where
   abbrev Refused : DeskFault → Type 0
-  Refused fault = IsRefusedAgainst set limits first days after journal today texts fault
+  Refused fault = IsRefusedAgainst set limits first days after more journal today texts fault
 
   module _ (flights : List Flown) (grid : Ladders) (loaded : IsLoaded set limits first days flights grid) (older : Inventory) (before : IsReplayWithin grid older after) where
     of_journal : (fault : DeskFault) → IsUnlawful grid fault journal → Refused fault
@@ -52,8 +53,22 @@ module _ (set limits : List ℕ) (first days : ℕ) (after journal : List ℕ) (
       of_scripts _ script refused = absurd script
 
       of_lines : (scripts : List (List Request)) → AreScripts today texts scripts → (fault : DeskFault)
-          → IsUnasked flights scripts older.journal core.journal fault → Refused fault
+          → IsUnasked flights scripts older.journal more core.journal fault → Refused fault
       of_lines scripts are (Unasked session call) unasked = record {
+        refusal = record {
+          flights = flights;
+          grid = grid;
+          is_loaded = loaded;
+          older = older;
+          is_older = before;
+          core = core;
+          is_replay = replayed;
+          scripts = scripts;
+          are_scripts = are;
+          is_unasked = unasked;
+        };
+      }
+      of_lines scripts are NoBehind unasked = record {
         refusal = record {
           flights = flights;
           grid = grid;
@@ -71,9 +86,9 @@ module _ (set limits : List ℕ) (first days : ℕ) (after journal : List ℕ) (
 
 -- ---- refusals and lines, as far as the bytes are known
 
-module _ (set limits after journal : Option (List ℕ)) (first days today : ℕ) (texts : List (Option (List ℕ))) where
+module _ (set limits after journal : Option (List ℕ)) (first days more today : ℕ) (texts : List (Option (List ℕ))) where
   abbrev IsRefused : DeskFault → Type 0
-  IsRefused fault = OfFour set limits after journal (λ xs ys older zs. IsRefusedAgainst xs ys first days older zs today texts fault)
+  IsRefused fault = OfFour set limits after journal (λ xs ys older zs. IsRefusedAgainst xs ys first days older more zs today texts fault)
 
   module _ (flights : List Flown) (grid : Ladders) (loaded : IfSome set (λ xs. IfSome limits (λ ys. IsLoaded xs ys first days flights grid)))
       (older : Inventory) (before : IfSome after (IsReplayWithin grid older)) where
@@ -81,44 +96,36 @@ module _ (set limits after journal : Option (List ℕ)) (first days today : ℕ)
     pub refused_journal : (fault : DeskFault) → (IsOfInput fault → IfSome journal (IsUnlawful grid fault))
         → IsOfInput fault → IsRefused fault
     refused_journal fault refused input =
-        if_known (λ xs ys. IsLoaded xs ys first days flights grid) (IsReplayWithin grid older) (IsUnlawful grid fault) (λ xs ys old zs. IsRefusedAgainst xs ys first days old zs today texts fault) set limits after journal
-        (λ xs ys old zs is was unlawful. of_journal xs ys first days old zs today texts flights grid is older was fault unlawful) loaded before (refused input)
+        if_known (λ xs ys. IsLoaded xs ys first days flights grid) (IsReplayWithin grid older) (IsUnlawful grid fault) (λ xs ys old zs. IsRefusedAgainst xs ys first days old more zs today texts fault) set limits after journal
+        (λ xs ys old zs is was unlawful. of_journal xs ys first days old more zs today texts flights grid is older was fault unlawful) loaded before (refused input)
 
     module _ (core : Inventory) (replayed : IfSome journal (IsReplayWithin grid core)) where
       -- of a script
       pub refused_script : (fault : DeskFault) → (IsOfInput fault → IsOfScript fault)
           → (IsOfInput fault → IsRefusedAmong today 1 texts fault) → IsOfInput fault → IsRefused fault
       refused_script fault script refused input =
-          if_known (λ xs ys. IsLoaded xs ys first days flights grid) (IsReplayWithin grid older) (IsReplayWithin grid core) (λ xs ys old zs. IsRefusedAgainst xs ys first days old zs today texts fault) set limits after journal
-          (λ xs ys old zs is was h. of_scripts xs ys first days old zs today texts flights grid is older was core h fault (script input) (refused input)) loaded before replayed
-
-      -- all is right
-      pub all_read : (scripts : List (List Request)) → AreScripts today texts scripts
-          → OfFour set limits after journal
-          (λ xs ys old zs. AreRead xs ys first days old zs today texts flights older core scripts)
-      all_read scripts are =
-          if_known (λ xs ys. IsLoaded xs ys first days flights grid) (IsReplayWithin grid older) (IsReplayWithin grid core) (λ xs ys old zs. AreRead xs ys first days old zs today texts flights older core scripts) set limits after journal
-          (λ xs ys old zs is was h. record { grid = grid; is_loaded = is; is_older = was; is_replay = h; are_scripts = are }) loaded before replayed
+          if_known (λ xs ys. IsLoaded xs ys first days flights grid) (IsReplayWithin grid older) (IsReplayWithin grid core) (λ xs ys old zs. IsRefusedAgainst xs ys first days old more zs today texts fault) set limits after journal
+          (λ xs ys old zs is was h. of_scripts xs ys first days old more zs today texts flights grid is older was core h fault (script input) (refused input)) loaded before replayed
 
   module _ (flights : List Flown) (older core : Inventory) (scripts slice : List (List Request)) (same : slice ≡ scripts)
-      (read : OfFour set limits after journal (λ xs ys old zs. AreRead xs ys first days old zs today texts flights older core scripts)) where
+      (given : ℕ) (is_more : given ≡ more) (read : OfFour set limits after journal (λ xs ys old zs. AreRead xs ys first days old zs today texts flights older core scripts)) where
     here : AreScripts today texts scripts → AreScripts today texts slice
     here are = subst (AreScripts today texts) (sym same) are
 
     -- of a line that is not asked
     pub refused_unasked : (fault : DeskFault)
-        → (fault ≢ Memory → IsUnasked flights slice older.journal core.journal fault)
+        → (fault ≢ Memory → IsUnasked flights slice older.journal given core.journal fault)
         → IsOfInput fault → IsRefused fault
     refused_unasked fault unasked input =
-        if_four (λ xs ys old zs. AreRead xs ys first days old zs today texts flights older core scripts) (λ xs ys old zs. IsRefusedAgainst xs ys first days old zs today texts fault) set limits after journal
-        (λ xs ys old zs r. of_lines xs ys first days old zs today texts flights r.grid r.is_loaded older r.is_older core r.is_replay slice (here r.are_scripts) fault (unasked (λ (e : fault ≡ Memory). subst IsOfInput e input))) read
+        if_four (λ xs ys old zs. AreRead xs ys first days old zs today texts flights older core scripts) (λ xs ys old zs. IsRefusedAgainst xs ys first days old more zs today texts fault) set limits after journal
+        (λ xs ys old zs r. of_lines xs ys first days old more zs today texts flights r.grid r.is_loaded older r.is_older core r.is_replay slice (here r.are_scripts) fault (subst (λ (n : ℕ). IsUnasked flights slice older.journal n core.journal fault) is_more (unasked (λ (e : fault ≡ Memory). subst IsOfInput e input)))) read
 
     -- the line of the audit
     pub audited : (line : List ℕ) → line ≡ audit_line (totals_of core.journal)
-        → AreAskedBehind flights slice older.journal core.journal
-        → OfFour set limits after journal (λ xs ys old zs. IsAuditAgainst xs ys first days old zs today texts line)
+        → AreAskedBehind flights slice older.journal given core.journal
+        → OfFour set limits after journal (λ xs ys old zs. IsAuditAgainst xs ys first days old more zs today texts line)
     audited line sums asked =
-        if_four (λ xs ys old zs. AreRead xs ys first days old zs today texts flights older core scripts) (λ xs ys old zs. IsAuditAgainst xs ys first days old zs today texts line) set limits after journal
+        if_four (λ xs ys old zs. AreRead xs ys first days old zs today texts flights older core scripts) (λ xs ys old zs. IsAuditAgainst xs ys first days old more zs today texts line) set limits after journal
         (λ xs ys old zs r. record {
           flights = flights;
           grid = r.grid;
@@ -136,7 +143,26 @@ module _ (set limits after journal : Option (List ℕ)) (first days today : ℕ)
           };
           scripts = slice;
           are_scripts = here r.are_scripts;
-          are_asked = asked;
+          are_asked = subst (λ (n : ℕ). AreAskedBehind flights slice older.journal n core.journal) is_more asked;
+        })
+        read
+
+    -- the replies
+    pub replied : (text : List ℕ) → AreRepliesBehind flights slice older.journal given core.journal text
+        → OfFour set limits after journal (λ xs ys old zs. AreRepliesOver xs ys first days old more zs today texts text)
+    replied text are =
+        if_four (λ xs ys old zs. AreRead xs ys first days old zs today texts flights older core scripts) (λ xs ys old zs. AreRepliesOver xs ys first days old more zs today texts text) set limits after journal
+        (λ xs ys old zs r. record {
+          flights = flights;
+          grid = r.grid;
+          is_loaded = r.is_loaded;
+          older = older;
+          is_older = r.is_older;
+          core = core;
+          is_replay = r.is_replay;
+          scripts = slice;
+          are_scripts = here r.are_scripts;
+          are_replies = subst (λ (n : ℕ). AreRepliesBehind flights slice older.journal n core.journal text) is_more are;
         })
         read
 
@@ -210,23 +236,31 @@ module _ (set limits after journal : Option (List ℕ)) (first days today : ℕ)
             if_known (λ xs ys. IsLoaded xs ys first days flights grid) (IsReplayWithin grid older) (IsReplayWithin grid core) (λ xs ys old zs. HasBoth xs ys first days old zs) set limits after journal
             a_both loaded before replayed
 
+        -- all is right
+        pub all_read : (scripts : List (List Request)) → AreScripts today texts scripts
+            → OfFour set limits after journal
+            (λ xs ys old zs. AreRead xs ys first days old zs today texts flights older core scripts)
+        all_read scripts are =
+            if_known (λ xs ys. IsLoaded xs ys first days flights grid) (IsReplayWithin grid older) (IsReplayWithin grid core) (λ xs ys old zs. AreRead xs ys first days old zs today texts flights older core scripts) set limits after journal
+            (λ xs ys old zs is was h. record { grid = grid; is_loaded = is; is_older = was; is_replay = h; are_scripts = are }) loaded before replayed
+
 -- ---- refusals of the older journal
 
-of_older : (set limits : List ℕ) (first days : ℕ) (after journal : List ℕ) (today : ℕ) (texts : List (Option (List ℕ)))
+of_older : (set limits : List ℕ) (first days : ℕ) (after : List ℕ) (more : ℕ) (journal : List ℕ) (today : ℕ) (texts : List (Option (List ℕ)))
     (flights : List Flown) (grid : Ladders) (fault : DeskFault)
     → IsLoaded set limits first days flights grid → IsUnlawful grid fault after
-    → IsRefusedAgainst set limits first days after journal today texts fault
-of_older set limits first days after journal today texts flights grid (Journal fault) loaded unlawful =
+    → IsRefusedAgainst set limits first days after more journal today texts fault
+of_older set limits first days after more journal today texts flights grid (Journal fault) loaded unlawful =
     record { refusal = inl (record { flights = flights; grid = grid; is_loaded = loaded; is_unlawful = unlawful }) }
-of_older set limits first days after journal today texts flights grid (Replay fault) loaded unlawful =
+of_older set limits first days after more journal today texts flights grid (Replay fault) loaded unlawful =
     record { refusal = inl (record { flights = flights; grid = grid; is_loaded = loaded; is_unlawful = unlawful }) }
-of_older set limits first days after journal today texts flights grid _ loaded unlawful = absurd unlawful.refused
+of_older set limits first days after more journal today texts flights grid _ loaded unlawful = absurd unlawful.refused
 
-pub refused_older : (set limits after journal : Option (List ℕ)) (first days today : ℕ) (texts : List (Option (List ℕ)))
+pub refused_older : (set limits after journal : Option (List ℕ)) (first days more today : ℕ) (texts : List (Option (List ℕ)))
     (flights : List Flown) (grid : Ladders)
     → IfSome set (λ xs. IfSome limits (λ ys. IsLoaded xs ys first days flights grid)) → (fault : DeskFault)
     → (IsOfInput fault → IfSome after (IsUnlawful grid fault)) → IsOfInput fault
-    → OfFour set limits after journal (λ xs ys older zs. IsRefusedAgainst xs ys first days older zs today texts fault)
-refused_older set limits after journal first days today texts flights grid loaded fault refused input =
-    four_older (λ xs ys. IsLoaded xs ys first days flights grid) (IsUnlawful grid fault) (λ xs ys older zs. IsRefusedAgainst xs ys first days older zs today texts fault) set limits after journal
-    (λ xs ys older zs is unlawful. of_older xs ys first days older zs today texts flights grid fault is unlawful) loaded (refused input)
+    → OfFour set limits after journal (λ xs ys older zs. IsRefusedAgainst xs ys first days older more zs today texts fault)
+refused_older set limits after journal first days more today texts flights grid loaded fault refused input =
+    four_older (λ xs ys. IsLoaded xs ys first days flights grid) (IsUnlawful grid fault) (λ xs ys older zs. IsRefusedAgainst xs ys first days older more zs today texts fault) set limits after journal
+    (λ xs ys older zs is unlawful. of_older xs ys first days older more zs today texts flights grid fault is unlawful) loaded (refused input)

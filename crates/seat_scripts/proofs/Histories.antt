@@ -71,6 +71,44 @@ flown flights grid c place g on fits =
     (λ (n : (length flights ≤ i) × (slice_get flights i ≡ None)). absurd (omega (arith, to, no_legs g.rows flights i n.1)))
     (slice_get_cases flights i).1
 
+-- ---- each advice's booking
+
+module _ (flights : List Flown) (grid : Ladders) (history : List Entry) (of_grid : IsGridOf flights grid) where
+  booked : (number : ℕ) → IsPlaced grid history number → IsBooked flights history number
+  booked number placed =
+      let on : IsFlown flights placed.command = flown flights grid placed.command placed.place of_grid placed.place_is placed.fits in
+      record {
+        within = placed.within;
+        line = placed.line;
+        at = placed.at;
+        command = placed.command;
+        work_is = placed.work_is;
+        segment = on.segment;
+        flown = on.is;
+      }
+
+  each_advised : (advices : List Advice) → AllByRecursion (λ (a : Advice). IsPlaced grid history a.number) advices
+      → AllByRecursion (λ (a : Advice). IsBooked flights history a.number) advices
+  each_advised [] told = tt
+  each_advised (a ∷ advices) told = (booked a.number told.0, each_advised advices told.1)
+
+  book_each : (lines : List Entry) → AreAdvised grid history lines
+      → AllByRecursion (λ (e : Entry). AreBooked flights history e.advices) lines
+  book_each [] told = tt
+  book_each (e ∷ es) told = (record { each = all_of (λ (a : Advice). IsBooked flights history a.number) e.advices (each_advised e.advices told.0) }, book_each es told.1)
+
+  added_advised : (xs ys : List Entry) → AreAdvised grid history (xs ++ ys) → AreAdvised grid history ys
+  added_advised [] ys all = all
+  added_advised (x ∷ xs) ys all = added_advised xs ys all.1
+
+-- the bookings of the advices of lines that were added are there
+pub lines_booked : (flights : List Flown) (grid : Ladders) (past added history : List Entry) → IsGridOf flights grid
+    → history ≡ past ++ added → IsLegal grid history
+    → AllByRecursion (λ (e : Entry). AreBooked flights history e.advices) added
+lines_booked flights grid past added history g whole legal =
+    book_each flights grid history g added
+    (added_advised flights grid history g past added (subst (λ (l : List Entry). AreAdvised grid history l) whole (legal_is_advised grid history legal)))
+
 -- ---- each line's request
 
 -- the list of each session is that of its script, and none beyond the scripts
@@ -142,41 +180,10 @@ module _ (grid : Ladders) (past : List Entry) (flights : List Flown) (changes : 
       subst (λ (l : List Request). k < length l) (sym (unwrap_or-slice_get scripts i [])) (omega (arith, within, own_count i lt))
   is_asked s k e low enough at (Limit c) work = tt
 
-  -- ---- each advice's booking
-
-  booked : IsGridOf flights grid → (number : ℕ) → IsPlaced grid history number → IsBooked flights history number
-  booked of_grid number placed =
-      let on : IsFlown flights placed.command = flown flights grid placed.command placed.place of_grid placed.place_is placed.fits in
-      record {
-        within = placed.within;
-        line = placed.line;
-        at = placed.at;
-        command = placed.command;
-        work_is = placed.work_is;
-        segment = on.segment;
-        flown = on.is;
-      }
-
   -- ---- all lines that were added
 
-  each_advised : IsGridOf flights grid → (advices : List Advice)
-      → AllByRecursion (λ (a : Advice). IsPlaced grid history a.number) advices
-      → AllByRecursion (λ (a : Advice). IsBooked flights history a.number) advices
-  each_advised g [] told = tt
-  each_advised g (a ∷ advices) told = (booked g a.number told.0, each_advised g advices told.1)
-
-  book_each : IsGridOf flights grid → (lines : List Entry) → AreAdvised grid history lines
-      → AllByRecursion (λ (e : Entry). AreBooked flights history e.advices) lines
-  book_each g [] told = tt
-  book_each g (e ∷ es) told = (record { each = all_of (λ (a : Advice). IsBooked flights history a.number) e.advices (each_advised g e.advices told.0) }, book_each g es told.1)
-
-  added_advised : (xs ys : List Entry) → AreAdvised grid history (xs ++ ys) → AreAdvised grid history ys
-  added_advised [] ys all = all
-  added_advised (x ∷ xs) ys all = added_advised xs ys all.1
-
   all_lines : IsGridOf flights grid → AllByRecursion (λ (e : Entry). AreBooked flights history e.advices) h.added
-  all_lines g =
-      book_each g h.added (added_advised past h.added (subst (λ (l : List Entry). AreAdvised grid history l) h.goes_on (legal_is_advised grid history h.headline.legal)))
+  all_lines g = lines_booked flights grid past h.added history g h.goes_on h.headline.legal
 
   -- session by session
   answerable : IsGridOf flights grid → length scripts ≤ length lists

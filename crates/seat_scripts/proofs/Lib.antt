@@ -21,3 +21,4 @@ mod First
 mod Segments
 mod Grown
 mod Very
+mod Sessions

@@ -1,8 +1,8 @@
 -- What is refused as unasked has no line of an audit.
-use Rattle.std.proofs.Common.{◌≡◌, ⊎_elim, ◌-◌, ◌<◌, ℕ, zero, suc, List, [], ◌∷◌, ◌++◌, length, map, refl, sym, ap, ◌∙◌, subst, arith, Some}
+use Rattle.std.proofs.Common.{◌≡◌, ⊎_elim, ◌-◌, ◌<◌, ℕ, zero, suc, List, [], ◌∷◌, ◌++◌, length, map, refl, sym, ap, ◌∙◌, subst, arith, Some, drop, zero-add, ◌+◌}
 use Rattle.seat_scripts.specs.RunDesk.{requests_of}
 use Rattle.seat_scripts.proofs.Common.{slice_get, Request, Ladders, Entry, Work, DeskFault, Unasked, AreAskedBehind, IsUnasked, done_by, AreScripts}
-use Rattle.std.proofs.lemmas.List.{append_cancel_left}
+use Rattle.std.proofs.lemmas.List.{append_assoc, length-append}
 use Rattle.ssim_records.specs.declared.set.DataSet.{DataSet}
 use Rattle.ssim_records.proofs.SetLaws.{one_data_set}
 use Rattle.airimp_lines.proofs.Uniqueness.{one_script}
@@ -12,7 +12,8 @@ use Rattle.seat_rules.specs.Prefixes.{Begins}
 use Rattle.seat_desk.specs.CheckDesk.{most_records}
 use Rattle.seat_desk.specs.FlightsDesk.{set_flights}
 use Rattle.seat_desk.specs.Loading.{IsLoadedGrid}
-use Rattle.seat_scripts.specs.Against.{AreAsked, AreVeryRequests, AuditsBehindNoLines, DifferAt, IsNoBeginning, IsUnaskedBehind, UnaskedIsNotAudited}
+use Rattle.seat_scripts.specs.Against.{AreAsked, AreVeryRequests, AuditsBehindNoLines, DifferAt, IsNoBeginning, IsParted, IsShort, IsUnaskedBehind, UnaskedIsNotAudited}
+use Rattle.seat_desk.specs.declared.fault.DeskFault.TheVariants.{NoBehind}
 
 one_schedule : (set limits : List ℕ) (first days : ℕ) (flights flights' : List Flown) (grid grid' : Ladders)
     → IsLoadedGrid set limits first days flights grid → IsLoadedGrid set limits first days flights' grid'
@@ -46,37 +47,62 @@ begins_not : (older journal : List Entry) (session call : ℕ) → IsNoBeginning
 begins_not older journal session call parts begins =
     parts.part.there (ap (λ (l : List Entry). slice_get l parts.place) begins.is ∙ same_there older begins.rest parts.place parts.part.within)
 
-behind_not : (flights : List Flown) (scripts : List (List Request)) (older journal : List Entry) (session call : ℕ)
-    → IsUnaskedBehind flights scripts older journal session call → AreAskedBehind flights scripts older journal → ⊥
-behind_not flights scripts older journal session call unasked asked =
-    let same : unasked.goes_on.rest ≡ asked.goes_on.rest = append_cancel_left older unasked.goes_on.rest asked.goes_on.rest (sym unasked.goes_on.is ∙ asked.goes_on.is) in
-    differs flights unasked.place (requests_of scripts session) (done_by session unasked.goes_on.rest) unasked.first.differ
+-- what was added is what stands behind so many lines
+behind_seam : (xs ys : List Entry) → drop (length xs) (xs ++ ys) ≡ ys
+behind_seam [] ys = refl
+behind_seam (x ∷ xs) ys = behind_seam xs ys
+
+module _ (older : List Entry) (more : ℕ) (journal : List Entry) where
+  pub own_added : (past added : List Entry) → IsParted older more past added journal
+      → added ≡ drop (length older + more) journal
+  own_added past added p = sym (behind_seam past added) ∙ (ap (drop (length past)) (sym p.whole) ∙ ap (λ (k : ℕ). drop k journal) p.count)
+
+  its_beginning : (past added : List Entry) → IsParted older more past added journal → Begins older journal
+  its_beginning past added p = record {
+    rest = p.goes_on.rest ++ added;
+    is = p.whole ∙ (ap (λ (l : List Entry). l ++ added) p.goes_on.is ∙ append_assoc older p.goes_on.rest added);
+  }
+
+  short_not : (past added : List Entry) → IsShort older more journal → IsParted older more past added journal → ⊥
+  short_not past added s p = absurd (omega (arith, s.short, ap length p.whole, length-append past added, p.count))
+
+behind_not : (flights : List Flown) (scripts : List (List Request)) (older : List Entry) (more : ℕ)
+    (journal : List Entry) (session call : ℕ)
+    → IsUnaskedBehind flights scripts older more journal session call
+    → AreAskedBehind flights scripts older more journal → ⊥
+behind_not flights scripts older more journal session call unasked asked =
+    let same : unasked.added ≡ asked.added = own_added older more journal unasked.past unasked.added unasked.parted ∙ sym (own_added older more journal asked.past asked.added asked.parted) in
+    differs flights unasked.place (requests_of scripts session) (done_by session unasked.added) unasked.first.differ
     (subst (λ (lines : List Entry). AreVeryRequests flights (requests_of scripts session) (done_by session lines)) (sym same) (asked.are_asked.each session unasked.first.from_one))
 
-not_asked : (flights : List Flown) (scripts : List (List Request)) (older journal : List Entry) (fault : DeskFault)
-    → IsUnasked flights scripts older journal fault → AreAskedBehind flights scripts older journal → ⊥
-not_asked flights scripts older journal (Unasked session call) unasked asked =
+not_asked : (flights : List Flown) (scripts : List (List Request)) (older : List Entry) (more : ℕ)
+    (journal : List Entry) (fault : DeskFault)
+    → IsUnasked flights scripts older more journal fault → AreAskedBehind flights scripts older more journal → ⊥
+not_asked flights scripts older more journal (Unasked session call) unasked asked =
     ⊎_elim
-    (λ (parts : IsNoBeginning older journal session call). begins_not older journal session call parts asked.goes_on)
-    (λ (behind : IsUnaskedBehind flights scripts older journal session call). behind_not flights scripts older journal session call behind asked)
+    (λ (parts : IsNoBeginning older journal session call). begins_not older journal session call parts (its_beginning older more journal asked.past asked.added asked.parted))
+    (λ (behind : IsUnaskedBehind flights scripts older more journal session call). behind_not flights scripts older more journal session call behind asked)
     unasked
-not_asked flights scripts older journal _ none asked = none
+not_asked flights scripts older more journal NoBehind short asked = short_not older more journal asked.past asked.added short asked.parted
+not_asked flights scripts older more journal _ none asked = none
 
 pub unasked_is_not_audited : UnaskedIsNotAudited
-unasked_is_not_audited set limits first days after journal today texts fault line refused audited =
+unasked_is_not_audited set limits first days after more journal today texts fault line refused audited =
     let flown : refused.flights ≡ audited.flights = one_schedule set limits first days refused.flights audited.flights refused.grid audited.grid refused.is_loaded.loaded audited.is_loaded.loaded in
     let entries : refused.core.journal ≡ audited.is_audited.entries = one_text journal refused.core.journal audited.is_audited.entries refused.is_replay.is_replay.is_text audited.is_audited.is_text in
     let lines : refused.older.journal ≡ audited.older.journal = one_text after refused.older.journal audited.older.journal refused.is_older.is_replay.is_text audited.is_older.is_replay.is_text in
     let scripts : refused.scripts ≡ audited.scripts = same_scripts today texts refused.scripts audited.scripts refused.are_scripts audited.are_scripts in
-    not_asked refused.flights refused.scripts refused.older.journal refused.core.journal fault refused.is_unasked
-    (subst (λ (f : List Flown). AreAskedBehind f refused.scripts refused.older.journal refused.core.journal) (sym flown)
-    (subst (λ (s : List (List Request)). AreAskedBehind audited.flights s refused.older.journal refused.core.journal) (sym scripts)
-    (subst (λ (es : List Entry). AreAskedBehind audited.flights audited.scripts es refused.core.journal) (sym lines)
-    (subst (λ (es : List Entry). AreAskedBehind audited.flights audited.scripts audited.older.journal es) (sym entries) audited.are_asked))))
+    not_asked refused.flights refused.scripts refused.older.journal more refused.core.journal fault refused.is_unasked
+    (subst (λ (f : List Flown). AreAskedBehind f refused.scripts refused.older.journal more refused.core.journal) (sym flown)
+    (subst (λ (s : List (List Request)). AreAskedBehind audited.flights s refused.older.journal more refused.core.journal) (sym scripts)
+    (subst (λ (es : List Entry). AreAskedBehind audited.flights audited.scripts es more refused.core.journal) (sym lines)
+    (subst (λ (es : List Entry). AreAskedBehind audited.flights audited.scripts audited.older.journal more es) (sym entries) audited.are_asked))))
 
 pub audits_behind_no_lines : AuditsBehindNoLines
-audits_behind_no_lines set limits first days after journal today texts line empty audit =
+audits_behind_no_lines set limits first days after more journal today texts line empty audit =
     let nothing : audit.older.journal ≡ [] = one_text after audit.older.journal [] audit.is_older.is_replay.is_text empty in
     let asked = audit.are_asked in
-    let all : audit.is_audited.entries ≡ asked.goes_on.rest = asked.goes_on.is ∙ ap (λ (lines : List Entry). lines ++ asked.goes_on.rest) nothing in
-    subst (AreAsked audit.flights audit.scripts) (sym all) asked.are_asked
+    let count : length audit.older.journal + more ≡ more = ap (λ (l : List Entry). length l + more) nothing ∙ zero-add more in
+    let all : asked.added ≡ drop more audit.is_audited.entries =
+    own_added audit.older.journal more audit.is_audited.entries asked.past asked.added asked.parted ∙ ap (λ (k : ℕ). drop k audit.is_audited.entries) count in
+    subst (AreAsked audit.flights audit.scripts) all asked.are_asked

@@ -1,5 +1,5 @@
--- What `audit` with scripts writes: the line of `audit`, where the journal has just what the scripts ask, behind the lines of an older one.
-use Rattle.std.specs.Prelude.{◌≡◌, ◌≢◌, ◌≤◌, ◌<◌, ◌+◌, ◌-◌, ◌⊎◌, ◌&&◌, ◌==◌, ℕ, Bool, nat_eq, List, [], length, map, take, Option, Some, None, IfSome, slice_get}
+-- What `audit` with scripts writes: the line of `audit`, where the journal has just what the scripts ask, behind the lines of an older one, or behind so many of its own.
+use Rattle.std.specs.Prelude.{◌≡◌, ◌≢◌, ◌≤◌, ◌<◌, ◌+◌, ◌-◌, ◌⊎◌, ◌&&◌, ◌==◌, ℕ, Bool, nat_eq, List, [], length, map, take, drop, ◌++◌, Option, Some, None, IfSome, slice_get}
 use Rattle.std.specs.Cmp.Lexicographic.{pointwise}
 use Rattle.std.specs.Option.{option_eq}
 use Rattle.airimp_lines.specs.declared.requests.Request.{Request}
@@ -19,7 +19,7 @@ use Rattle.seat_desk.specs.AuditDesk.{IsAudited, IsRefusedOver, IsReplayOf, IsUn
 use Rattle.seat_desk.specs.Loading.{Bytes, IsLoaded, IsFirstTooLargeLoad, IsRefusedLoad}
 use Rattle.seat_desk.specs.declared.inputs.Inputs.{Inputs}
 use Rattle.seat_desk.specs.declared.fault.DeskFault.{DeskFault}
-use Rattle.seat_desk.specs.declared.fault.DeskFault.TheVariants.{Journal, Replay, Script, Unasked}
+use Rattle.seat_desk.specs.declared.fault.DeskFault.TheVariants.{Journal, NoBehind, Replay, Script, Unasked}
 use Rattle.seat_scripts.specs.Asked.{HasLoaded, OfThree}
 use Rattle.seat_scripts.specs.Requests.{AreScripts, IsRefusedAmong, IsTooLargeAmong}
 use Rattle.seat_scripts.specs.RunDesk.{requests_of, works_in}
@@ -61,11 +61,19 @@ pub record IsFirstUnasked (flights : List Flown) (scripts : List (List Request))
 
 -- ---- behind an older journal
 
--- the journal begins with the older lines, and the lines of each session behind them are the very requests of its script. Behind no lines that is AreAsked of the journal
-pub record AreAskedBehind (flights : List Flown) (scripts : List (List Request)) (older journal : List Entry) : Type 0
-  where
-    pub goes_on : Begins older journal
-    pub are_asked : AreAsked flights scripts goes_on.rest
+-- the journal is a past and the lines that were added to it: the past is the older lines, and so many lines more
+pub record IsParted (older : List Entry) (more : ℕ) (past added journal : List Entry) : Type 0 where
+  pub whole : journal ≡ past ++ added
+  pub goes_on : Begins older past
+  pub count : length past ≡ length older + more
+
+-- and the lines of each session that were added are the very requests of its script. Behind no lines that is AreAsked of the journal
+pub record AreAskedBehind (flights : List Flown) (scripts : List (List Request)) (older : List Entry) (more : ℕ)
+    (journal : List Entry) : Type 0 where
+  pub past : List Entry
+  pub added : List Entry
+  pub parted : IsParted older more past added journal
+  pub are_asked : AreAsked flights scripts added
 
 -- the line of the journal at a place, or the older one there where the journal has ended
 abbrev pub line_there : Option Entry → Option Entry → Option Entry
@@ -87,19 +95,33 @@ pub record IsNoBeginning (older journal : List Entry) (session call : ℕ) : Typ
   pub session_is : session ≡ named.session
   pub call_is : call ≡ named.call
 
--- it does, and of the lines behind them this is the first that is not asked: its call, which goes on from those of the older lines
-pub record IsUnaskedBehind (flights : List Flown) (scripts : List (List Request)) (older journal : List Entry)
-    (session call : ℕ) : Type 0 where
+-- it does, but has fewer lines than these and so many more
+pub record IsShort (older : List Entry) (more : ℕ) (journal : List Entry) : Type 0 where
   pub goes_on : Begins older journal
-  pub place : ℕ
-  pub first : IsFirstUnasked flights scripts goes_on.rest session place
-  pub call_is : call ≡ calls_of older session + place
+  pub short : length journal < length older + more
 
--- the fault names that session and that call
-abbrev pub IsUnasked : List Flown → List (List Request) → List Entry → List Entry → DeskFault → Type 0
-IsUnasked flights scripts older journal (Unasked session call) =
-    IsNoBeginning older journal session call ⊎ IsUnaskedBehind flights scripts older journal session call
-IsUnasked flights scripts older journal _ = ⊥
+-- it has no such past
+abbrev pub IsNoPast : List Entry → ℕ → List Entry → DeskFault → Type 0
+IsNoPast older more journal (Unasked session call) = IsNoBeginning older journal session call
+IsNoPast older more journal NoBehind = IsShort older more journal
+IsNoPast older more journal _ = ⊥
+
+-- it has them, and of the lines behind them this is the first that is not asked: its call, which goes on from those of the past
+pub record IsUnaskedBehind (flights : List Flown) (scripts : List (List Request)) (older : List Entry) (more : ℕ)
+    (journal : List Entry) (session call : ℕ) : Type 0 where
+  pub past : List Entry
+  pub added : List Entry
+  pub parted : IsParted older more past added journal
+  pub place : ℕ
+  pub first : IsFirstUnasked flights scripts added session place
+  pub call_is : call ≡ calls_of past session + place
+
+-- the fault names that session and that call, or says that there are fewer lines
+abbrev pub IsUnasked : List Flown → List (List Request) → List Entry → ℕ → List Entry → DeskFault → Type 0
+IsUnasked flights scripts older more journal (Unasked session call) =
+    IsNoBeginning older journal session call ⊎ IsUnaskedBehind flights scripts older more journal session call
+IsUnasked flights scripts older more journal NoBehind = IsShort older more journal
+IsUnasked flights scripts older more journal _ = ⊥
 
 -- a test of two commands, field by field
 abbrev pub same_command : Command → Command → Bool
@@ -119,9 +141,9 @@ pub record IsReplayWithin (grid : Ladders) (core : Inventory) (bytes : List ℕ)
   pub within : length bytes ≤ most_journal_bytes
   pub is_replay : IsReplayOf grid bytes core
 
--- the line audits the journal over the loaded grid; the journal goes on from the older one, and behind its lines those of each session are the very requests of its script, in order
-pub record IsAuditAgainst (set limits : List ℕ) (first days : ℕ) (after journal : List ℕ) (today : ℕ)
-    (texts : List (Option (List ℕ))) (line : List ℕ) : Type 0 where
+-- the line audits the journal over the loaded grid; the journal goes on from the older one, and behind its lines and so many more those of each session are the very requests of its script, in order
+pub record IsAuditAgainst (set limits : List ℕ) (first days : ℕ) (after : List ℕ) (more : ℕ) (journal : List ℕ)
+    (today : ℕ) (texts : List (Option (List ℕ))) (line : List ℕ) : Type 0 where
   pub flights : List Flown
   pub grid : Ladders
   pub is_loaded : IsLoaded set limits first days flights grid
@@ -131,7 +153,7 @@ pub record IsAuditAgainst (set limits : List ℕ) (first days : ℕ) (after jour
   pub is_audited : IsAudited grid journal line
   pub scripts : List (List Request)
   pub are_scripts : AreScripts today texts scripts
-  pub are_asked : AreAskedBehind flights scripts older.journal is_audited.entries
+  pub are_asked : AreAskedBehind flights scripts older.journal more is_audited.entries
 
 -- where the bytes of the set, of the limits and of both journals are known
 abbrev pub OfFour : Option (List ℕ) → Option (List ℕ) → Option (List ℕ) → Option (List ℕ)
@@ -155,11 +177,11 @@ AreReadOf set limits inputs after journal today texts flights older core scripts
     OfFour (set inputs.set) (limits inputs.limits) after journal
     (λ xs ys before zs. AreRead xs ys inputs.first inputs.days before zs today texts flights older core scripts)
 
-abbrev pub IsAuditAgainstOf : {S L : Type 0} → Bytes S → Bytes L → Inputs S L → Option (List ℕ) → Option (List ℕ) → ℕ
-    → List (Option (List ℕ)) → List ℕ → Type 0
-IsAuditAgainstOf set limits inputs after journal today texts line =
+abbrev pub IsAuditAgainstOf : {S L : Type 0} → Bytes S → Bytes L → Inputs S L → Option (List ℕ) → ℕ
+    → Option (List ℕ) → ℕ → List (Option (List ℕ)) → List ℕ → Type 0
+IsAuditAgainstOf set limits inputs after more journal today texts line =
     OfFour (set inputs.set) (limits inputs.limits) after journal
-    (λ xs ys older zs. IsAuditAgainst xs ys inputs.first inputs.days older zs today texts line)
+    (λ xs ys older zs. IsAuditAgainst xs ys inputs.first inputs.days older more zs today texts line)
 
 -- the older journal is right, and the fault is that of the journal
 pub record IsUnlawfulBeside (set limits : List ℕ) (first days : ℕ) (after journal : List ℕ) (fault : DeskFault) : Type 0
@@ -183,9 +205,9 @@ pub record IsNoScriptBeside (set limits : List ℕ) (first days : ℕ) (after jo
   pub is_replay : IsReplayWithin grid core journal
   pub is_refused : IsRefusedAmong today 1 texts fault
 
--- the journals and the scripts are right, but the journal does not begin with the older lines, or the lines behind them are not what the scripts ask for, and the fault names where they differ first
-pub record IsUnaskedBeside (set limits : List ℕ) (first days : ℕ) (after journal : List ℕ) (today : ℕ)
-    (texts : List (Option (List ℕ))) (fault : DeskFault) : Type 0 where
+-- the journals and the scripts are right, but the journal does not begin with the older lines, or has fewer than these and so many more, or the lines behind them are not the very requests of the scripts, and the fault names where they differ first
+pub record IsUnaskedBeside (set limits : List ℕ) (first days : ℕ) (after : List ℕ) (more : ℕ) (journal : List ℕ)
+    (today : ℕ) (texts : List (Option (List ℕ))) (fault : DeskFault) : Type 0 where
   pub flights : List Flown
   pub grid : Ladders
   pub is_loaded : IsLoaded set limits first days flights grid
@@ -195,26 +217,29 @@ pub record IsUnaskedBeside (set limits : List ℕ) (first days : ℕ) (after jou
   pub is_replay : IsReplayWithin grid core journal
   pub scripts : List (List Request)
   pub are_scripts : AreScripts today texts scripts
-  pub is_unasked : IsUnasked flights scripts older.journal core.journal fault
+  pub is_unasked : IsUnasked flights scripts older.journal more core.journal fault
 
 -- a fault of a journal is that of the older one, or else of the one behind it. A script's is the first of the first script that is none, and
--- one of a call stands where the journals, or the journal and the scripts, differ first. Any other is of the set, of its flights or of the limits
-abbrev pub AgainstRefusal : List ℕ → List ℕ → ℕ → ℕ → List ℕ → List ℕ → ℕ → List (Option (List ℕ)) → DeskFault → Type 0
-AgainstRefusal set limits first days after journal today texts (Journal fault) =
+-- one of a call stands where the journals, or the journal and the scripts, differ first, and one of lines where the journal has fewer. Any other is of the set, of its flights or of the limits
+abbrev pub AgainstRefusal : List ℕ → List ℕ → ℕ → ℕ → List ℕ → ℕ → List ℕ → ℕ → List (Option (List ℕ)) → DeskFault
+    → Type 0
+AgainstRefusal set limits first days after more journal today texts (Journal fault) =
     IsRefusedOver set limits first days (Journal fault) after
     ⊎ IsUnlawfulBeside set limits first days after journal (Journal fault)
-AgainstRefusal set limits first days after journal today texts (Replay fault) =
+AgainstRefusal set limits first days after more journal today texts (Replay fault) =
     IsRefusedOver set limits first days (Replay fault) after
     ⊎ IsUnlawfulBeside set limits first days after journal (Replay fault)
-AgainstRefusal set limits first days after journal today texts (Script session fault) =
+AgainstRefusal set limits first days after more journal today texts (Script session fault) =
     IsNoScriptBeside set limits first days after journal today texts (Script session fault)
-AgainstRefusal set limits first days after journal today texts (Unasked session call) =
-    IsUnaskedBeside set limits first days after journal today texts (Unasked session call)
-AgainstRefusal set limits first days after journal today texts fault = IsRefusedLoad set limits first days fault
+AgainstRefusal set limits first days after more journal today texts (Unasked session call) =
+    IsUnaskedBeside set limits first days after more journal today texts (Unasked session call)
+AgainstRefusal set limits first days after more journal today texts NoBehind =
+    IsUnaskedBeside set limits first days after more journal today texts NoBehind
+AgainstRefusal set limits first days after more journal today texts fault = IsRefusedLoad set limits first days fault
 
-pub record IsRefusedAgainst (set limits : List ℕ) (first days : ℕ) (after journal : List ℕ) (today : ℕ)
-    (texts : List (Option (List ℕ))) (fault : DeskFault) : Type 0 where
-  pub refusal : AgainstRefusal set limits first days after journal today texts fault
+pub record IsRefusedAgainst (set limits : List ℕ) (first days : ℕ) (after : List ℕ) (more : ℕ) (journal : List ℕ)
+    (today : ℕ) (texts : List (Option (List ℕ))) (fault : DeskFault) : Type 0 where
+  pub refusal : AgainstRefusal set limits first days after more journal today texts fault
 
 -- as far as the inputs are right: the set, the limits and the older journal
 pub record HasOlder (set limits : List ℕ) (first days : ℕ) (after : List ℕ) : Type 0 where
@@ -255,11 +280,11 @@ FailsAgainst set limits inputs after journal load_failed older_failed journal_fa
     (λ xs ys older zs. HasBoth xs ys inputs.first inputs.days older zs) × script_failed)))
 
 -- where the bytes of the four inputs are known
-abbrev pub IsRefusedAgainstOf : {S L : Type 0} → Bytes S → Bytes L → Inputs S L → Option (List ℕ) → Option (List ℕ) → ℕ
-    → List (Option (List ℕ)) → DeskFault → Type 0
-IsRefusedAgainstOf set limits inputs after journal today texts fault =
+abbrev pub IsRefusedAgainstOf : {S L : Type 0} → Bytes S → Bytes L → Inputs S L → Option (List ℕ) → ℕ
+    → Option (List ℕ) → ℕ → List (Option (List ℕ)) → DeskFault → Type 0
+IsRefusedAgainstOf set limits inputs after more journal today texts fault =
     OfFour (set inputs.set) (limits inputs.limits) after journal
-    (λ xs ys older zs. IsRefusedAgainst xs ys inputs.first inputs.days older zs today texts fault)
+    (λ xs ys older zs. IsRefusedAgainst xs ys inputs.first inputs.days older more zs today texts fault)
 
 abbrev pub IsTooLargeAgainstOf : {S L : Type 0} → Bytes S → Bytes L → Inputs S L → Option (List ℕ) → Option (List ℕ) → ℕ
     → List (Option (List ℕ)) → Type 0
@@ -269,18 +294,18 @@ IsTooLargeAgainstOf set limits inputs after journal today texts =
 
 -- ---- the laws
 
--- behind a journal without lines the lines of each session are the very requests of its script
+-- behind a journal without lines and so many lines more those of each session behind these are the very requests of its script
 abbrev pub AuditsBehindNoLines : Type 0
 AuditsBehindNoLines =
-    (set limits : List ℕ) (first days : ℕ) (after journal : List ℕ) (today : ℕ) (texts : List (Option (List ℕ)))
-    (line : List ℕ) →
-    IsJournalText after [] → (audit : IsAuditAgainst set limits first days after journal today texts line)
-    → AreAsked audit.flights audit.scripts audit.is_audited.entries
+    (set limits : List ℕ) (first days : ℕ) (after : List ℕ) (more : ℕ) (journal : List ℕ) (today : ℕ)
+    (texts : List (Option (List ℕ))) (line : List ℕ) →
+    IsJournalText after [] → (audit : IsAuditAgainst set limits first days after more journal today texts line)
+    → AreAsked audit.flights audit.scripts (drop more audit.is_audited.entries)
 
--- what is refused has no line: over the same inputs, each known, no journal that differs from the older one or from the scripts at a call also goes on from the one with just what the others ask
+-- what is refused has no line: over the same inputs, each known, no journal that differs from the older one or from the scripts at a call, or has fewer lines, also goes on from the one with just what the others ask
 abbrev pub UnaskedIsNotAudited : Type 0
 UnaskedIsNotAudited =
-    (set limits : List ℕ) (first days : ℕ) (after journal : List ℕ) (today : ℕ) (texts : List (List ℕ))
-    (fault : DeskFault) (line : List ℕ) →
-    IsUnaskedBeside set limits first days after journal today (map Some texts) fault
-    → IsAuditAgainst set limits first days after journal today (map Some texts) line → ⊥
+    (set limits : List ℕ) (first days : ℕ) (after : List ℕ) (more : ℕ) (journal : List ℕ) (today : ℕ)
+    (texts : List (List ℕ)) (fault : DeskFault) (line : List ℕ) →
+    IsUnaskedBeside set limits first days after more journal today (map Some texts) fault
+    → IsAuditAgainst set limits first days after more journal today (map Some texts) line → ⊥

@@ -44,10 +44,10 @@ RunsAreAudited =
 -- audit with scripts finds just these totals in the journal behind the older one, no fault, and no input too large
 pub record IsAcceptedAgainst (set limits : List ℕ) (first days : ℕ) (after journal : List ℕ) (today : ℕ)
     (texts : List (Option (List ℕ))) (totals : Totals) : Type 0 where
-  pub line : IsAuditAgainst set limits first days after journal today texts (audit_line totals)
-  pub only : (text : List ℕ) → IsAuditAgainst set limits first days after journal today texts text
+  pub line : IsAuditAgainst set limits first days after 0 journal today texts (audit_line totals)
+  pub only : (text : List ℕ) → IsAuditAgainst set limits first days after 0 journal today texts text
       → text ≡ audit_line totals
-  pub faultless : (fault : DeskFault) → IsRefusedAgainst set limits first days after journal today texts fault → ⊥
+  pub faultless : (fault : DeskFault) → IsRefusedAgainst set limits first days after 0 journal today texts fault → ⊥
   pub small : IsTooLargeAgainst set limits first days after journal today texts → ⊥
 
 -- so it is with the journal of every run, with its scripts and behind the journal that it went on from

@@ -5,6 +5,7 @@ pub mod Audits
 pub mod Changes
 pub mod First
 pub mod Going
+pub mod Replying
 pub mod Requests
 pub mod Resuming
 pub mod RunDesk

@@ -2,6 +2,7 @@
 ghost use Rattle.seat_scripts.specs.Against.{AuditsBehindNoLines, UnaskedIsNotAudited};
 ghost use Rattle.seat_scripts.specs.Audits.{RunsAreAudited, RunsAreAuditedAgainst};
 ghost use Rattle.seat_scripts.specs.First.{RunsFromNoLines};
+ghost use Rattle.seat_scripts.specs.Replying.{RepliesAreThoseOfTheRun};
 ghost use Rattle.seat_scripts.specs.Resuming.{NothingIsLeft};
 ghost use Rattle.seat_scripts.specs.Segments.{RequestsAreFlown};
 ghost use Rattle.seat_scripts.specs.VeryRequest.{CommandsAreVeryRequests};
@@ -30,7 +31,8 @@ pub fn unasked_is_not_audited()
     ensures { UnaskedIsNotAudited }
 {}
 
-/// Behind a journal without lines `audit` with scripts is that of one journal: the lines of each session are what its script asks.
+/// Behind a journal without lines `audit` with scripts is that of one journal: the lines of each session behind so many of its own are
+/// the very requests of its script.
 pub fn audits_behind_no_lines()
     ensures { AuditsBehindNoLines }
 {}
@@ -48,4 +50,10 @@ pub fn commands_are_very_requests()
 /// Scripts that were booked whole leave nothing to ask: to go on with the very same scripts once more books nothing.
 pub fn nothing_is_left()
     ensures { NothingIsLeft }
+{}
+
+/// What `run` wrote to standard output are the replies that [`desk_replies`](crate::desk_replies) words from its journal, with its
+/// scripts and behind the journal that it went on from.
+pub fn replies_are_those_of_the_run()
+    ensures { RepliesAreThoseOfTheRun }
 {}

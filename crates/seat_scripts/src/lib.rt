@@ -1,16 +1,19 @@
 //! The texts of a run: the requests of scripts and what they ask of the inventory, changes of limits, an older journal, and the
-//! replies to each line; and `audit` with scripts, which compares a journal with what they ask. It knows texts and the order in
+//! replies to each line; and `audit` with scripts, which compares a journal with what they ask, and `replies`, which
+//! words the replies to it once more. It knows texts and the order in
 //! which they are read and written, and nothing of sessions, locks or threads.
 #![tactic(auto)]
 
 mod against;
 mod asked;
+mod by_session;
 mod changes;
 mod commands;
 mod laws;
 mod past;
 mod readable;
 mod replies;
+mod replying;
 mod resuming;
 mod scripts;
 mod very_request;
@@ -18,14 +21,17 @@ mod writing;
 
 pub use against::desk_audit_against;
 pub use asked::{Asked, read_asked};
+pub use by_session::session_replies;
 pub use commands::lists_over;
 pub use laws::{
-    audits_behind_no_lines, commands_are_very_requests, nothing_is_left, requests_are_flown,
-    runs_are_audited, runs_are_audited_against, runs_from_no_lines, unasked_is_not_audited,
+    audits_behind_no_lines, commands_are_very_requests, nothing_is_left,
+    replies_are_those_of_the_run, requests_are_flown, runs_are_audited, runs_are_audited_against,
+    runs_from_no_lines, unasked_is_not_audited,
 };
 pub use past::{Past, past_of};
 pub use readable::prove_entries;
 pub use replies::put_answer;
+pub use replying::desk_replies;
 pub use resuming::what_is_left;
 pub use scripts::Scripts;
 pub use writing::write_both;

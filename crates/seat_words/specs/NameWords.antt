@@ -1,4 +1,4 @@
--- Words that name a pair of stations, or a line of a journal.
+-- Words that name a pair of stations, a line of a journal, or how many lines it began with.
 use Rattle.std.specs.Prelude.{◌≡◌, ℕ, ◌≤◌, ◌&&◌, if◌then◌else◌, true, List, length, take, drop, Option, Some, None}
 use Rattle.std.specs.Char.{is_ascii_digit}
 use Rattle.std.specs.List.{list_all}
@@ -16,3 +16,10 @@ pub record IsLineWord (word : List ℕ) (n : ℕ) : Type 0 where
   pub short : length word ≤ 6
   pub value : digits_value 10 word ≡ n
   pub least : 1 ≤ n
+
+-- the word is n in one to six digits
+pub record IsBehindWord (word : List ℕ) (n : ℕ) : Type 0 where
+  pub digits : list_all is_ascii_digit word ≡ true
+  pub some : 1 ≤ length word
+  pub short : length word ≤ 6
+  pub value : digits_value 10 word ≡ n

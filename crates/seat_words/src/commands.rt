@@ -1,7 +1,7 @@
 //! The commands, as clap reads them and as their help shows them.
 ghost use Rattle.std.specs.Prelude.{IfOk, IsOkAnd, codes};
 ghost use Rattle.clap.specs.Words.{AddsArg, App, new_app};
-ghost use Rattle.seat_words.specs.CommandLine.{IsBuiltAs, IsReadAlike, IsReadAs, audit_app, bare_app, bookings_app, check_app, cover_app, explain_app, flag, flights_app, horizon_app, ladder_app, lettered_flag, named_app, optional, optional_value, optional_values, required_option, required_value, rooms_app, run_app, seatdesk_app, selling_app, why_app, with_command, with_verbose};
+ghost use Rattle.seat_words.specs.CommandLine.{IsBuiltAs, IsReadAlike, IsReadAs, audit_app, bare_app, bookings_app, check_app, cover_app, explain_app, flag, flights_app, horizon_app, ladder_app, lettered_flag, named_app, optional, optional_value, optional_values, replies_app, required_option, required_value, rooms_app, run_app, seatdesk_app, selling_app, why_app, with_command, with_verbose};
 
 use clap::{Arg, ArgAction, Command};
 use std::alloc::{AllocError, Global};
@@ -32,6 +32,12 @@ const AFTER_HELP: &str =
 
 const OLDER_HELP: &str =
     "The journal that JOURNAL goes on from (a file); the scripts ask for the lines behind its own";
+
+const REPLIED_HELP: &str =
+    "The journal that JOURNAL goes on from (a file); the replies are those to the lines behind its own";
+
+const BEHIND_HELP: &str =
+    "How many lines JOURNAL began with, 0 to 999999, in place of --after; the scripts ask for the lines behind them";
 
 const JOURNAL_HELP: &str = "The journal to replay: a file that run wrote, or - for standard input";
 
@@ -77,6 +83,7 @@ pub(crate) fn seatdesk_command<'a>(alloc: Global) -> Result<Command<'a>, AllocEr
     let program = selling_command(alloc);
     let program = with_command(alloc, program, bookings_command(alloc));
     let program = with_command(alloc, program, audit_command(alloc));
+    let program = with_command(alloc, program, replies_command(alloc));
     let program = with_command(alloc, program, why_command(alloc));
     with_command(alloc, program, explain_command(alloc))
 }
@@ -260,6 +267,7 @@ fn audit_command<'a>(alloc: Global) -> Result<Command<'a>, AllocError>
         audit,
         optional_option(alloc, "after", "JOURNAL", OLDER_HELP),
     );
+    let audit = with_argument(audit, optional_option(alloc, "behind", "N", BEHIND_HELP));
     let audit = with_argument(audit, optional_option(alloc, "today", "DATE", TODAY_HELP));
     let audit = with_argument(
         audit,
@@ -268,6 +276,31 @@ fn audit_command<'a>(alloc: Global) -> Result<Command<'a>, AllocError>
     with_argument(
         audit,
         optional_values(alloc, "scripts", "SCRIPT", ASKED_HELP),
+    )
+}
+
+fn replies_command<'a>(alloc: Global) -> Result<Command<'a>, AllocError>
+    ensures { IfOk result (IsBuiltAs replies_app) }
+{
+    let replies = horizon_command(
+        alloc,
+        "replies",
+        "Writes the replies of a run once more, from its journal and its scripts",
+        "It writes what run wrote to standard output, and refuses what audit refuses with the same words.\n\nExample: seatdesk replies --set examples/summer.ssim --limits examples/limits.txt --first 2024-07-01 --days 31 --today 2024-06-20 examples/journal.txt examples/london.txt examples/lisbon.txt",
+    );
+    let replies = with_argument(
+        replies,
+        optional_option(alloc, "after", "JOURNAL", REPLIED_HELP),
+    );
+    let replies = with_argument(replies, optional_option(alloc, "behind", "N", BEHIND_HELP));
+    let replies = with_argument(replies, wanted_option(alloc, "today", "DATE", TODAY_HELP));
+    let replies = with_argument(
+        replies,
+        wanted_value(alloc, "journal", "JOURNAL", JOURNAL_HELP),
+    );
+    with_argument(
+        replies,
+        optional_values(alloc, "scripts", "SCRIPT", SCRIPTS_HELP),
     )
 }
 

@@ -105,6 +105,14 @@ pub fn examples_are_read()
         ∷ (codes "after", codes "examples/journal.txt" ∷ []) ∷ (codes "today", codes "2024-06-21" ∷ [])
         ∷ (codes "journal", codes "journal-2.txt" ∷ []) ∷ (codes "scripts", codes "examples/london-2.txt" ∷ [])
         ∷ (codes "verbose", codes "false" ∷ []) ∷ []) }
+    ensures replies { IsReadTo
+        (codes "seatdesk replies --set examples/summer.ssim --limits examples/limits.txt --first 2024-07-01 --days 31 --today 2024-06-20 examples/journal.txt examples/london.txt examples/lisbon.txt")
+        (codes "replies")
+        ((codes "set", codes "examples/summer.ssim" ∷ []) ∷ (codes "limits", codes "examples/limits.txt" ∷ [])
+        ∷ (codes "first", codes "2024-07-01" ∷ []) ∷ (codes "days", codes "31" ∷ [])
+        ∷ (codes "today", codes "2024-06-20" ∷ []) ∷ (codes "journal", codes "examples/journal.txt" ∷ [])
+        ∷ (codes "scripts", codes "examples/london.txt" ∷ codes "examples/lisbon.txt" ∷ [])
+        ∷ (codes "verbose", codes "false" ∷ []) ∷ []) }
     ensures why { IsReadTo
         (codes "seatdesk why --set examples/summer.ssim --limits examples/limits.txt --first 2024-07-01 --days 31 --line 6 examples/journal.txt")
         (codes "why")

@@ -20,6 +20,8 @@ pub enum WordFault {
     BadLocator,
     /// The number of a line is not one of 1 to 999999.
     BadLine,
+    /// The number of lines that the journal began with is not one of 0 to 999999, or an older journal says it too.
+    BadBehind,
     /// The file of the journal is an input or that of the replies, is another run's, or may not be replaced.
     BadJournal,
     /// A word is not UTF-8.
@@ -43,6 +45,7 @@ impl fmt::Display for WordFault {
             WordFault::BadPair => "E2 pair",
             WordFault::BadLocator => "E2 locator",
             WordFault::BadLine => "E2 line",
+            WordFault::BadBehind => "E2 behind",
             WordFault::BadJournal => "E2 journal",
             WordFault::BadWords => "E2 words",
         })

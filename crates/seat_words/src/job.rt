@@ -65,11 +65,22 @@ pub enum Job<'a> {
         locator: &'a str,
         journal: &'a str,
     },
-    /// `seatdesk audit` over a horizon `[--after JOURNAL] [--today DATE] JOURNAL [SCRIPT...]`
+    /// `seatdesk audit` over a horizon `[--after JOURNAL] [--behind N] [--today DATE] JOURNAL [SCRIPT...]`
     Audit {
         over: Horizon<'a>,
         after: Option<&'a str>,
+        behind: Option<&'a str>,
         today: Option<&'a str>,
+        journal: &'a str,
+        /// None or more.
+        scripts: Several<'a>,
+    },
+    /// `seatdesk replies` over a horizon `[--after JOURNAL] [--behind N] --today DATE JOURNAL [SCRIPT...]`
+    Replies {
+        over: Horizon<'a>,
+        after: Option<&'a str>,
+        behind: Option<&'a str>,
+        today: &'a str,
         journal: &'a str,
         /// None or more.
         scripts: Several<'a>,
@@ -183,7 +194,16 @@ fn job_named<'a>(alloc: Global, name: &str, matches: &ArgMatches<'a>) -> Result<
         "audit" => Job::Audit {
             over: horizon_of(matches),
             after: may_value_of(matches, "after"),
+            behind: may_value_of(matches, "behind"),
             today: may_value_of(matches, "today"),
+            journal: value_of(matches, "journal"),
+            scripts: any_values_of(alloc, matches, "scripts")?,
+        },
+        "replies" => Job::Replies {
+            over: horizon_of(matches),
+            after: may_value_of(matches, "after"),
+            behind: may_value_of(matches, "behind"),
+            today: value_of(matches, "today"),
             journal: value_of(matches, "journal"),
             scripts: any_values_of(alloc, matches, "scripts")?,
         },

@@ -1,7 +1,7 @@
-//! Words that name a pair of stations, a locator or a line of a journal.
+//! Words that name a pair of stations, a locator, a line of a journal, or how many lines it began with.
 ghost use Rattle.std.specs.Prelude.{◌≡◌, ℕ, IfSome, Some, None, if◌then◌else◌};
 ghost use Rattle.airline_base.specs.Names.{is_locator};
-ghost use Rattle.seat_words.specs.NameWords.{IsLineWord, pair_word_in};
+ghost use Rattle.seat_words.specs.NameWords.{IsBehindWord, IsLineWord, pair_word_in};
 
 use airline_base::fields::{are_digits, value_of};
 use airline_base::{Locator, Station};
@@ -35,4 +35,16 @@ pub fn line_word(word: &str) -> Option<u32>
         return None;
     }
     Some(line)
+}
+
+/// How many lines the word names: one to six digits, of value 0 to 999,999.
+pub fn behind_word(word: &str) -> Option<u32>
+    ensures value { IfSome result (IsBehindWord word.now) }
+    ensures only { (n : ℕ) → IsBehindWord word.now n → result ≡ Some n }
+{
+    let digits = word.as_bytes();
+    if digits.is_empty() || 6 < digits.len() || !are_digits(digits) {
+        return None;
+    }
+    Some(value_of(digits))
 }

@@ -535,7 +535,7 @@ const ENTRIES: &[Explanation] = &[
         behind: "",
         code: "P8",
         numbers: &["session", "call of that session"],
-        text: "The journal's line of that call is not what the script of the session asks there,\nor one of them has more. The journal may be of other scripts, another first day or another data set.\nWith --after calls go on from those of the older journal. Where the journal does not begin with its\nlines, the session and the call are those of the first line that differs, which may be of session 0.",
+        text: "The journal's line of that call is not what the script of the session asks there,\nor one of them has more. The journal may be of other scripts, another first day or another data set.\nWith --after calls go on from those of the older journal, with --behind from those of the lines before.\nWhere the journal does not begin with the older one's lines, the session and the call are those of the\nfirst line that differs, which may be of session 0.",
     },
 ];
 
@@ -563,7 +563,7 @@ const WORDS: &[Explanation] = &[
         behind: "E2",
         code: "script",
         numbers: NONE,
-        text: "There are more than 8 scripts, or some have a number ahead of their file, as 3=lisbon.txt, and some have none,\nor a number is not 1 to 8, stands twice or has no file behind it. A file whose name begins so is ./3=lisbon.txt.\nOr there is no script: run needs one unless it has --changes, and audit where it has --after or --today.",
+        text: "There are more than 8 scripts, or some have a number ahead of their file, as 3=lisbon.txt, and some have none,\nor a number is not 1 to 8, stands twice or has no file behind it. A file whose name begins so is ./3=lisbon.txt.\nOr there is no script: run needs one unless it has --changes, and audit where it has --after, --behind or --today.",
     },
     Explanation {
         behind: "E2",
@@ -588,6 +588,12 @@ const WORDS: &[Explanation] = &[
         code: "line",
         numbers: NONE,
         text: "--line is no number of 1 to 999999, or the journal has no such line.",
+    },
+    Explanation {
+        behind: "E2",
+        code: "behind",
+        numbers: NONE,
+        text: "--behind is no number of 0 to 999999, or stands beside --after, or the journal has fewer lines.",
     },
     Explanation {
         behind: "E2",

@@ -21,7 +21,7 @@ use clap::error::ErrorKind;
 use refusal::{Refusal, Undone};
 use seat_desk::DeskFault;
 use seat_words::{Job, WordFault, read_words};
-use selling::Asking;
+use selling::{Asking, Older};
 use std::io;
 use std::io::IsTerminal;
 use std::process::ExitCode;
@@ -94,10 +94,31 @@ fn carry_out<'a, T: Threads + Wait + Sync>(
         Job::Audit {
             over,
             after,
+            behind,
             today,
             journal,
             scripts,
-        } => selling::audit(rt, over, *after, *today, journal, scripts.as_slice())?,
+        } => {
+            let older = Older {
+                after: *after,
+                behind: *behind,
+            };
+            selling::audit(rt, over, &older, *today, journal, scripts.as_slice())?
+        }
+        Job::Replies {
+            over,
+            after,
+            behind,
+            today,
+            journal,
+            scripts,
+        } => {
+            let older = Older {
+                after: *after,
+                behind: *behind,
+            };
+            selling::replies(rt, over, &older, today, journal, scripts.as_slice())?
+        }
         Job::Rooms {
             over,
             day,

@@ -1,4 +1,4 @@
-//! The commands that sell, or look at what was sold: `run`, and `audit` with the scripts of a run.
+//! The commands that sell, or look at what was sold: `run`, and `audit` and `replies` with the scripts of a run.
 //! It knows which stream is which, and nothing of what the commands do with them.
 ghost use Rattle.std.specs.Prelude.{◌≤◌, IfOk, length};
 ghost use Rattle.airline_base.specs.Days.{IsCenturyDay};
@@ -16,17 +16,24 @@ use crate::streams::{Input, Output, opened_or, standard_output, taken};
 use airline_base::Day;
 use seat_desk::{Inputs, NO_LINES};
 use seat_run::desk_run;
-use seat_scripts::desk_audit_against;
-use seat_words::{Horizon, WordFault, audit_lacks, date_word, sessions_of_run};
+use seat_scripts::{desk_audit_against, desk_replies};
+use seat_words::{Horizon, WordFault, audit_lacks, behind_word, date_word, sessions_of_run};
 use seat_workers::NoGate;
 use std::sync::Wait;
 use std::thread::Threads;
 
-/// Without a script the journal is looked at alone. Scripts need the day of the run, and it needs scripts, as an older journal does.
+/// What a journal goes on from, as it was written: an older journal, or so many lines of its own.
+#[derive(Clone, Copy)]
+pub struct Older<'a> {
+    pub after: Option<&'a str>,
+    pub behind: Option<&'a str>,
+}
+
+/// Without a script the journal is looked at alone. Scripts need the day of the run, and it needs scripts, as older lines do.
 pub fn audit<'a>(
     rt: &HostRuntime,
     over: &Horizon<'a>,
-    after: Option<&'a str>,
+    older: &Older<'a>,
     today: Option<&str>,
     journal: &'a str,
     scripts: &[&'a str],
@@ -36,13 +43,29 @@ pub fn audit<'a>(
         Some(today) => Some(day_of_run(today)?),
         None => None,
     };
-    if let Some(fault) = audit_lacks(!scripts.is_empty(), after.is_some(), today.is_some()) {
+    let more = lines_behind(older)?;
+    let has_older = older.after.is_some() || older.behind.is_some();
+    if let Some(fault) = audit_lacks(!scripts.is_empty(), has_older, today.is_some()) {
         return Err(Refusal::from(fault));
     }
     let Some(today) = today else {
         return commands::audit(rt, over, days, journal);
     };
-    audit_against(rt, over, days, after, today, journal, scripts)
+    audit_against(rt, over, days, older.after, more, today, journal, scripts)
+}
+
+/// How many lines the past has behind those of an older journal: `--behind` stands in place of `--after`.
+fn lines_behind(older: &Older<'_>) -> Result<u32, WordFault> {
+    let Some(word) = older.behind else {
+        return Ok(0);
+    };
+    if older.after.is_some() {
+        return Err(WordFault::BadBehind);
+    }
+    match behind_word(word) {
+        Some(more) => Ok(more),
+        None => Err(WordFault::BadBehind),
+    }
 }
 
 fn audit_against<'a>(
@@ -50,6 +73,7 @@ fn audit_against<'a>(
     over: &Horizon<'a>,
     days: (Day, u16),
     after: Option<&'a str>,
+    more: u32,
     today: Day,
     journal: &'a str,
     scripts: &[&'a str],
@@ -73,6 +97,51 @@ fn audit_against<'a>(
         rt.alloc(),
         &mut inputs,
         &mut after,
+        more,
+        &mut journal,
+        scripts.as_mut_slice(),
+        today,
+        &mut out,
+    );
+    let ahead = told(
+        outcome,
+        &[&inputs.set, &inputs.limits, &after, &journal],
+        &[],
+    );
+    match behind(ahead, scripts.as_slice(), &[], &[&out]) {
+        Ok(()) => Ok(()),
+        Err(refusal) => Err(refusal.noting_unasked(&journal)),
+    }
+}
+
+/// A run without a script had changes alone.
+pub fn replies<'a>(
+    rt: &HostRuntime,
+    over: &Horizon<'a>,
+    older: &Older<'a>,
+    today: &str,
+    journal: &'a str,
+    scripts: &[&'a str],
+) -> Result<(), Refusal<'a>> {
+    let days = days_of(over.first, over.days)?;
+    let today = day_of_run(today)?;
+    let more = lines_behind(older)?;
+    let Some(sessions) = sessions_of_run(scripts, true) else {
+        return Err(Refusal::from(WordFault::BadScripts));
+    };
+    let mut inputs = match inputs_of(rt, over, days) {
+        Ok(inputs) => inputs,
+        Err(refusal) => return Err(refusal),
+    };
+    let mut after = opened_or(rt, older.after, &NO_LINES)?;
+    let mut journal = taken(rt, journal)?;
+    let mut scripts = scripts_opened(rt, scripts, sessions)?;
+    let mut out = standard_output(rt);
+    let outcome = desk_replies(
+        rt.alloc(),
+        &mut inputs,
+        &mut after,
+        more,
         &mut journal,
         scripts.as_mut_slice(),
         today,

@@ -9,15 +9,15 @@ pub returns-in_err-line-clause-fault : goal.returns-in_err-line-clause-fault
 returns-in_err-line-clause-fault g c =
     let p = err_from_is_err_and c.from_residual-in_err-line.result c.from_residual-in_err-line.ensures.1 in
     rw (p.1, p.2) (refused_unasked (g.S.Read.remaining c.args.inputs.now.set) (g.L.Read.remaining c.args.inputs.now.limits) (g.A.Read.remaining c.args.after.now) (g.J.Read.remaining c.args.journal.now)
-    c.args.inputs.now.first c.args.inputs.now.days c.args.today (map g.C.Read.remaining c.args.scripts.now)
-    c.in_ok-read.read.flights c.in_ok-read.read.older c.in_ok-read.read.core c.in_ok-read.read.scripts c.as_slice.result.now c.as_slice.ensures c.in_ok-read.ensures.ok c.in_err-line.field-0.0 c.in_err-line.ensures.fault)
+    c.args.inputs.now.first c.args.inputs.now.days c.args.more c.args.today (map g.C.Read.remaining c.args.scripts.now)
+    c.in_ok-read.read.flights c.in_ok-read.read.older c.in_ok-read.read.core c.in_ok-read.read.scripts c.as_slice.result.now c.as_slice.ensures c.in_ok-read.read.more c.in_ok-read.ensures.more c.in_ok-read.ensures.ok c.in_err-line.field-0.0 c.in_err-line.ensures.fault)
 
 pub returns-in-Ok-clause-ok : goal.returns-in-Ok-clause-ok
 returns-in-Ok-clause-ok g c = record {
   text = c.in_ok-line.line.items;
   right = audited (g.S.Read.remaining c.args.inputs.now.set) (g.L.Read.remaining c.args.inputs.now.limits) (g.A.Read.remaining c.args.after.now) (g.J.Read.remaining c.args.journal.now)
-      c.args.inputs.now.first c.args.inputs.now.days c.args.today (map g.C.Read.remaining c.args.scripts.now)
-      c.in_ok-read.read.flights c.in_ok-read.read.older c.in_ok-read.read.core c.in_ok-read.read.scripts c.as_slice.result.now c.as_slice.ensures c.in_ok-read.ensures.ok c.in_ok-line.line.items c.in_ok-line.ensures.ok c.in_ok-line.ensures.asked;
+      c.args.inputs.now.first c.args.inputs.now.days c.args.more c.args.today (map g.C.Read.remaining c.args.scripts.now)
+      c.in_ok-read.read.flights c.in_ok-read.read.older c.in_ok-read.read.core c.in_ok-read.read.scripts c.as_slice.result.now c.as_slice.ensures c.in_ok-read.read.more c.in_ok-read.ensures.more c.in_ok-read.ensures.ok c.in_ok-line.line.items c.in_ok-line.ensures.ok c.in_ok-line.ensures.asked;
   written = subst (λ (l : List ℕ). Appends (g.W.Write.contents c.args.out.now) (g.W.Write.contents c.put_all.new.out) l) c.deref.ensures.value c.in-Ok.ensures.ok;
 }
 
@@ -26,7 +26,7 @@ returns-clause-device g c = λ _. inr (record {
   counted = c.in-Err.ensures.device;
   text = c.in_ok-line.line.items;
   right = audited (g.S.Read.remaining c.args.inputs.now.set) (g.L.Read.remaining c.args.inputs.now.limits) (g.A.Read.remaining c.args.after.now) (g.J.Read.remaining c.args.journal.now)
-      c.args.inputs.now.first c.args.inputs.now.days c.args.today (map g.C.Read.remaining c.args.scripts.now)
-      c.in_ok-read.read.flights c.in_ok-read.read.older c.in_ok-read.read.core c.in_ok-read.read.scripts c.as_slice.result.now c.as_slice.ensures c.in_ok-read.ensures.ok c.in_ok-line.line.items c.in_ok-line.ensures.ok c.in_ok-line.ensures.asked;
+      c.args.inputs.now.first c.args.inputs.now.days c.args.more c.args.today (map g.C.Read.remaining c.args.scripts.now)
+      c.in_ok-read.read.flights c.in_ok-read.read.older c.in_ok-read.read.core c.in_ok-read.read.scripts c.as_slice.result.now c.as_slice.ensures c.in_ok-read.read.more c.in_ok-read.ensures.more c.in_ok-read.ensures.ok c.in_ok-line.line.items c.in_ok-line.ensures.ok c.in_ok-line.ensures.asked;
   begun = subst (λ (l : List ℕ). TookFront (g.W.Write.contents c.args.out.now) (g.W.Write.contents c.put_all.new.out) l) c.deref.ensures.value c.in-Err.ensures.front;
 })

@@ -7,7 +7,7 @@ pub returns-in_err-older-clause-fault : goal.returns-in_err-older-clause-fault
 returns-in_err-older-clause-fault g c =
     let p = err_from_is_err_and c.from_residual-in_err-older.result c.from_residual-in_err-older.ensures.1 in
     rw (p.1, p.2) (refused_older (g.S.Read.remaining c.args.inputs.now.set) (g.L.Read.remaining c.args.inputs.now.limits) (g.A.Read.remaining c.args.after.now) (g.J.Read.remaining c.args.journal.now)
-    c.args.inputs.now.first c.args.inputs.now.days c.args.today (map g.C.Read.remaining c.args.scripts.now)
+    c.args.inputs.now.first c.args.inputs.now.days c.args.more c.args.today (map g.C.Read.remaining c.args.scripts.now)
     c.in_ok-flights.field-0.flights c.in_ok-flights.field-0.grid c.in_ok-flights.ensures.ok
     c.in_err-older.field-0.0 c.in_err-older.ensures.fault)
 
@@ -32,7 +32,7 @@ pub returns-in_err-core-clause-fault : goal.returns-in_err-core-clause-fault
 returns-in_err-core-clause-fault g c =
     let p = err_from_is_err_and c.from_residual-in_err-core.result c.from_residual-in_err-core.ensures.1 in
     rw (p.1, p.2) (refused_journal (g.S.Read.remaining c.args.inputs.now.set) (g.L.Read.remaining c.args.inputs.now.limits) (g.A.Read.remaining c.args.after.now) (g.J.Read.remaining c.args.journal.now)
-    c.args.inputs.now.first c.args.inputs.now.days c.args.today (map g.C.Read.remaining c.args.scripts.now)
+    c.args.inputs.now.first c.args.inputs.now.days c.args.more c.args.today (map g.C.Read.remaining c.args.scripts.now)
     c.in_ok-flights.field-0.flights c.in_ok-flights.field-0.grid c.in_ok-flights.ensures.ok
     c.in_ok-older.older c.in_ok-older.ensures.ok c.in_err-core.field-0.0 c.in_err-core.ensures.fault)
 
@@ -58,7 +58,7 @@ returns-in_err-core-clause-device g c =
 pub returns-in-Err-clause-fault : goal.returns-in-Err-clause-fault
 returns-in-Err-clause-fault g c =
     refused_script (g.S.Read.remaining c.args.inputs.now.set) (g.L.Read.remaining c.args.inputs.now.limits) (g.A.Read.remaining c.args.after.now) (g.J.Read.remaining c.args.journal.now)
-    c.args.inputs.now.first c.args.inputs.now.days c.args.today (map g.C.Read.remaining c.args.scripts.now)
+    c.args.inputs.now.first c.args.inputs.now.days c.args.more c.args.today (map g.C.Read.remaining c.args.scripts.now)
     c.in_ok-flights.field-0.flights c.in_ok-flights.field-0.grid c.in_ok-flights.ensures.ok
     c.in_ok-older.older c.in_ok-older.ensures.ok c.in_ok-core.core c.in_ok-core.ensures.ok c.in-Err.fault c.in-Err.ensures.script c.in-Err.ensures.fault
 

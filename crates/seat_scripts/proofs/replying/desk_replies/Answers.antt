@@ -1,0 +1,32 @@
+use Rattle.std.proofs.Common.{ℕ, List, inr, map, subst}
+use Rattle.std.proofs.lemmas.Result.{err_from_is_err_and}
+use Rattle.std.specs.Io.KnownBytes.{Appends}
+use Rattle.airline_base.specs.Noting.{TookFront}
+use Rattle.seat_scripts.proofs.Beside.{replied, refused_unasked}
+use Rattle.seat_scripts.proofs.replying.desk_replies.Goals as goal
+
+pub returns-in_err-text-clause-fault : goal.returns-in_err-text-clause-fault
+returns-in_err-text-clause-fault g c =
+    let p = err_from_is_err_and c.from_residual-in_err-text.result c.from_residual-in_err-text.ensures.1 in
+    rw (p.1, p.2) (refused_unasked (g.S.Read.remaining c.args.inputs.now.set) (g.L.Read.remaining c.args.inputs.now.limits) (g.A.Read.remaining c.args.after.now) (g.J.Read.remaining c.args.journal.now)
+    c.args.inputs.now.first c.args.inputs.now.days c.args.more c.args.today (map g.C.Read.remaining c.args.scripts.now)
+    c.in_ok-read.read.flights c.in_ok-read.read.older c.in_ok-read.read.core c.in_ok-read.read.scripts c.as_slice.result.now c.as_slice.ensures c.in_ok-read.read.more c.in_ok-read.ensures.more c.in_ok-read.ensures.ok c.in_err-text.field-0.0 c.in_err-text.ensures.fault)
+
+pub returns-in-Ok-clause-ok : goal.returns-in-Ok-clause-ok
+returns-in-Ok-clause-ok g c = record {
+  text = c.in_ok-text.text.items;
+  right = replied (g.S.Read.remaining c.args.inputs.now.set) (g.L.Read.remaining c.args.inputs.now.limits) (g.A.Read.remaining c.args.after.now) (g.J.Read.remaining c.args.journal.now)
+      c.args.inputs.now.first c.args.inputs.now.days c.args.more c.args.today (map g.C.Read.remaining c.args.scripts.now)
+      c.in_ok-read.read.flights c.in_ok-read.read.older c.in_ok-read.read.core c.in_ok-read.read.scripts c.as_slice.result.now c.as_slice.ensures c.in_ok-read.read.more c.in_ok-read.ensures.more c.in_ok-read.ensures.ok c.in_ok-text.text.items c.in_ok-text.ensures.ok;
+  written = subst (λ (l : List ℕ). Appends (g.W.Write.contents c.args.out.now) (g.W.Write.contents c.put_all.new.out) l) c.deref.ensures.value c.in-Ok.ensures.ok;
+}
+
+pub returns-clause-device : goal.returns-clause-device
+returns-clause-device g c = λ _. inr (record {
+  counted = c.in-Err.ensures.device;
+  text = c.in_ok-text.text.items;
+  right = replied (g.S.Read.remaining c.args.inputs.now.set) (g.L.Read.remaining c.args.inputs.now.limits) (g.A.Read.remaining c.args.after.now) (g.J.Read.remaining c.args.journal.now)
+      c.args.inputs.now.first c.args.inputs.now.days c.args.more c.args.today (map g.C.Read.remaining c.args.scripts.now)
+      c.in_ok-read.read.flights c.in_ok-read.read.older c.in_ok-read.read.core c.in_ok-read.read.scripts c.as_slice.result.now c.as_slice.ensures c.in_ok-read.read.more c.in_ok-read.ensures.more c.in_ok-read.ensures.ok c.in_ok-text.text.items c.in_ok-text.ensures.ok;
+  begun = subst (λ (l : List ℕ). TookFront (g.W.Write.contents c.args.out.now) (g.W.Write.contents c.put_all.new.out) l) c.deref.ensures.value c.in-Err.ensures.front;
+})

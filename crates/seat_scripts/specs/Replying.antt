@@ -1,0 +1,52 @@
+-- What `replies` writes: the replies of the run that added lines to a journal, from the journal and the scripts.
+use Rattle.std.specs.Prelude.{ℕ, List, map, Option, Some}
+use Rattle.airimp_lines.specs.declared.requests.Request.{Request}
+use Rattle.ssim_flights.specs.declared.flight.Flight.{Flight as Flown}
+use Rattle.seat_nesting.specs.Nesting.{Ladders}
+use Rattle.seat_journal.specs.declared.entry.Entry.{Entry}
+use Rattle.seat_rules.specs.Inventory.{Inventory}
+use Rattle.seat_desk.specs.Loading.{Bytes, IsLoaded}
+use Rattle.seat_desk.specs.declared.inputs.Inputs.{Inputs}
+use Rattle.seat_scripts.specs.Against.{AreAsked, IsParted, IsReplayWithin, OfFour}
+use Rattle.seat_scripts.specs.Requests.{AreScripts}
+use Rattle.seat_scripts.specs.RunDesk.{AreReplies, IsRun}
+
+-- the journal is a past and the lines that the scripts added to it, and the text replies to these
+pub record AreRepliesBehind (flights : List Flown) (scripts : List (List Request)) (older : List Entry) (more : ℕ)
+    (journal : List Entry) (text : List ℕ) : Type 0 where
+  pub past : List Entry
+  pub added : List Entry
+  pub parted : IsParted older more past added journal
+  pub are_asked : AreAsked flights scripts added
+  pub are_replies : AreReplies flights past scripts added text
+
+-- so it is with the lines of the journal, over the loaded grid
+pub record AreRepliesOver (set limits : List ℕ) (first days : ℕ) (after : List ℕ) (more : ℕ) (journal : List ℕ)
+    (today : ℕ) (texts : List (Option (List ℕ))) (text : List ℕ) : Type 0 where
+  pub flights : List Flown
+  pub grid : Ladders
+  pub is_loaded : IsLoaded set limits first days flights grid
+  pub older : Inventory
+  pub is_older : IsReplayWithin grid older after
+  pub core : Inventory
+  pub is_replay : IsReplayWithin grid core journal
+  pub scripts : List (List Request)
+  pub are_scripts : AreScripts today texts scripts
+  pub are_replies : AreRepliesBehind flights scripts older.journal more core.journal text
+
+-- where the bytes of the set, of the limits and of both journals are known
+abbrev pub AreRepliesOverOf : {S L : Type 0} → Bytes S → Bytes L → Inputs S L → Option (List ℕ) → ℕ
+    → Option (List ℕ) → ℕ → List (Option (List ℕ)) → List ℕ → Type 0
+AreRepliesOverOf set limits inputs after more journal today texts text =
+    OfFour (set inputs.set) (limits inputs.limits) after journal
+    (λ xs ys older zs. AreRepliesOver xs ys inputs.first inputs.days older more zs today texts text)
+
+-- ---- the law
+
+-- what a run wrote to standard output are the replies to its journal, with its scripts and behind the journal that it went on from
+abbrev pub RepliesAreThoseOfTheRun : Type 0
+RepliesAreThoseOfTheRun =
+    (set limits : List ℕ) (first days today : ℕ) (after : List ℕ) (texts : List (List ℕ)) (changing : Option (List ℕ))
+    (journal replies : List ℕ) →
+    IsRun set limits first days today after (map Some texts) changing journal replies
+    → AreRepliesOver set limits first days after 0 journal today (map Some texts) replies

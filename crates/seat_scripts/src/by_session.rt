@@ -1,0 +1,83 @@
+//! The replies to the lines that were added to a journal: those of the manager, then those of each session, one after the other.
+//! It knows nothing of who booked them.
+ghost use Rattle.std.specs.Prelude.{◌≡◌, ◌≤◌, IfOk, OnOk, length};
+ghost use Rattle.seat_desk.specs.FlightsDesk.{IsPut, IsText};
+ghost use Rattle.seat_rules.specs.Histories.{by_session, of_session};
+ghost use Rattle.seat_scripts.specs.Answering.{AreAllAnswerable, AreAnswerable};
+ghost use Rattle.seat_scripts.specs.RunDesk.{AreSessions, IsAnswer, requests_of};
+
+use crate::replies::put_answer;
+use airimp_lines::{Request, Requests};
+use seat_journal::Entry;
+use ssim_flights::Flights;
+use std::alloc::{AllocError, Global};
+
+/// The replies to lines that were added to a journal: those of session 0, the manager, then of session 1, and so on, each with the
+/// advices of its line.
+#[tactic(auto, using(seat_desk::proofs::Texts::put_none, crate::proofs::Sessions::session_answerable_of, crate::proofs::Sessions::session_more, crate::proofs::Sessions::sessions_all))]
+pub fn session_replies(
+    alloc: Global,
+    flights: &Flights,
+    scripts: &[Requests],
+    journal: &[Entry],
+    added: &[Entry],
+) -> Result<Vec<u8>, AllocError>
+    requires few { length scripts.now ≤ 8 }
+    requires lines { AreAllAnswerable flights.now scripts.now journal.now (by_session (length scripts.now) added.now) }
+    ensures { IfOk result (λ text. IsText (AreSessions flights.now scripts.now journal.now) 0
+        (by_session (length scripts.now) added.now) text.items) }
+{
+    let mut text = Vec::new(alloc);
+    for session in 0..scripts.len() + 1 {
+        put_session(&mut text, flights, scripts, session, journal, added)?;
+    }
+    Ok(text)
+}
+
+/// Adds the answers to the lines of a session: the manager, session 0, has no script, and the first script is that of session 1.
+#[tactic(auto, using(crate::proofs::Sessions::managed, crate::proofs::Sessions::scripted, crate::proofs::Sessions::unscripted))]
+fn put_session(
+    text: &mut Vec<u8>,
+    flights: &Flights,
+    scripts: &[Requests],
+    session: usize,
+    journal: &[Entry],
+    lines: &[Entry],
+) -> Result<(), AllocError>
+    requires lines { AreAnswerable flights.now (requests_of scripts.now session) journal.now
+        (of_session session lines.now) }
+    ensures { OnOk result (IsPut (IsAnswer flights.now (requests_of scripts.now session) journal.now) 0
+        (of_session session lines.now) text.old.items text.new.items) }
+{
+    if session == 0 {
+        return put_answers(text, flights, &[], session, journal, lines);
+    }
+    match scripts.get(session - 1) {
+        Some(script) => put_answers(text, flights, script.as_slice(), session, journal, lines),
+        None => put_answers(text, flights, &[], session, journal, lines),
+    }
+}
+
+/// Adds the answers to the lines of a session, each beside the request at its place.
+#[tactic(auto, using(crate::proofs::Sessions::none_answered, crate::proofs::Sessions::entry_answerable, crate::proofs::Sessions::all_answered))]
+fn put_answers(
+    text: &mut Vec<u8>,
+    flights: &Flights,
+    requests: &[Request],
+    session: usize,
+    journal: &[Entry],
+    lines: &[Entry],
+) -> Result<(), AllocError>
+    requires lines { AreAnswerable flights.now requests.now journal.now (of_session session lines.now) }
+    ensures { OnOk result (IsPut (IsAnswer flights.now requests.now journal.now) 0 (of_session session lines.now)
+        text.old.items text.new.items) }
+{
+    let mut place: usize = 0;
+    for entry in lines {
+        if usize::from(entry.session) == session {
+            put_answer(text, flights, requests, journal, place, entry)?;
+            place += 1;
+        }
+    }
+    Ok(())
+}
