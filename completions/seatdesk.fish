@@ -88,6 +88,8 @@ complete -c seatdesk -n '__fish_seen_subcommand_from replies' -l days -x -d 'How
 complete -c seatdesk -n '__fish_seen_subcommand_from replies' -l after -r -F -d 'The journal that JOURNAL goes on from (a file); the replies are those to the lines behind its own'
 complete -c seatdesk -n '__fish_seen_subcommand_from replies' -l behind -x -d 'How many lines JOURNAL began with, 0 to 999999, in place of --after; the scripts ask for the lines behind them'
 complete -c seatdesk -n '__fish_seen_subcommand_from replies' -l today -x -d 'The day of the run, as 2024-06-01, from 2000 to 2099; it gives the requests their year'
+complete -c seatdesk -n '__fish_seen_subcommand_from replies' -l session -x -d 'The replies to this session alone, 1 to 8, or 0 for the manager'
+complete -c seatdesk -n '__fish_seen_subcommand_from replies' -l from -x -d 'The replies to the lines of JOURNAL from this number on'
 complete -c seatdesk -n '__fish_seen_subcommand_from replies' -s v -l verbose -d 'Names the file of a fault, and where in it the fault stands, or the system\'s reason'
 complete -c seatdesk -n '__fish_seen_subcommand_from replies' -s h -l help -d 'Print help'
 complete -c seatdesk -n '__fish_seen_subcommand_from replies' -F

@@ -1,5 +1,6 @@
 -- What `run` writes, `audit` accepts with the scripts of the run and behind the journal that it went on from.
 use Rattle.std.proofs.Common.{◌≡◌, ◌⊎◌, ⊎_elim, inl, ℕ, zero, suc, ◌-◌, ◌+◌, ◌<◌, ◌≤◌, false, List, [], ◌∷◌, length, map, refl, sym, ap, ◌∙◌, subst, arith, get_or, Option, Some}
+use Rattle.seat_scripts.proofs.Sessions.{all_are_wanted}
 use Rattle.seat_scripts.proofs.Common.{Request, Ladders, Change, Command, Entry, Work, Seats, of_session, IsLegal, totals_of, audit_line, most_journal_bytes, IsFirstTooLargeLoad, DeskFault, AreAskedBehind, done_by, HasLoaded, lists_over, AreScripts, IsRefusedAmong, IsTooLargeAmong, commands_of, IsHistoryOf, works_in}
 use Rattle.std.proofs.lemmas.Bool.{cases_lt}
 use Rattle.std.proofs.lemmas.List.{append-nil, get_or_past, length-map}
@@ -14,7 +15,7 @@ use Rattle.seat_desk.specs.Loading.{HasSchedule, IsBehind, most_limit_bytes}
 use Rattle.seat_desk.specs.declared.fault.DeskFault.TheVariants as faults
 use Rattle.seat_desk.proofs.Grounds.{loaded_replays_keep_limits}
 use Rattle.seat_scripts.specs.Against.{AgainstRefusal, HasBoth, HasOlder, IsAuditAgainst, IsTooLargeAgainst, IsUnlawfulBeside, AreAsked, AreVeryRequests, IsParted, IsReplayWithin}
-use Rattle.seat_scripts.specs.Replying.{AreRepliesOver, RepliesAreThoseOfTheRun}
+use Rattle.seat_scripts.specs.Replying.{AreRepliesOver, all_wanted, RepliesAreThoseOfTheRun}
 use Rattle.seat_scripts.specs.Audits.{RunsAreAuditedAgainst}
 use Rattle.seat_scripts.specs.Requests.{IsNoScript, IsReadable, most_script_bytes}
 use Rattle.seat_scripts.specs.RunDesk.{IsRun, requests_of}
@@ -141,7 +142,7 @@ module _ (set limits : List ℕ) (first days today : ℕ) (after : List ℕ) (te
     };
   }
 
-  are_replies : AreRepliesOver set limits first days after 0 journal today (map Some texts) replies
+  are_replies : AreRepliesOver set limits first days after 0 journal today (map Some texts) all_wanted replies
   are_replies = record {
     flights = run.flights;
     grid = run.grid;
@@ -157,7 +158,8 @@ module _ (set limits : List ℕ) (first days today : ℕ) (after : List ℕ) (te
       added = run.is_history.added;
       parted = run_parted run.grid run.past run.flights run.changes run.scripts run.history run.receipts run.is_history;
       are_asked = run_asked run.grid run.past run.flights run.changes run.scripts run.history run.receipts run.is_history;
-      are_replies = as_replies run.grid run.past run.flights run.changes run.scripts run.history run.receipts run.is_history replies run.is_replied;
+      are_replies = all_are_wanted run.flights run.past run.scripts run.is_history.added replies
+          (as_replies run.grid run.past run.flights run.changes run.scripts run.history run.receipts run.is_history replies run.is_replied);
     };
   }
 

@@ -8,6 +8,7 @@ use Rattle.seat_desk.specs.Desk.{IsOfInput}
 use Rattle.seat_desk.specs.declared.fault.DeskFault.TheVariants.{Journal, NoBehind, Replay, Script}
 use Rattle.seat_scripts.specs.Against.{AreRead, HasBoth, HasOlder, IsAuditAgainst, IsRefusedAgainst, IsReplayWithin, IsTooLargeAgainst, OfFour}
 use Rattle.seat_scripts.specs.Replying.{AreRepliesBehind, AreRepliesOver}
+use Rattle.seat_scripts.specs.declared.by_session.Wanted.{Wanted}
 use Rattle.seat_scripts.specs.Requests.{IsOfScript}
 use Rattle.seat_scripts.proofs.Inputs.{if_known as if_three_known}
 
@@ -148,10 +149,10 @@ module _ (set limits after journal : Option (List ℕ)) (first days more today :
         read
 
     -- the replies
-    pub replied : (text : List ℕ) → AreRepliesBehind flights slice older.journal given core.journal text
-        → OfFour set limits after journal (λ xs ys old zs. AreRepliesOver xs ys first days old more zs today texts text)
-    replied text are =
-        if_four (λ xs ys old zs. AreRead xs ys first days old zs today texts flights older core scripts) (λ xs ys old zs. AreRepliesOver xs ys first days old more zs today texts text) set limits after journal
+    pub replied : (wanted : Wanted) (text : List ℕ) → AreRepliesBehind flights slice older.journal given core.journal wanted text
+        → OfFour set limits after journal (λ xs ys old zs. AreRepliesOver xs ys first days old more zs today texts wanted text)
+    replied wanted text are =
+        if_four (λ xs ys old zs. AreRead xs ys first days old zs today texts flights older core scripts) (λ xs ys old zs. AreRepliesOver xs ys first days old more zs today texts wanted text) set limits after journal
         (λ xs ys old zs r. record {
           flights = flights;
           grid = r.grid;
@@ -162,7 +163,7 @@ module _ (set limits after journal : Option (List ℕ)) (first days more today :
           is_replay = r.is_replay;
           scripts = slice;
           are_scripts = here r.are_scripts;
-          are_replies = subst (λ (n : ℕ). AreRepliesBehind flights slice older.journal n core.journal text) is_more are;
+          are_replies = subst (λ (n : ℕ). AreRepliesBehind flights slice older.journal n core.journal wanted text) is_more are;
         })
         read
 

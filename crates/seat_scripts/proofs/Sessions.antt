@@ -1,7 +1,8 @@
 -- The replies to lines that were added, session by session.
 use Rattle.std.proofs.Common.{◌≡◌, ◌≢◌, ⊎_elim, ℕ, zero, suc, ◌+◌, ◌-◌, ◌<◌, ◌≤◌, ◌==◌, Bool, true, false, List, [], ◌∷◌, ◌++◌, length, take, drop, map, get_or, refl, sym, ap, ◌∙◌, subst, arith, Option, Some, None}
 use Rattle.seat_scripts.proofs.Common.{slice_get, option_map, AllByRecursion, Request, Ladders, Entry, Work, Seats, IsLegal, by_session, of_session, done_by, works_in}
-use Rattle.std.specs.Prelude.{unwrap_or}
+use Rattle.std.specs.Prelude.{IsTrue, not, unwrap_or}
+use Rattle.std.proofs.Math.Dec.{leb-zero}
 use Rattle.std.proofs.Math.Seq.{drop-cons}
 use Rattle.std.proofs.lemmas.List.{append-nil, length-append, take-append-drop, take_all, take_more}
 use Rattle.std.proofs.lemmas.Option.{get_or_from_slice_get, slice_get-get_or, slice_get-map, slice_get_cases, slice_get_within}
@@ -15,9 +16,10 @@ use Rattle.seat_desk.specs.FlightsDesk.{IsPut, IsText}
 use Rattle.seat_desk.specs.Loading.{IsGridOf}
 use Rattle.seat_desk.proofs.Texts.{put_more, text_whole}
 use Rattle.seat_scripts.specs.Against.{AreAsked, IsParted}
-use Rattle.seat_scripts.specs.Replying.{AreRepliesBehind}
+use Rattle.seat_scripts.specs.Replying.{AreRepliesBehind, AreWanted, AreWantedSessions, IsWantedAnswer, all_wanted}
+use Rattle.seat_scripts.specs.declared.by_session.Wanted.{Wanted}
 use Rattle.seat_scripts.specs.Answering.{AreAllAnswerable, AreAnswerable, AreBooked, IsAnswerable, IsBehind, IsRequested}
-use Rattle.seat_scripts.specs.RunDesk.{AreSessions, IsAnswer, requests_of}
+use Rattle.seat_scripts.specs.RunDesk.{AreReplies, AreSessions, IsAnswer, requests_of}
 use Rattle.seat_scripts.specs.VeryRequest.{Agree}
 use Rattle.seat_scripts.proofs.Advised.{all_push}
 use Rattle.seat_scripts.proofs.Going.{lines_at, sessions_count}
@@ -122,62 +124,62 @@ pub session_answerable_of : (flights : List Flown) (scripts : List (List Request
     → AreAnswerable flights (requests_of scripts s) journal (of_session s added)
 session_answerable_of flights scripts journal added s all low = all.each s (of_session s added) (session_there (length scripts) s added low)
 
-pub session_more : (flights : List Flown) (scripts : List (List Request)) (journal added : List Entry) (s : ℕ)
+pub session_more : (wanted : Wanted) (flights : List Flown) (scripts : List (List Request)) (journal added : List Entry) (s : ℕ)
     (mid new : List ℕ)
-    → IsPut (AreSessions flights scripts journal) 0 (take s (by_session (length scripts) added)) [] mid
-    → s < length scripts + 1 → IsPut (IsAnswer flights (requests_of scripts s) journal) 0 (of_session s added) mid new
-    → IsPut (AreSessions flights scripts journal) 0 (take (s + 1) (by_session (length scripts) added)) [] new
-session_more flights scripts journal added s mid new put low part =
+    → IsPut (AreWantedSessions wanted flights scripts journal) 0 (take s (by_session (length scripts) added)) [] mid
+    → s < length scripts + 1 → IsPut (IsWantedAnswer wanted flights (requests_of scripts s) journal) 0 (of_session s added) mid new
+    → IsPut (AreWantedSessions wanted flights scripts journal) 0 (take (s + 1) (by_session (length scripts) added)) [] new
+session_more wanted flights scripts journal added s mid new put low part =
     let rows : List (List Entry) = by_session (length scripts) added in
     let at : of_session s added ≡ get_or rows s (of_session s added) = sym (get_or_from_slice_get rows s (of_session s added) (of_session s added) (session_there (length scripts) s added low)) in
     let same : s ≡ 0 + s = omega arith in
-    put_more (AreSessions flights scripts journal) 0 s rows (of_session s added) [] mid new part.part put
+    put_more (AreWantedSessions wanted flights scripts journal) 0 s rows (of_session s added) [] mid new part.part put
     (omega (arith, low, sessions_count (length scripts) added)) at
-    (subst (λ (k : ℕ). AreSessions flights scripts journal k (of_session s added) part.part) same part.is_text) part.written
+    (subst (λ (k : ℕ). AreWantedSessions wanted flights scripts journal k (of_session s added) part.part) same part.is_text) part.written
 
-pub sessions_all : (flights : List Flown) (scripts : List (List Request)) (journal added : List Entry) (s : ℕ)
+pub sessions_all : (wanted : Wanted) (flights : List Flown) (scripts : List (List Request)) (journal added : List Entry) (s : ℕ)
     (new : List ℕ)
-    → IsPut (AreSessions flights scripts journal) 0 (take s (by_session (length scripts) added)) [] new
-    → length scripts + 1 ≤ s → IsText (AreSessions flights scripts journal) 0 (by_session (length scripts) added) new
-sessions_all flights scripts journal added s new put over =
-    text_whole (AreSessions flights scripts journal) 0 s (length scripts + 1) (by_session (length scripts) added) new put
+    → IsPut (AreWantedSessions wanted flights scripts journal) 0 (take s (by_session (length scripts) added)) [] new
+    → length scripts + 1 ≤ s → IsText (AreWantedSessions wanted flights scripts journal) 0 (by_session (length scripts) added) new
+sessions_all wanted flights scripts journal added s new put over =
+    text_whole (AreWantedSessions wanted flights scripts journal) 0 s (length scripts + 1) (by_session (length scripts) added) new put
     (omega (arith, sessions_count (length scripts) added)) over
 
 -- the replies to the lines behind a past
-pub replied_behind : (flights : List Flown) (scripts : List (List Request)) (older : List Entry) (more past : ℕ)
+pub replied_behind : (wanted : Wanted) (flights : List Flown) (scripts : List (List Request)) (older : List Entry) (more past : ℕ)
     (journal slice added : List Entry) (text : List ℕ)
     → slice ≡ journal → added ≡ drop past journal
     → IsParted older more (take past journal) (drop past journal) journal → AreAsked flights scripts (drop past journal)
-    → IsText (AreSessions flights scripts slice) 0 (by_session (length scripts) added) text
-    → AreRepliesBehind flights scripts older more journal text
-replied_behind flights scripts older more past journal slice added text same own parted asked said = record {
+    → IsText (AreWantedSessions wanted flights scripts slice) 0 (by_session (length scripts) added) text
+    → AreRepliesBehind flights scripts older more journal wanted text
+replied_behind wanted flights scripts older more past journal slice added text same own parted asked said = record {
   past = take past journal;
   added = drop past journal;
   parted = parted;
   are_asked = asked;
-  are_replies = subst (λ (l : List Entry). IsText (AreSessions flights scripts l) 0 (by_session (length scripts) (drop past journal)) text) (same ∙ parted.whole)
-      (subst (λ (l : List Entry). IsText (AreSessions flights scripts slice) 0 (by_session (length scripts) l) text) own said);
+  are_replies = subst (λ (l : List Entry). IsText (AreWantedSessions wanted flights scripts l) 0 (by_session (length scripts) (drop past journal)) text) (same ∙ parted.whole)
+      (subst (λ (l : List Entry). IsText (AreWantedSessions wanted flights scripts slice) 0 (by_session (length scripts) l) text) own said);
 }
 
 -- ---- line by line
 
 -- so many lines of the session stand in the front, and are answered
-pub record AnsweredSoFar (flights : List Flown) (requests : List Request) (journal : List Entry) (session place : ℕ)
+pub record AnsweredSoFar (wanted : Wanted) (flights : List Flown) (requests : List Request) (journal : List Entry) (session place : ℕ)
     (front : List Entry) (old new : List ℕ) : Type 0 where
   pub count : place ≡ length (of_session session front)
   pub few : place ≤ length front
-  pub put : IsPut (IsAnswer flights requests journal) 0 (of_session session front) old new
+  pub put : IsPut (IsWantedAnswer wanted flights requests journal) 0 (of_session session front) old new
 
-pub none_answered : (flights : List Flown) (requests : List Request) (journal : List Entry) (session : ℕ)
-    (text : List ℕ) → AnsweredSoFar flights requests journal session 0 [] text text
-none_answered flights requests journal session text = record {
+pub none_answered : (wanted : Wanted) (flights : List Flown) (requests : List Request) (journal : List Entry) (session : ℕ)
+    (text : List ℕ) → AnsweredSoFar wanted flights requests journal session 0 [] text text
+none_answered wanted flights requests journal session text = record {
   count = refl;
   few = omega arith;
   put = record { part = []; is_text = refl; written = sym (append-nil text) };
 }
 
-module _ (flights : List Flown) (requests : List Request) (journal : List Entry) (session place : ℕ) (lines : List Entry) (i : ℕ) (e : Entry) (old mid : List ℕ)
-    (lt : i < length lines) (is : e ≡ get_or lines i e) (so_far : AnsweredSoFar flights requests journal session place (take i lines) old mid) where
+module _ (wanted : Wanted) (flights : List Flown) (requests : List Request) (journal : List Entry) (session place : ℕ) (lines : List Entry) (i : ℕ) (e : Entry) (old mid : List ℕ)
+    (lt : i < length lines) (is : e ≡ get_or lines i e) (so_far : AnsweredSoFar wanted flights requests journal session place (take i lines) old mid) where
   front : List Entry
   front = of_session session (take i lines)
 
@@ -187,14 +189,14 @@ module _ (flights : List Flown) (requests : List Request) (journal : List Entry)
   longer : (xs : List Entry) → length (xs ++ e ∷ []) ≡ length xs + 1
   longer xs = length-append xs (e ∷ [])
 
-  pub answered_other : e.session ≢ session → AnsweredSoFar flights requests journal session place (take (i + 1) lines) old mid
+  pub answered_other : e.session ≢ session → AnsweredSoFar wanted flights requests journal session place (take (i + 1) lines) old mid
   answered_other not =
       let same : of_session session (take (i + 1) lines) ≡ of_session session (take i lines) =
       ap (of_session session) one_more ∙ (own_append session (take i lines) (e ∷ []) ∙ (ap (λ (l : List Entry). of_session session (take i lines) ++ l) (own_other session e not) ∙ append-nil (of_session session (take i lines)))) in
       record {
         count = so_far.count ∙ sym (ap length same);
         few = omega (arith, so_far.few, ap length one_more, longer (take i lines));
-        put = subst (λ (l : List Entry). IsPut (IsAnswer flights requests journal) 0 l old mid) (sym same) so_far.put;
+        put = subst (λ (l : List Entry). IsPut (IsWantedAnswer wanted flights requests journal) 0 l old mid) (sym same) so_far.put;
       }
 
   module _ (own : e.session ≡ session) where
@@ -222,31 +224,31 @@ module _ (flights : List Flown) (requests : List Request) (journal : List Entry)
     whole_front [] = refl
     whole_front (x ∷ xs) = ap (λ (l : List Entry). x ∷ l) (whole_front xs)
 
-    pub answered_own : (new : List ℕ) → IsBehind (IsAnswer flights requests journal place e) mid new
-        → AnsweredSoFar flights requests journal session (place + 1) (take (i + 1) lines) old new
+    pub answered_own : (new : List ℕ) → IsBehind (IsWantedAnswer wanted flights requests journal place e) mid new
+        → AnsweredSoFar wanted flights requests journal session (place + 1) (take (i + 1) lines) old new
     answered_own new answer =
         let xs : List Entry = of_session session (take i lines) in
         let all : List Entry = xs ++ e ∷ [] in
-        let before : IsPut (IsAnswer flights requests journal) 0 (take (length xs) all) old mid =
-        subst (λ (l : List Entry). IsPut (IsAnswer flights requests journal) 0 l old mid) (sym (whole_front xs)) so_far.put in
+        let before : IsPut (IsWantedAnswer wanted flights requests journal) 0 (take (length xs) all) old mid =
+        subst (λ (l : List Entry). IsPut (IsWantedAnswer wanted flights requests journal) 0 l old mid) (sym (whole_front xs)) so_far.put in
         let at : e ≡ get_or all (length xs) e = sym (get_or_from_slice_get all (length xs) e e (seam xs [])) in
         let count : place ≡ 0 + length xs = omega (arith, so_far.count) in
-        let here : IsAnswer flights requests journal (0 + length xs) e answer.part = subst (λ (k : ℕ). IsAnswer flights requests journal k e answer.part) count answer.is_part in
-        let put : IsPut (IsAnswer flights requests journal) 0 (take (length xs + 1) all) old new =
-        put_more (IsAnswer flights requests journal) 0 (length xs) all e old mid new answer.part before (omega (arith, longer xs)) at here answer.written in
+        let here : IsWantedAnswer wanted flights requests journal (0 + length xs) e answer.part = subst (λ (k : ℕ). IsWantedAnswer wanted flights requests journal k e answer.part) count answer.is_part in
+        let put : IsPut (IsWantedAnswer wanted flights requests journal) 0 (take (length xs + 1) all) old new =
+        put_more (IsWantedAnswer wanted flights requests journal) 0 (length xs) all e old mid new answer.part before (omega (arith, longer xs)) at here answer.written in
         let full : take (length xs + 1) all ≡ all = take_all (length xs + 1) all (omega (arith, longer xs)) in
         record {
           count = omega (arith, so_far.count, longer xs, ap length grown);
           few = omega (arith, so_far.few, ap length one_more, longer (take i lines));
-          put = subst (λ (l : List Entry). IsPut (IsAnswer flights requests journal) 0 l old new) (full ∙ sym grown) put;
+          put = subst (λ (l : List Entry). IsPut (IsWantedAnswer wanted flights requests journal) 0 l old new) (full ∙ sym grown) put;
         }
 
-pub all_answered : (flights : List Flown) (requests : List Request) (journal : List Entry) (session place i : ℕ)
+pub all_answered : (wanted : Wanted) (flights : List Flown) (requests : List Request) (journal : List Entry) (session place i : ℕ)
     (lines : List Entry) (old new : List ℕ)
-    → AnsweredSoFar flights requests journal session place (take i lines) old new → length lines ≤ i
-    → IsPut (IsAnswer flights requests journal) 0 (of_session session lines) old new
-all_answered flights requests journal session place i lines old new so_far over =
-    subst (λ (l : List Entry). IsPut (IsAnswer flights requests journal) 0 (of_session session l) old new) (take_all i lines over) so_far.put
+    → AnsweredSoFar wanted flights requests journal session place (take i lines) old new → length lines ≤ i
+    → IsPut (IsWantedAnswer wanted flights requests journal) 0 (of_session session lines) old new
+all_answered wanted flights requests journal session place i lines old new so_far over =
+    subst (λ (l : List Entry). IsPut (IsWantedAnswer wanted flights requests journal) 0 (of_session session l) old new) (take_all i lines over) so_far.put
 
 -- ---- calls
 
@@ -281,3 +283,34 @@ module _ (session calls : ℕ) (lines : List Entry) (i : ℕ) (e : Entry) (lt : 
     count = omega (arith, so_far.count, own_lines [] (own_other session e not));
     few = omega (arith, so_far.few, grows);
   }
+
+-- ---- what is wanted
+
+-- a text of such parts is one of parts that are weaker
+text_as : {A : Type 0} (P Q : ℕ → A → List ℕ → Type 0) (give : (n : ℕ) (x : A) (t : List ℕ) → P n x t → Q n x t) (n : ℕ)
+    (xs : List A) (text : List ℕ) → IsText P n xs text → IsText Q n xs text
+text_as P Q give n [] text is = is
+text_as P Q give n (x ∷ xs) text is =
+    (is.0, is.1, give n x is.0 is.2, is.3, text_as P Q give (n + 1) xs is.1 is.4)
+
+-- the replies to all lines are those of which all are wanted
+pub all_are_wanted : (flights : List Flown) (past : List Entry) (scripts : List (List Request)) (added : List Entry)
+    (text : List ℕ) → AreReplies flights past scripts added text → AreWanted all_wanted flights past scripts added text
+all_are_wanted flights past scripts added text =
+    text_as (AreSessions flights scripts (past ++ added)) (AreWantedSessions all_wanted flights scripts (past ++ added)) of_session_lines 0
+    (by_session (length scripts) added) text
+  where
+    no : IsTrue (not true) → ⊥
+    no w = cc
+
+    of_line : (requests : List Request) (n : ℕ) (e : Entry) (t : List ℕ) → IsAnswer flights requests (past ++ added) n e t
+        → IsWantedAnswer all_wanted flights requests (past ++ added) n e t
+    of_line requests n e t is = record {
+      answered = λ w. is;
+      silent = λ w. absurd (no (subst (λ (b : Bool). IsTrue (not b)) (leb-zero e.number) w));
+    }
+
+    of_session_lines : (s : ℕ) (lines : List Entry) (t : List ℕ) → AreSessions flights scripts (past ++ added) s lines t
+        → AreWantedSessions all_wanted flights scripts (past ++ added) s lines t
+    of_session_lines s lines t =
+        text_as (IsAnswer flights (requests_of scripts s) (past ++ added)) (IsWantedAnswer all_wanted flights (requests_of scripts s) (past ++ added)) (of_line (requests_of scripts s)) 0 lines t

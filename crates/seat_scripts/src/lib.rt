@@ -21,7 +21,7 @@ mod writing;
 
 pub use against::desk_audit_against;
 pub use asked::{Asked, read_asked};
-pub use by_session::session_replies;
+pub use by_session::{Wanted, session_replies};
 pub use commands::lists_over;
 pub use laws::{
     audits_behind_no_lines, commands_are_very_requests, nothing_is_left,

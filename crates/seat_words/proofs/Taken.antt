@@ -67,7 +67,7 @@ audit_line = leaf_line is_complete (built_leaf (with_verbose audit_app).top)
 replies_line : Yields is_complete (built_leaf (with_verbose replies_app).top)
 unfolding replies_app horizon_app
 replies_line = leaf_line is_complete (built_leaf (with_verbose replies_app).top)
-    (set_keeps _ refl refl, (set_keeps _ refl refl, (set_keeps _ refl refl, (set_keeps _ refl refl, (set_keeps _ refl refl, (set_keeps _ refl refl, (set_keeps _ refl refl, (set_keeps _ refl refl, (append_keeps _ refl refl, (flag_keeps _ refl _ refl, (help_keeps _ refl, tt))))))))))) (λ rows h. h)
+    (set_keeps _ refl refl, (set_keeps _ refl refl, (set_keeps _ refl refl, (set_keeps _ refl refl, (set_keeps _ refl refl, (set_keeps _ refl refl, (set_keeps _ refl refl, (set_keeps _ refl refl, (set_keeps _ refl refl, (set_keeps _ refl refl, (append_keeps _ refl refl, (flag_keeps _ refl _ refl, (help_keeps _ refl, tt))))))))))))) (λ rows h. h)
 
 why_line : Yields is_complete (built_leaf (with_verbose why_app).top)
 unfolding why_app horizon_app

@@ -91,10 +91,12 @@ audit_app = with_rule (with_rule (with_rule (with_rule (with_rule (horizon_app (
     (optional_values (codes "scripts"))
 
 unfoldable pub replies_app : App
-replies_app = with_rule (with_rule (with_rule (with_rule (with_rule (horizon_app (codes "replies"))
+replies_app = with_rule (with_rule (with_rule (with_rule (with_rule (with_rule (with_rule (horizon_app (codes "replies"))
     (optional (codes "after")))
     (optional (codes "behind")))
     (required_option (codes "today")))
+    (optional (codes "session")))
+    (optional (codes "from")))
     (required_value (codes "journal")))
     (optional_values (codes "scripts"))
 

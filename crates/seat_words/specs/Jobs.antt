@@ -77,11 +77,13 @@ Asks (Audit over after behind today journal scripts) line = (line.0 ≡ codes "a
     × MayHave line (codes "today") (option_map (λ text. text.now) today)
     × Has line (codes "journal") journal.now
     × HasAny line (codes "scripts") scripts
-Asks (Replies over after behind today journal scripts) line = (line.0 ≡ codes "replies")
+Asks (Replies over after behind today session from journal scripts) line = (line.0 ≡ codes "replies")
     × IsOver line.1 over
     × MayHave line (codes "after") (option_map (λ text. text.now) after)
     × MayHave line (codes "behind") (option_map (λ text. text.now) behind)
     × Has line (codes "today") today.now
+    × MayHave line (codes "session") (option_map (λ text. text.now) session)
+    × MayHave line (codes "from") (option_map (λ text. text.now) from)
     × Has line (codes "journal") journal.now
     × HasAny line (codes "scripts") scripts
 Asks (Why over line_word journal) line = (line.0 ≡ codes "why")

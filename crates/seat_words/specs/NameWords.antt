@@ -1,5 +1,5 @@
--- Words that name a pair of stations, a line of a journal, or how many lines it began with.
-use Rattle.std.specs.Prelude.{◌≡◌, ℕ, ◌≤◌, ◌&&◌, if◌then◌else◌, true, List, length, take, drop, Option, Some, None}
+-- Words that name a pair of stations, a line of a journal, how many lines it began with, or a session.
+use Rattle.std.specs.Prelude.{◌≡◌, ℕ, ◌≤◌, nat_le, ◌-◌, ◌&&◌, if◌then◌else◌, true, List, [], ◌∷◌, length, take, drop, Option, Some, None}
 use Rattle.std.specs.Char.{is_ascii_digit}
 use Rattle.std.specs.List.{list_all}
 use Rattle.std.specs.Str.Parse.{digits_value}
@@ -23,3 +23,8 @@ pub record IsBehindWord (word : List ℕ) (n : ℕ) : Type 0 where
   pub some : 1 ≤ length word
   pub short : length word ≤ 6
   pub value : digits_value 10 word ≡ n
+
+-- the digit of a session, 0 to 8
+abbrev pub session_in : List ℕ → Option ℕ
+session_in (digit ∷ []) = if nat_le 48 digit && nat_le digit 56 then Some (digit - 48) else None
+session_in _ = None

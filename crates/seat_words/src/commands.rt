@@ -39,6 +39,10 @@ const REPLIED_HELP: &str =
 const BEHIND_HELP: &str =
     "How many lines JOURNAL began with, 0 to 999999, in place of --after; the scripts ask for the lines behind them";
 
+const SESSION_HELP: &str = "The replies to this session alone, 1 to 8, or 0 for the manager";
+
+const FROM_HELP: &str = "The replies to the lines of JOURNAL from this number on";
+
 const JOURNAL_HELP: &str = "The journal to replay: a file that run wrote, or - for standard input";
 
 const CHANGES_HELP: &str =
@@ -294,6 +298,8 @@ fn replies_command<'a>(alloc: Global) -> Result<Command<'a>, AllocError>
     );
     let replies = with_argument(replies, optional_option(alloc, "behind", "N", BEHIND_HELP));
     let replies = with_argument(replies, wanted_option(alloc, "today", "DATE", TODAY_HELP));
+    let replies = with_argument(replies, optional_option(alloc, "session", "N", SESSION_HELP));
+    let replies = with_argument(replies, optional_option(alloc, "from", "LINE", FROM_HELP));
     let replies = with_argument(
         replies,
         wanted_value(alloc, "journal", "JOURNAL", JOURNAL_HELP),

@@ -22,6 +22,8 @@ pub enum WordFault {
     BadLine,
     /// The number of lines that the journal began with is not one of 0 to 999999, or an older journal says it too.
     BadBehind,
+    /// The session is not one of 0 to 8.
+    BadSession,
     /// The file of the journal is an input or that of the replies, is another run's, or may not be replaced.
     BadJournal,
     /// A word is not UTF-8.
@@ -46,6 +48,7 @@ impl fmt::Display for WordFault {
             WordFault::BadLocator => "E2 locator",
             WordFault::BadLine => "E2 line",
             WordFault::BadBehind => "E2 behind",
+            WordFault::BadSession => "E2 session",
             WordFault::BadJournal => "E2 journal",
             WordFault::BadWords => "E2 words",
         })

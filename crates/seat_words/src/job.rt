@@ -75,12 +75,14 @@ pub enum Job<'a> {
         /// None or more.
         scripts: Several<'a>,
     },
-    /// `seatdesk replies` over a horizon `[--after JOURNAL] [--behind N] --today DATE JOURNAL [SCRIPT...]`
+    /// `seatdesk replies` over a horizon `[--after JOURNAL] [--behind N] --today DATE [--session N] [--from LINE] JOURNAL [SCRIPT...]`
     Replies {
         over: Horizon<'a>,
         after: Option<&'a str>,
         behind: Option<&'a str>,
         today: &'a str,
+        session: Option<&'a str>,
+        from: Option<&'a str>,
         journal: &'a str,
         /// None or more.
         scripts: Several<'a>,
@@ -204,6 +206,8 @@ fn job_named<'a>(alloc: Global, name: &str, matches: &ArgMatches<'a>) -> Result<
             after: may_value_of(matches, "after"),
             behind: may_value_of(matches, "behind"),
             today: value_of(matches, "today"),
+            session: may_value_of(matches, "session"),
+            from: may_value_of(matches, "from"),
             journal: value_of(matches, "journal"),
             scripts: any_values_of(alloc, matches, "scripts")?,
         },

@@ -1,7 +1,7 @@
-//! Words that name a pair of stations, a locator, a line of a journal, or how many lines it began with.
+//! Words that name a pair of stations, a locator, a line of a journal, how many lines it began with, or a session.
 ghost use Rattle.std.specs.Prelude.{◌≡◌, ℕ, IfSome, Some, None, if◌then◌else◌};
 ghost use Rattle.airline_base.specs.Names.{is_locator};
-ghost use Rattle.seat_words.specs.NameWords.{IsBehindWord, IsLineWord, pair_word_in};
+ghost use Rattle.seat_words.specs.NameWords.{IsBehindWord, IsLineWord, pair_word_in, session_in};
 
 use airline_base::fields::{are_digits, value_of};
 use airline_base::{Locator, Station};
@@ -47,4 +47,14 @@ pub fn behind_word(word: &str) -> Option<u32>
         return None;
     }
     Some(value_of(digits))
+}
+
+/// The session that the word names: one digit, 0 for the manager to 8.
+pub fn session_word(word: &str) -> Option<u8>
+    ensures { result ≡ session_in word.now }
+{
+    match word.as_bytes() {
+        [digit @ b'0'..=b'8'] => Some(*digit - b'0'),
+        _ => None,
+    }
 }

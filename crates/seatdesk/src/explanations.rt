@@ -587,13 +587,19 @@ const WORDS: &[Explanation] = &[
         behind: "E2",
         code: "line",
         numbers: NONE,
-        text: "--line is no number of 1 to 999999, or the journal has no such line.",
+        text: "--line or --from is no number of 1 to 999999, or the journal has no line of the number of --line.",
     },
     Explanation {
         behind: "E2",
         code: "behind",
         numbers: NONE,
         text: "--behind is no number of 0 to 999999, or stands beside --after, or the journal has fewer lines.",
+    },
+    Explanation {
+        behind: "E2",
+        code: "session",
+        numbers: NONE,
+        text: "--session is no digit of 0 to 8: a session has the number of its script, and 0 is the manager of the limits.",
     },
     Explanation {
         behind: "E2",

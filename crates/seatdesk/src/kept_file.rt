@@ -122,13 +122,17 @@ fn are_alike(rt: &HostRuntime, one: &mut File, other: &mut File) -> io::Result<b
 }
 
 fn content_of(rt: &HostRuntime, path: &str) -> io::Result<Content> {
-    let mut file = fs::open(rt, path)?;
+    content_in(rt, &mut fs::open(rt, path)?)
+}
+
+/// What a file has from where it stands on.
+pub fn content_in(rt: &HostRuntime, file: &mut File) -> io::Result<Content> {
     let bytes = file.metadata()?.len();
     let mut piece = vec![in rt.alloc(); 0u8; PIECE]?;
     let mut ends: u64 = 0;
     let mut is_journal = false;
     for turn in 0..u64::MAX {
-        let n = fill(&mut file, &mut piece)?;
+        let n = fill(file, &mut piece)?;
         if turn == 0 {
             is_journal = piece[..n].starts_with(JOURNAL_HEAD);
         }

@@ -21,7 +21,7 @@ use clap::error::ErrorKind;
 use refusal::{Refusal, Undone};
 use seat_desk::DeskFault;
 use seat_words::{Job, WordFault, read_words};
-use selling::{Asking, Older};
+use selling::{Asking, Older, Part};
 use std::io;
 use std::io::IsTerminal;
 use std::process::ExitCode;
@@ -110,6 +110,8 @@ fn carry_out<'a, T: Threads + Wait + Sync>(
             after,
             behind,
             today,
+            session,
+            from,
             journal,
             scripts,
         } => {
@@ -117,7 +119,12 @@ fn carry_out<'a, T: Threads + Wait + Sync>(
                 after: *after,
                 behind: *behind,
             };
-            selling::replies(rt, over, &older, today, journal, scripts.as_slice())?
+            let part = Part {
+                session: *session,
+                from: *from,
+            };
+            let scripts = scripts.as_slice();
+            selling::replies(rt, over, &older, today, &part, journal, scripts)?
         }
         Job::Rooms {
             over,
@@ -141,8 +148,8 @@ fn carry_out<'a, T: Threads + Wait + Sync>(
     Ok(())
 }
 
-/// The status of a command that was refused: its fault is one line on standard error, with one more where the words ask for it,
-/// and with what it means where standard error is a terminal. Where the reader of standard output has gone away nothing is said.
+/// The status of a command that was refused: its fault is one line on standard error, with one more where the words ask for it, or where
+/// a run's journal is in its place and its replies are not out, and with what it means where standard error is a terminal. Where the reader of standard output has gone away nothing is said.
 fn refused(rt: &HostRuntime, is_verbose: bool, refusal: &Refusal<'_>) -> ExitCode {
     let fault = refusal.fault;
     if !refusal.is_unheard() {
@@ -150,6 +157,7 @@ fn refused(rt: &HostRuntime, is_verbose: bool, refusal: &Refusal<'_>) -> ExitCod
         if is_verbose {
             refusal.tell_more(rt);
         }
+        refusal.tell_put(rt);
         if rt.stderr().is_terminal() {
             explain::tell(rt, &fault);
         }

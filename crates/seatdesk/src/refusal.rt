@@ -22,6 +22,8 @@ pub struct Refusal<'a> {
     has_mark: bool,
     /// Whoever read standard output has gone away, and is told nothing.
     is_unheard: bool,
+    /// The file that has the journal of a run whose replies failed, and how many lines the journal goes on from.
+    put: Option<(&'a str, u64)>,
 }
 
 impl<'a> Refusal<'a> {
@@ -32,6 +34,7 @@ impl<'a> Refusal<'a> {
             reason: None,
             has_mark: false,
             is_unheard: false,
+            put: None,
         }
     }
 
@@ -64,10 +67,10 @@ impl<'a> Refusal<'a> {
         self
     }
 
-    /// Names the journal where one of its lines is not what the scripts ask.
+    /// Names the journal where one of its lines is not what the scripts ask, or it has fewer than the words say.
     pub fn noting_unasked(self, journal: &Input<'a>) -> Refusal<'a> {
         match self.fault {
-            Fault::Desk(DeskFault::Unasked { .. }) => self.of_input(journal),
+            Fault::Desk(DeskFault::Unasked { .. } | DeskFault::NoBehind) => self.of_input(journal),
             _ => self,
         }
     }
@@ -114,6 +117,28 @@ impl<'a> Refusal<'a> {
             ),
             _ => self,
         }
+    }
+
+    /// Notes that the journal is in its place, behind so many lines that it goes on from.
+    pub fn noting_put(self, file: &'a str, behind: u64) -> Refusal<'a> {
+        let mut refusal = self;
+        refusal.put = Some((file, behind));
+        refusal
+    }
+
+    /// Says on standard error where the journal of a run is in its place and the replies failed, and how they are written once more.
+    pub fn tell_put(&self, rt: &HostRuntime) {
+        let Some((file, behind)) = self.put else {
+            return;
+        };
+        let file = Shown { name: file };
+        let _ = if behind == 0 {
+            eprintln!(rt; "seatdesk: note: {file} has the journal; its replies once more: seatdesk replies")
+        } else {
+            eprintln!(rt;
+                "seatdesk: note: {file} has the journal; its replies once more: seatdesk replies --behind {behind}"
+            )
+        };
     }
 
     /// The same for an output.
@@ -216,6 +241,7 @@ fn is_of_input(fault: &Fault) -> bool {
         Fault::Desk(fault) => !matches!(
             fault,
             DeskFault::Unasked { .. }
+                | DeskFault::NoBehind
                 | DeskFault::Book { .. }
                 | DeskFault::Device
                 | DeskFault::Memory

@@ -8,7 +8,7 @@ use crate::commands;
 use crate::commands::{days_of, inputs_of};
 use crate::guard::{Guard, files_taken};
 use crate::heard::Heard;
-use crate::journal_file::{JournalFile, is_one_file, is_same};
+use crate::journal_file::{JournalFile, is_one_file, is_same, lines_in};
 use crate::kept_file::{Content, KEPT_BEFORE};
 use crate::refusal::{Refusal, told};
 use crate::sessions::scripts_opened;
@@ -16,9 +16,10 @@ use crate::streams::{Input, Output, opened_or, standard_output, taken};
 use airline_base::Day;
 use seat_desk::{Inputs, NO_LINES};
 use seat_run::desk_run;
-use seat_scripts::{desk_audit_against, desk_replies};
-use seat_words::{Horizon, WordFault, audit_lacks, behind_word, date_word, sessions_of_run};
+use seat_scripts::{Wanted, desk_audit_against, desk_replies};
+use seat_words::{Horizon, WordFault, audit_lacks, behind_word, date_word, line_word, session_word, sessions_of_run};
 use seat_workers::NoGate;
+use std::fs;
 use std::sync::Wait;
 use std::thread::Threads;
 
@@ -114,18 +115,39 @@ fn audit_against<'a>(
     }
 }
 
+/// Which replies are wanted, as it was written: those to one session, and those from a line on.
+#[derive(Clone, Copy)]
+pub struct Part<'a> {
+    pub session: Option<&'a str>,
+    pub from: Option<&'a str>,
+}
+
+fn wanted_of(part: &Part<'_>) -> Result<Wanted, WordFault> {
+    let session = match part.session {
+        Some(word) => Some(session_word(word).ok_or(WordFault::BadSession)?),
+        None => None,
+    };
+    let from = match part.from {
+        Some(word) => line_word(word).ok_or(WordFault::BadLine)?,
+        None => 0,
+    };
+    Ok(Wanted { session, from })
+}
+
 /// A run without a script had changes alone.
 pub fn replies<'a>(
     rt: &HostRuntime,
     over: &Horizon<'a>,
     older: &Older<'a>,
     today: &str,
+    part: &Part<'_>,
     journal: &'a str,
     scripts: &[&'a str],
 ) -> Result<(), Refusal<'a>> {
     let days = days_of(over.first, over.days)?;
     let today = day_of_run(today)?;
     let more = lines_behind(older)?;
+    let wanted = wanted_of(part)?;
     let Some(sessions) = sessions_of_run(scripts, true) else {
         return Err(Refusal::from(WordFault::BadScripts));
     };
@@ -145,6 +167,7 @@ pub fn replies<'a>(
         &mut journal,
         scripts.as_mut_slice(),
         today,
+        wanted,
         &mut out,
     );
     let ahead = told(
@@ -278,7 +301,33 @@ fn sell<'a, T: Threads + Wait + Sync>(
             out.tell(rt);
             Ok(())
         }
-        Err(refusal) => Err(refusal.noting_journal(journal).noting_output(out.output())),
+        Err(refusal) => {
+            let refusal = refusal.noting_journal(journal).noting_output(out.output());
+            if !journal.is_put() {
+                return Err(refusal);
+            }
+            let behind = lines_behind_run(rt, asking.after, keeps, journal);
+            Err(refusal.noting_put(asking.journal, behind))
+        }
+    }
+}
+
+/// How many lines the journal goes on from that has taken the name: those of the file that had it, or of another.
+fn lines_behind_run(
+    rt: &HostRuntime,
+    after: Option<&str>,
+    keeps: bool,
+    journal: &mut JournalFile<'_>,
+) -> u64 {
+    let Some(after) = after else {
+        return 0;
+    };
+    if !keeps {
+        return journal.older_lines().unwrap_or(0);
+    }
+    match fs::open(rt, after) {
+        Ok(mut file) => lines_in(rt, &mut file).unwrap_or(0),
+        Err(_) => 0,
     }
 }
 

@@ -10,5 +10,5 @@ put_session-requires c = record {
 
 pub returns : goal.returns
 returns c =
-    sessions_all c.args.flights.now c.args.scripts.now c.args.journal.now c.args.added.now c.loop-session.session c.loop-session.text.items c.loop-session.invariant
+    sessions_all c.args.wanted c.args.flights.now c.args.scripts.now c.args.journal.now c.args.added.now c.loop-session.session c.loop-session.text.items c.loop-session.invariant
     (omega (arith, c.loop-session-test.false, c.loop-session.auto.session-end))

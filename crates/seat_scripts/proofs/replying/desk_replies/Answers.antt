@@ -17,7 +17,7 @@ returns-in-Ok-clause-ok g c = record {
   text = c.in_ok-text.text.items;
   right = replied (g.S.Read.remaining c.args.inputs.now.set) (g.L.Read.remaining c.args.inputs.now.limits) (g.A.Read.remaining c.args.after.now) (g.J.Read.remaining c.args.journal.now)
       c.args.inputs.now.first c.args.inputs.now.days c.args.more c.args.today (map g.C.Read.remaining c.args.scripts.now)
-      c.in_ok-read.read.flights c.in_ok-read.read.older c.in_ok-read.read.core c.in_ok-read.read.scripts c.as_slice.result.now c.as_slice.ensures c.in_ok-read.read.more c.in_ok-read.ensures.more c.in_ok-read.ensures.ok c.in_ok-text.text.items c.in_ok-text.ensures.ok;
+      c.in_ok-read.read.flights c.in_ok-read.read.older c.in_ok-read.read.core c.in_ok-read.read.scripts c.as_slice.result.now c.as_slice.ensures c.in_ok-read.read.more c.in_ok-read.ensures.more c.in_ok-read.ensures.ok c.args.wanted c.in_ok-text.text.items c.in_ok-text.ensures.ok;
   written = subst (λ (l : List ℕ). Appends (g.W.Write.contents c.args.out.now) (g.W.Write.contents c.put_all.new.out) l) c.deref.ensures.value c.in-Ok.ensures.ok;
 }
 
@@ -27,6 +27,6 @@ returns-clause-device g c = λ _. inr (record {
   text = c.in_ok-text.text.items;
   right = replied (g.S.Read.remaining c.args.inputs.now.set) (g.L.Read.remaining c.args.inputs.now.limits) (g.A.Read.remaining c.args.after.now) (g.J.Read.remaining c.args.journal.now)
       c.args.inputs.now.first c.args.inputs.now.days c.args.more c.args.today (map g.C.Read.remaining c.args.scripts.now)
-      c.in_ok-read.read.flights c.in_ok-read.read.older c.in_ok-read.read.core c.in_ok-read.read.scripts c.as_slice.result.now c.as_slice.ensures c.in_ok-read.read.more c.in_ok-read.ensures.more c.in_ok-read.ensures.ok c.in_ok-text.text.items c.in_ok-text.ensures.ok;
+      c.in_ok-read.read.flights c.in_ok-read.read.older c.in_ok-read.read.core c.in_ok-read.read.scripts c.as_slice.result.now c.as_slice.ensures c.in_ok-read.read.more c.in_ok-read.ensures.more c.in_ok-read.ensures.ok c.args.wanted c.in_ok-text.text.items c.in_ok-text.ensures.ok;
   begun = subst (λ (l : List ℕ). TookFront (g.W.Write.contents c.args.out.now) (g.W.Write.contents c.put_all.new.out) l) c.deref.ensures.value c.in-Err.ensures.front;
 })
