@@ -6,8 +6,8 @@ ghost use Rattle.seat_sealing.specs.Ends.{ahead_of_end};
 use airline_base::Failures;
 use seat_disk::{Folder, Fuse};
 use seat_seal::{
-    Date, JournalState, Script, Scripts, SealEntry, Sealed, SealedJournal, digest_of, entry_for, imprint_of,
-    read_seal,
+    Date, JournalState, Script, Scripts, SealEntry, Sealed, SealedJournal, digest_of, entry_for,
+    imprint_of, read_seal,
 };
 use seat_sealing::{ahead_of_end, may_be_sealed, older_entry, replace_sealed, the_same_again};
 use std::alloc::{AllocError, Global};
@@ -16,21 +16,27 @@ use std::test::Fail;
 
 const OLD: &[u8] = b"SEATJOURNAL 2\n1 1 1 K7M2QP 11.0.0 J NN 2 KK 0\nEND 1\n";
 
-const NEW: &[u8] = b"SEATJOURNAL 2\n1 1 1 R4T8WX 66.0.1 Y NN 1 KK 0\n2 2 1 ABCDEF 11.0.0 J NN 3 KK 0\nEND 2\n";
+const NEW: &[u8] =
+    b"SEATJOURNAL 2\n1 1 1 R4T8WX 66.0.1 Y NN 1 KK 0\n2 2 1 ABCDEF 11.0.0 J NN 3 KK 0\nEND 2\n";
 
 const HEAD: &[u8] = b"SEATSEAL 1\n";
 
 // The older journal's seal, and its entry.
-const OF_OLD: &[u8] = b"SEATSEAL 1\nset 6ee0eb490ff832101cf82a3d387c35f29e4230be786978f7acf9e811febf6723\nlimits 8a46fd6fc3d79d419361a7043d0365b6dfeb6b92da9e376450898ff88d9cea00\nfirst 2024-07-01\ndays 31\njournal 1f17ec36ae2eb204de74df9b6e615bee04d4a02b213a24f56ad1d37674f93bad lines 1 bytes 46 closed\nbehind 0\ntoday 2024-06-19\nscript 1 d618fb157a4b382e92fcd4a830c5fa8adef45a809543c524f7904e38f867dac8\nEND\n";
+const OF_OLD: &[u8] =
+    b"SEATSEAL 1\nset 6ee0eb490ff832101cf82a3d387c35f29e4230be786978f7acf9e811febf6723\nlimits 8a46fd6fc3d79d419361a7043d0365b6dfeb6b92da9e376450898ff88d9cea00\nfirst 2024-07-01\ndays 31\njournal 1f17ec36ae2eb204de74df9b6e615bee04d4a02b213a24f56ad1d37674f93bad lines 1 bytes 46 closed\nbehind 0\ntoday 2024-06-19\nscript 1 d618fb157a4b382e92fcd4a830c5fa8adef45a809543c524f7904e38f867dac8\nEND\n";
 
-const ENTRY_OF_OLD: &[u8] = b"set 6ee0eb490ff832101cf82a3d387c35f29e4230be786978f7acf9e811febf6723\nlimits 8a46fd6fc3d79d419361a7043d0365b6dfeb6b92da9e376450898ff88d9cea00\nfirst 2024-07-01\ndays 31\njournal 1f17ec36ae2eb204de74df9b6e615bee04d4a02b213a24f56ad1d37674f93bad lines 1 bytes 46 closed\nbehind 0\ntoday 2024-06-19\nscript 1 d618fb157a4b382e92fcd4a830c5fa8adef45a809543c524f7904e38f867dac8\nEND\n";
+const ENTRY_OF_OLD: &[u8] =
+    b"set 6ee0eb490ff832101cf82a3d387c35f29e4230be786978f7acf9e811febf6723\nlimits 8a46fd6fc3d79d419361a7043d0365b6dfeb6b92da9e376450898ff88d9cea00\nfirst 2024-07-01\ndays 31\njournal 1f17ec36ae2eb204de74df9b6e615bee04d4a02b213a24f56ad1d37674f93bad lines 1 bytes 46 closed\nbehind 0\ntoday 2024-06-19\nscript 1 d618fb157a4b382e92fcd4a830c5fa8adef45a809543c524f7904e38f867dac8\nEND\n";
 
-const ENTRY_OF_NEW: &[u8] = b"set 6ee0eb490ff832101cf82a3d387c35f29e4230be786978f7acf9e811febf6723\nlimits 8a46fd6fc3d79d419361a7043d0365b6dfeb6b92da9e376450898ff88d9cea00\nfirst 2024-07-01\ndays 31\njournal 3f65600df3ab236180aba5bfb426671abb6a57b71e08abc5ead200e0514f802d lines 2 bytes 78 closed\nbehind 0\ntoday 2024-06-20\nscript 1 d78d1a3f3bcf22d7b74f7e559090240cc8d0bc88470a8a23383a8e4f3328bf8a\nEND\n";
+const ENTRY_OF_NEW: &[u8] =
+    b"set 6ee0eb490ff832101cf82a3d387c35f29e4230be786978f7acf9e811febf6723\nlimits 8a46fd6fc3d79d419361a7043d0365b6dfeb6b92da9e376450898ff88d9cea00\nfirst 2024-07-01\ndays 31\njournal 3f65600df3ab236180aba5bfb426671abb6a57b71e08abc5ead200e0514f802d lines 2 bytes 78 closed\nbehind 0\ntoday 2024-06-20\nscript 1 d78d1a3f3bcf22d7b74f7e559090240cc8d0bc88470a8a23383a8e4f3328bf8a\nEND\n";
 
 // Of the older journal where nothing is known of it, and of an empty file.
-const OTHER_OF_OLD: &[u8] = b"other 60659c24df7654c66455c9984dfdddd72126c2efbbbdc452912e1445d223680b bytes 52\nEND\n";
+const OTHER_OF_OLD: &[u8] =
+    b"other 60659c24df7654c66455c9984dfdddd72126c2efbbbdc452912e1445d223680b bytes 52\nEND\n";
 
-const OTHER_OF_NONE: &[u8] = b"other e3b0c44298fc1c149afbf4c8996fb92427ae41e4649b934ca495991b7852b855 bytes 0\nEND\n";
+const OTHER_OF_NONE: &[u8] =
+    b"other e3b0c44298fc1c149afbf4c8996fb92427ae41e4649b934ca495991b7852b855 bytes 0\nEND\n";
 
 fn sealed(text: &[u8], lines: u32, day: u8, script: &[u8]) -> Sealed
     ensures { result.journal.imprint ≡ imprint_of (ahead_of_end text.now) }
@@ -134,7 +140,12 @@ fn seal_left(alloc: Global, row: &Row, crash: Crash) -> Result<Vec<u8>, AllocErr
     Ok(text)
 }
 
-fn replace_and_crash<R: Abort>(rt: &R, alloc: Global, row: &Row, crash: Crash) -> Result<(Folder, Folder), Fail> {
+fn replace_and_crash<R: Abort>(
+    rt: &R,
+    alloc: Global,
+    row: &Row,
+    crash: Crash,
+) -> Result<(Folder, Folder), Fail> {
     let mut journal = Fuse::new(
         Folder::over(alloc, Vec::from_slice(alloc, row.journal)?),
         journal_calls(crash.calls),
@@ -147,9 +158,17 @@ fn replace_and_crash<R: Abort>(rt: &R, alloc: Global, row: &Row, crash: Crash) -
     let newer = sealed(NEW, 2, 20, b"tuesday");
     assert!(rt; may_be_sealed(&older, &newer), "a seal may name both");
     let is_whole = replace_sealed(&mut journal, &mut seal, older, newer, NEW, true).is_ok();
-    assert!(rt; is_whole == (crash.calls == 17), "Ok behind {}", crash.calls);
+    assert!(rt;
+        is_whole == (crash.calls == 17),
+        "Ok behind {}",
+        crash.calls
+    );
     let failures = journal.failures().saturating_add(seal.failures());
-    assert!(rt; failures == if is_whole { 0 } else { 1 }, "failures behind {}", crash.calls);
+    assert!(rt;
+        failures == if is_whole { 0 } else { 1 },
+        "failures behind {}",
+        crash.calls
+    );
     let mut journal = journal.into_inner();
     journal.crash(crash.journal_back, b"torn");
     let mut seal = seal.into_inner();
@@ -160,23 +179,63 @@ fn replace_and_crash<R: Abort>(rt: &R, alloc: Global, row: &Row, crash: Crash) -
 fn try_crash<R: Abort>(rt: &R, alloc: Global, row: &Row, crash: Crash) -> Result<(), Fail> {
     let (journal, seal) = replace_and_crash(rt, alloc, row, crash)?;
     let wanted = seal_left(alloc, row, crash)?;
-    assert!(rt; journal.bytes() == journal_left(row, crash), "journal behind {}", crash.calls);
-    assert!(rt; seal.bytes() == wanted.as_slice(), "seal behind {}", crash.calls);
+    assert!(rt;
+        journal.bytes() == journal_left(row, crash),
+        "journal behind {}",
+        crash.calls
+    );
+    assert!(rt;
+        seal.bytes() == wanted.as_slice(),
+        "seal behind {}",
+        crash.calls
+    );
     // Only a journal that had no seal is left without one, as it was.
     let has_none = seal.bytes().is_empty() && journal.bytes() == row.journal && row.seal.is_empty();
     let is_sealed = is_found(seal.bytes(), journal.bytes());
-    assert!(rt; is_sealed != has_none, "what a reader finds behind {}", crash.calls);
-    assert!(rt; seal.kept_count() == if crash.calls >= 4 { 1 } else { 0 }, "seals kept behind {}", crash.calls);
-    assert!(rt; journal.kept_count() == if crash.calls >= 10 { 1 } else { 0 }, "journals kept behind {}", crash.calls);
-    assert!(rt; crash.calls < 4 || seal.kept_bytes(0) == Some(row.seal), "the kept seal");
-    assert!(rt; crash.calls < 10 || journal.kept_bytes(0) == Some(row.journal), "the kept journal");
+    assert!(rt;
+        is_sealed != has_none,
+        "what a reader finds behind {}",
+        crash.calls
+    );
+    assert!(rt;
+        seal.kept_count() == if crash.calls >= 4 { 1 } else { 0 },
+        "seals kept behind {}",
+        crash.calls
+    );
+    assert!(rt;
+        journal.kept_count() == if crash.calls >= 10 { 1 } else { 0 },
+        "journals kept behind {}",
+        crash.calls
+    );
+    assert!(rt;
+        crash.calls < 4 || seal.kept_bytes(0) == Some(row.seal),
+        "the kept seal"
+    );
+    assert!(rt;
+        crash.calls < 10 || journal.kept_bytes(0) == Some(row.journal),
+        "the kept journal"
+    );
     Ok(())
 }
 
 fn try_each_crash<R: Abort>(rt: &R, alloc: Global, row: &Row) -> Result<(), Fail> {
     for calls in 0..18u64 {
-        for (journal_back, seal_back) in [(false, false), (false, true), (true, false), (true, true)] {
-            try_crash(rt, alloc, row, Crash { calls, journal_back, seal_back })?;
+        for (journal_back, seal_back) in [
+            (false, false),
+            (false, true),
+            (true, false),
+            (true, true),
+        ] {
+            try_crash(
+                rt,
+                alloc,
+                row,
+                Crash {
+                    calls,
+                    journal_back,
+                    seal_back,
+                },
+            )?;
         }
     }
     Ok(())
@@ -184,17 +243,41 @@ fn try_each_crash<R: Abort>(rt: &R, alloc: Global, row: &Row) -> Result<(), Fail
 
 #[test]
 fn leaves_no_journal_that_its_seal_denies(rt: HostRuntime) -> Result<(), Fail> {
-    try_each_crash(&rt, rt.alloc(), &Row { journal: OLD, seal: OF_OLD, entry: ENTRY_OF_OLD })
+    try_each_crash(
+        &rt,
+        rt.alloc(),
+        &Row {
+            journal: OLD,
+            seal: OF_OLD,
+            entry: ENTRY_OF_OLD,
+        },
+    )
 }
 
 #[test]
 fn seals_a_journal_that_had_no_seal(rt: HostRuntime) -> Result<(), Fail> {
-    try_each_crash(&rt, rt.alloc(), &Row { journal: OLD, seal: b"", entry: OTHER_OF_OLD })
+    try_each_crash(
+        &rt,
+        rt.alloc(),
+        &Row {
+            journal: OLD,
+            seal: b"",
+            entry: OTHER_OF_OLD,
+        },
+    )
 }
 
 #[test]
 fn seals_an_empty_file(rt: HostRuntime) -> Result<(), Fail> {
-    try_each_crash(&rt, rt.alloc(), &Row { journal: b"", seal: b"", entry: OTHER_OF_NONE })
+    try_each_crash(
+        &rt,
+        rt.alloc(),
+        &Row {
+            journal: b"",
+            seal: b"",
+            entry: OTHER_OF_NONE,
+        },
+    )
 }
 
 // The seal that stood there is of another journal: nothing is known of this one.

@@ -1,11 +1,11 @@
 -- In each of the three steps the seal has the journal's entry.
-use Rattle.std.proofs.Common.{◌≡◌, ◌⊎◌, inl, inr, ℕ, Bool, true, false, List, Some, None, IsTrue, refl, sym, subst, ap, ◌∙◌}
+use Rattle.std.proofs.Common.{◌≡◌, ◌⊎◌, inl, inr, ℕ, Bool, true, false, List, Some, refl, sym, subst}
 use Rattle.airline_base.proofs.Tests.{both_are, both_true}
 use Rattle.seat_seal.specs.declared.imprint.Imprint.{Imprint}
 use Rattle.seat_seal.specs.declared.seal.Sealed.{Sealed as Belonging}
 use Rattle.seat_seal.specs.declared.seal.SealEntry.{SealEntry}
-use Rattle.seat_seal.specs.declared.seal.SealEntry.TheVariants.{Sealed, Other}
-use Rattle.seat_seal.specs.Comparing.{entry_for, is_its_journal, same_imprint}
+use Rattle.seat_seal.specs.declared.seal.SealEntry.TheVariants.{Sealed}
+use Rattle.seat_seal.specs.Comparing.{entry_for, is_its_journal}
 use Rattle.seat_seal.specs.Imprints.{imprint_of}
 use Rattle.seat_seal.specs.Reading.{one_entry, two_entries}
 use Rattle.seat_seal.specs.Rules.{HasDigests, HasTypes, IsSeal, is_entry, is_seal, is_sealed}

@@ -1,5 +1,5 @@
 -- Laws of the definitions.
-use Rattle.std.specs.Prelude.{◌≡◌, ℕ, ◌++◌, List, IsTrue}
+use Rattle.std.specs.Prelude.{◌≡◌, ℕ, ◌++◌, List}
 use Rattle.std.specs.List.{flat_map}
 use Rattle.seat_journal.specs.declared.entry.Entry.{Entry}
 use Rattle.seat_journal.specs.Text.{entry_text, head_text, journal_text, old_head_text, old_text}
@@ -10,7 +10,7 @@ use Rattle.seat_seal.specs.Imprints.{imprint_of}
 use Rattle.seat_seal.specs.Reading.{two_entries}
 use Rattle.seat_seal.specs.Rules.{IsSeal}
 use Rattle.seat_sealing.specs.Ends.{ahead_of_end}
-use Rattle.seat_sealing.specs.Pairs.{IsEntryOf, NoneDenied, NoneDeniedSince}
+use Rattle.seat_sealing.specs.Pairs.{IsEntryOf, NoneDeniedSince}
 use Rattle.seat_sealing.specs.Steps.{InOrder, both_text, alone_text}
 
 -- of a journal of either version, what stands ahead of its last line is its head and its entries

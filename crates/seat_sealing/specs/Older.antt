@@ -1,9 +1,9 @@
 -- The entry of a journal that is to be replaced.
-use Rattle.std.specs.Prelude.{List, ℕ, Option, Some, None, IsTrue}
+use Rattle.std.specs.Prelude.{Option, Some, None}
 use Rattle.seat_seal.specs.declared.imprint.Imprint.{Imprint}
 use Rattle.seat_seal.specs.declared.seal.Seal.{Seal}
 use Rattle.seat_seal.specs.declared.seal.SealEntry.{SealEntry}
-use Rattle.seat_seal.specs.declared.seal.SealEntry.TheVariants.{Sealed, Other}
+use Rattle.seat_seal.specs.declared.seal.SealEntry.TheVariants.{Other}
 use Rattle.seat_seal.specs.Comparing.{entry_for}
 
 -- what is known of it, or that nothing is

@@ -1,5 +1,5 @@
 -- The three steps in which a journal and the seal beside it are replaced, by what a crash may leave in each.
-use Rattle.std.specs.Prelude.{◌≡◌, ◌⊎◌, ℕ, List, Option, Some, None}
+use Rattle.std.specs.Prelude.{◌≡◌, ◌⊎◌, ℕ, List, Option}
 use Rattle.seat_seal.specs.declared.seal.Sealed.{Sealed as Belonging}
 use Rattle.seat_seal.specs.declared.seal.SealEntry.{SealEntry}
 use Rattle.seat_seal.specs.declared.seal.SealEntry.TheVariants.{Sealed}
