@@ -1,2 +1,2 @@
 mod Fronts
-mod Keeping
+pub mod Keeping

@@ -94,7 +94,8 @@ pub fn entry_for<'a>(seal: &'a Seal, entries: &Imprint, whole: &Imprint) -> Opti
     }
 }
 
-fn is_its_journal(entry: &SealEntry, entries: &Imprint, whole: &Imprint) -> bool
+/// Whether the entry is of this journal, by the imprint of its head and entries and by that of all its bytes.
+pub fn is_its_journal(entry: &SealEntry, entries: &Imprint, whole: &Imprint) -> bool
     ensures { result ≡ is_its_journal entry.now entries.now whole.now }
 {
     match entry {

@@ -14,13 +14,13 @@ mod scripts;
 mod seal;
 mod spelling;
 
-pub use comparing::{Given, SealFault, compared, entry_for, has_script};
+pub use comparing::{Given, SealFault, compared, entry_for, has_script, is_its_journal};
 pub use date::Date;
 pub use digest::{Digest, digest_of};
 pub use imprint::{Imprint, Tally, imprint_of};
 pub use laws::seals_are_unique;
 pub use reading::read_seal;
-pub use rules::is_seal;
+pub use rules::{is_entry, is_seal, is_sealed};
 pub use scripts::{Script, Scripts};
 pub use seal::{JournalState, Seal, SealEntry, Sealed, SealedJournal};
 pub use spelling::{SealText, seal_text};

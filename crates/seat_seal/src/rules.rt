@@ -26,7 +26,8 @@ fn is_second(entry: &Option<SealEntry>) -> bool
     }
 }
 
-fn is_entry(entry: &SealEntry) -> bool
+/// Whether the entry keeps its rules.
+pub fn is_entry(entry: &SealEntry) -> bool
     ensures { result ≡ is_entry entry.now }
 {
     match entry {
@@ -35,8 +36,9 @@ fn is_entry(entry: &SealEntry) -> bool
     }
 }
 
+/// Whether what a journal belongs to keeps the rules of an entry.
 #[tactic(auto, unfolding(crate::specs::Rules::is_sealed))]
-fn is_sealed(sealed: &Sealed) -> bool
+pub fn is_sealed(sealed: &Sealed) -> bool
     ensures { result ≡ is_sealed sealed.now }
 {
     sealed.first.day().is_some()

@@ -1,0 +1,330 @@
+//! A journal and its seal, crashed at each call of their replacement. The digests of the texts are those of sha256sum.
+ghost use Rattle.std.specs.Prelude.{◌≡◌, IsTrue};
+ghost use Rattle.seat_seal.specs.Imprints.{imprint_of};
+ghost use Rattle.seat_sealing.specs.Ends.{ahead_of_end};
+
+use airline_base::Failures;
+use seat_disk::{Folder, Fuse};
+use seat_seal::{
+    Date, JournalState, Script, Scripts, SealEntry, Sealed, SealedJournal, digest_of, entry_for,
+    imprint_of, read_seal,
+};
+use seat_sealing::{ahead_of_end, may_be_sealed, older_entry, replace_sealed, the_same_again};
+use std::alloc::{AllocError, Global};
+use std::process::Abort;
+use std::test::Fail;
+
+const OLD: &[u8] = b"SEATJOURNAL 2\n1 1 1 K7M2QP 11.0.0 J NN 2 KK 0\nEND 1\n";
+
+const NEW: &[u8] =
+    b"SEATJOURNAL 2\n1 1 1 R4T8WX 66.0.1 Y NN 1 KK 0\n2 2 1 ABCDEF 11.0.0 J NN 3 KK 0\nEND 2\n";
+
+const HEAD: &[u8] = b"SEATSEAL 1\n";
+
+// The older journal's seal, and its entry.
+const OF_OLD: &[u8] =
+    b"SEATSEAL 1\nset 6ee0eb490ff832101cf82a3d387c35f29e4230be786978f7acf9e811febf6723\nlimits 8a46fd6fc3d79d419361a7043d0365b6dfeb6b92da9e376450898ff88d9cea00\nfirst 2024-07-01\ndays 31\njournal 1f17ec36ae2eb204de74df9b6e615bee04d4a02b213a24f56ad1d37674f93bad lines 1 bytes 46 closed\nbehind 0\ntoday 2024-06-19\nscript 1 d618fb157a4b382e92fcd4a830c5fa8adef45a809543c524f7904e38f867dac8\nEND\n";
+
+const ENTRY_OF_OLD: &[u8] =
+    b"set 6ee0eb490ff832101cf82a3d387c35f29e4230be786978f7acf9e811febf6723\nlimits 8a46fd6fc3d79d419361a7043d0365b6dfeb6b92da9e376450898ff88d9cea00\nfirst 2024-07-01\ndays 31\njournal 1f17ec36ae2eb204de74df9b6e615bee04d4a02b213a24f56ad1d37674f93bad lines 1 bytes 46 closed\nbehind 0\ntoday 2024-06-19\nscript 1 d618fb157a4b382e92fcd4a830c5fa8adef45a809543c524f7904e38f867dac8\nEND\n";
+
+const ENTRY_OF_NEW: &[u8] =
+    b"set 6ee0eb490ff832101cf82a3d387c35f29e4230be786978f7acf9e811febf6723\nlimits 8a46fd6fc3d79d419361a7043d0365b6dfeb6b92da9e376450898ff88d9cea00\nfirst 2024-07-01\ndays 31\njournal 3f65600df3ab236180aba5bfb426671abb6a57b71e08abc5ead200e0514f802d lines 2 bytes 78 closed\nbehind 0\ntoday 2024-06-20\nscript 1 d78d1a3f3bcf22d7b74f7e559090240cc8d0bc88470a8a23383a8e4f3328bf8a\nEND\n";
+
+// Of the older journal where nothing is known of it, and of an empty file.
+const OTHER_OF_OLD: &[u8] =
+    b"other 60659c24df7654c66455c9984dfdddd72126c2efbbbdc452912e1445d223680b bytes 52\nEND\n";
+
+const OTHER_OF_NONE: &[u8] =
+    b"other e3b0c44298fc1c149afbf4c8996fb92427ae41e4649b934ca495991b7852b855 bytes 0\nEND\n";
+
+fn sealed(text: &[u8], lines: u32, day: u8, script: &[u8]) -> Sealed
+    ensures { result.journal.imprint ≡ imprint_of (ahead_of_end text.now) }
+{
+    let mut scripts = Scripts::new();
+    scripts.push(Script {
+        session: 1,
+        digest: digest_of(script),
+    });
+    Sealed {
+        set: digest_of(b"set"),
+        limits: digest_of(b"limits"),
+        first: Date {
+            year: 2024,
+            month: 7,
+            day: 1,
+        },
+        days: 31,
+        journal: SealedJournal {
+            imprint: imprint_of(ahead_of_end(text)),
+            lines,
+            state: JournalState::Closed,
+        },
+        behind: 0,
+        today: Date {
+            year: 2024,
+            month: 6,
+            day,
+        },
+        scripts,
+        changes: None,
+    }
+}
+
+// What an older seal says of its journal.
+fn known(seal: &[u8], journal: &[u8]) -> SealEntry {
+    older_entry(
+        read_seal(seal),
+        &imprint_of(ahead_of_end(journal)),
+        imprint_of(journal),
+    )
+}
+
+// Whether a reader finds the journal's entry in the seal.
+fn is_found(seal: &[u8], journal: &[u8]) -> bool {
+    let Some(seal) = read_seal(seal) else {
+        return false;
+    };
+    entry_for(
+        &seal,
+        &imprint_of(ahead_of_end(journal)),
+        &imprint_of(journal),
+    )
+    .is_some()
+}
+
+// A replacement that keeps what the names have passes 17 calls on: six of the seal (begin, append, sync, keep, rename, sync of the
+// folder), the same six of the journal, and five of the seal, which keeps nothing then.
+fn seal_calls(calls: u64) -> u64 {
+    if calls > 12 {
+        return calls - 6;
+    }
+    calls.min(6)
+}
+
+fn journal_calls(calls: u64) -> u64 {
+    calls.saturating_sub(6).min(6)
+}
+
+struct Row {
+    journal: &'static [u8],
+    // The older seal's text, and the first entry of the seal of both.
+    seal: &'static [u8],
+    entry: &'static [u8],
+}
+
+// Where the crash comes: behind how many calls, and which of the two renamings it takes back where it may.
+#[derive(Clone, Copy)]
+struct Crash {
+    calls: u64,
+    journal_back: bool,
+    seal_back: bool,
+}
+
+fn journal_left(row: &Row, crash: Crash) -> &'static [u8] {
+    if crash.calls < 11 || (crash.calls == 11 && crash.journal_back) {
+        return row.journal;
+    }
+    NEW
+}
+
+fn seal_left(alloc: Global, row: &Row, crash: Crash) -> Result<Vec<u8>, AllocError> {
+    if crash.calls < 5 || (crash.calls == 5 && crash.seal_back) {
+        return Vec::from_slice(alloc, row.seal);
+    }
+    let mut text = Vec::from_slice(alloc, HEAD)?;
+    if crash.calls < 16 || (crash.calls == 16 && crash.seal_back) {
+        text.extend_from_slice(row.entry)?;
+    }
+    text.extend_from_slice(ENTRY_OF_NEW)?;
+    Ok(text)
+}
+
+fn replace_and_crash<R: Abort>(
+    rt: &R,
+    alloc: Global,
+    row: &Row,
+    crash: Crash,
+) -> Result<(Folder, Folder), Fail> {
+    let mut journal = Fuse::new(
+        Folder::over(alloc, Vec::from_slice(alloc, row.journal)?),
+        journal_calls(crash.calls),
+    );
+    let mut seal = Fuse::new(
+        Folder::over(alloc, Vec::from_slice(alloc, row.seal)?),
+        seal_calls(crash.calls),
+    );
+    let older = known(row.seal, row.journal);
+    let newer = sealed(NEW, 2, 20, b"tuesday");
+    assert!(rt; may_be_sealed(&older, &newer), "a seal may name both");
+    let is_whole = replace_sealed(&mut journal, &mut seal, older, newer, NEW, true).is_ok();
+    assert!(rt;
+        is_whole == (crash.calls == 17),
+        "Ok behind {}",
+        crash.calls
+    );
+    let failures = journal.failures().saturating_add(seal.failures());
+    assert!(rt;
+        failures == if is_whole { 0 } else { 1 },
+        "failures behind {}",
+        crash.calls
+    );
+    let mut journal = journal.into_inner();
+    journal.crash(crash.journal_back, b"torn");
+    let mut seal = seal.into_inner();
+    seal.crash(crash.seal_back, b"torn");
+    Ok((journal, seal))
+}
+
+fn try_crash<R: Abort>(rt: &R, alloc: Global, row: &Row, crash: Crash) -> Result<(), Fail> {
+    let (journal, seal) = replace_and_crash(rt, alloc, row, crash)?;
+    let wanted = seal_left(alloc, row, crash)?;
+    assert!(rt;
+        journal.bytes() == journal_left(row, crash),
+        "journal behind {}",
+        crash.calls
+    );
+    assert!(rt;
+        seal.bytes() == wanted.as_slice(),
+        "seal behind {}",
+        crash.calls
+    );
+    // Only a journal that had no seal is left without one, as it was.
+    let has_none = seal.bytes().is_empty() && journal.bytes() == row.journal && row.seal.is_empty();
+    let is_sealed = is_found(seal.bytes(), journal.bytes());
+    assert!(rt;
+        is_sealed != has_none,
+        "what a reader finds behind {}",
+        crash.calls
+    );
+    assert!(rt;
+        seal.kept_count() == if crash.calls >= 4 { 1 } else { 0 },
+        "seals kept behind {}",
+        crash.calls
+    );
+    assert!(rt;
+        journal.kept_count() == if crash.calls >= 10 { 1 } else { 0 },
+        "journals kept behind {}",
+        crash.calls
+    );
+    assert!(rt;
+        crash.calls < 4 || seal.kept_bytes(0) == Some(row.seal),
+        "the kept seal"
+    );
+    assert!(rt;
+        crash.calls < 10 || journal.kept_bytes(0) == Some(row.journal),
+        "the kept journal"
+    );
+    Ok(())
+}
+
+fn try_each_crash<R: Abort>(rt: &R, alloc: Global, row: &Row) -> Result<(), Fail> {
+    for calls in 0..18u64 {
+        for (journal_back, seal_back) in [
+            (false, false),
+            (false, true),
+            (true, false),
+            (true, true),
+        ] {
+            try_crash(
+                rt,
+                alloc,
+                row,
+                Crash {
+                    calls,
+                    journal_back,
+                    seal_back,
+                },
+            )?;
+        }
+    }
+    Ok(())
+}
+
+#[test]
+fn leaves_no_journal_that_its_seal_denies(rt: HostRuntime) -> Result<(), Fail> {
+    try_each_crash(
+        &rt,
+        rt.alloc(),
+        &Row {
+            journal: OLD,
+            seal: OF_OLD,
+            entry: ENTRY_OF_OLD,
+        },
+    )
+}
+
+#[test]
+fn seals_a_journal_that_had_no_seal(rt: HostRuntime) -> Result<(), Fail> {
+    try_each_crash(
+        &rt,
+        rt.alloc(),
+        &Row {
+            journal: OLD,
+            seal: b"",
+            entry: OTHER_OF_OLD,
+        },
+    )
+}
+
+#[test]
+fn seals_an_empty_file(rt: HostRuntime) -> Result<(), Fail> {
+    try_each_crash(
+        &rt,
+        rt.alloc(),
+        &Row {
+            journal: b"",
+            seal: b"",
+            entry: OTHER_OF_NONE,
+        },
+    )
+}
+
+// The seal that stood there is of another journal: nothing is known of this one.
+#[test]
+fn passes_over_a_seal_of_another_journal(rt: HostRuntime) -> Result<(), Fail> {
+    let entry = known(OF_OLD, NEW);
+    let is_other = match &entry {
+        SealEntry::Other(whole) => *whole == imprint_of(NEW),
+        SealEntry::Sealed(_) => false,
+    };
+    assert!(rt; is_other);
+    assert!(rt; !is_found(OF_OLD, NEW));
+    Ok(())
+}
+
+#[test]
+fn ends_ahead_of_the_last_line(rt: HostRuntime) -> Result<(), Fail> {
+    let rows: [(&[u8], &[u8]); 6] = [
+        (b"", b""),
+        (b"\n", b""),
+        (b"END 0", b""),
+        (b"head\nEND 0\n", b"head\n"),
+        (b"head\n\n", b"head\n"),
+        (b"head\nEND", b"head\n"),
+    ];
+    for (text, wanted) in rows {
+        assert!(rt; ahead_of_end(text) == wanted);
+    }
+    Ok(())
+}
+
+#[test]
+fn finds_the_first_script_that_stands_there(rt: HostRuntime) -> Result<(), Fail> {
+    let entry = sealed(OLD, 1, 19, b"monday");
+    let monday = digest_of(b"monday");
+    let tuesday = digest_of(b"tuesday");
+    assert!(rt; the_same_again(&entry, &[]) == None);
+    assert!(rt; the_same_again(&entry, &[tuesday]) == None);
+    assert!(rt; the_same_again(&entry, &[tuesday, monday, monday]) == Some(1));
+    Ok(())
+}
+
+// A day too many, which no seal may say.
+#[test]
+fn seals_no_more_days_than_a_year_has(rt: HostRuntime) -> Result<(), Fail> {
+    let mut newer = sealed(NEW, 2, 20, b"tuesday");
+    newer.days = 367;
+    assert!(rt; !may_be_sealed(&known(b"", b""), &newer));
+    Ok(())
+}

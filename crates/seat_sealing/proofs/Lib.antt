@@ -1,0 +1,4 @@
+mod Denials
+mod LastLines
+mod Known
+mod Orders

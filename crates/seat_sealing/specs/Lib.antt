@@ -1,0 +1,6 @@
+pub mod Again
+pub mod Ends
+pub mod Laws
+pub mod Older
+pub mod Pairs
+pub mod Steps

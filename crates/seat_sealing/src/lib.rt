@@ -1,0 +1,15 @@
+//! A journal and the seal beside it, replaced in three steps, so that no crash leaves the one beside a seal that denies it.
+//! It knows seals and files that are replaced whole, and nothing of a journal's lines, of sessions or of real files.
+#![tactic(auto)]
+
+mod again;
+mod ends;
+mod laws;
+mod older;
+mod replacing;
+
+pub use again::the_same_again;
+pub use ends::ahead_of_end;
+pub use laws::{ends_are_last, no_crash_denies};
+pub use older::older_entry;
+pub use replacing::{may_be_sealed, replace_sealed};
