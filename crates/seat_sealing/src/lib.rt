@@ -1,5 +1,6 @@
 //! A journal and the seal beside it, replaced in three steps, so that no crash leaves the one beside a seal that denies it.
-//! It knows seals and files that are replaced whole, and nothing of a journal's lines, of sessions or of real files.
+//! It knows seals, files that are replaced whole, and a journal's text, and nothing of how its lines come about, of sessions or of
+//! real files.
 #![tactic(auto)]
 
 mod again;
