@@ -4,3 +4,4 @@ pub mod Laws
 pub mod Older
 pub mod Pairs
 pub mod Steps
+pub mod Written

@@ -1,5 +1,6 @@
 //! A journal and the seal beside it, replaced in three steps, so that no crash leaves the one beside a seal that denies it.
-//! It knows seals and files that are replaced whole, and nothing of a journal's lines, of sessions or of real files.
+//! It knows seals, files that are replaced whole, and a journal's text, and nothing of how its lines come about, of sessions or of
+//! real files.
 #![tactic(auto)]
 
 mod again;
@@ -7,9 +8,11 @@ mod ends;
 mod laws;
 mod older;
 mod replacing;
+mod writing;
 
 pub use again::the_same_again;
 pub use ends::ahead_of_end;
 pub use laws::{ends_are_last, no_crash_denies};
 pub use older::older_entry;
 pub use replacing::{may_be_sealed, replace_sealed};
+pub use writing::write_sealed;
