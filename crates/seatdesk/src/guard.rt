@@ -2,6 +2,7 @@
 use crate::journal_file::{UNFINISHED, is_same};
 use crate::kept_file::KEPT_BEFORE;
 use crate::refusal::Refusal;
+use crate::seal_file::SEAL;
 use crate::streams::Input;
 use seat_desk::{DeskFault, Inputs};
 use seat_words::WordFault;
@@ -13,9 +14,6 @@ const STANDARD_OUTPUT: &str = "/proc/self/fd/1";
 
 /// The name of standard output among the words.
 const STANDARD: &str = "-";
-
-/// What the name of a journal's seal ends with.
-const SEAL: &str = ".seal";
 
 /// The file that a journal is to be written to, as it is before that.
 #[derive(Drop)]

@@ -13,6 +13,7 @@ mod kept_file;
 mod locale;
 mod refusal;
 mod replies;
+mod seal_file;
 mod selling;
 mod sessions;
 mod streams;

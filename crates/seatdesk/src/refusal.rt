@@ -43,6 +43,16 @@ impl<'a> Refusal<'a> {
         Refusal::from(DeskFault::Device).at(path, error.raw_os_error())
     }
 
+    /// The fault of an input that failed while it was read.
+    pub fn unread(input: &Input<'a>) -> Refusal<'a> {
+        Refusal::from(DeskFault::Device).at(input.name(), input.reason())
+    }
+
+    /// Whether the fault is one of what stands beside a journal.
+    pub fn is_of_seal(&self) -> bool {
+        matches!(self.fault, Fault::Desk(DeskFault::Seal(_)))
+    }
+
     /// The fault of standard output where help or the version is written to it.
     pub fn unwritten(error: &io::Error) -> Refusal<'a> {
         let refusal = Refusal::from(DeskFault::Device).at("standard output", error.raw_os_error());

@@ -49,7 +49,7 @@ pub fn audit<'a>(
         return Err(Refusal::from(fault));
     }
     let Some(today) = today else {
-        return commands::audit(rt, over, days, journal);
+        return commands::audit(rt, over, days, journal, false);
     };
     audit_against(rt, over, days, older.after, more, today, journal, scripts)
 }
