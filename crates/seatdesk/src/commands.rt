@@ -6,11 +6,12 @@ ghost use Rattle.ssim_flights.specs.Right.{IsOfCentury};
 use crate::locale::is_utf_8;
 use crate::refusal::{Refusal, told};
 use crate::seal_file::{SealFile, is_moved};
+use crate::seal_out::SealOut;
 use crate::streams::{Input, opened, standard_input, standard_output, taken, taken_or};
 use airline_base::Day;
 use seat_desk::{Inputs, NO_LINES, Question, answer_question};
 use seat_questions::{Bars, BookingsOf, CityPair, Cover, RoomsOf, Why};
-use seat_reports::{Audit, desk_check, desk_flights, desk_ladder};
+use seat_reports::{Audit, desk_check, desk_flights, desk_ladder, desk_seal};
 use seat_words::{Horizon, WordFault, date_word, days_word, line_word, locator_word, pair_word};
 
 /// How often a journal is read once more that was replaced meanwhile.
@@ -105,6 +106,26 @@ pub fn audit<'a>(
     requires days { (1 ≤ days.1) × (days.1 ≤ 366) }
 {
     answered_under(rt, over, days, &Audit, Some(journal), is_sealed)
+}
+
+/// Writes the seal of a journal that an audit accepts, while the journal is locked.
+pub fn seal<'a>(
+    rt: &'a HostRuntime,
+    over: &Horizon<'a>,
+    journal: &'a str,
+) -> Result<(), Refusal<'a>> {
+    let days = days_of(over.first, over.days)?;
+    let mut inputs = match inputs_of(rt, over, days) {
+        Ok(inputs) => inputs,
+        Err(refusal) => return Err(refusal),
+    };
+    let (mut out, mut journal) = SealOut::open(rt, journal)?;
+    let outcome = desk_seal(rt.alloc(), &mut inputs, &mut journal, &mut out);
+    out.leave();
+    match told(outcome, &[&inputs.set, &inputs.limits, &journal], &[]) {
+        Ok(()) => Ok(()),
+        Err(refusal) => Err(refusal.noting_seal(&out)),
+    }
 }
 
 /// The answer to a question about a journal, or about one without lines, with what stands beside it.

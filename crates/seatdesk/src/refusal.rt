@@ -1,6 +1,7 @@
 //! What a command is refused with, and the file that it is refused for.
 use crate::fault::Fault;
 use crate::journal_file::JournalFile;
+use crate::seal_out::SealOut;
 use crate::streams::{Input, Output};
 use airline_base::Failures;
 use seat_desk::DeskFault;
@@ -122,6 +123,16 @@ impl<'a> Refusal<'a> {
                 journal.name(),
                 journal.reason(),
             ),
+            _ => self,
+        }
+    }
+
+    /// The same for the seal of a journal.
+    pub fn noting_seal(self, seal: &SealOut<'a>) -> Refusal<'a> {
+        match self.fault {
+            Fault::Desk(DeskFault::Device) if seal.failures() > 0 => {
+                self.at(seal.name(), seal.reason())
+            }
             _ => self,
         }
     }
