@@ -1,5 +1,8 @@
 -- Why limit rows are refused, what they give, and what holds of every loaded grid.
-use Rattle.std.proofs.Common.{◌≡◌, ◌≢◌, ℕ, List, ◌≤◌, length, Option, Some, None, IfSome, Err, refl, sym, subst, ◌∙◌}
+use Rattle.std.proofs.Common.{◌≡◌, ◌≢◌, ℕ, List, ◌≤◌, length, Option, Some, None, IfSome, Err, refl, sym, ap, subst, ◌∙◌}
+use Rattle.sha2.specs.Sha256.{sha256}
+use Rattle.seat_seal.specs.declared.beside.Basis.{Basis}
+use Rattle.seat_desk.specs.Sealing.{basis_of}
 use Rattle.std.specs.Str.Lines.{lines}
 use Rattle.ssim_flights.specs.declared.flight.Flight.{Flight as Flown}
 use Rattle.seat_limits.specs.Authorised.{authorised_grid}
@@ -88,6 +91,21 @@ ground_whole (Some xs) (Some ys) first days bytes slice text text_slice flights 
 }
 ground_whole (Some xs) None first days bytes slice text text_slice flights rows of_set set_is set_fits schedule of_limits limits_are limits_fit is_text = tt
 ground_whole None limits first days bytes slice text text_slice flights rows of_set set_is set_fits schedule of_limits limits_are limits_fit is_text = tt
+
+-- the digests of what was read are those of each input
+pub based_whole : (set limits : Option (List ℕ)) (first days : ℕ)
+    (bytes slice text text_slice set_digest limits_digest : List ℕ)
+    → slice ≡ bytes → IfSome set (λ xs. bytes ≡ xs) → text_slice ≡ text → IfSome limits (λ ys. text ≡ ys)
+    → set_digest ≡ sha256 slice → limits_digest ≡ sha256 text_slice
+    → IfSome set (λ xs. IfSome limits (λ ys.
+    ◌≡◌ {A = Basis} (record { set = set_digest; limits = limits_digest; first = first; days = days })
+    (basis_of xs ys first days)))
+based_whole (Some xs) (Some ys) first days bytes slice text text_slice a b of_set set_is of_limits limits_are a_is b_is =
+    let same_set : a ≡ sha256 xs = a_is ∙ ap sha256 (of_set ∙ set_is) in
+    let same_limits : b ≡ sha256 ys = b_is ∙ ap sha256 (of_limits ∙ limits_are) in
+    rw (same_set, same_limits) refl
+based_whole (Some xs) None first days bytes slice text text_slice a b of_set set_is of_limits limits_are a_is b_is = tt
+based_whole None limits first days bytes slice text text_slice a b of_set set_is of_limits limits_are a_is b_is = tt
 
 -- flights and rows that are right make a loaded grid, and a loaded grid has such rows
 pub loaded_of_ground : (set limits : List ℕ) (first days : ℕ) (flights : List Flown) (rows : List LimitRow)

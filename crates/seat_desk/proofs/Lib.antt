@@ -3,4 +3,5 @@ pub mod Auditing
 pub mod Grounds
 pub mod ReadWhole
 pub mod Schedules
+pub mod Sealed
 pub mod Texts

@@ -7,6 +7,7 @@ use Rattle.seat_limits.specs.FaultText.{fault_text as limit_text}
 use Rattle.airimp_lines.specs.FaultText.{kind_text}
 use Rattle.seat_journal.specs.FaultText.{fault_text as journal_text}
 use Rattle.seat_rules.specs.FaultText.{fault_text as replay_text}
+use Rattle.seat_seal.specs.Faults.{words_of}
 use Rattle.seat_desk.specs.declared.fault.DeskFault.{DeskFault}
 use Rattle.seat_desk.specs.declared.fault.DeskFault.TheVariants as faults
 
@@ -19,6 +20,7 @@ fault_text (faults.Change fault) = limit_text fault
 fault_text (faults.NoLeg line) = codes "U1 " ++ decimal line
 fault_text (faults.Command line) = codes "E1 " ++ decimal line
 fault_text (faults.Full line) = codes "C1 " ++ decimal line
+fault_text (faults.Seal fault) = words_of fault
 fault_text (faults.Journal fault) = journal_text fault
 fault_text (faults.Replay fault) = replay_text fault
 fault_text (faults.Script session fault) =

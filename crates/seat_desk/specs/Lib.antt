@@ -6,4 +6,5 @@ pub mod FaultText
 pub mod FlightsDesk
 pub mod Laws
 pub mod Loading
+pub mod Sealing
 pub mod Status

@@ -6,39 +6,43 @@ ghost use Rattle.seat_desk.specs.Desk.{InputFailed, IsOfInput, IsWritten, Output
 
 use crate::fault::DeskFault;
 use crate::inputs::Inputs;
-use crate::loading::load;
+use crate::loading::load_based;
 use crate::question::Question;
 use crate::replaying::MOST_JOURNAL_BYTES;
+use crate::sealing::agreed;
 use crate::streams::read_input;
 use airline_base::{NotedRead, NotedWrite, put_all};
+use seat_seal::Beside;
 use std::alloc::Global;
 
 /// Answers a question about a data set, limit rows and a journal, and writes the text. Each input is read and checked before
-/// the next is read, and nothing is written before all are right. The first day is in 2000 to 2099, `days` is 1 to 366;
+/// the next is read, what stands beside the journal is compared with them ahead of the journal's own faults, and nothing is written
+/// before all are right. The first day is in 2000 to 2099, `days` is 1 to 366;
 /// a set and a journal have at most 256 MiB, limit rows at most 16 MiB. The journal's text is of either version.
 pub fn answer_question<Q: Question, S: NotedRead, L: NotedRead, J: NotedRead, W: NotedWrite>(
     alloc: Global,
     question: &Q,
     inputs: &mut Inputs<S, L>,
     journal: &mut J,
+    beside: &Beside<'_>,
     out: &mut W,
 ) -> Result<(), DeskFault>
     requires first { IsOfCentury inputs.old.first }
     requires days { (1 ≤ inputs.old.days) × (inputs.old.days ≤ 366) }
     ensures ok { OnOk result (IsWritten
-        (IsAnswerOf (Q.answers question.now) S.remaining L.remaining inputs.old (J.remaining journal.old)) (W.contents out.old) (W.contents out.new)) }
+        (IsAnswerOf (Q.answers question.now) beside.now S.remaining L.remaining inputs.old (J.remaining journal.old)) (W.contents out.old) (W.contents out.new)) }
     ensures fault { IfErr result (λ f. IsOfInput f →
-        IsRefusedAnswerOf (Q.refuses question.now) S.remaining L.remaining inputs.old (J.remaining journal.old) f) }
+        IsRefusedAnswerOf (Q.refuses question.now) beside.now S.remaining L.remaining inputs.old (J.remaining journal.old) f) }
     ensures large { IfErr result (λ f. f ≡ DeskFault.TooLarge
         → IsFirstTooLargeOf S.remaining L.remaining inputs.old (J.remaining journal.old)) }
     ensures device { IfErr result (λ f. f ≡ DeskFault.Device →
         InputFailed (HasFirstFailed S.remaining L.remaining S.failure_count L.failure_count J.failure_count inputs.old inputs.new journal.old journal.new)
         out.old out.new
         ⊎ OutputFailed W.failure_count W.contents out.old out.new
-        (IsAnswerOf (Q.answers question.now) S.remaining L.remaining inputs.old (J.remaining journal.old))) }
+        (IsAnswerOf (Q.answers question.now) beside.now S.remaining L.remaining inputs.old (J.remaining journal.old))) }
     ensures untouched { IfErr result (λ f. f ≢ DeskFault.Device → out.new ≡ out.old) }
 {
-    let text = match answered(alloc, question, inputs, journal) {
+    let text = match answered(alloc, question, inputs, journal, beside) {
         Ok(text) => text,
         Err(fault) => return Err(fault),
     };
@@ -54,27 +58,29 @@ fn answered<Q: Question, S: NotedRead, L: NotedRead, J: NotedRead>(
     question: &Q,
     inputs: &mut Inputs<S, L>,
     journal: &mut J,
+    beside: &Beside<'_>,
 ) -> Result<Vec<u8>, DeskFault>
     requires first { IsOfCentury inputs.old.first }
     requires days { (1 ≤ inputs.old.days) × (inputs.old.days ≤ 366) }
-    ensures ok { IfOk result (λ text. IsAnswerOf (Q.answers question.now) S.remaining L.remaining inputs.old
+    ensures ok { IfOk result (λ text. IsAnswerOf (Q.answers question.now) beside.now S.remaining L.remaining inputs.old
         (J.remaining journal.old) text.items) }
     ensures fault { IfErr result (λ f. IsOfInput f →
-        IsRefusedAnswerOf (Q.refuses question.now) S.remaining L.remaining inputs.old (J.remaining journal.old) f) }
+        IsRefusedAnswerOf (Q.refuses question.now) beside.now S.remaining L.remaining inputs.old (J.remaining journal.old) f) }
     ensures large { IfErr result (λ f. f ≡ DeskFault.TooLarge
         → IsFirstTooLargeOf S.remaining L.remaining inputs.old (J.remaining journal.old)) }
     ensures device { IfErr result (λ f. f ≡ DeskFault.Device →
         HasFirstFailed S.remaining L.remaining S.failure_count L.failure_count J.failure_count inputs.old inputs.new journal.old journal.new) }
 {
-    let loaded = match load(alloc, inputs) {
-        Ok(loaded) => loaded,
+    let based = match load_based(alloc, inputs, beside.text.is_some()) {
+        Ok(based) => based,
         Err(fault) => return Err(fault),
     };
     let bytes = match read_input(alloc, journal, MOST_JOURNAL_BYTES) {
         Ok(bytes) => bytes,
         Err(fault) => return Err(fault),
     };
-    match question.text(alloc, loaded, bytes) {
+    agreed(beside, &based.basis, &bytes)?;
+    match question.text(alloc, based.loaded, bytes) {
         Ok(text) => Ok(text),
         Err(fault) => Err(fault),
     }

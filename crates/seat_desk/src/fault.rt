@@ -7,6 +7,7 @@ use airimp_lines::ScriptFault;
 use seat_journal::{JournalFault, JournalKind};
 use seat_limits::LimitFault;
 use seat_rules::{ReplayFault, ReplayKind};
+use seat_seal::SealFault;
 use ssim_flights::FlightFault;
 use ssim_records::SetFault;
 use std::fmt;
@@ -28,6 +29,8 @@ pub enum DeskFault {
     Command { line: u32 },
     /// A command beyond those that a journal has room for.
     Full { line: u32 },
+    /// What stands beside the journal is no seal of it.
+    Seal(SealFault),
     /// The bytes are no journal.
     Journal(JournalFault),
     /// The entries are no legal history.
@@ -64,6 +67,7 @@ impl fmt::Display for DeskFault {
             DeskFault::Limit(fault) => fault.fmt(f),
             DeskFault::Change(fault) => fault.fmt(f),
             DeskFault::NoLeg { line } => write!(f, "U1 {line}"),
+            DeskFault::Seal(fault) => fault.fmt(f),
             DeskFault::Journal(fault) => fault.fmt(f),
             DeskFault::Replay(fault) => fault.fmt(f),
             DeskFault::Command { line } => write!(f, "E1 {line}"),

@@ -2,3 +2,4 @@ mod Answering
 mod Audits
 mod Cuts
 mod FlightLines
+mod Sealings

@@ -4,3 +4,4 @@ pub mod LadderDesk
 pub mod Laws
 pub mod Lines
 pub mod Orders
+pub mod SealDesk

@@ -1,4 +1,4 @@
-//! What the commands of `seatdesk` that look at one text report of it: `ladder`, `check`, `flights` and `audit`, over readers
+//! What the commands of `seatdesk` that look at one text report of it: `ladder`, `check`, `flights`, `audit` and `seal`, over readers
 //! and writers. It knows the texts that come and go, and leaves every answer to the crates below.
 #![tactic(auto)]
 
@@ -9,6 +9,7 @@ mod ladder;
 mod laws;
 mod lines;
 mod orders;
+mod seal;
 mod text;
 
 pub use audit::Audit;
@@ -16,3 +17,4 @@ pub use check::desk_check;
 pub use flights::desk_flights;
 pub use ladder::desk_ladder;
 pub use laws::audits_are_answered;
+pub use seal::desk_seal;

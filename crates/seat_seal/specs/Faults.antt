@@ -4,6 +4,7 @@ use Rattle.seat_seal.specs.declared.comparing.SealFault.{SealFault}
 use Rattle.seat_seal.specs.declared.comparing.SealFault.TheVariants as faults
 
 abbrev pub words_of : SealFault → List ℕ
+words_of faults.Missing = codes "SEAL none"
 words_of faults.Form = codes "SEAL form"
 words_of faults.Set = codes "SEAL set"
 words_of faults.Limits = codes "SEAL limits"

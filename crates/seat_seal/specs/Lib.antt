@@ -1,7 +1,9 @@
+pub mod Besides
 pub mod Comparing
 pub mod Dates
 pub mod Digests
 pub mod Faults
+pub mod Fronts
 pub mod Imprints
 pub mod Laws
 pub mod Reading

@@ -12,6 +12,8 @@ use std::fmt;
 /// What is wrong with a seal.
 #[derive(Clone, Copy, Debug, PartialEq, Eq)]
 pub enum SealFault {
+    /// No seal stands there, and one must.
+    Missing,
     /// The text is no seal.
     Form,
     /// The data set is another.
@@ -37,6 +39,7 @@ impl fmt::Display for SealFault {
     /// SEAL and one word.
     fn fmt<W: fmt::Write>(&self, f: &mut fmt::Formatter<W>) -> fmt::Result {
         match self {
+            SealFault::Missing => f.write_str("SEAL none"),
             SealFault::Form => f.write_str("SEAL form"),
             SealFault::Set => f.write_str("SEAL set"),
             SealFault::Limits => f.write_str("SEAL limits"),
@@ -124,7 +127,7 @@ fn same_digest(a: &Digest, b: &Digest) -> bool
     a.bytes() == b.bytes()
 }
 
-fn same_imprint(a: &Imprint, b: &Imprint) -> bool
+pub(crate) fn same_imprint(a: &Imprint, b: &Imprint) -> bool
     ensures { result ≡ same_imprint a.now b.now }
 {
     same_digest(&a.digest, &b.digest) && a.bytes == b.bytes

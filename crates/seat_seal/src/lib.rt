@@ -2,10 +2,12 @@
 //! It knows digests, days and counts, and nothing of a journal's lines, of sessions or of files.
 #![tactic(auto)]
 
+mod beside;
 mod comparing;
 mod date;
 mod digest;
 mod fields;
+mod front;
 mod imprint;
 mod laws;
 mod reading;
@@ -14,9 +16,11 @@ mod scripts;
 mod seal;
 mod spelling;
 
+pub use beside::{Basis, Beside, fault_beside};
 pub use comparing::{Given, SealFault, compared, entry_for, has_script, is_its_journal};
 pub use date::Date;
 pub use digest::{Digest, digest_of};
+pub use front::front_of;
 pub use imprint::{Imprint, Tally, imprint_of};
 pub use laws::seals_are_unique;
 pub use reading::read_seal;

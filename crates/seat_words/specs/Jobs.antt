@@ -6,7 +6,7 @@ use Rattle.std.specs.Option.{option_map, option_map_or}
 use Rattle.clap.specs.Words.{Row, Text, all_of, first_of}
 use Rattle.seat_words.specs.declared.job.Horizon.{Horizon}
 use Rattle.seat_words.specs.declared.job.Job.{Job}
-use Rattle.seat_words.specs.declared.job.Job.TheVariants.{Ladder, Check, Flights, Cover, Rooms, Run, Bookings, Audit, Replies, Why, Explain}
+use Rattle.seat_words.specs.declared.job.Job.TheVariants.{Ladder, Check, Flights, Cover, Rooms, Run, Bookings, Audit, Seal, Replies, Why, Explain}
 
 -- a command that clap found in the words, and what it found of the command's values
 abbrev pub Line : Type 0
@@ -70,13 +70,17 @@ Asks (Bookings over locator journal) line = (line.0 ≡ codes "bookings")
     × IsOver line.1 over
     × Has line (codes "locator") locator.now
     × Has line (codes "journal") journal.now
-Asks (Audit over after behind today journal scripts) line = (line.0 ≡ codes "audit")
+Asks (Audit over after behind today sealed journal scripts) line = (line.0 ≡ codes "audit")
     × IsOver line.1 over
     × MayHave line (codes "after") (option_map (λ text. text.now) after)
     × MayHave line (codes "behind") (option_map (λ text. text.now) behind)
     × MayHave line (codes "today") (option_map (λ text. text.now) today)
+    × HasFlag line (codes "sealed") sealed
     × Has line (codes "journal") journal.now
     × HasAny line (codes "scripts") scripts
+Asks (Seal over journal) line = (line.0 ≡ codes "seal")
+    × IsOver line.1 over
+    × Has line (codes "journal") journal.now
 Asks (Replies over after behind today session from journal scripts) line = (line.0 ≡ codes "replies")
     × IsOver line.1 over
     × MayHave line (codes "after") (option_map (λ text. text.now) after)
@@ -110,6 +114,7 @@ asked_values = (codes "ladder", [])
     ∷ (codes "run", horizon_values ++ codes "today" ∷ codes "journal" ∷ [])
     ∷ (codes "bookings", horizon_values ++ codes "locator" ∷ codes "journal" ∷ [])
     ∷ (codes "audit", horizon_values ++ codes "journal" ∷ [])
+    ∷ (codes "seal", horizon_values ++ codes "journal" ∷ [])
     ∷ (codes "replies", horizon_values ++ codes "today" ∷ codes "journal" ∷ [])
     ∷ (codes "why", horizon_values ++ codes "line" ∷ codes "journal" ∷ [])
     ∷ (codes "explain", codes "code" ∷ [])

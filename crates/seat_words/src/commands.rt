@@ -1,7 +1,7 @@
 //! The commands, as clap reads them and as their help shows them.
 ghost use Rattle.std.specs.Prelude.{IfOk, IsOkAnd, codes};
 ghost use Rattle.clap.specs.Words.{AddsArg, App, new_app};
-ghost use Rattle.seat_words.specs.CommandLine.{IsBuiltAs, IsReadAlike, IsReadAs, audit_app, bare_app, bookings_app, check_app, cover_app, explain_app, flag, flights_app, horizon_app, ladder_app, lettered_flag, named_app, optional, optional_value, optional_values, replies_app, required_option, required_value, rooms_app, run_app, seatdesk_app, selling_app, why_app, with_command, with_verbose};
+ghost use Rattle.seat_words.specs.CommandLine.{IsBuiltAs, IsReadAlike, IsReadAs, audit_app, bare_app, bookings_app, check_app, cover_app, explain_app, flag, flights_app, horizon_app, ladder_app, lettered_flag, named_app, optional, optional_value, optional_values, replies_app, required_option, required_value, rooms_app, run_app, seal_app, seatdesk_app, selling_app, why_app, with_command, with_verbose};
 
 use clap::{Arg, ArgAction, Command};
 use std::alloc::{AllocError, Global};
@@ -45,6 +45,11 @@ const FROM_HELP: &str = "The replies to the lines of JOURNAL from this number on
 
 const JOURNAL_HELP: &str = "The journal to replay: a file that run wrote, or - for standard input";
 
+const SEALED_HELP: &str =
+    "Refuses a JOURNAL without a seal beside it; for a JOURNAL alone, without scripts";
+
+const SEALED_JOURNAL_HELP: &str = "The journal to seal: a file that run wrote";
+
 const CHANGES_HELP: &str =
     "Changes of the limits, made beside the sessions (a file); without it no limit changes";
 
@@ -87,6 +92,7 @@ pub(crate) fn seatdesk_command<'a>(alloc: Global) -> Result<Command<'a>, AllocEr
     let program = selling_command(alloc);
     let program = with_command(alloc, program, bookings_command(alloc));
     let program = with_command(alloc, program, audit_command(alloc));
+    let program = with_command(alloc, program, seal_command(alloc));
     let program = with_command(alloc, program, replies_command(alloc));
     let program = with_command(alloc, program, why_command(alloc));
     with_command(alloc, program, explain_command(alloc))
@@ -265,7 +271,7 @@ fn audit_command<'a>(alloc: Global) -> Result<Command<'a>, AllocError>
         alloc,
         "audit",
         "Replays a journal against its schedule and limits, and writes one summary line",
-        "A journal belongs to its set, limits, first day and days. With the scripts audit sees whether they are those: over\nanother first day its lines are not what the scripts ask (P8).\n\nExample: seatdesk audit --set examples/summer.ssim --limits examples/limits.txt --first 2024-07-01 --days 31 examples/journal.txt\n\nAgainst its scripts: seatdesk audit --set examples/summer.ssim --limits examples/limits.txt --first 2024-07-01 --days 31 --today 2024-06-20 examples/journal.txt examples/london.txt examples/lisbon.txt\n\nThe day after: seatdesk audit --set examples/summer.ssim --limits examples/limits.txt --first 2024-07-01 --days 31 --after examples/journal.txt --today 2024-06-21 journal-2.txt examples/london-2.txt",
+        "A journal belongs to its set, limits, first day and days. With the scripts audit sees whether they are those: over\nanother first day its lines are not what the scripts ask (P8). Where JOURNAL.seal stands beside JOURNAL, it is compared.\n\nExample: seatdesk audit --set examples/summer.ssim --limits examples/limits.txt --first 2024-07-01 --days 31 examples/journal.txt\n\nAgainst its scripts: seatdesk audit --set examples/summer.ssim --limits examples/limits.txt --first 2024-07-01 --days 31 --today 2024-06-20 examples/journal.txt examples/london.txt examples/lisbon.txt\n\nThe day after: seatdesk audit --set examples/summer.ssim --limits examples/limits.txt --first 2024-07-01 --days 31 --after examples/journal.txt --today 2024-06-21 journal-2.txt examples/london-2.txt",
     );
     let audit = with_argument(
         audit,
@@ -273,6 +279,7 @@ fn audit_command<'a>(alloc: Global) -> Result<Command<'a>, AllocError>
     );
     let audit = with_argument(audit, optional_option(alloc, "behind", "N", BEHIND_HELP));
     let audit = with_argument(audit, optional_option(alloc, "today", "DATE", TODAY_HELP));
+    let audit = with_argument(audit, flag(alloc, "sealed", SEALED_HELP));
     let audit = with_argument(
         audit,
         wanted_value(alloc, "journal", "JOURNAL", JOURNAL_HELP),
@@ -280,6 +287,21 @@ fn audit_command<'a>(alloc: Global) -> Result<Command<'a>, AllocError>
     with_argument(
         audit,
         optional_values(alloc, "scripts", "SCRIPT", ASKED_HELP),
+    )
+}
+
+fn seal_command<'a>(alloc: Global) -> Result<Command<'a>, AllocError>
+    ensures { IfOk result (IsBuiltAs seal_app) }
+{
+    let seal = horizon_command(
+        alloc,
+        "seal",
+        "Writes the seal of a journal that audit accepts, which says what the journal belongs to",
+        "The seal is JOURNAL.seal beside JOURNAL. Every command that replays JOURNAL alone compares it, and audit --sealed wants it.\n\nExample: seatdesk seal --set examples/summer.ssim --limits examples/limits.txt --first 2024-07-01 --days 31 journal.txt",
+    );
+    with_argument(
+        seal,
+        wanted_value(alloc, "journal", "JOURNAL", SEALED_JOURNAL_HELP),
     )
 }
 

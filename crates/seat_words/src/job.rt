@@ -65,15 +65,21 @@ pub enum Job<'a> {
         locator: &'a str,
         journal: &'a str,
     },
-    /// `seatdesk audit` over a horizon `[--after JOURNAL] [--behind N] [--today DATE] JOURNAL [SCRIPT...]`
+    /// `seatdesk audit` over a horizon `[--after JOURNAL] [--behind N] [--today DATE] [--sealed] JOURNAL [SCRIPT...]`
     Audit {
         over: Horizon<'a>,
         after: Option<&'a str>,
         behind: Option<&'a str>,
         today: Option<&'a str>,
+        sealed: bool,
         journal: &'a str,
         /// None or more.
         scripts: Several<'a>,
+    },
+    /// `seatdesk seal` over a horizon `JOURNAL`
+    Seal {
+        over: Horizon<'a>,
+        journal: &'a str,
     },
     /// `seatdesk replies` over a horizon `[--after JOURNAL] [--behind N] --today DATE [--session N] [--from LINE] JOURNAL [SCRIPT...]`
     Replies {
@@ -198,8 +204,13 @@ fn job_named<'a>(alloc: Global, name: &str, matches: &ArgMatches<'a>) -> Result<
             after: may_value_of(matches, "after"),
             behind: may_value_of(matches, "behind"),
             today: may_value_of(matches, "today"),
+            sealed: flag_of(matches, "sealed"),
             journal: value_of(matches, "journal"),
             scripts: any_values_of(alloc, matches, "scripts")?,
+        },
+        "seal" => Job::Seal {
+            over: horizon_of(matches),
+            journal: value_of(matches, "journal"),
         },
         "replies" => Job::Replies {
             over: horizon_of(matches),

@@ -5,12 +5,17 @@ ghost use Rattle.ssim_flights.specs.Right.{IsOfCentury};
 
 use crate::locale::is_utf_8;
 use crate::refusal::{Refusal, told};
+use crate::seal_file::{SealFile, is_moved};
+use crate::seal_out::SealOut;
 use crate::streams::{Input, opened, standard_input, standard_output, taken, taken_or};
 use airline_base::Day;
 use seat_desk::{Inputs, NO_LINES, Question, answer_question};
 use seat_questions::{Bars, BookingsOf, CityPair, Cover, RoomsOf, Why};
-use seat_reports::{Audit, desk_check, desk_flights, desk_ladder};
+use seat_reports::{Audit, desk_check, desk_flights, desk_ladder, desk_seal};
 use seat_words::{Horizon, WordFault, date_word, days_word, line_word, locator_word, pair_word};
+
+/// How often a journal is read once more that was replaced meanwhile.
+const MOST_READINGS: u32 = 100;
 
 pub fn ladder<'a>(rt: &HostRuntime) -> Result<(), Refusal<'a>> {
     let mut input = standard_input(rt);
@@ -89,20 +94,41 @@ pub fn why<'a>(
     answered(rt, over, days, &Why { line }, Some(journal))
 }
 
-/// The journal alone, without scripts.
+/// The journal alone, without scripts, beside which there may have to be a seal.
 pub fn audit<'a>(
     rt: &HostRuntime,
     over: &Horizon<'a>,
     days: (Day, u16),
     journal: &'a str,
+    is_sealed: bool,
 ) -> Result<(), Refusal<'a>>
     requires first { IsOfCentury days.0 }
     requires days { (1 ≤ days.1) × (days.1 ≤ 366) }
 {
-    answered(rt, over, days, &Audit, Some(journal))
+    answered_under(rt, over, days, &Audit, Some(journal), is_sealed)
 }
 
-/// The answer to a question about a journal, or about one without lines.
+/// Writes the seal of a journal that an audit accepts, while the journal is locked.
+pub fn seal<'a>(
+    rt: &'a HostRuntime,
+    over: &Horizon<'a>,
+    journal: &'a str,
+) -> Result<(), Refusal<'a>> {
+    let days = days_of(over.first, over.days)?;
+    let mut inputs = match inputs_of(rt, over, days) {
+        Ok(inputs) => inputs,
+        Err(refusal) => return Err(refusal),
+    };
+    let (mut out, mut journal) = SealOut::open(rt, journal)?;
+    let outcome = desk_seal(rt.alloc(), &mut inputs, &mut journal, &mut out);
+    out.leave();
+    match told(outcome, &[&inputs.set, &inputs.limits, &journal], &[]) {
+        Ok(()) => Ok(()),
+        Err(refusal) => Err(refusal.noting_seal(&out)),
+    }
+}
+
+/// The answer to a question about a journal, or about one without lines, with what stands beside it.
 fn answered<'a, Q: Question>(
     rt: &HostRuntime,
     over: &Horizon<'a>,
@@ -113,14 +139,71 @@ fn answered<'a, Q: Question>(
     requires first { IsOfCentury days.0 }
     requires days { (1 ≤ days.1) × (days.1 ≤ 366) }
 {
+    answered_under(rt, over, days, question, journal, false)
+}
+
+/// The same, where there may have to be a seal. A journal that a run has replaced meanwhile is read once more, with its seal: nothing
+/// is written of one that is refused.
+fn answered_under<'a, Q: Question>(
+    rt: &HostRuntime,
+    over: &Horizon<'a>,
+    days: (Day, u16),
+    question: &Q,
+    journal: Option<&'a str>,
+    is_sealed: bool,
+) -> Result<(), Refusal<'a>>
+    requires first { IsOfCentury days.0 }
+    requires days { (1 ≤ days.1) × (days.1 ≤ 366) }
+{
+    for _ in 0..MOST_READINGS {
+        let answer = answered_once(rt, over, days, question, journal, is_sealed)?;
+        if !answer.is_moved {
+            return answer.outcome;
+        }
+    }
+    let answer = answered_once(rt, over, days, question, journal, is_sealed)?;
+    answer.outcome
+}
+
+/// What a question came to, and whether its journal was replaced between the reading of the two, so that its seal was another's.
+#[derive(Drop)]
+struct Answer<'a> {
+    outcome: Result<(), Refusal<'a>>,
+    is_moved: bool,
+}
+
+fn answered_once<'a, Q: Question>(
+    rt: &HostRuntime,
+    over: &Horizon<'a>,
+    days: (Day, u16),
+    question: &Q,
+    journal: Option<&'a str>,
+    is_sealed: bool,
+) -> Result<Answer<'a>, Refusal<'a>>
+    requires first { IsOfCentury days.0 }
+    requires days { (1 ≤ days.1) × (days.1 ≤ 366) }
+{
     let mut inputs = match inputs_of(rt, over, days) {
         Ok(inputs) => inputs,
         Err(refusal) => return Err(refusal),
     };
     let mut journal = taken_or(rt, journal, &NO_LINES)?;
+    let seal = SealFile::beside(rt, &journal, is_sealed)?;
     let mut out = standard_output(rt);
-    let outcome = answer_question(rt.alloc(), question, &mut inputs, &mut journal, &mut out);
-    told(outcome, &[&inputs.set, &inputs.limits, &journal], &[&out])
+    let outcome = answer_question(
+        rt.alloc(),
+        question,
+        &mut inputs,
+        &mut journal,
+        &seal.as_beside(),
+        &mut out,
+    );
+    let outcome = told(outcome, &[&inputs.set, &inputs.limits, &journal], &[&out]);
+    let is_moved = match &outcome {
+        Err(refusal) => refusal.is_of_seal() && is_moved(rt, &journal),
+        Ok(()) => false,
+    };
+    Ok(Answer { outcome, is_moved })
 }
 
 /// The data set and the limit rows, open, and the dates.

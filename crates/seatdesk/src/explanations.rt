@@ -23,6 +23,7 @@ pub fn row_behind(behind: &str, code: &str) -> Option<&'static Explanation> {
         .or(first_behind(segments(), behind, code))
         .or(first_behind(journals(), behind, code))
         .or(first_behind(entries(), behind, code))
+        .or(first_behind(seals(), behind, code))
         .or(first_behind(words(), behind, code))
 }
 
@@ -37,6 +38,7 @@ pub fn row_of(code: &str) -> Option<&'static Explanation> {
         .or(first_of(segments(), code))
         .or(first_of(journals(), code))
         .or(first_of(entries(), code))
+        .or(first_of(seals(), code))
         .or(first_of(words(), code))
 }
 
@@ -46,7 +48,9 @@ fn first_behind<'a>(rows: &'a [Explanation], behind: &str, code: &str) -> Option
 }
 
 fn first_of<'a>(rows: &'a [Explanation], code: &str) -> Option<&'a Explanation> {
-    rows.iter().find(|row| row.code.eq_ignore_ascii_case(code) && row.behind != "E2")
+    rows.iter().find(|row| row.code.eq_ignore_ascii_case(code)
+        && row.behind != "E2"
+        && row.behind != "SEAL")
 }
 
 fn records() -> &'static [Explanation] {
@@ -83,6 +87,10 @@ fn journals() -> &'static [Explanation] {
 
 fn entries() -> &'static [Explanation] {
     ENTRIES
+}
+
+fn seals() -> &'static [Explanation] {
+    SEALS
 }
 
 fn words() -> &'static [Explanation] {
@@ -539,6 +547,64 @@ const ENTRIES: &[Explanation] = &[
     },
 ];
 
+// What stands beside a journal.
+const SEALS: &[Explanation] = &[
+    Explanation {
+        behind: "",
+        code: "SEAL",
+        numbers: NONE,
+        text: "JOURNAL.seal beside the journal says that the journal belongs to something else than is given.\nThe word behind it says what. It is compared ahead of the journal's own lines.",
+    },
+    Explanation {
+        behind: "SEAL",
+        code: "none",
+        numbers: NONE,
+        text: "--sealed wants a seal, and JOURNAL.seal is not there, or the journal is no regular file.\nseatdesk seal writes one, for a journal that is right.",
+    },
+    Explanation {
+        behind: "SEAL",
+        code: "form",
+        numbers: NONE,
+        text: "JOURNAL.seal is no seal: a byte of it was changed, or it was cut off, or it is another file.",
+    },
+    Explanation {
+        behind: "SEAL",
+        code: "set",
+        numbers: NONE,
+        text: "The data set is another than the one that the journal was booked over.",
+    },
+    Explanation {
+        behind: "SEAL",
+        code: "limits",
+        numbers: NONE,
+        text: "The limit rows are others than those that the journal was booked over.",
+    },
+    Explanation {
+        behind: "SEAL",
+        code: "first",
+        numbers: NONE,
+        text: "--first is another day than that of the journal's flights.",
+    },
+    Explanation {
+        behind: "SEAL",
+        code: "days",
+        numbers: NONE,
+        text: "--days is another number than that of the journal's flights.",
+    },
+    Explanation {
+        behind: "SEAL",
+        code: "journal",
+        numbers: NONE,
+        text: "The journal's head and entries are others than those that were sealed: a line was changed, added or taken away.",
+    },
+    Explanation {
+        behind: "SEAL",
+        code: "again",
+        numbers: NONE,
+        text: "A script that is to be booked stands in the journal already.",
+    },
+];
+
 // Words of the command line.
 const WORDS: &[Explanation] = &[
     Explanation {
@@ -563,7 +629,7 @@ const WORDS: &[Explanation] = &[
         behind: "E2",
         code: "script",
         numbers: NONE,
-        text: "There are more than 8 scripts, or some have a number ahead of their file, as 3=lisbon.txt, and some have none,\nor a number is not 1 to 8, stands twice or has no file behind it. A file whose name begins so is ./3=lisbon.txt.\nOr there is no script: run needs one unless it has --changes, and audit where it has --after, --behind or --today.",
+        text: "There are more than 8 scripts, or some have a number ahead of their file, as 3=lisbon.txt, and some have none,\nor a number is not 1 to 8, stands twice or has no file behind it. A file whose name begins so is ./3=lisbon.txt.\nOr there is no script: run needs one unless it has --changes, and audit where it has --after, --behind or --today.\nOr audit has --sealed beside scripts, which is for a journal alone.",
     },
     Explanation {
         behind: "E2",
@@ -605,7 +671,7 @@ const WORDS: &[Explanation] = &[
         behind: "E2",
         code: "journal",
         numbers: NONE,
-        text: "The file of --journal is one of the inputs, other than the journal of --after, or that of standard output,\nor another run has it, or its name is - or ends in .seal, .unfinished or .kept-N,\nor --no-clobber keeps it: it is there and not empty. Nothing was written.",
+        text: "The file of --journal is one of the inputs, other than the journal of --after, or that of standard output,\nor another run has it, as it may have the journal that is to be sealed, or its name is - or ends in .seal, .unfinished or .kept-N,\nor --no-clobber keeps it: it is there and not empty. Nothing was written.",
     },
     Explanation {
         behind: "E2",

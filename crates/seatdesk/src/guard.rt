@@ -2,7 +2,8 @@
 use crate::journal_file::{UNFINISHED, is_same};
 use crate::kept_file::KEPT_BEFORE;
 use crate::refusal::Refusal;
-use crate::streams::Input;
+use crate::seal_file::SEAL;
+use crate::streams::{Input, STANDARD};
 use seat_desk::{DeskFault, Inputs};
 use seat_words::WordFault;
 use std::fs::Metadata;
@@ -10,12 +11,6 @@ use std::{fs, io};
 
 /// What a program's own descriptor 1 is open on, whatever stands in /dev.
 const STANDARD_OUTPUT: &str = "/proc/self/fd/1";
-
-/// The name of standard output among the words.
-const STANDARD: &str = "-";
-
-/// What the name of a journal's seal ends with.
-const SEAL: &str = ".seal";
 
 /// The file that a journal is to be written to, as it is before that.
 #[derive(Drop)]

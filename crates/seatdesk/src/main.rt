@@ -13,6 +13,8 @@ mod kept_file;
 mod locale;
 mod refusal;
 mod replies;
+mod seal_file;
+mod seal_out;
 mod selling;
 mod sessions;
 mod streams;
@@ -96,6 +98,7 @@ fn carry_out<'a, T: Threads + Wait + Sync>(
             after,
             behind,
             today,
+            sealed,
             journal,
             scripts,
         } => {
@@ -103,8 +106,10 @@ fn carry_out<'a, T: Threads + Wait + Sync>(
                 after: *after,
                 behind: *behind,
             };
-            selling::audit(rt, over, &older, *today, journal, scripts.as_slice())?
+            let scripts = scripts.as_slice();
+            selling::audit(rt, over, &older, *today, *sealed, journal, scripts)?
         }
+        Job::Seal { over, journal } => commands::seal(rt, over, journal)?,
         Job::Replies {
             over,
             after,

@@ -1,6 +1,7 @@
 //! What a command is refused with, and the file that it is refused for.
 use crate::fault::Fault;
 use crate::journal_file::JournalFile;
+use crate::seal_out::SealOut;
 use crate::streams::{Input, Output};
 use airline_base::Failures;
 use seat_desk::DeskFault;
@@ -44,6 +45,16 @@ impl<'a> Refusal<'a> {
             return Refusal::from(DeskFault::Memory);
         }
         Refusal::from(DeskFault::Device).at(path, error.raw_os_error())
+    }
+
+    /// The fault of an input that failed while it was read.
+    pub fn unread(input: &Input<'a>) -> Refusal<'a> {
+        Refusal::from(DeskFault::Device).at(input.name(), input.reason())
+    }
+
+    /// Whether the fault is one of what stands beside a journal.
+    pub fn is_of_seal(&self) -> bool {
+        matches!(self.fault, Fault::Desk(DeskFault::Seal(_)))
     }
 
     /// The fault of standard output where help or the version is written to it.
@@ -139,6 +150,16 @@ impl<'a> Refusal<'a> {
                 "seatdesk: note: {file} has the journal; its replies once more: seatdesk replies --behind {behind}"
             )
         };
+    }
+
+    /// The same for the seal of a journal.
+    pub fn noting_seal(self, seal: &SealOut<'a>) -> Refusal<'a> {
+        match self.fault {
+            Fault::Desk(DeskFault::Device) if seal.failures() > 0 => {
+                self.at(seal.name(), seal.reason())
+            }
+            _ => self,
+        }
     }
 
     /// The same for an output.

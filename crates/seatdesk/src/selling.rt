@@ -30,12 +30,14 @@ pub struct Older<'a> {
     pub behind: Option<&'a str>,
 }
 
-/// Without a script the journal is looked at alone. Scripts need the day of the run, and it needs scripts, as older lines do.
+/// Without a script the journal is looked at alone, with its seal. Scripts need the day of the run, and it needs scripts, as older
+/// lines do.
 pub fn audit<'a>(
     rt: &HostRuntime,
     over: &Horizon<'a>,
     older: &Older<'a>,
     today: Option<&str>,
+    is_sealed: bool,
     journal: &'a str,
     scripts: &[&'a str],
 ) -> Result<(), Refusal<'a>> {
@@ -49,8 +51,11 @@ pub fn audit<'a>(
     if let Some(fault) = audit_lacks(!scripts.is_empty(), has_older, today.is_some()) {
         return Err(Refusal::from(fault));
     }
+    if is_sealed && today.is_some() {
+        return Err(Refusal::from(WordFault::BadScripts));
+    }
     let Some(today) = today else {
-        return commands::audit(rt, over, days, journal);
+        return commands::audit(rt, over, days, journal, is_sealed);
     };
     audit_against(rt, over, days, older.after, more, today, journal, scripts)
 }

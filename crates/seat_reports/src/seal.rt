@@ -1,0 +1,144 @@
+//! `seal`: the seal of a journal that an audit accepts.
+ghost use Rattle.std.specs.Prelude.{◌≡◌, ◌≢◌, ◌⊎◌, ◌≤◌, IfErr, IfOk, OnErr, OnOk};
+ghost use Rattle.airline_base.specs.Noting.{noted};
+ghost use Rattle.ssim_flights.specs.Right.{IsOfCentury};
+ghost use Rattle.seat_disk.specs.Leaving.{OldOr, Only, replaced_by};
+ghost use Rattle.seat_seal.specs.Reading.{one_entry};
+ghost use Rattle.seat_seal.specs.Text.{seal_text};
+ghost use Rattle.seat_seal.specs.declared.seal.SealEntry.TheVariants.{Sealed as Told};
+ghost use Rattle.seat_desk.specs.Answering.{HasFirstFailed, IsFirstTooLargeOf, IsRefusedAnswerOf};
+ghost use Rattle.seat_desk.specs.AuditDesk.{IsUnlawful};
+ghost use Rattle.seat_desk.specs.Desk.{HasFailed, InputFailed, IsOfInput};
+ghost use Rattle.seat_reports.specs.SealDesk.{IsEntryOf, IsPut, IsSealOfKnown, PuttingFailed, nothing};
+
+use airline_base::NotedRead;
+use arrayvec::ArrayVec;
+use seat_desk::{
+    Based, DeskFault, Inputs, Loaded, MOST_JOURNAL_BYTES, load_based, read_input, replayed,
+};
+use seat_disk::{Replaced, replace_whole};
+use seat_seal::{
+    Basis, Date, Imprint, JournalState, Scripts, Seal, SealEntry, Sealed, SealedJournal, front_of,
+    imprint_of, seal_text,
+};
+use std::alloc::Global;
+
+/// Reads a data set, limit rows and a journal as an audit reads them, and puts the journal's seal in place of what its file has: at any
+/// moment a crash leaves what it would have left before, or the new seal, whole. It is closed, names no scripts, and no day of a run
+/// but the first day. What stands beside the journal so far is not read. What an audit refuses is refused here.
+pub fn desk_seal<S: NotedRead, L: NotedRead, J: NotedRead, K: Replaced>(
+    alloc: Global,
+    inputs: &mut Inputs<S, L>,
+    journal: &mut J,
+    seal: &mut K,
+) -> Result<(), DeskFault>
+    requires first { IsOfCentury inputs.old.first }
+    requires days { (1 ≤ inputs.old.days) × (inputs.old.days ≤ 366) }
+    ensures ok { OnOk result (IsPut (IsSealOfKnown S.remaining L.remaining inputs.old (J.remaining journal.old))
+        (K.named seal.old) (K.named seal.new) (K.may_leave seal.new)) }
+    ensures fault { IfErr result (λ f. IsOfInput f →
+        IsRefusedAnswerOf IsUnlawful nothing S.remaining L.remaining inputs.old (J.remaining journal.old) f) }
+    ensures large { IfErr result (λ f. f ≡ DeskFault.TooLarge
+        → IsFirstTooLargeOf S.remaining L.remaining inputs.old (J.remaining journal.old)) }
+    ensures device { IfErr result (λ f. f ≡ DeskFault.Device →
+        InputFailed (HasFirstFailed S.remaining L.remaining S.failure_count L.failure_count J.failure_count inputs.old inputs.new journal.old journal.new)
+        seal.old seal.new
+        ⊎ PuttingFailed K.failure_count K.named seal.old seal.new
+        (IsSealOfKnown S.remaining L.remaining inputs.old (J.remaining journal.old))) }
+    ensures untouched { IfErr result (λ f. f ≢ DeskFault.Device → seal.new ≡ seal.old) }
+{
+    let text = match sealed(alloc, inputs, journal) {
+        Ok(text) => text,
+        Err(fault) => return Err(fault),
+    };
+    match put_seal(seal, text.as_slice()) {
+        Ok(()) => Ok(()),
+        Err(fault) => Err(fault),
+    }
+}
+
+/// The text of a journal's seal.
+fn sealed<S: NotedRead, L: NotedRead, J: NotedRead>(
+    alloc: Global,
+    inputs: &mut Inputs<S, L>,
+    journal: &mut J,
+) -> Result<ArrayVec<u8, 2304>, DeskFault>
+    requires first { IsOfCentury inputs.old.first }
+    requires days { (1 ≤ inputs.old.days) × (inputs.old.days ≤ 366) }
+    ensures ok { IfOk result
+        (λ text. IsSealOfKnown S.remaining L.remaining inputs.old (J.remaining journal.old) text.items) }
+    ensures fault { IfErr result (λ f. IsOfInput f →
+        IsRefusedAnswerOf IsUnlawful nothing S.remaining L.remaining inputs.old (J.remaining journal.old) f) }
+    ensures large { IfErr result (λ f. f ≡ DeskFault.TooLarge
+        → IsFirstTooLargeOf S.remaining L.remaining inputs.old (J.remaining journal.old)) }
+    ensures device { IfErr result (λ f. f ≡ DeskFault.Device →
+        HasFirstFailed S.remaining L.remaining S.failure_count L.failure_count J.failure_count inputs.old inputs.new journal.old journal.new) }
+{
+    let Based { loaded, basis } = match load_based(alloc, inputs, true) {
+        Ok(based) => based,
+        Err(fault) => return Err(fault),
+    };
+    let Loaded {
+        flights,
+        rows,
+        grid,
+    } = loaded;
+    drop(flights);
+    drop(rows);
+    let bytes = match read_input(alloc, journal, MOST_JOURNAL_BYTES) {
+        Ok(bytes) => bytes,
+        Err(fault) => return Err(fault),
+    };
+    let imprint = imprint_of(front_of(&bytes));
+    match replayed(alloc, grid, bytes) {
+        Ok(core) => Ok(text_of(entry_of(&basis, imprint, core.journal().len() as u32))),
+        Err(fault) => Err(fault),
+    }
+}
+
+/// A seal of this entry alone.
+fn text_of(entry: Sealed) -> ArrayVec<u8, 2304>
+    ensures { result.items ≡ seal_text (one_entry (Told entry)) }
+{
+    let seal = Seal {
+        first: SealEntry::Sealed(entry),
+        second: None,
+    };
+    seal_text(&seal)
+}
+
+fn entry_of(basis: &Basis, imprint: Imprint, lines: u32) -> Sealed
+    ensures { IsEntryOf basis.now imprint lines result }
+{
+    let first = Date::of(basis.first);
+    Sealed {
+        set: basis.set,
+        limits: basis.limits,
+        first,
+        days: basis.days,
+        journal: SealedJournal {
+            imprint,
+            lines,
+            state: JournalState::Closed,
+        },
+        behind: 0,
+        today: first,
+        scripts: Scripts::new(),
+        changes: None,
+    }
+}
+
+fn put_seal<K: Replaced>(seal: &mut K, text: &[u8]) -> Result<(), DeskFault>
+    ensures ok { OnOk result (K.named seal.new ≡ replaced_by (K.named seal.old) text.now) }
+    ensures kept { OnOk result (Only text.now (K.may_leave seal.new)) }
+    ensures crash { OldOr text.now (K.may_leave seal.old) (K.may_leave seal.new) }
+    ensures device { IfErr result (λ f. f ≡ DeskFault.Device) }
+    ensures counted { OnErr result (HasFailed K.failure_count seal.old seal.new) }
+    ensures either { OnErr result ((K.named seal.new ≡ K.named seal.old)
+        ⊎ (K.named seal.new ≡ replaced_by (K.named seal.old) text.now)) }
+{
+    match replace_whole(seal, text, false) {
+        Ok(()) => Ok(()),
+        Err(_) => Err(DeskFault::Device),
+    }
+}

@@ -1,0 +1,99 @@
+//! The seal beside a journal: a file of its own in the folder of the file that the journal's name leads to.
+//! It knows names and bytes, and nothing of what a seal says.
+use crate::journal_file::is_same;
+use crate::refusal::Refusal;
+use crate::streams::Input;
+use airline_base::{ReadFault, read_all};
+use seat_desk::DeskFault;
+use seat_seal::Beside;
+use std::{fs, io};
+
+/// What the name of a journal's seal ends with.
+pub const SEAL: &str = ".seal";
+
+/// The most bytes that are read of a seal, which has fewer: a longer file is no seal.
+const MOST_SEAL_BYTES: u64 = 4096;
+
+/// What stands beside a journal, as it was read.
+#[derive(Drop)]
+pub struct SealFile {
+    text: Option<Vec<u8>>,
+    is_wanted: bool,
+}
+
+impl SealFile {
+    /// Nothing, of a journal that is no regular file.
+    pub fn nothing(is_wanted: bool) -> SealFile {
+        SealFile {
+            text: None,
+            is_wanted,
+        }
+    }
+
+    /// What stands beside a journal that is open, where it is a regular file.
+    pub fn beside<'a>(
+        rt: &HostRuntime,
+        journal: &Input<'a>,
+        is_wanted: bool,
+    ) -> Result<SealFile, Refusal<'a>> {
+        match journal.metadata()? {
+            Some(file) if file.is_file() => Ok(SealFile {
+                text: text_beside(rt, journal.name())?,
+                is_wanted,
+            }),
+            _ => Ok(SealFile::nothing(is_wanted)),
+        }
+    }
+
+    pub fn as_beside(&self) -> Beside<'_> {
+        let text = match &self.text {
+            Some(text) => Some(text.as_slice()),
+            None => None,
+        };
+        Beside {
+            text,
+            is_wanted: self.is_wanted,
+        }
+    }
+}
+
+/// The name of the seal of the file that a name leads to, if it leads to one.
+pub fn seal_path<'a>(rt: &HostRuntime, name: &'a str) -> Result<Option<String>, Refusal<'a>> {
+    let path = match fs::canonicalize(rt, name) {
+        Ok(path) => path.into_string(),
+        Err(error) if error.kind() == io::ErrorKind::NotFound => return Ok(None),
+        Err(error) => return Err(Refusal::unopened(name, &error)),
+    };
+    match format!(in rt.alloc(); "{path}{SEAL}") {
+        Ok(path) => Ok(Some(path)),
+        Err(_) => Err(Refusal::from(DeskFault::Memory)),
+    }
+}
+
+fn text_beside<'a>(rt: &HostRuntime, name: &'a str) -> Result<Option<Vec<u8>>, Refusal<'a>> {
+    let Some(path) = seal_path(rt, name)? else {
+        return Ok(None);
+    };
+    let mut input = match fs::open(rt, path.as_str()) {
+        Ok(file) => Input::of_file(file, name),
+        Err(error) if error.kind() == io::ErrorKind::NotFound => return Ok(None),
+        Err(error) => return Err(Refusal::unopened(name, &error)),
+    };
+    match read_all(rt.alloc(), &mut input, MOST_SEAL_BYTES) {
+        Ok(text) => Ok(Some(text)),
+        Err(ReadFault::TooLarge) => Ok(Some(Vec::new(rt.alloc()))),
+        Err(ReadFault::Device) => Err(Refusal::unread(&input)),
+        Err(ReadFault::Memory) => Err(Refusal::from(DeskFault::Memory)),
+    }
+}
+
+/// Whether a journal's name leads to another file than the one that is open, as where a run replaced it meanwhile.
+pub fn is_moved(rt: &HostRuntime, journal: &Input<'_>) -> bool {
+    let Ok(Some(own)) = journal.metadata() else {
+        return false;
+    };
+    match fs::metadata(rt, journal.name()) {
+        Ok(there) => own.is_file() && !is_same(&own, &there),
+        Err(_) => false,
+    }
+}
