@@ -1,15 +1,15 @@
 //! A journal and its seal, crashed at each call of their replacement. The digests of the texts are those of sha256sum.
 ghost use Rattle.std.specs.Prelude.{◌≡◌, IsTrue};
 ghost use Rattle.seat_seal.specs.Imprints.{imprint_of};
-ghost use Rattle.seat_sealing.specs.Ends.{ahead_of_end};
+ghost use Rattle.seat_seal.specs.Fronts.{front_of};
 
 use airline_base::Failures;
 use seat_disk::{Folder, Fuse};
 use seat_seal::{
     Date, JournalState, Script, Scripts, SealEntry, Sealed, SealedJournal, digest_of, entry_for,
-    imprint_of, read_seal,
+    front_of, imprint_of, read_seal,
 };
-use seat_sealing::{ahead_of_end, may_be_sealed, older_entry, replace_sealed, the_same_again};
+use seat_sealing::{may_be_sealed, older_entry, replace_sealed, the_same_again};
 use std::alloc::{AllocError, Global};
 use std::process::Abort;
 use std::test::Fail;
@@ -39,7 +39,7 @@ const OTHER_OF_NONE: &[u8] =
     b"other e3b0c44298fc1c149afbf4c8996fb92427ae41e4649b934ca495991b7852b855 bytes 0\nEND\n";
 
 fn sealed(text: &[u8], lines: u32, day: u8, script: &[u8]) -> Sealed
-    ensures { result.journal.imprint ≡ imprint_of (ahead_of_end text.now) }
+    ensures { result.journal.imprint ≡ imprint_of (front_of text.now) }
 {
     let mut scripts = Scripts::new();
     scripts.push(Script {
@@ -56,7 +56,7 @@ fn sealed(text: &[u8], lines: u32, day: u8, script: &[u8]) -> Sealed
         },
         days: 31,
         journal: SealedJournal {
-            imprint: imprint_of(ahead_of_end(text)),
+            imprint: imprint_of(front_of(text)),
             lines,
             state: JournalState::Closed,
         },
@@ -75,7 +75,7 @@ fn sealed(text: &[u8], lines: u32, day: u8, script: &[u8]) -> Sealed
 fn known(seal: &[u8], journal: &[u8]) -> SealEntry {
     older_entry(
         read_seal(seal),
-        &imprint_of(ahead_of_end(journal)),
+        &imprint_of(front_of(journal)),
         imprint_of(journal),
     )
 }
@@ -85,12 +85,7 @@ fn is_found(seal: &[u8], journal: &[u8]) -> bool {
     let Some(seal) = read_seal(seal) else {
         return false;
     };
-    entry_for(
-        &seal,
-        &imprint_of(ahead_of_end(journal)),
-        &imprint_of(journal),
-    )
-    .is_some()
+    entry_for(&seal, &imprint_of(front_of(journal)), &imprint_of(journal)).is_some()
 }
 
 // A replacement that keeps what the names have passes 17 calls on: six of the seal (begin, append, sync, keep, rename, sync of the
@@ -304,7 +299,7 @@ fn ends_ahead_of_the_last_line(rt: HostRuntime) -> Result<(), Fail> {
         (b"head\nEND", b"head\n"),
     ];
     for (text, wanted) in rows {
-        assert!(rt; ahead_of_end(text) == wanted);
+        assert!(rt; front_of(text) == wanted);
     }
     Ok(())
 }

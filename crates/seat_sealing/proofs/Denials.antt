@@ -10,7 +10,7 @@ use Rattle.seat_seal.specs.Imprints.{imprint_of}
 use Rattle.seat_seal.specs.Reading.{one_entry, two_entries}
 use Rattle.seat_seal.specs.Rules.{HasDigests, HasTypes, IsSeal, is_entry, is_seal, is_sealed}
 use Rattle.seat_disk.specs.Leaving.{Only}
-use Rattle.seat_sealing.specs.Ends.{ahead_of_end}
+use Rattle.seat_seal.specs.Fronts.{front_of}
 use Rattle.seat_sealing.specs.Laws.{AreEntriesOf}
 use Rattle.seat_sealing.specs.Pairs.{HasEntry, IsEntryOf, NoneDenied, NoneDeniedSince}
 use Rattle.seat_sealing.specs.Steps.{InOrder, IsClosing, IsReplacing, IsSealing, alone_text, both_text}
@@ -48,45 +48,45 @@ one_found newer entries whole its = rw its refl
 -- ---- pairs
 
 pub has_older : (older : SealEntry) (newer : Belonging) (journal : List ℕ) → IsSeal (two_entries older (Sealed newer))
-    → is_its_journal older (imprint_of (ahead_of_end journal)) (imprint_of journal) ≡ true
+    → is_its_journal older (imprint_of (front_of journal)) (imprint_of journal) ≡ true
     → HasEntry (both_text older newer) journal
 has_older older newer journal is its = record {
   said = two_entries older (Sealed newer);
   is = is;
   text = refl;
   entry = older;
-  found = first_found older newer (imprint_of (ahead_of_end journal)) (imprint_of journal) its;
+  found = first_found older newer (imprint_of (front_of journal)) (imprint_of journal) its;
 }
 
 has_second : (older : SealEntry) (newer : Belonging) (journal : List ℕ) → IsSeal (two_entries older (Sealed newer))
-    → is_its_journal older (imprint_of (ahead_of_end journal)) (imprint_of journal) ≡ false
-    → newer.journal.imprint ≡ imprint_of (ahead_of_end journal) → HasEntry (both_text older newer) journal
+    → is_its_journal older (imprint_of (front_of journal)) (imprint_of journal) ≡ false
+    → newer.journal.imprint ≡ imprint_of (front_of journal) → HasEntry (both_text older newer) journal
 has_second older newer journal is other same = record {
   said = two_entries older (Sealed newer);
   is = is;
   text = refl;
   entry = Sealed newer;
-  found = second_found older newer (imprint_of (ahead_of_end journal)) (imprint_of journal) other (sealed_is_its newer (imprint_of (ahead_of_end journal)) (imprint_of journal) same);
+  found = second_found older newer (imprint_of (front_of journal)) (imprint_of journal) other (sealed_is_its newer (imprint_of (front_of journal)) (imprint_of journal) same);
 }
 
 has_newer : (older : SealEntry) (newer : Belonging) (journal : List ℕ) → IsSeal (two_entries older (Sealed newer))
-    → newer.journal.imprint ≡ imprint_of (ahead_of_end journal) → HasEntry (both_text older newer) journal
+    → newer.journal.imprint ≡ imprint_of (front_of journal) → HasEntry (both_text older newer) journal
 has_newer older newer journal is same =
-    cases (is_its_journal older (imprint_of (ahead_of_end journal)) (imprint_of journal)) refl
+    cases (is_its_journal older (imprint_of (front_of journal)) (imprint_of journal)) refl
   where
-    cases : (b : Bool) → is_its_journal older (imprint_of (ahead_of_end journal)) (imprint_of journal) ≡ b
+    cases : (b : Bool) → is_its_journal older (imprint_of (front_of journal)) (imprint_of journal) ≡ b
         → HasEntry (both_text older newer) journal
     cases true its = has_older older newer journal is its
     cases false other = has_second older newer journal is other same
 
 has_alone : (older : SealEntry) (newer : Belonging) (journal : List ℕ) → IsSeal (two_entries older (Sealed newer))
-    → newer.journal.imprint ≡ imprint_of (ahead_of_end journal) → HasEntry (alone_text newer) journal
+    → newer.journal.imprint ≡ imprint_of (front_of journal) → HasEntry (alone_text newer) journal
 has_alone older newer journal is same = record {
   said = one_entry (Sealed newer);
   is = is_alone older newer is;
   text = refl;
   entry = Sealed newer;
-  found = one_found newer (imprint_of (ahead_of_end journal)) (imprint_of journal) (sealed_is_its newer (imprint_of (ahead_of_end journal)) (imprint_of journal) same);
+  found = one_found newer (imprint_of (front_of journal)) (imprint_of journal) (sealed_is_its newer (imprint_of (front_of journal)) (imprint_of journal) same);
 }
 
 -- ---- steps
@@ -94,7 +94,7 @@ has_alone older newer journal is same = record {
 module _ (older : SealEntry) (newer : Belonging) (text : List ℕ)
     (journals_old seals_old journals_new seals_new : List ℕ → Type 0)
     (is : IsSeal (two_entries older (Sealed newer))) (its : IsEntryOf older journals_old)
-    (same : newer.journal.imprint ≡ imprint_of (ahead_of_end text)) where
+    (same : newer.journal.imprint ≡ imprint_of (front_of text)) where
   by_seal : (journal seal : List ℕ) → seal ≡ both_text older newer → HasEntry (both_text older newer) journal
       → HasEntry seal journal
   by_seal journal seal e has = subst (λ (s : List ℕ). HasEntry s journal) (sym e) has
@@ -148,7 +148,7 @@ no_crash_denies older newer text journals_old seals_old journals_new seals_new a
 
 pub none_denied_since : (older : SealEntry) (newer : Belonging) (text : List ℕ)
     (journals_old seals_old journals_new seals_new : List ℕ → Type 0) → HasTypes older → HasDigests newer
-    → is_seal (two_entries older (Sealed newer)) ≡ true → newer.journal.imprint ≡ imprint_of (ahead_of_end text)
+    → is_seal (two_entries older (Sealed newer)) ≡ true → newer.journal.imprint ≡ imprint_of (front_of text)
     → InOrder (both_text older newer) text (alone_text newer) journals_old seals_old journals_new seals_new
     → IsEntryOf older journals_old → NoneDeniedSince journals_old seals_old journals_new seals_new
 none_denied_since older newer text journals_old seals_old journals_new seals_new first second rules same order its =
@@ -168,7 +168,7 @@ none_denied journals_old seals_old journals_new seals_new since before = record 
 
 pub still_none : (older : SealEntry) (newer : Belonging) (text : List ℕ)
     (journals_old seals_old journals_new seals_new : List ℕ → Type 0) → HasTypes older → HasDigests newer
-    → is_seal (two_entries older (Sealed newer)) ≡ true → newer.journal.imprint ≡ imprint_of (ahead_of_end text)
+    → is_seal (two_entries older (Sealed newer)) ≡ true → newer.journal.imprint ≡ imprint_of (front_of text)
     → InOrder (both_text older newer) text (alone_text newer) journals_old seals_old journals_new seals_new
     → IsEntryOf older journals_old → NoneDenied journals_old seals_old → NoneDenied journals_new seals_new
 still_none older newer text journals_old seals_old journals_new seals_new first second rules same order its before =
@@ -178,7 +178,7 @@ still_none older newer text journals_old seals_old journals_new seals_new first 
 -- the new journal and its seal
 pub settled : (older : SealEntry) (newer : Belonging) (text : List ℕ) (journals seals : List ℕ → Type 0) → HasTypes older
     → HasDigests newer → is_seal (two_entries older (Sealed newer)) ≡ true
-    → newer.journal.imprint ≡ imprint_of (ahead_of_end text) → Only text journals → Only (alone_text newer) seals
+    → newer.journal.imprint ≡ imprint_of (front_of text) → Only text journals → Only (alone_text newer) seals
     → NoneDenied journals seals
 settled older newer text journals seals first second rules same journal seal = record {
   each = λ c s left stands.

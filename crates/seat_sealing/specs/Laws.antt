@@ -9,21 +9,21 @@ use Rattle.seat_seal.specs.declared.seal.SealEntry.TheVariants.{Sealed}
 use Rattle.seat_seal.specs.Imprints.{imprint_of}
 use Rattle.seat_seal.specs.Reading.{two_entries}
 use Rattle.seat_seal.specs.Rules.{IsSeal}
-use Rattle.seat_sealing.specs.Ends.{ahead_of_end}
+use Rattle.seat_seal.specs.Fronts.{front_of}
 use Rattle.seat_sealing.specs.Pairs.{IsEntryOf, NoneDeniedSince}
 use Rattle.seat_sealing.specs.Steps.{InOrder, both_text, alone_text}
 
 -- of a journal of either version, what stands ahead of its last line is its head and its entries
 pub record EndIsLast (entries : List Entry) : Type 0 where
-  pub new : ahead_of_end (journal_text entries) ≡ head_text ++ flat_map entry_text entries
-  pub old : ahead_of_end (old_text entries) ≡ old_head_text ++ flat_map entry_text entries
+  pub new : front_of (journal_text entries) ≡ head_text ++ flat_map entry_text entries
+  pub old : front_of (old_text entries) ≡ old_head_text ++ flat_map entry_text entries
 
 -- two entries that a seal may have, of an older journal and of the newer one with this text
 pub record AreEntriesOf (older : SealEntry) (newer : Belonging) (journals_old : List ℕ → Type 0) (text : List ℕ) : Type 0
   where
     pub is : IsSeal (two_entries older (Sealed newer))
     pub older_is : IsEntryOf older journals_old
-    pub newer_is : newer.journal.imprint ≡ imprint_of (ahead_of_end text)
+    pub newer_is : newer.journal.imprint ≡ imprint_of (front_of text)
 
 -- in whichever of the three steps a crash comes
 abbrev pub NoCrashDenies : SealEntry → Belonging → List ℕ → (List ℕ → Type 0) → (List ℕ → Type 0) → (List ℕ → Type 0)

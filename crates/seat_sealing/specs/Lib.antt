@@ -1,5 +1,4 @@
 pub mod Again
-pub mod Ends
 pub mod Laws
 pub mod Older
 pub mod Pairs

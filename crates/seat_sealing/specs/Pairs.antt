@@ -6,7 +6,7 @@ use Rattle.seat_seal.specs.Comparing.{entry_for, is_its_journal}
 use Rattle.seat_seal.specs.Imprints.{imprint_of}
 use Rattle.seat_seal.specs.Rules.{IsSeal}
 use Rattle.seat_seal.specs.Text.{seal_text}
-use Rattle.seat_sealing.specs.Ends.{ahead_of_end}
+use Rattle.seat_seal.specs.Fronts.{front_of}
 
 -- the text is that of a seal, in which a reader finds the entry of this journal
 pub record HasEntry (seal journal : List ℕ) : Type 0 where
@@ -14,12 +14,12 @@ pub record HasEntry (seal journal : List ℕ) : Type 0 where
   pub is : IsSeal said
   pub text : seal ≡ seal_text said
   pub entry : SealEntry
-  pub found : entry_for said (imprint_of (ahead_of_end journal)) (imprint_of journal) ≡ Some entry
+  pub found : entry_for said (imprint_of (front_of journal)) (imprint_of journal) ≡ Some entry
 
 -- the entry is that of whatever a crash leaves of the journal
 pub record IsEntryOf (entry : SealEntry) (journals : List ℕ → Type 0) : Type 0 where
   pub each : (journal : List ℕ) → journals journal
-      → IsTrue (is_its_journal entry (imprint_of (ahead_of_end journal)) (imprint_of journal))
+      → IsTrue (is_its_journal entry (imprint_of (front_of journal)) (imprint_of journal))
 
 -- whatever a crash leaves of both, the seal has the journal's entry
 pub record NoneDenied (journals seals : List ℕ → Type 0) : Type 0 where

@@ -4,14 +4,12 @@
 #![tactic(auto)]
 
 mod again;
-mod ends;
 mod laws;
 mod older;
 mod replacing;
 mod writing;
 
 pub use again::the_same_again;
-pub use ends::ahead_of_end;
 pub use laws::{ends_are_last, no_crash_denies};
 pub use older::older_entry;
 pub use replacing::{may_be_sealed, replace_sealed};
