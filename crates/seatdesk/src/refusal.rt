@@ -64,10 +64,10 @@ impl<'a> Refusal<'a> {
         self
     }
 
-    /// Names the journal where one of its lines is not what the scripts ask.
+    /// Names the journal where one of its lines is not what the scripts ask, or where it has too few.
     pub fn noting_unasked(self, journal: &Input<'a>) -> Refusal<'a> {
         match self.fault {
-            Fault::Desk(DeskFault::Unasked { .. }) => self.of_input(journal),
+            Fault::Desk(DeskFault::Unasked { .. } | DeskFault::NoBehind) => self.of_input(journal),
             _ => self,
         }
     }
