@@ -59,9 +59,9 @@ _seatdesk() {
         place='files'
         ;;
     run)
-        words='--set --limits --first --days --after --today --journal --changes --no-clobber -v --verbose -h --help'
-        files='--set --limits --after --journal --changes'
-        values='--first --days --today'
+        words='--set --limits --first --days --after --behind --resume --today --journal --changes --no-clobber -v --verbose -h --help'
+        files='--set --limits --after --resume --journal --changes'
+        values='--first --days --behind --today'
         place='files'
         ;;
     bookings)

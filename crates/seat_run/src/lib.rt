@@ -4,6 +4,8 @@
 #![tactic(auto)]
 
 mod replies;
+mod resume;
 mod run;
 
+pub use resume::desk_resume;
 pub use run::desk_run;

@@ -41,7 +41,7 @@ module _ (grid : Ladders) (past : List Entry) (flights : List Flown) (changes : 
   abbrev its_works : List Request → List Work
   its_works requests = map Seats (commands_of flights requests)
 
-  each_of : (i : ℕ) → done_by (suc i) h.added ≡ map Seats (commands_of flights (requests_of scripts (suc i)))
+  pub each_of : (i : ℕ) → done_by (suc i) h.added ≡ map Seats (commands_of flights (requests_of scripts (suc i)))
   each_of i =
       ⊎_elim
       (λ (lt : i < length lists). own_works grid past flights changes scripts history told h i lt ∙ ap its_works (its_requests scripts i))

@@ -5,15 +5,16 @@ use Rattle.ssim_flights.specs.declared.flight.Flight.{Flight as Flown}
 use Rattle.seat_rules.specs.Inventory.{Inventory}
 use Rattle.seat_desk.specs.AuditDesk.{IsUnlawful}
 use Rattle.seat_desk.specs.Desk.{IsOfInput}
-use Rattle.seat_desk.specs.declared.fault.DeskFault.TheVariants.{Journal, NoBehind, Replay, Script}
-use Rattle.seat_scripts.specs.Against.{AreRead, HasBoth, HasOlder, IsAuditAgainst, IsRefusedAgainst, IsReplayWithin, IsTooLargeAgainst, OfFour}
+use Rattle.seat_desk.specs.Loading.{IsRefusedLoad}
+use Rattle.seat_desk.specs.declared.fault.DeskFault.TheVariants.{Flight, Journal, Limit, NoBehind, Replay, Script, Set}
+use Rattle.seat_scripts.specs.Against.{AreRead, HasBoth, HasOlder, IsAuditAgainst, IsOfReading, IsRefusedAgainst, IsReplayWithin, IsTooLargeAgainst, OfFour}
 use Rattle.seat_scripts.specs.Replying.{AreRepliesBehind, AreRepliesOver}
 use Rattle.seat_scripts.specs.declared.by_session.Wanted.{Wanted}
 use Rattle.seat_scripts.specs.Requests.{IsOfScript}
 use Rattle.seat_scripts.proofs.Inputs.{if_known as if_three_known}
 
 -- what is said of known bytes is said of those that may be known
-if_known : (P : List ℕ → List ℕ → Type 0) (A Q : List ℕ → Type 0) (R : List ℕ → List ℕ → List ℕ → List ℕ → Type 0)
+pub if_known : (P : List ℕ → List ℕ → Type 0) (A Q : List ℕ → Type 0) (R : List ℕ → List ℕ → List ℕ → List ℕ → Type 0)
     (set limits after journal : Option (List ℕ))
     → ((xs ys older zs : List ℕ) → P xs ys → A older → Q zs → R xs ys older zs)
     → IfSome set (λ xs. IfSome limits (λ ys. P xs ys)) → IfSome after A → IfSome journal Q
@@ -24,7 +25,7 @@ if_known P A Q R (Some xs) (Some ys) None journal give p a q = tt
 if_known P A Q R (Some xs) None after journal give p a q = tt
 if_known P A Q R None limits after journal give p a q = tt
 
-if_four : (P Q : List ℕ → List ℕ → List ℕ → List ℕ → Type 0) (set limits after journal : Option (List ℕ))
+pub if_four : (P Q : List ℕ → List ℕ → List ℕ → List ℕ → Type 0) (set limits after journal : Option (List ℕ))
     → ((xs ys older zs : List ℕ) → P xs ys older zs → Q xs ys older zs)
     → OfFour set limits after journal P → OfFour set limits after journal Q
 if_four P Q (Some xs) (Some ys) (Some older) (Some zs) give all = give xs ys older zs all
@@ -244,6 +245,61 @@ module _ (set limits after journal : Option (List ℕ)) (first days today : ℕ)
         all_read scripts are =
             if_known (λ xs ys. IsLoaded xs ys first days flights grid) (IsReplayWithin grid older) (IsReplayWithin grid core) (λ xs ys old zs. AreRead xs ys first days old zs today texts flights older core scripts) set limits after journal
             (λ xs ys old zs is was h. record { grid = grid; is_loaded = is; is_older = was; is_replay = h; are_scripts = are }) loaded before replayed
+
+-- ---- what is wrong is one input by itself
+
+of_loading : (set limits : List ℕ) (first days : ℕ) (fault : DeskFault) → IsRefusedLoad set limits first days fault
+    → IsOfReading fault
+of_loading set limits first days (Set fault) refused = tt
+of_loading set limits first days (Flight fault) refused = tt
+of_loading set limits first days (Limit fault) refused = tt
+of_loading set limits first days _ refused = absurd refused.refusal
+
+of_unlawful : (grid : Ladders) (bytes : List ℕ) (fault : DeskFault) → IsUnlawful grid fault bytes → IsOfReading fault
+of_unlawful grid bytes (Journal fault) unlawful = tt
+of_unlawful grid bytes (Replay fault) unlawful = tt
+of_unlawful grid bytes _ unlawful = absurd unlawful.refused
+
+of_script : (fault : DeskFault) → IsOfScript fault → IsOfReading fault
+of_script (Script session fault) script = tt
+of_script _ script = absurd script
+
+module _ (set limits after journal : Option (List ℕ)) (fault : DeskFault) where
+  abbrev Reading : Type 0
+  Reading = OfFour set limits after journal (λ xs ys older zs. IsOfReading fault)
+
+  pub read_load : (first days : ℕ) → IfSome set (λ xs. IfSome limits (λ ys. IsRefusedLoad xs ys first days fault))
+      → Reading
+  read_load first days refused =
+      four_load (λ xs ys. IsRefusedLoad xs ys first days fault) (λ xs ys older zs. IsOfReading fault) set limits after journal (λ xs ys older zs is. of_loading xs ys first days fault is) refused
+
+  pub read_older : (grid : Ladders) → (IsOfInput fault → IfSome after (IsUnlawful grid fault)) → IsOfInput fault → Reading
+  read_older grid refused input = by set limits after journal (refused input) where
+    by : (s l a j : Option (List ℕ)) → IfSome a (IsUnlawful grid fault) → OfFour s l a j (λ xs ys older zs. IsOfReading fault)
+    by (Some xs) (Some ys) (Some older) (Some zs) is = of_unlawful grid older fault is
+    by (Some xs) (Some ys) (Some older) None is = tt
+    by (Some xs) (Some ys) None j is = tt
+    by (Some xs) None a j is = tt
+    by None l a j is = tt
+
+  pub read_journal : (grid : Ladders) → (IsOfInput fault → IfSome journal (IsUnlawful grid fault)) → IsOfInput fault
+      → Reading
+  read_journal grid refused input = by set limits after journal (refused input) where
+    by : (s l a j : Option (List ℕ)) → IfSome j (IsUnlawful grid fault) → OfFour s l a j (λ xs ys older zs. IsOfReading fault)
+    by (Some xs) (Some ys) (Some older) (Some zs) is = of_unlawful grid zs fault is
+    by (Some xs) (Some ys) (Some older) None is = tt
+    by (Some xs) (Some ys) None j is = tt
+    by (Some xs) None a j is = tt
+    by None l a j is = tt
+
+  pub read_script : (IsOfInput fault → IsOfScript fault) → IsOfInput fault → Reading
+  read_script script input = by set limits after journal (of_script fault (script input)) where
+    by : (s l a j : Option (List ℕ)) → IsOfReading fault → OfFour s l a j (λ xs ys older zs. IsOfReading fault)
+    by (Some xs) (Some ys) (Some older) (Some zs) is = is
+    by (Some xs) (Some ys) (Some older) None is = tt
+    by (Some xs) (Some ys) None j is = tt
+    by (Some xs) None a j is = tt
+    by None l a j is = tt
 
 -- ---- refusals of the older journal
 

@@ -102,7 +102,7 @@ untold false P e says p = let t : IsTrue false = says p in absurd (false_true t)
 
 -- ---- where the lines and the requests differ
 
-at_seam : (front rest : List Work) (x : Work) → slice_get (front ++ x ∷ rest) (length front) ≡ Some x
+pub at_seam : (front rest : List Work) (x : Work) → slice_get (front ++ x ∷ rest) (length front) ≡ Some x
 at_seam [] rest x = refl
 at_seam (y ∷ front) rest x = at_seam front rest x
 
@@ -124,14 +124,14 @@ pub record AgreeSoFar (flights : List Flown) (session : ℕ) (requests : List Re
 pub done_append : (session : ℕ) (xs ys : List Entry) → done_by session (xs ++ ys) ≡ done_by session xs ++ done_by session ys
 done_append session xs ys = ap works_in (own_append session xs ys) ∙ map-append _ (of_session session xs) (of_session session ys)
 
-done_own : (session : ℕ) (e : Entry) → e.session ≡ session → done_by session (e ∷ []) ≡ e.work ∷ []
+pub done_own : (session : ℕ) (e : Entry) → e.session ≡ session → done_by session (e ∷ []) ≡ e.work ∷ []
 done_own session e is = ap works_in (own_one session e is)
 
-done_other : (session : ℕ) (e : Entry) → e.session ≢ session → done_by session (e ∷ []) ≡ []
+pub done_other : (session : ℕ) (e : Entry) → e.session ≢ session → done_by session (e ∷ []) ≡ []
 done_other session e not = ap works_in (own_other session e not)
 
 -- the front and its next line
-one_more : (journal : List Entry) (i : ℕ) (e : Entry) → i < length journal → e ≡ get_or journal i e
+pub one_more : (journal : List Entry) (i : ℕ) (e : Entry) → i < length journal → e ≡ get_or journal i e
     → take (i + 1) journal ≡ take i journal ++ e ∷ []
 one_more journal i e lt is = take_more journal i e lt ∙ ap (λ (x : Entry). take i journal ++ x ∷ []) (sym is)
 

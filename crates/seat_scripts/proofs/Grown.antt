@@ -1,5 +1,5 @@
 -- Scripts that have grown: what a session has done of its script, and what is left of it.
-use Rattle.std.proofs.Common.{◌≡◌, ⊎_elim, ℕ, zero, suc, ◌+◌, ◌-◌, ◌<◌, ◌≤◌, List, [], ◌∷◌, ◌++◌, length, map, take, drop, get_or, refl, sym, ap, ◌∙◌, subst, arith, Option, Some}
+use Rattle.std.proofs.Common.{◌≡◌, ⊎_elim, ℕ, zero, suc, ◌+◌, ◌-◌, ◌<◌, ◌≤◌, List, [], ◌∷◌, ◌++◌, length, map, take, drop, get_or, refl, sym, ap, ◌∙◌, subst, arith, Option}
 use Rattle.std.specs.Prelude.{slice_get, unwrap_or}
 use Rattle.std.proofs.lemmas.Bool.{cases_lt}
 use Rattle.std.proofs.lemmas.List.{drop_all, length-append, length-drop, length-map, length-take-le, take_more}
@@ -24,7 +24,7 @@ begun_all flights session requests journal calls i whole so_far =
 
 -- ---- how many
 
-done_count : (session : ℕ) (lines : List Entry) → length (done_by session lines) ≡ calls_of lines session
+pub done_count : (session : ℕ) (lines : List Entry) → length (done_by session lines) ≡ calls_of lines session
 done_count session lines = length-map (of_session session lines) _ ∙ sym (calls_own lines session)
 
 -- ---- what is left
@@ -118,10 +118,10 @@ left_of scripts lines (suc place) low =
 module _ (flights : List Flown) (scripts : List (List Request)) (lines added : List Entry)
     (have_begun : HaveBegunBelow flights scripts lines 9)
     (asked : AreAskedOf flights (left_from 1 scripts lines) added) where
-  abbrev before : ℕ → ℕ
+  abbrev pub before : ℕ → ℕ
   before session = length (done_by session lines)
 
-  abbrev rest : ℕ → List Request
+  abbrev pub rest : ℕ → List Request
   rest session = drop (before session) (requests_of scripts session)
 
   added_of : (session : ℕ) → 1 ≤ session → done_by session added ≡ map Seats (commands_of flights (rest session))
@@ -129,7 +129,7 @@ module _ (flights : List Flown) (scripts : List (List Request)) (lines added : L
       asked.each session low
       ∙ ap (λ (l : List Request). map Seats (commands_of flights l)) (left_of scripts lines session low)
 
-  done_all : (session : ℕ) → 1 ≤ session
+  pub done_all : (session : ℕ) → 1 ≤ session
       → done_by session (lines ++ added) ≡ done_by session lines ++ map Seats (commands_of flights (rest session))
   done_all session low =
       done_append session lines added
@@ -139,7 +139,7 @@ module _ (flights : List Flown) (scripts : List (List Request)) (lines added : L
   asked_length session =
       length-map (commands_of flights (rest session)) Seats ∙ length-map (rest session) (command_of flights)
 
-  done_length : (session : ℕ) → 1 ≤ session
+  pub done_length : (session : ℕ) → 1 ≤ session
       → length (done_by session (lines ++ added)) ≡ before session + length (rest session)
   done_length session low =
       ap length (done_all session low)
@@ -165,7 +165,7 @@ module _ (flights : List Flown) (scripts : List (List Request)) (lines added : L
       (get_dropped (before session) (requests_of scripts session) n)
       (asked_agree flights (rest session) n within))
 
-  all_there : (session : ℕ) → 1 ≤ session → session < 9 → (place : ℕ) → place < before session + length (rest session)
+  pub all_there : (session : ℕ) → 1 ≤ session → session < 9 → (place : ℕ) → place < before session + length (rest session)
       → there session place (done_by session lines ++ map Seats (commands_of flights (rest session)))
   all_there session low high place within = ⊎_elim (in_lines session low high place) behind (cases_lt place (before session)) where
     behind : before session ≤ place

@@ -1,24 +1,22 @@
 -- The lines that a history adds to the past can be answered: what they and their advices answer is there.
-use Rattle.std.proofs.Common.{◌≡◌, ⊎_elim, ℕ, zero, suc, ◌+◌, ◌-◌, ◌<◌, ◌≤◌, List, [], ◌∷◌, ◌++◌, length, map, refl, sym, ap, ◌∙◌, subst, arith, get_or, Option, Some, None, length-append, append_assoc, take, ◌==◌}
+use Rattle.std.proofs.Common.{◌≡◌, ⊎_elim, ℕ, zero, suc, ◌+◌, ◌<◌, ◌≤◌, List, [], ◌∷◌, ◌++◌, length, map, refl, sym, ap, ◌∙◌, subst, arith, get_or, Option, Some, None, take, ◌==◌}
 use Rattle.seat_scripts.proofs.Common.{slice_get, AllByRecursion, option_map, Request, Segment, Place, DatedLeg, Advice, Change, Command, Entry, Work, Seats, authorised_grid, Fits, Ladders, LimitRow, IsLegal, of_session, by_session, behind, idle, lists_over, commands_of, IsHistoryOf, works_in}
 use Rattle.std.specs.Prelude.{unwrap_or}
-use Rattle.std.proofs.lemmas.Bool.{cases_lt}
-use Rattle.std.proofs.lemmas.List.{append-nil, get_or_past, length-map, length-take-le}
+use Rattle.std.proofs.lemmas.List.{length-map, length-take-le}
 use Rattle.std.proofs.lemmas.Option.{get_or_from_slice_get, slice_get-get_or, slice_get-map, slice_get_cases, slice_get_within, unwrap_or-slice_get}
 use Rattle.ssim_flights.specs.declared.flight.Flight.{Flight as Flown}
 use Rattle.seat_journal.specs.declared.entry.Work.TheVariants.{Limit}
 use Rattle.seat_limits.specs.Authorised.{authorised_legs}
 use Rattle.seat_nesting.specs.Nesting.{Steps, legs_of}
-use Rattle.seat_rules.proofs.History.Legal.{legal_to_after}
-use Rattle.seat_rules.proofs.Own.{own_append, own_one, calls_own}
+use Rattle.seat_rules.proofs.Own.{own_append}
 use Rattle.seat_desk.specs.FlightsDesk.{IsText}
 use Rattle.seat_desk.specs.Loading.{IsGridOf}
 use Rattle.seat_scripts.specs.declared.past.Past.{Past}
 use Rattle.seat_scripts.specs.Answering.{AreAllAnswerable, AreAnswerable, AreBooked, IsRequested, IsBooked}
 use Rattle.seat_scripts.specs.Going.{past_of, segment_at, segment_between, segment_from, segment_of, segment_on}
 use Rattle.seat_scripts.specs.RunDesk.{AreReplies, AreSessions, IsReplied, requests_of, works_of}
-use Rattle.seat_scripts.proofs.Advised.{AreAdvised, IsPlaced, all_push, legal_is_advised}
-use Rattle.seat_scripts.proofs.Going.{added_lines, idle_at, over_count, lines_at, past_calls, past_counts, sessions_count}
+use Rattle.seat_scripts.proofs.Advised.{AreAdvised, IsPlaced, legal_is_advised}
+use Rattle.seat_scripts.proofs.Going.{added_lines, idle_at, over_count, lines_at, sessions_count}
 use Rattle.seat_scripts.proofs.Rows.{all_kept, all_of, each_at}
 use Rattle.seat_scripts.proofs.Serving.{legs_are}
 
@@ -159,7 +157,7 @@ module _ (grid : Ladders) (past : List Entry) (flights : List Flown) (changes : 
       ap (λ (l : List Work). slice_get l k) (sym same) ∙ (slice_get-map (λ (x : Entry). x.work) (of_session s h.added) k ∙ ap (option_map (λ (x : Entry). x.work)) at)
 
   -- the manager's are changes
-  managed : works_in (of_session 0 h.added) ≡ map Limit changes
+  pub managed : works_in (of_session 0 h.added) ≡ map Limit changes
   managed =
       let within : 0 < length (by_session (length lists) h.added) = omega (arith, sessions_count (length lists) h.added) in
       let here : slice_get (by_session (length lists) h.added) 0 ≡ Some (of_session 0 h.added) =

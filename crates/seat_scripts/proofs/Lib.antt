@@ -20,5 +20,9 @@ mod Accepted
 mod First
 mod Segments
 mod Grown
+mod Made
+mod Rest
+pub mod Still
+mod Again
 mod Very
 mod Sessions

@@ -15,14 +15,14 @@ use Rattle.seat_desk.specs.Loading.{IsLoadedGrid}
 use Rattle.seat_scripts.specs.Against.{AreAsked, AreVeryRequests, AuditsBehindNoLines, DifferAt, IsNoBeginning, IsParted, IsShort, IsUnaskedBehind, UnaskedIsNotAudited}
 use Rattle.seat_desk.specs.declared.fault.DeskFault.TheVariants.{NoBehind}
 
-one_schedule : (set limits : List ℕ) (first days : ℕ) (flights flights' : List Flown) (grid grid' : Ladders)
+pub one_schedule : (set limits : List ℕ) (first days : ℕ) (flights flights' : List Flown) (grid grid' : Ladders)
     → IsLoadedGrid set limits first days flights grid → IsLoadedGrid set limits first days flights' grid'
     → flights ≡ flights'
 one_schedule set limits first days flights flights' grid grid' a b =
     let sets : a.is_schedule.set ≡ b.is_schedule.set = one_data_set most_records most_records set a.is_schedule.set b.is_schedule.set a.is_schedule.is_set b.is_schedule.is_set in
     a.is_schedule.are_flights ∙ (ap (λ (s : DataSet). set_flights s first days) sets ∙ sym b.is_schedule.are_flights)
 
-same_scripts : (today : ℕ) (texts : List (List ℕ)) (a b : List (List Request)) → AreScripts today (map Some texts) a
+pub same_scripts : (today : ℕ) (texts : List (List ℕ)) (a b : List (List Request)) → AreScripts today (map Some texts) a
     → AreScripts today (map Some texts) b → a ≡ b
 same_scripts today [] [] [] h k = refl
 same_scripts today [] [] (y ∷ b) h k = absurd k

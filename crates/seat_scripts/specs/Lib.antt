@@ -7,6 +7,7 @@ pub mod First
 pub mod Going
 pub mod Replying
 pub mod Requests
+pub mod Resumed
 pub mod Resuming
 pub mod RunDesk
 pub mod Segments

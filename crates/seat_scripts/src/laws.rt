@@ -3,6 +3,7 @@ ghost use Rattle.seat_scripts.specs.Against.{AuditsBehindNoLines, UnaskedIsNotAu
 ghost use Rattle.seat_scripts.specs.Audits.{RunsAreAudited, RunsAreAuditedAgainst};
 ghost use Rattle.seat_scripts.specs.First.{RunsFromNoLines};
 ghost use Rattle.seat_scripts.specs.Replying.{RepliesAreThoseOfTheRun};
+ghost use Rattle.seat_scripts.specs.Resumed.{ResumedAgainIsTheSame, ResumedIsOfTheWhole, ResumedRunIsTheSame};
 ghost use Rattle.seat_scripts.specs.Resuming.{NothingIsLeft};
 ghost use Rattle.seat_scripts.specs.Segments.{RequestsAreFlown};
 ghost use Rattle.seat_scripts.specs.VeryRequest.{CommandsAreVeryRequests};
@@ -56,4 +57,20 @@ pub fn nothing_is_left()
 /// scripts and behind the journal that it went on from.
 pub fn replies_are_those_of_the_run()
     ensures { RepliesAreThoseOfTheRun }
+{}
+
+/// The journal of a run that goes on with scripts is that of the whole scripts: behind the lines that were there before them `audit`
+/// accepts it with them, whatever part of them was booked at once.
+pub fn resumed_is_of_the_whole()
+    ensures { ResumedIsOfTheWhole }
+{}
+
+/// The same command twice books nothing the second time: the journal is the same, byte for byte, and there is no reply.
+pub fn resumed_again_is_the_same()
+    ensures { ResumedAgainIsTheSame }
+{}
+
+/// To go on with the scripts and the changes of a run, none of which has grown, books nothing either.
+pub fn resumed_run_is_the_same()
+    ensures { ResumedRunIsTheSame }
 {}

@@ -10,10 +10,12 @@ mod by_session;
 mod changes;
 mod commands;
 mod laws;
+mod making;
 mod past;
 mod readable;
 mod replies;
 mod replying;
+mod resumed;
 mod resuming;
 mod scripts;
 mod very_request;
@@ -25,13 +27,15 @@ pub use by_session::{Wanted, session_replies};
 pub use commands::lists_over;
 pub use laws::{
     audits_behind_no_lines, commands_are_very_requests, nothing_is_left,
-    replies_are_those_of_the_run, requests_are_flown, runs_are_audited, runs_are_audited_against,
+    replies_are_those_of_the_run, requests_are_flown, resumed_again_is_the_same,
+    resumed_is_of_the_whole, resumed_run_is_the_same, runs_are_audited, runs_are_audited_against,
     runs_from_no_lines, unasked_is_not_audited,
 };
 pub use past::{Past, past_of};
 pub use readable::prove_entries;
 pub use replies::put_answer;
 pub use replying::desk_replies;
+pub use resumed::read_resumed;
 pub use resuming::what_is_left;
 pub use scripts::Scripts;
 pub use writing::write_both;

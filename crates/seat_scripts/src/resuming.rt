@@ -30,7 +30,8 @@ pub fn what_is_left(
     requires lines { length journal.now ≤ most_lines }
     requires few { length scripts.now ≤ 8 }
     ensures ok { IfOk result (AreLeft flights.now scripts.now (drop behind journal.now)) }
-    ensures fault { IfErr result (λ f. f ≢ DeskFault.Memory → IsUnbegun flights.now scripts.now behind journal.now f) }
+    ensures fault { IfErr result (λ f. f ≢ DeskFault.Memory
+        → IsUnbegun flights.now scripts.now (take behind journal.now) (drop behind journal.now) f) }
     ensures kind { IfErr result (λ f. (f ≢ DeskFault.Device) × (f ≢ DeskFault.TooLarge)) }
 {
     let older = &journal[..behind];
@@ -45,7 +46,7 @@ pub fn what_is_left(
 }
 
 /// The fault of a line: its session, and its call, which goes on from those of the older lines.
-fn stranger(older: &[Entry], session: u8, place: u32) -> DeskFault
+pub(crate) fn stranger(older: &[Entry], session: u8, place: u32) -> DeskFault
     requires lines { length older.now ≤ most_lines }
     requires place { place ≤ most_lines }
     ensures { result ≡ DeskFault.Unasked session (calls_of older.now session + place) }
@@ -57,7 +58,7 @@ fn stranger(older: &[Entry], session: u8, place: u32) -> DeskFault
 }
 
 /// How many lines a session has.
-fn calls_in(lines: &[Entry], session: u8) -> u32
+pub(crate) fn calls_in(lines: &[Entry], session: u8) -> u32
     requires lines { length lines.now ≤ most_lines }
     ensures value { result ≡ calls_of lines.now session }
     ensures few { result ≤ length lines.now }

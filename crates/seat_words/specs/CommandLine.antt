@@ -69,8 +69,10 @@ rooms_app = with_rule (with_rule (with_rule (with_rule (horizon_app (codes "room
     (optional_value (codes "journal"))
 
 unfoldable pub run_app : App
-run_app = with_rule (with_rule (with_rule (with_rule (with_rule (with_rule (horizon_app (codes "run"))
+run_app = with_rule (with_rule (with_rule (with_rule (with_rule (with_rule (with_rule (with_rule (horizon_app (codes "run"))
     (optional (codes "after")))
+    (optional (codes "behind")))
+    (optional (codes "resume")))
     (required_option (codes "today")))
     (required_option (codes "journal")))
     (optional (codes "changes")))

@@ -58,9 +58,11 @@ Asks (Rooms over day pair bars journal) line = (line.0 ≡ codes "rooms")
     × MayHave line (codes "pair") (option_map (λ text. text.now) pair)
     × HasFlag line (codes "bars") bars
     × MayHave line (codes "journal") (option_map (λ text. text.now) journal)
-Asks (Run over after today journal changes no_clobber scripts) line = (line.0 ≡ codes "run")
+Asks (Run over after behind resume today journal changes no_clobber scripts) line = (line.0 ≡ codes "run")
     × IsOver line.1 over
     × MayHave line (codes "after") (option_map (λ text. text.now) after)
+    × MayHave line (codes "behind") (option_map (λ text. text.now) behind)
+    × MayHave line (codes "resume") (option_map (λ text. text.now) resume)
     × Has line (codes "today") today.now
     × Has line (codes "journal") journal.now
     × MayHave line (codes "changes") (option_map (λ text. text.now) changes)

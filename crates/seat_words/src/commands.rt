@@ -25,10 +25,16 @@ const TODAY_HELP: &str =
     "The day of the run, as 2024-06-01, from 2000 to 2099; it gives the requests their year";
 
 const OUT_HELP: &str =
-    "The file that the journal is written to, which may be no input but the journal of --after";
+    "The file that the journal is written to, which may be no input but the journal of --after or --resume";
 
 const AFTER_HELP: &str =
     "The journal to go on from (a file that run wrote); its lines stand ahead of the new ones";
+
+const BEGUN_HELP: &str =
+    "How many lines the journal of --resume began with, 0 to 999999, in place of --after";
+
+const RESUME_HELP: &str =
+    "The journal that has what the scripts begin with (a file); what they ask beyond it is booked behind its lines";
 
 const OLDER_HELP: &str =
     "The journal that JOURNAL goes on from (a file); the scripts ask for the lines behind its own";
@@ -232,9 +238,14 @@ fn run_command<'a>(alloc: Global) -> Result<Command<'a>, AllocError>
         alloc,
         "run",
         "Books the requests of scripts, one session on a thread for each script, and writes the replies",
-        "OUT has its old bytes until the new journal is whole and takes its name; a refused run leaves it as it was.\nWhat it had is kept beside it, as OUT.kept-1, unless --after names OUT itself, as the daily command does.\nThe journal of --after belongs to its set, limits, first day and days: name the same ones.\n\nExample: seatdesk run --set examples/summer.ssim --limits examples/limits.txt --first 2024-07-01 --days 31 --today 2024-06-20 --journal journal.txt examples/london.txt examples/lisbon.txt\n\nWith changes of the limits: seatdesk run --set examples/summer.ssim --limits examples/limits.txt --first 2024-07-01 --days 31 --today 2024-06-20 --journal journal.txt --changes examples/changes.txt examples/london.txt examples/lisbon.txt\n\nChanges alone: seatdesk run --set examples/summer.ssim --limits examples/limits.txt --first 2024-07-01 --days 31 --today 2024-06-20 --journal journal.txt --changes examples/changes.txt\n\nDesks that keep their numbers, as sessions 1 and 3: seatdesk run --set examples/summer.ssim --limits examples/limits.txt --first 2024-07-01 --days 31 --today 2024-06-20 --journal journal.txt 1=examples/london.txt 3=examples/lisbon.txt\n\nThe day after: seatdesk run --set examples/summer.ssim --limits examples/limits.txt --first 2024-07-01 --days 31 --after examples/journal.txt --today 2024-06-21 --journal journal-2.txt examples/london-2.txt",
+        "OUT has its old bytes until the new journal is whole and takes its name; a refused run leaves it as it was.\nWhat it had is kept beside it, as OUT.kept-1, unless --after or --resume names OUT itself, as the daily command does.\nThe journal of --after belongs to its set, limits, first day and days: name the same ones.\n\nExample: seatdesk run --set examples/summer.ssim --limits examples/limits.txt --first 2024-07-01 --days 31 --today 2024-06-20 --journal journal.txt examples/london.txt examples/lisbon.txt\n\nWith changes of the limits: seatdesk run --set examples/summer.ssim --limits examples/limits.txt --first 2024-07-01 --days 31 --today 2024-06-20 --journal journal.txt --changes examples/changes.txt examples/london.txt examples/lisbon.txt\n\nChanges alone: seatdesk run --set examples/summer.ssim --limits examples/limits.txt --first 2024-07-01 --days 31 --today 2024-06-20 --journal journal.txt --changes examples/changes.txt\n\nDesks that keep their numbers, as sessions 1 and 3: seatdesk run --set examples/summer.ssim --limits examples/limits.txt --first 2024-07-01 --days 31 --today 2024-06-20 --journal journal.txt 1=examples/london.txt 3=examples/lisbon.txt\n\nThe day after: seatdesk run --set examples/summer.ssim --limits examples/limits.txt --first 2024-07-01 --days 31 --after examples/journal.txt --today 2024-06-21 --journal journal-2.txt examples/london-2.txt\n\nScripts to which requests were added: seatdesk run --set examples/summer.ssim --limits examples/limits.txt --first 2024-07-01 --days 31 --resume examples/journal.txt --today 2024-06-20 --journal journal.txt examples/london.txt examples/lisbon.txt",
     );
     let run = with_argument(run, optional_option(alloc, "after", "JOURNAL", AFTER_HELP));
+    let run = with_argument(run, optional_option(alloc, "behind", "N", BEGUN_HELP));
+    let run = with_argument(
+        run,
+        optional_option(alloc, "resume", "JOURNAL", RESUME_HELP),
+    );
     let run = with_argument(run, wanted_option(alloc, "today", "DATE", TODAY_HELP));
     let run = with_argument(run, wanted_option(alloc, "journal", "OUT", OUT_HELP));
     let run = with_argument(run, optional_option(alloc, "changes", "FILE", CHANGES_HELP));

@@ -68,6 +68,16 @@ pub fn examples_are_read()
         ∷ (codes "journal", codes "journal-2.txt" ∷ []) ∷ (codes "scripts", codes "examples/london-2.txt" ∷ [])
         ∷ (codes "no-clobber", codes "false" ∷ [])
         ∷ (codes "verbose", codes "false" ∷ []) ∷ []) }
+    ensures resume { IsReadTo
+        (codes "seatdesk run --set examples/summer.ssim --limits examples/limits.txt --first 2024-07-01 --days 31 --resume examples/journal.txt --today 2024-06-20 --journal journal.txt examples/london.txt examples/lisbon.txt")
+        (codes "run")
+        ((codes "set", codes "examples/summer.ssim" ∷ []) ∷ (codes "limits", codes "examples/limits.txt" ∷ [])
+        ∷ (codes "first", codes "2024-07-01" ∷ []) ∷ (codes "days", codes "31" ∷ [])
+        ∷ (codes "resume", codes "examples/journal.txt" ∷ []) ∷ (codes "today", codes "2024-06-20" ∷ [])
+        ∷ (codes "journal", codes "journal.txt" ∷ [])
+        ∷ (codes "scripts", codes "examples/london.txt" ∷ codes "examples/lisbon.txt" ∷ [])
+        ∷ (codes "no-clobber", codes "false" ∷ [])
+        ∷ (codes "verbose", codes "false" ∷ []) ∷ []) }
     ensures cover { IsReadTo
         (codes "seatdesk cover --set examples/summer.ssim --limits examples/limits.txt --first 2024-07-01 --days 31")
         (codes "cover")

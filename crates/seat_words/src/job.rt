@@ -48,10 +48,13 @@ pub enum Job<'a> {
         bars: bool,
         journal: Option<&'a str>,
     },
-    /// `seatdesk run` over a horizon `[--after JOURNAL] --today DATE --journal OUT [--changes FILE] [--no-clobber] [SCRIPT...]`
+    /// `seatdesk run` over a horizon `[--after JOURNAL] [--behind N] [--resume JOURNAL] --today DATE --journal OUT [--changes FILE]
+    /// [--no-clobber] [SCRIPT...]`
     Run {
         over: Horizon<'a>,
         after: Option<&'a str>,
+        behind: Option<&'a str>,
+        resume: Option<&'a str>,
         today: &'a str,
         journal: &'a str,
         changes: Option<&'a str>,
@@ -188,6 +191,8 @@ fn job_named<'a>(alloc: Global, name: &str, matches: &ArgMatches<'a>) -> Result<
         "run" => Job::Run {
             over: horizon_of(matches),
             after: may_value_of(matches, "after"),
+            behind: may_value_of(matches, "behind"),
+            resume: may_value_of(matches, "resume"),
             today: value_of(matches, "today"),
             journal: value_of(matches, "journal"),
             changes: may_value_of(matches, "changes"),

@@ -543,7 +543,7 @@ const ENTRIES: &[Explanation] = &[
         behind: "",
         code: "P8",
         numbers: &["session", "call of that session"],
-        text: "The journal's line of that call is not what the script of the session asks there,\nor one of them has more. The journal may be of other scripts, another first day or another data set.\nWith --after calls go on from those of the older journal, with --behind from those of the lines before.\nWhere the journal does not begin with the older one's lines, the session and the call are those of the\nfirst line that differs, which may be of session 0.",
+        text: "The journal's line of that call is not what the script of the session asks there,\nor one of them has more. The journal may be of other scripts, another first day or another data set.\nWith --after calls go on from those of the older journal, with --behind from those of the lines before.\nWhere the journal does not begin with the older one's lines, the session and the call are those of the\nfirst line that differs, which may be of session 0.\nWith run --resume the script may have more, but must begin with the journal's lines, and so must the file of --changes,\nof which those of session 0 are.",
     },
 ];
 
@@ -659,7 +659,7 @@ const WORDS: &[Explanation] = &[
         behind: "E2",
         code: "behind",
         numbers: NONE,
-        text: "--behind is no number of 0 to 999999, or stands beside --after, or the journal has fewer lines.",
+        text: "--behind is no number of 0 to 999999, or stands beside --after, or the journal has fewer lines,\nor run has no --resume, whose journal it is of.",
     },
     Explanation {
         behind: "E2",
@@ -671,7 +671,7 @@ const WORDS: &[Explanation] = &[
         behind: "E2",
         code: "journal",
         numbers: NONE,
-        text: "The file of --journal is one of the inputs, other than the journal of --after, or that of standard output,\nor another run has it, as it may have the journal that is to be sealed, or its name is - or ends in .seal, .unfinished or .kept-N,\nor --no-clobber keeps it: it is there and not empty. Nothing was written.",
+        text: "The file of --journal is one of the inputs, other than the journals of --after and --resume, or that of standard output,\nor another run has it, as it may have the journal that is to be sealed, or its name is - or ends in .seal, .unfinished or .kept-N,\nor --no-clobber keeps it: it is there and not empty. Nothing was written.",
     },
     Explanation {
         behind: "E2",

@@ -77,6 +77,8 @@ fn carry_out<'a, T: Threads + Wait + Sync>(
         Job::Run {
             over,
             after,
+            behind,
+            resume,
             today,
             journal,
             changes,
@@ -84,7 +86,11 @@ fn carry_out<'a, T: Threads + Wait + Sync>(
             scripts,
         } => {
             let asking = Asking {
-                after: *after,
+                older: Older {
+                    after: *after,
+                    behind: *behind,
+                },
+                resume: *resume,
                 today,
                 journal,
                 changes: *changes,

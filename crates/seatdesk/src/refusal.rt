@@ -23,8 +23,29 @@ pub struct Refusal<'a> {
     has_mark: bool,
     /// Whoever read standard output has gone away, and is told nothing.
     is_unheard: bool,
-    /// The file that has the journal of a run whose replies failed, and how many lines the journal goes on from.
-    put: Option<(&'a str, u64)>,
+    /// The journal of a run whose replies failed.
+    put: Option<Put<'a>>,
+}
+
+/// A file that has a run's journal: behind how many lines its scripts stand, and how many it had of them ahead of the new ones.
+#[derive(Clone, Copy)]
+struct Put<'a> {
+    file: &'a str,
+    behind: u64,
+    resumed: u64,
+}
+
+impl fmt::Display for Put<'_> {
+    /// The options of `replies` with which it writes what the run would have written.
+    fn fmt<W: fmt::Write>(&self, f: &mut fmt::Formatter<W>) -> fmt::Result {
+        if self.behind > 0 {
+            write!(f, " --behind {}", self.behind)?;
+        }
+        if self.resumed > 0 {
+            write!(f, " --from {}", self.resumed.saturating_add(1))?;
+        }
+        Ok(())
+    }
 }
 
 impl<'a> Refusal<'a> {
@@ -130,26 +151,24 @@ impl<'a> Refusal<'a> {
         }
     }
 
-    /// Notes that the journal is in its place, behind so many lines that it goes on from.
-    pub fn noting_put(self, file: &'a str, behind: u64) -> Refusal<'a> {
+    /// Notes that the journal is in its place, behind so many lines that it goes on from, and behind so many that scripts had then.
+    pub fn noting_put(self, file: &'a str, behind: u64, resumed: u64) -> Refusal<'a> {
         let mut refusal = self;
-        refusal.put = Some((file, behind));
+        refusal.put = Some(Put {
+            file,
+            behind,
+            resumed,
+        });
         refusal
     }
 
     /// Says on standard error where the journal of a run is in its place and the replies failed, and how they are written once more.
     pub fn tell_put(&self, rt: &HostRuntime) {
-        let Some((file, behind)) = self.put else {
+        let Some(put) = self.put else {
             return;
         };
-        let file = Shown { name: file };
-        let _ = if behind == 0 {
-            eprintln!(rt; "seatdesk: note: {file} has the journal; its replies once more: seatdesk replies")
-        } else {
-            eprintln!(rt;
-                "seatdesk: note: {file} has the journal; its replies once more: seatdesk replies --behind {behind}"
-            )
-        };
+        let file = Shown { name: put.file };
+        let _ = eprintln!(rt; "seatdesk: note: {file} has the journal; its replies once more: seatdesk replies{put}");
     }
 
     /// The same for the seal of a journal.

@@ -15,7 +15,7 @@ use crate::sessions::scripts_opened;
 use crate::streams::{Input, Output, opened_or, standard_output, taken};
 use airline_base::Day;
 use seat_desk::{Inputs, NO_LINES};
-use seat_run::desk_run;
+use seat_run::{desk_resume, desk_run};
 use seat_scripts::{Wanted, desk_audit_against, desk_replies};
 use seat_words::{Horizon, WordFault, audit_lacks, behind_word, date_word, line_word, session_word, sessions_of_run};
 use seat_workers::NoGate;
@@ -189,7 +189,9 @@ pub fn replies<'a>(
 /// What a run is asked for beside its flights and limits, as it was written.
 #[derive(Clone, Copy)]
 pub struct Asking<'a, 'b> {
-    pub after: Option<&'a str>,
+    pub older: Older<'a>,
+    /// The journal that has what the scripts begin with.
+    pub resume: Option<&'a str>,
     pub today: &'a str,
     pub journal: &'a str,
     pub changes: Option<&'a str>,
@@ -199,7 +201,7 @@ pub struct Asking<'a, 'b> {
 
 /// OUT, the file of the journal, is looked at, locked and made where it is not there, once each input is open and before the first is
 /// read. Without an older journal the run goes on from no line, and without a file of changes there are none. Without changes it needs
-/// a script.
+/// a script. How many lines a journal began with is asked only where the run goes on with its scripts.
 pub fn run<'a, T: Threads + Wait + Sync>(
     rt: &'a HostRuntime,
     threads: &T,
@@ -208,6 +210,10 @@ pub fn run<'a, T: Threads + Wait + Sync>(
 ) -> Result<(), Refusal<'a>> {
     let days = days_of(over.first, over.days)?;
     let today = day_of_run(asking.today)?;
+    let more = lines_behind(&asking.older)?;
+    if asking.resume.is_none() && asking.older.behind.is_some() {
+        return Err(Refusal::from(WordFault::BadBehind));
+    }
     let Some(sessions) = sessions_of_run(asking.scripts, asking.changes.is_some()) else {
         return Err(Refusal::from(WordFault::BadScripts));
     };
@@ -215,17 +221,19 @@ pub fn run<'a, T: Threads + Wait + Sync>(
         Ok(inputs) => inputs,
         Err(refusal) => return Err(refusal),
     };
-    let after = opened_or(rt, asking.after, &NO_LINES)?;
+    let after = opened_or(rt, asking.older.after, &NO_LINES)?;
+    let resumed = opened_or(rt, asking.resume, &NO_LINES)?;
     let scripts = scripts_opened(rt, asking.scripts, sessions)?;
     let changes = opened_or(rt, asking.changes, b"")?;
     let texts = Texts {
         inputs,
         after,
+        resumed,
         scripts,
         changes,
     };
     let mut journal = locked_out(rt, asking, &texts)?;
-    let outcome = sell(rt, threads, asking, today, texts, &mut journal);
+    let outcome = sell(rt, threads, asking, more, today, texts, &mut journal);
     journal.leave();
     tell_kept(rt, &journal);
     outcome
@@ -236,11 +244,12 @@ pub fn run<'a, T: Threads + Wait + Sync>(
 struct Texts<'a> {
     inputs: Inputs<Input<'a>, Input<'a>>,
     after: Input<'a>,
+    resumed: Input<'a>,
     scripts: Vec<Input<'a>>,
     changes: Input<'a>,
 }
 
-/// OUT under its lock. It is none of the inputs but the older journal, nor the file of the replies.
+/// OUT under its lock. It is none of the inputs but a journal that the run goes on from, nor the file of the replies.
 fn locked_out<'a>(
     rt: &'a HostRuntime,
     asking: &Asking<'a, '_>,
@@ -253,16 +262,22 @@ fn locked_out<'a>(
     if asking.no_clobber {
         guard.keep()?;
     }
-    let files = files_taken(rt, &texts.inputs, scripts, &[&texts.changes, &texts.after])?;
+    let files = files_taken(
+        rt,
+        &texts.inputs,
+        scripts,
+        &[&texts.changes, &texts.after, &texts.resumed],
+    )?;
     JournalFile::open(rt, asking.journal, files.as_slice())
 }
 
-/// Books what the texts ask into the file of the journal, which is locked. An older journal that is a regular file is opened once more,
-/// since it may be that file.
+/// Books what the texts ask into the file of the journal, which is locked. A journal that the run goes on from, and that is a regular
+/// file, is opened once more, since it may be that file.
 fn sell<'a, T: Threads + Wait + Sync>(
     rt: &'a HostRuntime,
     threads: &T,
     asking: &Asking<'a, '_>,
+    more: u32,
     today: Day,
     texts: Texts<'a>,
     journal: &mut JournalFile<'a>,
@@ -278,74 +293,105 @@ fn sell<'a, T: Threads + Wait + Sync>(
     let Texts {
         inputs,
         after,
+        resumed,
         scripts,
         changes,
     } = texts;
     let mut inputs = inputs;
-    let mut after = again_opened(rt, asking.after, after)?;
+    let mut after = again_opened(rt, asking.older.after, after)?;
+    let mut resumed = again_opened(rt, asking.resume, resumed)?;
     let mut scripts = scripts;
     let mut changes = changes;
-    let keeps = !is_gone_on_from(&after, journal)?;
+    let keeps = !is_gone_on_from(&after, journal)? && !is_gone_on_from(&resumed, journal)?;
     let mut out = Heard::new(standard_output(rt));
-    let outcome = desk_run(
-        threads,
-        rt.alloc(),
-        &mut inputs,
-        &mut after,
-        scripts.as_mut_slice(),
-        &mut changes,
-        today,
-        &NoGate,
-        keeps,
-        journal,
-        &mut out,
+    let outcome = if asking.resume.is_some() {
+        desk_resume(
+            threads,
+            rt.alloc(),
+            &mut inputs,
+            &mut after,
+            more,
+            &mut resumed,
+            scripts.as_mut_slice(),
+            &mut changes,
+            today,
+            &NoGate,
+            keeps,
+            journal,
+            &mut out,
+        )
+    } else {
+        desk_run(
+            threads,
+            rt.alloc(),
+            &mut inputs,
+            &mut after,
+            scripts.as_mut_slice(),
+            &mut changes,
+            today,
+            &NoGate,
+            keeps,
+            journal,
+            &mut out,
+        )
+    };
+    let ahead = told(
+        outcome,
+        &[&inputs.set, &inputs.limits, &after, &resumed],
+        &[],
     );
-    let ahead = told(outcome, &[&inputs.set, &inputs.limits, &after], &[]);
     match behind(ahead, scripts.as_slice(), &[&changes], &[]) {
         Ok(()) => {
             out.tell(rt);
             Ok(())
         }
         Err(refusal) => {
-            let refusal = refusal.noting_journal(journal).noting_output(out.output());
+            let refusal = refusal
+                .noting_unasked(&resumed)
+                .noting_journal(journal)
+                .noting_output(out.output());
             if !journal.is_put() {
                 return Err(refusal);
             }
-            let behind = lines_behind_run(rt, asking.after, keeps, journal);
-            Err(refusal.noting_put(asking.journal, behind))
+            let behind = match asking.older.behind {
+                Some(_) => u64::from(more),
+                None => lines_of(rt, asking.older.after, &after, journal)?,
+            };
+            let from = lines_of(rt, asking.resume, &resumed, journal)?;
+            Err(refusal.noting_put(asking.journal, behind, from))
         }
     }
 }
 
-/// How many lines the journal goes on from that has taken the name: those of the file that had it, or of another.
-fn lines_behind_run(
+/// How many lines a journal has that a run went on from, which may be the one that had the name of the new one.
+fn lines_of<'a>(
     rt: &HostRuntime,
-    after: Option<&str>,
-    keeps: bool,
-    journal: &mut JournalFile<'_>,
-) -> u64 {
-    let Some(after) = after else {
-        return 0;
+    path: Option<&str>,
+    input: &Input<'a>,
+    journal: &mut JournalFile<'a>,
+) -> Result<u64, Refusal<'a>> {
+    let Some(path) = path else {
+        return Ok(0);
     };
-    if !keeps {
-        return journal.older_lines().unwrap_or(0);
+    if is_gone_on_from(input, journal)? {
+        return Ok(journal.older_lines().unwrap_or(0));
     }
-    match fs::open(rt, after) {
-        Ok(mut file) => lines_in(rt, &mut file).unwrap_or(0),
-        Err(_) => 0,
+    match fs::open(rt, path) {
+        Ok(mut file) => Ok(lines_in(rt, &mut file).unwrap_or(0)),
+        Err(_) => Ok(0),
     }
 }
 
-/// An older journal that is a regular file, opened once more: the name may lead to another file by now.
+/// A journal that is a regular file, opened once more: the name may lead to another file by now.
 fn again_opened<'a>(
     rt: &HostRuntime,
     path: Option<&'a str>,
-    after: Input<'a>,
+    journal: Input<'a>,
 ) -> Result<Input<'a>, Refusal<'a>> {
-    if is_regular(&after)? {
+    if is_regular(&journal)? {
         return opened_or(rt, path, &NO_LINES);
     }
-    Ok(after)
+    Ok(journal)
 }
 
 fn is_regular<'a>(input: &Input<'a>) -> Result<bool, Refusal<'a>> {

@@ -6,8 +6,10 @@ pub returns : goal.returns
 unfolding run_app
 returns c =
     let after = argued _ _ c.horizon_command-run.result c.with_argument-run.result c.optional_option.result c.horizon_command-run.ensures c.optional_option.ensures c.with_argument-run.ensures in
-    let today = argued _ _ c.with_argument-run.result c.with_argument-run-2.result c.wanted_option.result after c.wanted_option.ensures c.with_argument-run-2.ensures in
-    let journal = argued _ _ c.with_argument-run-2.result c.with_argument-run-3.result c.wanted_option-2.result today c.wanted_option-2.ensures c.with_argument-run-3.ensures in
-    let changes = argued _ _ c.with_argument-run-3.result c.with_argument-run-4.result c.optional_option-2.result journal c.optional_option-2.ensures c.with_argument-run-4.ensures in
-    let clobber = argued _ _ c.with_argument-run-4.result c.with_argument-run-5.result c.flag.result changes c.flag.ensures c.with_argument-run-5.ensures in
-    argued _ _ c.with_argument-run-5.result c.with_argument.result c.optional_values.result clobber c.optional_values.ensures c.with_argument.ensures
+    let behind = argued _ _ c.with_argument-run.result c.with_argument-run-2.result c.optional_option-2.result after c.optional_option-2.ensures c.with_argument-run-2.ensures in
+    let resume = argued _ _ c.with_argument-run-2.result c.with_argument-run-3.result c.optional_option-3.result behind c.optional_option-3.ensures c.with_argument-run-3.ensures in
+    let today = argued _ _ c.with_argument-run-3.result c.with_argument-run-4.result c.wanted_option.result resume c.wanted_option.ensures c.with_argument-run-4.ensures in
+    let journal = argued _ _ c.with_argument-run-4.result c.with_argument-run-5.result c.wanted_option-2.result today c.wanted_option-2.ensures c.with_argument-run-5.ensures in
+    let changes = argued _ _ c.with_argument-run-5.result c.with_argument-run-6.result c.optional_option-4.result journal c.optional_option-4.ensures c.with_argument-run-6.ensures in
+    let clobber = argued _ _ c.with_argument-run-6.result c.with_argument-run-7.result c.flag.result changes c.flag.ensures c.with_argument-run-7.ensures in
+    argued _ _ c.with_argument-run-7.result c.with_argument.result c.optional_values.result clobber c.optional_values.ensures c.with_argument.ensures

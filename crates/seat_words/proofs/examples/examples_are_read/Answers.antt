@@ -31,6 +31,10 @@ pub returns-clause-after : goal.returns-clause-after
 unfolding seatdesk_app selling_app bare_app named_app ladder_app check_app flights_app cover_app rooms_app run_app bookings_app audit_app seal_app replies_app why_app explain_app horizon_app clap_on_literals
 returns-clause-after c = record { taken = refl; found = refl }
 
+pub returns-clause-resume : goal.returns-clause-resume
+unfolding seatdesk_app selling_app bare_app named_app ladder_app check_app flights_app cover_app rooms_app run_app bookings_app audit_app replies_app why_app explain_app horizon_app clap_on_literals
+returns-clause-resume c = record { taken = refl; found = refl }
+
 pub returns-clause-cover : goal.returns-clause-cover
 unfolding seatdesk_app selling_app bare_app named_app ladder_app check_app flights_app cover_app rooms_app run_app bookings_app audit_app seal_app replies_app why_app explain_app horizon_app clap_on_literals
 returns-clause-cover c = record { taken = refl; found = refl }

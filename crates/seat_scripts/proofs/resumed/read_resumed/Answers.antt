@@ -1,0 +1,43 @@
+use Rattle.std.proofs.Common.{inr, map}
+use Rattle.std.proofs.lemmas.Result.{err_from_is_err_and}
+use Rattle.seat_scripts.proofs.Still.{asked_still, has_ready, large_still, no_rest_still, unchanged_still}
+use Rattle.seat_scripts.proofs.resumed.read_resumed.Goals as goal
+
+pub returns-in-Err-clause-fault : goal.returns-in-Err-clause-fault
+returns-in-Err-clause-fault g c =
+    unchanged_still (g.S.Read.remaining c.args.inputs.now.set) (g.L.Read.remaining c.args.inputs.now.limits) (g.A.Read.remaining c.args.after.now) (g.J.Read.remaining c.args.journal.now)
+    c.args.inputs.now.first c.args.inputs.now.days c.args.today c.args.more (map g.C.Read.remaining c.args.scripts.now) (g.D.Read.remaining c.args.changes.now)
+    c.in_ok-flights.field-0.flights c.in_ok-flights.field-0.older c.in_ok-flights.field-0.core c.in_ok-flights.field-0.scripts c.in_ok-flights.ensures.ok
+    c.in-Err.fault c.in-Err.ensures.changes c.in-Err.ensures.fault
+
+pub returns-in-Err-clause-large : goal.returns-in-Err-clause-large
+returns-in-Err-clause-large g c = λ large.
+    large_still (g.S.Read.remaining c.args.inputs.now.set) (g.L.Read.remaining c.args.inputs.now.limits) (g.A.Read.remaining c.args.after.now) (g.J.Read.remaining c.args.journal.now)
+    c.args.inputs.now.first c.args.inputs.now.days c.args.today c.args.more (map g.C.Read.remaining c.args.scripts.now) (g.D.Read.remaining c.args.changes.now)
+    c.in_ok-flights.field-0.flights c.in_ok-flights.field-0.older c.in_ok-flights.field-0.core c.in_ok-flights.field-0.scripts c.in_ok-flights.ensures.ok
+    (c.in-Err.ensures.large large)
+
+pub returns-in-Err-clause-device : goal.returns-in-Err-clause-device
+returns-in-Err-clause-device g c = λ device. inr (
+  has_ready (g.S.Read.remaining c.args.inputs.now.set) (g.L.Read.remaining c.args.inputs.now.limits) (g.A.Read.remaining c.args.after.now) (g.J.Read.remaining c.args.journal.now)
+      c.args.inputs.now.first c.args.inputs.now.days c.args.today c.args.more (map g.C.Read.remaining c.args.scripts.now) (g.D.Read.remaining c.args.changes.now)
+      c.in_ok-flights.field-0.flights c.in_ok-flights.field-0.older c.in_ok-flights.field-0.core c.in_ok-flights.field-0.scripts c.in_ok-flights.ensures.ok,
+  c.in-Err.ensures.device device,
+)
+
+pub returns-in_err-rest-clause-fault : goal.returns-in_err-rest-clause-fault
+returns-in_err-rest-clause-fault g c =
+    let p = err_from_is_err_and c.from_residual-in_err-rest.result c.from_residual-in_err-rest.ensures.1 in
+    rw (p.1, p.2) (no_rest_still (g.S.Read.remaining c.args.inputs.now.set) (g.L.Read.remaining c.args.inputs.now.limits) (g.A.Read.remaining c.args.after.now) (g.J.Read.remaining c.args.journal.now)
+    c.args.inputs.now.first c.args.inputs.now.days c.args.today c.args.more (map g.C.Read.remaining c.args.scripts.now) (g.D.Read.remaining c.args.changes.now)
+    c.in_ok-flights.field-0.flights c.in_ok-flights.field-0.older c.in_ok-flights.field-0.core c.in_ok-flights.field-0.scripts c.in_ok-flights.ensures.ok
+    c.in-Ok.changes.items c.in-Ok.ensures.ok c.as_slice.result.now c.deref.result.now c.in_ok-flights.field-0.more c.as_slice.ensures c.deref.ensures.value c.in_ok-flights.ensures.more
+    c.in_err-rest.field-0.0 c.in_err-rest.ensures.fault)
+
+pub returns-clause-ok : goal.returns-clause-ok
+returns-clause-ok g c =
+    asked_still (g.S.Read.remaining c.args.inputs.now.set) (g.L.Read.remaining c.args.inputs.now.limits) (g.A.Read.remaining c.args.after.now) (g.J.Read.remaining c.args.journal.now)
+    c.args.inputs.now.first c.args.inputs.now.days c.args.today c.args.more (map g.C.Read.remaining c.args.scripts.now) (g.D.Read.remaining c.args.changes.now)
+    c.in_ok-flights.field-0.flights c.in_ok-flights.field-0.older c.in_ok-flights.field-0.core c.in_ok-flights.field-0.scripts c.in_ok-flights.ensures.ok
+    c.in-Ok.changes.items c.in-Ok.ensures.ok c.as_slice.result.now c.deref.result.now c.in_ok-flights.field-0.more c.in_ok-rest.rest.scripts c.in_ok-rest.rest.changes.items
+    c.as_slice.ensures c.deref.ensures.value c.in_ok-flights.ensures.more c.in_ok-rest.ensures.ok
