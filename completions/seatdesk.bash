@@ -15,7 +15,7 @@ _seatdesk() {
     esac
     for ((i = 1; i < COMP_CWORD; i++)); do
         case ${COMP_WORDS[i]} in
-        ladder | check | flights | cover | rooms | run | bookings | audit | replies | why | explain | help)
+        ladder | check | flights | cover | rooms | run | bookings | audit | seal | replies | why | explain | help)
             command=${COMP_WORDS[i]}
             break
             ;;
@@ -23,7 +23,7 @@ _seatdesk() {
     done
     case $command in
     '')
-        words='ladder check flights cover rooms run bookings audit replies why explain help -v --verbose -h --help -V --version'
+        words='ladder check flights cover rooms run bookings audit seal replies why explain help -v --verbose -h --help -V --version'
         files=''
         values=''
         place=''
@@ -71,9 +71,15 @@ _seatdesk() {
         place='files'
         ;;
     audit)
-        words='--set --limits --first --days --after --behind --today -v --verbose -h --help'
+        words='--set --limits --first --days --after --behind --today --sealed -v --verbose -h --help'
         files='--set --limits --after'
         values='--first --days --behind --today'
+        place='files'
+        ;;
+    seal)
+        words='--set --limits --first --days -v --verbose -h --help'
+        files='--set --limits'
+        values='--first --days'
         place='files'
         ;;
     replies)
@@ -96,7 +102,7 @@ _seatdesk() {
         place=''
         ;;
     help)
-        words='ladder check flights cover rooms run bookings audit replies why explain'
+        words='ladder check flights cover rooms run bookings audit seal replies why explain'
         files=''
         values=''
         place=''
