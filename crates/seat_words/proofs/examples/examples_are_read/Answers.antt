@@ -32,7 +32,7 @@ unfolding seatdesk_app selling_app bare_app named_app ladder_app check_app fligh
 returns-clause-after c = record { taken = refl; found = refl }
 
 pub returns-clause-resume : goal.returns-clause-resume
-unfolding seatdesk_app selling_app bare_app named_app ladder_app check_app flights_app cover_app rooms_app run_app bookings_app audit_app replies_app why_app explain_app horizon_app clap_on_literals
+unfolding seatdesk_app selling_app bare_app named_app ladder_app check_app flights_app cover_app rooms_app run_app bookings_app audit_app seal_app replies_app why_app explain_app horizon_app clap_on_literals
 returns-clause-resume c = record { taken = refl; found = refl }
 
 pub returns-clause-cover : goal.returns-clause-cover
@@ -72,17 +72,17 @@ unfolding seatdesk_app selling_app bare_app named_app ladder_app check_app fligh
 returns-clause-explain c = record { taken = refl; found = refl }
 
 pub returns-clause-desks : goal.returns-clause-desks
-unfolding seatdesk_app selling_app bare_app named_app ladder_app check_app flights_app cover_app rooms_app run_app bookings_app audit_app replies_app why_app explain_app horizon_app clap_on_literals
+unfolding seatdesk_app selling_app bare_app named_app ladder_app check_app flights_app cover_app rooms_app run_app bookings_app audit_app seal_app replies_app why_app explain_app horizon_app clap_on_literals
 returns-clause-desks c = record { taken = refl; found = refl }
 
 pub returns-clause-manager : goal.returns-clause-manager
-unfolding seatdesk_app selling_app bare_app named_app ladder_app check_app flights_app cover_app rooms_app run_app bookings_app audit_app replies_app why_app explain_app horizon_app clap_on_literals
+unfolding seatdesk_app selling_app bare_app named_app ladder_app check_app flights_app cover_app rooms_app run_app bookings_app audit_app seal_app replies_app why_app explain_app horizon_app clap_on_literals
 returns-clause-manager c = record { taken = refl; found = refl }
 
 pub returns-clause-pasted : goal.returns-clause-pasted
-unfolding seatdesk_app selling_app bare_app named_app ladder_app check_app flights_app cover_app rooms_app run_app bookings_app audit_app replies_app why_app explain_app horizon_app clap_on_literals
+unfolding seatdesk_app selling_app bare_app named_app ladder_app check_app flights_app cover_app rooms_app run_app bookings_app audit_app seal_app replies_app why_app explain_app horizon_app clap_on_literals
 returns-clause-pasted c = record { taken = refl; found = refl }
 
 pub returns-clause-verbose : goal.returns-clause-verbose
-unfolding seatdesk_app selling_app bare_app named_app ladder_app check_app flights_app cover_app rooms_app run_app bookings_app audit_app replies_app why_app explain_app horizon_app clap_on_literals
+unfolding seatdesk_app selling_app bare_app named_app ladder_app check_app flights_app cover_app rooms_app run_app bookings_app audit_app seal_app replies_app why_app explain_app horizon_app clap_on_literals
 returns-clause-verbose c = record { taken = refl; found = refl }
