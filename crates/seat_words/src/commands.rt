@@ -331,7 +331,10 @@ fn replies_command<'a>(alloc: Global) -> Result<Command<'a>, AllocError>
     );
     let replies = with_argument(replies, optional_option(alloc, "behind", "N", BEHIND_HELP));
     let replies = with_argument(replies, wanted_option(alloc, "today", "DATE", TODAY_HELP));
-    let replies = with_argument(replies, optional_option(alloc, "session", "N", SESSION_HELP));
+    let replies = with_argument(
+        replies,
+        optional_option(alloc, "session", "N", SESSION_HELP),
+    );
     let replies = with_argument(replies, optional_option(alloc, "from", "LINE", FROM_HELP));
     let replies = with_argument(
         replies,
