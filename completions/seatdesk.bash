@@ -15,7 +15,7 @@ _seatdesk() {
     esac
     for ((i = 1; i < COMP_CWORD; i++)); do
         case ${COMP_WORDS[i]} in
-        ladder | check | flights | cover | rooms | run | bookings | audit | why | explain | help)
+        ladder | check | flights | cover | rooms | run | bookings | audit | seal | replies | why | explain | help)
             command=${COMP_WORDS[i]}
             break
             ;;
@@ -23,7 +23,7 @@ _seatdesk() {
     done
     case $command in
     '')
-        words='ladder check flights cover rooms run bookings audit why explain help -v --verbose -h --help -V --version'
+        words='ladder check flights cover rooms run bookings audit seal replies why explain help -v --verbose -h --help -V --version'
         files=''
         values=''
         place=''
@@ -71,9 +71,21 @@ _seatdesk() {
         place='files'
         ;;
     audit)
-        words='--set --limits --first --days --after --today -v --verbose -h --help'
+        words='--set --limits --first --days --after --behind --today --sealed -v --verbose -h --help'
         files='--set --limits --after'
-        values='--first --days --today'
+        values='--first --days --behind --today'
+        place='files'
+        ;;
+    seal)
+        words='--set --limits --first --days -v --verbose -h --help'
+        files='--set --limits'
+        values='--first --days'
+        place='files'
+        ;;
+    replies)
+        words='--set --limits --first --days --after --behind --today -v --verbose -h --help'
+        files='--set --limits --after'
+        values='--first --days --behind --today'
         place='files'
         ;;
     why)
@@ -83,14 +95,14 @@ _seatdesk() {
         place='files'
         ;;
     explain)
-        words='A1 A2 A3 A4 A5 A6 A7 A8 A9 B1 C1 DEVICE E1 E2 F1 F2 F3 F4 F5 F6 F7 F8 F9 J1 J2 J3 J4 L1 L2 L3 L4 M1 M2 M3 M4 M5 M6 M7 MEMORY P1 P2 P3 P4 P5 P6 P7 P8 Q1 Q2 Q3 R2 S1 S2 S3 S4 S5 S6 S7 S8 S9 S10 S11 S12 S13 S14 S15 U1 -v --verbose -h --help'
-        [ "$before" != E2 ] || words='day days first journal line locator pair script today words'
+        words='A1 A2 A3 A4 A5 A6 A7 A8 A9 B1 C1 DEVICE E1 E2 F1 F2 F3 F4 F5 F6 F7 F8 F9 J1 J2 J3 J4 L1 L2 L3 L4 M1 M2 M3 M4 M5 M6 M7 MEMORY P1 P2 P3 P4 P5 P6 P7 P8 Q1 Q2 Q3 R2 S1 S2 S3 S4 S5 S6 S7 S8 S9 S10 S11 S12 S13 S14 S15 SEAL U1 -v --verbose -h --help'
+        [ "$before" != E2 ] || words='behind day days first journal line locator pair script today words'
         files=''
         values=''
         place=''
         ;;
     help)
-        words='ladder check flights cover rooms run bookings audit why explain'
+        words='ladder check flights cover rooms run bookings audit seal replies why explain'
         files=''
         values=''
         place=''

@@ -12,6 +12,8 @@ complete -c seatdesk -n __fish_use_subcommand -a rooms -d 'Writes the seats that
 complete -c seatdesk -n __fish_use_subcommand -a run -d 'Books the requests of scripts, one session on a thread for each script, and writes the replies'
 complete -c seatdesk -n __fish_use_subcommand -a bookings -d 'Writes the live bookings of a locator, in the codes of AIRIMP'
 complete -c seatdesk -n __fish_use_subcommand -a audit -d 'Replays a journal against its schedule and limits, and writes one summary line'
+complete -c seatdesk -n __fish_use_subcommand -a seal -d 'Writes the seal of a journal that audit accepts, which says what the journal belongs to'
+complete -c seatdesk -n __fish_use_subcommand -a replies -d 'Writes the replies of a run once more, from its journal and its scripts'
 complete -c seatdesk -n __fish_use_subcommand -a why -d 'Writes the reason of one reply of a journal: what the limits left, and the right answer'
 complete -c seatdesk -n __fish_use_subcommand -a explain -d 'Says what a fault line means, or the code of a reply'
 complete -c seatdesk -n __fish_use_subcommand -a help -d 'Print this message or the help of the given subcommand(s)'
@@ -74,10 +76,31 @@ complete -c seatdesk -n '__fish_seen_subcommand_from audit' -l limits -r -F -d '
 complete -c seatdesk -n '__fish_seen_subcommand_from audit' -l first -x -d 'The first day of departure, as 2024-06-01, from 2000 to 2099'
 complete -c seatdesk -n '__fish_seen_subcommand_from audit' -l days -x -d 'How many days from the first on, 1 to 366'
 complete -c seatdesk -n '__fish_seen_subcommand_from audit' -l after -r -F -d 'The journal that JOURNAL goes on from (a file); the scripts ask for the lines behind its own'
+complete -c seatdesk -n '__fish_seen_subcommand_from audit' -l behind -x -d 'How many lines JOURNAL began with, 0 to 999999, in place of --after; the scripts ask for the lines behind them'
 complete -c seatdesk -n '__fish_seen_subcommand_from audit' -l today -x -d 'The day of the run, as 2024-06-01, from 2000 to 2099; it gives the requests their year'
+complete -c seatdesk -n '__fish_seen_subcommand_from audit' -l sealed -d 'Refuses a JOURNAL without a seal beside it; for a JOURNAL alone, without scripts'
 complete -c seatdesk -n '__fish_seen_subcommand_from audit' -s v -l verbose -d 'Names the file of a fault, and where in it the fault stands, or the system\'s reason'
 complete -c seatdesk -n '__fish_seen_subcommand_from audit' -s h -l help -d 'Print help'
 complete -c seatdesk -n '__fish_seen_subcommand_from audit' -F
+
+complete -c seatdesk -n '__fish_seen_subcommand_from seal' -l set -r -F -d 'The data set of the schedule (SSIM chapter 7, a file)'
+complete -c seatdesk -n '__fish_seen_subcommand_from seal' -l limits -r -F -d 'The booking limits of the legs, in seats from 0 to 999 (a file)'
+complete -c seatdesk -n '__fish_seen_subcommand_from seal' -l first -x -d 'The first day of departure, as 2024-06-01, from 2000 to 2099'
+complete -c seatdesk -n '__fish_seen_subcommand_from seal' -l days -x -d 'How many days from the first on, 1 to 366'
+complete -c seatdesk -n '__fish_seen_subcommand_from seal' -s v -l verbose -d 'Names the file of a fault, and where in it the fault stands, or the system\'s reason'
+complete -c seatdesk -n '__fish_seen_subcommand_from seal' -s h -l help -d 'Print help'
+complete -c seatdesk -n '__fish_seen_subcommand_from seal' -F
+
+complete -c seatdesk -n '__fish_seen_subcommand_from replies' -l set -r -F -d 'The data set of the schedule (SSIM chapter 7, a file)'
+complete -c seatdesk -n '__fish_seen_subcommand_from replies' -l limits -r -F -d 'The booking limits of the legs, in seats from 0 to 999 (a file)'
+complete -c seatdesk -n '__fish_seen_subcommand_from replies' -l first -x -d 'The first day of departure, as 2024-06-01, from 2000 to 2099'
+complete -c seatdesk -n '__fish_seen_subcommand_from replies' -l days -x -d 'How many days from the first on, 1 to 366'
+complete -c seatdesk -n '__fish_seen_subcommand_from replies' -l after -r -F -d 'The journal that JOURNAL goes on from (a file); the replies are those to the lines behind its own'
+complete -c seatdesk -n '__fish_seen_subcommand_from replies' -l behind -x -d 'How many lines JOURNAL began with, 0 to 999999, in place of --after; the scripts ask for the lines behind them'
+complete -c seatdesk -n '__fish_seen_subcommand_from replies' -l today -x -d 'The day of the run, as 2024-06-01, from 2000 to 2099; it gives the requests their year'
+complete -c seatdesk -n '__fish_seen_subcommand_from replies' -s v -l verbose -d 'Names the file of a fault, and where in it the fault stands, or the system\'s reason'
+complete -c seatdesk -n '__fish_seen_subcommand_from replies' -s h -l help -d 'Print help'
+complete -c seatdesk -n '__fish_seen_subcommand_from replies' -F
 
 complete -c seatdesk -n '__fish_seen_subcommand_from why' -l set -r -F -d 'The data set of the schedule (SSIM chapter 7, a file)'
 complete -c seatdesk -n '__fish_seen_subcommand_from why' -l limits -r -F -d 'The booking limits of the legs, in seats from 0 to 999 (a file)'
@@ -90,6 +113,6 @@ complete -c seatdesk -n '__fish_seen_subcommand_from why' -F
 
 complete -c seatdesk -n '__fish_seen_subcommand_from explain' -s v -l verbose -d 'Names the file of a fault, and where in it the fault stands, or the system\'s reason'
 complete -c seatdesk -n '__fish_seen_subcommand_from explain' -s h -l help -d 'Print help'
-complete -c seatdesk -n '__fish_seen_subcommand_from explain' -a 'A1 A2 A3 A4 A5 A6 A7 A8 A9 B1 C1 DEVICE E1 E2 F1 F2 F3 F4 F5 F6 F7 F8 F9 J1 J2 J3 J4 L1 L2 L3 L4 M1 M2 M3 M4 M5 M6 M7 MEMORY P1 P2 P3 P4 P5 P6 P7 P8 Q1 Q2 Q3 R2 S1 S2 S3 S4 S5 S6 S7 S8 S9 S10 S11 S12 S13 S14 S15 U1'
+complete -c seatdesk -n '__fish_seen_subcommand_from explain' -a 'A1 A2 A3 A4 A5 A6 A7 A8 A9 B1 C1 DEVICE E1 E2 F1 F2 F3 F4 F5 F6 F7 F8 F9 J1 J2 J3 J4 L1 L2 L3 L4 M1 M2 M3 M4 M5 M6 M7 MEMORY P1 P2 P3 P4 P5 P6 P7 P8 Q1 Q2 Q3 R2 S1 S2 S3 S4 S5 S6 S7 S8 S9 S10 S11 S12 S13 S14 S15 SEAL U1'
 
-complete -c seatdesk -n '__fish_seen_subcommand_from help' -a 'ladder check flights cover rooms run bookings audit why explain'
+complete -c seatdesk -n '__fish_seen_subcommand_from help' -a 'ladder check flights cover rooms run bookings audit seal replies why explain'
