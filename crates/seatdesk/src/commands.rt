@@ -3,6 +3,7 @@
 ghost use Rattle.std.specs.Prelude.{◌≡◌, ◌≤◌, IfOk};
 ghost use Rattle.ssim_flights.specs.Right.{IsOfCentury};
 
+use crate::guard::files_taken;
 use crate::locale::is_utf_8;
 use crate::refusal::{Refusal, told};
 use crate::seal_file::{SealFile, is_moved};
@@ -119,7 +120,8 @@ pub fn seal<'a>(
         Ok(inputs) => inputs,
         Err(refusal) => return Err(refusal),
     };
-    let (mut out, mut journal) = SealOut::open(rt, journal)?;
+    let files = files_taken(rt, &inputs, &[], &[])?;
+    let (mut out, mut journal) = SealOut::open(rt, journal, files.as_slice())?;
     let outcome = desk_seal(rt.alloc(), &mut inputs, &mut journal, &mut out);
     out.leave();
     match told(outcome, &[&inputs.set, &inputs.limits, &journal], &[]) {
