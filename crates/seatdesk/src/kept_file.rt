@@ -2,6 +2,7 @@
 ghost use Rattle.std.specs.Prelude.{◌≡◌, ◌+◌, ◌≤◌, IfOk, length};
 
 use crate::journal_file::UNFINISHED;
+use crate::seal_file::SEAL;
 use std::fs::File;
 use std::io::Read;
 use std::{fs, io};
@@ -65,6 +66,21 @@ fn kept_as(rt: &HostRuntime, path: String, number: u32) -> io::Result<Option<Kep
         number,
         content,
     }))
+}
+
+/// The seal of what a file has is none of the file that takes its name: it stands beside what was kept, or goes.
+pub fn part_seal(rt: &HostRuntime, path: &str, kept: Option<&Kept>) -> io::Result<()> {
+    let seal = format!(in rt.alloc(); "{path}{SEAL}")?;
+    if !fs::exists(rt, seal.as_str())? {
+        return Ok(());
+    }
+    match kept {
+        Some(kept) => {
+            let beside = format!(in rt.alloc(); "{}{SEAL}", kept.path)?;
+            fs::rename(rt, seal.as_str(), beside.as_str())
+        }
+        None => fs::remove_file(rt, seal.as_str()),
+    }
 }
 
 /// A copy under a name of its own, which is the kept one's once it is whole and on its disk.
