@@ -76,7 +76,15 @@ fn put_session(
         return put_answers(text, flights, &[], session, journal, lines, wanted);
     }
     match scripts.get(session - 1) {
-        Some(script) => put_answers(text, flights, script.as_slice(), session, journal, lines, wanted),
+        Some(script) => put_answers(
+            text,
+            flights,
+            script.as_slice(),
+            session,
+            journal,
+            lines,
+            wanted,
+        ),
         None => put_answers(text, flights, &[], session, journal, lines, wanted),
     }
 }

@@ -168,7 +168,9 @@ impl<'a> Refusal<'a> {
             return;
         };
         let file = Shown { name: put.file };
-        let _ = eprintln!(rt; "seatdesk: note: {file} has the journal; its replies once more: seatdesk replies{put}");
+        let _ = eprintln!(rt;
+            "seatdesk: note: {file} has the journal; its replies once more: seatdesk replies{put}"
+        );
     }
 
     /// The same for the seal of a journal.

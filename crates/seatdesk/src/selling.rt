@@ -17,7 +17,10 @@ use airline_base::Day;
 use seat_desk::{Inputs, NO_LINES};
 use seat_run::{desk_resume, desk_run};
 use seat_scripts::{Wanted, desk_audit_against, desk_replies};
-use seat_words::{Horizon, WordFault, audit_lacks, behind_word, date_word, line_word, session_word, sessions_of_run};
+use seat_words::{
+    Horizon, WordFault, audit_lacks, behind_word, date_word, line_word, session_word,
+    sessions_of_run,
+};
 use seat_workers::NoGate;
 use std::fs;
 use std::sync::Wait;
