@@ -14,7 +14,7 @@ use crate::refusal::{Refusal, told};
 use crate::sessions::scripts_opened;
 use crate::streams::{Input, Output, opened_or, standard_output, taken};
 use airline_base::Day;
-use seat_desk::{Inputs, NO_LINES};
+use seat_desk::{DeskFault, Inputs, NO_LINES};
 use seat_run::{desk_resume, desk_run};
 use seat_scripts::{Wanted, desk_audit_against, desk_replies};
 use seat_words::{
@@ -307,37 +307,21 @@ fn sell<'a, T: Threads + Wait + Sync>(
     let mut changes = changes;
     let keeps = !is_gone_on_from(&after, journal)? && !is_gone_on_from(&resumed, journal)?;
     let mut out = Heard::new(standard_output(rt));
-    let outcome = if asking.resume.is_some() {
-        desk_resume(
-            threads,
-            rt.alloc(),
-            &mut inputs,
-            &mut after,
-            more,
-            &mut resumed,
-            scripts.as_mut_slice(),
-            &mut changes,
-            today,
-            &NoGate,
-            keeps,
-            journal,
-            &mut out,
-        )
-    } else {
-        desk_run(
-            threads,
-            rt.alloc(),
-            &mut inputs,
-            &mut after,
-            scripts.as_mut_slice(),
-            &mut changes,
-            today,
-            &NoGate,
-            keeps,
-            journal,
-            &mut out,
-        )
-    };
+    let outcome = booked(
+        rt,
+        threads,
+        asking,
+        more,
+        today,
+        &mut inputs,
+        &mut after,
+        &mut resumed,
+        scripts.as_mut_slice(),
+        &mut changes,
+        keeps,
+        journal,
+        &mut out,
+    );
     let ahead = told(
         outcome,
         &[&inputs.set, &inputs.limits, &after, &resumed],
@@ -353,17 +337,63 @@ fn sell<'a, T: Threads + Wait + Sync>(
                 .noting_unasked(&resumed)
                 .noting_journal(journal)
                 .noting_output(out.output());
-            if !journal.is_put() {
-                return Err(refusal);
-            }
-            let behind = match asking.older.behind {
-                Some(_) => u64::from(more),
-                None => lines_of(rt, asking.older.after, &after, journal)?,
-            };
-            let from = lines_of(rt, asking.resume, &resumed, journal)?;
-            Err(refusal.noting_put(asking.journal, behind, from))
+            noting_place(rt, asking, more, refusal, &after, &resumed, journal)
         }
     }
+}
+
+/// Books by the one command or the other: scripts that have grown go on with their journal.
+fn booked<'a, T: Threads + Wait + Sync>(
+    rt: &'a HostRuntime,
+    threads: &T,
+    asking: &Asking<'a, '_>,
+    more: u32,
+    today: Day,
+    inputs: &mut Inputs<Input<'a>, Input<'a>>,
+    after: &mut Input<'a>,
+    resumed: &mut Input<'a>,
+    scripts: &mut [Input<'a>],
+    changes: &mut Input<'a>,
+    keeps: bool,
+    journal: &mut JournalFile<'a>,
+    out: &mut Heard<'a>,
+) -> Result<(), DeskFault>
+    requires first { IsOfCentury inputs.old.first }
+    requires days { (1 ≤ inputs.old.days) × (inputs.old.days ≤ 366) }
+    requires today { IsCenturyDay today }
+    requires scripts { (1 ≤ length scripts.old) × (length scripts.old ≤ 8) }
+{
+    let alloc = rt.alloc();
+    if asking.resume.is_some() {
+        return desk_resume(
+            threads, alloc, inputs, after, more, resumed, scripts, changes, today, &NoGate, keeps,
+            journal, out,
+        );
+    }
+    desk_run(
+        threads, alloc, inputs, after, scripts, changes, today, &NoGate, keeps, journal, out,
+    )
+}
+
+/// The refusal of a run, which says whether the journal is in its place all the same.
+fn noting_place<'a>(
+    rt: &HostRuntime,
+    asking: &Asking<'a, '_>,
+    more: u32,
+    refusal: Refusal<'a>,
+    after: &Input<'a>,
+    resumed: &Input<'a>,
+    journal: &mut JournalFile<'a>,
+) -> Result<(), Refusal<'a>> {
+    if !journal.is_put() {
+        return Err(refusal);
+    }
+    let behind = match asking.older.behind {
+        Some(_) => u64::from(more),
+        None => lines_of(rt, asking.older.after, after, journal)?,
+    };
+    let from = lines_of(rt, asking.resume, resumed, journal)?;
+    Err(refusal.noting_put(asking.journal, behind, from))
 }
 
 /// How many lines a journal has that a run went on from, which may be the one that had the name of the new one.
