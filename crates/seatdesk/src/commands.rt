@@ -15,9 +15,6 @@ use seat_questions::{Bars, BookingsOf, CityPair, Cover, RoomsOf, Why};
 use seat_reports::{Audit, desk_check, desk_flights, desk_ladder, desk_seal};
 use seat_words::{Horizon, WordFault, date_word, days_word, line_word, locator_word, pair_word};
 
-/// How often a journal is read once more that was replaced meanwhile.
-const MOST_READINGS: u32 = 100;
-
 pub fn ladder<'a>(rt: &HostRuntime) -> Result<(), Refusal<'a>> {
     let mut input = standard_input(rt);
     let mut out = standard_output(rt);
@@ -157,14 +154,18 @@ fn answered_under<'a, Q: Question>(
     requires first { IsOfCentury days.0 }
     requires days { (1 ≤ days.1) × (days.1 ≤ 366) }
 {
-    for _ in 0..MOST_READINGS {
-        let answer = answered_once(rt, over, days, question, journal, is_sealed)?;
-        if !answer.is_moved {
-            return answer.outcome;
-        }
+    let answer = match answered_once(rt, over, days, question, journal, is_sealed) {
+        Ok(answer) => answer,
+        Err(refusal) => return Err(refusal),
+    };
+    let Answer { outcome, is_moved } = answer;
+    if !is_moved {
+        return outcome;
     }
-    let answer = answered_once(rt, over, days, question, journal, is_sealed)?;
-    answer.outcome
+    match answered_once(rt, over, days, question, journal, is_sealed) {
+        Ok(answer) => answer.outcome,
+        Err(refusal) => Err(refusal),
+    }
 }
 
 /// What a question came to, and whether its journal was replaced between the reading of the two, so that its seal was another's.

@@ -659,7 +659,7 @@ const WORDS: &[Explanation] = &[
         behind: "E2",
         code: "behind",
         numbers: NONE,
-        text: "--behind is no number of 0 to 999999, or stands beside --after, or the journal has fewer lines,\nor run has no --resume, whose journal it is of.",
+        text: "--behind is no number of 0 to 999999, or stands beside --after, or the journal has fewer lines,\nor run has no --resume, whose journal it is of,\nor --after and --resume of run name one journal.",
     },
     Explanation {
         behind: "E2",

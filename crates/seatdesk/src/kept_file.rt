@@ -2,7 +2,6 @@
 ghost use Rattle.std.specs.Prelude.{◌≡◌, ◌+◌, ◌≤◌, IfOk, length};
 
 use crate::journal_file::UNFINISHED;
-use crate::seal_file::SEAL;
 use std::fs::File;
 use std::io::Read;
 use std::{fs, io};
@@ -33,7 +32,7 @@ pub enum Content {
 }
 
 /// Keeps what the file at the path has, which is open here too, under the first name `PATH.kept-N` that is free. One that is empty is
-/// not kept, and neither is one of which a file that was kept before has the same bytes.
+/// not kept. Where a file that was kept before has the same bytes, it is that one.
 pub fn keep_beside(rt: &HostRuntime, path: &str, file: &File) -> io::Result<Option<Kept>> {
     if file.metadata()?.len() == 0 {
         return Ok(None);
@@ -44,7 +43,7 @@ pub fn keep_beside(rt: &HostRuntime, path: &str, file: &File) -> io::Result<Opti
         if fs::exists(rt, kept.as_str())? {
             if has_same_bytes(rt, path, kept.as_str())? {
                 fs::open(rt, kept.as_str())?.sync_all()?;
-                return Ok(None);
+                return kept_as(rt, kept, number);
             }
             continue;
         }
@@ -66,21 +65,6 @@ fn kept_as(rt: &HostRuntime, path: String, number: u32) -> io::Result<Option<Kep
         number,
         content,
     }))
-}
-
-/// The seal of what a file has is none of the file that takes its name: it stands beside what was kept, or goes.
-pub fn part_seal(rt: &HostRuntime, path: &str, kept: Option<&Kept>) -> io::Result<()> {
-    let seal = format!(in rt.alloc(); "{path}{SEAL}")?;
-    if !fs::exists(rt, seal.as_str())? {
-        return Ok(());
-    }
-    match kept {
-        Some(kept) => {
-            let beside = format!(in rt.alloc(); "{}{SEAL}", kept.path)?;
-            fs::rename(rt, seal.as_str(), beside.as_str())
-        }
-        None => fs::remove_file(rt, seal.as_str()),
-    }
 }
 
 /// A copy under a name of its own, which is the kept one's once it is whole and on its disk.

@@ -257,8 +257,8 @@ impl<'a> Refusal<'a> {
 
 /// The name of a file as it may be shown: each byte of a control character as `\xHH`.
 #[derive(Clone, Copy)]
-struct Shown<'a> {
-    name: &'a str,
+pub struct Shown<'a> {
+    pub name: &'a str,
 }
 
 impl fmt::Display for Shown<'_> {

@@ -10,7 +10,7 @@ use crate::guard::{Guard, files_taken};
 use crate::heard::Heard;
 use crate::journal_file::{JournalFile, is_one_file, is_same, lines_in};
 use crate::kept_file::{Content, KEPT_BEFORE};
-use crate::refusal::{Refusal, told};
+use crate::refusal::{Refusal, Shown, told};
 use crate::sessions::scripts_opened;
 use crate::streams::{Input, Output, opened_or, standard_output, taken};
 use airline_base::Day;
@@ -235,10 +235,14 @@ pub fn run<'a, T: Threads + Wait + Sync>(
         scripts,
         changes,
     };
+    if is_one_journal(&texts)? {
+        return Err(Refusal::from(WordFault::BadBehind));
+    }
     let mut journal = locked_out(rt, asking, &texts)?;
     let outcome = sell(rt, threads, asking, more, today, texts, &mut journal);
     journal.leave();
     tell_kept(rt, &journal);
+    tell_seal(rt, &journal);
     outcome
 }
 
@@ -250,6 +254,17 @@ struct Texts<'a> {
     resumed: Input<'a>,
     scripts: Vec<Input<'a>>,
     changes: Input<'a>,
+}
+
+/// Whether the older journal is the very file whose scripts have grown: there would be no line of theirs.
+fn is_one_journal<'a>(texts: &Texts<'a>) -> Result<bool, Refusal<'a>> {
+    let Some(older) = texts.after.metadata()? else {
+        return Ok(false);
+    };
+    match texts.resumed.metadata()? {
+        Some(resumed) => Ok(older.is_file() && is_same(&older, &resumed)),
+        None => Ok(false),
+    }
 }
 
 /// OUT under its lock. It is none of the inputs but a journal that the run goes on from, nor the file of the replies.
@@ -461,7 +476,20 @@ fn tell_kept(rt: &HostRuntime, journal: &JournalFile<'_>) {
     }
 }
 
+/// Says on standard error where a seal stands beside the new journal that is older than it.
+fn tell_seal(rt: &HostRuntime, journal: &JournalFile<'_>) {
+    if journal.has_older_seal() {
+        let name = Shown {
+            name: journal.name(),
+        };
+        let _ = eprintln!(rt;
+            "seatdesk: note: {name}.seal is older than the journal: seatdesk seal writes it anew"
+        );
+    }
+}
+
 fn tell_content(rt: &HostRuntime, path: &str, content: Content) {
+    let path = Shown { name: path };
     let _ = match content {
         Content::Journal { lines } => {
             eprintln!(rt; "seatdesk: kept {path} {lines} lines, to go on from it: --after")
