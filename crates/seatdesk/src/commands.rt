@@ -154,7 +154,7 @@ fn answered_under<'a, Q: Question>(
     requires first { IsOfCentury days.0 }
     requires days { (1 ≤ days.1) × (days.1 ≤ 366) }
 {
-    let answer = match answered_once(rt, over, days, question, journal, is_sealed) {
+    let answer = match answered_once(rt, over, &days, question, journal, is_sealed) {
         Ok(answer) => answer,
         Err(refusal) => return Err(refusal),
     };
@@ -162,7 +162,7 @@ fn answered_under<'a, Q: Question>(
     if !is_moved {
         return outcome;
     }
-    match answered_once(rt, over, days, question, journal, is_sealed) {
+    match answered_once(rt, over, &days, question, journal, is_sealed) {
         Ok(answer) => answer.outcome,
         Err(refusal) => Err(refusal),
     }
@@ -178,15 +178,15 @@ struct Answer<'a> {
 fn answered_once<'a, Q: Question>(
     rt: &HostRuntime,
     over: &Horizon<'a>,
-    days: (Day, u16),
+    days: &(Day, u16),
     question: &Q,
     journal: Option<&'a str>,
     is_sealed: bool,
 ) -> Result<Answer<'a>, Refusal<'a>>
-    requires first { IsOfCentury days.0 }
-    requires days { (1 ≤ days.1) × (days.1 ≤ 366) }
+    requires first { IsOfCentury days.now.0 }
+    requires days { (1 ≤ days.now.1) × (days.now.1 ≤ 366) }
 {
-    let mut inputs = match inputs_of(rt, over, days) {
+    let mut inputs = match inputs_of(rt, over, *days) {
         Ok(inputs) => inputs,
         Err(refusal) => return Err(refusal),
     };
