@@ -258,11 +258,11 @@ struct Texts<'a> {
 
 /// Whether the older journal is the very file whose scripts have grown: there would be no line of theirs.
 fn is_one_journal<'a>(texts: &Texts<'a>) -> Result<bool, Refusal<'a>> {
-    let Some(older) = texts.after.metadata()? else {
+    let Some(resumed) = texts.resumed.metadata()? else {
         return Ok(false);
     };
-    match texts.resumed.metadata()? {
-        Some(resumed) => Ok(older.is_file() && is_same(&older, &resumed)),
+    match texts.after.metadata()? {
+        Some(older) => Ok(older.is_file() && is_same(&older, &resumed)),
         None => Ok(false),
     }
 }
