@@ -32,7 +32,7 @@ module _ (set limits after : Option (List ℕ)) (first days today : ℕ) (texts 
   large_load over = if_loaded (λ xs ys. IsFirstTooLargeLoad xs ys first days) (λ xs ys zs. IsTooLargeRun xs ys first days today zs texts changing) set limits after (λ xs ys zs is. inl is) over
 
   module _ (flights : List Flown) (grid : Ladders) (loaded : IfSome set (λ xs. IfSome limits (λ ys. IsLoaded xs ys first days flights grid))) where
-    has_loaded : IfSome set (λ xs. IfSome limits (λ ys. HasLoaded xs ys first days))
+    pub has_loaded : IfSome set (λ xs. IfSome limits (λ ys. HasLoaded xs ys first days))
     has_loaded = by set limits loaded where
       by : (s l : Option (List ℕ)) → IfSome s (λ xs. IfSome l (λ ys. IsLoaded xs ys first days flights grid))
           → IfSome s (λ xs. IfSome l (λ ys. HasLoaded xs ys first days))

@@ -1,6 +1,7 @@
 pub mod Common
 pub mod Advised
 mod Comparing
+mod Naming
 pub mod Rows
 pub mod Going
 mod Beginnings
@@ -11,6 +12,7 @@ pub mod Histories
 mod Changing
 pub mod Reading
 pub mod Written
+pub mod Seals
 mod Replacing
 mod Lengths
 mod Audits

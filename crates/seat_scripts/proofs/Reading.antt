@@ -3,6 +3,7 @@ use Rattle.std.proofs.Common.{◌≡◌, ◌≤◌, ℕ, suc, List, [], ◌∷�
 use Rattle.seat_scripts.proofs.Common.{Request, AreScripts}
 use Rattle.std.proofs.lemmas.List.{append-nil, length-map}
 use Rattle.seat_scripts.specs.Requests.{AreReadOn, AreRight, IsReadable, IsScriptOf}
+use Rattle.seat_scripts.specs.TextDigests.{AreTakenOn, IsDigestOf}
 
 pub read_none : (today : ℕ) (old : List (List Request)) → AreReadOn today [] old old
 read_none today old = record { added = []; are_scripts = tt; are_right = tt; written = sym (append-nil old) }
@@ -16,6 +17,18 @@ read_more today text texts requests old mid new script right pushed read = recor
   are_scripts = (script, read.are_scripts);
   are_right = (right, read.are_right);
   written = read.written ∙ (ap (λ (l : List (List Request)). l ++ read.added) pushed ∙ append_assoc old (requests ∷ []) read.added);
+}
+
+pub taken_none : (old : List (Option (List ℕ))) → AreTakenOn [] old old
+taken_none old = record { added = []; are_digests = tt; written = sym (append-nil old) }
+
+pub taken_more : (text : Option (List ℕ)) (texts : List (Option (List ℕ))) (digest : Option (List ℕ))
+    (old mid new : List (Option (List ℕ)))
+    → IsDigestOf text digest → mid ≡ old ++ digest ∷ [] → AreTakenOn texts mid new → AreTakenOn (text ∷ texts) old new
+taken_more text texts digest old mid new is pushed taken = record {
+  added = digest ∷ taken.added;
+  are_digests = (is, taken.are_digests);
+  written = taken.written ∙ (ap (λ (l : List (Option (List ℕ))). l ++ taken.added) pushed ∙ append_assoc old (digest ∷ []) taken.added);
 }
 
 are_count : (today : ℕ) (texts : List (Option (List ℕ))) (scripts : List (List Request))

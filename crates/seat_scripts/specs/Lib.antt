@@ -2,6 +2,7 @@ pub mod Against
 pub mod Answering
 pub mod Asked
 pub mod Audits
+pub mod Beside
 pub mod Changes
 pub mod First
 pub mod Going
@@ -10,5 +11,7 @@ pub mod Requests
 pub mod Resumed
 pub mod Resuming
 pub mod RunDesk
+pub mod SealedRun
 pub mod Segments
+pub mod TextDigests
 pub mod VeryRequest

@@ -3,26 +3,37 @@ ghost use Rattle.std.specs.Prelude.{◌≡◌, ◌≢◌, ◌<◌, ◌≤◌, If
 ghost use Rattle.std.specs.List.{AllByRecursion};
 ghost use Rattle.seat_limits.specs.ChangeRows.{IsChangeText};
 ghost use Rattle.seat_desk.specs.Desk.{HasFailed, IsOfInput};
+ghost use Rattle.seat_scripts.specs.TextDigests.{IsDigestOf};
 ghost use Rattle.seat_scripts.specs.Changes.{AreChanges, AreServed, IsOfChanges, IsOnLeg, IsUnchanged, change_of, change_refusal, most_change_bytes, wanted_by};
 
+use crate::digests::text_digest;
 use airline_base::NotedRead;
 use seat_desk::{DeskFault, read_input};
 use seat_journal::Change;
 use seat_limits::{ChangeRow, LimitFault, LimitKind, read_changes};
+use seat_seal::Digest;
 use ssim_flights::{Flights, Served, Wanted};
 use std::alloc::Global;
 
 /// 16 MiB, the most bytes of changes.
 const MOST_CHANGE_BYTES: u64 = 16_777_216;
 
+/// Changes that are read, and the digest of their rows' bytes, where there are any.
+#[derive(Drop)]
+pub struct ReadChanges {
+    pub changes: Vec<Change>,
+    pub digest: Option<Digest>,
+}
+
 /// The changes that the rows ask for, in order.
 pub fn limit_changes<D: NotedRead>(
     alloc: Global,
     flights: &Flights,
     changes: &mut D,
-) -> Result<Vec<Change>, DeskFault>
-    ensures ok { IfOk result (λ read. IfSome (D.remaining changes.old) (AreChanges flights.now read.items)) }
-    ensures legs { IfOk result (λ read. AllByRecursion (IsOnLeg flights.now) read.items) }
+) -> Result<ReadChanges, DeskFault>
+    ensures ok { IfOk result (λ read. IfSome (D.remaining changes.old) (AreChanges flights.now read.changes.items)) }
+    ensures digest { IfOk result (λ read. IsDigestOf (D.remaining changes.old) read.digest) }
+    ensures legs { IfOk result (λ read. AllByRecursion (IsOnLeg flights.now) read.changes.items) }
     ensures fault { IfErr result (λ f. IsOfInput f → IfSome (D.remaining changes.old) (IsUnchanged flights.now f)) }
     ensures changes { IfErr result (λ f. IsOfInput f → IsOfChanges f) }
     ensures large { IfErr result (λ f. f ≡ DeskFault.TooLarge
@@ -30,7 +41,11 @@ pub fn limit_changes<D: NotedRead>(
     ensures device { IfErr result (λ f. f ≡ DeskFault.Device → HasFailed D.failure_count changes.old changes.new) }
 {
     let bytes = read_input(alloc, changes, MOST_CHANGE_BYTES)?;
-    changes_of(alloc, flights, &bytes)
+    let made = changes_of(alloc, flights, &bytes)?;
+    Ok(ReadChanges {
+        changes: made,
+        digest: text_digest(&bytes),
+    })
 }
 
 /// The changes that these bytes ask for.

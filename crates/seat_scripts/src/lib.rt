@@ -9,6 +9,7 @@ mod asked;
 mod by_session;
 mod changes;
 mod commands;
+mod digests;
 mod laws;
 mod making;
 mod past;
@@ -18,6 +19,7 @@ mod replying;
 mod resumed;
 mod resuming;
 mod scripts;
+mod sealed_run;
 mod very_request;
 mod writing;
 
@@ -25,6 +27,7 @@ pub use against::desk_audit_against;
 pub use asked::{Asked, read_asked};
 pub use by_session::{Wanted, session_replies};
 pub use commands::lists_over;
+pub use digests::TextDigests;
 pub use laws::{
     audits_behind_no_lines, commands_are_very_requests, nothing_is_left,
     replies_are_those_of_the_run, requests_are_flown, resumed_again_is_the_same,
@@ -38,4 +41,5 @@ pub use replying::desk_replies;
 pub use resumed::read_resumed;
 pub use resuming::what_is_left;
 pub use scripts::Scripts;
+pub use sealed_run::{RunBasis, entry_of_run};
 pub use writing::write_both;

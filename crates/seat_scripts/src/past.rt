@@ -1,15 +1,17 @@
 //! What a run goes on from: the inventory of an older journal, and what the texts of the run need to know of it.
-ghost use Rattle.std.specs.Prelude.{◌≡◌, ◌<◌, ◌≤◌, IfErr, IfOk, IfSome, length};
+ghost use Rattle.std.specs.Prelude.{◌≡◌, ◌<◌, ◌≤◌, IfErr, IfOk, IfSome, OnOk, length};
 ghost use Rattle.seat_rules.specs.Journal.{IsLegal};
 ghost use Rattle.seat_desk.specs.AuditDesk.{IsUnlawful, most_journal_bytes, most_lines};
 ghost use Rattle.seat_desk.specs.Desk.{HasFailed, IsOfInput};
 ghost use Rattle.seat_scripts.specs.Against.{IsReplayWithin};
+ghost use Rattle.seat_scripts.specs.Beside.{IsFaultless, IsRefusedBeside};
 ghost use Rattle.seat_scripts.specs.Going.{IsPast, highest_to, past_of};
 
 use airline_base::NotedRead;
 use seat_core::Core;
-use seat_desk::{DeskFault, MOST_JOURNAL_BYTES, read_input, replayed};
+use seat_desk::{DeskFault, MOST_JOURNAL_BYTES, agreed, read_input, replayed};
 use seat_nesting::Grid;
+use seat_seal::{Basis, Beside};
 use std::alloc::Global;
 
 /// How many lines an older journal has of each session: 0, the manager, to 8.
@@ -37,6 +39,35 @@ pub fn replayed_from<J: NotedRead>(
 {
     let bytes = read_input(alloc, journal, MOST_JOURNAL_BYTES)?;
     replayed(alloc, grid, bytes)
+}
+
+/// The inventory that a journal comes to over these limits, where what stands beside it has no fault on this basis.
+#[tactic(auto, using(crate::proofs::Seals::read_faultless, crate::proofs::Seals::read_unsealed, crate::proofs::Seals::read_unlawful))]
+pub(crate) fn replayed_beside<J: NotedRead>(
+    alloc: Global,
+    grid: Grid,
+    journal: &mut J,
+    beside: &Beside<'_>,
+    basis: &Basis,
+) -> Result<Core, DeskFault>
+    ensures ok { IfOk result (λ core. IfSome (J.remaining journal.old) (IsReplayWithin grid core)) }
+    ensures past { IfOk result (λ core. IfSome (J.remaining journal.old) (IsPast grid core.journal)) }
+    ensures sealed { OnOk result (IfSome (J.remaining journal.old) (IsFaultless beside.now basis.now)) }
+    ensures grid { IfOk result (λ core. core.grid ≡ grid) }
+    ensures legal { IfOk result (λ core. IsLegal core.grid core.journal) }
+    ensures cap { IfOk result (λ core. core.cap ≡ most_lines) }
+    ensures few { IfOk result (λ core. length core.journal ≤ most_lines) }
+    ensures fault { IfErr result (λ f. IsOfInput f
+        → IfSome (J.remaining journal.old) (IsRefusedBeside beside.now basis.now grid f)) }
+    ensures large { IfErr result (λ f. f ≡ DeskFault.TooLarge
+        → IfSome (J.remaining journal.old) (λ bytes. most_journal_bytes < length bytes)) }
+    ensures device { IfErr result (λ f. f ≡ DeskFault.Device → HasFailed J.failure_count journal.old journal.new) }
+{
+    let bytes = read_input(alloc, journal, MOST_JOURNAL_BYTES)?;
+    match agreed(beside, basis, &bytes) {
+        Ok(()) => replayed(alloc, grid, bytes),
+        Err(fault) => Err(fault),
+    }
 }
 
 /// What the texts of a run need to know of the lines so far.

@@ -31,7 +31,7 @@ returns-in_err-rest-clause-fault g c =
     rw (p.1, p.2) (no_rest_still (g.S.Read.remaining c.args.inputs.now.set) (g.L.Read.remaining c.args.inputs.now.limits) (g.A.Read.remaining c.args.after.now) (g.J.Read.remaining c.args.journal.now)
     c.args.inputs.now.first c.args.inputs.now.days c.args.today c.args.more (map g.C.Read.remaining c.args.scripts.now) (g.D.Read.remaining c.args.changes.now)
     c.in_ok-flights.field-0.flights c.in_ok-flights.field-0.older c.in_ok-flights.field-0.core c.in_ok-flights.field-0.scripts c.in_ok-flights.ensures.ok
-    c.in-Ok.changes.items c.in-Ok.ensures.ok c.as_slice.result.now c.deref.result.now c.in_ok-flights.field-0.more c.as_slice.ensures c.deref.ensures.value c.in_ok-flights.ensures.more
+    c.in-Ok.changes.changes.items c.in-Ok.ensures.ok c.as_slice.result.now c.deref.result.now c.in_ok-flights.field-0.more c.as_slice.ensures c.deref.ensures.value c.in_ok-flights.ensures.more
     c.in_err-rest.field-0.0 c.in_err-rest.ensures.fault)
 
 pub returns-clause-ok : goal.returns-clause-ok
@@ -39,5 +39,5 @@ returns-clause-ok g c =
     asked_still (g.S.Read.remaining c.args.inputs.now.set) (g.L.Read.remaining c.args.inputs.now.limits) (g.A.Read.remaining c.args.after.now) (g.J.Read.remaining c.args.journal.now)
     c.args.inputs.now.first c.args.inputs.now.days c.args.today c.args.more (map g.C.Read.remaining c.args.scripts.now) (g.D.Read.remaining c.args.changes.now)
     c.in_ok-flights.field-0.flights c.in_ok-flights.field-0.older c.in_ok-flights.field-0.core c.in_ok-flights.field-0.scripts c.in_ok-flights.ensures.ok
-    c.in-Ok.changes.items c.in-Ok.ensures.ok c.as_slice.result.now c.deref.result.now c.in_ok-flights.field-0.more c.in_ok-rest.rest.scripts c.in_ok-rest.rest.changes.items
+    c.in-Ok.changes.changes.items c.in-Ok.ensures.ok c.as_slice.result.now c.deref.result.now c.in_ok-flights.field-0.more c.in_ok-rest.rest.scripts c.in_ok-rest.rest.changes.items
     c.as_slice.ensures c.deref.ensures.value c.in_ok-flights.ensures.more c.in_ok-rest.ensures.ok

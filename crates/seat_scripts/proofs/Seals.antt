@@ -1,0 +1,210 @@
+-- What stands beside a journal, as far as the inputs are known, and what is refused behind it.
+use Rattle.std.proofs.Common.{◌≡◌, ◌≢◌, ◌≤◌, ◌<◌, ◌⊎◌, ⊎_elim, inl, inr, ℕ, List, Option, Some, None, IfSome, length, subst, sym}
+use Rattle.ssim_flights.specs.declared.flight.Flight.{Flight as Flown}
+use Rattle.seat_seal.specs.Besides.{IsFaultBeside}
+use Rattle.seat_seal.specs.declared.beside.Basis.{Basis}
+use Rattle.seat_seal.specs.declared.beside.Beside.{Beside}
+use Rattle.seat_desk.proofs.Grounds.{ground_of_loaded}
+use Rattle.seat_desk.specs.Answering.{IsRefusedAnswer}
+use Rattle.seat_desk.specs.AuditDesk.{IsUnlawful}
+use Rattle.seat_desk.specs.Desk.{IsOfInput}
+use Rattle.seat_desk.specs.Loading.{IsBehind, IsRefusedLoad}
+use Rattle.seat_desk.specs.Sealing.{Agrees, IsBesideFault, basis_of}
+use Rattle.seat_scripts.proofs.Common.{AreScripts, DeskFault, Entry, HasLoaded, IsFirstTooLargeLoad, IsLoaded, IsRefusedAmong, IsTooLargeAmong, Ladders, Memory, OfThree, Request, most_journal_bytes}
+use Rattle.seat_scripts.specs.Beside.{IsFaultless, IsRefusedBeside, IsRefusedSealedRun, IsTooLargeSealedRun, IsUnsealed}
+use Rattle.seat_scripts.specs.Changes.{IsOfChanges, IsUnchanged, most_change_bytes}
+use Rattle.seat_scripts.specs.Going.{IsPast}
+use Rattle.seat_scripts.specs.Asked.{IsTooLargeRun}
+use Rattle.seat_scripts.specs.RunDesk.{IsRefusedRun}
+use Rattle.seat_scripts.specs.Requests.{IsOfScript}
+use Rattle.seat_scripts.specs.Asked.{HasPast, HasScripts}
+use Rattle.seat_scripts.proofs.Inputs.{changes_fail, has_loaded, if_loaded, large_changes, large_script, script_fails}
+use Rattle.seat_scripts.proofs.Written.{run_refused, run_unchanged}
+
+-- ---- one journal, of which all bytes were read
+
+module _ (beside : Beside) (basis : Basis) (text : Option (List ℕ)) (bytes slice : List ℕ) (is_slice : slice ≡ bytes)
+    (whole : IfSome text (λ xs. bytes ≡ xs)) where
+  read : (P : List ℕ → Type 0) → P slice → IfSome text P
+  read P h = by text whole where
+    by : (t : Option (List ℕ)) → IfSome t (λ xs. bytes ≡ xs) → IfSome t P
+    by (Some xs) same = subst P same (subst P is_slice h)
+    by None same = tt
+
+  pub read_faultless : IsFaultBeside beside basis slice None → IfSome text (IsFaultless beside basis)
+  read_faultless h = read (IsFaultless beside basis) (record { faultless = h })
+
+  pub read_unsealed : (grid : Ladders) (fault : DeskFault) → length bytes ≤ most_journal_bytes
+      → IsBesideFault beside basis slice fault → IfSome text (IsRefusedBeside beside basis grid fault)
+  read_unsealed grid fault within wrong =
+      read (IsRefusedBeside beside basis grid fault)
+      (subst (IsRefusedBeside beside basis grid fault) (sym is_slice) (inl (record { within = within; is_first = subst (λ (l : List ℕ). IsBesideFault beside basis l fault) is_slice wrong })))
+
+  pub read_unlawful : (grid : Ladders) (fault : DeskFault) → IsFaultBeside beside basis slice None
+      → (fault ≢ Memory → IsUnlawful grid fault bytes) → IsOfInput fault
+      → IfSome text (IsRefusedBeside beside basis grid fault)
+  read_unlawful grid fault agreed refused input =
+      read (IsRefusedBeside beside basis grid fault)
+      (subst (IsRefusedBeside beside basis grid fault) (sym is_slice) (inr (record {
+        ahead = record { faultless = subst (λ (l : List ℕ). IsFaultBeside beside basis l None) is_slice agreed };
+        here = refused (λ (e : fault ≡ Memory). subst IsOfInput e input);
+      })))
+
+-- ---- over inputs that are known
+
+-- what is said of two texts and of three is said of the three
+pub both_three : (P Q R : List ℕ → List ℕ → List ℕ → Type 0) (set limits after : Option (List ℕ))
+    → ((xs ys zs : List ℕ) → P xs ys zs → Q xs ys zs → R xs ys zs) → OfThree set limits after P
+    → OfThree set limits after Q → OfThree set limits after R
+both_three P Q R (Some xs) (Some ys) (Some zs) give p q = give xs ys zs p q
+both_three P Q R (Some xs) (Some ys) None give p q = tt
+both_three P Q R (Some xs) None after give p q = tt
+both_three P Q R None limits after give p q = tt
+
+each_three : (P R : List ℕ → List ℕ → List ℕ → Type 0) (set limits after : Option (List ℕ))
+    → ((xs ys zs : List ℕ) → P xs ys zs → R xs ys zs) → OfThree set limits after P → OfThree set limits after R
+each_three P R (Some xs) (Some ys) (Some zs) give p = give xs ys zs p
+each_three P R (Some xs) (Some ys) None give p = tt
+each_three P R (Some xs) None after give p = tt
+each_three P R None limits after give p = tt
+
+module _ (set limits after : Option (List ℕ)) (first days : ℕ) (flights : List Flown) (grid : Ladders) (beside : Beside) (basis : Basis)
+    (loaded : IfSome set (λ xs. IfSome limits (λ ys. IsLoaded xs ys first days flights grid)))
+    (known : IfSome set (λ xs. IfSome limits (λ ys. basis ≡ basis_of xs ys first days))) where
+  based : (Q : List ℕ → Type 0) (R : List ℕ → List ℕ → List ℕ → Type 0)
+      → ((xs ys zs : List ℕ) → IsLoaded xs ys first days flights grid → basis ≡ basis_of xs ys first days → Q zs → R xs ys zs)
+      → IfSome after Q → OfThree set limits after R
+  based Q R give q = by set limits after loaded known q where
+    by : (s l a : Option (List ℕ)) → IfSome s (λ xs. IfSome l (λ ys. IsLoaded xs ys first days flights grid))
+        → IfSome s (λ xs. IfSome l (λ ys. basis ≡ basis_of xs ys first days)) → IfSome a Q → OfThree s l a R
+    by (Some xs) (Some ys) (Some zs) is b h = give xs ys zs is b h
+    by (Some xs) (Some ys) None is b h = tt
+    by (Some xs) None a is b h = tt
+    by None l a is b h = tt
+
+  agreeing : (xs ys zs : List ℕ) → basis ≡ basis_of xs ys first days → IsFaultless beside basis zs
+      → Agrees beside xs ys first days zs
+  agreeing xs ys zs b h = record { faultless = subst (λ (x : Basis). IsFaultBeside beside x zs None) b h.faultless }
+
+  -- the journal agrees with what stands beside it
+  pub agrees : IfSome after (IsFaultless beside basis)
+      → OfThree set limits after (λ xs ys zs. Agrees beside xs ys first days zs)
+  agrees h = based (IsFaultless beside basis) (λ xs ys zs. Agrees beside xs ys first days zs) (λ xs ys zs is b f. agreeing xs ys zs b f) h
+
+  refusal : (fault : DeskFault) (xs ys zs : List ℕ) → IsLoaded xs ys first days flights grid
+      → basis ≡ basis_of xs ys first days → IsRefusedBeside beside basis grid fault zs
+      → IsRefusedAnswer IsUnlawful beside xs ys first days zs fault
+  refusal fault xs ys zs is b refused = ⊎_elim
+      (λ (u : IsUnsealed beside basis fault zs). inr (inl (record {
+        ground = record { flights = flights; rows = is.loaded.rows; is_ground = ground_of_loaded xs ys first days flights grid is };
+        within = u.within;
+        is_first = subst (λ (x : Basis). IsBesideFault beside x zs fault) b u.is_first;
+      })))
+      (λ (u : IsBehind (IsFaultless beside basis zs) (IsUnlawful grid fault zs)). inr (inr (record {
+        flights = flights;
+        rows = is.loaded.rows;
+        is_ground = ground_of_loaded xs ys first days flights grid is;
+        within = u.here.within;
+        sealed = agreeing xs ys zs b u.ahead;
+        refused = subst (λ (g : Ladders). IsUnlawful g fault zs) is.loaded.grid_is u.here;
+      })))
+      refused
+
+  -- what refuses the journal refuses the command
+  pub refused_start : (fault : DeskFault) → (IsOfInput fault → IfSome after (IsRefusedBeside beside basis grid fault))
+      → IsOfInput fault
+      → OfThree set limits after (λ xs ys zs. IsRefusedAnswer IsUnlawful beside xs ys first days zs fault)
+  refused_start fault refused input =
+      based (IsRefusedBeside beside basis grid fault) (λ xs ys zs. IsRefusedAnswer IsUnlawful beside xs ys first days zs fault) (refusal fault) (refused input)
+
+-- ---- a run
+
+module _ (set limits after : Option (List ℕ)) (first days today : ℕ) (texts : List (Option (List ℕ))) (changing : Option (List ℕ)) (beside : Beside) where
+  abbrev IsRefused : DeskFault → Type 0
+  IsRefused fault = OfThree set limits after (λ xs ys zs. IsRefusedSealedRun beside xs ys first days today zs texts changing fault)
+
+  abbrev IsLarge : Type 0
+  IsLarge = OfThree set limits after (λ xs ys zs. IsTooLargeSealedRun beside xs ys first days today zs texts changing)
+
+  abbrev Agreeing : Type 0
+  Agreeing = OfThree set limits after (λ xs ys zs. Agrees beside xs ys first days zs)
+
+  -- behind what agrees
+  pub behind_seal : (fault : DeskFault) → Agreeing
+      → OfThree set limits after (λ xs ys zs. IsRefusedRun xs ys first days today zs texts changing fault)
+      → IsRefused fault
+  behind_seal fault agreed refused =
+      both_three (λ xs ys zs. Agrees beside xs ys first days zs) (λ xs ys zs. IsRefusedRun xs ys first days today zs texts changing fault) (λ xs ys zs. IsRefusedSealedRun beside xs ys first days today zs texts changing fault) set limits after
+      (λ xs ys zs a r. inr (record { ahead = a; here = r })) agreed refused
+
+  large_behind : Agreeing → OfThree set limits after (λ xs ys zs. IsTooLargeRun xs ys first days today zs texts changing)
+      → IsLarge
+  large_behind agreed over =
+      both_three (λ xs ys zs. Agrees beside xs ys first days zs) (λ xs ys zs. IsTooLargeRun xs ys first days today zs texts changing) (λ xs ys zs. IsTooLargeSealedRun beside xs ys first days today zs texts changing) set limits after
+      (λ xs ys zs a r. inr (record { ahead = a; here = r })) agreed over
+
+  pub sealed_unloaded : (fault : DeskFault) → IfSome set (λ xs. IfSome limits (λ ys. IsRefusedLoad xs ys first days fault))
+      → IsRefused fault
+  sealed_unloaded fault refused =
+      if_loaded (λ xs ys. IsRefusedLoad xs ys first days fault) (λ xs ys zs. IsRefusedSealedRun beside xs ys first days today zs texts changing fault) set limits after
+      (λ xs ys zs is. inl (inl is)) refused
+
+  pub sealed_large_load : IfSome set (λ xs. IfSome limits (λ ys. IsFirstTooLargeLoad xs ys first days)) → IsLarge
+  sealed_large_load over =
+      if_loaded (λ xs ys. IsFirstTooLargeLoad xs ys first days) (λ xs ys zs. IsTooLargeSealedRun beside xs ys first days today zs texts changing) set limits after
+      (λ xs ys zs is. inl (inl is)) over
+
+  module _ (flights : List Flown) (grid : Ladders) (basis : Basis)
+      (loaded : IfSome set (λ xs. IfSome limits (λ ys. IsLoaded xs ys first days flights grid)))
+      (known : IfSome set (λ xs. IfSome limits (λ ys. basis ≡ basis_of xs ys first days))) where
+    pub sealed_unread : (fault : DeskFault) → (IsOfInput fault → IfSome after (IsRefusedBeside beside basis grid fault))
+        → IsOfInput fault → IsRefused fault
+    sealed_unread fault refused input =
+        each_three (λ xs ys zs. IsRefusedAnswer IsUnlawful beside xs ys first days zs fault) (λ xs ys zs. IsRefusedSealedRun beside xs ys first days today zs texts changing fault) set limits after
+        (λ xs ys zs is. inl is) (refused_start set limits after first days flights grid beside basis loaded known fault refused input)
+
+    pub sealed_large_past : IfSome after (λ zs. most_journal_bytes < length zs) → IsLarge
+    sealed_large_past over =
+        based set limits after first days flights grid beside basis loaded known (λ zs. most_journal_bytes < length zs) (λ xs ys zs. IsTooLargeSealedRun beside xs ys first days today zs texts changing)
+        (λ xs ys zs is b large. inl (inr (record { ahead = record { flights = flights; rows = is.loaded.rows; is_ground = ground_of_loaded xs ys first days flights grid is }; here = large }))) over
+
+    -- the older journal failed
+    pub sealed_past_fails : (load past rest : Type 0) → past
+        → (load ⊎ IsBehind (IfSome set (λ xs. IfSome limits (λ ys. HasLoaded xs ys first days))) past) ⊎ rest
+    sealed_past_fails load past rest failed =
+        inl (inr (record { ahead = has_loaded set limits after first days today texts changing flights grid loaded; here = failed }))
+
+    module _ (agreed : IfSome after (IsFaultless beside basis)) (past : List Entry) (before : IfSome after (IsPast grid past)) where
+      abbrev all_agree : Agreeing
+      all_agree = agrees set limits after first days flights grid beside basis loaded known agreed
+
+      pub sealed_refused : (fault : DeskFault) → (IsOfInput fault → IsOfScript fault)
+          → (IsOfInput fault → IsRefusedAmong today 1 texts fault) → IsOfInput fault → IsRefused fault
+      sealed_refused fault script refused input =
+          behind_seal fault all_agree (run_refused set limits after first days today texts changing flights grid past fault loaded before script refused input)
+
+      pub sealed_large_script : IsTooLargeAmong today texts → IsLarge
+      sealed_large_script over = large_behind all_agree (large_script set limits after first days today texts changing flights grid loaded past before over)
+
+      pub sealed_unchanged : (scripts : List (List Request)) → AreScripts today texts scripts → (fault : DeskFault)
+          → (IsOfInput fault → IsOfChanges fault) → (IsOfInput fault → IfSome changing (IsUnchanged flights fault))
+          → IsOfInput fault → IsRefused fault
+      sealed_unchanged scripts are fault of refused input =
+          behind_seal fault all_agree (run_unchanged set limits after first days today texts changing flights grid past scripts fault loaded before are of refused input)
+
+      pub sealed_large_changes : (scripts : List (List Request)) → AreScripts today texts scripts
+          → IfSome changing (λ bytes. most_change_bytes < length bytes) → IsLarge
+      sealed_large_changes scripts are over =
+          large_behind all_agree (large_changes set limits after first days today texts changing flights grid loaded past before scripts are over)
+
+      -- a script failed, or the changes did
+      pub sealed_script_fails : (ahead load past_failed script rest : Type 0) → script
+          → ahead ⊎ IsBehind Agreeing (load ⊎ (past_failed ⊎ ((OfThree set limits after (λ xs ys zs. HasPast xs ys first days zs) × script) ⊎ rest)))
+      sealed_script_fails ahead load past_failed script rest failed =
+          inr (record { ahead = all_agree; here = script_fails set limits after first days today texts changing flights grid loaded past before load past_failed script rest failed })
+
+      pub sealed_changes_fail : (scripts : List (List Request)) → AreScripts today texts scripts
+          → (ahead load past_failed script changes : Type 0) → changes
+          → ahead ⊎ IsBehind Agreeing (load ⊎ (past_failed ⊎ (script ⊎ (OfThree set limits after (λ xs ys zs. HasScripts xs ys first days today zs texts) × changes))))
+      sealed_changes_fail scripts are ahead load past_failed script changes failed =
+          inr (record { ahead = all_agree; here = changes_fail set limits after first days today texts changing flights grid loaded past before scripts are load past_failed script changes failed })

@@ -1,0 +1,84 @@
+-- What stands beside the journals that a run goes on from, and that an audit with scripts reads: each is compared ahead of its journal's own faults.
+use Rattle.std.specs.Prelude.{◌≡◌, ◌<◌, ◌≤◌, ◌⊎◌, ℕ, List, length, Option, None, IfSome}
+use Rattle.seat_nesting.specs.Nesting.{Ladders}
+use Rattle.seat_seal.specs.Besides.{IsFaultBeside}
+use Rattle.seat_seal.specs.declared.beside.Basis.{Basis}
+use Rattle.seat_seal.specs.declared.beside.Beside.{Beside}
+use Rattle.seat_desk.specs.Answering.{IsFirstTooLarge, IsRefusedAnswer}
+use Rattle.seat_desk.specs.AuditDesk.{IsUnlawful, most_journal_bytes}
+use Rattle.seat_desk.specs.Loading.{Bytes, IsBehind}
+use Rattle.seat_desk.specs.Sealing.{Agrees, IsBesideFault, basis_of}
+use Rattle.seat_desk.specs.declared.fault.DeskFault.{DeskFault}
+use Rattle.seat_desk.specs.declared.inputs.Inputs.{Inputs}
+use Rattle.seat_scripts.specs.Against.{HasOlder, IsRefusedAgainst, IsTooLargeAgainst, FailsAgainst, OfFour}
+use Rattle.seat_scripts.specs.Asked.{FailsRun, HasLoaded, IsTooLargeRun, OfThree}
+use Rattle.seat_scripts.specs.Resumed.{FailsResume, IsRefusedResume, IsTooLargeResume}
+use Rattle.seat_scripts.specs.RunDesk.{IsRefusedRun}
+
+-- ---- one journal, on a basis that is known
+
+-- what stands beside it has no fault
+pub record IsFaultless (beside : Beside) (basis : Basis) (bytes : List ℕ) : Type 0 where
+  pub faultless : IsFaultBeside beside basis bytes None
+
+-- the journal is not too large, and this is the first fault of what stands beside it
+pub record IsUnsealed (beside : Beside) (basis : Basis) (fault : DeskFault) (bytes : List ℕ) : Type 0 where
+  pub within : length bytes ≤ most_journal_bytes
+  pub is_first : IsBesideFault beside basis bytes fault
+
+-- the fault is the first of what stands beside it, or that has none and the journal is refused over these ladders
+abbrev pub IsRefusedBeside : Beside → Basis → Ladders → DeskFault → List ℕ → Type 0
+IsRefusedBeside beside basis grid fault bytes =
+    IsUnsealed beside basis fault bytes ⊎ IsBehind (IsFaultless beside basis bytes) (IsUnlawful grid fault bytes)
+
+-- ---- a journal that a run goes on from
+
+-- what stands beside it agrees with the inputs, where the bytes of the set, of the limits and of the journal are known
+abbrev pub AgreesOf : {S L : Type 0} → Beside → Bytes S → Bytes L → Inputs S L → Option (List ℕ) → Type 0
+AgreesOf beside set limits inputs journal =
+    OfThree (set inputs.set) (limits inputs.limits) journal (λ xs ys zs. Agrees beside xs ys inputs.first inputs.days zs)
+
+-- the fault is that of the set, of its flights, of the limits, of what stands beside the older journal, or of that journal; or what
+-- stands there agrees, and the fault is one of the run
+abbrev pub IsRefusedSealedRun : Beside → List ℕ → List ℕ → ℕ → ℕ → ℕ → List ℕ → List (Option (List ℕ))
+    → Option (List ℕ) → DeskFault → Type 0
+IsRefusedSealedRun beside set limits first days today after texts changing fault =
+    IsRefusedAnswer IsUnlawful beside set limits first days after fault
+    ⊎ IsBehind (Agrees beside set limits first days after)
+    (IsRefusedRun set limits first days today after texts changing fault)
+
+abbrev pub IsRefusedSealedRunOf : {S L : Type 0} → Beside → Bytes S → Bytes L → Inputs S L → ℕ → Option (List ℕ)
+    → List (Option (List ℕ)) → Option (List ℕ) → DeskFault → Type 0
+IsRefusedSealedRunOf beside set limits inputs today after texts changing fault =
+    OfThree (set inputs.set) (limits inputs.limits) after
+    (λ xs ys zs. IsRefusedSealedRun beside xs ys inputs.first inputs.days today zs texts changing fault)
+
+-- the set, the limits or the older journal is the first that is too large; or what stands beside that one agrees, and an input of the
+-- run is
+abbrev pub IsTooLargeSealedRun : Beside → List ℕ → List ℕ → ℕ → ℕ → ℕ → List ℕ → List (Option (List ℕ))
+    → Option (List ℕ) → Type 0
+IsTooLargeSealedRun beside set limits first days today after texts changing =
+    IsFirstTooLarge set limits first days after
+    ⊎ IsBehind (Agrees beside set limits first days after)
+    (IsTooLargeRun set limits first days today after texts changing)
+
+abbrev pub IsTooLargeSealedRunOf : {S L : Type 0} → Beside → Bytes S → Bytes L → Inputs S L → ℕ → Option (List ℕ)
+    → List (Option (List ℕ)) → Option (List ℕ) → Type 0
+IsTooLargeSealedRunOf beside set limits inputs today after texts changing =
+    OfThree (set inputs.set) (limits inputs.limits) after
+    (λ xs ys zs. IsTooLargeSealedRun beside xs ys inputs.first inputs.days today zs texts changing)
+
+-- the set or the limits failed, as the first says, or the older journal behind a right set and limits
+abbrev pub FailsStart : {S L : Type 0} → Bytes S → Bytes L → Inputs S L → Type 0 → Type 0 → Type 0
+FailsStart set limits inputs load_failed past_failed =
+    load_failed
+    ⊎ IsBehind (IfSome (set inputs.set) (λ xs. IfSome (limits inputs.limits) (λ ys. HasLoaded xs ys inputs.first inputs.days)))
+    past_failed
+
+-- so they did; or what stands beside the older journal agrees, and an input of the run failed
+abbrev pub FailsSealedRun : {S L : Type 0} → Beside → Bytes S → Bytes L → Inputs S L → ℕ → Option (List ℕ)
+    → List (Option (List ℕ)) → Type 0 → Type 0 → Type 0 → Type 0 → Type 0
+FailsSealedRun beside set limits inputs today after texts load_failed past_failed script_failed changes_failed =
+    FailsStart set limits inputs load_failed past_failed
+    ⊎ IsBehind (AgreesOf beside set limits inputs after)
+    (FailsRun set limits inputs today after texts load_failed past_failed script_failed changes_failed)

@@ -1,0 +1,35 @@
+-- What the seal of a run's journal says.
+use Rattle.std.specs.Prelude.{◌≡◌, ◌+◌, ◌++◌, ℕ, List, [], ◌∷◌, Option, None, Some}
+use Rattle.airline_base.specs.Days.{IsDate}
+use Rattle.seat_seal.specs.Fronts.{front_of}
+use Rattle.seat_seal.specs.Imprints.{imprint_of}
+use Rattle.seat_seal.specs.declared.beside.Basis.{Basis}
+use Rattle.seat_seal.specs.declared.scripts.Script.{Script}
+use Rattle.seat_seal.specs.declared.seal.JournalState.TheVariants.{Closed}
+use Rattle.seat_seal.specs.declared.seal.Sealed.{Sealed as Belonging}
+
+-- a session's script, where its text has a digest
+abbrev pub named : ℕ → Option (List ℕ) → List Script
+named session None = []
+named session (Some digest) = record { session = session; digest = digest } ∷ []
+
+-- the scripts of which these are the digests; the first is that of this session
+abbrev pub named_from : ℕ → List (Option (List ℕ)) → List Script
+named_from session [] = []
+named_from session (digest ∷ more) = named session digest ++ named_from (session + 1) more
+
+-- the entry of a journal of this text: of that basis, closed, with so many lines, of which the run went on from so many, on that day,
+-- by these scripts and changes
+pub record IsEntryOfRun (basis : Basis) (digests : List (Option (List ℕ))) (changes : Option (List ℕ)) (behind lines today : ℕ)
+    (text : List ℕ) (entry : Belonging) : Type 0 where
+  pub set : entry.set ≡ basis.set
+  pub limits : entry.limits ≡ basis.limits
+  pub first : IsDate entry.first.year entry.first.month entry.first.day basis.first
+  pub days : entry.days ≡ basis.days
+  pub imprint_is : entry.journal.imprint ≡ imprint_of (front_of text)
+  pub lines_are : entry.journal.lines ≡ lines
+  pub state : entry.journal.state ≡ Closed
+  pub behind_is : entry.behind ≡ behind
+  pub today_is : IsDate entry.today.year entry.today.month entry.today.day today
+  pub scripts_are : entry.scripts ≡ named_from 1 digests
+  pub changes_is : entry.changes ≡ changes
