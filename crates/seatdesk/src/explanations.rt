@@ -595,7 +595,7 @@ const SEALS: &[Explanation] = &[
         behind: "SEAL",
         code: "journal",
         numbers: NONE,
-        text: "The journal's head and entries are others than those that were sealed: a line was changed, added or taken away.",
+        text: "The journal's head and entries are others than those that were sealed: a line was changed, added or taken away.\nA run adds lines and leaves the seal as it is: seatdesk seal writes it anew.",
     },
     Explanation {
         behind: "SEAL",

@@ -11,12 +11,14 @@ use crate::heard::Heard;
 use crate::journal_file::{JournalFile, is_one_file, is_same, lines_in};
 use crate::kept_file::{Content, KEPT_BEFORE};
 use crate::refusal::{Refusal, Shown, told};
+use crate::seal_file::SealFile;
 use crate::sessions::scripts_opened;
 use crate::streams::{Input, Output, opened_or, standard_output, taken};
 use airline_base::Day;
 use seat_desk::{DeskFault, Inputs, NO_LINES};
 use seat_run::{desk_resume, desk_run};
 use seat_scripts::{Wanted, desk_audit_against, desk_replies};
+use seat_seal::Beside;
 use seat_words::{
     Horizon, WordFault, audit_lacks, behind_word, date_word, line_word, session_word,
     sessions_of_run,
@@ -320,6 +322,7 @@ fn sell<'a, T: Threads + Wait + Sync>(
     let mut resumed = again_opened(rt, asking.resume, resumed)?;
     let mut scripts = scripts;
     let mut changes = changes;
+    let older_seal = seal_of_older(rt, asking, &after)?;
     let keeps = !is_gone_on_from(&after, journal)? && !is_gone_on_from(&resumed, journal)?;
     let mut out = Heard::new(standard_output(rt));
     let outcome = booked(
@@ -330,6 +333,7 @@ fn sell<'a, T: Threads + Wait + Sync>(
         today,
         &mut inputs,
         &mut after,
+        &older_seal.as_beside(),
         &mut resumed,
         scripts.as_mut_slice(),
         &mut changes,
@@ -366,6 +370,7 @@ fn booked<'a, T: Threads + Wait + Sync>(
     today: Day,
     inputs: &mut Inputs<Input<'a>, Input<'a>>,
     after: &mut Input<'a>,
+    beside: &Beside<'_>,
     resumed: &mut Input<'a>,
     scripts: &mut [Input<'a>],
     changes: &mut Input<'a>,
@@ -386,7 +391,8 @@ fn booked<'a, T: Threads + Wait + Sync>(
         );
     }
     desk_run(
-        threads, alloc, inputs, after, scripts, changes, today, &NoGate, keeps, journal, out,
+        threads, alloc, inputs, after, beside, scripts, changes, today, &NoGate, keeps, journal,
+        out,
     )
 }
 
@@ -440,6 +446,18 @@ fn again_opened<'a>(
         return opened_or(rt, path, &NO_LINES);
     }
     Ok(journal)
+}
+
+/// What stands beside the older journal, once that is open. Nothing is looked for where the run goes on with its scripts.
+fn seal_of_older<'a>(
+    rt: &HostRuntime,
+    asking: &Asking<'a, '_>,
+    after: &Input<'a>,
+) -> Result<SealFile, Refusal<'a>> {
+    if asking.resume.is_some() {
+        return Ok(SealFile::nothing(false));
+    }
+    SealFile::beside(rt, after, false)
 }
 
 fn is_regular<'a>(input: &Input<'a>) -> Result<bool, Refusal<'a>> {

@@ -2,7 +2,8 @@ use Rattle.std.proofs.Common.{map}
 use Rattle.std.proofs.lemmas.Result.{err_from_is_err_and}
 use Rattle.seat_desk.specs.Desk.{HasFailed}
 use Rattle.seat_desk.specs.Loading.{HasFirstLoadFailed}
-use Rattle.seat_scripts.specs.Asked.{FailsRun}
+use Rattle.seat_scripts.specs.Beside.{FailsSealedRun}
+use Rattle.seat_scripts.proofs.Seals.{behind_seal}
 use Rattle.seat_scripts.specs.Requests.{HasFailedAmong}
 use Rattle.seat_scripts.proofs.Written.{run_stopped, run_unbooked, run_written}
 use Rattle.seat_run.proofs.run.desk_run.Goals as goal
@@ -24,7 +25,7 @@ returns-clause-device g c =
     c.in_ok-asked.asked.flights c.in_ok-asked.asked.past.grid c.in_ok-asked.asked.past.journal c.in_ok-asked.asked.scripts c.in_ok-asked.asked.changes.items c.in_ok-asked.ensures.ok
     c.in_ok-answer.answer.settled.journal c.in_ok-answer.answer.settled.receipts c.in_ok-answer.answer.replies.items
     (record { is_history = c.in_ok-answer.ensures.ok; are_entries = c.in_ok-answer.ensures.entries; is_replied = c.in_ok-answer.ensures.replies })
-    (FailsRun g.S.Read.remaining g.L.Read.remaining c.args.inputs.now c.args.today (g.A.Read.remaining c.args.after.now) (map g.C.Read.remaining c.args.scripts.now)
+    (FailsSealedRun c.args.beside.now g.S.Read.remaining g.L.Read.remaining c.args.inputs.now c.args.today (g.A.Read.remaining c.args.after.now) (map g.C.Read.remaining c.args.scripts.now)
     (HasFirstLoadFailed g.S.Read.remaining g.S.Failures.failure_count g.L.Failures.failure_count c.args.inputs.now c.read_asked.new.inputs) (HasFailed g.A.Failures.failure_count c.args.after.now c.read_asked.new.after)
     (HasFailedAmong c.args.today (map g.C.Read.remaining c.args.scripts.now) g.C.Failures.failure_count c.args.scripts.now c.read_asked.new.scripts)
     (HasFailed g.D.Failures.failure_count c.args.changes.now c.read_asked.new.changes))
@@ -34,7 +35,9 @@ returns-clause-device g c =
 pub returns-in_err-answer-clause-fault : goal.returns-in_err-answer-clause-fault
 returns-in_err-answer-clause-fault g c =
     let p = err_from_is_err_and c.from_residual-in_err-answer.result c.from_residual-in_err-answer.ensures.1 in
-    rw (p.1, p.2) (run_unbooked (g.S.Read.remaining c.args.inputs.now.set) (g.L.Read.remaining c.args.inputs.now.limits) (g.A.Read.remaining c.args.after.now) c.args.inputs.now.first c.args.inputs.now.days c.args.today
+    rw (p.1, p.2) (λ input. behind_seal (g.S.Read.remaining c.args.inputs.now.set) (g.L.Read.remaining c.args.inputs.now.limits) (g.A.Read.remaining c.args.after.now) c.args.inputs.now.first c.args.inputs.now.days c.args.today
+    (map g.C.Read.remaining c.args.scripts.now) (g.D.Read.remaining c.args.changes.now) c.args.beside.now c.in_err-answer.field-0.0 c.in_ok-asked.ensures.sealed
+    (run_unbooked (g.S.Read.remaining c.args.inputs.now.set) (g.L.Read.remaining c.args.inputs.now.limits) (g.A.Read.remaining c.args.after.now) c.args.inputs.now.first c.args.inputs.now.days c.args.today
     (map g.C.Read.remaining c.args.scripts.now) (g.D.Read.remaining c.args.changes.now)
     c.in_ok-asked.asked.flights c.in_ok-asked.asked.past.grid c.in_ok-asked.asked.past.journal c.in_ok-asked.asked.scripts c.in_ok-asked.asked.changes.items c.in_err-answer.field-0.0
-    c.in_ok-asked.ensures.ok c.in_err-answer.ensures.fault)
+    c.in_ok-asked.ensures.ok c.in_err-answer.ensures.fault input))
