@@ -1,5 +1,5 @@
-//! What fault lines and replies mean: the command `explain`, and what stands below a fault on a terminal.
-use crate::explanations::{Explanation, row_behind, row_of};
+//! What fault lines, replies and notes mean: the command `explain`, and what stands below a fault on a terminal.
+use crate::explanations::{Explanation, row_behind, row_of, row_of_note};
 use crate::fault::Fault;
 use crate::refusal::{Refusal, Undone};
 use crate::replies::reply_row;
@@ -12,7 +12,7 @@ use std::alloc::AllocError;
 /// What stands ahead of a fault in its line.
 const NAME: &str = "seatdesk:";
 
-/// Writes what a fault line means: its code, the code or word behind that, and what each number counts; or what a reply says.
+/// Writes what a fault line means: its code, the code or word behind that, and what each number counts; or what a reply or a note says.
 /// The line may be one word or several, as it was printed or without the program's name, and in small letters.
 pub fn explain<'a>(rt: &HostRuntime, code: &str, behind: &[&str]) -> Result<(), Undone<'a>> {
     let mut line = Vec::new(rt.alloc());
@@ -54,6 +54,11 @@ fn explained<'a>(rt: &HostRuntime, line: &[&'a str]) -> Result<Meaning<'a>, Allo
     let Some((code, behind)) = line.split_first() else {
         return Ok(Meaning::Unknown(""));
     };
+    if let Some(note) = row_of_note(code, behind) {
+        let mut text = String::new(rt.alloc());
+        put(&mut text, note)?;
+        return Ok(Meaning::Found(text));
+    }
     let Some(first) = row_of(code).or(reply_row(code)) else {
         return Ok(Meaning::Unknown(*code));
     };

@@ -1,4 +1,4 @@
-//! What each fault line means, in one table.
+//! What each fault line means, and each note, in one table.
 //! It knows the codes that the program prints, and nothing of the faults behind them.
 
 /// What one code means.
@@ -40,6 +40,20 @@ pub fn row_of(code: &str) -> Option<&'static Explanation> {
         .or(first_of(entries(), code))
         .or(first_of(seals(), code))
         .or(first_of(words(), code))
+}
+
+/// The row of a line that is no fault, which says what was kept, or is a note: by a word that the note has.
+pub fn row_of_note(code: &str, words: &[&str]) -> Option<&'static Explanation> {
+    let code = match code {
+        "note:" => "note",
+        _ => code,
+    };
+    notes().iter().find(|row| row.code.eq_ignore_ascii_case(code)
+        && (row.behind.is_empty() || has_word(words, row.behind)))
+}
+
+fn has_word(words: &[&str], wanted: &str) -> bool {
+    words.iter().any(|word| word.eq_ignore_ascii_case(wanted))
 }
 
 fn first_behind<'a>(rows: &'a [Explanation], behind: &str, code: &str) -> Option<&'a Explanation> {
@@ -95,6 +109,10 @@ fn seals() -> &'static [Explanation] {
 
 fn words() -> &'static [Explanation] {
     WORDS
+}
+
+fn notes() -> &'static [Explanation] {
+    NOTES
 }
 
 const NONE: &[&str] = &[];
@@ -671,12 +689,52 @@ const WORDS: &[Explanation] = &[
         behind: "E2",
         code: "journal",
         numbers: NONE,
-        text: "The file of --journal is one of the inputs, other than the journals of --after and --resume, or that of standard output,\nor another run has it, as it may have the journal that is to be sealed, or its name is - or ends in .seal, .unfinished or .kept-N,\nor --no-clobber keeps it: it is there and not empty. Nothing was written.",
+        text: "The file of --journal is one of the inputs, other than the journals of --after and --resume, or that of standard output,\nor another run has it, as it may have the journal that is to be sealed, or its name is - or ends in .seal, .unfinished or .kept-N,\nor --no-clobber keeps it: it is there and not empty. Nothing was written. seatdesk -v says which of these it is.",
     },
     Explanation {
         behind: "E2",
         code: "words",
         numbers: NONE,
         text: "A word of the command line is not UTF-8.",
+    },
+];
+
+// Lines that are no fault, each by a word of it; the last is that of any other note.
+const NOTES: &[Explanation] = &[
+    Explanation {
+        behind: "",
+        code: "kept",
+        numbers: NONE,
+        text: "What the file of --journal had before the run stands under this name from now on. The new journal is not behind it:\na run that is to be goes on from it by --after.",
+    },
+    Explanation {
+        behind: "found",
+        code: "note",
+        numbers: NONE,
+        text: "Each reply of the run is UN: no request has a flight in the days of --first and --days.\nThe journal is in its place all the same.",
+    },
+    Explanation {
+        behind: "nothing",
+        code: "note",
+        numbers: NONE,
+        text: "The scripts and changes of run --resume have nothing that stands not in the journal already.\nThe journal is in its place, with no line more.",
+    },
+    Explanation {
+        behind: "replies",
+        code: "note",
+        numbers: NONE,
+        text: "The journal of the run is in its place, and its replies did not all go out. The run is not to be made again:\nseatdesk replies writes them, with the options of the run and those that the note has.",
+    },
+    Explanation {
+        behind: "older",
+        code: "note",
+        numbers: NONE,
+        text: "The file JOURNAL.seal beside the new journal is of the one before. seatdesk seal writes a new one;\nuntil then the commands that read the journal refuse it.",
+    },
+    Explanation {
+        behind: "",
+        code: "note",
+        numbers: NONE,
+        text: "A note is no fault: the run was made.",
     },
 ];

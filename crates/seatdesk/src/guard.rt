@@ -3,14 +3,13 @@ use crate::journal_file::{UNFINISHED, is_same};
 use crate::kept_file::KEPT_BEFORE;
 use crate::refusal::Refusal;
 use crate::seal_file::SEAL;
-use crate::streams::{Input, STANDARD};
+use crate::streams::{Input, STANDARD, STANDARD_OUTPUT};
 use seat_desk::{DeskFault, Inputs};
-use seat_words::WordFault;
 use std::fs::Metadata;
 use std::{fs, io};
 
-/// What a program's own descriptor 1 is open on, whatever stands in /dev.
-const STANDARD_OUTPUT: &str = "/proc/self/fd/1";
+/// Why --no-clobber refuses a file.
+pub const NOT_EMPTY: &str = "Is there and not empty";
 
 /// The file that a journal is to be written to, as it is before that.
 #[derive(Drop)]
@@ -23,8 +22,11 @@ impl<'a> Guard<'a> {
     /// Looks at the file. Only a regular one is looked at: a pipe or a device may be written to at any time. A name that a journal may
     /// not have is refused.
     pub fn new(rt: &HostRuntime, path: &'a str) -> Result<Guard<'a>, Refusal<'a>> {
+        if path == STANDARD {
+            return Err(Refusal::barred(path, "Is no file"));
+        }
         if is_reserved(path) {
-            return Err(Refusal::from(WordFault::BadJournal));
+            return Err(Refusal::barred(path, "Ends as a file beside a journal"));
         }
         let there = match fs::metadata(rt, path) {
             Ok(file) => Some(file).filter(|file| file.is_file()),
@@ -35,12 +37,12 @@ impl<'a> Guard<'a> {
     }
 
     /// Refuses a file that is one of the inputs, by its name or by its device and its number there, so by a link too.
-    pub fn pass<'b>(
+    pub fn pass(
         &self,
-        inputs: &Inputs<Input<'b>, Input<'b>>,
-        scripts: &[Input<'b>],
-        more: &[&Input<'b>],
-    ) -> Result<(), Refusal<'b>> {
+        inputs: &Inputs<Input<'a>, Input<'a>>,
+        scripts: &[Input<'a>],
+        more: &[&Input<'a>],
+    ) -> Result<(), Refusal<'a>> {
         self.pass_one(&inputs.set)?;
         self.pass_one(&inputs.limits)?;
         for script in scripts {
@@ -54,33 +56,33 @@ impl<'a> Guard<'a> {
 
     /// Refuses the file that standard output goes to, since the replies would be written over the journal. Where that can't be
     /// looked at, it may be this file.
-    pub fn pass_output<'b>(&self, rt: &HostRuntime) -> Result<(), Refusal<'b>> {
+    pub fn pass_output(&self, rt: &HostRuntime) -> Result<(), Refusal<'a>> {
         let Some(there) = &self.there else {
             return Ok(());
         };
         match fs::metadata(rt, STANDARD_OUTPUT) {
             Ok(file) if !is_same(&file, there) => Ok(()),
-            _ => Err(Refusal::from(WordFault::BadJournal)),
+            _ => Err(Refusal::barred(self.path, "Is where standard output goes")),
         }
     }
 
     /// Refuses a file that is there and not empty.
-    pub fn keep<'b>(&self) -> Result<(), Refusal<'b>> {
+    pub fn keep(&self) -> Result<(), Refusal<'a>> {
         match &self.there {
-            Some(file) if file.len() > 0 => Err(Refusal::from(WordFault::BadJournal)),
+            Some(file) if file.len() > 0 => Err(Refusal::barred(self.path, NOT_EMPTY)),
             _ => Ok(()),
         }
     }
 
-    fn pass_one<'b>(&self, input: &Input<'b>) -> Result<(), Refusal<'b>> {
+    fn pass_one(&self, input: &Input<'a>) -> Result<(), Refusal<'a>> {
         let is_named = !self.path.is_empty() && input.name() == self.path;
         if is_named || self.is_same(input)? {
-            return Err(Refusal::from(WordFault::BadJournal));
+            return Err(Refusal::barred(self.path, "Is an input"));
         }
         Ok(())
     }
 
-    fn is_same<'b>(&self, input: &Input<'b>) -> Result<bool, Refusal<'b>> {
+    fn is_same(&self, input: &Input<'a>) -> Result<bool, Refusal<'a>> {
         let Some(there) = &self.there else {
             return Ok(false);
         };
@@ -121,10 +123,9 @@ fn add_file<'b>(files: &mut Vec<Metadata>, file: Option<Metadata>) -> Result<(),
     }
 }
 
-/// Whether a name may not be that of a journal: it is that of standard output, or ends as the name of a file does that stands beside
-/// a journal.
+/// Whether a name may not be that of a journal: it ends as the name of a file does that stands beside a journal.
 fn is_reserved(path: &str) -> bool {
-    path == STANDARD || path.ends_with(SEAL) || path.ends_with(UNFINISHED) || is_kept(path)
+    path.ends_with(SEAL) || path.ends_with(UNFINISHED) || is_kept(path)
 }
 
 fn is_kept(path: &str) -> bool {

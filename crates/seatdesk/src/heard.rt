@@ -68,8 +68,14 @@ impl<'a> Heard<'a> {
         &self.out
     }
 
-    /// Says on standard error where there are replies and none of them found a flight. It is no fault.
-    pub fn tell(&self, rt: &HostRuntime) {
+    /// Says on standard error where there are replies and none of them found a flight, and where a run that goes on with its scripts
+    /// has none. It is no fault.
+    pub fn tell(&self, rt: &HostRuntime, is_resumed: bool) {
+        if is_resumed && !self.ear.has_reply {
+            let _ = eprintln!(rt;
+                "seatdesk: note: nothing was booked: the journal of --resume has all that is asked"
+            );
+        }
         if self.ear.has_reply && !self.ear.has_flight {
             let _ = eprintln!(rt;
                 "seatdesk: note: no request found a flight: look at --first, --days and --today"

@@ -160,16 +160,18 @@ fn carry_out<'a, T: Threads + Wait + Sync>(
 }
 
 /// The status of a command that was refused: its fault is one line on standard error, with one more where the words ask for it, or where
-/// a run's journal is in its place and its replies are not out, and with what it means where standard error is a terminal. Where the reader of standard output has gone away nothing is said.
+/// a run's journal is in its place and its replies are not out, and with what it means where standard error is a terminal; there it
+/// is said too why a file may not be the journal's. Where the reader of standard output has gone away nothing is said.
 fn refused(rt: &HostRuntime, is_verbose: bool, refusal: &Refusal<'_>) -> ExitCode {
     let fault = refusal.fault;
     if !refusal.is_unheard() {
         let _ = eprintln!(rt; "seatdesk: {fault}");
-        if is_verbose {
+        let is_shown = rt.stderr().is_terminal();
+        if is_verbose || is_shown && refusal.is_barred() {
             refusal.tell_more(rt);
         }
         refusal.tell_put(rt);
-        if rt.stderr().is_terminal() {
+        if is_shown {
             explain::tell(rt, &fault);
         }
     }

@@ -1,6 +1,6 @@
 //! What a command is refused with, and the file that it is refused for.
 use crate::fault::Fault;
-use crate::journal_file::JournalFile;
+use crate::journal_file::{JournalFile, is_link};
 use crate::seal_out::SealOut;
 use crate::streams::{Input, Output};
 use airline_base::Failures;
@@ -8,17 +8,24 @@ use seat_desk::DeskFault;
 use seat_words::WordFault;
 use std::alloc::AllocError;
 use std::fmt::Write;
-use std::{fmt, io};
+use std::{fmt, fs, io};
 
 /// The system's number for a pipe whose reader has gone away (EPIPE).
 const READER_GONE: i32 = 32;
+
+/// The system's number for a descriptor that is not open (EBADF).
+const NOT_OPEN: i32 = 9;
 
 /// A fault, with the name of its file where that is known, and the system's number for a failure.
 #[derive(Clone, Copy)]
 pub struct Refusal<'a> {
     pub fault: Fault,
     file: Option<&'a str>,
+    /// What the name of the very file ends with behind that, where it is one that stands beside it.
+    ending: &'static str,
     reason: Option<i32>,
+    /// Why the file may not be the journal's.
+    why: Option<&'static str>,
     /// The file begins with a byte order mark.
     has_mark: bool,
     /// Whoever read standard output has gone away, and is told nothing.
@@ -53,7 +60,9 @@ impl<'a> Refusal<'a> {
         Refusal {
             fault,
             file: None,
+            ending: "",
             reason: None,
+            why: None,
             has_mark: false,
             is_unheard: false,
             put: None,
@@ -68,6 +77,26 @@ impl<'a> Refusal<'a> {
         Refusal::from(DeskFault::Device).at(path, error.raw_os_error())
     }
 
+    /// A file that may not be the journal's, and why.
+    pub fn barred(file: &'a str, why: &'static str) -> Refusal<'a> {
+        let mut refusal = Refusal::from(WordFault::BadJournal);
+        refusal.file = Some(file);
+        refusal.why = Some(why);
+        refusal
+    }
+
+    /// Whether it is known why a file may not be the journal's.
+    pub fn is_barred(&self) -> bool {
+        self.why.is_some()
+    }
+
+    /// The same of the file beside it whose name ends so.
+    pub fn beside(self, ending: &'static str) -> Refusal<'a> {
+        let mut refusal = self;
+        refusal.ending = ending;
+        refusal
+    }
+
     /// The fault of an input that failed while it was read.
     pub fn unread(input: &Input<'a>) -> Refusal<'a> {
         Refusal::from(DeskFault::Device).at(input.name(), input.reason())
@@ -76,6 +105,11 @@ impl<'a> Refusal<'a> {
     /// Whether the fault is one of what stands beside a journal.
     pub fn is_of_seal(&self) -> bool {
         matches!(self.fault, Fault::Desk(DeskFault::Seal(_)))
+    }
+
+    /// The fault of standard output where it is closed from the start.
+    pub fn of_closed_output() -> Refusal<'a> {
+        Refusal::from(DeskFault::Device).at("standard output", Some(NOT_OPEN))
     }
 
     /// The fault of standard output where help or the version is written to it.
@@ -143,10 +177,10 @@ impl<'a> Refusal<'a> {
     /// The same for the file of a journal.
     pub fn noting_journal(self, journal: &JournalFile<'a>) -> Refusal<'a> {
         match self.fault {
-            Fault::Desk(DeskFault::Device) if journal.failures() > 0 => self.at(
-                journal.name(),
-                journal.reason(),
-            ),
+            Fault::Desk(DeskFault::Device) if journal.failures() > 0 => {
+                let refusal = self.at(journal.name(), journal.reason());
+                refusal.beside(journal.ending())
+            }
             _ => self,
         }
     }
@@ -177,7 +211,8 @@ impl<'a> Refusal<'a> {
     pub fn noting_seal(self, seal: &SealOut<'a>) -> Refusal<'a> {
         match self.fault {
             Fault::Desk(DeskFault::Device) if seal.failures() > 0 => {
-                self.at(seal.name(), seal.reason())
+                let refusal = self.at(seal.name(), seal.reason());
+                refusal.beside(seal.ending())
             }
             _ => self,
         }
@@ -204,6 +239,7 @@ impl<'a> Refusal<'a> {
     fn at(self, file: &'a str, reason: Option<i32>) -> Refusal<'a> {
         let mut refusal = self;
         refusal.file = Some(file);
+        refusal.ending = "";
         refusal.reason = reason;
         refusal
     }
@@ -215,10 +251,26 @@ impl<'a> Refusal<'a> {
 
     /// Says what is known of the file, in a line on standard error, and in one more where it begins with a byte order mark.
     pub fn tell_more(&self, rt: &HostRuntime) {
-        let Some(file) = self.file else {
+        let Some(name) = self.file else {
             return;
         };
-        let file = Shown { name: file };
+        if !self.ending.is_empty() && is_link(rt, name) {
+            // (what stands beside a file stands where a link leads)
+            if let Ok(path) = fs::canonicalize(rt, name) {
+                let path = path.into_string();
+                return self.tell_reason(
+                    rt,
+                    &Shown {
+                        name: path.as_str(),
+                    },
+                );
+            }
+        }
+        let file = Shown { name };
+        if let Some(why) = self.why {
+            let _ = eprintln!(rt; "seatdesk: {file}: {why}");
+            return;
+        }
         match self.fault {
             Fault::Desk(DeskFault::TooLarge) => {
                 let _ = eprintln!(rt; "seatdesk: {file}: Too large");
@@ -229,13 +281,14 @@ impl<'a> Refusal<'a> {
     }
 
     fn tell_reason(&self, rt: &HostRuntime, file: &Shown<'_>) {
+        let ending = self.ending;
         match self.reason {
             Some(code) => {
                 let error = io::Error::from_raw_os_error(code);
-                let _ = eprintln!(rt; "seatdesk: {file}: {error}");
+                let _ = eprintln!(rt; "seatdesk: {file}{ending}: {error}");
             }
             None => {
-                let _ = eprintln!(rt; "seatdesk: {file}: Failed");
+                let _ = eprintln!(rt; "seatdesk: {file}{ending}: Failed");
             }
         }
     }

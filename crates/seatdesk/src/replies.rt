@@ -57,7 +57,13 @@ const REPLIES: &[Explanation] = &[
         behind: "",
         code: "HL",
         numbers: NONE,
-        text: "Have listed: there is waiting room for the seats of LL. A KL follows where they fit at once.",
+        text: "Have listed: there is waiting room for the seats of LL. A KL follows where they fit at once.\nIn the answer of bookings: the seats of the booking wait.",
+    },
+    Explanation {
+        behind: "",
+        code: "HK",
+        numbers: NONE,
+        text: "Holds confirmed: the seats of the booking are held, in the answer of bookings. It is no reply.",
     },
     Explanation {
         behind: "",

@@ -90,12 +90,12 @@ fn text_beside<'a>(rt: &HostRuntime, name: &'a str) -> Result<Option<Vec<u8>>, R
     let mut input = match fs::open(rt, path.as_str()) {
         Ok(file) => Input::of_file(file, name),
         Err(error) if error.kind() == io::ErrorKind::NotFound => return Ok(None),
-        Err(error) => return Err(Refusal::unopened(name, &error)),
+        Err(error) => return Err(Refusal::unopened(name, &error).beside(SEAL)),
     };
     match read_all(rt.alloc(), &mut input, MOST_SEAL_BYTES) {
         Ok(text) => Ok(Some(text)),
         Err(ReadFault::TooLarge) => Ok(Some(Vec::new(rt.alloc()))),
-        Err(ReadFault::Device) => Err(Refusal::unread(&input)),
+        Err(ReadFault::Device) => Err(Refusal::unread(&input).beside(SEAL)),
         Err(ReadFault::Memory) => Err(Refusal::from(DeskFault::Memory)),
     }
 }

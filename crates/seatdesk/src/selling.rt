@@ -6,7 +6,7 @@ ghost use Rattle.ssim_flights.specs.Right.{IsOfCentury};
 
 use crate::commands;
 use crate::commands::{days_of, inputs_of};
-use crate::guard::{Guard, files_taken};
+use crate::guard::{Guard, NOT_EMPTY, files_taken};
 use crate::heard::Heard;
 use crate::journal_file::{JournalFile, is_one_file, is_same, lines_in};
 use crate::kept_file::{Content, KEPT_BEFORE};
@@ -308,7 +308,7 @@ fn sell<'a, T: Threads + Wait + Sync>(
     requires scripts { (1 ≤ length texts.scripts.items) × (length texts.scripts.items ≤ 8) }
 {
     if asking.no_clobber && !journal.is_empty()? {
-        return Err(Refusal::from(WordFault::BadJournal));
+        return Err(Refusal::barred(asking.journal, NOT_EMPTY));
     }
     let Texts {
         inputs,
@@ -348,7 +348,7 @@ fn sell<'a, T: Threads + Wait + Sync>(
     );
     match behind(ahead, scripts.as_slice(), &[&changes], &[]) {
         Ok(()) => {
-            out.tell(rt);
+            out.tell(rt, asking.resume.is_some());
             Ok(())
         }
         Err(refusal) => {
