@@ -111,12 +111,8 @@ impl Lots {
     pub fn group(&mut self, alloc: Global) -> Result<Vec<Asked>, Why> {
         let mut group = Vec::new(alloc);
         for _ in 0..self.below(6) {
-            let Some(request) = self.request() else {
-                return Err("a request");
-            };
-            if group.push(request).is_err() {
-                return Err(MEMORY);
-            }
+            let request = self.request();
+            add(&mut group, request)?;
         }
         Ok(group)
     }
@@ -151,5 +147,15 @@ impl Lots {
                 self.below(256) as u8
             },
         }
+    }
+}
+
+fn add(group: &mut Vec<Asked>, request: Option<Asked>) -> Result<(), Why> {
+    let Some(request) = request else {
+        return Err("a request");
+    };
+    match group.push(request) {
+        Ok(()) => Ok(()),
+        Err(_) => Err(MEMORY),
     }
 }

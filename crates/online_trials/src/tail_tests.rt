@@ -34,12 +34,12 @@ fn names_what_stands_behind(rt: HostRuntime) -> Result<(), Fail> {
             (5, 184, "J2", 7),
         ),
     ];
-    let mut row = 1;
+    let mut row: u32 = 1;
     for (cap, behind, want) in rows {
         let file = file_of(rt.alloc(), 153, behind)?;
         let is_right = found(rt.alloc(), cap, file.as_slice())? == want;
         assert!(rt; is_right, "row {row}");
-        row += 1;
+        row = row.saturating_add(1);
     }
     Ok(())
 }
