@@ -111,8 +111,13 @@ impl Lots {
     pub fn group(&mut self, alloc: Global) -> Result<Vec<Asked>, Why> {
         let mut group = Vec::new(alloc);
         for _ in 0..self.below(6) {
-            let request = self.request();
-            add(&mut group, request)?;
+            let Some(Asked { session, work }) = self.request() else {
+                return Err("a request");
+            };
+            let request = Asked { session, work };
+            if group.push(request).is_err() {
+                return Err(MEMORY);
+            }
         }
         Ok(group)
     }
@@ -147,15 +152,5 @@ impl Lots {
                 self.below(256) as u8
             },
         }
-    }
-}
-
-fn add(group: &mut Vec<Asked>, request: Option<Asked>) -> Result<(), Why> {
-    let Some(request) = request else {
-        return Err("a request");
-    };
-    match group.push(request) {
-        Ok(()) => Ok(()),
-        Err(_) => Err(MEMORY),
     }
 }
