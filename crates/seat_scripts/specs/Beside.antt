@@ -1,5 +1,5 @@
--- What stands beside the journals that a run goes on from, and that an audit with scripts reads: each is compared ahead of its journal's own faults.
-use Rattle.std.specs.Prelude.{◌≡◌, ◌<◌, ◌≤◌, ◌⊎◌, ℕ, List, length, Option, None, IfSome}
+-- What stands beside the journal that a run goes on from: it is compared ahead of that journal's own faults.
+use Rattle.std.specs.Prelude.{◌≤◌, ◌⊎◌, ℕ, List, length, Option, None, IfSome}
 use Rattle.seat_nesting.specs.Nesting.{Ladders}
 use Rattle.seat_seal.specs.Besides.{IsFaultBeside}
 use Rattle.seat_seal.specs.declared.beside.Basis.{Basis}
@@ -7,12 +7,10 @@ use Rattle.seat_seal.specs.declared.beside.Beside.{Beside}
 use Rattle.seat_desk.specs.Answering.{IsFirstTooLarge, IsRefusedAnswer}
 use Rattle.seat_desk.specs.AuditDesk.{IsUnlawful, most_journal_bytes}
 use Rattle.seat_desk.specs.Loading.{Bytes, IsBehind}
-use Rattle.seat_desk.specs.Sealing.{Agrees, IsBesideFault, basis_of}
+use Rattle.seat_desk.specs.Sealing.{Agrees, IsBesideFault}
 use Rattle.seat_desk.specs.declared.fault.DeskFault.{DeskFault}
 use Rattle.seat_desk.specs.declared.inputs.Inputs.{Inputs}
-use Rattle.seat_scripts.specs.Against.{HasOlder, IsRefusedAgainst, IsTooLargeAgainst, FailsAgainst, OfFour}
 use Rattle.seat_scripts.specs.Asked.{FailsRun, HasLoaded, IsTooLargeRun, OfThree}
-use Rattle.seat_scripts.specs.Resumed.{FailsResume, IsRefusedResume, IsTooLargeResume}
 use Rattle.seat_scripts.specs.RunDesk.{IsRefusedRun}
 
 -- ---- one journal, on a basis that is known
