@@ -6,6 +6,7 @@
 mod replies;
 mod resume;
 mod run;
+mod sealing;
 
 pub use resume::desk_resume;
 pub use run::desk_run;

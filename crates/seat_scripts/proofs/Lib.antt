@@ -13,7 +13,6 @@ mod Changing
 pub mod Reading
 pub mod Written
 pub mod Seals
-mod Replacing
 mod Lengths
 mod Audits
 mod Unasked

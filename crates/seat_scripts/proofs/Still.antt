@@ -1,16 +1,15 @@
 -- What is known of the inputs of a run that goes on with the scripts of a journal, and what it writes or refuses of them.
-use Rattle.std.proofs.Common.{◌≡◌, ◌≢◌, ◌<◌, inl, inr, ℕ, List, Option, Some, None, IfSome, length, map, refl, sym, subst}
+use Rattle.std.proofs.Common.{◌≡◌, ◌≢◌, ◌+◌, ◌<◌, inl, inr, ℕ, List, Option, Some, None, IfSome, length, map, sym, ap, ◌∙◌, subst}
 use Rattle.ssim_flights.specs.declared.flight.Flight.{Flight as Flown}
-use Rattle.seat_journal.specs.Text.{journal_text}
+use Rattle.seat_journal.proofs.TextLaws.{one_text}
 use Rattle.seat_rules.specs.Inventory.{Inventory}
 use Rattle.seat_desk.specs.Desk.{IsOfInput}
 use Rattle.seat_desk.specs.declared.fault.DeskFault.TheVariants.{Book, Change as BadChange, Flight, Journal, Limit, NoBehind, NoLeg, Replay, Script, Set}
 use Rattle.seat_scripts.proofs.Beside.{if_four}
 use Rattle.seat_scripts.proofs.Common.{Change, DeskFault, Entry, Ladders, Memory, Request, Unasked, commands_of, lists_over}
-use Rattle.seat_scripts.proofs.Written.{IsBooked}
 use Rattle.seat_scripts.specs.Against.{AreRead, IsOfReading, IsRefusedAgainst, IsTooLargeAgainst, OfFour}
 use Rattle.seat_scripts.specs.Changes.{AreChanges, IsOfChanges, IsUnchanged, most_change_bytes}
-use Rattle.seat_scripts.specs.Resumed.{AreReady, HasReady, IsAskedStill, IsRefusedResume, IsResumed, IsTooLargeResume}
+use Rattle.seat_scripts.specs.Resumed.{AreReady, HasReady, IsAskedStill, IsAhead, IsRefusedResume, IsTooLargeResume}
 use Rattle.seat_scripts.specs.Resuming.{IsNoRest, IsRestOf}
 use Rattle.seat_scripts.specs.RunDesk.{IsUnbooked}
 
@@ -140,6 +139,17 @@ module _ (set limits after journal : Option (List ℕ)) (first days today more :
     pub has_ready : OfFour set limits after journal (λ xs ys old zs. HasReady xs ys first days today old zs texts)
     has_ready = if_four IsReady (λ xs ys old zs. HasReady xs ys first days today old zs texts) set limits after journal a_ready all_ready
 
+    pub behind_still : (said behind : ℕ) → said ≡ more → behind ≡ length older.journal + said
+        → OfFour set limits after journal (λ xs ys old zs. IsAhead more old behind)
+    behind_still said behind is_more count =
+        if_four (λ xs ys old zs. AreRead xs ys first days old zs today texts flights older core scripts) (λ xs ys old zs. IsAhead more old behind) set limits after journal
+        (λ xs ys old zs r. record {
+          each = λ lines text. count
+              ∙ ap (λ (n : ℕ). length older.journal + n) is_more
+              ∙ ap (λ (l : List Entry). length l + more) (one_text old older.journal lines r.is_older.is_replay.is_text text);
+        })
+        read
+
     pub unchanged_still : (fault : DeskFault) → (IsOfInput fault → IsOfChanges fault)
         → (IsOfInput fault → IfSome changing (IsUnchanged flights fault)) → IsOfInput fault → IsRefused fault
     unchanged_still fault of refused input =
@@ -179,29 +189,6 @@ module _ (set limits after journal : Option (List ℕ)) (first days today more :
 
   module _ (flights : List Flown) (grid : Ladders) (lines : List Entry) (left : List (List Request)) (rest : List Change)
       (asked : OfFour set limits after journal (λ xs ys old zs. IsAskedStill xs ys first days today old more zs texts changing flights grid lines left rest)) where
-    -- the texts of the run
-    pub is_resumed : (history : List Entry) (receipts : List (List Entry)) (replies : List ℕ)
-        → IsBooked flights grid lines left rest history receipts replies
-        → OfFour set limits after journal
-        (λ xs ys old zs. IsResumed xs ys first days today old more zs texts changing (journal_text history) replies)
-    is_resumed history receipts replies booked =
-        if_four (λ xs ys old zs. IsAskedStill xs ys first days today old more zs texts changing flights grid lines left rest) (λ xs ys old zs. IsResumed xs ys first days today old more zs texts changing (journal_text history) replies) set limits after journal
-        (λ xs ys old zs is. record {
-          flights = flights;
-          grid = grid;
-          lines = lines;
-          left = left;
-          rest = rest;
-          is_asked = is;
-          history = history;
-          receipts = receipts;
-          is_history = booked.is_history;
-          are_entries = booked.are_entries;
-          written_is = refl;
-          is_replied = booked.is_replied;
-        })
-        asked
-
     -- a call that was not booked
     pub unbooked_still : (fault : DeskFault)
         → (fault ≢ Memory → IsUnbooked grid lines rest (lists_over lines (map (commands_of flights) left)) fault)

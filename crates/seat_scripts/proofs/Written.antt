@@ -1,87 +1,19 @@
 -- What a run writes is the text of its history.
-use Rattle.std.proofs.Common.{◌≡◌, ◌≢◌, ◌⊎◌, ℕ, List, Option, Some, None, IfSome, IfErr, OnOk, Result, Ok, Err, ⊎_elim, inl, inr, map, refl, sym, ap, ◌∙◌, subst}
-use Rattle.seat_scripts.proofs.Common.{AllByRecursion, Request, Change, Entry, Ladders, IsLoaded, OfThree, lists_over, AreScripts, IsRefusedAmong, commands_of, IsHistoryOf, DeskFault, Memory}
+use Rattle.std.proofs.Common.{◌≡◌, ◌≢◌, ℕ, List, Option, Some, None, IfSome, map, subst}
+use Rattle.seat_scripts.proofs.Common.{Request, Change, Entry, Ladders, IsLoaded, OfThree, lists_over, AreScripts, IsRefusedAmong, commands_of, DeskFault, Memory}
 use Rattle.ssim_flights.specs.declared.flight.Flight.{Flight as Flown}
-use Rattle.seat_journal.specs.Text.{IsEntry, journal_text}
 use Rattle.seat_desk.specs.AuditDesk.{IsUnlawful}
 use Rattle.seat_desk.specs.Loading.{IsRefusedLoad}
 use Rattle.seat_scripts.specs.Asked.{IsAsked}
 use Rattle.seat_scripts.specs.Changes.{IsOfChanges, IsUnchanged}
 use Rattle.seat_scripts.specs.Going.{IsPast}
 use Rattle.seat_scripts.specs.Requests.{IsOfScript}
-use Rattle.seat_scripts.specs.RunDesk.{AreTexts, AreWritten, InputFailed, IsRefusedRun, IsReplied, IsRun, IsUnbooked, JournalFailed, RepliesFailed}
-use Rattle.seat_desk.specs.declared.fault.DeskFault.TheVariants.{Book, Change as BadChange, Device, Flight, Journal, Limit, NoLeg, Replay, Script, Set}
+use Rattle.seat_scripts.specs.RunDesk.{IsRefusedRun, IsUnbooked}
+use Rattle.seat_desk.specs.declared.fault.DeskFault.TheVariants.{Book, Change as BadChange, Flight, Journal, Limit, NoLeg, Replay, Script, Set}
 use Rattle.seat_desk.specs.Desk.{IsOfInput}
 use Rattle.seat_scripts.proofs.Inputs.{if_known, if_loaded}
 
--- ---- the texts of a history that answers
-
-module _ (answers : List ℕ → List ℕ → Type 0) (history : List Entry) (replies : List ℕ) (right : answers (journal_text history) replies) where
-  -- what is written of it answers
-  of_texts : (slice : List Entry) (text one two : List ℕ) → slice ≡ history → text ≡ replies
-      → AreTexts (journal_text slice) text one two → answers one two
-  of_texts slice text one two same said are =
-      subst (λ (l : List ℕ). answers l two) (sym (are.first_is ∙ ap journal_text same))
-      (subst (λ (l : List ℕ). answers (journal_text history) l) (sym (are.second_is ∙ said)) right)
-
-  -- whole, where both were written
-  pub texts_written : (named_old named_new : Option (List ℕ)) (leaves : List ℕ → Type 0) (out_old out_new : Option (List ℕ))
-      (slice : List Entry) (text : List ℕ) (r : Result (Unit {0}) DeskFault)
-      → slice ≡ history → text ≡ replies
-      → OnOk r (AreWritten (AreTexts (journal_text slice) text) named_old named_new leaves out_old out_new)
-      → OnOk r (AreWritten answers named_old named_new leaves out_old out_new)
-  texts_written named_old named_new leaves out_old out_new slice text (Ok done) same said both = record {
-    journal = both.journal;
-    replies = both.replies;
-    right = of_texts slice text both.journal both.replies same said both.right;
-    first = both.first;
-    kept = both.kept;
-    second = both.second;
-  }
-  texts_written named_old named_new leaves out_old out_new slice text (Err fault) same said both = tt
-
-  -- or as far as a device that failed let it
-  pub texts_stopped : {J W : Type 0}
-      → (input : Type 0) (journal_failures : J → ℕ) (named : J → Option (List ℕ)) (leaves : J → List ℕ → Type 0)
-      (journal_old journal_new : J)
-      (out_failures : W → ℕ) (contents : W → Option (List ℕ)) (out_old out_new : W) (slice : List Entry) (text : List ℕ) (r : Result (Unit {0}) DeskFault)
-      → slice ≡ history → text ≡ replies
-      → IfErr r (λ f. f ≡ Device → JournalFailed journal_failures named leaves journal_old journal_new out_old out_new
-      (AreTexts (journal_text slice) text)
-      ⊎ RepliesFailed named leaves journal_old journal_new out_failures contents out_old out_new (AreTexts (journal_text slice) text))
-      → IfErr r (λ f. f ≡ Device → InputFailed input journal_old journal_new out_old out_new
-      ⊎ (JournalFailed journal_failures named leaves journal_old journal_new out_old out_new answers
-      ⊎ RepliesFailed named leaves journal_old journal_new out_failures contents out_old out_new answers))
-  texts_stopped input journal_failures named leaves journal_old journal_new out_failures contents out_old out_new slice text (Ok done) same said stopped = tt
-  texts_stopped input journal_failures named leaves journal_old journal_new out_failures contents out_old out_new slice text (Err fault) same said stopped = λ device.
-      inr (⊎_elim
-      (λ (one : JournalFailed journal_failures named leaves journal_old journal_new out_old out_new (AreTexts (journal_text slice) text)). inl (record {
-        counted = one.counted;
-        journal = one.journal;
-        replies = one.replies;
-        right = of_texts slice text one.journal one.replies same said one.right;
-        either = one.either;
-        crash = one.crash;
-        no_reply = one.no_reply;
-      }))
-      (λ (two : RepliesFailed named leaves journal_old journal_new out_failures contents out_old out_new (AreTexts (journal_text slice) text)). inr (record {
-        counted = two.counted;
-        journal = two.journal;
-        replies = two.replies;
-        right = of_texts slice text two.journal two.replies same said two.right;
-        whole = two.whole;
-        kept = two.kept;
-        begun = two.begun;
-      }))
-      (stopped device))
-
 -- ---- the texts of a run
-
--- the texts of a run, where the bytes of the set, of the limits and of the older journal are known
-abbrev pub IsRunIn : Option (List ℕ) → Option (List ℕ) → ℕ → ℕ → ℕ → Option (List ℕ) → List (Option (List ℕ))
-    → Option (List ℕ) → List ℕ → List ℕ → Type 0
-IsRunIn set limits first days today after texts changing journal replies =
-    OfThree set limits after (λ xs ys zs. IsRun xs ys first days today zs texts changing journal replies)
 
 -- what is said of three texts, where they are known, is said of what follows from it
 if_three : (P Q : List ℕ → List ℕ → List ℕ → Type 0) (set limits after : Option (List ℕ))
@@ -90,58 +22,6 @@ if_three P Q (Some xs) (Some ys) (Some zs) give all = give xs ys zs all
 if_three P Q (Some xs) (Some ys) None give all = tt
 if_three P Q (Some xs) None after give all = tt
 if_three P Q None limits after give all = tt
-
--- the history of what is asked behind the past, its receipts, and its replies
-pub record IsBooked (flights : List Flown) (grid : Ladders) (past : List Entry) (scripts : List (List Request)) (changes : List Change) (history : List Entry) (receipts : List (List Entry)) (replies : List ℕ) : Type 0 where
-  pub is_history : IsHistoryOf grid past changes (lists_over past (map (commands_of flights) scripts)) history receipts
-  pub are_entries : AllByRecursion IsEntry history
-  pub is_replied : IsReplied flights past scripts history receipts replies
-
-module _ (set limits after : Option (List ℕ)) (first days today : ℕ) (texts : List (Option (List ℕ))) (changing : Option (List ℕ)) (flights : List Flown) (grid : Ladders) (past : List Entry) (scripts : List (List Request)) (changes : List Change)
-    (asked : OfThree set limits after (λ xs ys zs. IsAsked xs ys first days today zs texts changing flights grid past scripts changes))
-    (history : List Entry) (receipts : List (List Entry)) (replies : List ℕ) (booked : IsBooked flights grid past scripts changes history receipts replies) where
-  is_run : (xs ys zs : List ℕ) → IsAsked xs ys first days today zs texts changing flights grid past scripts changes
-      → IsRun xs ys first days today zs texts changing (journal_text history) replies
-  is_run xs ys zs is = record {
-    flights = flights;
-    grid = grid;
-    past = past;
-    scripts = scripts;
-    changes = changes;
-    is_asked = is;
-    history = history;
-    receipts = receipts;
-    is_history = booked.is_history;
-    are_entries = booked.are_entries;
-    journal_is = refl;
-    is_replied = booked.is_replied;
-  }
-
-  is_run_of : IsRunIn set limits first days today after texts changing (journal_text history) replies
-  is_run_of =
-      if_three (λ xs ys zs. IsAsked xs ys first days today zs texts changing flights grid past scripts changes) (λ xs ys zs. IsRun xs ys first days today zs texts changing (journal_text history) replies)
-      set limits after is_run asked
-
-  pub run_written : (named_old named_new : Option (List ℕ)) (leaves : List ℕ → Type 0) (out_old out_new : Option (List ℕ))
-      (slice : List Entry) (text : List ℕ) (r : Result (Unit {0}) DeskFault)
-      → slice ≡ history → text ≡ replies
-      → OnOk r (AreWritten (AreTexts (journal_text slice) text) named_old named_new leaves out_old out_new)
-      → OnOk r (AreWritten (IsRunIn set limits first days today after texts changing) named_old named_new leaves out_old
-      out_new)
-  run_written = texts_written (IsRunIn set limits first days today after texts changing) history replies is_run_of
-
-  pub run_stopped : {J W : Type 0}
-      → (input : Type 0) (journal_failures : J → ℕ) (named : J → Option (List ℕ)) (leaves : J → List ℕ → Type 0)
-      (journal_old journal_new : J)
-      (out_failures : W → ℕ) (contents : W → Option (List ℕ)) (out_old out_new : W) (slice : List Entry) (text : List ℕ) (r : Result (Unit {0}) DeskFault)
-      → slice ≡ history → text ≡ replies
-      → IfErr r (λ f. f ≡ Device → JournalFailed journal_failures named leaves journal_old journal_new out_old out_new
-      (AreTexts (journal_text slice) text)
-      ⊎ RepliesFailed named leaves journal_old journal_new out_failures contents out_old out_new (AreTexts (journal_text slice) text))
-      → IfErr r (λ f. f ≡ Device → InputFailed input journal_old journal_new out_old out_new
-      ⊎ (JournalFailed journal_failures named leaves journal_old journal_new out_old out_new (IsRunIn set limits first days today after texts changing)
-      ⊎ RepliesFailed named leaves journal_old journal_new out_failures contents out_old out_new (IsRunIn set limits first days today after texts changing)))
-  run_stopped = texts_stopped (IsRunIn set limits first days today after texts changing) history replies is_run_of
 
 module _ (first days today : ℕ) (after : List ℕ) (texts : List (Option (List ℕ))) (changing : Option (List ℕ)) (flights : List Flown) (grid : Ladders) where
   of_past : (set limits : List ℕ) (fault : DeskFault) → IsLoaded set limits first days flights grid

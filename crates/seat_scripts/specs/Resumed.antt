@@ -1,10 +1,10 @@
 -- What `run` writes that goes on with the scripts of a journal: that journal, and behind it what is left of the scripts and the changes.
-use Rattle.std.specs.Prelude.{◌≡◌, ◌<◌, ◌⊎◌, ℕ, List, [], length, map, Option, Some, IfSome}
+use Rattle.std.specs.Prelude.{◌≡◌, ◌<◌, ◌+◌, ◌⊎◌, ℕ, List, [], length, map, Option, Some, IfSome}
 use Rattle.std.specs.List.{AllByRecursion}
 use Rattle.airimp_lines.specs.declared.requests.Request.{Request}
 use Rattle.ssim_flights.specs.declared.flight.Flight.{Flight as Flown}
 use Rattle.seat_nesting.specs.Nesting.{Ladders}
-use Rattle.seat_journal.specs.Text.{IsEntry, journal_text}
+use Rattle.seat_journal.specs.Text.{IsEntry, IsJournalText, journal_text}
 use Rattle.seat_journal.specs.declared.entry.Change.{Change}
 use Rattle.seat_journal.specs.declared.entry.Entry.{Entry}
 use Rattle.seat_rules.specs.Totals.{totals_of}
@@ -57,6 +57,16 @@ IsAskedStillOf set limits inputs today after more journal texts changing flights
     OfFour (set inputs.set) (limits inputs.limits) after journal
     (λ xs ys older zs. IsAskedStill xs ys inputs.first inputs.days today older more zs texts changing flights grid lines left rest)
 
+-- the lines of the older journal, and so many more
+pub record IsAhead (more : ℕ) (after : List ℕ) (behind : ℕ) : Type 0 where
+  pub each : (lines : List Entry) → IsJournalText after lines → behind ≡ length lines + more
+
+-- where the bytes of the set, of the limits and of both journals are known
+abbrev pub IsAheadOf : {S L : Type 0} → Bytes S → Bytes L → Inputs S L → Option (List ℕ) → ℕ → Option (List ℕ) → ℕ
+    → Type 0
+IsAheadOf set limits inputs after more journal behind =
+    OfFour (set inputs.set) (limits inputs.limits) after journal (λ xs ys older zs. IsAhead more older behind)
+
 -- ---- the whole
 
 -- the texts of one history that goes on from the whole journal with what is left of the scripts and the changes: its replies are those to the new lines alone
@@ -74,12 +84,6 @@ pub record IsResumed (set limits : List ℕ) (first days today : ℕ) (after : L
   pub are_entries : AllByRecursion IsEntry history
   pub written_is : written ≡ journal_text history
   pub is_replied : IsReplied flights lines left history receipts replies
-
-abbrev pub IsResumedOf : {S L : Type 0} → Bytes S → Bytes L → Inputs S L → ℕ → Option (List ℕ) → ℕ → Option (List ℕ)
-    → List (Option (List ℕ)) → Option (List ℕ) → List ℕ → List ℕ → Type 0
-IsResumedOf set limits inputs today after more journal texts changing written replies =
-    OfFour (set inputs.set) (limits inputs.limits) after journal
-    (λ xs ys older zs. IsResumed xs ys inputs.first inputs.days today older more zs texts changing written replies)
 
 -- ---- refusals
 

@@ -1,10 +1,8 @@
 -- What `run` writes: an older journal and behind it what the scripts ask, and the replies to each script.
-use Rattle.std.specs.Prelude.{◌≡◌, ◌≤◌, ◌<◌, ◌+◌, ◌-◌, ◌⊎◌, nat_le, ℕ, List, [], ◌∷◌, ◌++◌, length, map, take, decimal, codes, Option, Some, None, IfSome, if◌then◌else◌, slice_get, unwrap_or}
-use Rattle.std.specs.Io.KnownBytes.{Appends}
+use Rattle.std.specs.Prelude.{◌≡◌, ◌≤◌, ◌<◌, ◌+◌, ◌-◌, ℕ, List, [], ◌∷◌, ◌++◌, length, map, take, decimal, codes, Option, Some, None, IfSome, slice_get, unwrap_or}
 use Rattle.std.specs.List.{AllByRecursion, AllZip}
 use Rattle.std.specs.Option.{option_map}
 use Rattle.ssim_flights.specs.declared.flight.Flight.{Flight as Flown}
-use Rattle.airline_base.specs.Noting.{TookFront}
 use Rattle.seat_nesting.specs.Nesting.{Ladders}
 use Rattle.airimp_lines.specs.Grammar.{IsPlainLine, reply_of}
 use Rattle.airimp_lines.specs.declared.requests.Request.{Request}
@@ -23,8 +21,6 @@ use Rattle.seat_rules.specs.Headline.{Headline}
 use Rattle.seat_rules.specs.Histories.{by_session}
 pub use Rattle.seat_rules.specs.Histories.{works_in, works_of}
 use Rattle.seat_desk.specs.AuditDesk.{IsRefusedOver, most_lines}
-use Rattle.seat_disk.specs.Leaving.{OldOr, Only, replaced_by}
-use Rattle.seat_desk.specs.Desk.{HasFailed}
 use Rattle.seat_desk.specs.FlightsDesk.{IsText}
 use Rattle.seat_desk.specs.Loading.{Bytes, IsLoaded, IsRefusedLoad}
 use Rattle.seat_desk.specs.declared.inputs.Inputs.{Inputs}
@@ -34,7 +30,7 @@ use Rattle.seat_scripts.specs.Going.{IsPast, behind, lists_over, past_of, segmen
 use Rattle.seat_scripts.specs.Requests.{AreScripts, IsRefusedAmong, commands_of}
 use Rattle.seat_scripts.specs.declared.replies.Answered.{Answered}
 use Rattle.seat_desk.specs.declared.fault.DeskFault.{DeskFault}
-use Rattle.seat_desk.specs.declared.fault.DeskFault.TheVariants.{Change as BadChange, NoLeg, Script, Book, Journal, Memory, Replay}
+use Rattle.seat_desk.specs.declared.fault.DeskFault.TheVariants.{Change as BadChange, NoLeg, Script, Book, Journal, Replay}
 
 -- a history that goes on from the past: the headline holds of it and of the receipts that the sessions were given, it begins with the past, and behind that the lines of session 0 are the changes, in order, those of session 1 the first list, and so on
 pub record IsHistoryOf (grid : Ladders) (past : List Entry) (changes : List Change) (lists : List (List Command))
@@ -169,64 +165,6 @@ pub record IsRun (set limits : List ℕ) (first days today : ℕ) (after : List 
   pub are_entries : AllByRecursion IsEntry history
   pub journal_is : journal ≡ journal_text history
   pub is_replied : IsReplied flights past scripts history receipts replies
-
--- where the bytes of the set, of the limits and of the older journal are known
-abbrev pub IsRunOf : {S L : Type 0} → Bytes S → Bytes L → Inputs S L → ℕ → Option (List ℕ) → List (Option (List ℕ))
-    → Option (List ℕ) → List ℕ → List ℕ → Type 0
-IsRunOf set limits inputs today after texts changing journal replies =
-    OfThree (set inputs.set) (limits inputs.limits) after
-    (λ xs ys zs. IsRun xs ys inputs.first inputs.days today zs texts changing journal replies)
-
--- both texts are written, whole: the journal has its name, and a crash leaves nothing else
-pub record AreWritten (answers : List ℕ → List ℕ → Type 0) (named_old named_new : Option (List ℕ))
-    (leaves : List ℕ → Type 0) (out_old out_new : Option (List ℕ)) : Type 0 where
-  pub journal : List ℕ
-  pub replies : List ℕ
-  pub right : answers journal replies
-  pub first : named_new ≡ replaced_by named_old journal
-  pub kept : Only journal leaves
-  pub second : Appends out_old out_new replies
-
--- exactly these two texts
-pub record AreTexts (journal replies first second : List ℕ) : Type 0 where
-  pub first_is : first ≡ journal
-  pub second_is : second ≡ replies
-
--- ---- devices that fail
-
--- an input failed, and nothing was written, neither journal nor reply
-pub record InputFailed {J W : Type 0} (failed : Type 0) (journal_old journal_new : J) (out_old out_new : W) : Type 0
-  where
-    pub counted : failed
-    pub no_line : journal_new ≡ journal_old
-    pub no_reply : out_new ≡ out_old
-
--- the journal failed: its name has what it had, or the journal of two texts that answer, whole; so does what a crash leaves, and no
--- reply was written
-pub record JournalFailed {J W : Type 0} (failures : J → ℕ) (named : J → Option (List ℕ)) (leaves : J → List ℕ → Type 0)
-    (journal_old journal_new : J) (out_old out_new : W)
-    (answers : List ℕ → List ℕ → Type 0) : Type 0 where
-  pub counted : HasFailed failures journal_old journal_new
-  pub journal : List ℕ
-  pub replies : List ℕ
-  pub right : answers journal replies
-  pub either : (named journal_new ≡ named journal_old) ⊎ (named journal_new ≡ replaced_by (named journal_old) journal)
-  pub crash : OldOr journal (leaves journal_old) (leaves journal_new)
-  pub no_reply : out_new ≡ out_old
-
--- the output of the replies failed: the journal of two texts that answer has its name, a crash leaves nothing else, and the replies
--- are begun
-pub record RepliesFailed {J W : Type 0} (named : J → Option (List ℕ)) (leaves : J → List ℕ → Type 0)
-    (journal_old journal_new : J) (failures : W → ℕ)
-    (contents : W → Option (List ℕ)) (out_old out_new : W)
-    (answers : List ℕ → List ℕ → Type 0) : Type 0 where
-  pub counted : HasFailed failures out_old out_new
-  pub journal : List ℕ
-  pub replies : List ℕ
-  pub right : answers journal replies
-  pub whole : named journal_new ≡ replaced_by (named journal_old) journal
-  pub kept : Only journal (leaves journal_new)
-  pub begun : TookFront (contents out_old) (contents out_new) replies
 
 -- ---- refusals
 

@@ -36,6 +36,8 @@ pub struct Asked {
     pub basis: Basis,
     pub digests: TextDigests,
     pub changes_digest: Option<Digest>,
+    /// How many lines stand ahead of the scripts.
+    pub behind: u32,
 }
 
 /// Reads a data set, limit rows, an older journal, one to eight scripts and changes of limits. What stands beside the older journal
@@ -66,6 +68,7 @@ pub fn read_asked<S: NotedRead, L: NotedRead, A: NotedRead, C: NotedRead, D: Not
     ensures legs { IfOk result (λ a. AllByRecursion (IsOnLeg a.flights) a.changes.items) }
     ensures digests { IfOk result (λ a. AreDigests (map C.remaining scripts.old) a.digests) }
     ensures changed { IfOk result (λ a. IsDigestOf (D.remaining changes.old) a.changes_digest) }
+    ensures behind { IfOk result (λ a. a.behind ≡ length a.past.journal) }
     ensures fault { IfErr result (λ f. IsOfInput f →
         IsRefusedSealedRunOf beside.now S.remaining L.remaining inputs.old today (A.remaining after.old) (map C.remaining scripts.old) (D.remaining changes.old) f) }
     ensures large { IfErr result (λ f. f ≡ DeskFault.TooLarge →
@@ -91,6 +94,7 @@ pub fn read_asked<S: NotedRead, L: NotedRead, A: NotedRead, C: NotedRead, D: Not
         Ok(changes) => changes,
         Err(fault) => return Err(fault),
     };
+    let behind = past.journal().len() as u32;
     Ok(Asked {
         flights,
         past,
@@ -99,5 +103,6 @@ pub fn read_asked<S: NotedRead, L: NotedRead, A: NotedRead, C: NotedRead, D: Not
         basis,
         digests,
         changes_digest: digest,
+        behind,
     })
 }

@@ -21,7 +21,6 @@ mod resuming;
 mod scripts;
 mod sealed_run;
 mod very_request;
-mod writing;
 
 pub use against::desk_audit_against;
 pub use asked::{Asked, read_asked};
@@ -42,4 +41,3 @@ pub use resumed::read_resumed;
 pub use resuming::what_is_left;
 pub use scripts::Scripts;
 pub use sealed_run::{RunBasis, entry_of_run};
-pub use writing::write_both;

@@ -1,41 +1,61 @@
-use Rattle.std.proofs.Common.{List, Option, map, ℕ}
+use Rattle.std.proofs.Common.{map, ◌∙◌}
 use Rattle.std.proofs.lemmas.Result.{err_from_is_err_and}
 use Rattle.seat_desk.specs.Desk.{HasFailed}
 use Rattle.seat_desk.specs.Loading.{HasFirstLoadFailed}
 use Rattle.seat_scripts.specs.Requests.{HasFailedAmong}
-use Rattle.seat_scripts.specs.Resumed.{FailsResume, IsResumedOf}
-use Rattle.seat_scripts.proofs.Still.{is_resumed, unbooked_still}
-use Rattle.seat_scripts.proofs.Written.{texts_stopped, texts_written}
+use Rattle.seat_scripts.specs.Resumed.{FailsResume}
+use Rattle.seat_scripts.proofs.Still.{unbooked_still}
+use Rattle.seat_run.specs.SealedDesk.{AreTexts, IsSealedResumeOf}
+use Rattle.seat_run.proofs.SealedTexts.{all_sealed, all_stopped, all_unsealable, same_texts, sealed_resume}
 use Rattle.seat_run.proofs.resume.desk_resume.Goals as goal
 
 pub returns-clause-ok : goal.returns-clause-ok
 returns-clause-ok g c =
-    texts_written (IsResumedOf g.S.Read.remaining g.L.Read.remaining c.args.inputs.now c.args.today (g.A.Read.remaining c.args.after.now) c.args.more (g.R.Read.remaining c.args.resumed.now) (map g.C.Read.remaining c.args.scripts.now) (g.D.Read.remaining c.args.changes.now))
-    c.in_ok-answer.answer.settled.journal c.in_ok-answer.answer.replies.items
-    (is_resumed (g.S.Read.remaining c.args.inputs.now.set) (g.L.Read.remaining c.args.inputs.now.limits) (g.A.Read.remaining c.args.after.now) (g.R.Read.remaining c.args.resumed.now) c.args.inputs.now.first c.args.inputs.now.days c.args.today c.args.more
-    (map g.C.Read.remaining c.args.scripts.now) (g.D.Read.remaining c.args.changes.now)
-    c.in_ok-asked.asked.flights c.in_ok-asked.asked.past.grid c.in_ok-asked.asked.past.journal c.in_ok-asked.asked.scripts c.in_ok-asked.asked.changes.items c.in_ok-asked.ensures.ok
+    all_sealed (AreTexts c.in_ok-answer.answer.basis c.as_slice.result.now c.in_ok-answer.answer.changes c.in_ok-answer.answer.behind c.args.today c.as_slice-2.result.now c.deref.result.now)
+    (IsSealedResumeOf g.S.Read.remaining g.L.Read.remaining c.args.inputs.now c.args.today (g.A.Read.remaining c.args.after.now) c.args.more (g.R.Read.remaining c.args.resumed.now) (map g.C.Read.remaining c.args.scripts.now) (g.D.Read.remaining c.args.changes.now))
+    (λ journal entry said t. sealed_resume (g.S.Read.remaining c.args.inputs.now.set) (g.L.Read.remaining c.args.inputs.now.limits) (g.A.Read.remaining c.args.after.now) c.args.inputs.now.first c.args.inputs.now.days c.args.today
+    (map g.C.Read.remaining c.args.scripts.now) (g.D.Read.remaining c.args.changes.now) c.in_ok-asked.asked.flights c.in_ok-asked.asked.past.grid c.in_ok-asked.asked.past.journal c.in_ok-asked.asked.scripts c.in_ok-asked.asked.changes.items
     c.in_ok-answer.answer.settled.journal c.in_ok-answer.answer.settled.receipts c.in_ok-answer.answer.replies.items
-    (record { is_history = c.in_ok-answer.ensures.ok; are_entries = c.in_ok-answer.ensures.entries; is_replied = c.in_ok-answer.ensures.replies }))
-    (g.J.Replaced.named c.args.journal.now) (g.J.Replaced.named c.write_both.new.journal) (g.J.Replaced.may_leave c.write_both.new.journal) (g.W.Write.contents c.args.out.now) (g.W.Write.contents c.write_both.new.out)
-    c.as_slice.result.now c.deref.result.now c.write_both.result c.as_slice.ensures c.deref.ensures.value c.write_both.ensures.ok
+    (record { is_history = c.in_ok-answer.ensures.ok; are_entries = c.in_ok-answer.ensures.entries; is_replied = c.in_ok-answer.ensures.replies })
+    c.in_ok-asked.asked.basis c.in_ok-asked.ensures.basis c.in_ok-asked.asked.digests c.in_ok-asked.ensures.digests c.in_ok-asked.asked.changes_digest c.in_ok-asked.ensures.changed c.in_ok-asked.asked.behind (g.R.Read.remaining c.args.resumed.now) c.args.more c.in_ok-asked.ensures.ok c.in_ok-asked.ensures.behind journal entry said (same_texts c.in_ok-answer.answer.basis c.in_ok-asked.asked.basis c.as_slice.result.now c.in_ok-asked.asked.digests c.in_ok-answer.answer.changes c.in_ok-asked.asked.changes_digest c.in_ok-answer.answer.behind c.in_ok-asked.asked.behind c.args.today
+    c.as_slice-2.result.now c.in_ok-answer.answer.settled.journal c.deref.result.now c.in_ok-answer.answer.replies.items
+    c.in_ok-answer.ensures.basis (c.as_slice.ensures ∙ c.in_ok-answer.ensures.digests) c.in_ok-answer.ensures.changes c.in_ok-answer.ensures.behind c.as_slice-2.ensures c.deref.ensures.value journal entry said t))
+    (g.J.Replaced.named c.args.journal.now) (g.J.Replaced.named c.put_sealed.new.journal) (g.K.Replaced.named c.args.seal.now) (g.K.Replaced.named c.put_sealed.new.seal)
+    (g.J.Replaced.may_leave c.put_sealed.new.journal) (g.K.Replaced.may_leave c.put_sealed.new.seal) (g.W.Write.contents c.args.out.now) (g.W.Write.contents c.put_sealed.new.out)
+    c.put_sealed.result c.put_sealed.ensures.ok
+
+pub returns-clause-large : goal.returns-clause-large
+returns-clause-large g c =
+    all_unsealable (AreTexts c.in_ok-answer.answer.basis c.as_slice.result.now c.in_ok-answer.answer.changes c.in_ok-answer.answer.behind c.args.today c.as_slice-2.result.now c.deref.result.now)
+    (IsSealedResumeOf g.S.Read.remaining g.L.Read.remaining c.args.inputs.now c.args.today (g.A.Read.remaining c.args.after.now) c.args.more (g.R.Read.remaining c.args.resumed.now) (map g.C.Read.remaining c.args.scripts.now) (g.D.Read.remaining c.args.changes.now))
+    (λ journal entry said t. sealed_resume (g.S.Read.remaining c.args.inputs.now.set) (g.L.Read.remaining c.args.inputs.now.limits) (g.A.Read.remaining c.args.after.now) c.args.inputs.now.first c.args.inputs.now.days c.args.today
+    (map g.C.Read.remaining c.args.scripts.now) (g.D.Read.remaining c.args.changes.now) c.in_ok-asked.asked.flights c.in_ok-asked.asked.past.grid c.in_ok-asked.asked.past.journal c.in_ok-asked.asked.scripts c.in_ok-asked.asked.changes.items
+    c.in_ok-answer.answer.settled.journal c.in_ok-answer.answer.settled.receipts c.in_ok-answer.answer.replies.items
+    (record { is_history = c.in_ok-answer.ensures.ok; are_entries = c.in_ok-answer.ensures.entries; is_replied = c.in_ok-answer.ensures.replies })
+    c.in_ok-asked.asked.basis c.in_ok-asked.ensures.basis c.in_ok-asked.asked.digests c.in_ok-asked.ensures.digests c.in_ok-asked.asked.changes_digest c.in_ok-asked.ensures.changed c.in_ok-asked.asked.behind (g.R.Read.remaining c.args.resumed.now) c.args.more c.in_ok-asked.ensures.ok c.in_ok-asked.ensures.behind journal entry said (same_texts c.in_ok-answer.answer.basis c.in_ok-asked.asked.basis c.as_slice.result.now c.in_ok-asked.asked.digests c.in_ok-answer.answer.changes c.in_ok-asked.asked.changes_digest c.in_ok-answer.answer.behind c.in_ok-asked.asked.behind c.args.today
+    c.as_slice-2.result.now c.in_ok-answer.answer.settled.journal c.deref.result.now c.in_ok-answer.answer.replies.items
+    c.in_ok-answer.ensures.basis (c.as_slice.ensures ∙ c.in_ok-answer.ensures.digests) c.in_ok-answer.ensures.changes c.in_ok-answer.ensures.behind c.as_slice-2.ensures c.deref.ensures.value journal entry said t))
+    _ c.put_sealed.result c.put_sealed.ensures.large
 
 pub returns-clause-device : goal.returns-clause-device
 returns-clause-device g c =
-    texts_stopped (IsResumedOf g.S.Read.remaining g.L.Read.remaining c.args.inputs.now c.args.today (g.A.Read.remaining c.args.after.now) c.args.more (g.R.Read.remaining c.args.resumed.now) (map g.C.Read.remaining c.args.scripts.now) (g.D.Read.remaining c.args.changes.now))
-    c.in_ok-answer.answer.settled.journal c.in_ok-answer.answer.replies.items
-    (is_resumed (g.S.Read.remaining c.args.inputs.now.set) (g.L.Read.remaining c.args.inputs.now.limits) (g.A.Read.remaining c.args.after.now) (g.R.Read.remaining c.args.resumed.now) c.args.inputs.now.first c.args.inputs.now.days c.args.today c.args.more
-    (map g.C.Read.remaining c.args.scripts.now) (g.D.Read.remaining c.args.changes.now)
-    c.in_ok-asked.asked.flights c.in_ok-asked.asked.past.grid c.in_ok-asked.asked.past.journal c.in_ok-asked.asked.scripts c.in_ok-asked.asked.changes.items c.in_ok-asked.ensures.ok
+    all_stopped (AreTexts c.in_ok-answer.answer.basis c.as_slice.result.now c.in_ok-answer.answer.changes c.in_ok-answer.answer.behind c.args.today c.as_slice-2.result.now c.deref.result.now)
+    (IsSealedResumeOf g.S.Read.remaining g.L.Read.remaining c.args.inputs.now c.args.today (g.A.Read.remaining c.args.after.now) c.args.more (g.R.Read.remaining c.args.resumed.now) (map g.C.Read.remaining c.args.scripts.now) (g.D.Read.remaining c.args.changes.now))
+    (λ journal entry said t. sealed_resume (g.S.Read.remaining c.args.inputs.now.set) (g.L.Read.remaining c.args.inputs.now.limits) (g.A.Read.remaining c.args.after.now) c.args.inputs.now.first c.args.inputs.now.days c.args.today
+    (map g.C.Read.remaining c.args.scripts.now) (g.D.Read.remaining c.args.changes.now) c.in_ok-asked.asked.flights c.in_ok-asked.asked.past.grid c.in_ok-asked.asked.past.journal c.in_ok-asked.asked.scripts c.in_ok-asked.asked.changes.items
     c.in_ok-answer.answer.settled.journal c.in_ok-answer.answer.settled.receipts c.in_ok-answer.answer.replies.items
-    (record { is_history = c.in_ok-answer.ensures.ok; are_entries = c.in_ok-answer.ensures.entries; is_replied = c.in_ok-answer.ensures.replies }))
+    (record { is_history = c.in_ok-answer.ensures.ok; are_entries = c.in_ok-answer.ensures.entries; is_replied = c.in_ok-answer.ensures.replies })
+    c.in_ok-asked.asked.basis c.in_ok-asked.ensures.basis c.in_ok-asked.asked.digests c.in_ok-asked.ensures.digests c.in_ok-asked.asked.changes_digest c.in_ok-asked.ensures.changed c.in_ok-asked.asked.behind (g.R.Read.remaining c.args.resumed.now) c.args.more c.in_ok-asked.ensures.ok c.in_ok-asked.ensures.behind journal entry said (same_texts c.in_ok-answer.answer.basis c.in_ok-asked.asked.basis c.as_slice.result.now c.in_ok-asked.asked.digests c.in_ok-answer.answer.changes c.in_ok-asked.asked.changes_digest c.in_ok-answer.answer.behind c.in_ok-asked.asked.behind c.args.today
+    c.as_slice-2.result.now c.in_ok-answer.answer.settled.journal c.deref.result.now c.in_ok-answer.answer.replies.items
+    c.in_ok-answer.ensures.basis (c.as_slice.ensures ∙ c.in_ok-answer.ensures.digests) c.in_ok-answer.ensures.changes c.in_ok-answer.ensures.behind c.as_slice-2.ensures c.deref.ensures.value journal entry said t))
     (FailsResume g.S.Read.remaining g.L.Read.remaining c.args.inputs.now c.args.today (g.A.Read.remaining c.args.after.now) (g.R.Read.remaining c.args.resumed.now) (map g.C.Read.remaining c.args.scripts.now)
     (HasFirstLoadFailed g.S.Read.remaining g.S.Failures.failure_count g.L.Failures.failure_count c.args.inputs.now c.read_resumed.new.inputs) (HasFailed g.A.Failures.failure_count c.args.after.now c.read_resumed.new.after)
     (HasFailed g.R.Failures.failure_count c.args.resumed.now c.read_resumed.new.journal)
     (HasFailedAmong c.args.today (map g.C.Read.remaining c.args.scripts.now) g.C.Failures.failure_count c.args.scripts.now c.read_resumed.new.scripts)
     (HasFailed g.D.Failures.failure_count c.args.changes.now c.read_resumed.new.changes))
-    g.J.Failures.failure_count g.J.Replaced.named g.J.Replaced.may_leave c.args.journal.now c.write_both.new.journal g.W.Failures.failure_count g.W.Write.contents c.args.out.now c.write_both.new.out
-    c.as_slice.result.now c.deref.result.now c.write_both.result c.as_slice.ensures c.deref.ensures.value c.write_both.ensures.stopped
+    g.J.Failures.failure_count g.J.Replaced.named g.J.Replaced.may_leave g.K.Failures.failure_count g.K.Replaced.named g.K.Replaced.may_leave g.W.Failures.failure_count g.W.Write.contents c.args.older
+    c.args.journal.now c.put_sealed.new.journal c.args.seal.now c.put_sealed.new.seal c.args.out.now c.put_sealed.new.out
+    c.put_sealed.result c.put_sealed.ensures.stopped
 
 pub returns-in_err-answer-clause-fault : goal.returns-in_err-answer-clause-fault
 returns-in_err-answer-clause-fault g c =

@@ -1,6 +1,6 @@
 use Rattle.std.proofs.Common.{inr, map}
 use Rattle.std.proofs.lemmas.Result.{err_from_is_err_and}
-use Rattle.seat_scripts.proofs.Still.{asked_still, has_ready, large_still, no_rest_still, unchanged_still}
+use Rattle.seat_scripts.proofs.Still.{asked_still, behind_still, has_ready, large_still, no_rest_still, unchanged_still}
 use Rattle.seat_scripts.proofs.resumed.read_resumed.Goals as goal
 
 pub returns-in-Err-clause-fault : goal.returns-in-Err-clause-fault
@@ -41,3 +41,10 @@ returns-clause-ok g c =
     c.in_ok-flights.field-0.flights c.in_ok-flights.field-0.older c.in_ok-flights.field-0.core c.in_ok-flights.field-0.scripts c.in_ok-flights.ensures.ok
     c.in-Ok.changes.changes.items c.in-Ok.ensures.ok c.as_slice.result.now c.deref.result.now c.in_ok-flights.field-0.more c.in_ok-rest.rest.scripts c.in_ok-rest.rest.changes.items
     c.as_slice.ensures c.deref.ensures.value c.in_ok-flights.ensures.more c.in_ok-rest.ensures.ok
+
+pub returns-clause-behind : goal.returns-clause-behind
+returns-clause-behind g c =
+    behind_still (g.S.Read.remaining c.args.inputs.now.set) (g.L.Read.remaining c.args.inputs.now.limits) (g.A.Read.remaining c.args.after.now) (g.J.Read.remaining c.args.journal.now)
+    c.args.inputs.now.first c.args.inputs.now.days c.args.today c.args.more (map g.C.Read.remaining c.args.scripts.now) (g.D.Read.remaining c.args.changes.now)
+    c.in_ok-flights.field-0.flights c.in_ok-flights.field-0.older c.in_ok-flights.field-0.core c.in_ok-flights.field-0.scripts c.in_ok-flights.ensures.ok
+    c.in_ok-flights.field-0.more c.in_ok-rest.rest.behind c.in_ok-flights.ensures.more c.in_ok-rest.ensures.behind
