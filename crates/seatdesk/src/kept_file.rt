@@ -2,6 +2,7 @@
 ghost use Rattle.std.specs.Prelude.{◌≡◌, ◌+◌, ◌≤◌, IfOk, length};
 
 use crate::journal_file::UNFINISHED;
+use crate::seal_file::SEAL;
 use std::fs::File;
 use std::io::Read;
 use std::{fs, io};
@@ -31,31 +32,81 @@ pub enum Content {
     Other { bytes: u64 },
 }
 
-/// Keeps what the file at the path has, which is open here too, under the first name `PATH.kept-N` that is free. One that is empty is
-/// not kept. Where a file that was kept before has the same bytes, it is that one.
-pub fn keep_beside(rt: &HostRuntime, path: &str, file: &File) -> io::Result<Option<Kept>> {
+/// The number of the first names `PATH.kept-N` and `PATH.kept-N.seal` for what the file at the path has and for what stands beside it
+/// at the other: each is free, or has the same bytes already. No seal may stand beside a journal kept under a free name without it.
+pub fn kept_number(rt: &HostRuntime, path: &str, seal: &str) -> io::Result<u32> {
+    let has_seal = fs::exists(rt, seal)?;
+    for number in 1..u32::MAX {
+        let kept = kept_path(rt, path, number, "")?;
+        let kept_seal = kept_path(rt, path, number, SEAL)?;
+        let is_kept = fs::exists(rt, kept.as_str())?;
+        if is_kept && !has_same_bytes(rt, path, kept.as_str())? {
+            continue;
+        }
+        if !fs::exists(rt, kept_seal.as_str())? {
+            return Ok(number);
+        }
+        let fits = if has_seal {
+            has_same_bytes(rt, seal, kept_seal.as_str())?
+        } else {
+            is_kept
+        };
+        if fits {
+            return Ok(number);
+        }
+    }
+    Err(io::Error::other("no name is free"))
+}
+
+/// The name under which a file is kept, or its seal, which has an ending more.
+fn kept_path(rt: &HostRuntime, path: &str, number: u32, ending: &str) -> io::Result<String> {
+    Ok(format!(in rt.alloc(); "{path}{KEPT_BEFORE}{number}{ending}")?)
+}
+
+/// Keeps what the file at the path has, which is open here too, under the name of this number. One that is empty is not kept.
+pub fn keep_beside(
+    rt: &HostRuntime,
+    path: &str,
+    file: &File,
+    number: u32,
+) -> io::Result<Option<Kept>> {
     if file.metadata()?.len() == 0 {
         return Ok(None);
     }
     file.sync_all()?;
-    for number in 1..u32::MAX {
-        let kept = format!(in rt.alloc(); "{path}{KEPT_BEFORE}{number}")?;
-        if fs::exists(rt, kept.as_str())? {
-            if has_same_bytes(rt, path, kept.as_str())? {
-                fs::open(rt, kept.as_str())?.sync_all()?;
-                return kept_as(rt, kept, number);
-            }
-            continue;
-        }
-        match fs::hard_link(rt, path, kept.as_str()) {
-            Ok(()) => {}
-            Err(error) if error.kind() == io::ErrorKind::AlreadyExists => continue,
-            // (a file system without links)
-            Err(_) => copy_to(rt, path, kept.as_str())?,
-        }
-        return kept_as(rt, kept, number);
+    let kept = kept_path(rt, path, number, "")?;
+    keep_as(rt, path, kept.as_str())?;
+    kept_as(rt, kept, number)
+}
+
+/// Keeps the seal of the file at the path, where there is one, under the name of this number.
+pub fn keep_seal(
+    rt: &HostRuntime,
+    path: &str,
+    seal: &str,
+    number: u32,
+) -> io::Result<Option<Kept>> {
+    if !fs::exists(rt, seal)? {
+        return Ok(None);
     }
-    Err(io::Error::other("no name is free"))
+    fs::open(rt, seal)?.sync_all()?;
+    let kept = kept_path(rt, path, number, SEAL)?;
+    keep_as(rt, seal, kept.as_str())?;
+    kept_as(rt, kept, number)
+}
+
+/// A link of this name, or a copy where the file system knows no links. What is there already has the same bytes.
+fn keep_as(rt: &HostRuntime, path: &str, kept: &str) -> io::Result<()> {
+    if fs::exists(rt, kept)? {
+        if has_same_bytes(rt, path, kept)? {
+            return fs::open(rt, kept)?.sync_all();
+        }
+        return Err(io::Error::from(io::ErrorKind::AlreadyExists));
+    }
+    match fs::hard_link(rt, path, kept) {
+        Err(error) if error.kind() != io::ErrorKind::AlreadyExists => copy_to(rt, path, kept),
+        answer => answer,
+    }
 }
 
 fn kept_as(rt: &HostRuntime, path: String, number: u32) -> io::Result<Option<Kept>> {

@@ -70,24 +70,25 @@ pub fn seal_path<'a>(rt: &HostRuntime, name: &'a str) -> Result<Option<String>, 
     }
 }
 
-/// Whether a file stands where the seal of this one would.
-pub fn has_seal(rt: &HostRuntime, path: &str) -> bool {
-    match format!(in rt.alloc(); "{path}{SEAL}") {
-        Ok(seal) => fs::exists(rt, seal.as_str()).unwrap_or(false),
-        Err(_) => false,
+fn text_beside<'a>(rt: &HostRuntime, name: &'a str) -> Result<Option<Vec<u8>>, Refusal<'a>> {
+    match seal_path(rt, name)? {
+        Some(path) => text_at(rt, path.as_str(), name),
+        None => Ok(None),
     }
 }
 
-fn text_beside<'a>(rt: &HostRuntime, name: &'a str) -> Result<Option<Vec<u8>>, Refusal<'a>> {
-    let Some(path) = seal_path(rt, name)? else {
-        return Ok(None);
-    };
-    // (what is no regular file, as a pipe is none, is no seal)
-    match fs::metadata(rt, path.as_str()) {
+/// The bytes of the seal at this path, of the journal of this name, if there is one. What is no regular file, as a pipe is none, and
+/// what is longer than any seal, has none of a seal's.
+pub fn text_at<'a>(
+    rt: &HostRuntime,
+    path: &str,
+    name: &'a str,
+) -> Result<Option<Vec<u8>>, Refusal<'a>> {
+    match fs::metadata(rt, path) {
         Ok(there) if !there.is_file() => return Ok(Some(Vec::new(rt.alloc()))),
         _ => {}
     }
-    let mut input = match fs::open(rt, path.as_str()) {
+    let mut input = match fs::open(rt, path) {
         Ok(file) => Input::of_file(file, name),
         Err(error) if error.kind() == io::ErrorKind::NotFound => return Ok(None),
         Err(error) => return Err(Refusal::unopened(name, &error).beside(SEAL)),

@@ -1,24 +1,27 @@
 //! The commands that sell, or look at what was sold: `run`, and `audit` and `replies` with the scripts of a run.
 //! It knows which stream is which, and nothing of what the commands do with them.
-ghost use Rattle.std.specs.Prelude.{◌≤◌, IfOk, length};
+ghost use Rattle.std.specs.Prelude.{◌≤◌, IfOk, IsTrue, length};
 ghost use Rattle.airline_base.specs.Days.{IsCenturyDay};
+ghost use Rattle.seat_seal.specs.Rules.{is_entry};
 ghost use Rattle.ssim_flights.specs.Right.{IsOfCentury};
 
 use crate::commands;
 use crate::commands::{days_of, inputs_of};
 use crate::guard::{Guard, NOT_EMPTY, files_taken};
 use crate::heard::Heard;
-use crate::journal_file::{JournalFile, is_one_file, is_same, lines_in};
-use crate::kept_file::{Content, KEPT_BEFORE};
+use crate::journal_file::{JournalFile, TOO_LONG, is_one_file, is_same, lines_in, of};
+use crate::kept_file::{Content, KEPT_BEFORE, Kept, kept_number};
 use crate::refusal::{Refusal, Shown, told};
-use crate::seal_file::SealFile;
+use crate::seal_file::{SEAL, SealFile};
+use crate::seal_out::SealOut;
 use crate::sessions::scripts_opened;
 use crate::streams::{Input, Output, opened_or, standard_output, taken};
 use airline_base::Day;
 use seat_desk::{DeskFault, Inputs, NO_LINES};
 use seat_run::{desk_resume, desk_run};
 use seat_scripts::{Wanted, desk_audit_against, desk_replies};
-use seat_seal::Beside;
+use seat_seal::{Beside, SealEntry, front_of, imprint_of, is_entry, read_seal};
+use seat_sealing::older_entry;
 use seat_words::{
     Horizon, WordFault, audit_lacks, behind_word, date_word, line_word, session_word,
     sessions_of_run,
@@ -240,12 +243,19 @@ pub fn run<'a, T: Threads + Wait + Sync>(
     if is_one_journal(&texts)? {
         return Err(Refusal::from(WordFault::BadBehind));
     }
-    let mut journal = locked_out(rt, asking, &texts)?;
-    let outcome = sell(rt, threads, asking, more, today, texts, &mut journal);
-    journal.leave();
-    tell_kept(rt, &journal);
-    tell_seal(rt, &journal);
+    let mut place = locked_out(rt, asking, &texts)?;
+    let outcome = sell(rt, threads, asking, more, today, texts, &mut place);
+    place.seal.leave();
+    place.journal.leave();
+    tell_kept(rt, &place);
     outcome
+}
+
+/// Where a run puts its journal, and the seal of it.
+#[derive(Drop)]
+struct Place<'a> {
+    journal: JournalFile<'a>,
+    seal: SealOut<'a>,
 }
 
 /// What a run reads.
@@ -269,12 +279,13 @@ fn is_one_journal<'a>(texts: &Texts<'a>) -> Result<bool, Refusal<'a>> {
     }
 }
 
-/// OUT under its lock. It is none of the inputs but a journal that the run goes on from, nor the file of the replies.
+/// OUT under its lock, and its seal. OUT is none of the inputs but a journal that the run goes on from, nor the file of the replies; its
+/// seal is none of these.
 fn locked_out<'a>(
     rt: &'a HostRuntime,
     asking: &Asking<'a, '_>,
     texts: &Texts<'a>,
-) -> Result<JournalFile<'a>, Refusal<'a>> {
+) -> Result<Place<'a>, Refusal<'a>> {
     let scripts = texts.scripts.as_slice();
     let guard = Guard::new(rt, asking.journal)?;
     guard.pass(&texts.inputs, scripts, &[&texts.changes])?;
@@ -288,10 +299,17 @@ fn locked_out<'a>(
         scripts,
         &[&texts.changes, &texts.after, &texts.resumed],
     )?;
-    JournalFile::open(rt, asking.journal, files.as_slice())
+    let journal = JournalFile::open(rt, asking.journal, files.as_slice())?;
+    match SealOut::beside(rt, &journal, files.as_slice()) {
+        Ok(seal) => Ok(Place { journal, seal }),
+        Err(refusal) => {
+            journal.leave();
+            Err(refusal)
+        }
+    }
 }
 
-/// Books what the texts ask into the file of the journal, which is locked. A journal that the run goes on from, and that is a regular
+/// Books what the texts ask into the file of the journal, which is locked, with its seal. A journal that the run goes on from, and that is a regular
 /// file, is opened once more, since it may be that file.
 fn sell<'a, T: Threads + Wait + Sync>(
     rt: &'a HostRuntime,
@@ -300,15 +318,19 @@ fn sell<'a, T: Threads + Wait + Sync>(
     more: u32,
     today: Day,
     texts: Texts<'a>,
-    journal: &mut JournalFile<'a>,
+    place: &mut Place<'a>,
 ) -> Result<(), Refusal<'a>>
     requires first { IsOfCentury texts.inputs.first }
     requires days { (1 ≤ texts.inputs.days) × (texts.inputs.days ≤ 366) }
     requires today { IsCenturyDay today }
     requires scripts { (1 ≤ length texts.scripts.items) × (length texts.scripts.items ≤ 8) }
 {
-    if asking.no_clobber && !journal.is_empty()? {
+    if asking.no_clobber && !place.journal.is_empty()? {
         return Err(Refusal::barred(asking.journal, NOT_EMPTY));
+    }
+    let older = older_in(place)?;
+    if !is_entry(&older) {
+        return Err(Refusal::barred(asking.journal, TOO_LONG));
     }
     let Texts {
         inputs,
@@ -323,7 +345,7 @@ fn sell<'a, T: Threads + Wait + Sync>(
     let mut scripts = scripts;
     let mut changes = changes;
     let older_seal = seal_of_older(rt, asking, &after)?;
-    let keeps = !is_gone_on_from(&after, journal)? && !is_gone_on_from(&resumed, journal)?;
+    let keeps = keeps_both(rt, &after, &resumed, place)?;
     let mut out = Heard::new(standard_output(rt));
     let outcome = booked(
         rt,
@@ -337,8 +359,9 @@ fn sell<'a, T: Threads + Wait + Sync>(
         &mut resumed,
         scripts.as_mut_slice(),
         &mut changes,
+        older,
         keeps,
-        journal,
+        place,
         &mut out,
     );
     let ahead = told(
@@ -354,9 +377,18 @@ fn sell<'a, T: Threads + Wait + Sync>(
         Err(refusal) => {
             let refusal = refusal
                 .noting_unasked(&resumed)
-                .noting_journal(journal)
+                .noting_journal(&place.journal)
+                .noting_seal(&place.seal)
                 .noting_output(out.output());
-            noting_place(rt, asking, more, refusal, &after, &resumed, journal)
+            noting_place(
+                rt,
+                asking,
+                more,
+                refusal,
+                &after,
+                &resumed,
+                &mut place.journal,
+            )
         }
     }
 }
@@ -374,26 +406,58 @@ fn booked<'a, T: Threads + Wait + Sync>(
     resumed: &mut Input<'a>,
     scripts: &mut [Input<'a>],
     changes: &mut Input<'a>,
+    older: SealEntry,
     keeps: bool,
-    journal: &mut JournalFile<'a>,
+    place: &mut Place<'a>,
     out: &mut Heard<'a>,
 ) -> Result<(), DeskFault>
     requires first { IsOfCentury inputs.old.first }
     requires days { (1 ≤ inputs.old.days) × (inputs.old.days ≤ 366) }
     requires today { IsCenturyDay today }
     requires scripts { (1 ≤ length scripts.old) × (length scripts.old ≤ 8) }
+    requires older { IsTrue (is_entry older) }
 {
     let alloc = rt.alloc();
+    let journal = &mut place.journal;
+    let seal = &mut place.seal;
     if asking.resume.is_some() {
         return desk_resume(
-            threads, alloc, inputs, after, more, resumed, scripts, changes, today, &NoGate, keeps,
-            journal, out,
+            threads, alloc, inputs, after, more, resumed, scripts, changes, today, &NoGate, older,
+            keeps, journal, seal, out,
         );
     }
     desk_run(
-        threads, alloc, inputs, after, beside, scripts, changes, today, &NoGate, keeps, journal,
-        out,
+        threads, alloc, inputs, after, beside, scripts, changes, today, &NoGate, older, keeps,
+        journal, seal, out,
     )
+}
+
+/// What the seal beside OUT has of the journal there, or else which bytes OUT has.
+fn older_in<'a>(place: &Place<'a>) -> Result<SealEntry, Refusal<'a>> {
+    let bytes = place.journal.bytes()?;
+    let seal = match place.seal.text()? {
+        Some(text) => read_seal(&text),
+        None => None,
+    };
+    Ok(older_entry(seal, &imprint_of(front_of(&bytes)), imprint_of(&bytes)))
+}
+
+/// Whether what OUT and its seal have is to be kept: where the run does not go on from it. Under which names is decided here.
+fn keeps_both<'a>(
+    rt: &HostRuntime,
+    after: &Input<'a>,
+    resumed: &Input<'a>,
+    place: &mut Place<'a>,
+) -> Result<bool, Refusal<'a>> {
+    if is_gone_on_from(after, &place.journal)? || is_gone_on_from(resumed, &place.journal)? {
+        return Ok(false);
+    }
+    if let (Some(path), Some(seal)) = (place.journal.path(), place.seal.path()) {
+        let number = of(place.journal.name(), kept_number(rt, path, seal))?;
+        place.journal.keep_under(number);
+        place.seal.keep_under(number);
+    }
+    Ok(true)
 }
 
 /// The refusal of a run, which says whether the journal is in its place all the same.
@@ -478,31 +542,29 @@ fn is_gone_on_from<'a>(after: &Input<'a>, journal: &JournalFile<'a>) -> Result<b
     }
 }
 
-/// Says on standard error under which name OUT's old bytes are kept, and how a run goes on from a journal.
-fn tell_kept(rt: &HostRuntime, journal: &JournalFile<'_>) {
-    let Some(kept) = journal.kept() else {
+/// Says on standard error under which name OUT's old bytes are kept, and how a run goes on from a journal. A seal that is kept without
+/// a journal is told too.
+fn tell_kept(rt: &HostRuntime, place: &Place<'_>) {
+    if !place.journal.is_put() {
         return;
-    };
+    }
+    let name = place.journal.name();
+    match (place.journal.kept(), place.seal.kept()) {
+        (Some(kept), _) => tell_one(rt, name, "", kept),
+        (None, Some(kept)) => tell_one(rt, name, SEAL, kept),
+        (None, None) => {}
+    }
+}
+
+fn tell_one(rt: &HostRuntime, name: &str, ending: &str, kept: &Kept) {
     let path = kept.path.as_str();
-    match format!(in rt.alloc(); "{}{KEPT_BEFORE}{}", journal.name(), kept.number) {
+    match format!(in rt.alloc(); "{name}{KEPT_BEFORE}{}{ending}", kept.number) {
         Ok(near) if is_one_file(rt, near.as_str(), path) => tell_content(
             rt,
             near.as_str(),
             kept.content,
         ),
         _ => tell_content(rt, path, kept.content),
-    }
-}
-
-/// Says on standard error where a seal stands beside the new journal that is older than it.
-fn tell_seal(rt: &HostRuntime, journal: &JournalFile<'_>) {
-    if journal.has_older_seal() {
-        let name = Shown {
-            name: journal.name(),
-        };
-        let _ = eprintln!(rt;
-            "seatdesk: note: {name}.seal is older than the journal: seatdesk seal writes it anew"
-        );
     }
 }
 
