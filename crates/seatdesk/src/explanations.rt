@@ -613,7 +613,7 @@ const SEALS: &[Explanation] = &[
         behind: "SEAL",
         code: "journal",
         numbers: NONE,
-        text: "The journal's head and entries are others than those that were sealed: a line was changed, added or taken away.\nA run adds lines and leaves the seal as it is: seatdesk seal writes it anew.",
+        text: "The journal's head and entries are others than those that were sealed: a line was changed, added or taken away,\nor the journal is another than the seal's: a run writes both, and a kept journal has its own beside it.",
     },
     Explanation {
         behind: "SEAL",
@@ -689,7 +689,7 @@ const WORDS: &[Explanation] = &[
         behind: "E2",
         code: "journal",
         numbers: NONE,
-        text: "The file of --journal is one of the inputs, other than the journals of --after and --resume, or that of standard output,\nor another run has it, as it may have the journal that is to be sealed, or its name is - or ends in .seal, .unfinished or .kept-N,\nor --no-clobber keeps it: it is there and not empty. Nothing was written. seatdesk -v says which of these it is.",
+        text: "The file of --journal is one of the inputs, other than the journals of --after and --resume, or that of standard output,\nor another run has it, as it may have the journal that is to be sealed, or its name is - or ends in .seal, .unfinished or .kept-N,\nor what is called as its seal is another file of the command or no regular file, or --no-clobber keeps it: it is there and not empty. Nothing was written. seatdesk -v says which of these it is.",
     },
     Explanation {
         behind: "E2",
@@ -724,12 +724,6 @@ const NOTES: &[Explanation] = &[
         code: "note",
         numbers: NONE,
         text: "The journal of the run is in its place, and its replies did not all go out. The run is not to be made again:\nseatdesk replies writes them, with the options of the run and those that the note has.",
-    },
-    Explanation {
-        behind: "older",
-        code: "note",
-        numbers: NONE,
-        text: "The file JOURNAL.seal beside the new journal is of the one before. seatdesk seal writes a new one;\nuntil then the commands that read the journal refuse it.",
     },
     Explanation {
         behind: "",
