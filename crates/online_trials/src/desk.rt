@@ -101,7 +101,8 @@ impl Desk {
     }
 }
 
-fn seated<R: Wait>(
+/// A desk over an inventory, with the first of its viewers.
+pub fn seated<R: Wait>(
     rt: &R,
     serving: Serving<Fuse<TornTape>>,
     viewers: Vec<Viewer>,
@@ -113,8 +114,8 @@ fn seated<R: Wait>(
     }
 }
 
-// Whether a group may be asked for.
-fn can_ask<D: Tape>(serving: &Serving<D>, asked: &[Asked]) -> Result<(), Why>
+/// Whether a group may be asked for.
+pub fn can_ask<D: Tape>(serving: &Serving<D>, asked: &[Asked]) -> Result<(), Why>
     ensures open { OnOk result (IsTrue serving.now.is_open) }
     ensures right { OnOk result (AreRight serving.now.grid asked.now) }
     ensures few { OnOk result (length asked.now ≤ 4096) }

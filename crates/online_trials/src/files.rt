@@ -104,7 +104,8 @@ fn name_of_entry(fault: ReplayFault) -> (&'static str, usize) {
     }
 }
 
-fn name_of(rest: Rest) -> (&'static str, usize) {
+/// What a rest is called, and where its fault is.
+pub fn name_of(rest: Rest) -> (&'static str, usize) {
     match rest {
         Rest::NoHead => ("no head", 0),
         Rest::Whole => ("whole", 0),

@@ -9,7 +9,11 @@ mod cut_tests;
 #[cfg(test)]
 mod desk;
 #[cfg(test)]
+mod file_tests;
+#[cfg(test)]
 mod files;
+#[cfg(test)]
+mod going_tests;
 #[cfg(test)]
 mod group_tests;
 #[cfg(test)]

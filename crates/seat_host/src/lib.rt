@@ -16,7 +16,7 @@ mod under_lock;
 pub use host::Host;
 pub use ledgers::Hosting;
 pub use manager::Manager;
-pub use parts::{HostFault, Parts};
+pub use parts::{HostFault, Parts, showing};
 pub use party::Party;
 pub use receipt::Receipt;
 pub use session::Session;

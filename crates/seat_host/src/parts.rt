@@ -119,8 +119,9 @@ fn is_in_range(sessions: u8) -> bool
     sessions >= 1 && sessions <= 8
 }
 
-// A publisher that shows these lines. Where it refuses, the publisher is used up.
-fn showing<R: Wait>(
+/// A table that shows these lines, each a copy, where it has shown none: at most 999,999 lines that are legal over its limits. A
+/// host or an inventory that goes on from older lines starts so. Where memory is wanting the publisher is used up.
+pub fn showing<R: Wait>(
     rt: &R,
     alloc: Global,
     publisher: Publisher,

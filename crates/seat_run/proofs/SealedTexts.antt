@@ -1,5 +1,5 @@
 -- A journal, its seal and replies that were written, or not, are those that answer.
-use Rattle.std.proofs.Common.{◌≡◌, ◌⊎◌, ◌+◌, ◌&&◌, inl, inr, ℕ, Bool, true, false, List, Option, Some, None, IfSome, IfErr, OnOk, Result, Ok, Err, length, refl, sym, ap, ◌∙◌, subst, map}
+use Rattle.std.proofs.Common.{◌≡◌, ◌⊎◌, ◌+◌, ◌&&◌, inr, ℕ, Bool, true, false, List, Option, Some, None, IfSome, IfErr, OnOk, Result, Ok, Err, length, refl, sym, ◌∙◌, subst, map}
 use Rattle.std.specs.List.{AllByRecursion}
 use Rattle.airimp_lines.specs.declared.requests.Request.{Request}
 use Rattle.ssim_flights.specs.declared.flight.Flight.{Flight as Flown}

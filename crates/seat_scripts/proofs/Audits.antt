@@ -1,6 +1,6 @@
 -- What `run` writes, `audit` accepts.
 use Rattle.std.proofs.Common.{◌≡◌, ◌⊎◌, ⊎_elim, inl, ℕ, ◌+◌, ◌<◌, ◌≤◌, List, [], ◌∷◌, length, map, refl, sym, ap, ◌∙◌, subst, arith, Result, Ok, Err}
-use Rattle.seat_scripts.proofs.Common.{authorised_grid, Ladders, LimitRow, Entry, IsLegal, totals_of, by_session, audit_line, most_journal_bytes, IsLoaded, DeskFault, lists_over, commands_of}
+use Rattle.seat_scripts.proofs.Common.{authorised_grid, Ladders, LimitRow, Entry, IsLegal, totals_of, audit_line, most_journal_bytes, IsLoaded, DeskFault, lists_over, commands_of}
 use Rattle.std.specs.Str.Lines.{lines}
 use Rattle.ssim_records.specs.declared.set.DataSet.{DataSet}
 use Rattle.ssim_records.proofs.SetLaws.{one_data_set}

@@ -1,5 +1,5 @@
 -- The segment of a booking, on the flight of its place, beside that of its request.
-use Rattle.std.specs.Prelude.{◌≡◌, List, Option, Some}
+use Rattle.std.specs.Prelude.{◌≡◌, List, Some}
 use Rattle.airline_base.specs.declared.place.Place.{Place}
 use Rattle.airimp_lines.specs.declared.requests.Request.{Request}
 use Rattle.ssim_flights.specs.Places.{place_wanted}

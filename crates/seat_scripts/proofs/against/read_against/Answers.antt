@@ -1,6 +1,6 @@
 use Rattle.std.proofs.Common.{inl, inr, map}
 use Rattle.std.proofs.lemmas.Result.{err_from_is_err_and}
-use Rattle.seat_scripts.proofs.Beside.{all_read, both_known, load_known, older_known, refused_journal, refused_older, refused_script, too_large_journal, too_large_older, too_large_script}
+use Rattle.seat_scripts.proofs.Beside.{both_known, load_known, older_known, refused_journal, refused_older, refused_script, too_large_journal, too_large_older, too_large_script}
 use Rattle.seat_scripts.proofs.against.read_against.Goals as goal
 
 pub returns-in_err-older-clause-fault : goal.returns-in_err-older-clause-fault

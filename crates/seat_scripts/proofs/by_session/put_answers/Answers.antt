@@ -1,4 +1,4 @@
-use Rattle.std.proofs.Common.{◌≡◌, ◌+◌, ◌∙◌, ℕ, List, ap, subst, sym, take}
+use Rattle.std.proofs.Common.{◌+◌, ◌∙◌, ℕ, List, sym, take}
 use Rattle.seat_scripts.proofs.Sessions.{AnsweredSoFar, answered_other, answered_own, entry_answerable}
 use Rattle.seat_scripts.proofs.by_session.put_answers.Goals as goal
 use Rattle.seat_scripts.proofs.by_session.put_answers.Goals.{then-from-session+in_ok-put_wanted, else-from-session}

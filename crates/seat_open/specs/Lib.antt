@@ -1,0 +1,2 @@
+pub mod OpenAudits
+pub mod Recovered
