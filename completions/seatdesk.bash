@@ -59,7 +59,7 @@ _seatdesk() {
         place='files'
         ;;
     run)
-        words='--set --limits --first --days --after --behind --resume --today --journal --changes --no-clobber -v --verbose -h --help'
+        words='--set --limits --first --days --after --behind --resume --today --journal --changes --no-clobber --again -v --verbose -h --help'
         files='--set --limits --after --resume --journal --changes'
         values='--first --days --behind --today'
         place='files'

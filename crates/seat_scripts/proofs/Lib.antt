@@ -26,4 +26,5 @@ mod Rest
 pub mod Still
 mod Again
 mod Very
+mod Repeating
 mod Sessions

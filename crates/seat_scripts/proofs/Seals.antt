@@ -1,9 +1,13 @@
 -- What stands beside a journal, as far as the inputs are known, and what is refused behind it.
-use Rattle.std.proofs.Common.{◌≡◌, ◌≢◌, ◌≤◌, ◌<◌, ◌⊎◌, ⊎_elim, inl, inr, ℕ, List, Option, Some, None, IfSome, length, subst, sym}
+use Rattle.std.proofs.Common.{◌≡◌, ◌≢◌, ◌≤◌, ◌<◌, ◌⊎◌, ⊎_elim, inl, inr, ℕ, Bool, true, false, List, Option, Some, None, IfSome, length, subst, sym}
 use Rattle.ssim_flights.specs.declared.flight.Flight.{Flight as Flown}
 use Rattle.seat_seal.specs.Besides.{IsFaultBeside}
 use Rattle.seat_seal.specs.declared.beside.Basis.{Basis}
 use Rattle.seat_seal.specs.declared.beside.Beside.{Beside}
+use Rattle.seat_seal.specs.declared.comparing.SealFault.TheVariants.{Again}
+use Rattle.seat_seal.specs.declared.seal.Sealed.{Sealed as Belonging}
+use Rattle.seat_journal.specs.declared.entry.Change.{Change}
+use Rattle.seat_desk.specs.declared.fault.DeskFault.TheVariants.{Seal}
 use Rattle.seat_desk.proofs.Grounds.{ground_of_loaded}
 use Rattle.seat_desk.specs.Answering.{IsRefusedAnswer}
 use Rattle.seat_desk.specs.AuditDesk.{IsUnlawful}
@@ -14,7 +18,9 @@ use Rattle.seat_scripts.proofs.Common.{AreScripts, DeskFault, Entry, HasLoaded, 
 use Rattle.seat_scripts.specs.Beside.{IsFaultless, IsRefusedBeside, IsRefusedSealedRun, IsTooLargeSealedRun, IsUnsealed}
 use Rattle.seat_scripts.specs.Changes.{IsOfChanges, IsUnchanged, most_change_bytes}
 use Rattle.seat_scripts.specs.Going.{IsPast}
-use Rattle.seat_scripts.specs.Asked.{IsTooLargeRun}
+use Rattle.seat_scripts.specs.Asked.{IsAsked, IsTooLargeRun}
+use Rattle.seat_scripts.specs.Repeated.{IsLastRun, IsRepeated, IsRepeatedOf, is_repeated}
+use Rattle.seat_scripts.specs.TextDigests.{AreDigests, IsDigestOf}
 use Rattle.seat_scripts.specs.RunDesk.{IsRefusedRun}
 use Rattle.seat_scripts.specs.Requests.{IsOfScript}
 use Rattle.seat_scripts.specs.Asked.{HasPast, HasScripts}
@@ -49,6 +55,30 @@ module _ (beside : Beside) (basis : Basis) (text : Option (List ℕ)) (bytes sli
         ahead = record { faultless = subst (λ (l : List ℕ). IsFaultBeside beside basis l None) is_slice agreed };
         here = refused (λ (e : fault ≡ Memory). subst IsOfInput e input);
       })))
+
+-- what the seal says of the last run, where all bytes were read
+pub read_last : (beside : Beside) (text : Option (List ℕ)) (bytes slice : List ℕ) (last : Option Belonging) → slice ≡ bytes
+    → IfSome text (λ xs. bytes ≡ xs) → IsLastRun beside slice last
+    → IfSome text (λ xs. IsLastRun beside xs last)
+read_last beside (Some xs) bytes slice last is_slice whole h =
+    subst (λ (l : List ℕ). IsLastRun beside l last) whole (subst (λ (l : List ℕ). IsLastRun beside l last) is_slice h)
+read_last beside None bytes slice last is_slice whole h = tt
+
+-- whether the last run's seal names a script, where the journal's bytes are known
+pub repeated_of : (answer : Bool) (beside : Beside) (after : Option (List ℕ)) (texts digests slice : List (Option (List ℕ)))
+    (changing changed : Option (List ℕ)) (last : Option Belonging)
+    → IfSome after (λ zs. IsLastRun beside zs last) → AreDigests texts digests → IsDigestOf changing changed → slice ≡ digests
+    → is_repeated last slice changed ≡ answer → IsRepeatedOf answer beside after texts changing
+repeated_of answer beside (Some zs) texts digests slice changing changed last known are is same judged = record {
+  last = last;
+  is_last = known;
+  digests = digests;
+  are_digests = are;
+  changes = changed;
+  is_changes = is;
+  answer_is = subst (λ (ds : List (Option (List ℕ))). is_repeated last ds changed ≡ answer) same judged;
+}
+repeated_of answer beside None texts digests slice changing changed last known are is same judged = tt
 
 -- ---- over inputs that are known
 
@@ -119,9 +149,9 @@ module _ (set limits after : Option (List ℕ)) (first days : ℕ) (flights : Li
 
 -- ---- a run
 
-module _ (set limits after : Option (List ℕ)) (first days today : ℕ) (texts : List (Option (List ℕ))) (changing : Option (List ℕ)) (beside : Beside) where
+module _ (set limits after : Option (List ℕ)) (first days today : ℕ) (texts : List (Option (List ℕ))) (changing : Option (List ℕ)) (beside : Beside) (again : Bool) where
   abbrev IsRefused : DeskFault → Type 0
-  IsRefused fault = OfThree set limits after (λ xs ys zs. IsRefusedSealedRun beside xs ys first days today zs texts changing fault)
+  IsRefused fault = OfThree set limits after (λ xs ys zs. IsRefusedSealedRun beside again xs ys first days today zs texts changing fault)
 
   abbrev IsLarge : Type 0
   IsLarge = OfThree set limits after (λ xs ys zs. IsTooLargeSealedRun beside xs ys first days today zs texts changing)
@@ -134,8 +164,37 @@ module _ (set limits after : Option (List ℕ)) (first days today : ℕ) (texts 
       → OfThree set limits after (λ xs ys zs. IsRefusedRun xs ys first days today zs texts changing fault)
       → IsRefused fault
   behind_seal fault agreed refused =
-      both_three (λ xs ys zs. Agrees beside xs ys first days zs) (λ xs ys zs. IsRefusedRun xs ys first days today zs texts changing fault) (λ xs ys zs. IsRefusedSealedRun beside xs ys first days today zs texts changing fault) set limits after
-      (λ xs ys zs a r. inr (record { ahead = a; here = r })) agreed refused
+      both_three (λ xs ys zs. Agrees beside xs ys first days zs) (λ xs ys zs. IsRefusedRun xs ys first days today zs texts changing fault) (λ xs ys zs. IsRefusedSealedRun beside again xs ys first days today zs texts changing fault) set limits after
+      (λ xs ys zs a r. inr (record { ahead = a; here = inl r })) agreed refused
+
+  -- behind all inputs
+  pub sealed_again : (flights : List Flown) (grid : Ladders) (past : List Entry) (scripts : List (List Request)) (changes : List Change)
+      (fault : DeskFault) → Agreeing
+      → OfThree set limits after (λ xs ys zs. IsAsked xs ys first days today zs texts changing flights grid past scripts changes)
+      → IsRepeatedOf true beside after texts changing → again ≡ false → fault ≡ Seal Again → IsRefused fault
+  sealed_again flights grid past scripts changes fault agreed asked repeated once same =
+      by set limits after agreed asked repeated where
+        by : (s l a : Option (List ℕ)) → OfThree s l a (λ xs ys zs. Agrees beside xs ys first days zs)
+            → OfThree s l a (λ xs ys zs. IsAsked xs ys first days today zs texts changing flights grid past scripts changes)
+            → IsRepeatedOf true beside a texts changing
+            → OfThree s l a (λ xs ys zs. IsRefusedSealedRun beside again xs ys first days today zs texts changing fault)
+        by (Some xs) (Some ys) (Some zs) agreed asked repeated = inr (record {
+          ahead = agreed;
+          here = inr (record {
+            flights = flights;
+            grid = grid;
+            past = past;
+            scripts = scripts;
+            changes = changes;
+            is_asked = asked;
+            not_again = once;
+            is_repeated = repeated;
+            fault_is = same;
+          });
+        })
+        by (Some xs) (Some ys) None agreed asked repeated = tt
+        by (Some xs) None a agreed asked repeated = tt
+        by None l a agreed asked repeated = tt
 
   large_behind : Agreeing → OfThree set limits after (λ xs ys zs. IsTooLargeRun xs ys first days today zs texts changing)
       → IsLarge
@@ -146,7 +205,7 @@ module _ (set limits after : Option (List ℕ)) (first days today : ℕ) (texts 
   pub sealed_unloaded : (fault : DeskFault) → IfSome set (λ xs. IfSome limits (λ ys. IsRefusedLoad xs ys first days fault))
       → IsRefused fault
   sealed_unloaded fault refused =
-      if_loaded (λ xs ys. IsRefusedLoad xs ys first days fault) (λ xs ys zs. IsRefusedSealedRun beside xs ys first days today zs texts changing fault) set limits after
+      if_loaded (λ xs ys. IsRefusedLoad xs ys first days fault) (λ xs ys zs. IsRefusedSealedRun beside again xs ys first days today zs texts changing fault) set limits after
       (λ xs ys zs is. inl (inl is)) refused
 
   pub sealed_large_load : IfSome set (λ xs. IfSome limits (λ ys. IsFirstTooLargeLoad xs ys first days)) → IsLarge
@@ -160,7 +219,7 @@ module _ (set limits after : Option (List ℕ)) (first days today : ℕ) (texts 
     pub sealed_unread : (fault : DeskFault) → (IsOfInput fault → IfSome after (IsRefusedBeside beside basis grid fault))
         → IsOfInput fault → IsRefused fault
     sealed_unread fault refused input =
-        each_three (λ xs ys zs. IsRefusedAnswer IsUnlawful beside xs ys first days zs fault) (λ xs ys zs. IsRefusedSealedRun beside xs ys first days today zs texts changing fault) set limits after
+        each_three (λ xs ys zs. IsRefusedAnswer IsUnlawful beside xs ys first days zs fault) (λ xs ys zs. IsRefusedSealedRun beside again xs ys first days today zs texts changing fault) set limits after
         (λ xs ys zs is. inl is) (refused_start set limits after first days flights grid beside basis loaded known fault refused input)
 
     pub sealed_large_past : IfSome after (λ zs. most_journal_bytes < length zs) → IsLarge

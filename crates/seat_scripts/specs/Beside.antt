@@ -1,16 +1,23 @@
 -- What stands beside the journal that a run goes on from: it is compared ahead of that journal's own faults.
-use Rattle.std.specs.Prelude.{◌≤◌, ◌⊎◌, ℕ, List, length, Option, None, IfSome}
+use Rattle.std.specs.Prelude.{◌≡◌, ◌≤◌, ◌⊎◌, ℕ, Bool, true, false, List, length, Option, None, IfSome}
+use Rattle.airimp_lines.specs.declared.requests.Request.{Request}
+use Rattle.ssim_flights.specs.declared.flight.Flight.{Flight as Flown}
 use Rattle.seat_nesting.specs.Nesting.{Ladders}
+use Rattle.seat_journal.specs.declared.entry.Change.{Change}
+use Rattle.seat_journal.specs.declared.entry.Entry.{Entry}
 use Rattle.seat_seal.specs.Besides.{IsFaultBeside}
 use Rattle.seat_seal.specs.declared.beside.Basis.{Basis}
 use Rattle.seat_seal.specs.declared.beside.Beside.{Beside}
+use Rattle.seat_seal.specs.declared.comparing.SealFault.TheVariants.{Again}
 use Rattle.seat_desk.specs.Answering.{IsFirstTooLarge, IsRefusedAnswer}
 use Rattle.seat_desk.specs.AuditDesk.{IsUnlawful, most_journal_bytes}
 use Rattle.seat_desk.specs.Loading.{Bytes, IsBehind}
 use Rattle.seat_desk.specs.Sealing.{Agrees, IsBesideFault}
 use Rattle.seat_desk.specs.declared.fault.DeskFault.{DeskFault}
+use Rattle.seat_desk.specs.declared.fault.DeskFault.TheVariants.{Seal}
 use Rattle.seat_desk.specs.declared.inputs.Inputs.{Inputs}
-use Rattle.seat_scripts.specs.Asked.{FailsRun, HasLoaded, IsTooLargeRun, OfThree}
+use Rattle.seat_scripts.specs.Asked.{FailsRun, HasLoaded, IsAsked, IsTooLargeRun, OfThree}
+use Rattle.seat_scripts.specs.Repeated.{IsRepeated}
 use Rattle.seat_scripts.specs.RunDesk.{IsRefusedRun}
 
 -- ---- one journal, on a basis that is known
@@ -36,20 +43,34 @@ abbrev pub AgreesOf : {S L : Type 0} → Beside → Bytes S → Bytes L → Inpu
 AgreesOf beside set limits inputs journal =
     OfThree (set inputs.set) (limits inputs.limits) journal (λ xs ys zs. Agrees beside xs ys inputs.first inputs.days zs)
 
+-- all inputs are right, but the last run's seal names a script or the changes, which are not to be booked again
+pub record IsRefusedAgain (again : Bool) (beside : Beside) (set limits : List ℕ) (first days today : ℕ) (after : List ℕ)
+    (texts : List (Option (List ℕ))) (changing : Option (List ℕ)) (fault : DeskFault) : Type 0 where
+  pub flights : List Flown
+  pub grid : Ladders
+  pub past : List Entry
+  pub scripts : List (List Request)
+  pub changes : List Change
+  pub is_asked : IsAsked set limits first days today after texts changing flights grid past scripts changes
+  pub not_again : again ≡ false
+  pub is_repeated : IsRepeated true beside after texts changing
+  pub fault_is : fault ≡ Seal Again
+
 -- the fault is that of the set, of its flights, of the limits, of what stands beside the older journal, or of that journal; or what
--- stands there agrees, and the fault is one of the run
-abbrev pub IsRefusedSealedRun : Beside → List ℕ → List ℕ → ℕ → ℕ → ℕ → List ℕ → List (Option (List ℕ))
+-- stands there agrees, and the fault is one of the run, or that it is booked already
+abbrev pub IsRefusedSealedRun : Beside → Bool → List ℕ → List ℕ → ℕ → ℕ → ℕ → List ℕ → List (Option (List ℕ))
     → Option (List ℕ) → DeskFault → Type 0
-IsRefusedSealedRun beside set limits first days today after texts changing fault =
+IsRefusedSealedRun beside again set limits first days today after texts changing fault =
     IsRefusedAnswer IsUnlawful beside set limits first days after fault
     ⊎ IsBehind (Agrees beside set limits first days after)
-    (IsRefusedRun set limits first days today after texts changing fault)
+    (IsRefusedRun set limits first days today after texts changing fault
+    ⊎ IsRefusedAgain again beside set limits first days today after texts changing fault)
 
-abbrev pub IsRefusedSealedRunOf : {S L : Type 0} → Beside → Bytes S → Bytes L → Inputs S L → ℕ → Option (List ℕ)
+abbrev pub IsRefusedSealedRunOf : {S L : Type 0} → Beside → Bool → Bytes S → Bytes L → Inputs S L → ℕ → Option (List ℕ)
     → List (Option (List ℕ)) → Option (List ℕ) → DeskFault → Type 0
-IsRefusedSealedRunOf beside set limits inputs today after texts changing fault =
+IsRefusedSealedRunOf beside again set limits inputs today after texts changing fault =
     OfThree (set inputs.set) (limits inputs.limits) after
-    (λ xs ys zs. IsRefusedSealedRun beside xs ys inputs.first inputs.days today zs texts changing fault)
+    (λ xs ys zs. IsRefusedSealedRun beside again xs ys inputs.first inputs.days today zs texts changing fault)
 
 -- the set, the limits or the older journal is the first that is too large; or what stands beside that one agrees, and an input of the
 -- run is

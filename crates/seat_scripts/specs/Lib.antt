@@ -6,6 +6,7 @@ pub mod Beside
 pub mod Changes
 pub mod First
 pub mod Going
+pub mod Repeated
 pub mod Replying
 pub mod Requests
 pub mod Resumed

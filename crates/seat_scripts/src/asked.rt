@@ -1,5 +1,5 @@
 //! What a run is asked: its inputs, each read and checked before the next is read.
-ghost use Rattle.std.specs.Prelude.{◌≡◌, ◌≤◌, IfErr, IfOk, OnOk, length, map};
+ghost use Rattle.std.specs.Prelude.{◌≡◌, ◌≤◌, IfErr, IfOk, OnOk, false, length, map};
 ghost use Rattle.std.specs.List.{AllByRecursion};
 ghost use Rattle.airline_base.specs.Days.{IsCenturyDay};
 ghost use Rattle.ssim_flights.specs.Right.{IsOfCentury};
@@ -11,12 +11,14 @@ ghost use Rattle.seat_desk.specs.Sealing.{IsBasisOf};
 ghost use Rattle.seat_scripts.specs.Asked.{IsAskedOf};
 ghost use Rattle.seat_scripts.specs.Beside.{AgreesOf, FailsSealedRun, IsRefusedSealedRunOf, IsTooLargeSealedRunOf};
 ghost use Rattle.seat_scripts.specs.Changes.{IsOnLeg};
+ghost use Rattle.seat_scripts.specs.Repeated.{IsRepeatedOf};
 ghost use Rattle.seat_scripts.specs.Requests.{AreRight, HasFailedAmong};
 ghost use Rattle.seat_scripts.specs.TextDigests.{AreDigests, IsDigestOf};
 
 use crate::changes::{ReadChanges, limit_changes};
 use crate::digests::TextDigests;
-use crate::past::replayed_beside;
+use crate::past::{Known, replayed_beside};
+use crate::repeated::once;
 use crate::scripts::{ReadScripts, Scripts, read_scripts};
 use airline_base::{Day, NotedRead};
 use seat_core::Core;
@@ -41,13 +43,15 @@ pub struct Asked {
 }
 
 /// Reads a data set, limit rows, an older journal, one to eight scripts and changes of limits. What stands beside the older journal
-/// is compared with the set, the limits and that journal ahead of its own faults.
-#[tactic(auto, using(crate::proofs::Inputs::asked_of, crate::proofs::Seals::agrees, crate::proofs::Seals::sealed_unloaded, crate::proofs::Seals::sealed_unread, crate::proofs::Seals::sealed_refused, crate::proofs::Seals::sealed_unchanged, crate::proofs::Seals::sealed_large_load, crate::proofs::Seals::sealed_large_past, crate::proofs::Seals::sealed_large_script, crate::proofs::Seals::sealed_large_changes, crate::proofs::Seals::sealed_past_fails, crate::proofs::Seals::sealed_script_fails, crate::proofs::Seals::sealed_changes_fail))]
+/// is compared with the set, the limits and that journal ahead of its own faults. Behind all inputs, scripts or changes of which the
+/// last run's seal names one are refused, unless they are to be booked `again`.
+#[tactic(auto, using(crate::proofs::Inputs::asked_of, crate::proofs::Seals::agrees, crate::proofs::Seals::repeated_of, crate::proofs::Seals::sealed_again, crate::proofs::Seals::sealed_unloaded, crate::proofs::Seals::sealed_unread, crate::proofs::Seals::sealed_refused, crate::proofs::Seals::sealed_unchanged, crate::proofs::Seals::sealed_large_load, crate::proofs::Seals::sealed_large_past, crate::proofs::Seals::sealed_large_script, crate::proofs::Seals::sealed_large_changes, crate::proofs::Seals::sealed_past_fails, crate::proofs::Seals::sealed_script_fails, crate::proofs::Seals::sealed_changes_fail))]
 pub fn read_asked<S: NotedRead, L: NotedRead, A: NotedRead, C: NotedRead, D: NotedRead>(
     alloc: Global,
     inputs: &mut Inputs<S, L>,
     after: &mut A,
     beside: &Beside<'_>,
+    again: bool,
     scripts: &mut [C],
     changes: &mut D,
     today: Day,
@@ -59,6 +63,8 @@ pub fn read_asked<S: NotedRead, L: NotedRead, A: NotedRead, C: NotedRead, D: Not
     ensures ok { IfOk result (λ a.
         IsAskedOf S.remaining L.remaining inputs.old today (A.remaining after.old) (map C.remaining scripts.old) (D.remaining changes.old) a.flights a.past.grid a.past.journal a.scripts a.changes.items) }
     ensures sealed { OnOk result (AgreesOf beside.now S.remaining L.remaining inputs.old (A.remaining after.old)) }
+    ensures once { OnOk result (again ≡ false
+        → IsRepeatedOf false beside.now (A.remaining after.old) (map C.remaining scripts.old) (D.remaining changes.old)) }
     ensures basis { IfOk result (λ a. IsBasisOf S.remaining L.remaining inputs.old a.basis) }
     ensures grid { IfOk result (λ a. IsGridOf a.flights a.past.grid) }
     ensures legal { IfOk result (λ a. IsLegal a.past.grid a.past.journal) }
@@ -70,7 +76,7 @@ pub fn read_asked<S: NotedRead, L: NotedRead, A: NotedRead, C: NotedRead, D: Not
     ensures changed { IfOk result (λ a. IsDigestOf (D.remaining changes.old) a.changes_digest) }
     ensures behind { IfOk result (λ a. a.behind ≡ length a.past.journal) }
     ensures fault { IfErr result (λ f. IsOfInput f →
-        IsRefusedSealedRunOf beside.now S.remaining L.remaining inputs.old today (A.remaining after.old) (map C.remaining scripts.old) (D.remaining changes.old) f) }
+        IsRefusedSealedRunOf beside.now again S.remaining L.remaining inputs.old today (A.remaining after.old) (map C.remaining scripts.old) (D.remaining changes.old) f) }
     ensures large { IfErr result (λ f. f ≡ DeskFault.TooLarge →
         IsTooLargeSealedRunOf beside.now S.remaining L.remaining inputs.old today (A.remaining after.old) (map C.remaining scripts.old) (D.remaining changes.old)) }
     ensures device { IfErr result (λ f. f ≡ DeskFault.Device →
@@ -85,7 +91,7 @@ pub fn read_asked<S: NotedRead, L: NotedRead, A: NotedRead, C: NotedRead, D: Not
         grid,
     } = loaded;
     drop(rows);
-    let past = replayed_beside(alloc, grid, after, beside, &basis)?;
+    let Known { past, last } = replayed_beside(alloc, grid, after, beside, &basis)?;
     let ReadScripts { scripts, digests } = match read_scripts(alloc, scripts, today) {
         Ok(scripts) => scripts,
         Err(fault) => return Err(fault),
@@ -94,6 +100,7 @@ pub fn read_asked<S: NotedRead, L: NotedRead, A: NotedRead, C: NotedRead, D: Not
         Ok(changes) => changes,
         Err(fault) => return Err(fault),
     };
+    once(again, &last, digests.as_slice(), &digest)?;
     let behind = past.journal().len() as u32;
     Ok(Asked {
         flights,

@@ -14,6 +14,7 @@ mod laws;
 mod making;
 mod past;
 mod readable;
+mod repeated;
 mod replies;
 mod replying;
 mod resumed;

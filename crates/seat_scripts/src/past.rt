@@ -6,12 +6,14 @@ ghost use Rattle.seat_desk.specs.Desk.{HasFailed, IsOfInput};
 ghost use Rattle.seat_scripts.specs.Against.{IsReplayWithin};
 ghost use Rattle.seat_scripts.specs.Beside.{IsFaultless, IsRefusedBeside};
 ghost use Rattle.seat_scripts.specs.Going.{IsPast, highest_to, past_of};
+ghost use Rattle.seat_scripts.specs.Repeated.{IsLastRun};
 
+use crate::repeated::last_run;
 use airline_base::NotedRead;
 use seat_core::Core;
 use seat_desk::{DeskFault, MOST_JOURNAL_BYTES, agreed, read_input, replayed};
 use seat_nesting::Grid;
-use seat_seal::{Basis, Beside};
+use seat_seal::{Basis, Beside, Sealed};
 use std::alloc::Global;
 
 /// How many lines an older journal has of each session: 0, the manager, to 8.
@@ -41,22 +43,30 @@ pub fn replayed_from<J: NotedRead>(
     replayed(alloc, grid, bytes)
 }
 
+/// The inventory of a journal, and what the seal beside it says of its last run.
+#[derive(Drop)]
+pub(crate) struct Known {
+    pub past: Core,
+    pub last: Option<Sealed>,
+}
+
 /// The inventory that a journal comes to over these limits, where what stands beside it has no fault on this basis.
-#[tactic(auto, using(crate::proofs::Seals::read_faultless, crate::proofs::Seals::read_unsealed, crate::proofs::Seals::read_unlawful))]
+#[tactic(auto, using(crate::proofs::Seals::read_last, crate::proofs::Seals::read_faultless, crate::proofs::Seals::read_unsealed, crate::proofs::Seals::read_unlawful))]
 pub(crate) fn replayed_beside<J: NotedRead>(
     alloc: Global,
     grid: Grid,
     journal: &mut J,
     beside: &Beside<'_>,
     basis: &Basis,
-) -> Result<Core, DeskFault>
-    ensures ok { IfOk result (λ core. IfSome (J.remaining journal.old) (IsReplayWithin grid core)) }
-    ensures past { IfOk result (λ core. IfSome (J.remaining journal.old) (IsPast grid core.journal)) }
+) -> Result<Known, DeskFault>
+    ensures ok { IfOk result (λ k. IfSome (J.remaining journal.old) (IsReplayWithin grid k.past)) }
+    ensures past { IfOk result (λ k. IfSome (J.remaining journal.old) (IsPast grid k.past.journal)) }
     ensures sealed { OnOk result (IfSome (J.remaining journal.old) (IsFaultless beside.now basis.now)) }
-    ensures grid { IfOk result (λ core. core.grid ≡ grid) }
-    ensures legal { IfOk result (λ core. IsLegal core.grid core.journal) }
-    ensures cap { IfOk result (λ core. core.cap ≡ most_lines) }
-    ensures few { IfOk result (λ core. length core.journal ≤ most_lines) }
+    ensures last { IfOk result (λ k. IfSome (J.remaining journal.old) (λ bytes. IsLastRun beside.now bytes k.last)) }
+    ensures grid { IfOk result (λ k. k.past.grid ≡ grid) }
+    ensures legal { IfOk result (λ k. IsLegal k.past.grid k.past.journal) }
+    ensures cap { IfOk result (λ k. k.past.cap ≡ most_lines) }
+    ensures few { IfOk result (λ k. length k.past.journal ≤ most_lines) }
     ensures fault { IfErr result (λ f. IsOfInput f
         → IfSome (J.remaining journal.old) (IsRefusedBeside beside.now basis.now grid f)) }
     ensures large { IfErr result (λ f. f ≡ DeskFault.TooLarge
@@ -64,8 +74,12 @@ pub(crate) fn replayed_beside<J: NotedRead>(
     ensures device { IfErr result (λ f. f ≡ DeskFault.Device → HasFailed J.failure_count journal.old journal.new) }
 {
     let bytes = read_input(alloc, journal, MOST_JOURNAL_BYTES)?;
-    match agreed(beside, basis, &bytes) {
-        Ok(()) => replayed(alloc, grid, bytes),
+    if let Err(fault) = agreed(beside, basis, &bytes) {
+        return Err(fault);
+    }
+    let last = last_run(beside, &bytes);
+    match replayed(alloc, grid, bytes) {
+        Ok(past) => Ok(Known { past, last }),
         Err(fault) => Err(fault),
     }
 }

@@ -69,7 +69,7 @@ rooms_app = with_rule (with_rule (with_rule (with_rule (horizon_app (codes "room
     (optional_value (codes "journal"))
 
 unfoldable pub run_app : App
-run_app = with_rule (with_rule (with_rule (with_rule (with_rule (with_rule (with_rule (with_rule (horizon_app (codes "run"))
+run_app = with_rule (with_rule (with_rule (with_rule (with_rule (with_rule (with_rule (with_rule (with_rule (horizon_app (codes "run"))
     (optional (codes "after")))
     (optional (codes "behind")))
     (optional (codes "resume")))
@@ -77,6 +77,7 @@ run_app = with_rule (with_rule (with_rule (with_rule (with_rule (with_rule (with
     (required_option (codes "journal")))
     (optional (codes "changes")))
     (flag (codes "no-clobber")))
+    (flag (codes "again")))
     (optional_values (codes "scripts"))
 
 unfoldable pub bookings_app : App

@@ -58,7 +58,7 @@ Asks (Rooms over day pair bars journal) line = (line.0 ≡ codes "rooms")
     × MayHave line (codes "pair") (option_map (λ text. text.now) pair)
     × HasFlag line (codes "bars") bars
     × MayHave line (codes "journal") (option_map (λ text. text.now) journal)
-Asks (Run over after behind resume today journal changes no_clobber scripts) line = (line.0 ≡ codes "run")
+Asks (Run over after behind resume today journal changes no_clobber again scripts) line = (line.0 ≡ codes "run")
     × IsOver line.1 over
     × MayHave line (codes "after") (option_map (λ text. text.now) after)
     × MayHave line (codes "behind") (option_map (λ text. text.now) behind)
@@ -67,6 +67,7 @@ Asks (Run over after behind resume today journal changes no_clobber scripts) lin
     × Has line (codes "journal") journal.now
     × MayHave line (codes "changes") (option_map (λ text. text.now) changes)
     × HasFlag line (codes "no-clobber") no_clobber
+    × HasFlag line (codes "again") again
     × HasAny line (codes "scripts") scripts
 Asks (Bookings over locator journal) line = (line.0 ≡ codes "bookings")
     × IsOver line.1 over

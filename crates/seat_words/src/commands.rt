@@ -61,6 +61,9 @@ const CHANGES_HELP: &str =
 
 const NO_CLOBBER_HELP: &str = "Refuses an OUT that is there and is not empty";
 
+const AGAIN_HELP: &str =
+    "Books scripts once more that the journal's last run has booked, as its seal says";
+
 const SCRIPTS_HELP: &str =
     "The scripts of the sessions, up to 8 files of AIRIMP messages; 3=FILE is that of session 3";
 
@@ -250,6 +253,7 @@ fn run_command<'a>(alloc: Global) -> Result<Command<'a>, AllocError>
     let run = with_argument(run, wanted_option(alloc, "journal", "OUT", OUT_HELP));
     let run = with_argument(run, optional_option(alloc, "changes", "FILE", CHANGES_HELP));
     let run = with_argument(run, flag(alloc, "no-clobber", NO_CLOBBER_HELP));
+    let run = with_argument(run, flag(alloc, "again", AGAIN_HELP));
     with_argument(
         run,
         optional_values(alloc, "scripts", "SCRIPT", SCRIPTS_HELP),

@@ -29,7 +29,7 @@ pub fn examples_are_read()
         ∷ (codes "first", codes "2024-07-01" ∷ []) ∷ (codes "days", codes "31" ∷ [])
         ∷ (codes "today", codes "2024-06-20" ∷ []) ∷ (codes "journal", codes "journal.txt" ∷ [])
         ∷ (codes "scripts", codes "examples/london.txt" ∷ codes "examples/lisbon.txt" ∷ [])
-        ∷ (codes "no-clobber", codes "false" ∷ [])
+        ∷ (codes "no-clobber", codes "false" ∷ []) ∷ (codes "again", codes "false" ∷ [])
         ∷ (codes "verbose", codes "false" ∷ []) ∷ []) }
     ensures changes { IsReadTo
         (codes "seatdesk run --set examples/summer.ssim --limits examples/limits.txt --first 2024-07-01 --days 31 --today 2024-06-20 --journal journal.txt --changes examples/changes.txt examples/london.txt examples/lisbon.txt")
@@ -39,7 +39,7 @@ pub fn examples_are_read()
         ∷ (codes "today", codes "2024-06-20" ∷ []) ∷ (codes "journal", codes "journal.txt" ∷ [])
         ∷ (codes "changes", codes "examples/changes.txt" ∷ [])
         ∷ (codes "scripts", codes "examples/london.txt" ∷ codes "examples/lisbon.txt" ∷ [])
-        ∷ (codes "no-clobber", codes "false" ∷ [])
+        ∷ (codes "no-clobber", codes "false" ∷ []) ∷ (codes "again", codes "false" ∷ [])
         ∷ (codes "verbose", codes "false" ∷ []) ∷ []) }
     ensures desks { IsReadTo
         (codes "seatdesk run --set examples/summer.ssim --limits examples/limits.txt --first 2024-07-01 --days 31 --today 2024-06-20 --journal journal.txt 1=examples/london.txt 3=examples/lisbon.txt")
@@ -48,7 +48,7 @@ pub fn examples_are_read()
         ∷ (codes "first", codes "2024-07-01" ∷ []) ∷ (codes "days", codes "31" ∷ [])
         ∷ (codes "today", codes "2024-06-20" ∷ []) ∷ (codes "journal", codes "journal.txt" ∷ [])
         ∷ (codes "scripts", codes "1=examples/london.txt" ∷ codes "3=examples/lisbon.txt" ∷ [])
-        ∷ (codes "no-clobber", codes "false" ∷ [])
+        ∷ (codes "no-clobber", codes "false" ∷ []) ∷ (codes "again", codes "false" ∷ [])
         ∷ (codes "verbose", codes "false" ∷ []) ∷ []) }
     ensures manager { IsReadTo
         (codes "seatdesk run --set examples/summer.ssim --limits examples/limits.txt --first 2024-07-01 --days 31 --today 2024-06-20 --journal journal.txt --changes examples/changes.txt")
@@ -57,7 +57,7 @@ pub fn examples_are_read()
         ∷ (codes "first", codes "2024-07-01" ∷ []) ∷ (codes "days", codes "31" ∷ [])
         ∷ (codes "today", codes "2024-06-20" ∷ []) ∷ (codes "journal", codes "journal.txt" ∷ [])
         ∷ (codes "changes", codes "examples/changes.txt" ∷ [])
-        ∷ (codes "no-clobber", codes "false" ∷ [])
+        ∷ (codes "no-clobber", codes "false" ∷ []) ∷ (codes "again", codes "false" ∷ [])
         ∷ (codes "verbose", codes "false" ∷ []) ∷ []) }
     ensures after { IsReadTo
         (codes "seatdesk run --set examples/summer.ssim --limits examples/limits.txt --first 2024-07-01 --days 31 --after examples/journal.txt --today 2024-06-21 --journal journal-2.txt examples/london-2.txt")
@@ -66,7 +66,7 @@ pub fn examples_are_read()
         ∷ (codes "first", codes "2024-07-01" ∷ []) ∷ (codes "days", codes "31" ∷ [])
         ∷ (codes "after", codes "examples/journal.txt" ∷ []) ∷ (codes "today", codes "2024-06-21" ∷ [])
         ∷ (codes "journal", codes "journal-2.txt" ∷ []) ∷ (codes "scripts", codes "examples/london-2.txt" ∷ [])
-        ∷ (codes "no-clobber", codes "false" ∷ [])
+        ∷ (codes "no-clobber", codes "false" ∷ []) ∷ (codes "again", codes "false" ∷ [])
         ∷ (codes "verbose", codes "false" ∷ []) ∷ []) }
     ensures resume { IsReadTo
         (codes "seatdesk run --set examples/summer.ssim --limits examples/limits.txt --first 2024-07-01 --days 31 --resume examples/journal.txt --today 2024-06-20 --journal journal.txt examples/london.txt examples/lisbon.txt")
@@ -76,7 +76,7 @@ pub fn examples_are_read()
         ∷ (codes "resume", codes "examples/journal.txt" ∷ []) ∷ (codes "today", codes "2024-06-20" ∷ [])
         ∷ (codes "journal", codes "journal.txt" ∷ [])
         ∷ (codes "scripts", codes "examples/london.txt" ∷ codes "examples/lisbon.txt" ∷ [])
-        ∷ (codes "no-clobber", codes "false" ∷ [])
+        ∷ (codes "no-clobber", codes "false" ∷ []) ∷ (codes "again", codes "false" ∷ [])
         ∷ (codes "verbose", codes "false" ∷ []) ∷ []) }
     ensures cover { IsReadTo
         (codes "seatdesk cover --set examples/summer.ssim --limits examples/limits.txt --first 2024-07-01 --days 31")

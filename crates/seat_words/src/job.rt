@@ -49,7 +49,7 @@ pub enum Job<'a> {
         journal: Option<&'a str>,
     },
     /// `seatdesk run` over a horizon `[--after JOURNAL] [--behind N] [--resume JOURNAL] --today DATE --journal OUT [--changes FILE]
-    /// [--no-clobber] [SCRIPT...]`
+    /// [--no-clobber] [--again] [SCRIPT...]`
     Run {
         over: Horizon<'a>,
         after: Option<&'a str>,
@@ -59,6 +59,7 @@ pub enum Job<'a> {
         journal: &'a str,
         changes: Option<&'a str>,
         no_clobber: bool,
+        again: bool,
         /// None or more.
         scripts: Several<'a>,
     },
@@ -197,6 +198,7 @@ fn job_named<'a>(alloc: Global, name: &str, matches: &ArgMatches<'a>) -> Result<
             journal: value_of(matches, "journal"),
             changes: may_value_of(matches, "changes"),
             no_clobber: flag_of(matches, "no-clobber"),
+            again: flag_of(matches, "again"),
             scripts: any_values_of(alloc, matches, "scripts")?,
         },
         "bookings" => Job::Bookings {

@@ -83,6 +83,7 @@ fn carry_out<'a, T: Threads + Wait + Sync>(
             journal,
             changes,
             no_clobber,
+            again,
             scripts,
         } => {
             let asking = Asking {
@@ -95,6 +96,7 @@ fn carry_out<'a, T: Threads + Wait + Sync>(
                 journal,
                 changes: *changes,
                 no_clobber: *no_clobber,
+                again: *again,
                 scripts: scripts.as_slice(),
             };
             selling::run(rt, threads, over, &asking)?

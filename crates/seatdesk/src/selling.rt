@@ -204,6 +204,8 @@ pub struct Asking<'a, 'b> {
     pub journal: &'a str,
     pub changes: Option<&'a str>,
     pub no_clobber: bool,
+    /// Books what the older journal's last run has booked.
+    pub again: bool,
     pub scripts: &'b [&'a str],
 }
 
@@ -427,8 +429,21 @@ fn booked<'a, T: Threads + Wait + Sync>(
         );
     }
     desk_run(
-        threads, alloc, inputs, after, beside, scripts, changes, today, &NoGate, older, keeps,
-        journal, seal, out,
+        threads,
+        alloc,
+        inputs,
+        after,
+        beside,
+        asking.again,
+        scripts,
+        changes,
+        today,
+        &NoGate,
+        older,
+        keeps,
+        journal,
+        seal,
+        out,
     )
 }
 

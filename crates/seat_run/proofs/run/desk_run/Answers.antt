@@ -61,7 +61,7 @@ pub returns-in_err-answer-clause-fault : goal.returns-in_err-answer-clause-fault
 returns-in_err-answer-clause-fault g c =
     let p = err_from_is_err_and c.from_residual-in_err-answer.result c.from_residual-in_err-answer.ensures.1 in
     rw (p.1, p.2) (λ input. behind_seal (g.S.Read.remaining c.args.inputs.now.set) (g.L.Read.remaining c.args.inputs.now.limits) (g.A.Read.remaining c.args.after.now) c.args.inputs.now.first c.args.inputs.now.days c.args.today
-    (map g.C.Read.remaining c.args.scripts.now) (g.D.Read.remaining c.args.changes.now) c.args.beside.now c.in_err-answer.field-0.0 c.in_ok-asked.ensures.sealed
+    (map g.C.Read.remaining c.args.scripts.now) (g.D.Read.remaining c.args.changes.now) c.args.beside.now c.args.again c.in_err-answer.field-0.0 c.in_ok-asked.ensures.sealed
     (run_unbooked (g.S.Read.remaining c.args.inputs.now.set) (g.L.Read.remaining c.args.inputs.now.limits) (g.A.Read.remaining c.args.after.now) c.args.inputs.now.first c.args.inputs.now.days c.args.today
     (map g.C.Read.remaining c.args.scripts.now) (g.D.Read.remaining c.args.changes.now)
     c.in_ok-asked.asked.flights c.in_ok-asked.asked.past.grid c.in_ok-asked.asked.past.journal c.in_ok-asked.asked.scripts c.in_ok-asked.asked.changes.items c.in_err-answer.field-0.0

@@ -12,4 +12,5 @@ returns c =
     let journal = argued _ _ c.with_argument-run-4.result c.with_argument-run-5.result c.wanted_option-2.result today c.wanted_option-2.ensures c.with_argument-run-5.ensures in
     let changes = argued _ _ c.with_argument-run-5.result c.with_argument-run-6.result c.optional_option-4.result journal c.optional_option-4.ensures c.with_argument-run-6.ensures in
     let clobber = argued _ _ c.with_argument-run-6.result c.with_argument-run-7.result c.flag.result changes c.flag.ensures c.with_argument-run-7.ensures in
-    argued _ _ c.with_argument-run-7.result c.with_argument.result c.optional_values.result clobber c.optional_values.ensures c.with_argument.ensures
+    let again = argued _ _ c.with_argument-run-7.result c.with_argument-run-8.result c.flag-2.result clobber c.flag-2.ensures c.with_argument-run-8.ensures in
+    argued _ _ c.with_argument-run-8.result c.with_argument.result c.optional_values.result again c.optional_values.ensures c.with_argument.ensures

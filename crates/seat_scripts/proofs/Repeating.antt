@@ -1,0 +1,51 @@
+-- What a seal says of the last run.
+use Rattle.std.proofs.Common.{◌≡◌, ◌⊎◌, inl, inr, ℕ, Bool, true, false, List, Option, Some, None, refl, sym, ap, ◌∙◌}
+use Rattle.std.specs.Prelude.{if◌then◌else◌, unwrap_or}
+use Rattle.airline_base.proofs.Tests.{none_some}
+use Rattle.seat_seal.specs.Besides.{entry_of}
+use Rattle.seat_seal.specs.Comparing.{is_its_journal}
+use Rattle.seat_seal.specs.Fronts.{front_of}
+use Rattle.seat_seal.specs.Imprints.{imprint_of}
+use Rattle.seat_seal.specs.Reading.{two_entries}
+use Rattle.seat_seal.specs.Rules.{IsSeal}
+use Rattle.seat_seal.specs.Text.{seal_text}
+use Rattle.seat_seal.specs.declared.imprint.Imprint.{Imprint}
+use Rattle.seat_seal.specs.declared.seal.Seal.{Seal}
+use Rattle.seat_seal.specs.declared.seal.Sealed.{Sealed as Belonging}
+use Rattle.seat_seal.specs.declared.seal.SealEntry.{SealEntry}
+use Rattle.seat_scripts.specs.Repeated.{IsKnownBy, IsKnownByNone, known_in}
+
+pub known_by : (text journal : List ℕ) (seal : Seal) (known : Option Belonging) → IsSeal seal → text ≡ seal_text seal
+    → known ≡ known_in (entry_of seal (imprint_of (front_of journal)) (imprint_of journal))
+    → IsKnownByNone text known ⊎ IsKnownBy text journal known
+known_by text journal seal known is same entry =
+    inr (record { seal = seal; is_seal = is; is_text = same; known_is = entry })
+
+pub known_by_none : (text journal : List ℕ) (read : Option Seal) (known : Option Belonging) → read ≡ None
+    → ((seal : Seal) → IsSeal seal → text ≡ seal_text seal → read ≡ Some seal) → known ≡ None
+    → IsKnownByNone text known ⊎ IsKnownBy text journal known
+known_by_none text journal read known is only nothing = inl (record {
+  none = λ (seal : Seal) (keeps : IsSeal seal) (same : text ≡ seal_text seal). none_some seal (sym is ∙ only seal keeps same);
+  nothing = nothing;
+})
+
+one_of : (b : Bool) (entry : SealEntry) → unwrap_or (if b then Some entry else None) entry ≡ entry
+one_of true entry = refl
+one_of false entry = refl
+
+-- a seal of one entry has that one
+pub compared_one : (seal : Seal) (entries whole : Imprint) (known : Option Belonging) → seal.second ≡ None
+    → known ≡ known_in seal.first → known ≡ known_in (entry_of seal entries whole)
+compared_one seal entries whole known alone same =
+    rw alone (same ∙ sym (ap known_in (one_of (is_its_journal seal.first entries whole) seal.first)))
+
+pub compared_first : (first second : SealEntry) (entries whole : Imprint) (known : Option Belonging)
+    → is_its_journal first entries whole ≡ true → known ≡ known_in first
+    → known ≡ known_in (entry_of (two_entries first second) entries whole)
+compared_first first second entries whole known is same = rw is same
+
+pub compared_second : (first second : SealEntry) (entries whole : Imprint) (known : Option Belonging)
+    → is_its_journal first entries whole ≡ false → known ≡ known_in second
+    → known ≡ known_in (entry_of (two_entries first second) entries whole)
+compared_second first second entries whole known other same =
+    rw other (same ∙ sym (ap known_in (one_of (is_its_journal second entries whole) second)))
