@@ -619,7 +619,7 @@ const SEALS: &[Explanation] = &[
         behind: "SEAL",
         code: "again",
         numbers: NONE,
-        text: "A script that is to be booked stands in the journal already.",
+        text: "A script that is to be booked, or the file of --changes, stands in the journal already: the seal of its last run has\nthe digest of the very same bytes. So the same command given twice books nothing twice. --again books it once more;\n--resume JOURNAL books what is new of scripts that have grown, and nothing where nothing is.",
     },
 ];
 
