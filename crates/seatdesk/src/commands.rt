@@ -3,14 +3,13 @@
 ghost use Rattle.std.specs.Prelude.{◌≡◌, ◌≤◌, IfOk};
 ghost use Rattle.ssim_flights.specs.Right.{IsOfCentury};
 
-use crate::guard::files_taken;
 use crate::locale::is_utf_8;
-use crate::refusal::{Refusal, told};
-use crate::seal_file::{SealFile, is_moved};
-use crate::seal_out::SealOut;
-use crate::streams::{Input, opened, standard_input, standard_output, taken, taken_or};
 use airline_base::Day;
 use seat_desk::{Inputs, NO_LINES, Question, answer_question};
+use seat_files::{
+    Input, Refusal, SealFile, SealOut, files_taken, is_moved, opened, standard_input,
+    standard_output, taken, taken_or, told,
+};
 use seat_questions::{Bars, BookingsOf, CityPair, Cover, RoomsOf, Why};
 use seat_reports::{Audit, desk_check, desk_flights, desk_ladder, desk_seal};
 use seat_words::{Horizon, WordFault, date_word, days_word, line_word, locator_word, pair_word};

@@ -1,7 +1,9 @@
 //! Replies on their way out, and whether one of them found a flight.
 //! It knows the code at the end of a reply's line, and nothing of what the other codes say.
-use crate::streams::Output;
+ghost use Rattle.seat_files.specs.Streams.{output_failures};
+
 use airline_base::{Failures, NotedWrite};
+use seat_files::Output;
 use std::io;
 use std::io::Write;
 
@@ -85,7 +87,7 @@ impl<'a> Heard<'a> {
 }
 
 impl Failures for Heard<'_> {
-    ghost failure_count = { λ s. s.out.failures };
+    ghost failure_count = { λ s. output_failures s.out };
 
     fn failures(&self) -> u64 {
         self.out.failures()

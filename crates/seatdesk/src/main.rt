@@ -4,24 +4,15 @@
 
 mod commands;
 mod explain;
-mod explanations;
-mod fault;
-mod guard;
 mod heard;
-mod journal_file;
-mod kept_file;
 mod locale;
-mod refusal;
-mod replies;
-mod seal_file;
-mod seal_out;
 mod selling;
 mod sessions;
-mod streams;
+mod undone;
 
 use clap::error::ErrorKind;
-use refusal::{Refusal, Undone};
 use seat_desk::DeskFault;
+use seat_files::Refusal;
 use seat_words::{Job, WordFault, read_words};
 use selling::{Asking, Older, Part};
 use std::io;
@@ -29,6 +20,7 @@ use std::io::IsTerminal;
 use std::process::ExitCode;
 use std::sync::Wait;
 use std::thread::Threads;
+use undone::Undone;
 
 fn main(rt: HostRuntime) -> ExitCode {
     match start(&rt, &rt) {

@@ -7,17 +7,15 @@ ghost use Rattle.ssim_flights.specs.Right.{IsOfCentury};
 
 use crate::commands;
 use crate::commands::{days_of, inputs_of};
-use crate::guard::{Guard, NOT_EMPTY, files_taken};
 use crate::heard::Heard;
-use crate::journal_file::{JournalFile, TOO_LONG, is_one_file, is_same, lines_in, of};
-use crate::kept_file::{Content, KEPT_BEFORE, Kept, kept_number};
-use crate::refusal::{Refusal, Shown, told};
-use crate::seal_file::{SEAL, SealFile};
-use crate::seal_out::SealOut;
 use crate::sessions::scripts_opened;
-use crate::streams::{Input, Output, opened_or, standard_output, taken};
 use airline_base::Day;
 use seat_desk::{DeskFault, Inputs, NO_LINES};
+use seat_files::{
+    Content, Guard, Input, JournalFile, KEPT_BEFORE, Kept, NOT_EMPTY, Output, Refusal, SEAL,
+    SealFile, SealOut, Shown, TOO_LONG, files_taken, is_one_file, is_same, kept_number, lines_in,
+    of, opened_or, standard_output, taken, told,
+};
 use seat_run::{desk_resume, desk_run};
 use seat_scripts::{Wanted, desk_audit_against, desk_replies};
 use seat_seal::{Beside, SealEntry, front_of, imprint_of, is_entry, read_seal};

@@ -1,9 +1,8 @@
 //! The scripts of a command, one for each session. It knows which word a session has, and nothing of what is in a script.
 ghost use Rattle.std.specs.Prelude.{◌≡◌, IfOk, length};
 
-use crate::refusal::Refusal;
-use crate::streams::{Input, opened};
 use seat_desk::DeskFault;
+use seat_files::{Input, Refusal, opened};
 use seat_words::session_file;
 
 /// The script of each session, open. A session without a word has an empty one.

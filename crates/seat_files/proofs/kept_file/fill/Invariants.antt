@@ -1,6 +1,6 @@
 -- No more is filled than there is room.
 use Rattle.std.proofs.Common.{◌-◌, ◌≡◌, ◌≤◌, length}
-use Rattle.seatdesk.proofs.kept_file.fill.Given as goal
+use Rattle.seat_files.proofs.kept_file.fill.Given as goal
 
 abbrev pub invariant-loop-filled : goal.invariant-loop-filled
 invariant-loop-filled l = l.filled ≤ length l.piece

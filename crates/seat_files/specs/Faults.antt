@@ -3,8 +3,8 @@ use Rattle.std.specs.Prelude.{ℕ, List}
 use Rattle.seat_desk.specs.FaultText.{fault_text}
 use Rattle.seat_desk.specs.Status.{status_of}
 use Rattle.seat_words.specs.FaultText.{word_text}
-use Rattle.seatdesk.specs.declared.fault.Fault.{Fault}
-use Rattle.seatdesk.specs.declared.fault.Fault.TheVariants.{Desk, Word}
+use Rattle.seat_files.specs.declared.fault.Fault.{Fault}
+use Rattle.seat_files.specs.declared.fault.Fault.TheVariants.{Desk, Word}
 
 abbrev pub printed : Fault → List ℕ
 printed (Desk fault) = fault_text fault

@@ -12,7 +12,7 @@ pub enum Fault {
 
 impl fmt::Display for Fault {
     ghost use Rattle.std.specs.Prelude.{Some};
-    ghost use Rattle.seatdesk.specs.Faults.{printed};
+    ghost use Rattle.seat_files.specs.Faults.{printed};
 
     ghost output = { λ fault. Some (printed fault) };
 
@@ -27,7 +27,7 @@ impl fmt::Display for Fault {
 
 impl Fault {
     ghost use Rattle.std.specs.Prelude.{◌≡◌};
-    ghost use Rattle.seatdesk.specs.Faults.{exit_status};
+    ghost use Rattle.seat_files.specs.Faults.{exit_status};
 
     /// The exit status: 2 for the command line, else that of the command's fault.
     pub fn status(&self) -> u8

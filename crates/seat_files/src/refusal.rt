@@ -6,7 +6,6 @@ use crate::streams::{Input, Output};
 use airline_base::Failures;
 use seat_desk::DeskFault;
 use seat_words::WordFault;
-use std::alloc::AllocError;
 use std::fmt::Write;
 use std::{fmt, fs, io};
 
@@ -389,25 +388,5 @@ pub fn told<'a>(
                 .noting_all(inputs)
                 .noting_outputs(outputs),
         ),
-    }
-}
-
-/// Why a command was not done.
-#[derive(Drop)]
-pub enum Undone<'a> {
-    /// One of its words is not what it may be, which only the command could tell.
-    Word(clap::Error),
-    Refused(Refusal<'a>),
-}
-
-impl<'a> From<Refusal<'a>> for Undone<'a> {
-    fn from(refusal: Refusal<'a>) -> Undone<'a> {
-        Undone::Refused(refusal)
-    }
-}
-
-impl<'a> From<AllocError> for Undone<'a> {
-    fn from(_error: AllocError) -> Undone<'a> {
-        Undone::Refused(Refusal::from(DeskFault::Memory))
     }
 }

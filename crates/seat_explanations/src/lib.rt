@@ -1,0 +1,9 @@
+//! What each fault line, reply and note of the program means, in tables of texts, and the search in them.
+//! It knows the codes as they are printed, and nothing of the faults behind them or of how an answer is found.
+#![tactic(auto)]
+
+mod explanations;
+mod meaning;
+mod replies;
+
+pub use meaning::{Meaning, meaning_of};

@@ -1,0 +1,24 @@
+//! The real files and standard streams of the program: what a command reads and writes, where a journal and its seal are put, kept and
+//! locked, and the refusal that names the file which a fault is of.
+//! It knows the system and the faults, and nothing of what a command does with its files.
+#![tactic(auto)]
+
+mod fault;
+mod guard;
+mod journal_file;
+mod kept_file;
+mod refusal;
+mod seal_file;
+mod seal_out;
+mod streams;
+
+pub use fault::Fault;
+pub use guard::{Guard, NOT_EMPTY, files_taken};
+pub use journal_file::{JournalFile, TOO_LONG, is_one_file, is_same, lines_in, of};
+pub use kept_file::{Content, KEPT_BEFORE, Kept, kept_number};
+pub use refusal::{Refusal, Shown, told};
+pub use seal_file::{SEAL, SealFile, is_moved};
+pub use seal_out::SealOut;
+pub use streams::{
+    Input, Output, opened, opened_or, standard_input, standard_output, taken, taken_or,
+};
