@@ -1,2 +1,4 @@
+pub mod Ending
 pub mod OpenAudits
+pub mod OpenQuestions
 pub mod Recovered

@@ -47,7 +47,7 @@ cover_line = leaf_line is_complete (built_leaf (with_verbose cover_app).top)
 rooms_line : Yields is_complete (built_leaf (with_verbose rooms_app).top)
 unfolding rooms_app horizon_app
 rooms_line = leaf_line is_complete (built_leaf (with_verbose rooms_app).top)
-    (set_keeps _ refl refl, (set_keeps _ refl refl, (set_keeps _ refl refl, (set_keeps _ refl refl, (set_keeps _ refl refl, (set_keeps _ refl refl, (flag_keeps _ refl _ refl, (set_keeps _ refl refl, (flag_keeps _ refl _ refl, (help_keeps _ refl, tt)))))))))) (λ rows h. h)
+    (set_keeps _ refl refl, (set_keeps _ refl refl, (set_keeps _ refl refl, (set_keeps _ refl refl, (set_keeps _ refl refl, (set_keeps _ refl refl, (flag_keeps _ refl _ refl, (flag_keeps _ refl _ refl, (set_keeps _ refl refl, (flag_keeps _ refl _ refl, (help_keeps _ refl, tt))))))))))) (λ rows h. h)
 
 run_line : Yields is_complete (built_leaf (with_verbose run_app).top)
 unfolding run_app horizon_app
@@ -57,12 +57,12 @@ run_line = leaf_line is_complete (built_leaf (with_verbose run_app).top)
 bookings_line : Yields is_complete (built_leaf (with_verbose bookings_app).top)
 unfolding bookings_app horizon_app
 bookings_line = leaf_line is_complete (built_leaf (with_verbose bookings_app).top)
-    (set_keeps _ refl refl, (set_keeps _ refl refl, (set_keeps _ refl refl, (set_keeps _ refl refl, (set_keeps _ refl refl, (set_keeps _ refl refl, (flag_keeps _ refl _ refl, (help_keeps _ refl, tt)))))))) (λ rows h. h)
+    (set_keeps _ refl refl, (set_keeps _ refl refl, (set_keeps _ refl refl, (set_keeps _ refl refl, (set_keeps _ refl refl, (flag_keeps _ refl _ refl, (set_keeps _ refl refl, (flag_keeps _ refl _ refl, (help_keeps _ refl, tt))))))))) (λ rows h. h)
 
 audit_line : Yields is_complete (built_leaf (with_verbose audit_app).top)
 unfolding audit_app horizon_app
 audit_line = leaf_line is_complete (built_leaf (with_verbose audit_app).top)
-    (set_keeps _ refl refl, (set_keeps _ refl refl, (set_keeps _ refl refl, (set_keeps _ refl refl, (set_keeps _ refl refl, (set_keeps _ refl refl, (set_keeps _ refl refl, (flag_keeps _ refl _ refl, (set_keeps _ refl refl, (append_keeps _ refl refl, (flag_keeps _ refl _ refl, (help_keeps _ refl, tt)))))))))))) (λ rows h. h)
+    (set_keeps _ refl refl, (set_keeps _ refl refl, (set_keeps _ refl refl, (set_keeps _ refl refl, (set_keeps _ refl refl, (set_keeps _ refl refl, (set_keeps _ refl refl, (flag_keeps _ refl _ refl, (flag_keeps _ refl _ refl, (set_keeps _ refl refl, (append_keeps _ refl refl, (flag_keeps _ refl _ refl, (help_keeps _ refl, tt))))))))))))) (λ rows h. h)
 
 seal_line : Yields is_complete (built_leaf (with_verbose seal_app).top)
 unfolding seal_app horizon_app
@@ -77,7 +77,7 @@ replies_line = leaf_line is_complete (built_leaf (with_verbose replies_app).top)
 why_line : Yields is_complete (built_leaf (with_verbose why_app).top)
 unfolding why_app horizon_app
 why_line = leaf_line is_complete (built_leaf (with_verbose why_app).top)
-    (set_keeps _ refl refl, (set_keeps _ refl refl, (set_keeps _ refl refl, (set_keeps _ refl refl, (set_keeps _ refl refl, (set_keeps _ refl refl, (flag_keeps _ refl _ refl, (help_keeps _ refl, tt)))))))) (λ rows h. h)
+    (set_keeps _ refl refl, (set_keeps _ refl refl, (set_keeps _ refl refl, (set_keeps _ refl refl, (set_keeps _ refl refl, (flag_keeps _ refl _ refl, (set_keeps _ refl refl, (flag_keeps _ refl _ refl, (help_keeps _ refl, tt))))))))) (λ rows h. h)
 
 explain_line : Yields is_complete (built_leaf (with_verbose explain_app).top)
 unfolding explain_app

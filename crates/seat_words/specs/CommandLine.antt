@@ -62,10 +62,11 @@ unfoldable pub cover_app : App
 cover_app = horizon_app (codes "cover")
 
 unfoldable pub rooms_app : App
-rooms_app = with_rule (with_rule (with_rule (with_rule (horizon_app (codes "rooms"))
+rooms_app = with_rule (with_rule (with_rule (with_rule (with_rule (horizon_app (codes "rooms"))
     (optional (codes "day")))
     (optional (codes "pair")))
     (flag (codes "bars")))
+    (flag (codes "open")))
     (optional_value (codes "journal"))
 
 unfoldable pub run_app : App
@@ -81,16 +82,18 @@ run_app = with_rule (with_rule (with_rule (with_rule (with_rule (with_rule (with
     (optional_values (codes "scripts"))
 
 unfoldable pub bookings_app : App
-bookings_app = with_rule (with_rule (horizon_app (codes "bookings"))
+bookings_app = with_rule (with_rule (with_rule (horizon_app (codes "bookings"))
     (required_option (codes "locator")))
+    (flag (codes "open")))
     (required_value (codes "journal"))
 
 unfoldable pub audit_app : App
-audit_app = with_rule (with_rule (with_rule (with_rule (with_rule (with_rule (horizon_app (codes "audit"))
+audit_app = with_rule (with_rule (with_rule (with_rule (with_rule (with_rule (with_rule (horizon_app (codes "audit"))
     (optional (codes "after")))
     (optional (codes "behind")))
     (optional (codes "today")))
     (flag (codes "sealed")))
+    (flag (codes "open")))
     (required_value (codes "journal")))
     (optional_values (codes "scripts"))
 
@@ -108,8 +111,9 @@ replies_app = with_rule (with_rule (with_rule (with_rule (with_rule (with_rule (
     (optional_values (codes "scripts"))
 
 unfoldable pub why_app : App
-why_app = with_rule (with_rule (horizon_app (codes "why"))
+why_app = with_rule (with_rule (with_rule (horizon_app (codes "why"))
     (required_option (codes "line")))
+    (flag (codes "open")))
     (required_value (codes "journal"))
 
 unfoldable pub explain_app : App

@@ -52,11 +52,12 @@ Asks (Flights set first days) line = (line.0 ≡ codes "flights")
     × Has line (codes "first") first.now
     × Has line (codes "days") days.now
 Asks (Cover over) line = (line.0 ≡ codes "cover") × IsOver line.1 over
-Asks (Rooms over day pair bars journal) line = (line.0 ≡ codes "rooms")
+Asks (Rooms over day pair bars is_open journal) line = (line.0 ≡ codes "rooms")
     × IsOver line.1 over
     × MayHave line (codes "day") (option_map (λ text. text.now) day)
     × MayHave line (codes "pair") (option_map (λ text. text.now) pair)
     × HasFlag line (codes "bars") bars
+    × HasFlag line (codes "open") is_open
     × MayHave line (codes "journal") (option_map (λ text. text.now) journal)
 Asks (Run over after behind resume today journal changes no_clobber again scripts) line = (line.0 ≡ codes "run")
     × IsOver line.1 over
@@ -69,16 +70,18 @@ Asks (Run over after behind resume today journal changes no_clobber again script
     × HasFlag line (codes "no-clobber") no_clobber
     × HasFlag line (codes "again") again
     × HasAny line (codes "scripts") scripts
-Asks (Bookings over locator journal) line = (line.0 ≡ codes "bookings")
+Asks (Bookings over locator is_open journal) line = (line.0 ≡ codes "bookings")
     × IsOver line.1 over
     × Has line (codes "locator") locator.now
+    × HasFlag line (codes "open") is_open
     × Has line (codes "journal") journal.now
-Asks (Audit over after behind today sealed journal scripts) line = (line.0 ≡ codes "audit")
+Asks (Audit over after behind today sealed is_open journal scripts) line = (line.0 ≡ codes "audit")
     × IsOver line.1 over
     × MayHave line (codes "after") (option_map (λ text. text.now) after)
     × MayHave line (codes "behind") (option_map (λ text. text.now) behind)
     × MayHave line (codes "today") (option_map (λ text. text.now) today)
     × HasFlag line (codes "sealed") sealed
+    × HasFlag line (codes "open") is_open
     × Has line (codes "journal") journal.now
     × HasAny line (codes "scripts") scripts
 Asks (Seal over journal) line = (line.0 ≡ codes "seal")
@@ -93,9 +96,10 @@ Asks (Replies over after behind today session from journal scripts) line = (line
     × MayHave line (codes "from") (option_map (λ text. text.now) from)
     × Has line (codes "journal") journal.now
     × HasAny line (codes "scripts") scripts
-Asks (Why over line_word journal) line = (line.0 ≡ codes "why")
+Asks (Why over line_word is_open journal) line = (line.0 ≡ codes "why")
     × IsOver line.1 over
     × Has line (codes "line") line_word.now
+    × HasFlag line (codes "open") is_open
     × Has line (codes "journal") journal.now
 Asks (Explain code numbers) line = (line.0 ≡ codes "explain")
     × Has line (codes "code") code.now

@@ -79,6 +79,12 @@ const BARS_HELP: &str = "Shows the seats held of each limit as a bar, behind eac
 const OPENING_HELP: &str =
     "The journal to replay: a file that run wrote, or - for standard input; without it the rooms before the first booking";
 
+const OPEN_HELP: &str =
+    "Takes a JOURNAL that is still open: its whole lines count, and it needs no END line";
+
+const OPEN_AUDIT_HELP: &str =
+    "Takes a JOURNAL that is still open: its whole lines count, and it needs no END line; for a JOURNAL alone, without scripts";
+
 const LOCATOR_HELP: &str = "The locator of the bookings: six letters and digits, as B3N6VC";
 
 const LINE_HELP: &str = "The line of the journal, counted from 1";
@@ -228,6 +234,7 @@ fn rooms_command<'a>(alloc: Global) -> Result<Command<'a>, AllocError>
     let rooms = with_argument(rooms, optional_option(alloc, "day", "DATE", DAY_HELP));
     let rooms = with_argument(rooms, optional_option(alloc, "pair", "PAIR", PAIR_HELP));
     let rooms = with_argument(rooms, flag(alloc, "bars", BARS_HELP));
+    let rooms = with_argument(rooms, flag(alloc, "open", OPEN_HELP));
     with_argument(
         rooms,
         optional_value(alloc, "journal", "JOURNAL", OPENING_HELP),
@@ -273,6 +280,7 @@ fn bookings_command<'a>(alloc: Global) -> Result<Command<'a>, AllocError>
         bookings,
         wanted_option(alloc, "locator", "LOCATOR", LOCATOR_HELP),
     );
+    let bookings = with_argument(bookings, flag(alloc, "open", OPEN_HELP));
     with_argument(
         bookings,
         wanted_value(alloc, "journal", "JOURNAL", JOURNAL_HELP),
@@ -295,6 +303,7 @@ fn audit_command<'a>(alloc: Global) -> Result<Command<'a>, AllocError>
     let audit = with_argument(audit, optional_option(alloc, "behind", "N", BEHIND_HELP));
     let audit = with_argument(audit, optional_option(alloc, "today", "DATE", TODAY_HELP));
     let audit = with_argument(audit, flag(alloc, "sealed", SEALED_HELP));
+    let audit = with_argument(audit, flag(alloc, "open", OPEN_AUDIT_HELP));
     let audit = with_argument(
         audit,
         wanted_value(alloc, "journal", "JOURNAL", JOURNAL_HELP),
@@ -360,6 +369,7 @@ fn why_command<'a>(alloc: Global) -> Result<Command<'a>, AllocError>
         "Only the lines before it need be right, so it explains the line that audit refuses.\n\nExample: seatdesk why --set examples/summer.ssim --limits examples/limits.txt --first 2024-07-01 --days 31 --line 6 examples/journal.txt",
     );
     let why = with_argument(why, wanted_option(alloc, "line", "N", LINE_HELP));
+    let why = with_argument(why, flag(alloc, "open", OPEN_HELP));
     with_argument(why, wanted_value(alloc, "journal", "JOURNAL", JOURNAL_HELP))
 }
 

@@ -20,7 +20,7 @@ pub fn examples_are_read()
         ((codes "set", codes "examples/summer.ssim" ∷ []) ∷ (codes "limits", codes "examples/limits.txt" ∷ [])
         ∷ (codes "first", codes "2024-07-01" ∷ []) ∷ (codes "days", codes "31" ∷ [])
         ∷ (codes "journal", codes "examples/journal.txt" ∷ [])
-        ∷ (codes "sealed", codes "false" ∷ [])
+        ∷ (codes "sealed", codes "false" ∷ []) ∷ (codes "open", codes "false" ∷ [])
         ∷ (codes "verbose", codes "false" ∷ []) ∷ []) }
     ensures run { IsReadTo
         (codes "seatdesk run --set examples/summer.ssim --limits examples/limits.txt --first 2024-07-01 --days 31 --today 2024-06-20 --journal journal.txt examples/london.txt examples/lisbon.txt")
@@ -91,7 +91,7 @@ pub fn examples_are_read()
         ∷ (codes "first", codes "2024-07-01" ∷ []) ∷ (codes "days", codes "31" ∷ [])
         ∷ (codes "day", codes "2024-07-27" ∷ []) ∷ (codes "pair", codes "LHRKEF" ∷ [])
         ∷ (codes "journal", codes "examples/journal.txt" ∷ [])
-        ∷ (codes "bars", codes "false" ∷ [])
+        ∷ (codes "bars", codes "false" ∷ []) ∷ (codes "open", codes "false" ∷ [])
         ∷ (codes "verbose", codes "false" ∷ []) ∷ []) }
     ensures bookings { IsReadTo
         (codes "seatdesk bookings --set examples/summer.ssim --limits examples/limits.txt --first 2024-07-01 --days 31 --locator B3N6VC examples/journal.txt")
@@ -99,6 +99,7 @@ pub fn examples_are_read()
         ((codes "set", codes "examples/summer.ssim" ∷ []) ∷ (codes "limits", codes "examples/limits.txt" ∷ [])
         ∷ (codes "first", codes "2024-07-01" ∷ []) ∷ (codes "days", codes "31" ∷ [])
         ∷ (codes "locator", codes "B3N6VC" ∷ []) ∷ (codes "journal", codes "examples/journal.txt" ∷ [])
+        ∷ (codes "open", codes "false" ∷ [])
         ∷ (codes "verbose", codes "false" ∷ []) ∷ []) }
     ensures against { IsReadTo
         (codes "seatdesk audit --set examples/summer.ssim --limits examples/limits.txt --first 2024-07-01 --days 31 --today 2024-06-20 examples/journal.txt examples/london.txt examples/lisbon.txt")
@@ -107,7 +108,7 @@ pub fn examples_are_read()
         ∷ (codes "first", codes "2024-07-01" ∷ []) ∷ (codes "days", codes "31" ∷ [])
         ∷ (codes "today", codes "2024-06-20" ∷ []) ∷ (codes "journal", codes "examples/journal.txt" ∷ [])
         ∷ (codes "scripts", codes "examples/london.txt" ∷ codes "examples/lisbon.txt" ∷ [])
-        ∷ (codes "sealed", codes "false" ∷ [])
+        ∷ (codes "sealed", codes "false" ∷ []) ∷ (codes "open", codes "false" ∷ [])
         ∷ (codes "verbose", codes "false" ∷ []) ∷ []) }
     ensures behind { IsReadTo
         (codes "seatdesk audit --set examples/summer.ssim --limits examples/limits.txt --first 2024-07-01 --days 31 --after examples/journal.txt --today 2024-06-21 journal-2.txt examples/london-2.txt")
@@ -116,7 +117,7 @@ pub fn examples_are_read()
         ∷ (codes "first", codes "2024-07-01" ∷ []) ∷ (codes "days", codes "31" ∷ [])
         ∷ (codes "after", codes "examples/journal.txt" ∷ []) ∷ (codes "today", codes "2024-06-21" ∷ [])
         ∷ (codes "journal", codes "journal-2.txt" ∷ []) ∷ (codes "scripts", codes "examples/london-2.txt" ∷ [])
-        ∷ (codes "sealed", codes "false" ∷ [])
+        ∷ (codes "sealed", codes "false" ∷ []) ∷ (codes "open", codes "false" ∷ [])
         ∷ (codes "verbose", codes "false" ∷ []) ∷ []) }
     ensures seal { IsReadTo
         (codes "seatdesk seal --set examples/summer.ssim --limits examples/limits.txt --first 2024-07-01 --days 31 journal.txt")
@@ -139,6 +140,7 @@ pub fn examples_are_read()
         ((codes "set", codes "examples/summer.ssim" ∷ []) ∷ (codes "limits", codes "examples/limits.txt" ∷ [])
         ∷ (codes "first", codes "2024-07-01" ∷ []) ∷ (codes "days", codes "31" ∷ [])
         ∷ (codes "line", codes "6" ∷ []) ∷ (codes "journal", codes "examples/journal.txt" ∷ [])
+        ∷ (codes "open", codes "false" ∷ [])
         ∷ (codes "verbose", codes "false" ∷ []) ∷ []) }
     ensures explain { IsReadTo (codes "seatdesk explain Q2 A5 1 2") (codes "explain")
         ((codes "code", codes "Q2" ∷ []) ∷ (codes "numbers", codes "A5" ∷ codes "1" ∷ codes "2" ∷ [])

@@ -40,12 +40,13 @@ pub enum Job<'a> {
     Cover {
         over: Horizon<'a>,
     },
-    /// `seatdesk rooms` over a horizon `[--day DATE] [--pair PAIR] [--bars] [JOURNAL]`
+    /// `seatdesk rooms` over a horizon `[--day DATE] [--pair PAIR] [--bars] [--open] [JOURNAL]`
     Rooms {
         over: Horizon<'a>,
         day: Option<&'a str>,
         pair: Option<&'a str>,
         bars: bool,
+        is_open: bool,
         journal: Option<&'a str>,
     },
     /// `seatdesk run` over a horizon `[--after JOURNAL] [--behind N] [--resume JOURNAL] --today DATE --journal OUT [--changes FILE]
@@ -63,19 +64,21 @@ pub enum Job<'a> {
         /// None or more.
         scripts: Several<'a>,
     },
-    /// `seatdesk bookings` over a horizon `--locator LOCATOR JOURNAL`
+    /// `seatdesk bookings` over a horizon `--locator LOCATOR [--open] JOURNAL`
     Bookings {
         over: Horizon<'a>,
         locator: &'a str,
+        is_open: bool,
         journal: &'a str,
     },
-    /// `seatdesk audit` over a horizon `[--after JOURNAL] [--behind N] [--today DATE] [--sealed] JOURNAL [SCRIPT...]`
+    /// `seatdesk audit` over a horizon `[--after JOURNAL] [--behind N] [--today DATE] [--sealed] [--open] JOURNAL [SCRIPT...]`
     Audit {
         over: Horizon<'a>,
         after: Option<&'a str>,
         behind: Option<&'a str>,
         today: Option<&'a str>,
         sealed: bool,
+        is_open: bool,
         journal: &'a str,
         /// None or more.
         scripts: Several<'a>,
@@ -97,10 +100,11 @@ pub enum Job<'a> {
         /// None or more.
         scripts: Several<'a>,
     },
-    /// `seatdesk why` over a horizon `--line N JOURNAL`
+    /// `seatdesk why` over a horizon `--line N [--open] JOURNAL`
     Why {
         over: Horizon<'a>,
         line: &'a str,
+        is_open: bool,
         journal: &'a str,
     },
     /// `seatdesk explain CODE [NUMBER...]`
@@ -187,6 +191,7 @@ fn job_named<'a>(alloc: Global, name: &str, matches: &ArgMatches<'a>) -> Result<
             day: may_value_of(matches, "day"),
             pair: may_value_of(matches, "pair"),
             bars: flag_of(matches, "bars"),
+            is_open: flag_of(matches, "open"),
             journal: may_value_of(matches, "journal"),
         },
         "run" => Job::Run {
@@ -204,6 +209,7 @@ fn job_named<'a>(alloc: Global, name: &str, matches: &ArgMatches<'a>) -> Result<
         "bookings" => Job::Bookings {
             over: horizon_of(matches),
             locator: value_of(matches, "locator"),
+            is_open: flag_of(matches, "open"),
             journal: value_of(matches, "journal"),
         },
         "audit" => Job::Audit {
@@ -212,6 +218,7 @@ fn job_named<'a>(alloc: Global, name: &str, matches: &ArgMatches<'a>) -> Result<
             behind: may_value_of(matches, "behind"),
             today: may_value_of(matches, "today"),
             sealed: flag_of(matches, "sealed"),
+            is_open: flag_of(matches, "open"),
             journal: value_of(matches, "journal"),
             scripts: any_values_of(alloc, matches, "scripts")?,
         },
@@ -232,6 +239,7 @@ fn job_named<'a>(alloc: Global, name: &str, matches: &ArgMatches<'a>) -> Result<
         "why" => Job::Why {
             over: horizon_of(matches),
             line: value_of(matches, "line"),
+            is_open: flag_of(matches, "open"),
             journal: value_of(matches, "journal"),
         },
         "explain" => Job::Explain {

@@ -10,6 +10,7 @@ use seat_files::{
     Input, Refusal, SealFile, SealOut, files_taken, is_moved, opened, standard_input,
     standard_output, taken, taken_or, told,
 };
+use seat_open::{OpenAudit, OpenQuestion};
 use seat_questions::{Bars, BookingsOf, CityPair, Cover, RoomsOf, Why};
 use seat_reports::{Audit, desk_check, desk_flights, desk_ladder, desk_seal};
 use seat_words::{Horizon, WordFault, date_word, days_word, line_word, locator_word, pair_word};
@@ -43,7 +44,7 @@ pub fn flights<'a>(
 
 pub fn cover<'a>(rt: &HostRuntime, over: &Horizon<'a>) -> Result<(), Refusal<'a>> {
     let days = days_of(over.first, over.days)?;
-    answered(rt, over, days, &Cover, None)
+    answered(rt, over, days, &Cover, None, Looked::PLAIN)
 }
 
 /// The rooms of the places that `--day` and `--pair` keep, with bars where they are asked for. Without a journal they are those
@@ -54,6 +55,7 @@ pub fn rooms<'a>(
     day: Option<&str>,
     pair: Option<&str>,
     bars: bool,
+    is_open: bool,
     journal: Option<&'a str>,
 ) -> Result<(), Refusal<'a>> {
     let days = days_of(over.first, over.days)?;
@@ -62,47 +64,75 @@ pub fn rooms<'a>(
         pair: pair_asked(pair)?,
         bars: bars_asked(rt, bars),
     };
-    answered(rt, over, days, &asked, journal)
+    asked_of(rt, over, days, &asked, journal, is_open)
 }
 
 pub fn bookings<'a>(
     rt: &HostRuntime,
     over: &Horizon<'a>,
     locator: &str,
+    is_open: bool,
     journal: &'a str,
 ) -> Result<(), Refusal<'a>> {
     let days = days_of(over.first, over.days)?;
     let Some(locator) = locator_word(locator) else {
         return Err(Refusal::from(WordFault::BadLocator));
     };
-    answered(rt, over, days, &BookingsOf { locator }, Some(journal))
+    asked_of(
+        rt,
+        over,
+        days,
+        &BookingsOf { locator },
+        Some(journal),
+        is_open,
+    )
 }
 
 pub fn why<'a>(
     rt: &HostRuntime,
     over: &Horizon<'a>,
     line: &str,
+    is_open: bool,
     journal: &'a str,
 ) -> Result<(), Refusal<'a>> {
     let days = days_of(over.first, over.days)?;
     let Some(line) = line_word(line) else {
         return Err(Refusal::from(WordFault::BadLine));
     };
-    answered(rt, over, days, &Why { line }, Some(journal))
+    asked_of(rt, over, days, &Why { line }, Some(journal), is_open)
 }
 
-/// The journal alone, without scripts, beside which there may have to be a seal.
+/// How a journal alone is looked at.
+#[derive(Clone, Copy)]
+pub struct Looked {
+    /// There must be a seal beside it.
+    pub is_sealed: bool,
+    /// It is still open. A seal beside it is of lines that it had before, and is looked at only where there must be one.
+    pub is_open: bool,
+}
+
+impl Looked {
+    const PLAIN: Looked = Looked {
+        is_sealed: false,
+        is_open: false,
+    };
+}
+
+/// The journal alone, without scripts.
 pub fn audit<'a>(
     rt: &HostRuntime,
     over: &Horizon<'a>,
     days: (Day, u16),
     journal: &'a str,
-    is_sealed: bool,
+    looked: Looked,
 ) -> Result<(), Refusal<'a>>
     requires first { IsOfCentury days.0 }
     requires days { (1 ≤ days.1) × (days.1 ≤ 366) }
 {
-    answered_under(rt, over, days, &Audit, Some(journal), is_sealed)
+    if looked.is_open {
+        return answered(rt, over, days, &OpenAudit, Some(journal), looked);
+    }
+    answered(rt, over, days, &Audit, Some(journal), looked)
 }
 
 /// Writes the seal of a journal that an audit accepts, while the journal is locked.
@@ -126,34 +156,42 @@ pub fn seal<'a>(
     }
 }
 
-/// The answer to a question about a journal, or about one without lines, with what stands beside it.
+/// The answer to a question about a journal that may be open.
+fn asked_of<'a, Q: Question>(
+    rt: &HostRuntime,
+    over: &Horizon<'a>,
+    days: (Day, u16),
+    question: &Q,
+    journal: Option<&'a str>,
+    is_open: bool,
+) -> Result<(), Refusal<'a>>
+    requires first { IsOfCentury days.0 }
+    requires days { (1 ≤ days.1) × (days.1 ≤ 366) }
+{
+    let looked = Looked {
+        is_sealed: false,
+        is_open,
+    };
+    if is_open {
+        return answered(rt, over, days, &OpenQuestion { question }, journal, looked);
+    }
+    answered(rt, over, days, question, journal, looked)
+}
+
+/// The answer to a question about a journal, or about one without lines, with what stands beside it. A journal that a run has replaced
+/// meanwhile is read once more, with its seal: nothing is written of one that is refused.
 fn answered<'a, Q: Question>(
     rt: &HostRuntime,
     over: &Horizon<'a>,
     days: (Day, u16),
     question: &Q,
     journal: Option<&'a str>,
+    looked: Looked,
 ) -> Result<(), Refusal<'a>>
     requires first { IsOfCentury days.0 }
     requires days { (1 ≤ days.1) × (days.1 ≤ 366) }
 {
-    answered_under(rt, over, days, question, journal, false)
-}
-
-/// The same, where there may have to be a seal. A journal that a run has replaced meanwhile is read once more, with its seal: nothing
-/// is written of one that is refused.
-fn answered_under<'a, Q: Question>(
-    rt: &HostRuntime,
-    over: &Horizon<'a>,
-    days: (Day, u16),
-    question: &Q,
-    journal: Option<&'a str>,
-    is_sealed: bool,
-) -> Result<(), Refusal<'a>>
-    requires first { IsOfCentury days.0 }
-    requires days { (1 ≤ days.1) × (days.1 ≤ 366) }
-{
-    let answer = match answered_once(rt, over, &days, question, journal, is_sealed) {
+    let answer = match answered_once(rt, over, &days, question, journal, looked) {
         Ok(answer) => answer,
         Err(refusal) => return Err(refusal),
     };
@@ -161,7 +199,7 @@ fn answered_under<'a, Q: Question>(
     if !is_moved {
         return outcome;
     }
-    match answered_once(rt, over, &days, question, journal, is_sealed) {
+    match answered_once(rt, over, &days, question, journal, looked) {
         Ok(answer) => answer.outcome,
         Err(refusal) => Err(refusal),
     }
@@ -180,7 +218,7 @@ fn answered_once<'a, Q: Question>(
     days: &(Day, u16),
     question: &Q,
     journal: Option<&'a str>,
-    is_sealed: bool,
+    looked: Looked,
 ) -> Result<Answer<'a>, Refusal<'a>>
     requires first { IsOfCentury days.now.0 }
     requires days { (1 ≤ days.now.1) × (days.now.1 ≤ 366) }
@@ -190,7 +228,7 @@ fn answered_once<'a, Q: Question>(
         Err(refusal) => return Err(refusal),
     };
     let mut journal = taken_or(rt, journal, &NO_LINES)?;
-    let seal = SealFile::beside(rt, &journal, is_sealed)?;
+    let seal = seal_of(rt, &journal, looked)?;
     let mut out = standard_output(rt);
     let outcome = answer_question(
         rt.alloc(),
@@ -206,6 +244,18 @@ fn answered_once<'a, Q: Question>(
         Ok(()) => false,
     };
     Ok(Answer { outcome, is_moved })
+}
+
+/// What of the seal beside a journal is looked at.
+fn seal_of<'a>(
+    rt: &HostRuntime,
+    journal: &Input<'a>,
+    looked: Looked,
+) -> Result<SealFile, Refusal<'a>> {
+    if looked.is_open && !looked.is_sealed {
+        return Ok(SealFile::nothing(false));
+    }
+    SealFile::beside(rt, journal, looked.is_sealed)
 }
 
 /// The data set and the limit rows, open, and the dates.

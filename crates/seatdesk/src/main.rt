@@ -11,6 +11,7 @@ mod sessions;
 mod undone;
 
 use clap::error::ErrorKind;
+use commands::Looked;
 use seat_desk::DeskFault;
 use seat_files::Refusal;
 use seat_words::{Job, WordFault, read_words};
@@ -99,6 +100,7 @@ fn carry_out<'a, T: Threads + Wait + Sync>(
             behind,
             today,
             sealed,
+            is_open,
             journal,
             scripts,
         } => {
@@ -106,8 +108,12 @@ fn carry_out<'a, T: Threads + Wait + Sync>(
                 after: *after,
                 behind: *behind,
             };
+            let looked = Looked {
+                is_sealed: *sealed,
+                is_open: *is_open,
+            };
             let scripts = scripts.as_slice();
-            selling::audit(rt, over, &older, *today, *sealed, journal, scripts)?
+            selling::audit(rt, over, &older, *today, looked, journal, scripts)?
         }
         Job::Seal { over, journal } => commands::seal(rt, over, journal)?,
         Job::Replies {
@@ -136,18 +142,21 @@ fn carry_out<'a, T: Threads + Wait + Sync>(
             day,
             pair,
             bars,
+            is_open,
             journal,
-        } => commands::rooms(rt, over, *day, *pair, *bars, *journal)?,
+        } => commands::rooms(rt, over, *day, *pair, *bars, *is_open, *journal)?,
         Job::Bookings {
             over,
             locator,
+            is_open,
             journal,
-        } => commands::bookings(rt, over, locator, journal)?,
+        } => commands::bookings(rt, over, locator, *is_open, journal)?,
         Job::Why {
             over,
             line,
+            is_open,
             journal,
-        } => commands::why(rt, over, line, journal)?,
+        } => commands::why(rt, over, line, *is_open, journal)?,
         Job::Explain { code, numbers } => explain::explain(rt, code, numbers.as_slice())?,
     }
     Ok(())

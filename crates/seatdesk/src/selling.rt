@@ -6,7 +6,7 @@ ghost use Rattle.seat_seal.specs.Rules.{is_entry};
 ghost use Rattle.ssim_flights.specs.Right.{IsOfCentury};
 
 use crate::commands;
-use crate::commands::{days_of, inputs_of};
+use crate::commands::{Looked, days_of, inputs_of};
 use crate::heard::Heard;
 use crate::sessions::scripts_opened;
 use airline_base::Day;
@@ -43,7 +43,7 @@ pub fn audit<'a>(
     over: &Horizon<'a>,
     older: &Older<'a>,
     today: Option<&str>,
-    is_sealed: bool,
+    looked: Looked,
     journal: &'a str,
     scripts: &[&'a str],
 ) -> Result<(), Refusal<'a>> {
@@ -57,11 +57,11 @@ pub fn audit<'a>(
     if let Some(fault) = audit_lacks(!scripts.is_empty(), has_older, today.is_some()) {
         return Err(Refusal::from(fault));
     }
-    if is_sealed && today.is_some() {
+    if (looked.is_sealed || looked.is_open) && today.is_some() {
         return Err(Refusal::from(WordFault::BadScripts));
     }
     let Some(today) = today else {
-        return commands::audit(rt, over, days, journal, is_sealed);
+        return commands::audit(rt, over, days, journal, looked);
     };
     audit_against(rt, over, days, older.after, more, today, journal, scripts)
 }
