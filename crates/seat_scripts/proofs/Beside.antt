@@ -1,17 +1,20 @@
 -- What an audit with scripts writes or refuses is that of its inputs, where what was read of each is all of it.
-use Rattle.std.proofs.Common.{◌≡◌, ◌≢◌, ◌<◌, inl, inr, ℕ, List, Option, Some, None, IfSome, length, subst, sym}
-use Rattle.seat_scripts.proofs.Common.{Request, Ladders, totals_of, audit_line, most_journal_bytes, IsFirstTooLargeLoad, IsLoaded, DeskFault, Memory, Unasked, AreAskedBehind, IsUnasked, HasLoaded, OfThree, AreScripts, IsRefusedAmong, IsTooLargeAmong}
+use Rattle.std.proofs.Common.{◌≡◌, ◌≢◌, ⊎_elim, inl, inr, ℕ, List, Option, Some, None, IfSome, subst, sym}
+use Rattle.seat_scripts.proofs.Common.{Request, Ladders, totals_of, audit_line, IsLoaded, DeskFault, Memory, Unasked, AreAskedBehind, IsUnasked, AreScripts, IsRefusedAmong, IsTooLargeAmong}
 use Rattle.ssim_flights.specs.declared.flight.Flight.{Flight as Flown}
 use Rattle.seat_rules.specs.Inventory.{Inventory}
 use Rattle.seat_desk.specs.AuditDesk.{IsUnlawful}
 use Rattle.seat_desk.specs.Desk.{IsOfInput}
-use Rattle.seat_desk.specs.Loading.{IsRefusedLoad}
-use Rattle.seat_desk.specs.declared.fault.DeskFault.TheVariants.{Flight, Journal, Limit, NoBehind, Replay, Script, Set}
-use Rattle.seat_scripts.specs.Against.{AreRead, HasBoth, HasOlder, IsAuditAgainst, IsOfReading, IsRefusedAgainst, IsReplayWithin, IsTooLargeAgainst, OfFour}
+use Rattle.seat_desk.specs.Loading.{IsBehind, IsRefusedLoad}
+use Rattle.seat_desk.specs.Sealing.{IsBesideFault}
+use Rattle.seat_seal.specs.declared.beside.Basis.{Basis}
+use Rattle.seat_seal.specs.declared.beside.Beside.{Beside}
+use Rattle.seat_desk.specs.declared.fault.DeskFault.TheVariants.{Flight, Journal, Limit, NoBehind, Replay, Script, Seal, Set}
+use Rattle.seat_scripts.specs.Against.{AreRead, HasBoth, IsAuditAgainst, IsOfReading, IsRefusedAgainst, IsReplayWithin, IsTooLargeAgainst, OfFour}
+use Rattle.seat_scripts.specs.Beside.{IsFaultless, IsRefusedBeside, IsUnsealed}
 use Rattle.seat_scripts.specs.Replying.{AreRepliesBehind, AreRepliesOver}
 use Rattle.seat_scripts.specs.declared.by_session.Wanted.{Wanted}
 use Rattle.seat_scripts.specs.Requests.{IsOfScript}
-use Rattle.seat_scripts.proofs.Inputs.{if_known as if_three_known}
 
 -- what is said of known bytes is said of those that may be known
 pub if_known : (P : List ℕ → List ℕ → Type 0) (A Q : List ℕ → Type 0) (R : List ℕ → List ℕ → List ℕ → List ℕ → Type 0)
@@ -41,7 +44,7 @@ module _ (set limits : List ℕ) (first days : ℕ) (after : List ℕ) (more : �
   Refused fault = IsRefusedAgainst set limits first days after more journal today texts fault
 
   module _ (flights : List Flown) (grid : Ladders) (loaded : IsLoaded set limits first days flights grid) (older : Inventory) (before : IsReplayWithin grid older after) where
-    of_journal : (fault : DeskFault) → IsUnlawful grid fault journal → Refused fault
+    pub of_journal : (fault : DeskFault) → IsUnlawful grid fault journal → Refused fault
     of_journal (Journal fault) unlawful =
         record { refusal = inr (record { flights = flights; grid = grid; is_loaded = loaded; older = older; is_older = before; is_unlawful = unlawful }) }
     of_journal (Replay fault) unlawful =
@@ -94,13 +97,6 @@ module _ (set limits after journal : Option (List ℕ)) (first days more today :
 
   module _ (flights : List Flown) (grid : Ladders) (loaded : IfSome set (λ xs. IfSome limits (λ ys. IsLoaded xs ys first days flights grid)))
       (older : Inventory) (before : IfSome after (IsReplayWithin grid older)) where
-    -- of the journal
-    pub refused_journal : (fault : DeskFault) → (IsOfInput fault → IfSome journal (IsUnlawful grid fault))
-        → IsOfInput fault → IsRefused fault
-    refused_journal fault refused input =
-        if_known (λ xs ys. IsLoaded xs ys first days flights grid) (IsReplayWithin grid older) (IsUnlawful grid fault) (λ xs ys old zs. IsRefusedAgainst xs ys first days old more zs today texts fault) set limits after journal
-        (λ xs ys old zs is was unlawful. of_journal xs ys first days old more zs today texts flights grid is older was fault unlawful) loaded before (refused input)
-
     module _ (core : Inventory) (replayed : IfSome journal (IsReplayWithin grid core)) where
       -- of a script
       pub refused_script : (fault : DeskFault) → (IsOfInput fault → IsOfScript fault)
@@ -180,7 +176,7 @@ four_load P R (Some xs) (Some ys) None journal give p = tt
 four_load P R (Some xs) None after journal give p = tt
 four_load P R None limits after journal give p = tt
 
-four_older : (P : List ℕ → List ℕ → Type 0) (A : List ℕ → Type 0) (R : List ℕ → List ℕ → List ℕ → List ℕ → Type 0)
+pub four_older : (P : List ℕ → List ℕ → Type 0) (A : List ℕ → Type 0) (R : List ℕ → List ℕ → List ℕ → List ℕ → Type 0)
     (set limits after journal : Option (List ℕ)) → ((xs ys older zs : List ℕ) → P xs ys → A older → R xs ys older zs)
     → IfSome set (λ xs. IfSome limits (λ ys. P xs ys)) → IfSome after A → OfFour set limits after journal R
 four_older P A R (Some xs) (Some ys) (Some older) (Some zs) give p a = give xs ys older zs p a
@@ -193,36 +189,8 @@ module _ (set limits after journal : Option (List ℕ)) (first days today : ℕ)
   abbrev IsLarge : Type 0
   IsLarge = OfFour set limits after journal (λ xs ys older zs. IsTooLargeAgainst xs ys first days older zs today texts)
 
-  pub too_large_load : IfSome set (λ xs. IfSome limits (λ ys. IsFirstTooLargeLoad xs ys first days)) → IsLarge
-  too_large_load over = four_load (λ xs ys. IsFirstTooLargeLoad xs ys first days) (λ xs ys older zs. IsTooLargeAgainst xs ys first days older zs today texts) set limits after journal (λ xs ys older zs is. inl is) over
-
   module _ (flights : List Flown) (grid : Ladders) (loaded : IfSome set (λ xs. IfSome limits (λ ys. IsLoaded xs ys first days flights grid))) where
-    pub load_known : IfSome set (λ xs. IfSome limits (λ ys. HasLoaded xs ys first days))
-    load_known = by set limits loaded where
-      by : (s l : Option (List ℕ)) → IfSome s (λ xs. IfSome l (λ ys. IsLoaded xs ys first days flights grid))
-          → IfSome s (λ xs. IfSome l (λ ys. HasLoaded xs ys first days))
-      by (Some xs) (Some ys) is = record { flights = flights; grid = grid; is_loaded = is }
-      by (Some xs) None is = tt
-      by None l is = tt
-
-    pub too_large_older : IfSome after (λ older. most_journal_bytes < length older) → IsLarge
-    too_large_older over =
-        four_older (λ xs ys. IsLoaded xs ys first days flights grid) (λ older. most_journal_bytes < length older) (λ xs ys older zs. IsTooLargeAgainst xs ys first days older zs today texts) set limits after journal
-        (λ xs ys older zs is large. inr (inl (record { flights = flights; grid = grid; is_loaded = is }, large))) loaded over
-
     module _ (older : Inventory) (before : IfSome after (IsReplayWithin grid older)) where
-      abbrev an_older : (xs ys zs : List ℕ) → IsLoaded xs ys first days flights grid → IsReplayWithin grid older zs
-          → HasOlder xs ys first days zs
-      an_older xs ys zs is was = record { flights = flights; grid = grid; is_loaded = is; older = older; is_older = was }
-
-      pub too_large_journal : IfSome journal (λ zs. most_journal_bytes < length zs) → IsLarge
-      too_large_journal over =
-          if_known (λ xs ys. IsLoaded xs ys first days flights grid) (IsReplayWithin grid older) (λ zs. most_journal_bytes < length zs) (λ xs ys old zs. IsTooLargeAgainst xs ys first days old zs today texts) set limits after journal
-          (λ xs ys old zs is was large. inr (inr (inl (an_older xs ys old is was, large)))) loaded before over
-
-      pub older_known : OfThree set limits after (λ xs ys zs. HasOlder xs ys first days zs)
-      older_known = if_three_known (λ xs ys. IsLoaded xs ys first days flights grid) (IsReplayWithin grid older) (λ xs ys zs. HasOlder xs ys first days zs) set limits after an_older loaded before
-
       module _ (core : Inventory) (replayed : IfSome journal (IsReplayWithin grid core)) where
         abbrev a_both : (xs ys old zs : List ℕ) → IsLoaded xs ys first days flights grid → IsReplayWithin grid older old
             → IsReplayWithin grid core zs → HasBoth xs ys first days old zs
@@ -260,6 +228,19 @@ of_unlawful grid bytes (Journal fault) unlawful = tt
 of_unlawful grid bytes (Replay fault) unlawful = tt
 of_unlawful grid bytes _ unlawful = absurd unlawful.refused
 
+of_unsealed : (beside : Beside) (basis : Basis) (bytes : List ℕ) (fault : DeskFault)
+    → IsBesideFault beside basis bytes fault → IsOfReading fault
+of_unsealed beside basis bytes (Seal fault) is = tt
+of_unsealed beside basis bytes _ is = absurd is
+
+of_refused : (beside : Beside) (basis : Basis) (grid : Ladders) (bytes : List ℕ) (fault : DeskFault)
+    → IsRefusedBeside beside basis grid fault bytes → IsOfReading fault
+of_refused beside basis grid bytes fault refused =
+    ⊎_elim
+    (λ (u : IsUnsealed beside basis fault bytes). of_unsealed beside basis bytes fault u.is_first)
+    (λ (u : IsBehind (IsFaultless beside basis bytes) (IsUnlawful grid fault bytes)). of_unlawful grid bytes fault u.here)
+    refused
+
 of_script : (fault : DeskFault) → IsOfScript fault → IsOfReading fault
 of_script (Script session fault) script = tt
 of_script _ script = absurd script
@@ -273,20 +254,23 @@ module _ (set limits after journal : Option (List ℕ)) (fault : DeskFault) wher
   read_load first days refused =
       four_load (λ xs ys. IsRefusedLoad xs ys first days fault) (λ xs ys older zs. IsOfReading fault) set limits after journal (λ xs ys older zs is. of_loading xs ys first days fault is) refused
 
-  pub read_older : (grid : Ladders) → (IsOfInput fault → IfSome after (IsUnlawful grid fault)) → IsOfInput fault → Reading
-  read_older grid refused input = by set limits after journal (refused input) where
-    by : (s l a j : Option (List ℕ)) → IfSome a (IsUnlawful grid fault) → OfFour s l a j (λ xs ys older zs. IsOfReading fault)
-    by (Some xs) (Some ys) (Some older) (Some zs) is = of_unlawful grid older fault is
+  pub read_older : (beside : Beside) (basis : Basis) (grid : Ladders)
+      → (IsOfInput fault → IfSome after (IsRefusedBeside beside basis grid fault)) → IsOfInput fault → Reading
+  read_older beside basis grid refused input = by set limits after journal (refused input) where
+    by : (s l a j : Option (List ℕ)) → IfSome a (IsRefusedBeside beside basis grid fault)
+        → OfFour s l a j (λ xs ys older zs. IsOfReading fault)
+    by (Some xs) (Some ys) (Some older) (Some zs) is = of_refused beside basis grid older fault is
     by (Some xs) (Some ys) (Some older) None is = tt
     by (Some xs) (Some ys) None j is = tt
     by (Some xs) None a j is = tt
     by None l a j is = tt
 
-  pub read_journal : (grid : Ladders) → (IsOfInput fault → IfSome journal (IsUnlawful grid fault)) → IsOfInput fault
-      → Reading
-  read_journal grid refused input = by set limits after journal (refused input) where
-    by : (s l a j : Option (List ℕ)) → IfSome j (IsUnlawful grid fault) → OfFour s l a j (λ xs ys older zs. IsOfReading fault)
-    by (Some xs) (Some ys) (Some older) (Some zs) is = of_unlawful grid zs fault is
+  pub read_journal : (beside : Beside) (basis : Basis) (grid : Ladders)
+      → (IsOfInput fault → IfSome journal (IsRefusedBeside beside basis grid fault)) → IsOfInput fault → Reading
+  read_journal beside basis grid refused input = by set limits after journal (refused input) where
+    by : (s l a j : Option (List ℕ)) → IfSome j (IsRefusedBeside beside basis grid fault)
+        → OfFour s l a j (λ xs ys older zs. IsOfReading fault)
+    by (Some xs) (Some ys) (Some older) (Some zs) is = of_refused beside basis grid zs fault is
     by (Some xs) (Some ys) (Some older) None is = tt
     by (Some xs) (Some ys) None j is = tt
     by (Some xs) None a j is = tt
@@ -300,24 +284,3 @@ module _ (set limits after journal : Option (List ℕ)) (fault : DeskFault) wher
     by (Some xs) (Some ys) None j is = tt
     by (Some xs) None a j is = tt
     by None l a j is = tt
-
--- ---- refusals of the older journal
-
-of_older : (set limits : List ℕ) (first days : ℕ) (after : List ℕ) (more : ℕ) (journal : List ℕ) (today : ℕ) (texts : List (Option (List ℕ)))
-    (flights : List Flown) (grid : Ladders) (fault : DeskFault)
-    → IsLoaded set limits first days flights grid → IsUnlawful grid fault after
-    → IsRefusedAgainst set limits first days after more journal today texts fault
-of_older set limits first days after more journal today texts flights grid (Journal fault) loaded unlawful =
-    record { refusal = inl (record { flights = flights; grid = grid; is_loaded = loaded; is_unlawful = unlawful }) }
-of_older set limits first days after more journal today texts flights grid (Replay fault) loaded unlawful =
-    record { refusal = inl (record { flights = flights; grid = grid; is_loaded = loaded; is_unlawful = unlawful }) }
-of_older set limits first days after more journal today texts flights grid _ loaded unlawful = absurd unlawful.refused
-
-pub refused_older : (set limits after journal : Option (List ℕ)) (first days more today : ℕ) (texts : List (Option (List ℕ)))
-    (flights : List Flown) (grid : Ladders)
-    → IfSome set (λ xs. IfSome limits (λ ys. IsLoaded xs ys first days flights grid)) → (fault : DeskFault)
-    → (IsOfInput fault → IfSome after (IsUnlawful grid fault)) → IsOfInput fault
-    → OfFour set limits after journal (λ xs ys older zs. IsRefusedAgainst xs ys first days older more zs today texts fault)
-refused_older set limits after journal first days more today texts flights grid loaded fault refused input =
-    four_older (λ xs ys. IsLoaded xs ys first days flights grid) (IsUnlawful grid fault) (λ xs ys older zs. IsRefusedAgainst xs ys first days older more zs today texts fault) set limits after journal
-    (λ xs ys older zs is unlawful. of_older xs ys first days older more zs today texts flights grid fault is unlawful) loaded (refused input)

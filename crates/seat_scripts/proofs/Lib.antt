@@ -13,6 +13,7 @@ mod Changing
 pub mod Reading
 pub mod Written
 pub mod Seals
+pub mod SealedBoth
 mod Lengths
 mod Audits
 mod Unasked

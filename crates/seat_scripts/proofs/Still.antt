@@ -4,14 +4,17 @@ use Rattle.ssim_flights.specs.declared.flight.Flight.{Flight as Flown}
 use Rattle.seat_journal.proofs.TextLaws.{one_text}
 use Rattle.seat_rules.specs.Inventory.{Inventory}
 use Rattle.seat_desk.specs.Desk.{IsOfInput}
-use Rattle.seat_desk.specs.declared.fault.DeskFault.TheVariants.{Book, Change as BadChange, Flight, Journal, Limit, NoBehind, NoLeg, Replay, Script, Set}
+use Rattle.seat_desk.specs.declared.fault.DeskFault.TheVariants.{Book, Change as BadChange, Flight, Journal, Limit, NoBehind, NoLeg, Replay, Script, Seal, Set}
 use Rattle.seat_scripts.proofs.Beside.{if_four}
+use Rattle.seat_scripts.proofs.SealedBoth.{both_four, large_as, refused_as}
 use Rattle.seat_scripts.proofs.Common.{Change, DeskFault, Entry, Ladders, Memory, Request, Unasked, commands_of, lists_over}
 use Rattle.seat_scripts.specs.Against.{AreRead, IsOfReading, IsRefusedAgainst, IsTooLargeAgainst, OfFour}
+use Rattle.seat_scripts.specs.Both.{IsRefusedSealed, IsTooLargeSealed}
 use Rattle.seat_scripts.specs.Changes.{AreChanges, IsOfChanges, IsUnchanged, most_change_bytes}
 use Rattle.seat_scripts.specs.Resumed.{AreReady, HasReady, IsAskedStill, IsAhead, IsRefusedResume, IsTooLargeResume}
 use Rattle.seat_scripts.specs.Resuming.{IsNoRest, IsRestOf}
 use Rattle.seat_scripts.specs.RunDesk.{IsUnbooked}
+use Rattle.seat_scripts.specs.declared.besides.Besides.{Besides}
 
 -- ---- where all is known
 
@@ -28,6 +31,7 @@ module _ (set limits : List ℕ) (first days today : ℕ) (after : List ℕ) (mo
   of_reading (Journal fault) read refused = record { refusal = refused.refusal }
   of_reading (Replay fault) read refused = record { refusal = refused.refusal }
   of_reading (Script session fault) read refused = record { refusal = refused.refusal }
+  of_reading (Seal fault) read refused = record { refusal = refused.refusal }
   of_reading _ read refused = absurd read
 
   ready : (flights : List Flown) (older core : Inventory) (scripts : List (List Request))
@@ -90,15 +94,6 @@ module _ (set limits : List ℕ) (first days today : ℕ) (after : List ℕ) (mo
 
 -- ---- as far as the bytes are known
 
-if_both : (P Q R : List ℕ → List ℕ → List ℕ → List ℕ → Type 0) (set limits after journal : Option (List ℕ))
-    → ((xs ys older zs : List ℕ) → P xs ys older zs → Q xs ys older zs → R xs ys older zs)
-    → OfFour set limits after journal P → OfFour set limits after journal Q → OfFour set limits after journal R
-if_both P Q R (Some xs) (Some ys) (Some older) (Some zs) give one two = give xs ys older zs one two
-if_both P Q R (Some xs) (Some ys) (Some older) None give one two = tt
-if_both P Q R (Some xs) (Some ys) None journal give one two = tt
-if_both P Q R (Some xs) None after journal give one two = tt
-if_both P Q R None limits after journal give one two = tt
-
 module _ (set limits after journal : Option (List ℕ)) (first days today more : ℕ) (texts : List (Option (List ℕ))) (changing : Option (List ℕ)) where
   abbrev IsRefused : DeskFault → Type 0
   IsRefused fault = OfFour set limits after journal (λ xs ys older zs. IsRefusedResume xs ys first days today older more zs texts changing fault)
@@ -106,18 +101,27 @@ module _ (set limits after journal : Option (List ℕ)) (first days today more :
   abbrev IsLarge : Type 0
   IsLarge = OfFour set limits after journal (λ xs ys older zs. IsTooLargeResume xs ys first days today older zs texts changing)
 
-  pub still_read : (fault : DeskFault)
-      → (IsOfInput fault → OfFour set limits after journal (λ xs ys older zs. IsRefusedAgainst xs ys first days older more zs today texts fault))
-      → (IsOfInput fault → OfFour set limits after journal (λ xs ys older zs. IsOfReading fault))
-      → IsOfInput fault → IsRefused fault
-  still_read fault refused read input =
-      if_both (λ xs ys older zs. IsOfReading fault) (λ xs ys older zs. IsRefusedAgainst xs ys first days older more zs today texts fault) (λ xs ys older zs. IsRefusedResume xs ys first days today older more zs texts changing fault) set limits after journal
-      (λ xs ys older zs of is. of_reading xs ys first days today older more zs texts changing fault of is) (read input) (refused input)
+  module _ (besides : Besides) where
+    -- what an audit with scripts refuses, and what it finds too large, with what stands beside both journals
+    pub still_read : (fault : DeskFault)
+        → (IsOfInput fault → OfFour set limits after journal
+        (λ xs ys older zs. IsRefusedSealed besides xs ys first days older zs fault (IsRefusedAgainst xs ys first days older more zs today texts fault)))
+        → (IsOfInput fault → OfFour set limits after journal (λ xs ys older zs. IsOfReading fault))
+        → IsOfInput fault
+        → OfFour set limits after journal
+        (λ xs ys older zs. IsRefusedSealed besides xs ys first days older zs fault (IsRefusedResume xs ys first days today older more zs texts changing fault))
+    still_read fault refused read input =
+        both_four (λ xs ys older zs. IsOfReading fault) (λ xs ys older zs. IsRefusedSealed besides xs ys first days older zs fault (IsRefusedAgainst xs ys first days older more zs today texts fault)) (λ xs ys older zs. IsRefusedSealed besides xs ys first days older zs fault (IsRefusedResume xs ys first days today older more zs texts changing fault)) set limits after journal
+        (λ xs ys older zs of is. refused_as besides xs ys first days older zs (IsRefusedAgainst xs ys first days older more zs today texts fault) (IsRefusedResume xs ys first days today older more zs texts changing fault) fault
+        (of_reading xs ys first days today older more zs texts changing fault of) is) (read input) (refused input)
 
-  pub still_large : OfFour set limits after journal (λ xs ys older zs. IsTooLargeAgainst xs ys first days older zs today texts)
-      → IsLarge
-  still_large large =
-      if_four (λ xs ys older zs. IsTooLargeAgainst xs ys first days older zs today texts) (λ xs ys older zs. IsTooLargeResume xs ys first days today older zs texts changing) set limits after journal (λ xs ys older zs is. inl is) large
+    pub still_large : OfFour set limits after journal
+        (λ xs ys older zs. IsTooLargeSealed besides xs ys first days older zs (IsTooLargeAgainst xs ys first days older zs today texts))
+        → OfFour set limits after journal
+        (λ xs ys older zs. IsTooLargeSealed besides xs ys first days older zs (IsTooLargeResume xs ys first days today older zs texts changing))
+    still_large large =
+        if_four (λ xs ys older zs. IsTooLargeSealed besides xs ys first days older zs (IsTooLargeAgainst xs ys first days older zs today texts)) (λ xs ys older zs. IsTooLargeSealed besides xs ys first days older zs (IsTooLargeResume xs ys first days today older zs texts changing)) set limits after journal
+        (λ xs ys older zs is. large_as besides xs ys first days older zs (IsTooLargeAgainst xs ys first days older zs today texts) (IsTooLargeResume xs ys first days today older zs texts changing) (λ over. inl over) is) large
 
   module _ (flights : List Flown) (older core : Inventory) (scripts : List (List Request)) (read : OfFour set limits after journal (λ xs ys old zs. AreRead xs ys first days old zs today texts flights older core scripts)) where
     abbrev IsReady : List ℕ → List ℕ → List ℕ → List ℕ → Type 0

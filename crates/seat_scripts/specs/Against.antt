@@ -19,7 +19,7 @@ use Rattle.seat_desk.specs.AuditDesk.{IsAudited, IsRefusedOver, IsReplayOf, IsUn
 use Rattle.seat_desk.specs.Loading.{Bytes, IsLoaded, IsFirstTooLargeLoad, IsRefusedLoad}
 use Rattle.seat_desk.specs.declared.inputs.Inputs.{Inputs}
 use Rattle.seat_desk.specs.declared.fault.DeskFault.{DeskFault}
-use Rattle.seat_desk.specs.declared.fault.DeskFault.TheVariants.{Flight, Journal, Limit, NoBehind, Replay, Script, Set, Unasked}
+use Rattle.seat_desk.specs.declared.fault.DeskFault.TheVariants.{Flight, Journal, Limit, NoBehind, Replay, Script, Seal, Set, Unasked}
 use Rattle.seat_scripts.specs.Asked.{HasLoaded, OfThree}
 use Rattle.seat_scripts.specs.Requests.{AreScripts, IsRefusedAmong, IsTooLargeAmong}
 use Rattle.seat_scripts.specs.RunDesk.{requests_of, works_in}
@@ -292,7 +292,7 @@ IsTooLargeAgainstOf set limits inputs after journal today texts =
     OfFour (set inputs.set) (limits inputs.limits) after journal
     (λ xs ys older zs. IsTooLargeAgainst xs ys inputs.first inputs.days older zs today texts)
 
--- what is wrong is one input by itself, which an audit with scripts reads
+-- what is wrong is one input by itself, or what stands beside it, which an audit with scripts reads
 abbrev pub IsOfReading : DeskFault → Type 0
 IsOfReading (Set fault) = Unit {0}
 IsOfReading (Flight fault) = Unit {0}
@@ -300,6 +300,7 @@ IsOfReading (Limit fault) = Unit {0}
 IsOfReading (Journal fault) = Unit {0}
 IsOfReading (Replay fault) = Unit {0}
 IsOfReading (Script session fault) = Unit {0}
+IsOfReading (Seal fault) = Unit {0}
 IsOfReading _ = ⊥
 
 -- where the bytes of the four inputs are known

@@ -3,6 +3,7 @@ pub mod Answering
 pub mod Asked
 pub mod Audits
 pub mod Beside
+pub mod Both
 pub mod Changes
 pub mod First
 pub mod Going

@@ -6,6 +6,7 @@
 
 mod against;
 mod asked;
+mod besides;
 mod by_session;
 mod changes;
 mod commands;
@@ -25,6 +26,7 @@ mod very_request;
 
 pub use against::desk_audit_against;
 pub use asked::{Asked, read_asked};
+pub use besides::Besides;
 pub use by_session::{Wanted, session_replies};
 pub use commands::lists_over;
 pub use digests::TextDigests;

@@ -1,7 +1,7 @@
 //! What a run goes on from: the inventory of an older journal, and what the texts of the run need to know of it.
 ghost use Rattle.std.specs.Prelude.{◌≡◌, ◌<◌, ◌≤◌, IfErr, IfOk, IfSome, OnOk, length};
 ghost use Rattle.seat_rules.specs.Journal.{IsLegal};
-ghost use Rattle.seat_desk.specs.AuditDesk.{IsUnlawful, most_journal_bytes, most_lines};
+ghost use Rattle.seat_desk.specs.AuditDesk.{most_journal_bytes, most_lines};
 ghost use Rattle.seat_desk.specs.Desk.{HasFailed, IsOfInput};
 ghost use Rattle.seat_scripts.specs.Against.{IsReplayWithin};
 ghost use Rattle.seat_scripts.specs.Beside.{IsFaultless, IsRefusedBeside};
@@ -20,27 +20,6 @@ use std::alloc::Global;
 #[derive(Clone, Copy)]
 pub struct Past {
     pub calls: [u32; 9],
-}
-
-/// The inventory that a journal comes to over these limits.
-pub fn replayed_from<J: NotedRead>(
-    alloc: Global,
-    grid: Grid,
-    journal: &mut J,
-) -> Result<Core, DeskFault>
-    ensures ok { IfOk result (λ core. IfSome (J.remaining journal.old) (IsReplayWithin grid core)) }
-    ensures past { IfOk result (λ core. IfSome (J.remaining journal.old) (IsPast grid core.journal)) }
-    ensures grid { IfOk result (λ core. core.grid ≡ grid) }
-    ensures legal { IfOk result (λ core. IsLegal core.grid core.journal) }
-    ensures cap { IfOk result (λ core. core.cap ≡ most_lines) }
-    ensures few { IfOk result (λ core. length core.journal ≤ most_lines) }
-    ensures fault { IfErr result (λ f. IsOfInput f → IfSome (J.remaining journal.old) (IsUnlawful grid f)) }
-    ensures large { IfErr result (λ f. f ≡ DeskFault.TooLarge
-        → IfSome (J.remaining journal.old) (λ bytes. most_journal_bytes < length bytes)) }
-    ensures device { IfErr result (λ f. f ≡ DeskFault.Device → HasFailed J.failure_count journal.old journal.new) }
-{
-    let bytes = read_input(alloc, journal, MOST_JOURNAL_BYTES)?;
-    replayed(alloc, grid, bytes)
 }
 
 /// The inventory of a journal, and what the seal beside it says of its last run.

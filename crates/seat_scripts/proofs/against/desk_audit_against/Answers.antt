@@ -3,14 +3,25 @@ use Rattle.std.proofs.lemmas.Result.{err_from_is_err_and}
 use Rattle.std.specs.Io.KnownBytes.{Appends}
 use Rattle.airline_base.specs.Noting.{TookFront}
 use Rattle.seat_scripts.proofs.Beside.{audited, refused_unasked}
+use Rattle.seat_scripts.proofs.SealedBoth.{refused_behind}
+use Rattle.seat_scripts.specs.Against.{IsRefusedAgainst}
 use Rattle.seat_scripts.proofs.against.desk_audit_against.Goals as goal
 
 pub returns-in_err-line-clause-fault : goal.returns-in_err-line-clause-fault
 returns-in_err-line-clause-fault g c =
     let p = err_from_is_err_and c.from_residual-in_err-line.result c.from_residual-in_err-line.ensures.1 in
-    rw (p.1, p.2) (refused_unasked (g.S.Read.remaining c.args.inputs.now.set) (g.L.Read.remaining c.args.inputs.now.limits) (g.A.Read.remaining c.args.after.now) (g.J.Read.remaining c.args.journal.now)
-    c.args.inputs.now.first c.args.inputs.now.days c.args.more c.args.today (map g.C.Read.remaining c.args.scripts.now)
-    c.in_ok-read.read.flights c.in_ok-read.read.older c.in_ok-read.read.core c.in_ok-read.read.scripts c.as_slice.result.now c.as_slice.ensures c.in_ok-read.read.more c.in_ok-read.ensures.more c.in_ok-read.ensures.ok c.in_err-line.field-0.0 c.in_err-line.ensures.fault)
+    let set = g.S.Read.remaining c.args.inputs.now.set in
+    let limits = g.L.Read.remaining c.args.inputs.now.limits in
+    let after = g.A.Read.remaining c.args.after.now in
+    let journal = g.J.Read.remaining c.args.journal.now in
+    let first = c.args.inputs.now.first in
+    let days = c.args.inputs.now.days in
+    let texts = map g.C.Read.remaining c.args.scripts.now in
+    let fault = c.in_err-line.field-0.0 in
+    rw (p.1, p.2) (λ input. refused_behind set limits after journal first days c.args.besides.now
+    (λ xs ys older zs. IsRefusedAgainst xs ys first days older c.args.more zs c.args.today texts fault) fault c.in_ok-read.ensures.sealed
+    (refused_unasked set limits after journal first days c.args.more c.args.today texts
+    c.in_ok-read.read.flights c.in_ok-read.read.older c.in_ok-read.read.core c.in_ok-read.read.scripts c.as_slice.result.now c.as_slice.ensures c.in_ok-read.read.more c.in_ok-read.ensures.more c.in_ok-read.ensures.ok fault c.in_err-line.ensures.fault input))
 
 pub returns-in-Ok-clause-ok : goal.returns-in-Ok-clause-ok
 returns-in-Ok-clause-ok g c = record {

@@ -1,80 +1,121 @@
 use Rattle.std.proofs.Common.{inl, inr, map}
 use Rattle.std.proofs.lemmas.Result.{err_from_is_err_and}
-use Rattle.seat_scripts.proofs.Beside.{both_known, load_known, older_known, refused_journal, refused_older, refused_script, too_large_journal, too_large_older, too_large_script}
+use Rattle.seat_scripts.proofs.Beside.{both_known, of_journal, refused_script, too_large_script}
+use Rattle.seat_scripts.proofs.SealedBoth.{both_agree, large_behind, large_journal, older_sealed, refused_behind, refused_journal, refused_older}
+use Rattle.seat_scripts.specs.Against.{IsRefusedAgainst, IsTooLargeAgainst}
 use Rattle.seat_scripts.proofs.against.read_against.Goals as goal
 
 pub returns-in_err-older-clause-fault : goal.returns-in_err-older-clause-fault
 returns-in_err-older-clause-fault g c =
     let p = err_from_is_err_and c.from_residual-in_err-older.result c.from_residual-in_err-older.ensures.1 in
+    let first = c.args.inputs.now.first in
+    let days = c.args.inputs.now.days in
+    let texts = map g.C.Read.remaining c.args.scripts.now in
+    let fault = c.in_err-older.field-0.0 in
     rw (p.1, p.2) (refused_older (g.S.Read.remaining c.args.inputs.now.set) (g.L.Read.remaining c.args.inputs.now.limits) (g.A.Read.remaining c.args.after.now) (g.J.Read.remaining c.args.journal.now)
-    c.args.inputs.now.first c.args.inputs.now.days c.args.more c.args.today (map g.C.Read.remaining c.args.scripts.now)
-    c.in_ok-loaded.field-0.loaded.flights c.in_ok-loaded.field-0.loaded.grid c.in_ok-loaded.ensures.ok
-    c.in_err-older.field-0.0 c.in_err-older.ensures.fault)
-
-pub returns-in_err-older-clause-large : goal.returns-in_err-older-clause-large
-returns-in_err-older-clause-large g c =
-    let p = err_from_is_err_and c.from_residual-in_err-older.result c.from_residual-in_err-older.ensures.1 in
-    rw (p.1, p.2) (λ large. too_large_older (g.S.Read.remaining c.args.inputs.now.set) (g.L.Read.remaining c.args.inputs.now.limits) (g.A.Read.remaining c.args.after.now) (g.J.Read.remaining c.args.journal.now)
-    c.args.inputs.now.first c.args.inputs.now.days c.args.today (map g.C.Read.remaining c.args.scripts.now)
-    c.in_ok-loaded.field-0.loaded.flights c.in_ok-loaded.field-0.loaded.grid c.in_ok-loaded.ensures.ok (c.in_err-older.ensures.large large))
-
-pub returns-in_err-older-clause-device : goal.returns-in_err-older-clause-device
-returns-in_err-older-clause-device g c =
-    let p = err_from_is_err_and c.from_residual-in_err-older.result c.from_residual-in_err-older.ensures.1 in
-    rw (p.1, p.2) (λ device. inr (inl (
-      load_known (g.S.Read.remaining c.args.inputs.now.set) (g.L.Read.remaining c.args.inputs.now.limits) (g.A.Read.remaining c.args.after.now) (g.J.Read.remaining c.args.journal.now)
-          c.args.inputs.now.first c.args.inputs.now.days c.args.today (map g.C.Read.remaining c.args.scripts.now)
-          c.in_ok-loaded.field-0.loaded.flights c.in_ok-loaded.field-0.loaded.grid c.in_ok-loaded.ensures.ok,
-      c.in_err-older.ensures.device device,
-    )))
+    first days c.args.besides.now
+    c.in_ok-loaded.field-0.loaded.flights c.in_ok-loaded.field-0.loaded.grid c.in_ok-loaded.field-0.basis c.needs_digests-needs.result c.in_ok-loaded.ensures.ok c.in_ok-loaded.ensures.basis c.needs_digests-needs.ensures.older c.needs_digests-needs.ensures.journal
+    (λ xs ys older zs. IsRefusedAgainst xs ys first days older c.args.more zs c.args.today texts fault) fault c.in_err-older.ensures.fault)
 
 pub returns-in_err-core-clause-fault : goal.returns-in_err-core-clause-fault
 returns-in_err-core-clause-fault g c =
     let p = err_from_is_err_and c.from_residual-in_err-core.result c.from_residual-in_err-core.ensures.1 in
+    let first = c.args.inputs.now.first in
+    let days = c.args.inputs.now.days in
+    let texts = map g.C.Read.remaining c.args.scripts.now in
+    let fault = c.in_err-core.field-0.0 in
+    let flights = c.in_ok-loaded.field-0.loaded.flights in
+    let grid = c.in_ok-loaded.field-0.loaded.grid in
     rw (p.1, p.2) (refused_journal (g.S.Read.remaining c.args.inputs.now.set) (g.L.Read.remaining c.args.inputs.now.limits) (g.A.Read.remaining c.args.after.now) (g.J.Read.remaining c.args.journal.now)
-    c.args.inputs.now.first c.args.inputs.now.days c.args.more c.args.today (map g.C.Read.remaining c.args.scripts.now)
-    c.in_ok-loaded.field-0.loaded.flights c.in_ok-loaded.field-0.loaded.grid c.in_ok-loaded.ensures.ok
-    c.in_ok-older.older c.in_ok-older.ensures.ok c.in_err-core.field-0.0 c.in_err-core.ensures.fault)
+    first days c.args.besides.now
+    flights grid c.in_ok-loaded.field-0.basis c.needs_digests-needs.result c.in_ok-loaded.ensures.ok c.in_ok-loaded.ensures.basis c.needs_digests-needs.ensures.older c.needs_digests-needs.ensures.journal
+    c.in_ok-older.older c.in_ok-older.ensures.ok c.in_ok-older.ensures.sealed
+    (λ xs ys older zs. IsRefusedAgainst xs ys first days older c.args.more zs c.args.today texts fault) fault
+    (λ xs ys older zs is was wrong. of_journal xs ys first days older c.args.more zs c.args.today texts flights grid is c.in_ok-older.older was fault wrong) c.in_err-core.ensures.fault)
 
 pub returns-in_err-core-clause-large : goal.returns-in_err-core-clause-large
 returns-in_err-core-clause-large g c =
     let p = err_from_is_err_and c.from_residual-in_err-core.result c.from_residual-in_err-core.ensures.1 in
-    rw (p.1, p.2) (λ large. too_large_journal (g.S.Read.remaining c.args.inputs.now.set) (g.L.Read.remaining c.args.inputs.now.limits) (g.A.Read.remaining c.args.after.now) (g.J.Read.remaining c.args.journal.now)
-    c.args.inputs.now.first c.args.inputs.now.days c.args.today (map g.C.Read.remaining c.args.scripts.now)
-    c.in_ok-loaded.field-0.loaded.flights c.in_ok-loaded.field-0.loaded.grid c.in_ok-loaded.ensures.ok
-    c.in_ok-older.older c.in_ok-older.ensures.ok (c.in_err-core.ensures.large large))
+    let first = c.args.inputs.now.first in
+    let days = c.args.inputs.now.days in
+    let texts = map g.C.Read.remaining c.args.scripts.now in
+    rw (p.1, p.2) (λ large. large_journal (g.S.Read.remaining c.args.inputs.now.set) (g.L.Read.remaining c.args.inputs.now.limits) (g.A.Read.remaining c.args.after.now) (g.J.Read.remaining c.args.journal.now)
+    first days c.args.besides.now
+    c.in_ok-loaded.field-0.loaded.flights c.in_ok-loaded.field-0.loaded.grid c.in_ok-loaded.field-0.basis c.needs_digests-needs.result c.in_ok-loaded.ensures.ok c.in_ok-loaded.ensures.basis c.needs_digests-needs.ensures.older c.needs_digests-needs.ensures.journal
+    c.in_ok-older.older c.in_ok-older.ensures.ok c.in_ok-older.ensures.sealed
+    (λ xs ys older zs. IsTooLargeAgainst xs ys first days older zs c.args.today texts) (c.in_err-core.ensures.large large))
 
 pub returns-in_err-core-clause-device : goal.returns-in_err-core-clause-device
 returns-in_err-core-clause-device g c =
     let p = err_from_is_err_and c.from_residual-in_err-core.result c.from_residual-in_err-core.ensures.1 in
-    rw (p.1, p.2) (λ device. inr (inr (inl (
-      older_known (g.S.Read.remaining c.args.inputs.now.set) (g.L.Read.remaining c.args.inputs.now.limits) (g.A.Read.remaining c.args.after.now) (g.J.Read.remaining c.args.journal.now)
-          c.args.inputs.now.first c.args.inputs.now.days c.args.today (map g.C.Read.remaining c.args.scripts.now)
-          c.in_ok-loaded.field-0.loaded.flights c.in_ok-loaded.field-0.loaded.grid c.in_ok-loaded.ensures.ok
-          c.in_ok-older.older c.in_ok-older.ensures.ok,
-      c.in_err-core.ensures.device device,
-    ))))
+    rw (p.1, p.2) (λ device. inr (inl (record {
+      ahead = older_sealed (g.S.Read.remaining c.args.inputs.now.set) (g.L.Read.remaining c.args.inputs.now.limits) (g.A.Read.remaining c.args.after.now) (g.J.Read.remaining c.args.journal.now)
+          c.args.inputs.now.first c.args.inputs.now.days c.args.besides.now
+          c.in_ok-loaded.field-0.loaded.flights c.in_ok-loaded.field-0.loaded.grid c.in_ok-loaded.field-0.basis c.needs_digests-needs.result c.in_ok-loaded.ensures.ok c.in_ok-loaded.ensures.basis c.needs_digests-needs.ensures.older c.needs_digests-needs.ensures.journal
+          c.in_ok-older.older c.in_ok-older.ensures.ok c.in_ok-older.ensures.sealed;
+      here = c.in_err-core.ensures.device device;
+    })))
 
 pub returns-in-Err-clause-fault : goal.returns-in-Err-clause-fault
 returns-in-Err-clause-fault g c =
-    refused_script (g.S.Read.remaining c.args.inputs.now.set) (g.L.Read.remaining c.args.inputs.now.limits) (g.A.Read.remaining c.args.after.now) (g.J.Read.remaining c.args.journal.now)
-    c.args.inputs.now.first c.args.inputs.now.days c.args.more c.args.today (map g.C.Read.remaining c.args.scripts.now)
-    c.in_ok-loaded.field-0.loaded.flights c.in_ok-loaded.field-0.loaded.grid c.in_ok-loaded.ensures.ok
-    c.in_ok-older.older c.in_ok-older.ensures.ok c.in_ok-core.core c.in_ok-core.ensures.ok c.in-Err.fault c.in-Err.ensures.script c.in-Err.ensures.fault
+    let set = g.S.Read.remaining c.args.inputs.now.set in
+    let limits = g.L.Read.remaining c.args.inputs.now.limits in
+    let after = g.A.Read.remaining c.args.after.now in
+    let journal = g.J.Read.remaining c.args.journal.now in
+    let first = c.args.inputs.now.first in
+    let days = c.args.inputs.now.days in
+    let texts = map g.C.Read.remaining c.args.scripts.now in
+    let fault = c.in-Err.fault in
+    let flights = c.in_ok-loaded.field-0.loaded.flights in
+    let grid = c.in_ok-loaded.field-0.loaded.grid in
+    λ input. refused_behind set limits after journal first days c.args.besides.now
+    (λ xs ys older zs. IsRefusedAgainst xs ys first days older c.args.more zs c.args.today texts fault) fault
+    (both_agree set limits after journal first days c.args.besides.now flights grid c.in_ok-loaded.field-0.basis c.needs_digests-needs.result c.in_ok-loaded.ensures.ok c.in_ok-loaded.ensures.basis c.needs_digests-needs.ensures.older c.needs_digests-needs.ensures.journal
+    c.in_ok-older.older c.in_ok-older.ensures.ok c.in_ok-older.ensures.sealed c.in_ok-core.ensures.sealed)
+    (refused_script set limits after journal first days c.args.more c.args.today texts flights grid c.in_ok-loaded.ensures.ok
+    c.in_ok-older.older c.in_ok-older.ensures.ok c.in_ok-core.field-0.past c.in_ok-core.ensures.ok fault c.in-Err.ensures.script c.in-Err.ensures.fault input)
 
 pub returns-in-Err-clause-large : goal.returns-in-Err-clause-large
 returns-in-Err-clause-large g c =
-    λ large. too_large_script (g.S.Read.remaining c.args.inputs.now.set) (g.L.Read.remaining c.args.inputs.now.limits) (g.A.Read.remaining c.args.after.now) (g.J.Read.remaining c.args.journal.now)
-    c.args.inputs.now.first c.args.inputs.now.days c.args.today (map g.C.Read.remaining c.args.scripts.now)
-    c.in_ok-loaded.field-0.loaded.flights c.in_ok-loaded.field-0.loaded.grid c.in_ok-loaded.ensures.ok
-    c.in_ok-older.older c.in_ok-older.ensures.ok c.in_ok-core.core c.in_ok-core.ensures.ok (c.in-Err.ensures.large large)
+    let set = g.S.Read.remaining c.args.inputs.now.set in
+    let limits = g.L.Read.remaining c.args.inputs.now.limits in
+    let after = g.A.Read.remaining c.args.after.now in
+    let journal = g.J.Read.remaining c.args.journal.now in
+    let first = c.args.inputs.now.first in
+    let days = c.args.inputs.now.days in
+    let texts = map g.C.Read.remaining c.args.scripts.now in
+    let flights = c.in_ok-loaded.field-0.loaded.flights in
+    let grid = c.in_ok-loaded.field-0.loaded.grid in
+    λ large. large_behind set limits after journal first days c.args.besides.now
+    (λ xs ys older zs. IsTooLargeAgainst xs ys first days older zs c.args.today texts)
+    (both_agree set limits after journal first days c.args.besides.now flights grid c.in_ok-loaded.field-0.basis c.needs_digests-needs.result c.in_ok-loaded.ensures.ok c.in_ok-loaded.ensures.basis c.needs_digests-needs.ensures.older c.needs_digests-needs.ensures.journal
+    c.in_ok-older.older c.in_ok-older.ensures.ok c.in_ok-older.ensures.sealed c.in_ok-core.ensures.sealed)
+    (too_large_script set limits after journal first days c.args.today texts flights grid c.in_ok-loaded.ensures.ok
+    c.in_ok-older.older c.in_ok-older.ensures.ok c.in_ok-core.field-0.past c.in_ok-core.ensures.ok (c.in-Err.ensures.large large))
 
 pub returns-in-Err-clause-device : goal.returns-in-Err-clause-device
 returns-in-Err-clause-device g c =
-    λ device. inr (inr (inr (
-      both_known (g.S.Read.remaining c.args.inputs.now.set) (g.L.Read.remaining c.args.inputs.now.limits) (g.A.Read.remaining c.args.after.now) (g.J.Read.remaining c.args.journal.now)
-          c.args.inputs.now.first c.args.inputs.now.days c.args.today (map g.C.Read.remaining c.args.scripts.now)
-          c.in_ok-loaded.field-0.loaded.flights c.in_ok-loaded.field-0.loaded.grid c.in_ok-loaded.ensures.ok
-          c.in_ok-older.older c.in_ok-older.ensures.ok c.in_ok-core.core c.in_ok-core.ensures.ok,
-      c.in-Err.ensures.device device,
-    )))
+    let set = g.S.Read.remaining c.args.inputs.now.set in
+    let limits = g.L.Read.remaining c.args.inputs.now.limits in
+    let after = g.A.Read.remaining c.args.after.now in
+    let journal = g.J.Read.remaining c.args.journal.now in
+    let first = c.args.inputs.now.first in
+    let days = c.args.inputs.now.days in
+    let flights = c.in_ok-loaded.field-0.loaded.flights in
+    let grid = c.in_ok-loaded.field-0.loaded.grid in
+    λ device. inr (inr (record {
+      ahead = both_agree set limits after journal first days c.args.besides.now flights grid c.in_ok-loaded.field-0.basis c.needs_digests-needs.result c.in_ok-loaded.ensures.ok c.in_ok-loaded.ensures.basis c.needs_digests-needs.ensures.older c.needs_digests-needs.ensures.journal
+          c.in_ok-older.older c.in_ok-older.ensures.ok c.in_ok-older.ensures.sealed c.in_ok-core.ensures.sealed;
+      here = inr (inr (inr (
+        both_known set limits after journal first days c.args.today (map g.C.Read.remaining c.args.scripts.now) flights grid c.in_ok-loaded.ensures.ok
+            c.in_ok-older.older c.in_ok-older.ensures.ok c.in_ok-core.field-0.past c.in_ok-core.ensures.ok,
+        c.in-Err.ensures.device device,
+      )));
+    }))
+
+pub returns-clause-sealed : goal.returns-clause-sealed
+returns-clause-sealed g c =
+    both_agree (g.S.Read.remaining c.args.inputs.now.set) (g.L.Read.remaining c.args.inputs.now.limits) (g.A.Read.remaining c.args.after.now) (g.J.Read.remaining c.args.journal.now)
+    c.args.inputs.now.first c.args.inputs.now.days c.args.besides.now
+    c.in_ok-loaded.field-0.loaded.flights c.in_ok-loaded.field-0.loaded.grid c.in_ok-loaded.field-0.basis c.needs_digests-needs.result c.in_ok-loaded.ensures.ok c.in_ok-loaded.ensures.basis c.needs_digests-needs.ensures.older c.needs_digests-needs.ensures.journal
+    c.in_ok-older.older c.in_ok-older.ensures.ok c.in_ok-older.ensures.sealed c.in_ok-core.ensures.sealed
