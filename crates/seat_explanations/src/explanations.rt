@@ -1,5 +1,7 @@
 //! What each fault line means, and each note, in one table.
 //! It knows the codes that the program prints, and nothing of the faults behind them.
+ghost use Rattle.std.specs.Prelude.{◌⊎◌, IfSome, IsTrue, codes};
+ghost use Rattle.seat_explanations.specs.Rows.{is_of};
 
 /// What one code means.
 pub struct Explanation {
@@ -13,7 +15,10 @@ pub struct Explanation {
 }
 
 /// The row of a code that stands behind another, or first where that is the empty text. Small letters stand for capitals.
-pub fn row_behind(behind: &str, code: &str) -> Option<&'static Explanation> {
+#[tactic(auto, using(crate::proofs::Rows::either))]
+pub fn row_behind(behind: &str, code: &str) -> Option<&'static Explanation>
+    ensures { IfSome result (λ row. IsTrue (is_of code.now row.now)) }
+{
     first_behind(records(), behind, code)
         .or(first_behind(records_on(), behind, code))
         .or(first_behind(flights(), behind, code))
@@ -28,7 +33,10 @@ pub fn row_behind(behind: &str, code: &str) -> Option<&'static Explanation> {
 }
 
 /// The row of a code, wherever it stands: a letter with its number, or a word that stands first.
-pub fn row_of(code: &str) -> Option<&'static Explanation> {
+#[tactic(auto, using(crate::proofs::Rows::either))]
+pub fn row_of(code: &str) -> Option<&'static Explanation>
+    ensures { IfSome result (λ row. IsTrue (is_of code.now row.now)) }
+{
     first_of(records(), code)
         .or(first_of(records_on(), code))
         .or(first_of(flights(), code))
@@ -43,7 +51,9 @@ pub fn row_of(code: &str) -> Option<&'static Explanation> {
 }
 
 /// The row of a line that is no fault, which says what was kept, or is a note: by a word that the note has.
-pub fn row_of_note(code: &str, words: &[&str]) -> Option<&'static Explanation> {
+pub fn row_of_note(code: &str, words: &[&str]) -> Option<&'static Explanation>
+    ensures { IfSome result (λ row. IsTrue (is_of code.now row.now) ⊎ IsTrue (is_of (codes "note") row.now)) }
+{
     let code = match code {
         "note:" => "note",
         _ => code,
@@ -56,12 +66,16 @@ fn has_word(words: &[&str], wanted: &str) -> bool {
     words.iter().any(|word| word.eq_ignore_ascii_case(wanted))
 }
 
-fn first_behind<'a>(rows: &'a [Explanation], behind: &str, code: &str) -> Option<&'a Explanation> {
+fn first_behind<'a>(rows: &'a [Explanation], behind: &str, code: &str) -> Option<&'a Explanation>
+    ensures { IfSome result (λ row. IsTrue (is_of code.now row.now)) }
+{
     rows.iter().find(|row| row.behind.eq_ignore_ascii_case(behind)
         && row.code.eq_ignore_ascii_case(code))
 }
 
-fn first_of<'a>(rows: &'a [Explanation], code: &str) -> Option<&'a Explanation> {
+fn first_of<'a>(rows: &'a [Explanation], code: &str) -> Option<&'a Explanation>
+    ensures { IfSome result (λ row. IsTrue (is_of code.now row.now)) }
+{
     rows.iter().find(|row| row.code.eq_ignore_ascii_case(code)
         && row.behind != "E2"
         && row.behind != "SEAL")

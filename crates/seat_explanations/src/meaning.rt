@@ -1,5 +1,12 @@
 //! What a line means that the program printed: a fault, a reply or a note.
 //! It knows how such a line is written, and nothing of what its codes say.
+ghost use Rattle.std.specs.Prelude.{◌≡◌, ◌==◌, [], ◌∷◌, ◌++◌, IfOk, IfSome, IsTrue, OnOk, map};
+ghost use Rattle.std.specs.List.{slice_split};
+ghost use Rattle.std.specs.String.{string_bytes};
+ghost use Rattle.seat_explanations.specs.Meanings.{IsMeaning};
+ghost use Rattle.seat_explanations.specs.Rows.{Begins, is_of, row_text};
+ghost use Rattle.seat_explanations.specs.Words.{filled, first_word, line_of, unnamed, words_of};
+
 use crate::explanations::{Explanation, row_behind, row_of, row_of_note};
 use crate::replies::reply_row;
 use std::alloc::{AllocError, Global};
@@ -19,29 +26,32 @@ pub fn meaning_of<'a>(
     alloc: Global,
     code: &'a str,
     behind: &[&'a str],
-) -> Result<Meaning<'a>, AllocError> {
+) -> Result<Meaning<'a>, AllocError>
+    ensures found { IfOk result
+        (λ meaning. IsMeaning (first_word (unnamed (line_of (code.now ∷ map (λ word. word.now) behind.now)))) meaning) }
+{
     let mut line = Vec::new(alloc);
-    put_words(&mut line, code)?;
+    put_words(alloc, &mut line, code)?;
     for word in behind {
-        put_words(&mut line, word)?;
+        put_words(alloc, &mut line, word)?;
     }
     explained(alloc, without_name(line.as_slice()))
 }
 
-fn explained<'a>(alloc: Global, line: &[&'a str]) -> Result<Meaning<'a>, AllocError> {
+#[tactic(auto, using(crate::proofs::Rows::begun, crate::proofs::Rows::itself, crate::proofs::Rows::told_further))]
+fn explained<'a>(alloc: Global, line: &[&'a str]) -> Result<Meaning<'a>, AllocError>
+    ensures found { IfOk result (λ meaning. IsMeaning (first_word (map (λ word. word.now) line.now)) meaning) }
+{
     let Some((code, behind)) = line.split_first() else {
         return Ok(Meaning::Unknown(""));
     };
     if let Some(note) = row_of_note(code, behind) {
-        let mut text = String::new(alloc);
-        put(&mut text, note)?;
-        return Ok(Meaning::Found(text));
+        return Ok(Meaning::Found(text_of(alloc, note)?));
     }
-    let Some(first) = row_of(code).or(reply_row(code)) else {
+    let Some(first) = row_for(code) else {
         return Ok(Meaning::Unknown(*code));
     };
-    let mut text = String::new(alloc);
-    put(&mut text, first)?;
+    let mut text = text_of(alloc, first)?;
     let numbers = put_behind(&mut text, code, behind)?;
     if let Some(word) = no_number(first.numbers, numbers) {
         return Ok(Meaning::Unknown(word));
@@ -52,17 +62,53 @@ fn explained<'a>(alloc: Global, line: &[&'a str]) -> Result<Meaning<'a>, AllocEr
     Ok(Meaning::Found(text))
 }
 
+/// The row of a fault's code or a reply's.
+#[tactic(auto, using(crate::proofs::Rows::either))]
+fn row_for(code: &str) -> Option<&'static Explanation>
+    ensures { IfSome result (λ row. IsTrue (is_of code.now row.now)) }
+{
+    row_of(code).or(reply_row(code))
+}
+
+fn text_of(alloc: Global, row: &Explanation) -> Result<String, AllocError>
+    ensures { IfOk result (λ text. string_bytes text ≡ row_text row.now) }
+{
+    let mut text = String::new(alloc);
+    put(&mut text, row)?;
+    Ok(text)
+}
+
 /// Adds the words of a text, which blanks divide.
-fn put_words<'a>(words: &mut Vec<&'a str>, text: &'a str) -> Result<(), AllocError> {
-    for word in text.split(' ') {
-        if !word.is_empty() {
-            words.push(word)?;
-        }
+fn put_words<'a>(alloc: Global, words: &mut Vec<&'a str>, text: &'a str) -> Result<(), AllocError>
+    ensures { OnOk result
+        (map (λ word. word.now) words.new.items ≡ map (λ word. word.now) words.old.items ++ words_of text.now) }
+{
+    let parts = parts_of(alloc, text)?;
+    for part in &parts {
+        put_part(words, *part)?;
     }
     Ok(())
 }
 
-fn without_name<'a, 'b>(line: &'b [&'a str]) -> &'b [&'a str] {
+fn put_part<'a>(words: &mut Vec<&'a str>, part: &'a str) -> Result<(), AllocError>
+    ensures { OnOk result
+        (map (λ word. word.now) words.new.items ≡ map (λ word. word.now) words.old.items ++ filled (part.now ∷ [])) }
+{
+    if !part.is_empty() {
+        words.push(part)?;
+    }
+    Ok(())
+}
+
+fn parts_of(alloc: Global, text: &str) -> Result<Vec<&str>, AllocError>
+    ensures { IfOk result (λ parts. map (λ part. part.now) parts.items ≡ slice_split (λ b. b == 32) text.now) }
+{
+    text.split(' ').collect(alloc)
+}
+
+fn without_name<'a, 'b>(line: &'b [&'a str]) -> &'b [&'a str]
+    ensures { map (λ word. word.now) result.now ≡ unnamed (map (λ word. word.now) line.now) }
+{
     match line {
         [first, rest @ ..] if *first == NAME => rest,
         _ => line,
@@ -74,7 +120,9 @@ fn put_behind<'b, 'c>(
     text: &mut String,
     code: &str,
     behind: &'b [&'c str],
-) -> Result<&'b [&'c str], AllocError> {
+) -> Result<&'b [&'c str], AllocError>
+    ensures { OnOk result (Begins (string_bytes text.old) (string_bytes text.new)) }
+{
     let Some((word, more)) = behind.split_first() else {
         return Ok(behind);
     };
@@ -98,14 +146,18 @@ fn no_number<'a>(counted: &[&str], numbers: &[&'a str]) -> Option<&'a str> {
     None
 }
 
-fn put_number(text: &mut String, what: &str, number: &str) -> Result<(), AllocError> {
+fn put_number(text: &mut String, what: &str, number: &str) -> Result<(), AllocError>
+    ensures { OnOk result (Begins (string_bytes text.old) (string_bytes text.new)) }
+{
     text.push_str(what)?;
     text.push_str(": ")?;
     text.push_str(number)?;
     text.push_str("\n")
 }
 
-fn put(text: &mut String, row: &Explanation) -> Result<(), AllocError> {
+fn put(text: &mut String, row: &Explanation) -> Result<(), AllocError>
+    ensures { OnOk result (string_bytes text.new ≡ string_bytes text.old ++ row_text row.now) }
+{
     text.push_str(row.code)?;
     text.push_str(": ")?;
     text.push_str(row.text)?;

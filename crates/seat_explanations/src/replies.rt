@@ -1,9 +1,14 @@
 //! What each code of a reply or an advice says, and when it is given, in one table.
 //! It knows the codes of AIRIMP, and nothing of how an answer is found.
+ghost use Rattle.std.specs.Prelude.{IfSome, IsTrue};
+ghost use Rattle.seat_explanations.specs.Rows.{is_of};
+
 use crate::explanations::Explanation;
 
 /// The row of a reply's code, in small letters or capitals.
-pub fn reply_row(code: &str) -> Option<&'static Explanation> {
+pub fn reply_row(code: &str) -> Option<&'static Explanation>
+    ensures { IfSome result (λ row. IsTrue (is_of code.now row.now)) }
+{
     rows()
         .iter()
         .find(|row| row.code.eq_ignore_ascii_case(code))

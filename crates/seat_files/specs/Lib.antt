@@ -1,2 +1,4 @@
 pub mod Faults
+pub mod Refusals
+pub mod Seals
 pub mod Streams

@@ -1,4 +1,7 @@
 //! What the file of a journal may not be: one of the inputs, or the file that the replies go to.
+ghost use Rattle.std.specs.Prelude.{IfErr, IsTrue};
+ghost use Rattle.seat_files.specs.Refusals.{is_failure, is_of_file};
+
 use crate::journal_file::{UNFINISHED, is_same};
 use crate::kept_file::KEPT_BEFORE;
 use crate::refusal::Refusal;
@@ -21,7 +24,10 @@ pub struct Guard<'a> {
 impl<'a> Guard<'a> {
     /// Looks at the file. Only a regular one is looked at: a pipe or a device may be written to at any time. A name that a journal may
     /// not have is refused.
-    pub fn new(rt: &HostRuntime, path: &'a str) -> Result<Guard<'a>, Refusal<'a>> {
+    #[tactic(auto, using(crate::proofs::Refused::of_failure))]
+    pub fn new(rt: &HostRuntime, path: &'a str) -> Result<Guard<'a>, Refusal<'a>>
+        ensures refused { IfErr result (λ refusal. IsTrue (is_of_file refusal.fault)) }
+    {
         if path == STANDARD {
             return Err(Refusal::barred(path, "Is no file"));
         }
@@ -42,7 +48,9 @@ impl<'a> Guard<'a> {
         inputs: &Inputs<Input<'a>, Input<'a>>,
         scripts: &[Input<'a>],
         more: &[&Input<'a>],
-    ) -> Result<(), Refusal<'a>> {
+    ) -> Result<(), Refusal<'a>>
+        ensures refused { IfErr result (λ refusal. IsTrue (is_of_file refusal.fault)) }
+    {
         self.pass_one(&inputs.set)?;
         self.pass_one(&inputs.limits)?;
         for script in scripts {
@@ -56,7 +64,9 @@ impl<'a> Guard<'a> {
 
     /// Refuses the file that standard output goes to, since the replies would be written over the journal. Where that can't be
     /// looked at, it may be this file.
-    pub fn pass_output(&self, rt: &HostRuntime) -> Result<(), Refusal<'a>> {
+    pub fn pass_output(&self, rt: &HostRuntime) -> Result<(), Refusal<'a>>
+        ensures refused { IfErr result (λ refusal. IsTrue (is_of_file refusal.fault)) }
+    {
         let Some(there) = &self.there else {
             return Ok(());
         };
@@ -67,14 +77,19 @@ impl<'a> Guard<'a> {
     }
 
     /// Refuses a file that is there and not empty.
-    pub fn keep(&self) -> Result<(), Refusal<'a>> {
+    pub fn keep(&self) -> Result<(), Refusal<'a>>
+        ensures refused { IfErr result (λ refusal. IsTrue (is_of_file refusal.fault)) }
+    {
         match &self.there {
             Some(file) if file.len() > 0 => Err(Refusal::barred(self.path, NOT_EMPTY)),
             _ => Ok(()),
         }
     }
 
-    fn pass_one(&self, input: &Input<'a>) -> Result<(), Refusal<'a>> {
+    #[tactic(auto, using(crate::proofs::Refused::of_failure))]
+    fn pass_one(&self, input: &Input<'a>) -> Result<(), Refusal<'a>>
+        ensures refused { IfErr result (λ refusal. IsTrue (is_of_file refusal.fault)) }
+    {
         let is_named = !self.path.is_empty() && input.name() == self.path;
         if is_named || self.is_same(input)? {
             return Err(Refusal::barred(self.path, "Is an input"));
@@ -82,7 +97,9 @@ impl<'a> Guard<'a> {
         Ok(())
     }
 
-    fn is_same(&self, input: &Input<'a>) -> Result<bool, Refusal<'a>> {
+    fn is_same(&self, input: &Input<'a>) -> Result<bool, Refusal<'a>>
+        ensures refused { IfErr result (λ refusal. IsTrue (is_failure refusal.fault)) }
+    {
         let Some(there) = &self.there else {
             return Ok(false);
         };
@@ -99,7 +116,9 @@ pub fn files_taken<'b>(
     inputs: &Inputs<Input<'b>, Input<'b>>,
     scripts: &[Input<'b>],
     more: &[&Input<'b>],
-) -> Result<Vec<Metadata>, Refusal<'b>> {
+) -> Result<Vec<Metadata>, Refusal<'b>>
+    ensures refused { IfErr result (λ refusal. IsTrue (is_failure refusal.fault)) }
+{
     let mut files = Vec::new(rt.alloc());
     add_file(&mut files, inputs.set.metadata()?)?;
     add_file(&mut files, inputs.limits.metadata()?)?;
@@ -113,7 +132,9 @@ pub fn files_taken<'b>(
     Ok(files)
 }
 
-fn add_file<'b>(files: &mut Vec<Metadata>, file: Option<Metadata>) -> Result<(), Refusal<'b>> {
+fn add_file<'b>(files: &mut Vec<Metadata>, file: Option<Metadata>) -> Result<(), Refusal<'b>>
+    ensures refused { IfErr result (λ refusal. IsTrue (is_failure refusal.fault)) }
+{
     let Some(file) = file else {
         return Ok(());
     };

@@ -1,4 +1,7 @@
 //! What a command is refused with, and the file that it is refused for.
+ghost use Rattle.std.specs.Prelude.{◌≡◌, IfErr, IsErrAnd, IsOk, IsTrue};
+ghost use Rattle.seat_files.specs.Refusals.{is_failure, is_of_seal};
+
 use crate::fault::Fault;
 use crate::journal_file::{JournalFile, is_link};
 use crate::seal_out::SealOut;
@@ -55,7 +58,9 @@ impl fmt::Display for Put<'_> {
 }
 
 impl<'a> Refusal<'a> {
-    fn of(fault: Fault) -> Refusal<'a> {
+    fn of(fault: Fault) -> Refusal<'a>
+        ensures { result.fault ≡ fault }
+    {
         Refusal {
             fault,
             file: None,
@@ -69,7 +74,9 @@ impl<'a> Refusal<'a> {
     }
 
     /// The fault of a file that does not open.
-    pub fn unopened(path: &'a str, error: &io::Error) -> Refusal<'a> {
+    pub fn unopened(path: &'a str, error: &io::Error) -> Refusal<'a>
+        ensures { IsTrue (is_failure result.fault) }
+    {
         if error.kind() == io::ErrorKind::OutOfMemory {
             return Refusal::from(DeskFault::Memory);
         }
@@ -77,7 +84,9 @@ impl<'a> Refusal<'a> {
     }
 
     /// A file that may not be the journal's, and why.
-    pub fn barred(file: &'a str, why: &'static str) -> Refusal<'a> {
+    pub fn barred(file: &'a str, why: &'static str) -> Refusal<'a>
+        ensures { result.fault ≡ Fault.Word WordFault.BadJournal }
+    {
         let mut refusal = Refusal::from(WordFault::BadJournal);
         refusal.file = Some(file);
         refusal.why = Some(why);
@@ -90,36 +99,48 @@ impl<'a> Refusal<'a> {
     }
 
     /// The same of the file beside it whose name ends so.
-    pub fn beside(self, ending: &'static str) -> Refusal<'a> {
+    pub fn beside(self, ending: &'static str) -> Refusal<'a>
+        ensures { result.fault ≡ self.entry.fault }
+    {
         let mut refusal = self;
         refusal.ending = ending;
         refusal
     }
 
     /// The fault of an input that failed while it was read.
-    pub fn unread(input: &Input<'a>) -> Refusal<'a> {
+    pub fn unread(input: &Input<'a>) -> Refusal<'a>
+        ensures { result.fault ≡ Fault.Desk DeskFault.Device }
+    {
         Refusal::from(DeskFault::Device).at(input.name(), input.reason())
     }
 
     /// Whether the fault is one of what stands beside a journal.
-    pub fn is_of_seal(&self) -> bool {
+    pub fn is_of_seal(&self) -> bool
+        ensures { result ≡ is_of_seal self.now.fault }
+    {
         matches!(self.fault, Fault::Desk(DeskFault::Seal(_)))
     }
 
     /// The fault of standard output where it is closed from the start.
-    pub fn of_closed_output() -> Refusal<'a> {
+    pub fn of_closed_output() -> Refusal<'a>
+        ensures { result.fault ≡ Fault.Desk DeskFault.Device }
+    {
         Refusal::from(DeskFault::Device).at("standard output", Some(NOT_OPEN))
     }
 
     /// The fault of standard output where help or the version is written to it.
-    pub fn unwritten(error: &io::Error) -> Refusal<'a> {
+    pub fn unwritten(error: &io::Error) -> Refusal<'a>
+        ensures { result.fault ≡ Fault.Desk DeskFault.Device }
+    {
         let refusal = Refusal::from(DeskFault::Device).at("standard output", error.raw_os_error());
         refusal.hushed()
     }
 
     /// Names the input where it may be the one that the fault is of. Inputs are read and checked one behind the other, and noted
     /// in that order: the fault of an input is one of the last that was read, and a device that failed is the last that did.
-    fn noting(self, input: &Input<'a>) -> Refusal<'a> {
+    fn noting(self, input: &Input<'a>) -> Refusal<'a>
+        ensures { result.fault ≡ self.entry.fault }
+    {
         if let Fault::Desk(DeskFault::Device) = self.fault {
             if input.failures() > 0 {
                 return self.at(input.name(), input.reason());
@@ -133,21 +154,27 @@ impl<'a> Refusal<'a> {
     }
 
     /// Names the journal where one of its lines is not what the scripts ask, or it has fewer than the words say.
-    pub fn noting_unasked(self, journal: &Input<'a>) -> Refusal<'a> {
+    pub fn noting_unasked(self, journal: &Input<'a>) -> Refusal<'a>
+        ensures { result.fault ≡ self.entry.fault }
+    {
         match self.fault {
             Fault::Desk(DeskFault::Unasked { .. } | DeskFault::NoBehind) => self.of_input(journal),
             _ => self,
         }
     }
 
-    fn of_input(self, input: &Input<'a>) -> Refusal<'a> {
+    fn of_input(self, input: &Input<'a>) -> Refusal<'a>
+        ensures { result.fault ≡ self.entry.fault }
+    {
         let mut refusal = self.at(input.name(), None);
         refusal.has_mark = input.has_mark();
         refusal
     }
 
     /// The same for several, in order.
-    pub fn noting_all(self, inputs: &[&Input<'a>]) -> Refusal<'a> {
+    pub fn noting_all(self, inputs: &[&Input<'a>]) -> Refusal<'a>
+        ensures { result.fault ≡ self.entry.fault }
+    {
         let mut refusal = self;
         for input in inputs {
             refusal = refusal.noting(input);
@@ -156,7 +183,9 @@ impl<'a> Refusal<'a> {
     }
 
     /// The same for inputs that are kept together.
-    pub fn noting_each(self, inputs: &[Input<'a>]) -> Refusal<'a> {
+    pub fn noting_each(self, inputs: &[Input<'a>]) -> Refusal<'a>
+        ensures { result.fault ≡ self.entry.fault }
+    {
         let mut refusal = self;
         for input in inputs {
             refusal = refusal.noting(input);
@@ -165,7 +194,9 @@ impl<'a> Refusal<'a> {
     }
 
     /// The same for outputs.
-    pub fn noting_outputs(self, outputs: &[&Output<'a>]) -> Refusal<'a> {
+    pub fn noting_outputs(self, outputs: &[&Output<'a>]) -> Refusal<'a>
+        ensures { result.fault ≡ self.entry.fault }
+    {
         let mut refusal = self;
         for output in outputs {
             refusal = refusal.noting_output(output);
@@ -174,7 +205,9 @@ impl<'a> Refusal<'a> {
     }
 
     /// The same for the file of a journal.
-    pub fn noting_journal(self, journal: &JournalFile<'a>) -> Refusal<'a> {
+    pub fn noting_journal(self, journal: &JournalFile<'a>) -> Refusal<'a>
+        ensures { result.fault ≡ self.entry.fault }
+    {
         match self.fault {
             Fault::Desk(DeskFault::Device) if journal.failures() > 0 => {
                 let refusal = self.at(journal.name(), journal.reason());
@@ -185,7 +218,9 @@ impl<'a> Refusal<'a> {
     }
 
     /// Notes that the journal is in its place, behind so many lines that it goes on from, and behind so many that scripts had then.
-    pub fn noting_put(self, file: &'a str, behind: u64, resumed: u64) -> Refusal<'a> {
+    pub fn noting_put(self, file: &'a str, behind: u64, resumed: u64) -> Refusal<'a>
+        ensures { result.fault ≡ self.entry.fault }
+    {
         let mut refusal = self;
         refusal.put = Some(Put {
             file,
@@ -207,7 +242,9 @@ impl<'a> Refusal<'a> {
     }
 
     /// The same for the seal of a journal.
-    pub fn noting_seal(self, seal: &SealOut<'a>) -> Refusal<'a> {
+    pub fn noting_seal(self, seal: &SealOut<'a>) -> Refusal<'a>
+        ensures { result.fault ≡ self.entry.fault }
+    {
         match self.fault {
             Fault::Desk(DeskFault::Device) if seal.failures() > 0 => {
                 let refusal = self.at(seal.name(), seal.reason());
@@ -218,7 +255,9 @@ impl<'a> Refusal<'a> {
     }
 
     /// The same for an output.
-    pub fn noting_output(self, output: &Output<'a>) -> Refusal<'a> {
+    pub fn noting_output(self, output: &Output<'a>) -> Refusal<'a>
+        ensures { result.fault ≡ self.entry.fault }
+    {
         match self.fault {
             Fault::Desk(DeskFault::Device) if output.failures() > 0 => {
                 let refusal = self.at(output.name(), output.reason());
@@ -229,13 +268,17 @@ impl<'a> Refusal<'a> {
     }
 
     /// Nobody is told of a failure of standard output whose reader has gone away.
-    fn hushed(self) -> Refusal<'a> {
+    fn hushed(self) -> Refusal<'a>
+        ensures { result.fault ≡ self.entry.fault }
+    {
         let mut refusal = self;
         refusal.is_unheard = self.reason == Some(READER_GONE);
         refusal
     }
 
-    fn at(self, file: &'a str, reason: Option<i32>) -> Refusal<'a> {
+    fn at(self, file: &'a str, reason: Option<i32>) -> Refusal<'a>
+        ensures { result.fault ≡ self.entry.fault }
+    {
         let mut refusal = self;
         refusal.file = Some(file);
         refusal.ending = "";
@@ -364,13 +407,17 @@ fn place_of(fault: &Fault) -> Option<(&'static str, u32)> {
 }
 
 impl<'a> From<DeskFault> for Refusal<'a> {
-    fn from(fault: DeskFault) -> Refusal<'a> {
+    fn from(fault: DeskFault) -> Refusal<'a>
+        ensures { result.fault ≡ Fault.Desk fault }
+    {
         Refusal::of(Fault::Desk(fault))
     }
 }
 
 impl<'a> From<WordFault> for Refusal<'a> {
-    fn from(fault: WordFault) -> Refusal<'a> {
+    fn from(fault: WordFault) -> Refusal<'a>
+        ensures { result.fault ≡ Fault.Word fault }
+    {
         Refusal::of(Fault::Word(fault))
     }
 }
@@ -380,7 +427,10 @@ pub fn told<'a>(
     outcome: Result<(), DeskFault>,
     inputs: &[&Input<'a>],
     outputs: &[&Output<'a>],
-) -> Result<(), Refusal<'a>> {
+) -> Result<(), Refusal<'a>>
+    ensures ok { IsOk outcome → IsOk result }
+    ensures fault { IfErr outcome (λ fault. IsErrAnd result (λ refusal. refusal.fault ≡ Fault.Desk fault)) }
+{
     match outcome {
         Ok(()) => Ok(()),
         Err(fault) => Err(

@@ -1,5 +1,10 @@
 //! The seal beside a journal: a file of its own in the folder of the file that the journal's name leads to.
 //! It knows names and bytes, and nothing of what a seal says.
+ghost use Rattle.std.specs.Prelude.{◌≡◌, IfErr, IfOk, IsTrue, None};
+ghost use Rattle.std.specs.Option.{option_map};
+ghost use Rattle.seat_files.specs.Refusals.{is_failure};
+ghost use Rattle.seat_files.specs.Seals.{seal_bytes, seal_wanted};
+
 use crate::journal_file::is_same;
 use crate::refusal::Refusal;
 use crate::streams::Input;
@@ -23,7 +28,10 @@ pub struct SealFile {
 
 impl SealFile {
     /// Nothing, of a journal that is no regular file.
-    pub fn nothing(is_wanted: bool) -> SealFile {
+    pub fn nothing(is_wanted: bool) -> SealFile
+        ensures text { seal_bytes result ≡ None }
+        ensures wanted { seal_wanted result ≡ is_wanted }
+    {
         SealFile {
             text: None,
             is_wanted,
@@ -35,7 +43,10 @@ impl SealFile {
         rt: &HostRuntime,
         journal: &Input<'a>,
         is_wanted: bool,
-    ) -> Result<SealFile, Refusal<'a>> {
+    ) -> Result<SealFile, Refusal<'a>>
+        ensures wanted { IfOk result (λ seal. seal_wanted seal ≡ is_wanted) }
+        ensures refused { IfErr result (λ refusal. IsTrue (is_failure refusal.fault)) }
+    {
         match journal.metadata()? {
             Some(file) if file.is_file() => Ok(SealFile {
                 text: text_beside(rt, journal.name())?,
@@ -45,7 +56,10 @@ impl SealFile {
         }
     }
 
-    pub fn as_beside(&self) -> Beside<'_> {
+    pub fn as_beside(&self) -> Beside<'_>
+        ensures text { option_map (λ text. text.now) result.text ≡ seal_bytes self.now }
+        ensures wanted { result.is_wanted ≡ seal_wanted self.now }
+    {
         let text = match &self.text {
             Some(text) => Some(text.as_slice()),
             None => None,
@@ -58,7 +72,9 @@ impl SealFile {
 }
 
 /// The name of the seal of the file that a name leads to, if it leads to one.
-pub fn seal_path<'a>(rt: &HostRuntime, name: &'a str) -> Result<Option<String>, Refusal<'a>> {
+pub fn seal_path<'a>(rt: &HostRuntime, name: &'a str) -> Result<Option<String>, Refusal<'a>>
+    ensures refused { IfErr result (λ refusal. IsTrue (is_failure refusal.fault)) }
+{
     let path = match fs::canonicalize(rt, name) {
         Ok(path) => path.into_string(),
         Err(error) if error.kind() == io::ErrorKind::NotFound => return Ok(None),
@@ -70,7 +86,9 @@ pub fn seal_path<'a>(rt: &HostRuntime, name: &'a str) -> Result<Option<String>, 
     }
 }
 
-fn text_beside<'a>(rt: &HostRuntime, name: &'a str) -> Result<Option<Vec<u8>>, Refusal<'a>> {
+fn text_beside<'a>(rt: &HostRuntime, name: &'a str) -> Result<Option<Vec<u8>>, Refusal<'a>>
+    ensures refused { IfErr result (λ refusal. IsTrue (is_failure refusal.fault)) }
+{
     match seal_path(rt, name)? {
         Some(path) => text_at(rt, path.as_str(), name),
         None => Ok(None),
@@ -83,7 +101,9 @@ pub fn text_at<'a>(
     rt: &HostRuntime,
     path: &str,
     name: &'a str,
-) -> Result<Option<Vec<u8>>, Refusal<'a>> {
+) -> Result<Option<Vec<u8>>, Refusal<'a>>
+    ensures refused { IfErr result (λ refusal. IsTrue (is_failure refusal.fault)) }
+{
     match fs::metadata(rt, path) {
         Ok(there) if !there.is_file() => return Ok(Some(Vec::new(rt.alloc()))),
         _ => {}

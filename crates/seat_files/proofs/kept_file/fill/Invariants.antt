@@ -1,5 +1,5 @@
 -- No more is filled than there is room.
-use Rattle.std.proofs.Common.{◌-◌, ◌≡◌, ◌≤◌, length}
+use Rattle.std.proofs.Common.{◌-◌, ◌≤◌, length}
 use Rattle.seat_files.proofs.kept_file.fill.Given as goal
 
 abbrev pub invariant-loop-filled : goal.invariant-loop-filled

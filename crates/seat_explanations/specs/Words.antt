@@ -1,0 +1,29 @@
+-- The words of a line that is given in pieces, as one word or as several.
+use Rattle.std.specs.Prelude.{ℕ, List, [], ◌∷◌, ◌++◌, ◌==◌, nat_eq, if◌then◌else◌, codes}
+use Rattle.std.specs.Cmp.Lexicographic.{pointwise}
+use Rattle.std.specs.List.{slice_split}
+
+-- the parts that are not empty
+abbrev pub filled : List (List ℕ) → List (List ℕ)
+filled [] = []
+filled ([] ∷ parts) = filled parts
+filled ((b ∷ bs) ∷ parts) = (b ∷ bs) ∷ filled parts
+
+-- what blanks divide
+abbrev pub words_of : List ℕ → List (List ℕ)
+words_of text = filled (slice_split (λ b. b == 32) text)
+
+-- the words of all pieces, in order
+abbrev pub line_of : List (List ℕ) → List (List ℕ)
+line_of [] = []
+line_of (piece ∷ pieces) = words_of piece ++ line_of pieces
+
+-- without the program's name
+abbrev pub unnamed : List (List ℕ) → List (List ℕ)
+unnamed [] = []
+unnamed (word ∷ words) = if pointwise nat_eq word (codes "seatdesk:") then words else (word ∷ words)
+
+-- of no word the empty text
+abbrev pub first_word : List (List ℕ) → List ℕ
+first_word [] = []
+first_word (word ∷ _) = word

@@ -1,0 +1,10 @@
+-- A failure is one of the faults of a file.
+use Rattle.std.proofs.Common.{IsTrue}
+use Rattle.std.proofs.lemmas.Bool.{false≢true}
+use Rattle.seat_files.specs.Refusals.{is_failure, is_of_file}
+use Rattle.seat_files.specs.declared.fault.Fault.{Fault}
+use Rattle.seat_files.specs.declared.fault.Fault.TheVariants.{Desk, Word}
+
+pub of_failure : (fault : Fault) → IsTrue (is_failure fault) → IsTrue (is_of_file fault)
+of_failure (Desk f) failed = failed
+of_failure (Word f) failed = absurd (false≢true failed)

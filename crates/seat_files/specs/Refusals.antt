@@ -1,0 +1,22 @@
+-- With which faults a file of a command is refused.
+use Rattle.std.specs.Prelude.{Bool, true, false}
+use Rattle.seat_desk.specs.declared.fault.DeskFault.TheVariants.{Device, Memory, Seal}
+use Rattle.seat_words.specs.declared.fault.WordFault.TheVariants.{BadJournal}
+use Rattle.seat_files.specs.declared.fault.Fault.{Fault}
+use Rattle.seat_files.specs.declared.fault.Fault.TheVariants.{Desk, Word}
+
+-- a device that failed, or a growth that was refused
+abbrev pub is_failure : Fault → Bool
+is_failure (Desk Device) = true
+is_failure (Desk Memory) = true
+is_failure _ = false
+
+-- the same, or a file that may not be the journal's
+abbrev pub is_of_file : Fault → Bool
+is_of_file (Word BadJournal) = true
+is_of_file fault = is_failure fault
+
+-- one of what stands beside a journal
+abbrev pub is_of_seal : Fault → Bool
+is_of_seal (Desk (Seal _)) = true
+is_of_seal _ = false
