@@ -499,7 +499,7 @@ const JOURNALS: &[Explanation] = &[
         behind: "",
         code: "J3",
         numbers: LINE,
-        text: "The line is a wrong END line, stands behind it, or should be the END line and is missing.\nThe journal may have been cut off.\nWith --after it may be the older journal, which is read first.",
+        text: "The line is a wrong END line, stands behind it, or should be the END line and is missing.\nThe journal may have been cut off, or be one that is still open: audit --open says whether its whole lines are right.\nWith --after it may be the older journal, which is read first.",
     },
     Explanation {
         behind: "",
