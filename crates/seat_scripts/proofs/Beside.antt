@@ -1,5 +1,5 @@
 -- What an audit with scripts writes or refuses is that of its inputs, where what was read of each is all of it.
-use Rattle.std.proofs.Common.{◌≡◌, ◌≢◌, ⊎_elim, inl, inr, ℕ, List, Option, Some, None, IfSome, subst, sym}
+use Rattle.std.proofs.Common.{◌≡◌, ◌≢◌, ⊎_elim, inr, ℕ, List, Option, Some, None, IfSome, subst, sym}
 use Rattle.seat_scripts.proofs.Common.{Request, Ladders, totals_of, audit_line, IsLoaded, DeskFault, Memory, Unasked, AreAskedBehind, IsUnasked, AreScripts, IsRefusedAmong, IsTooLargeAmong}
 use Rattle.ssim_flights.specs.declared.flight.Flight.{Flight as Flown}
 use Rattle.seat_rules.specs.Inventory.{Inventory}

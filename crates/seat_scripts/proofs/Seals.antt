@@ -19,7 +19,7 @@ use Rattle.seat_scripts.specs.Beside.{IsFaultless, IsRefusedBeside, IsRefusedSea
 use Rattle.seat_scripts.specs.Changes.{IsOfChanges, IsUnchanged, most_change_bytes}
 use Rattle.seat_scripts.specs.Going.{IsPast}
 use Rattle.seat_scripts.specs.Asked.{IsAsked, IsTooLargeRun}
-use Rattle.seat_scripts.specs.Repeated.{IsLastRun, IsRepeated, IsRepeatedOf, is_repeated}
+use Rattle.seat_scripts.specs.Repeated.{IsLastRun, IsRepeatedOf, is_repeated}
 use Rattle.seat_scripts.specs.TextDigests.{AreDigests, IsDigestOf}
 use Rattle.seat_scripts.specs.RunDesk.{IsRefusedRun}
 use Rattle.seat_scripts.specs.Requests.{IsOfScript}

@@ -3,7 +3,9 @@ use Rattle.std.proofs.lemmas.Result.{err_from_is_err_and}
 use Rattle.seat_desk.specs.Desk.{HasFailed}
 use Rattle.seat_desk.specs.Loading.{HasFirstLoadFailed}
 use Rattle.seat_scripts.specs.Requests.{HasFailedAmong}
-use Rattle.seat_scripts.specs.Resumed.{FailsResume}
+use Rattle.seat_scripts.specs.Both.{FailsSealedResume}
+use Rattle.seat_scripts.specs.Resumed.{IsRefusedResume}
+use Rattle.seat_scripts.proofs.SealedBoth.{refused_behind}
 use Rattle.seat_scripts.proofs.Still.{unbooked_still}
 use Rattle.seat_run.specs.SealedDesk.{AreTexts, IsSealedResumeOf}
 use Rattle.seat_run.proofs.SealedTexts.{all_sealed, all_stopped, all_unsealable, same_texts, sealed_resume}
@@ -48,7 +50,7 @@ returns-clause-device g c =
     c.in_ok-asked.asked.basis c.in_ok-asked.ensures.basis c.in_ok-asked.asked.digests c.in_ok-asked.ensures.digests c.in_ok-asked.asked.changes_digest c.in_ok-asked.ensures.changed c.in_ok-asked.asked.behind (g.R.Read.remaining c.args.resumed.now) c.args.more c.in_ok-asked.ensures.ok c.in_ok-asked.ensures.behind journal entry said (same_texts c.in_ok-answer.answer.basis c.in_ok-asked.asked.basis c.as_slice.result.now c.in_ok-asked.asked.digests c.in_ok-answer.answer.changes c.in_ok-asked.asked.changes_digest c.in_ok-answer.answer.behind c.in_ok-asked.asked.behind c.args.today
     c.as_slice-2.result.now c.in_ok-answer.answer.settled.journal c.deref.result.now c.in_ok-answer.answer.replies.items
     c.in_ok-answer.ensures.basis (c.as_slice.ensures ∙ c.in_ok-answer.ensures.digests) c.in_ok-answer.ensures.changes c.in_ok-answer.ensures.behind c.as_slice-2.ensures c.deref.ensures.value journal entry said t))
-    (FailsResume g.S.Read.remaining g.L.Read.remaining c.args.inputs.now c.args.today (g.A.Read.remaining c.args.after.now) (g.R.Read.remaining c.args.resumed.now) (map g.C.Read.remaining c.args.scripts.now)
+    (FailsSealedResume c.args.besides.now g.S.Read.remaining g.L.Read.remaining c.args.inputs.now c.args.today (g.A.Read.remaining c.args.after.now) (g.R.Read.remaining c.args.resumed.now) (map g.C.Read.remaining c.args.scripts.now)
     (HasFirstLoadFailed g.S.Read.remaining g.S.Failures.failure_count g.L.Failures.failure_count c.args.inputs.now c.read_resumed.new.inputs) (HasFailed g.A.Failures.failure_count c.args.after.now c.read_resumed.new.after)
     (HasFailed g.R.Failures.failure_count c.args.resumed.now c.read_resumed.new.journal)
     (HasFailedAmong c.args.today (map g.C.Read.remaining c.args.scripts.now) g.C.Failures.failure_count c.args.scripts.now c.read_resumed.new.scripts)
@@ -60,7 +62,17 @@ returns-clause-device g c =
 pub returns-in_err-answer-clause-fault : goal.returns-in_err-answer-clause-fault
 returns-in_err-answer-clause-fault g c =
     let p = err_from_is_err_and c.from_residual-in_err-answer.result c.from_residual-in_err-answer.ensures.1 in
-    rw (p.1, p.2) (unbooked_still (g.S.Read.remaining c.args.inputs.now.set) (g.L.Read.remaining c.args.inputs.now.limits) (g.A.Read.remaining c.args.after.now) (g.R.Read.remaining c.args.resumed.now) c.args.inputs.now.first c.args.inputs.now.days c.args.today c.args.more
-    (map g.C.Read.remaining c.args.scripts.now) (g.D.Read.remaining c.args.changes.now)
+    let set = g.S.Read.remaining c.args.inputs.now.set in
+    let limits = g.L.Read.remaining c.args.inputs.now.limits in
+    let after = g.A.Read.remaining c.args.after.now in
+    let journal = g.R.Read.remaining c.args.resumed.now in
+    let first = c.args.inputs.now.first in
+    let days = c.args.inputs.now.days in
+    let texts = map g.C.Read.remaining c.args.scripts.now in
+    let changing = g.D.Read.remaining c.args.changes.now in
+    let fault = c.in_err-answer.field-0.0 in
+    rw (p.1, p.2) (λ input. refused_behind set limits after journal first days c.args.besides.now
+    (λ xs ys older zs. IsRefusedResume xs ys first days c.args.today older c.args.more zs texts changing fault) fault c.in_ok-asked.ensures.sealed
+    (unbooked_still set limits after journal first days c.args.today c.args.more texts changing
     c.in_ok-asked.asked.flights c.in_ok-asked.asked.past.grid c.in_ok-asked.asked.past.journal c.in_ok-asked.asked.scripts c.in_ok-asked.asked.changes.items
-    c.in_ok-asked.ensures.ok c.in_err-answer.field-0.0 c.in_err-answer.ensures.fault)
+    c.in_ok-asked.ensures.ok fault c.in_err-answer.ensures.fault input))
