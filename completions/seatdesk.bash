@@ -53,7 +53,7 @@ _seatdesk() {
         place=''
         ;;
     rooms)
-        words='--set --limits --first --days --day --pair --bars -v --verbose -h --help'
+        words='--set --limits --first --days --day --pair --bars --open -v --verbose -h --help'
         files='--set --limits'
         values='--first --days --day --pair'
         place='files'
@@ -65,13 +65,13 @@ _seatdesk() {
         place='files'
         ;;
     bookings)
-        words='--set --limits --first --days --locator -v --verbose -h --help'
+        words='--set --limits --first --days --locator --open -v --verbose -h --help'
         files='--set --limits'
         values='--first --days --locator'
         place='files'
         ;;
     audit)
-        words='--set --limits --first --days --after --behind --today --sealed -v --verbose -h --help'
+        words='--set --limits --first --days --after --behind --today --sealed --open -v --verbose -h --help'
         files='--set --limits --after'
         values='--first --days --behind --today'
         place='files'
@@ -89,7 +89,7 @@ _seatdesk() {
         place='files'
         ;;
     why)
-        words='--set --limits --first --days --line -v --verbose -h --help'
+        words='--set --limits --first --days --line --open -v --verbose -h --help'
         files='--set --limits'
         values='--first --days --line'
         place='files'

@@ -45,6 +45,7 @@ complete -c seatdesk -n '__fish_seen_subcommand_from rooms' -l days -x -d 'How m
 complete -c seatdesk -n '__fish_seen_subcommand_from rooms' -l day -x -d 'The places that depart on this day alone, as 2024-06-01'
 complete -c seatdesk -n '__fish_seen_subcommand_from rooms' -l pair -x -d 'The places between these two stations alone, as LHRJFK'
 complete -c seatdesk -n '__fish_seen_subcommand_from rooms' -l bars -d 'Shows the seats held of each limit as a bar, behind each leg'
+complete -c seatdesk -n '__fish_seen_subcommand_from rooms' -l open -d 'Takes a JOURNAL that is still open: its whole lines count, and it needs no END line'
 complete -c seatdesk -n '__fish_seen_subcommand_from rooms' -s v -l verbose -d 'Names the file of a fault, and where in it the fault stands, or the system\'s reason'
 complete -c seatdesk -n '__fish_seen_subcommand_from rooms' -s h -l help -d 'Print help'
 complete -c seatdesk -n '__fish_seen_subcommand_from rooms' -F
@@ -70,6 +71,7 @@ complete -c seatdesk -n '__fish_seen_subcommand_from bookings' -l limits -r -F -
 complete -c seatdesk -n '__fish_seen_subcommand_from bookings' -l first -x -d 'The first day of departure, as 2024-06-01, from 2000 to 2099'
 complete -c seatdesk -n '__fish_seen_subcommand_from bookings' -l days -x -d 'How many days from the first on, 1 to 366'
 complete -c seatdesk -n '__fish_seen_subcommand_from bookings' -l locator -x -d 'The locator of the bookings: six letters and digits, as B3N6VC'
+complete -c seatdesk -n '__fish_seen_subcommand_from bookings' -l open -d 'Takes a JOURNAL that is still open: its whole lines count, and it needs no END line'
 complete -c seatdesk -n '__fish_seen_subcommand_from bookings' -s v -l verbose -d 'Names the file of a fault, and where in it the fault stands, or the system\'s reason'
 complete -c seatdesk -n '__fish_seen_subcommand_from bookings' -s h -l help -d 'Print help'
 complete -c seatdesk -n '__fish_seen_subcommand_from bookings' -F
@@ -82,6 +84,7 @@ complete -c seatdesk -n '__fish_seen_subcommand_from audit' -l after -r -F -d 'T
 complete -c seatdesk -n '__fish_seen_subcommand_from audit' -l behind -x -d 'How many lines JOURNAL began with, 0 to 999999, in place of --after; the scripts ask for the lines behind them'
 complete -c seatdesk -n '__fish_seen_subcommand_from audit' -l today -x -d 'The day of the run, as 2024-06-01, from 2000 to 2099; it gives the requests their year'
 complete -c seatdesk -n '__fish_seen_subcommand_from audit' -l sealed -d 'Refuses a JOURNAL without a seal beside it; for a JOURNAL alone, without scripts'
+complete -c seatdesk -n '__fish_seen_subcommand_from audit' -l open -d 'Takes a JOURNAL that is still open: its whole lines count, and it needs no END line; for a JOURNAL alone, without scripts'
 complete -c seatdesk -n '__fish_seen_subcommand_from audit' -s v -l verbose -d 'Names the file of a fault, and where in it the fault stands, or the system\'s reason'
 complete -c seatdesk -n '__fish_seen_subcommand_from audit' -s h -l help -d 'Print help'
 complete -c seatdesk -n '__fish_seen_subcommand_from audit' -F
@@ -112,6 +115,7 @@ complete -c seatdesk -n '__fish_seen_subcommand_from why' -l limits -r -F -d 'Th
 complete -c seatdesk -n '__fish_seen_subcommand_from why' -l first -x -d 'The first day of departure, as 2024-06-01, from 2000 to 2099'
 complete -c seatdesk -n '__fish_seen_subcommand_from why' -l days -x -d 'How many days from the first on, 1 to 366'
 complete -c seatdesk -n '__fish_seen_subcommand_from why' -l line -x -d 'The line of the journal, counted from 1'
+complete -c seatdesk -n '__fish_seen_subcommand_from why' -l open -d 'Takes a JOURNAL that is still open: its whole lines count, and it needs no END line'
 complete -c seatdesk -n '__fish_seen_subcommand_from why' -s v -l verbose -d 'Names the file of a fault, and where in it the fault stands, or the system\'s reason'
 complete -c seatdesk -n '__fish_seen_subcommand_from why' -s h -l help -d 'Print help'
 complete -c seatdesk -n '__fish_seen_subcommand_from why' -F
