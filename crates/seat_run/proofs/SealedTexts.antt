@@ -10,6 +10,7 @@ use Rattle.seat_journal.specs.declared.entry.Entry.{Entry}
 use Rattle.seat_seal.specs.Reading.{two_entries}
 use Rattle.seat_seal.specs.Rules.{is_entry, is_seal, is_sealed}
 use Rattle.seat_seal.specs.declared.beside.Basis.{Basis}
+use Rattle.seat_seal.specs.declared.beside.Beside.{Beside}
 use Rattle.seat_seal.specs.declared.seal.Sealed.{Sealed as Belonging}
 use Rattle.seat_seal.specs.declared.seal.SealEntry.{SealEntry}
 use Rattle.seat_seal.specs.declared.seal.SealEntry.TheVariants.{Sealed}
@@ -24,6 +25,8 @@ use Rattle.seat_scripts.specs.Going.{lists_over}
 use Rattle.seat_scripts.specs.Requests.{commands_of}
 use Rattle.seat_scripts.specs.Resumed.{IsAhead, IsAskedStill}
 use Rattle.seat_scripts.specs.RunDesk.{IsHistoryOf, IsReplied}
+use Rattle.seat_scripts.proofs.OneTaken.{one_taken}
+use Rattle.seat_scripts.specs.Taken.{WithTaken}
 use Rattle.seat_scripts.specs.SealedRun.{IsEntryOfRun}
 use Rattle.seat_scripts.specs.TextDigests.{AreDigests, IsDigestOf}
 use Rattle.seat_run.specs.SealedDesk.{AreSealed, AreTexts, HasStopped, InputFailed, IsSealedResume, IsSealedRun, IsUnsealable}
@@ -192,35 +195,41 @@ module _ (set limits after : Option (List ℕ)) (first days today : ℕ) (texts 
               (subst (λ (n : ℕ). IsEntryOfRun basis digests changed n (length history) today journal entry) count t.entry_is);
         }) asked
 
-  module _ (resumed : Option (List ℕ)) (more : ℕ)
-      (asked : OfFour set limits after resumed (λ xs ys old zs. IsAskedStill xs ys first days today old more zs texts changing flights grid past scripts changes))
-      (ahead : OfFour set limits after resumed (λ xs ys old zs. IsAhead more old behind)) where
+  module _ (resumed : Option (List ℕ)) (given : Option ℕ) (beside : Beside)
+      (asked : OfFour set limits after resumed (λ xs ys old zs. WithTaken given beside zs (λ more. IsAskedStill xs ys first days today old more zs texts changing flights grid past scripts changes)))
+      (ahead : OfFour set limits after resumed (λ xs ys old zs. WithTaken given beside zs (λ more. IsAhead more old behind))) where
     pub sealed_resume : (journal : List ℕ) (entry : Belonging) (said : List ℕ)
         → AreTexts basis digests changed behind today history replies journal entry said
-        → OfFour set limits after resumed (λ xs ys old zs. IsSealedResume xs ys first days today old more zs texts changing journal entry said)
+        → OfFour set limits after resumed
+        (λ xs ys old zs. WithTaken given beside zs (λ more. IsSealedResume xs ys first days today old more zs texts changing journal entry said))
     sealed_resume journal entry said t =
-        based_four (λ xs ys old zs. IsAskedStill xs ys first days today old more zs texts changing flights grid past scripts changes)
-        (λ xs ys old zs. IsAhead more old behind)
-        (λ xs ys old zs. IsSealedResume xs ys first days today old more zs texts changing journal entry said) basis first days set limits after resumed known
+        based_four (λ xs ys old zs. WithTaken given beside zs (λ more. IsAskedStill xs ys first days today old more zs texts changing flights grid past scripts changes))
+        (λ xs ys old zs. WithTaken given beside zs (λ more. IsAhead more old behind))
+        (λ xs ys old zs. WithTaken given beside zs (λ more. IsSealedResume xs ys first days today old more zs texts changing journal entry said)) basis first days set limits after resumed known
         (λ xs ys old zs same a h. record {
-          run = record {
-            flights = flights;
-            grid = grid;
-            lines = past;
-            left = scripts;
-            rest = changes;
-            is_asked = a;
-            history = history;
-            receipts = receipts;
-            is_history = booked.is_history;
-            are_entries = booked.are_entries;
-            written_is = t.journal_is;
-            is_replied = subst (IsReplied flights past scripts history receipts) (sym t.replies_are) booked.is_replied;
+          more = a.more;
+          are_taken = a.are_taken;
+          here = record {
+            run = record {
+              flights = flights;
+              grid = grid;
+              lines = past;
+              left = scripts;
+              rest = changes;
+              is_asked = a.here;
+              history = history;
+              receipts = receipts;
+              is_history = booked.is_history;
+              are_entries = booked.are_entries;
+              written_is = t.journal_is;
+              is_replied = subst (IsReplied flights past scripts history receipts) (sym t.replies_are) booked.is_replied;
+            };
+            digests = digests;
+            are_digests = are;
+            changed = changed;
+            is_changed = is;
+            is_entry = subst (λ (b : Basis). IsEntryOfRun b digests changed (length a.here.older + a.more) (length history) today journal entry) same
+                (subst (λ (n : ℕ). IsEntryOfRun basis digests changed (length a.here.older + n) (length history) today journal entry) (one_taken given beside zs h.more a.more h.are_taken a.are_taken)
+                (subst (λ (n : ℕ). IsEntryOfRun basis digests changed n (length history) today journal entry) (h.here.each a.here.older a.here.is_asked.are_ready.is_older.is_text) t.entry_is));
           };
-          digests = digests;
-          are_digests = are;
-          changed = changed;
-          is_changed = is;
-          is_entry = subst (λ (b : Basis). IsEntryOfRun b digests changed (length a.older + more) (length history) today journal entry) same
-              (subst (λ (n : ℕ). IsEntryOfRun basis digests changed n (length history) today journal entry) (h.each a.older a.is_asked.are_ready.is_older.is_text) t.entry_is);
         }) asked ahead

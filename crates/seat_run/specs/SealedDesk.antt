@@ -4,6 +4,7 @@ use Rattle.seat_journal.specs.Text.{journal_text}
 use Rattle.seat_journal.specs.declared.entry.Entry.{Entry}
 use Rattle.seat_seal.specs.Rules.{is_sealed}
 use Rattle.seat_seal.specs.declared.beside.Basis.{Basis}
+use Rattle.seat_seal.specs.declared.beside.Beside.{Beside}
 use Rattle.seat_seal.specs.declared.seal.Sealed.{Sealed as Belonging}
 use Rattle.seat_seal.specs.declared.seal.SealEntry.{SealEntry}
 use Rattle.seat_desk.specs.Loading.{Bytes}
@@ -13,6 +14,7 @@ use Rattle.seat_scripts.specs.Against.{OfFour}
 use Rattle.seat_scripts.specs.Asked.{OfThree}
 use Rattle.seat_scripts.specs.Resumed.{IsResumed}
 use Rattle.seat_scripts.specs.RunDesk.{IsRun}
+use Rattle.seat_scripts.specs.Taken.{WithTaken}
 use Rattle.seat_scripts.specs.SealedRun.{IsEntryOfRun}
 use Rattle.seat_scripts.specs.TextDigests.{AreDigests, IsDigestOf}
 use Rattle.seat_sealing.specs.Steps.{InOrder, alone_text, both_text}
@@ -114,9 +116,9 @@ pub record IsSealedResume (set limits : List ℕ) (first days today : ℕ) (afte
   pub is_entry : IsEntryOfRun (basis_of set limits first days) digests changed (length run.is_asked.older + more)
       (length run.history) today journal entry
 
--- where the bytes of the set, of the limits and of both journals are known
-abbrev pub IsSealedResumeOf : {S L : Type 0} → Bytes S → Bytes L → Inputs S L → ℕ → Option (List ℕ) → ℕ
+-- where the bytes of the set, of the limits and of both journals are known, behind the number of lines that is taken
+abbrev pub IsSealedResumeOf : {S L : Type 0} → Beside → Bytes S → Bytes L → Inputs S L → ℕ → Option (List ℕ) → Option ℕ
     → Option (List ℕ) → List (Option (List ℕ)) → Option (List ℕ) → List ℕ → Belonging → List ℕ → Type 0
-IsSealedResumeOf set limits inputs today after more resumed texts changing journal entry replies =
-    OfFour (set inputs.set) (limits inputs.limits) after resumed
-    (λ xs ys older zs. IsSealedResume xs ys inputs.first inputs.days today older more zs texts changing journal entry replies)
+IsSealedResumeOf beside set limits inputs today after given resumed texts changing journal entry replies =
+    OfFour (set inputs.set) (limits inputs.limits) after resumed (λ xs ys older zs. WithTaken given beside zs
+    (λ more. IsSealedResume xs ys inputs.first inputs.days today older more zs texts changing journal entry replies))

@@ -14,6 +14,7 @@ pub mod Reading
 pub mod Written
 pub mod Seals
 pub mod SealedBoth
+pub mod OneTaken
 mod Lengths
 mod Audits
 mod Unasked

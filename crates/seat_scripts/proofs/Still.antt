@@ -6,6 +6,8 @@ use Rattle.seat_rules.specs.Inventory.{Inventory}
 use Rattle.seat_desk.specs.Desk.{IsOfInput}
 use Rattle.seat_desk.specs.declared.fault.DeskFault.TheVariants.{Book, Change as BadChange, Flight, Journal, Limit, NoBehind, NoLeg, Replay, Script, Seal, Set}
 use Rattle.seat_scripts.proofs.Beside.{if_four}
+use Rattle.seat_seal.specs.declared.beside.Beside.{Beside}
+use Rattle.seat_scripts.proofs.OneTaken.{one_taken}
 use Rattle.seat_scripts.proofs.SealedBoth.{both_four, large_as, refused_as}
 use Rattle.seat_scripts.proofs.Common.{Change, DeskFault, Entry, Ladders, Memory, Request, Unasked, commands_of, lists_over}
 use Rattle.seat_scripts.specs.Against.{AreRead, IsOfReading, IsRefusedAgainst, IsTooLargeAgainst, OfFour}
@@ -14,6 +16,7 @@ use Rattle.seat_scripts.specs.Changes.{AreChanges, IsOfChanges, IsUnchanged, mos
 use Rattle.seat_scripts.specs.Resumed.{AreReady, HasReady, IsAskedStill, IsAhead, IsRefusedResume, IsTooLargeResume}
 use Rattle.seat_scripts.specs.Resuming.{IsNoRest, IsRestOf}
 use Rattle.seat_scripts.specs.RunDesk.{IsUnbooked}
+use Rattle.seat_scripts.specs.Taken.{ForTaken, WithTaken}
 use Rattle.seat_scripts.specs.declared.besides.Besides.{Besides}
 
 -- ---- where all is known
@@ -94,34 +97,43 @@ module _ (set limits : List ℕ) (first days today : ℕ) (after : List ℕ) (mo
 
 -- ---- as far as the bytes are known
 
+-- what an audit with scripts refuses, and what it finds too large, with what stands beside both journals
+module _ (set limits after journal : Option (List ℕ)) (first days today : ℕ) (texts : List (Option (List ℕ))) (changing : Option (List ℕ)) (besides : Besides) where
+  module _ (given : Option ℕ) where
+    abbrev ForAudit : DeskFault → List ℕ → List ℕ → List ℕ → List ℕ → Type 0
+    ForAudit fault xs ys older zs =
+        ForTaken given besides.journal zs (λ more. IsRefusedAgainst xs ys first days older more zs today texts fault)
+
+    abbrev ForResume : DeskFault → List ℕ → List ℕ → List ℕ → List ℕ → Type 0
+    ForResume fault xs ys older zs =
+        ForTaken given besides.journal zs (λ more. IsRefusedResume xs ys first days today older more zs texts changing fault)
+
+    pub still_read : (fault : DeskFault)
+        → (IsOfInput fault → OfFour set limits after journal
+        (λ xs ys older zs. IsRefusedSealed besides xs ys first days older zs fault (ForAudit fault xs ys older zs)))
+        → (IsOfInput fault → OfFour set limits after journal (λ xs ys older zs. IsOfReading fault))
+        → IsOfInput fault
+        → OfFour set limits after journal
+        (λ xs ys older zs. IsRefusedSealed besides xs ys first days older zs fault (ForResume fault xs ys older zs))
+    still_read fault refused read input =
+        both_four (λ xs ys older zs. IsOfReading fault) (λ xs ys older zs. IsRefusedSealed besides xs ys first days older zs fault (ForAudit fault xs ys older zs)) (λ xs ys older zs. IsRefusedSealed besides xs ys first days older zs fault (ForResume fault xs ys older zs)) set limits after journal
+        (λ xs ys older zs of is. refused_as besides xs ys first days older zs (ForAudit fault xs ys older zs) (ForResume fault xs ys older zs) fault
+        (λ r. record { each = λ more taken. of_reading xs ys first days today older more zs texts changing fault of (r.each more taken) }) is) (read input) (refused input)
+
+  pub still_large : OfFour set limits after journal
+      (λ xs ys older zs. IsTooLargeSealed besides xs ys first days older zs (IsTooLargeAgainst xs ys first days older zs today texts))
+      → OfFour set limits after journal
+      (λ xs ys older zs. IsTooLargeSealed besides xs ys first days older zs (IsTooLargeResume xs ys first days today older zs texts changing))
+  still_large large =
+      if_four (λ xs ys older zs. IsTooLargeSealed besides xs ys first days older zs (IsTooLargeAgainst xs ys first days older zs today texts)) (λ xs ys older zs. IsTooLargeSealed besides xs ys first days older zs (IsTooLargeResume xs ys first days today older zs texts changing)) set limits after journal
+      (λ xs ys older zs is. large_as besides xs ys first days older zs (IsTooLargeAgainst xs ys first days older zs today texts) (IsTooLargeResume xs ys first days today older zs texts changing) (λ over. inl over) is) large
+
 module _ (set limits after journal : Option (List ℕ)) (first days today more : ℕ) (texts : List (Option (List ℕ))) (changing : Option (List ℕ)) where
   abbrev IsRefused : DeskFault → Type 0
   IsRefused fault = OfFour set limits after journal (λ xs ys older zs. IsRefusedResume xs ys first days today older more zs texts changing fault)
 
   abbrev IsLarge : Type 0
   IsLarge = OfFour set limits after journal (λ xs ys older zs. IsTooLargeResume xs ys first days today older zs texts changing)
-
-  module _ (besides : Besides) where
-    -- what an audit with scripts refuses, and what it finds too large, with what stands beside both journals
-    pub still_read : (fault : DeskFault)
-        → (IsOfInput fault → OfFour set limits after journal
-        (λ xs ys older zs. IsRefusedSealed besides xs ys first days older zs fault (IsRefusedAgainst xs ys first days older more zs today texts fault)))
-        → (IsOfInput fault → OfFour set limits after journal (λ xs ys older zs. IsOfReading fault))
-        → IsOfInput fault
-        → OfFour set limits after journal
-        (λ xs ys older zs. IsRefusedSealed besides xs ys first days older zs fault (IsRefusedResume xs ys first days today older more zs texts changing fault))
-    still_read fault refused read input =
-        both_four (λ xs ys older zs. IsOfReading fault) (λ xs ys older zs. IsRefusedSealed besides xs ys first days older zs fault (IsRefusedAgainst xs ys first days older more zs today texts fault)) (λ xs ys older zs. IsRefusedSealed besides xs ys first days older zs fault (IsRefusedResume xs ys first days today older more zs texts changing fault)) set limits after journal
-        (λ xs ys older zs of is. refused_as besides xs ys first days older zs (IsRefusedAgainst xs ys first days older more zs today texts fault) (IsRefusedResume xs ys first days today older more zs texts changing fault) fault
-        (of_reading xs ys first days today older more zs texts changing fault of) is) (read input) (refused input)
-
-    pub still_large : OfFour set limits after journal
-        (λ xs ys older zs. IsTooLargeSealed besides xs ys first days older zs (IsTooLargeAgainst xs ys first days older zs today texts))
-        → OfFour set limits after journal
-        (λ xs ys older zs. IsTooLargeSealed besides xs ys first days older zs (IsTooLargeResume xs ys first days today older zs texts changing))
-    still_large large =
-        if_four (λ xs ys older zs. IsTooLargeSealed besides xs ys first days older zs (IsTooLargeAgainst xs ys first days older zs today texts)) (λ xs ys older zs. IsTooLargeSealed besides xs ys first days older zs (IsTooLargeResume xs ys first days today older zs texts changing)) set limits after journal
-        (λ xs ys older zs is. large_as besides xs ys first days older zs (IsTooLargeAgainst xs ys first days older zs today texts) (IsTooLargeResume xs ys first days today older zs texts changing) (λ over. inl over) is) large
 
   module _ (flights : List Flown) (older core : Inventory) (scripts : List (List Request)) (read : OfFour set limits after journal (λ xs ys old zs. AreRead xs ys first days old zs today texts flights older core scripts)) where
     abbrev IsReady : List ℕ → List ℕ → List ℕ → List ℕ → Type 0
@@ -191,12 +203,21 @@ module _ (set limits after journal : Option (List ℕ)) (first days today more :
           })
           all_ready
 
-  module _ (flights : List Flown) (grid : Ladders) (lines : List Entry) (left : List (List Request)) (rest : List Change)
-      (asked : OfFour set limits after journal (λ xs ys old zs. IsAskedStill xs ys first days today old more zs texts changing flights grid lines left rest)) where
-    -- a call that was not booked
-    pub unbooked_still : (fault : DeskFault)
-        → (fault ≢ Memory → IsUnbooked grid lines rest (lists_over lines (map (commands_of flights) left)) fault)
-        → IsOfInput fault → IsRefused fault
-    unbooked_still fault unbooked input =
-        if_four (λ xs ys old zs. IsAskedStill xs ys first days today old more zs texts changing flights grid lines left rest) (λ xs ys old zs. IsRefusedResume xs ys first days today old more zs texts changing fault) set limits after journal
-        (λ xs ys old zs is. of_calls xs ys first days today old more zs texts changing flights grid lines left rest fault is (unbooked (λ (e : fault ≡ Memory). subst IsOfInput e input))) asked
+-- a call that was not booked
+module _ (set limits after journal : Option (List ℕ)) (first days today : ℕ) (texts : List (Option (List ℕ))) (changing : Option (List ℕ)) (given : Option ℕ) (beside : Beside)
+    (flights : List Flown) (grid : Ladders) (lines : List Entry) (left : List (List Request)) (rest : List Change) where
+  abbrev IsAsked : List ℕ → List ℕ → List ℕ → List ℕ → Type 0
+  IsAsked xs ys older zs =
+      WithTaken given beside zs (λ more. IsAskedStill xs ys first days today older more zs texts changing flights grid lines left rest)
+
+  pub unbooked_still : OfFour set limits after journal (λ xs ys older zs. IsAsked xs ys older zs) → (fault : DeskFault)
+      → (fault ≢ Memory → IsUnbooked grid lines rest (lists_over lines (map (commands_of flights) left)) fault)
+      → IsOfInput fault
+      → OfFour set limits after journal
+      (λ xs ys older zs. ForTaken given beside zs (λ more. IsRefusedResume xs ys first days today older more zs texts changing fault))
+  unbooked_still asked fault unbooked input =
+      if_four (λ xs ys older zs. IsAsked xs ys older zs) (λ xs ys older zs. ForTaken given beside zs (λ more. IsRefusedResume xs ys first days today older more zs texts changing fault)) set limits after journal
+      (λ xs ys older zs is. record {
+        each = λ more taken. subst (λ (n : ℕ). IsRefusedResume xs ys first days today older n zs texts changing fault) (one_taken given beside zs is.more more is.are_taken taken)
+            (of_calls xs ys first days today older is.more zs texts changing flights grid lines left rest fault is.here (unbooked (λ (e : fault ≡ Memory). subst IsOfInput e input)));
+      }) asked

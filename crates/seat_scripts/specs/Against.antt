@@ -15,6 +15,7 @@ use Rattle.seat_rules.specs.Inventory.{Inventory}
 use Rattle.seat_rules.specs.Journal.{calls_of}
 use Rattle.seat_rules.specs.Prefixes.{Begins}
 use Rattle.seat_rules.specs.Histories.{of_session}
+use Rattle.seat_seal.specs.declared.beside.Beside.{Beside}
 use Rattle.seat_desk.specs.AuditDesk.{IsAudited, IsRefusedOver, IsReplayOf, IsUnlawful, most_journal_bytes}
 use Rattle.seat_desk.specs.Loading.{Bytes, IsLoaded, IsFirstTooLargeLoad, IsRefusedLoad}
 use Rattle.seat_desk.specs.declared.inputs.Inputs.{Inputs}
@@ -23,6 +24,7 @@ use Rattle.seat_desk.specs.declared.fault.DeskFault.TheVariants.{Flight, Journal
 use Rattle.seat_scripts.specs.Asked.{HasLoaded, OfThree}
 use Rattle.seat_scripts.specs.Requests.{AreScripts, IsRefusedAmong, IsTooLargeAmong}
 use Rattle.seat_scripts.specs.RunDesk.{requests_of, works_in}
+use Rattle.seat_scripts.specs.Taken.{WithTaken}
 use Rattle.seat_scripts.specs.VeryRequest.{Agree}
 
 -- ---- what is asked, and what is in the journal
@@ -177,11 +179,12 @@ AreReadOf set limits inputs after journal today texts flights older core scripts
     OfFour (set inputs.set) (limits inputs.limits) after journal
     (λ xs ys before zs. AreRead xs ys inputs.first inputs.days before zs today texts flights older core scripts)
 
-abbrev pub IsAuditAgainstOf : {S L : Type 0} → Bytes S → Bytes L → Inputs S L → Option (List ℕ) → ℕ
+-- behind the number of lines that is taken
+abbrev pub IsAuditAgainstOf : {S L : Type 0} → Beside → Bytes S → Bytes L → Inputs S L → Option (List ℕ) → Option ℕ
     → Option (List ℕ) → ℕ → List (Option (List ℕ)) → List ℕ → Type 0
-IsAuditAgainstOf set limits inputs after more journal today texts line =
-    OfFour (set inputs.set) (limits inputs.limits) after journal
-    (λ xs ys older zs. IsAuditAgainst xs ys inputs.first inputs.days older more zs today texts line)
+IsAuditAgainstOf beside set limits inputs after given journal today texts line =
+    OfFour (set inputs.set) (limits inputs.limits) after journal (λ xs ys older zs. WithTaken given beside zs
+    (λ more. IsAuditAgainst xs ys inputs.first inputs.days older more zs today texts line))
 
 -- the older journal is right, and the fault is that of the journal
 pub record IsUnlawfulBeside (set limits : List ℕ) (first days : ℕ) (after journal : List ℕ) (fault : DeskFault) : Type 0
@@ -278,19 +281,6 @@ FailsAgainst set limits inputs after journal load_failed older_failed journal_fa
     (λ xs ys older. HasOlder xs ys inputs.first inputs.days older) × journal_failed)
     ⊎ (OfFour (set inputs.set) (limits inputs.limits) after journal
     (λ xs ys older zs. HasBoth xs ys inputs.first inputs.days older zs) × script_failed)))
-
--- where the bytes of the four inputs are known
-abbrev pub IsRefusedAgainstOf : {S L : Type 0} → Bytes S → Bytes L → Inputs S L → Option (List ℕ) → ℕ
-    → Option (List ℕ) → ℕ → List (Option (List ℕ)) → DeskFault → Type 0
-IsRefusedAgainstOf set limits inputs after more journal today texts fault =
-    OfFour (set inputs.set) (limits inputs.limits) after journal
-    (λ xs ys older zs. IsRefusedAgainst xs ys inputs.first inputs.days older more zs today texts fault)
-
-abbrev pub IsTooLargeAgainstOf : {S L : Type 0} → Bytes S → Bytes L → Inputs S L → Option (List ℕ) → Option (List ℕ) → ℕ
-    → List (Option (List ℕ)) → Type 0
-IsTooLargeAgainstOf set limits inputs after journal today texts =
-    OfFour (set inputs.set) (limits inputs.limits) after journal
-    (λ xs ys older zs. IsTooLargeAgainst xs ys inputs.first inputs.days older zs today texts)
 
 -- what is wrong is one input by itself, or what stands beside it, which an audit with scripts reads
 abbrev pub IsOfReading : DeskFault → Type 0

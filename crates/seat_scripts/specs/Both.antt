@@ -11,6 +11,7 @@ use Rattle.seat_scripts.specs.Against.{FailsAgainst, HasOlder, IsRefusedAgainst,
 use Rattle.seat_scripts.specs.Asked.{OfThree}
 use Rattle.seat_scripts.specs.Beside.{FailsStart}
 use Rattle.seat_scripts.specs.Resumed.{FailsResume, IsRefusedResume, IsTooLargeResume}
+use Rattle.seat_scripts.specs.Taken.{ForTaken}
 use Rattle.seat_scripts.specs.declared.besides.Besides.{Besides}
 
 -- the older journal is right, and agrees with what stands beside it
@@ -47,21 +48,21 @@ IsRefusedSealed besides set limits first days after journal fault other =
     ⊎ (IsUnsealedBehind besides set limits first days after journal fault
     ⊎ IsBehind (BothAgree besides set limits first days after journal) other)
 
--- of an audit with scripts, where the bytes of the four inputs are known
-abbrev pub IsRefusedSealedAgainstOf : {S L : Type 0} → Besides → Bytes S → Bytes L → Inputs S L → Option (List ℕ) → ℕ
+-- of an audit with scripts, behind the number of lines that is taken, where the bytes of the four inputs are known
+abbrev pub IsRefusedSealedAgainstOf : {S L : Type 0} → Besides → Bytes S → Bytes L → Inputs S L → Option (List ℕ) → Option ℕ
     → Option (List ℕ) → ℕ → List (Option (List ℕ)) → DeskFault → Type 0
-IsRefusedSealedAgainstOf besides set limits inputs after more journal today texts fault =
+IsRefusedSealedAgainstOf besides set limits inputs after given journal today texts fault =
     OfFour (set inputs.set) (limits inputs.limits) after journal
     (λ xs ys older zs. IsRefusedSealed besides xs ys inputs.first inputs.days older zs fault
-    (IsRefusedAgainst xs ys inputs.first inputs.days older more zs today texts fault))
+    (ForTaken given besides.journal zs (λ more. IsRefusedAgainst xs ys inputs.first inputs.days older more zs today texts fault)))
 
 -- of a run that goes on with scripts
-abbrev pub IsRefusedSealedResumeOf : {S L : Type 0} → Besides → Bytes S → Bytes L → Inputs S L → ℕ → Option (List ℕ) → ℕ
+abbrev pub IsRefusedSealedResumeOf : {S L : Type 0} → Besides → Bytes S → Bytes L → Inputs S L → ℕ → Option (List ℕ) → Option ℕ
     → Option (List ℕ) → List (Option (List ℕ)) → Option (List ℕ) → DeskFault → Type 0
-IsRefusedSealedResumeOf besides set limits inputs today after more journal texts changing fault =
+IsRefusedSealedResumeOf besides set limits inputs today after given journal texts changing fault =
     OfFour (set inputs.set) (limits inputs.limits) after journal
     (λ xs ys older zs. IsRefusedSealed besides xs ys inputs.first inputs.days older zs fault
-    (IsRefusedResume xs ys inputs.first inputs.days today older more zs texts changing fault))
+    (ForTaken given besides.journal zs (λ more. IsRefusedResume xs ys inputs.first inputs.days today older more zs texts changing fault)))
 
 -- ---- inputs that are too large
 

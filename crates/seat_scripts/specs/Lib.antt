@@ -15,5 +15,6 @@ pub mod Resuming
 pub mod RunDesk
 pub mod SealedRun
 pub mod Segments
+pub mod Taken
 pub mod TextDigests
 pub mod VeryRequest

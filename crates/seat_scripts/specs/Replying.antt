@@ -7,12 +7,14 @@ use Rattle.seat_nesting.specs.Nesting.{Ladders}
 use Rattle.seat_journal.specs.declared.entry.Entry.{Entry}
 use Rattle.seat_rules.specs.Histories.{by_session}
 use Rattle.seat_rules.specs.Inventory.{Inventory}
+use Rattle.seat_seal.specs.declared.beside.Beside.{Beside}
 use Rattle.seat_desk.specs.FlightsDesk.{IsText}
 use Rattle.seat_desk.specs.Loading.{Bytes, IsLoaded}
 use Rattle.seat_desk.specs.declared.inputs.Inputs.{Inputs}
 use Rattle.seat_scripts.specs.Against.{AreAsked, IsParted, IsReplayWithin, OfFour}
 use Rattle.seat_scripts.specs.Requests.{AreScripts}
 use Rattle.seat_scripts.specs.RunDesk.{IsAnswer, IsRun, requests_of}
+use Rattle.seat_scripts.specs.Taken.{WithTaken}
 use Rattle.seat_scripts.specs.declared.by_session.Wanted.{Wanted}
 
 -- the reply to a line is wanted: it is of the session, where one is named, and its number is not below that one
@@ -62,12 +64,12 @@ pub record AreRepliesOver (set limits : List ℕ) (first days : ℕ) (after : Li
   pub are_scripts : AreScripts today texts scripts
   pub are_replies : AreRepliesBehind flights scripts older.journal more core.journal wanted text
 
--- where the bytes of the set, of the limits and of both journals are known
-abbrev pub AreRepliesOverOf : {S L : Type 0} → Bytes S → Bytes L → Inputs S L → Option (List ℕ) → ℕ
+-- where the bytes of the set, of the limits and of both journals are known, behind the number of lines that is taken
+abbrev pub AreRepliesOverOf : {S L : Type 0} → Beside → Bytes S → Bytes L → Inputs S L → Option (List ℕ) → Option ℕ
     → Option (List ℕ) → ℕ → List (Option (List ℕ)) → Wanted → List ℕ → Type 0
-AreRepliesOverOf set limits inputs after more journal today texts wanted text =
-    OfFour (set inputs.set) (limits inputs.limits) after journal
-    (λ xs ys older zs. AreRepliesOver xs ys inputs.first inputs.days older more zs today texts wanted text)
+AreRepliesOverOf beside set limits inputs after given journal today texts wanted text =
+    OfFour (set inputs.set) (limits inputs.limits) after journal (λ xs ys older zs. WithTaken given beside zs
+    (λ more. AreRepliesOver xs ys inputs.first inputs.days older more zs today texts wanted text))
 
 -- ---- the law
 

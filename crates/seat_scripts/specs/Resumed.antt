@@ -8,6 +8,7 @@ use Rattle.seat_journal.specs.Text.{IsEntry, IsJournalText, journal_text}
 use Rattle.seat_journal.specs.declared.entry.Change.{Change}
 use Rattle.seat_journal.specs.declared.entry.Entry.{Entry}
 use Rattle.seat_rules.specs.Totals.{totals_of}
+use Rattle.seat_seal.specs.declared.beside.Beside.{Beside}
 use Rattle.seat_desk.specs.AuditDesk.{audit_line}
 use Rattle.seat_desk.specs.Loading.{Bytes, IsLoaded}
 use Rattle.seat_desk.specs.declared.fault.DeskFault.{DeskFault}
@@ -19,6 +20,7 @@ use Rattle.seat_scripts.specs.Going.{IsPast, lists_over}
 use Rattle.seat_scripts.specs.Requests.{AreScripts, commands_of}
 use Rattle.seat_scripts.specs.Resuming.{IsNoRest, IsRestOf}
 use Rattle.seat_scripts.specs.RunDesk.{IsHistoryOf, IsReplied, IsRun, IsUnbooked}
+use Rattle.seat_scripts.specs.Taken.{WithTaken}
 
 -- ---- what is asked
 
@@ -49,23 +51,24 @@ pub record IsAskedStill (set limits : List ℕ) (first days today : ℕ) (after 
       changes
   pub is_rest : IsRestOf flights scripts changes older more lines left rest
 
--- where the bytes of the set, of the limits and of both journals are known
-abbrev pub IsAskedStillOf : {S L : Type 0} → Bytes S → Bytes L → Inputs S L → ℕ → Option (List ℕ) → ℕ → Option (List ℕ)
-    → List (Option (List ℕ)) → Option (List ℕ) → List Flown → Ladders → List Entry → List (List Request) → List Change
-    → Type 0
-IsAskedStillOf set limits inputs today after more journal texts changing flights grid lines left rest =
-    OfFour (set inputs.set) (limits inputs.limits) after journal
-    (λ xs ys older zs. IsAskedStill xs ys inputs.first inputs.days today older more zs texts changing flights grid lines left rest)
+-- where the bytes of the set, of the limits and of both journals are known, behind the number of lines that is taken
+abbrev pub IsAskedStillOf : {S L : Type 0} → Beside → Bytes S → Bytes L → Inputs S L → ℕ → Option (List ℕ) → Option ℕ
+    → Option (List ℕ) → List (Option (List ℕ)) → Option (List ℕ) → List Flown → Ladders → List Entry → List (List Request)
+    → List Change → Type 0
+IsAskedStillOf beside set limits inputs today after given journal texts changing flights grid lines left rest =
+    OfFour (set inputs.set) (limits inputs.limits) after journal (λ xs ys older zs. WithTaken given beside zs
+    (λ more. IsAskedStill xs ys inputs.first inputs.days today older more zs texts changing flights grid lines left rest))
 
 -- the lines of the older journal, and so many more
 pub record IsAhead (more : ℕ) (after : List ℕ) (behind : ℕ) : Type 0 where
   pub each : (lines : List Entry) → IsJournalText after lines → behind ≡ length lines + more
 
--- where the bytes of the set, of the limits and of both journals are known
-abbrev pub IsAheadOf : {S L : Type 0} → Bytes S → Bytes L → Inputs S L → Option (List ℕ) → ℕ → Option (List ℕ) → ℕ
-    → Type 0
-IsAheadOf set limits inputs after more journal behind =
-    OfFour (set inputs.set) (limits inputs.limits) after journal (λ xs ys older zs. IsAhead more older behind)
+-- where the bytes of the set, of the limits and of both journals are known, with the number that is taken
+abbrev pub IsAheadOf : {S L : Type 0} → Beside → Bytes S → Bytes L → Inputs S L → Option (List ℕ) → Option ℕ
+    → Option (List ℕ) → ℕ → Type 0
+IsAheadOf beside set limits inputs after given journal behind =
+    OfFour (set inputs.set) (limits inputs.limits) after journal
+    (λ xs ys older zs. WithTaken given beside zs (λ more. IsAhead more older behind))
 
 -- ---- the whole
 
@@ -145,12 +148,6 @@ pub record IsRefusedResume (set limits : List ℕ) (first days today : ℕ) (aft
     (texts : List (Option (List ℕ))) (changing : Option (List ℕ)) (fault : DeskFault) : Type 0 where
   pub refusal : ResumeRefusal set limits first days today after more journal texts changing fault
 
-abbrev pub IsRefusedResumeOf : {S L : Type 0} → Bytes S → Bytes L → Inputs S L → ℕ → Option (List ℕ) → ℕ
-    → Option (List ℕ) → List (Option (List ℕ)) → Option (List ℕ) → DeskFault → Type 0
-IsRefusedResumeOf set limits inputs today after more journal texts changing fault =
-    OfFour (set inputs.set) (limits inputs.limits) after journal
-    (λ xs ys older zs. IsRefusedResume xs ys inputs.first inputs.days today older more zs texts changing fault)
-
 -- ---- inputs that are too large, or fail
 
 -- as far as the inputs but the changes are right
@@ -170,12 +167,6 @@ IsTooLargeResume set limits first days today after journal texts changing =
     IsTooLargeAgainst set limits first days after journal today texts
     ⊎ (HasReady set limits first days today after journal texts
     × IfSome changing (λ bytes. most_change_bytes < length bytes))
-
-abbrev pub IsTooLargeResumeOf : {S L : Type 0} → Bytes S → Bytes L → Inputs S L → ℕ → Option (List ℕ)
-    → Option (List ℕ) → List (Option (List ℕ)) → Option (List ℕ) → Type 0
-IsTooLargeResumeOf set limits inputs today after journal texts changing =
-    OfFour (set inputs.set) (limits inputs.limits) after journal
-    (λ xs ys older zs. IsTooLargeResume xs ys inputs.first inputs.days today older zs texts changing)
 
 -- an input of an audit with scripts failed, as it says, or the changes did behind all of them
 abbrev pub FailsResume : {S L : Type 0} → Bytes S → Bytes L → Inputs S L → ℕ → Option (List ℕ) → Option (List ℕ)

@@ -6,6 +6,7 @@ ghost use Rattle.seat_scripts.specs.Replying.{RepliesAreThoseOfTheRun};
 ghost use Rattle.seat_scripts.specs.Resumed.{ResumedAgainIsTheSame, ResumedIsOfTheWhole, ResumedRunIsTheSame};
 ghost use Rattle.seat_scripts.specs.Resuming.{NothingIsLeft};
 ghost use Rattle.seat_scripts.specs.Segments.{RequestsAreFlown};
+ghost use Rattle.seat_scripts.specs.Taken.{OneIsTaken};
 ghost use Rattle.seat_scripts.specs.VeryRequest.{CommandsAreVeryRequests};
 
 /// What `run` writes as a journal, `audit` accepts: over the same set, limits and days it finds no fault in it, it is not too
@@ -73,4 +74,9 @@ pub fn resumed_again_is_the_same()
 /// To go on with the scripts and the changes of a run, none of which has grown, books nothing either.
 pub fn resumed_run_is_the_same()
     ensures { ResumedRunIsTheSame }
+{}
+
+/// No two numbers of lines are taken of a journal with what stands beside it, ahead of its scripts.
+pub fn one_number_is_taken()
+    ensures { OneIsTaken }
 {}

@@ -22,6 +22,7 @@ mod resumed;
 mod resuming;
 mod scripts;
 mod sealed_run;
+mod taken;
 mod very_request;
 
 pub use against::desk_audit_against;
@@ -31,7 +32,7 @@ pub use by_session::{Wanted, session_replies};
 pub use commands::lists_over;
 pub use digests::TextDigests;
 pub use laws::{
-    audits_behind_no_lines, commands_are_very_requests, nothing_is_left,
+    audits_behind_no_lines, commands_are_very_requests, nothing_is_left, one_number_is_taken,
     replies_are_those_of_the_run, requests_are_flown, resumed_again_is_the_same,
     resumed_is_of_the_whole, resumed_run_is_the_same, runs_are_audited, runs_are_audited_against,
     runs_from_no_lines, unasked_is_not_audited,

@@ -5,6 +5,7 @@ use Rattle.seat_desk.specs.Loading.{HasFirstLoadFailed}
 use Rattle.seat_scripts.specs.Requests.{HasFailedAmong}
 use Rattle.seat_scripts.specs.Both.{FailsSealedResume}
 use Rattle.seat_scripts.specs.Resumed.{IsRefusedResume}
+use Rattle.seat_scripts.specs.Taken.{ForTaken}
 use Rattle.seat_scripts.proofs.SealedBoth.{refused_behind}
 use Rattle.seat_scripts.proofs.Still.{unbooked_still}
 use Rattle.seat_run.specs.SealedDesk.{AreTexts, IsSealedResumeOf}
@@ -14,12 +15,12 @@ use Rattle.seat_run.proofs.resume.desk_resume.Goals as goal
 pub returns-clause-ok : goal.returns-clause-ok
 returns-clause-ok g c =
     all_sealed (AreTexts c.in_ok-answer.answer.basis c.as_slice.result.now c.in_ok-answer.answer.changes c.in_ok-answer.answer.behind c.args.today c.as_slice-2.result.now c.deref.result.now)
-    (IsSealedResumeOf g.S.Read.remaining g.L.Read.remaining c.args.inputs.now c.args.today (g.A.Read.remaining c.args.after.now) c.args.more (g.R.Read.remaining c.args.resumed.now) (map g.C.Read.remaining c.args.scripts.now) (g.D.Read.remaining c.args.changes.now))
+    (IsSealedResumeOf c.args.besides.now.journal g.S.Read.remaining g.L.Read.remaining c.args.inputs.now c.args.today (g.A.Read.remaining c.args.after.now) c.args.given (g.R.Read.remaining c.args.resumed.now) (map g.C.Read.remaining c.args.scripts.now) (g.D.Read.remaining c.args.changes.now))
     (λ journal entry said t. sealed_resume (g.S.Read.remaining c.args.inputs.now.set) (g.L.Read.remaining c.args.inputs.now.limits) (g.A.Read.remaining c.args.after.now) c.args.inputs.now.first c.args.inputs.now.days c.args.today
     (map g.C.Read.remaining c.args.scripts.now) (g.D.Read.remaining c.args.changes.now) c.in_ok-asked.asked.flights c.in_ok-asked.asked.past.grid c.in_ok-asked.asked.past.journal c.in_ok-asked.asked.scripts c.in_ok-asked.asked.changes.items
     c.in_ok-answer.answer.settled.journal c.in_ok-answer.answer.settled.receipts c.in_ok-answer.answer.replies.items
     (record { is_history = c.in_ok-answer.ensures.ok; are_entries = c.in_ok-answer.ensures.entries; is_replied = c.in_ok-answer.ensures.replies })
-    c.in_ok-asked.asked.basis c.in_ok-asked.ensures.basis c.in_ok-asked.asked.digests c.in_ok-asked.ensures.digests c.in_ok-asked.asked.changes_digest c.in_ok-asked.ensures.changed c.in_ok-asked.asked.behind (g.R.Read.remaining c.args.resumed.now) c.args.more c.in_ok-asked.ensures.ok c.in_ok-asked.ensures.behind journal entry said (same_texts c.in_ok-answer.answer.basis c.in_ok-asked.asked.basis c.as_slice.result.now c.in_ok-asked.asked.digests c.in_ok-answer.answer.changes c.in_ok-asked.asked.changes_digest c.in_ok-answer.answer.behind c.in_ok-asked.asked.behind c.args.today
+    c.in_ok-asked.asked.basis c.in_ok-asked.ensures.basis c.in_ok-asked.asked.digests c.in_ok-asked.ensures.digests c.in_ok-asked.asked.changes_digest c.in_ok-asked.ensures.changed c.in_ok-asked.asked.behind (g.R.Read.remaining c.args.resumed.now) c.args.given c.args.besides.now.journal c.in_ok-asked.ensures.ok c.in_ok-asked.ensures.behind journal entry said (same_texts c.in_ok-answer.answer.basis c.in_ok-asked.asked.basis c.as_slice.result.now c.in_ok-asked.asked.digests c.in_ok-answer.answer.changes c.in_ok-asked.asked.changes_digest c.in_ok-answer.answer.behind c.in_ok-asked.asked.behind c.args.today
     c.as_slice-2.result.now c.in_ok-answer.answer.settled.journal c.deref.result.now c.in_ok-answer.answer.replies.items
     c.in_ok-answer.ensures.basis (c.as_slice.ensures ∙ c.in_ok-answer.ensures.digests) c.in_ok-answer.ensures.changes c.in_ok-answer.ensures.behind c.as_slice-2.ensures c.deref.ensures.value journal entry said t))
     (g.J.Replaced.named c.args.journal.now) (g.J.Replaced.named c.put_sealed.new.journal) (g.K.Replaced.named c.args.seal.now) (g.K.Replaced.named c.put_sealed.new.seal)
@@ -29,12 +30,12 @@ returns-clause-ok g c =
 pub returns-clause-large : goal.returns-clause-large
 returns-clause-large g c =
     all_unsealable (AreTexts c.in_ok-answer.answer.basis c.as_slice.result.now c.in_ok-answer.answer.changes c.in_ok-answer.answer.behind c.args.today c.as_slice-2.result.now c.deref.result.now)
-    (IsSealedResumeOf g.S.Read.remaining g.L.Read.remaining c.args.inputs.now c.args.today (g.A.Read.remaining c.args.after.now) c.args.more (g.R.Read.remaining c.args.resumed.now) (map g.C.Read.remaining c.args.scripts.now) (g.D.Read.remaining c.args.changes.now))
+    (IsSealedResumeOf c.args.besides.now.journal g.S.Read.remaining g.L.Read.remaining c.args.inputs.now c.args.today (g.A.Read.remaining c.args.after.now) c.args.given (g.R.Read.remaining c.args.resumed.now) (map g.C.Read.remaining c.args.scripts.now) (g.D.Read.remaining c.args.changes.now))
     (λ journal entry said t. sealed_resume (g.S.Read.remaining c.args.inputs.now.set) (g.L.Read.remaining c.args.inputs.now.limits) (g.A.Read.remaining c.args.after.now) c.args.inputs.now.first c.args.inputs.now.days c.args.today
     (map g.C.Read.remaining c.args.scripts.now) (g.D.Read.remaining c.args.changes.now) c.in_ok-asked.asked.flights c.in_ok-asked.asked.past.grid c.in_ok-asked.asked.past.journal c.in_ok-asked.asked.scripts c.in_ok-asked.asked.changes.items
     c.in_ok-answer.answer.settled.journal c.in_ok-answer.answer.settled.receipts c.in_ok-answer.answer.replies.items
     (record { is_history = c.in_ok-answer.ensures.ok; are_entries = c.in_ok-answer.ensures.entries; is_replied = c.in_ok-answer.ensures.replies })
-    c.in_ok-asked.asked.basis c.in_ok-asked.ensures.basis c.in_ok-asked.asked.digests c.in_ok-asked.ensures.digests c.in_ok-asked.asked.changes_digest c.in_ok-asked.ensures.changed c.in_ok-asked.asked.behind (g.R.Read.remaining c.args.resumed.now) c.args.more c.in_ok-asked.ensures.ok c.in_ok-asked.ensures.behind journal entry said (same_texts c.in_ok-answer.answer.basis c.in_ok-asked.asked.basis c.as_slice.result.now c.in_ok-asked.asked.digests c.in_ok-answer.answer.changes c.in_ok-asked.asked.changes_digest c.in_ok-answer.answer.behind c.in_ok-asked.asked.behind c.args.today
+    c.in_ok-asked.asked.basis c.in_ok-asked.ensures.basis c.in_ok-asked.asked.digests c.in_ok-asked.ensures.digests c.in_ok-asked.asked.changes_digest c.in_ok-asked.ensures.changed c.in_ok-asked.asked.behind (g.R.Read.remaining c.args.resumed.now) c.args.given c.args.besides.now.journal c.in_ok-asked.ensures.ok c.in_ok-asked.ensures.behind journal entry said (same_texts c.in_ok-answer.answer.basis c.in_ok-asked.asked.basis c.as_slice.result.now c.in_ok-asked.asked.digests c.in_ok-answer.answer.changes c.in_ok-asked.asked.changes_digest c.in_ok-answer.answer.behind c.in_ok-asked.asked.behind c.args.today
     c.as_slice-2.result.now c.in_ok-answer.answer.settled.journal c.deref.result.now c.in_ok-answer.answer.replies.items
     c.in_ok-answer.ensures.basis (c.as_slice.ensures ∙ c.in_ok-answer.ensures.digests) c.in_ok-answer.ensures.changes c.in_ok-answer.ensures.behind c.as_slice-2.ensures c.deref.ensures.value journal entry said t))
     _ c.put_sealed.result c.put_sealed.ensures.large
@@ -42,12 +43,12 @@ returns-clause-large g c =
 pub returns-clause-device : goal.returns-clause-device
 returns-clause-device g c =
     all_stopped (AreTexts c.in_ok-answer.answer.basis c.as_slice.result.now c.in_ok-answer.answer.changes c.in_ok-answer.answer.behind c.args.today c.as_slice-2.result.now c.deref.result.now)
-    (IsSealedResumeOf g.S.Read.remaining g.L.Read.remaining c.args.inputs.now c.args.today (g.A.Read.remaining c.args.after.now) c.args.more (g.R.Read.remaining c.args.resumed.now) (map g.C.Read.remaining c.args.scripts.now) (g.D.Read.remaining c.args.changes.now))
+    (IsSealedResumeOf c.args.besides.now.journal g.S.Read.remaining g.L.Read.remaining c.args.inputs.now c.args.today (g.A.Read.remaining c.args.after.now) c.args.given (g.R.Read.remaining c.args.resumed.now) (map g.C.Read.remaining c.args.scripts.now) (g.D.Read.remaining c.args.changes.now))
     (λ journal entry said t. sealed_resume (g.S.Read.remaining c.args.inputs.now.set) (g.L.Read.remaining c.args.inputs.now.limits) (g.A.Read.remaining c.args.after.now) c.args.inputs.now.first c.args.inputs.now.days c.args.today
     (map g.C.Read.remaining c.args.scripts.now) (g.D.Read.remaining c.args.changes.now) c.in_ok-asked.asked.flights c.in_ok-asked.asked.past.grid c.in_ok-asked.asked.past.journal c.in_ok-asked.asked.scripts c.in_ok-asked.asked.changes.items
     c.in_ok-answer.answer.settled.journal c.in_ok-answer.answer.settled.receipts c.in_ok-answer.answer.replies.items
     (record { is_history = c.in_ok-answer.ensures.ok; are_entries = c.in_ok-answer.ensures.entries; is_replied = c.in_ok-answer.ensures.replies })
-    c.in_ok-asked.asked.basis c.in_ok-asked.ensures.basis c.in_ok-asked.asked.digests c.in_ok-asked.ensures.digests c.in_ok-asked.asked.changes_digest c.in_ok-asked.ensures.changed c.in_ok-asked.asked.behind (g.R.Read.remaining c.args.resumed.now) c.args.more c.in_ok-asked.ensures.ok c.in_ok-asked.ensures.behind journal entry said (same_texts c.in_ok-answer.answer.basis c.in_ok-asked.asked.basis c.as_slice.result.now c.in_ok-asked.asked.digests c.in_ok-answer.answer.changes c.in_ok-asked.asked.changes_digest c.in_ok-answer.answer.behind c.in_ok-asked.asked.behind c.args.today
+    c.in_ok-asked.asked.basis c.in_ok-asked.ensures.basis c.in_ok-asked.asked.digests c.in_ok-asked.ensures.digests c.in_ok-asked.asked.changes_digest c.in_ok-asked.ensures.changed c.in_ok-asked.asked.behind (g.R.Read.remaining c.args.resumed.now) c.args.given c.args.besides.now.journal c.in_ok-asked.ensures.ok c.in_ok-asked.ensures.behind journal entry said (same_texts c.in_ok-answer.answer.basis c.in_ok-asked.asked.basis c.as_slice.result.now c.in_ok-asked.asked.digests c.in_ok-answer.answer.changes c.in_ok-asked.asked.changes_digest c.in_ok-answer.answer.behind c.in_ok-asked.asked.behind c.args.today
     c.as_slice-2.result.now c.in_ok-answer.answer.settled.journal c.deref.result.now c.in_ok-answer.answer.replies.items
     c.in_ok-answer.ensures.basis (c.as_slice.ensures ∙ c.in_ok-answer.ensures.digests) c.in_ok-answer.ensures.changes c.in_ok-answer.ensures.behind c.as_slice-2.ensures c.deref.ensures.value journal entry said t))
     (FailsSealedResume c.args.besides.now g.S.Read.remaining g.L.Read.remaining c.args.inputs.now c.args.today (g.A.Read.remaining c.args.after.now) (g.R.Read.remaining c.args.resumed.now) (map g.C.Read.remaining c.args.scripts.now)
@@ -72,7 +73,7 @@ returns-in_err-answer-clause-fault g c =
     let changing = g.D.Read.remaining c.args.changes.now in
     let fault = c.in_err-answer.field-0.0 in
     rw (p.1, p.2) (λ input. refused_behind set limits after journal first days c.args.besides.now
-    (λ xs ys older zs. IsRefusedResume xs ys first days c.args.today older c.args.more zs texts changing fault) fault c.in_ok-asked.ensures.sealed
-    (unbooked_still set limits after journal first days c.args.today c.args.more texts changing
+    (λ xs ys older zs. ForTaken c.args.given c.args.besides.now.journal zs (λ more. IsRefusedResume xs ys first days c.args.today older more zs texts changing fault)) fault c.in_ok-asked.ensures.sealed
+    (unbooked_still set limits after journal first days c.args.today texts changing c.args.given c.args.besides.now.journal
     c.in_ok-asked.asked.flights c.in_ok-asked.asked.past.grid c.in_ok-asked.asked.past.journal c.in_ok-asked.asked.scripts c.in_ok-asked.asked.changes.items
     c.in_ok-asked.ensures.ok fault c.in_err-answer.ensures.fault input))

@@ -1,8 +1,10 @@
 use Rattle.std.proofs.Common.{inl, inr, map}
 use Rattle.std.proofs.lemmas.Result.{err_from_is_err_and}
 use Rattle.seat_scripts.proofs.Beside.{both_known, of_journal, refused_script, too_large_script}
+use Rattle.seat_scripts.proofs.OneTaken.{for_each}
 use Rattle.seat_scripts.proofs.SealedBoth.{both_agree, large_behind, large_journal, older_sealed, refused_behind, refused_journal, refused_older}
 use Rattle.seat_scripts.specs.Against.{IsRefusedAgainst, IsTooLargeAgainst}
+use Rattle.seat_scripts.specs.Taken.{ForTaken}
 use Rattle.seat_scripts.proofs.against.read_against.Goals as goal
 
 pub returns-in_err-older-clause-fault : goal.returns-in_err-older-clause-fault
@@ -15,7 +17,7 @@ returns-in_err-older-clause-fault g c =
     rw (p.1, p.2) (refused_older (g.S.Read.remaining c.args.inputs.now.set) (g.L.Read.remaining c.args.inputs.now.limits) (g.A.Read.remaining c.args.after.now) (g.J.Read.remaining c.args.journal.now)
     first days c.args.besides.now
     c.in_ok-loaded.field-0.loaded.flights c.in_ok-loaded.field-0.loaded.grid c.in_ok-loaded.field-0.basis c.needs_digests-needs.result c.in_ok-loaded.ensures.ok c.in_ok-loaded.ensures.basis c.needs_digests-needs.ensures.older c.needs_digests-needs.ensures.journal
-    (λ xs ys older zs. IsRefusedAgainst xs ys first days older c.args.more zs c.args.today texts fault) fault c.in_err-older.ensures.fault)
+    (λ xs ys older zs. ForTaken c.args.given c.args.besides.now.journal zs (λ more. IsRefusedAgainst xs ys first days older more zs c.args.today texts fault)) fault c.in_err-older.ensures.fault)
 
 pub returns-in_err-core-clause-fault : goal.returns-in_err-core-clause-fault
 returns-in_err-core-clause-fault g c =
@@ -30,8 +32,8 @@ returns-in_err-core-clause-fault g c =
     first days c.args.besides.now
     flights grid c.in_ok-loaded.field-0.basis c.needs_digests-needs.result c.in_ok-loaded.ensures.ok c.in_ok-loaded.ensures.basis c.needs_digests-needs.ensures.older c.needs_digests-needs.ensures.journal
     c.in_ok-older.older c.in_ok-older.ensures.ok c.in_ok-older.ensures.sealed
-    (λ xs ys older zs. IsRefusedAgainst xs ys first days older c.args.more zs c.args.today texts fault) fault
-    (λ xs ys older zs is was wrong. of_journal xs ys first days older c.args.more zs c.args.today texts flights grid is c.in_ok-older.older was fault wrong) c.in_err-core.ensures.fault)
+    (λ xs ys older zs. ForTaken c.args.given c.args.besides.now.journal zs (λ more. IsRefusedAgainst xs ys first days older more zs c.args.today texts fault)) fault
+    (λ xs ys older zs is was wrong. record { each = λ more taken. of_journal xs ys first days older more zs c.args.today texts flights grid is c.in_ok-older.older was fault wrong }) c.in_err-core.ensures.fault)
 
 pub returns-in_err-core-clause-large : goal.returns-in_err-core-clause-large
 returns-in_err-core-clause-large g c =
@@ -69,11 +71,11 @@ returns-in-Err-clause-fault g c =
     let flights = c.in_ok-loaded.field-0.loaded.flights in
     let grid = c.in_ok-loaded.field-0.loaded.grid in
     λ input. refused_behind set limits after journal first days c.args.besides.now
-    (λ xs ys older zs. IsRefusedAgainst xs ys first days older c.args.more zs c.args.today texts fault) fault
+    (λ xs ys older zs. ForTaken c.args.given c.args.besides.now.journal zs (λ more. IsRefusedAgainst xs ys first days older more zs c.args.today texts fault)) fault
     (both_agree set limits after journal first days c.args.besides.now flights grid c.in_ok-loaded.field-0.basis c.needs_digests-needs.result c.in_ok-loaded.ensures.ok c.in_ok-loaded.ensures.basis c.needs_digests-needs.ensures.older c.needs_digests-needs.ensures.journal
     c.in_ok-older.older c.in_ok-older.ensures.ok c.in_ok-older.ensures.sealed c.in_ok-core.ensures.sealed)
-    (refused_script set limits after journal first days c.args.more c.args.today texts flights grid c.in_ok-loaded.ensures.ok
-    c.in_ok-older.older c.in_ok-older.ensures.ok c.in_ok-core.field-0.past c.in_ok-core.ensures.ok fault c.in-Err.ensures.script c.in-Err.ensures.fault input)
+    (for_each (λ more xs ys older zs. IsRefusedAgainst xs ys first days older more zs c.args.today texts fault) set limits after journal c.args.given c.args.besides.now.journal (λ more. refused_script set limits after journal first days more c.args.today texts flights grid c.in_ok-loaded.ensures.ok
+    c.in_ok-older.older c.in_ok-older.ensures.ok c.in_ok-core.field-0.past c.in_ok-core.ensures.ok fault c.in-Err.ensures.script c.in-Err.ensures.fault input))
 
 pub returns-in-Err-clause-large : goal.returns-in-Err-clause-large
 returns-in-Err-clause-large g c =
