@@ -8,7 +8,7 @@ use std::alloc::{AllocError, Global};
 
 const VERSION: &str = "1.0.0";
 
-const LONG_VERSION: &str = "1.0.0\nproved and built with rattle-kit-13f logic dac8208d650f15bf";
+const LONG_VERSION: &str = "1.0.0\nproved by Rattle, logic dac8208d650f15bf";
 
 const SET_HELP: &str = "The data set of the schedule (SSIM chapter 7, a file)";
 
