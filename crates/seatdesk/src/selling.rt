@@ -245,10 +245,18 @@ pub fn run<'a, T: Threads + Wait + Sync>(
     }
     let mut place = locked_out(rt, asking, &texts)?;
     let outcome = sell(rt, threads, asking, more, today, texts, &mut place);
-    place.seal.leave();
-    place.journal.leave();
+    leave(&place);
     tell_kept(rt, &place);
     outcome
+}
+
+/// Takes away what was made and is not to stay. A seal that was put ahead of its journal goes first, while OUT is locked.
+fn leave(place: &Place<'_>) {
+    if place.journal.is_to_go() {
+        place.seal.take_away();
+    }
+    place.seal.leave();
+    place.journal.leave();
 }
 
 /// Where a run puts its journal, and the seal of it.
