@@ -81,7 +81,7 @@ complete -c seatdesk -n '__fish_seen_subcommand_from audit' -l days -x -d 'How m
 complete -c seatdesk -n '__fish_seen_subcommand_from audit' -l after -r -F -d 'The journal that JOURNAL goes on from (a file); the scripts ask for the lines behind its own'
 complete -c seatdesk -n '__fish_seen_subcommand_from audit' -l behind -x -d 'How many lines JOURNAL began with, 0 to 999999, in place of --after; the scripts ask for the lines behind them'
 complete -c seatdesk -n '__fish_seen_subcommand_from audit' -l today -x -d 'The day of the run, as 2024-06-01, from 2000 to 2099; it gives the requests their year'
-complete -c seatdesk -n '__fish_seen_subcommand_from audit' -l sealed -d 'Refuses a JOURNAL without a seal beside it; for a JOURNAL alone, without scripts'
+complete -c seatdesk -n '__fish_seen_subcommand_from audit' -l sealed -d 'Refuses a JOURNAL without a seal beside it'
 complete -c seatdesk -n '__fish_seen_subcommand_from audit' -s v -l verbose -d 'Names the file of a fault, and where in it the fault stands, or the system\'s reason'
 complete -c seatdesk -n '__fish_seen_subcommand_from audit' -s h -l help -d 'Print help'
 complete -c seatdesk -n '__fish_seen_subcommand_from audit' -F

@@ -51,8 +51,7 @@ const FROM_HELP: &str = "The replies to the lines of JOURNAL from this number on
 
 const JOURNAL_HELP: &str = "The journal to replay: a file that run wrote, or - for standard input";
 
-const SEALED_HELP: &str =
-    "Refuses a JOURNAL without a seal beside it; for a JOURNAL alone, without scripts";
+const SEALED_HELP: &str = "Refuses a JOURNAL without a seal beside it";
 
 const SEALED_JOURNAL_HELP: &str = "The journal to seal: a file that run wrote";
 
@@ -312,7 +311,7 @@ fn seal_command<'a>(alloc: Global) -> Result<Command<'a>, AllocError>
         alloc,
         "seal",
         "Writes the seal of a journal that audit accepts, which says what the journal belongs to",
-        "The seal is JOURNAL.seal beside JOURNAL. Every command that replays JOURNAL alone compares it, and audit --sealed wants it.\n\nExample: seatdesk seal --set examples/summer.ssim --limits examples/limits.txt --first 2024-07-01 --days 31 journal.txt",
+        "The seal is JOURNAL.seal beside JOURNAL. Every command that replays JOURNAL compares it, and audit --sealed wants it.\n\nExample: seatdesk seal --set examples/summer.ssim --limits examples/limits.txt --first 2024-07-01 --days 31 journal.txt",
     );
     with_argument(
         seal,

@@ -647,7 +647,7 @@ const WORDS: &[Explanation] = &[
         behind: "E2",
         code: "script",
         numbers: NONE,
-        text: "There are more than 8 scripts, or some have a number ahead of their file, as 3=lisbon.txt, and some have none,\nor a number is not 1 to 8, stands twice or has no file behind it. A file whose name begins so is ./3=lisbon.txt.\nOr there is no script: run needs one unless it has --changes, and audit where it has --after, --behind or --today.\nOr audit has --sealed beside scripts, which is for a journal alone.",
+        text: "There are more than 8 scripts, or some have a number ahead of their file, as 3=lisbon.txt, and some have none,\nor a number is not 1 to 8, stands twice or has no file behind it. A file whose name begins so is ./3=lisbon.txt.\nOr there is no script: run needs one unless it has --changes, and audit where it has --after, --behind or --today.",
     },
     Explanation {
         behind: "E2",

@@ -12,15 +12,15 @@ use crate::heard::Heard;
 use crate::journal_file::{JournalFile, TOO_LONG, is_one_file, is_same, lines_in, of};
 use crate::kept_file::{Content, KEPT_BEFORE, Kept, kept_number};
 use crate::refusal::{Refusal, Shown, told};
-use crate::seal_file::{SEAL, SealFile};
+use crate::seal_file::{SEAL, SealFile, is_moved};
 use crate::seal_out::SealOut;
 use crate::sessions::scripts_opened;
 use crate::streams::{Input, Output, opened_or, standard_output, taken};
 use airline_base::Day;
 use seat_desk::{DeskFault, Inputs, NO_LINES};
 use seat_run::{desk_resume, desk_run};
-use seat_scripts::{Wanted, desk_audit_against, desk_replies};
-use seat_seal::{Beside, SealEntry, front_of, imprint_of, is_entry, read_seal};
+use seat_scripts::{Besides, Wanted, desk_audit_against, desk_replies};
+use seat_seal::{SealEntry, front_of, imprint_of, is_entry, read_seal};
 use seat_sealing::older_entry;
 use seat_words::{
     Horizon, WordFault, audit_lacks, behind_word, date_word, line_word, session_word,
@@ -38,8 +38,7 @@ pub struct Older<'a> {
     pub behind: Option<&'a str>,
 }
 
-/// Without a script the journal is looked at alone, with its seal. Scripts need the day of the run, and it needs scripts, as older
-/// lines do.
+/// Without a script the journal is looked at alone. Scripts need the day of the run, and it needs scripts, as older lines do.
 pub fn audit<'a>(
     rt: &HostRuntime,
     over: &Horizon<'a>,
@@ -54,67 +53,116 @@ pub fn audit<'a>(
         Some(today) => Some(day_of_run(today)?),
         None => None,
     };
-    let more = lines_behind(older)?;
+    let given = lines_behind(older)?;
     let has_older = older.after.is_some() || older.behind.is_some();
     if let Some(fault) = audit_lacks(!scripts.is_empty(), has_older, today.is_some()) {
         return Err(Refusal::from(fault));
     }
-    if is_sealed && today.is_some() {
-        return Err(Refusal::from(WordFault::BadScripts));
-    }
     let Some(today) = today else {
         return commands::audit(rt, over, days, journal, is_sealed);
     };
-    audit_against(rt, over, days, older.after, more, today, journal, scripts)
+    let replayed = Replayed {
+        after: older.after,
+        given,
+        today,
+        journal,
+        is_sealed,
+        scripts,
+    };
+    audit_against(rt, over, days, &replayed)
 }
 
-/// How many lines the past has behind those of an older journal: `--behind` stands in place of `--after`.
-fn lines_behind(older: &Older<'_>) -> Result<u32, WordFault> {
+/// How many lines the past has behind those of an older journal, where that is said: `--behind` stands in place of
+/// `--after`. Without both the journal's seal says it.
+fn lines_behind(older: &Older<'_>) -> Result<Option<u32>, WordFault> {
     let Some(word) = older.behind else {
-        return Ok(0);
+        return Ok(if older.after.is_some() { Some(0) } else { None });
     };
     if older.after.is_some() {
         return Err(WordFault::BadBehind);
     }
     match behind_word(word) {
-        Some(more) => Ok(more),
+        Some(more) => Ok(Some(more)),
         None => Err(WordFault::BadBehind),
     }
 }
 
+/// What is read beside the set and the limits, as it was written: two journals, the day of the run, and the scripts.
+#[derive(Clone, Copy)]
+struct Replayed<'a, 'b> {
+    after: Option<&'a str>,
+    given: Option<u32>,
+    today: Day,
+    journal: &'a str,
+    is_sealed: bool,
+    scripts: &'b [&'a str],
+}
+
+/// What a look at two journals came to, and whether one of them was replaced between its opening and the reading of its
+/// seal, so that the seal was another's.
+#[derive(Drop)]
+struct Looked<'a> {
+    outcome: Result<(), Refusal<'a>>,
+    is_moved: bool,
+}
+
+/// A journal that a run has replaced meanwhile is read once more, with everything else: nothing is written where a seal
+/// denies it.
 fn audit_against<'a>(
     rt: &HostRuntime,
     over: &Horizon<'a>,
     days: (Day, u16),
-    after: Option<&'a str>,
-    more: u32,
-    today: Day,
-    journal: &'a str,
-    scripts: &[&'a str],
+    replayed: &Replayed<'a, '_>,
 ) -> Result<(), Refusal<'a>>
     requires first { IsOfCentury days.0 }
     requires days { (1 ≤ days.1) × (days.1 ≤ 366) }
-    requires today { IsCenturyDay today }
+    requires today { IsCenturyDay replayed.now.today }
 {
-    let Some(sessions) = sessions_of_run(scripts, false) else {
+    let looked = match audited_once(rt, over, &days, replayed) {
+        Ok(looked) => looked,
+        Err(refusal) => return Err(refusal),
+    };
+    let Looked { outcome, is_moved } = looked;
+    if !is_moved {
+        return outcome;
+    }
+    match audited_once(rt, over, &days, replayed) {
+        Ok(looked) => looked.outcome,
+        Err(refusal) => Err(refusal),
+    }
+}
+
+fn audited_once<'a>(
+    rt: &HostRuntime,
+    over: &Horizon<'a>,
+    days: &(Day, u16),
+    replayed: &Replayed<'a, '_>,
+) -> Result<Looked<'a>, Refusal<'a>>
+    requires first { IsOfCentury days.now.0 }
+    requires days { (1 ≤ days.now.1) × (days.now.1 ≤ 366) }
+    requires today { IsCenturyDay replayed.now.today }
+{
+    let Some(sessions) = sessions_of_run(replayed.scripts, false) else {
         return Err(Refusal::from(WordFault::BadScripts));
     };
-    let mut inputs = match inputs_of(rt, over, days) {
+    let mut inputs = match inputs_of(rt, over, *days) {
         Ok(inputs) => inputs,
         Err(refusal) => return Err(refusal),
     };
-    let mut after = opened_or(rt, after, &NO_LINES)?;
-    let mut journal = taken(rt, journal)?;
-    let mut scripts = scripts_opened(rt, scripts, sessions)?;
+    let mut after = opened_or(rt, replayed.after, &NO_LINES)?;
+    let mut journal = taken(rt, replayed.journal)?;
+    let mut scripts = scripts_opened(rt, replayed.scripts, sessions)?;
+    let seals = seals_of(rt, &after, &journal, replayed.is_sealed)?;
     let mut out = standard_output(rt);
     let outcome = desk_audit_against(
         rt.alloc(),
         &mut inputs,
         &mut after,
-        more,
+        replayed.given,
         &mut journal,
+        &seals.as_besides(),
         scripts.as_mut_slice(),
-        today,
+        replayed.today,
         &mut out,
     );
     let ahead = told(
@@ -122,9 +170,54 @@ fn audit_against<'a>(
         &[&inputs.set, &inputs.limits, &after, &journal],
         &[],
     );
-    match behind(ahead, scripts.as_slice(), &[], &[&out]) {
-        Ok(()) => Ok(()),
-        Err(refusal) => Err(refusal.noting_unasked(&journal)),
+    let outcome = behind(ahead, scripts.as_slice(), &[], &[&out]);
+    Ok(look_of(rt, outcome, &after, &journal))
+}
+
+/// What stands beside an older journal, and beside the journal that goes on from it.
+#[derive(Drop)]
+struct Seals {
+    older: SealFile,
+    journal: SealFile,
+}
+
+impl Seals {
+    fn as_besides(&self) -> Besides<'_> {
+        Besides {
+            older: self.older.as_beside(),
+            journal: self.journal.as_beside(),
+        }
+    }
+}
+
+/// What stands beside both, once they are open. Beside the journal there may have to be a seal.
+fn seals_of<'a>(
+    rt: &HostRuntime,
+    after: &Input<'a>,
+    journal: &Input<'a>,
+    is_sealed: bool,
+) -> Result<Seals, Refusal<'a>> {
+    let older = SealFile::beside(rt, after, false)?;
+    let journal = SealFile::beside(rt, journal, is_sealed)?;
+    Ok(Seals { older, journal })
+}
+
+fn look_of<'a>(
+    rt: &HostRuntime,
+    outcome: Result<(), Refusal<'a>>,
+    after: &Input<'a>,
+    journal: &Input<'a>,
+) -> Looked<'a> {
+    match outcome {
+        Ok(()) => Looked {
+            outcome: Ok(()),
+            is_moved: false,
+        },
+        Err(refusal) => {
+            let is_moved = refusal.is_of_seal() && (is_moved(rt, after) || is_moved(rt, journal));
+            let outcome = Err(refusal.noting_unasked(journal));
+            Looked { outcome, is_moved }
+        }
     }
 }
 
@@ -159,27 +252,62 @@ pub fn replies<'a>(
 ) -> Result<(), Refusal<'a>> {
     let days = days_of(over.first, over.days)?;
     let today = day_of_run(today)?;
-    let more = lines_behind(older)?;
+    let given = lines_behind(older)?;
     let wanted = wanted_of(part)?;
-    let Some(sessions) = sessions_of_run(scripts, true) else {
+    let replayed = Replayed {
+        after: older.after,
+        given,
+        today,
+        journal,
+        is_sealed: false,
+        scripts,
+    };
+    let looked = match replied_once(rt, over, &days, &replayed, wanted) {
+        Ok(looked) => looked,
+        Err(refusal) => return Err(refusal),
+    };
+    let Looked { outcome, is_moved } = looked;
+    if !is_moved {
+        return outcome;
+    }
+    match replied_once(rt, over, &days, &replayed, wanted) {
+        Ok(looked) => looked.outcome,
+        Err(refusal) => Err(refusal),
+    }
+}
+
+fn replied_once<'a>(
+    rt: &HostRuntime,
+    over: &Horizon<'a>,
+    days: &(Day, u16),
+    replayed: &Replayed<'a, '_>,
+    wanted: Wanted,
+) -> Result<Looked<'a>, Refusal<'a>>
+    requires first { IsOfCentury days.now.0 }
+    requires days { (1 ≤ days.now.1) × (days.now.1 ≤ 366) }
+    requires today { IsCenturyDay replayed.now.today }
+{
+    let Some(sessions) = sessions_of_run(replayed.scripts, true) else {
         return Err(Refusal::from(WordFault::BadScripts));
     };
-    let mut inputs = match inputs_of(rt, over, days) {
+    let mut inputs = match inputs_of(rt, over, *days) {
         Ok(inputs) => inputs,
         Err(refusal) => return Err(refusal),
     };
-    let mut after = opened_or(rt, older.after, &NO_LINES)?;
-    let mut journal = taken(rt, journal)?;
-    let mut scripts = scripts_opened(rt, scripts, sessions)?;
+    let mut after = opened_or(rt, replayed.after, &NO_LINES)?;
+    let mut journal = taken(rt, replayed.journal)?;
+    let mut scripts = scripts_opened(rt, replayed.scripts, sessions)?;
+    let seals = seals_of(rt, &after, &journal, replayed.is_sealed)?;
     let mut out = standard_output(rt);
     let outcome = desk_replies(
         rt.alloc(),
         &mut inputs,
         &mut after,
-        more,
+        replayed.given,
         &mut journal,
+        &seals.as_besides(),
         scripts.as_mut_slice(),
-        today,
+        replayed.today,
         wanted,
         &mut out,
     );
@@ -188,10 +316,8 @@ pub fn replies<'a>(
         &[&inputs.set, &inputs.limits, &after, &journal],
         &[],
     );
-    match behind(ahead, scripts.as_slice(), &[], &[&out]) {
-        Ok(()) => Ok(()),
-        Err(refusal) => Err(refusal.noting_unasked(&journal)),
-    }
+    let outcome = behind(ahead, scripts.as_slice(), &[], &[&out]);
+    Ok(look_of(rt, outcome, &after, &journal))
 }
 
 /// What a run is asked for beside its flights and limits, as it was written.
@@ -220,7 +346,7 @@ pub fn run<'a, T: Threads + Wait + Sync>(
 ) -> Result<(), Refusal<'a>> {
     let days = days_of(over.first, over.days)?;
     let today = day_of_run(asking.today)?;
-    let more = lines_behind(&asking.older)?;
+    let given = lines_behind(&asking.older)?;
     if asking.resume.is_none() && asking.older.behind.is_some() {
         return Err(Refusal::from(WordFault::BadBehind));
     }
@@ -246,7 +372,7 @@ pub fn run<'a, T: Threads + Wait + Sync>(
         return Err(Refusal::from(WordFault::BadBehind));
     }
     let mut place = locked_out(rt, asking, &texts)?;
-    let outcome = sell(rt, threads, asking, more, today, texts, &mut place);
+    let outcome = sell(rt, threads, asking, given, today, texts, &mut place);
     place.seal.leave();
     place.journal.leave();
     tell_kept(rt, &place);
@@ -317,7 +443,7 @@ fn sell<'a, T: Threads + Wait + Sync>(
     rt: &'a HostRuntime,
     threads: &T,
     asking: &Asking<'a, '_>,
-    more: u32,
+    given: Option<u32>,
     today: Day,
     texts: Texts<'a>,
     place: &mut Place<'a>,
@@ -346,19 +472,19 @@ fn sell<'a, T: Threads + Wait + Sync>(
     let mut resumed = again_opened(rt, asking.resume, resumed)?;
     let mut scripts = scripts;
     let mut changes = changes;
-    let older_seal = seal_of_older(rt, asking, &after)?;
+    let seals = seals_of(rt, &after, &resumed, false)?;
     let keeps = keeps_both(rt, &after, &resumed, place)?;
     let mut out = Heard::new(standard_output(rt));
     let outcome = booked(
         rt,
         threads,
         asking,
-        more,
+        given,
         today,
         &mut inputs,
         &mut after,
-        &older_seal.as_beside(),
         &mut resumed,
+        &seals.as_besides(),
         scripts.as_mut_slice(),
         &mut changes,
         older,
@@ -382,15 +508,7 @@ fn sell<'a, T: Threads + Wait + Sync>(
                 .noting_journal(&place.journal)
                 .noting_seal(&place.seal)
                 .noting_output(out.output());
-            noting_place(
-                rt,
-                asking,
-                more,
-                refusal,
-                &after,
-                &resumed,
-                &mut place.journal,
-            )
+            noting_place(rt, asking, refusal, &after, &resumed, place)
         }
     }
 }
@@ -400,12 +518,12 @@ fn booked<'a, T: Threads + Wait + Sync>(
     rt: &'a HostRuntime,
     threads: &T,
     asking: &Asking<'a, '_>,
-    more: u32,
+    given: Option<u32>,
     today: Day,
     inputs: &mut Inputs<Input<'a>, Input<'a>>,
     after: &mut Input<'a>,
-    beside: &Beside<'_>,
     resumed: &mut Input<'a>,
+    besides: &Besides<'_>,
     scripts: &mut [Input<'a>],
     changes: &mut Input<'a>,
     older: SealEntry,
@@ -424,8 +542,8 @@ fn booked<'a, T: Threads + Wait + Sync>(
     let seal = &mut place.seal;
     if asking.resume.is_some() {
         return desk_resume(
-            threads, alloc, inputs, after, more, resumed, scripts, changes, today, &NoGate, older,
-            keeps, journal, seal, out,
+            threads, alloc, inputs, after, given, resumed, besides, scripts, changes, today,
+            &NoGate, older, keeps, journal, seal, out,
         );
     }
     desk_run(
@@ -433,7 +551,7 @@ fn booked<'a, T: Threads + Wait + Sync>(
         alloc,
         inputs,
         after,
-        beside,
+        &besides.older,
         asking.again,
         scripts,
         changes,
@@ -479,21 +597,36 @@ fn keeps_both<'a>(
 fn noting_place<'a>(
     rt: &HostRuntime,
     asking: &Asking<'a, '_>,
-    more: u32,
     refusal: Refusal<'a>,
     after: &Input<'a>,
     resumed: &Input<'a>,
-    journal: &mut JournalFile<'a>,
+    place: &mut Place<'a>,
 ) -> Result<(), Refusal<'a>> {
-    if !journal.is_put() {
+    if !place.journal.is_put() {
         return Err(refusal);
     }
-    let behind = match asking.older.behind {
-        Some(_) => u64::from(more),
-        None => lines_of(rt, asking.older.after, after, journal)?,
+    let behind = match lines_sealed(place) {
+        Some(behind) => u64::from(behind),
+        None => lines_of(rt, asking.older.after, after, &mut place.journal)?,
     };
-    let from = lines_of(rt, asking.resume, resumed, journal)?;
+    let from = lines_of(rt, asking.resume, resumed, &mut place.journal)?;
     Err(refusal.noting_put(asking.journal, behind, from))
+}
+
+/// How many lines the new journal went on from, as its seal says, which has its entry last.
+fn lines_sealed(place: &Place<'_>) -> Option<u32> {
+    let Ok(Some(text)) = place.seal.text() else {
+        return None;
+    };
+    let seal = read_seal(&text)?;
+    let last = match seal.second {
+        Some(second) => second,
+        None => seal.first,
+    };
+    match last {
+        SealEntry::Sealed(entry) => Some(entry.behind),
+        SealEntry::Other(_) => None,
+    }
 }
 
 /// How many lines a journal has that a run went on from, which may be the one that had the name of the new one.
@@ -525,18 +658,6 @@ fn again_opened<'a>(
         return opened_or(rt, path, &NO_LINES);
     }
     Ok(journal)
-}
-
-/// What stands beside the older journal, once that is open. Nothing is looked for where the run goes on with its scripts.
-fn seal_of_older<'a>(
-    rt: &HostRuntime,
-    asking: &Asking<'a, '_>,
-    after: &Input<'a>,
-) -> Result<SealFile, Refusal<'a>> {
-    if asking.resume.is_some() {
-        return Ok(SealFile::nothing(false));
-    }
-    SealFile::beside(rt, after, false)
 }
 
 fn is_regular<'a>(input: &Input<'a>) -> Result<bool, Refusal<'a>> {
