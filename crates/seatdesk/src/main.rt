@@ -13,6 +13,7 @@ mod kept_file;
 mod locale;
 mod refusal;
 mod replies;
+mod restoring;
 mod seal_file;
 mod seal_out;
 mod selling;
@@ -124,6 +125,7 @@ fn carry_out<'a, T: Threads + Wait + Sync>(
             selling::audit(rt, over, &older, *today, looked, journal, scripts)?
         }
         Job::Seal { over, journal } => commands::seal(rt, over, journal)?,
+        Job::Recover { over, cut, journal } => restoring::recover(rt, over, *cut, journal)?,
         Job::Replies {
             over,
             after,

@@ -236,7 +236,8 @@ impl<'a> Refusal<'a> {
         refusal
     }
 
-    fn at(self, file: &'a str, reason: Option<i32>) -> Refusal<'a> {
+    /// The same fault, of this file, with the system's number for what failed.
+    pub fn at(self, file: &'a str, reason: Option<i32>) -> Refusal<'a> {
         let mut refusal = self;
         refusal.file = Some(file);
         refusal.ending = "";
