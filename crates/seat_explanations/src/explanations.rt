@@ -499,7 +499,7 @@ const JOURNALS: &[Explanation] = &[
         behind: "",
         code: "J3",
         numbers: LINE,
-        text: "The line is a wrong END line, stands behind it, or should be the END line and is missing.\nThe journal may have been cut off, or be one that is still open: audit --open says whether its whole lines are right.\nWith --after it may be the older journal, which is read first.",
+        text: "The line is a wrong END line, stands behind it, or should be the END line and is missing.\nThe journal may have been cut off, or be one that is still open: audit --open says whether its whole lines are right, and recover ends it.\nWith --after it may be the older journal, which is read first.",
     },
     Explanation {
         behind: "",
@@ -703,7 +703,7 @@ const WORDS: &[Explanation] = &[
         behind: "E2",
         code: "journal",
         numbers: NONE,
-        text: "The file of --journal is one of the inputs, other than the journals of --after and --resume, or that of standard output,\nor another run has it, as it may have the journal that is to be sealed, or its name is - or ends in .seal, .unfinished or .kept-N,\nor what is called as its seal is another file of the command or no regular file, or --no-clobber keeps it: it is there and not empty. Nothing was written. seatdesk -v says which of these it is.",
+        text: "The file of --journal is one of the inputs, other than the journals of --after and --resume, or that of standard output,\nor another run has it, as it may have the journal that is to be sealed or recovered, or its name is - or ends in .seal, .unfinished or .kept-N,\nor what is called as its seal is another file of the command or no regular file, or --no-clobber keeps it: it is there and not empty. Nothing was written. seatdesk -v says which of these it is.",
     },
     Explanation {
         behind: "E2",
@@ -738,6 +738,12 @@ const NOTES: &[Explanation] = &[
         code: "note",
         numbers: NONE,
         text: "The journal of the run is in its place, and its replies did not all go out. The run is not to be made again:\nseatdesk replies writes them, with the options of the run and those that the note has.",
+    },
+    Explanation {
+        behind: "cut",
+        code: "note",
+        numbers: NONE,
+        text: "What stood behind the right lines of the journal is in this file from now on: a line that did not end, or with --cut\nwhole lines that were not right. It is no journal, and no command takes it.",
     },
     Explanation {
         behind: "",

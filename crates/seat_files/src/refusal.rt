@@ -276,7 +276,8 @@ impl<'a> Refusal<'a> {
         refusal
     }
 
-    fn at(self, file: &'a str, reason: Option<i32>) -> Refusal<'a>
+    /// The same fault, of this file, with the system's number for what failed.
+    pub fn at(self, file: &'a str, reason: Option<i32>) -> Refusal<'a>
         ensures { result.fault ≡ self.entry.fault }
     {
         let mut refusal = self;

@@ -8,6 +8,6 @@ mod open_audit;
 mod open_question;
 mod recovered;
 
-pub use open_audit::OpenAudit;
+pub use open_audit::{OpenAudit, damage_fault};
 pub use open_question::OpenQuestion;
 pub use recovered::recovered_line;

@@ -100,6 +100,11 @@ audit_app = with_rule (with_rule (with_rule (with_rule (with_rule (with_rule (wi
 unfoldable pub seal_app : App
 seal_app = with_rule (horizon_app (codes "seal")) (required_value (codes "journal"))
 
+unfoldable pub recover_app : App
+recover_app = with_rule (with_rule (horizon_app (codes "recover"))
+    (flag (codes "cut")))
+    (required_value (codes "journal"))
+
 unfoldable pub replies_app : App
 replies_app = with_rule (with_rule (with_rule (with_rule (with_rule (with_rule (with_rule (horizon_app (codes "replies"))
     (optional (codes "after")))
@@ -147,8 +152,8 @@ selling_app = with_command (with_command (with_command (with_command (with_comma
 
 -- the program: one of its commands must be named
 unfoldable pub seatdesk_app : App
-seatdesk_app = with_command (with_command (with_command (with_command (with_command (with_command
-    selling_app bookings_app) audit_app) seal_app) replies_app) why_app) explain_app
+seatdesk_app = with_command (with_command (with_command (with_command (with_command (with_command (with_command
+    selling_app bookings_app) audit_app) seal_app) recover_app) replies_app) why_app) explain_app
 
 -- the command is read as a, and its options are its own
 pub record IsBuiltAs (a : App) (c : Command) : Type 0 where

@@ -6,7 +6,7 @@ use Rattle.std.specs.Option.{option_map, option_map_or}
 use Rattle.clap.specs.Words.{Row, Text, all_of, first_of}
 use Rattle.seat_words.specs.declared.job.Horizon.{Horizon}
 use Rattle.seat_words.specs.declared.job.Job.{Job}
-use Rattle.seat_words.specs.declared.job.Job.TheVariants.{Ladder, Check, Flights, Cover, Rooms, Run, Bookings, Audit, Seal, Replies, Why, Explain}
+use Rattle.seat_words.specs.declared.job.Job.TheVariants.{Ladder, Check, Flights, Cover, Rooms, Run, Bookings, Audit, Seal, Recover, Replies, Why, Explain}
 
 -- a command that clap found in the words, and what it found of the command's values
 abbrev pub Line : Type 0
@@ -87,6 +87,10 @@ Asks (Audit over after behind today sealed is_open journal scripts) line = (line
 Asks (Seal over journal) line = (line.0 ≡ codes "seal")
     × IsOver line.1 over
     × Has line (codes "journal") journal.now
+Asks (Recover over cut journal) line = (line.0 ≡ codes "recover")
+    × IsOver line.1 over
+    × HasFlag line (codes "cut") cut
+    × Has line (codes "journal") journal.now
 Asks (Replies over after behind today session from journal scripts) line = (line.0 ≡ codes "replies")
     × IsOver line.1 over
     × MayHave line (codes "after") (option_map (λ text. text.now) after)
@@ -122,6 +126,7 @@ asked_values = (codes "ladder", [])
     ∷ (codes "bookings", horizon_values ++ codes "locator" ∷ codes "journal" ∷ [])
     ∷ (codes "audit", horizon_values ++ codes "journal" ∷ [])
     ∷ (codes "seal", horizon_values ++ codes "journal" ∷ [])
+    ∷ (codes "recover", horizon_values ++ codes "journal" ∷ [])
     ∷ (codes "replies", horizon_values ++ codes "today" ∷ codes "journal" ∷ [])
     ∷ (codes "why", horizon_values ++ codes "line" ∷ codes "journal" ∷ [])
     ∷ (codes "explain", codes "code" ∷ [])

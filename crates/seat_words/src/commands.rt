@@ -1,7 +1,7 @@
 //! The commands, as clap reads them and as their help shows them.
 ghost use Rattle.std.specs.Prelude.{IfOk, IsOkAnd, codes};
 ghost use Rattle.clap.specs.Words.{AddsArg, App, new_app};
-ghost use Rattle.seat_words.specs.CommandLine.{IsBuiltAs, IsReadAlike, IsReadAs, audit_app, bare_app, bookings_app, check_app, cover_app, explain_app, flag, flights_app, horizon_app, ladder_app, lettered_flag, named_app, optional, optional_value, optional_values, replies_app, required_option, required_value, rooms_app, run_app, seal_app, seatdesk_app, selling_app, why_app, with_command, with_verbose};
+ghost use Rattle.seat_words.specs.CommandLine.{IsBuiltAs, IsReadAlike, IsReadAs, audit_app, bare_app, bookings_app, check_app, cover_app, explain_app, flag, flights_app, horizon_app, ladder_app, lettered_flag, named_app, optional, optional_value, optional_values, recover_app, replies_app, required_option, required_value, rooms_app, run_app, seal_app, seatdesk_app, selling_app, why_app, with_command, with_verbose};
 
 use clap::{Arg, ArgAction, Command};
 use std::alloc::{AllocError, Global};
@@ -52,6 +52,10 @@ const FROM_HELP: &str = "The replies to the lines of JOURNAL from this number on
 const JOURNAL_HELP: &str = "The journal to replay: a file that run wrote, or - for standard input";
 
 const SEALED_HELP: &str = "Refuses a JOURNAL without a seal beside it";
+
+const LEFT_JOURNAL_HELP: &str = "The journal that was left open: a regular file, which is locked";
+
+const CUT_HELP: &str = "Cuts damage too: a whole line that is not right, and what stands behind it";
 
 const SEALED_JOURNAL_HELP: &str = "The journal to seal: a file that run wrote";
 
@@ -107,6 +111,7 @@ pub(crate) fn seatdesk_command<'a>(alloc: Global) -> Result<Command<'a>, AllocEr
     let program = with_command(alloc, program, bookings_command(alloc));
     let program = with_command(alloc, program, audit_command(alloc));
     let program = with_command(alloc, program, seal_command(alloc));
+    let program = with_command(alloc, program, recover_command(alloc));
     let program = with_command(alloc, program, replies_command(alloc));
     let program = with_command(alloc, program, why_command(alloc));
     with_command(alloc, program, explain_command(alloc))
@@ -325,6 +330,22 @@ fn seal_command<'a>(alloc: Global) -> Result<Command<'a>, AllocError>
     with_argument(
         seal,
         wanted_value(alloc, "journal", "JOURNAL", SEALED_JOURNAL_HELP),
+    )
+}
+
+fn recover_command<'a>(alloc: Global) -> Result<Command<'a>, AllocError>
+    ensures { IfOk result (IsBuiltAs recover_app) }
+{
+    let recover = horizon_command(
+        alloc,
+        "recover",
+        "Cuts a journal that was left open back to its right lines, writes its END line, and says so",
+        "A torn line behind the right ones is kept beside JOURNAL, as JOURNAL.torn-1, and cut. A whole line that is not right is refused\nas audit --open refuses it: it may be the wrong set or limits. With --cut it is kept and cut too, with all behind it, where\nthat is no more than a crash leaves: 4096 lines and 256 KiB.\n\nExample: seatdesk recover --set examples/summer.ssim --limits examples/limits.txt --first 2024-07-01 --days 31 journal.txt",
+    );
+    let recover = with_argument(recover, flag(alloc, "cut", CUT_HELP));
+    with_argument(
+        recover,
+        wanted_value(alloc, "journal", "JOURNAL", LEFT_JOURNAL_HELP),
     )
 }
 

@@ -88,6 +88,12 @@ pub enum Job<'a> {
         over: Horizon<'a>,
         journal: &'a str,
     },
+    /// `seatdesk recover` over a horizon `[--cut] JOURNAL`
+    Recover {
+        over: Horizon<'a>,
+        cut: bool,
+        journal: &'a str,
+    },
     /// `seatdesk replies` over a horizon `[--after JOURNAL] [--behind N] --today DATE [--session N] [--from LINE] JOURNAL [SCRIPT...]`
     Replies {
         over: Horizon<'a>,
@@ -224,6 +230,11 @@ fn job_named<'a>(alloc: Global, name: &str, matches: &ArgMatches<'a>) -> Result<
         },
         "seal" => Job::Seal {
             over: horizon_of(matches),
+            journal: value_of(matches, "journal"),
+        },
+        "recover" => Job::Recover {
+            over: horizon_of(matches),
+            cut: flag_of(matches, "cut"),
             journal: value_of(matches, "journal"),
         },
         "replies" => Job::Replies {

@@ -6,6 +6,7 @@ mod commands;
 mod explain;
 mod heard;
 mod locale;
+mod restoring;
 mod selling;
 mod sessions;
 mod undone;
@@ -116,6 +117,7 @@ fn carry_out<'a, T: Threads + Wait + Sync>(
             selling::audit(rt, over, &older, *today, looked, journal, scripts)?
         }
         Job::Seal { over, journal } => commands::seal(rt, over, journal)?,
+        Job::Recover { over, cut, journal } => restoring::recover(rt, over, *cut, journal)?,
         Job::Replies {
             over,
             after,

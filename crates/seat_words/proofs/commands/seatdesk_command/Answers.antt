@@ -7,6 +7,7 @@ returns c =
     let one = c.with_command-program.ensures _ _ c.selling_command-program.ensures c.bookings_command.ensures in
     let two = c.with_command-program-2.ensures _ _ one c.audit_command.ensures in
     let three = c.with_command-program-3.ensures _ _ two c.seal_command.ensures in
-    let four = c.with_command-program-4.ensures _ _ three c.replies_command.ensures in
-    let five = c.with_command-program-5.ensures _ _ four c.why_command.ensures in
-    c.with_command.ensures _ _ five c.explain_command.ensures
+    let four = c.with_command-program-4.ensures _ _ three c.recover_command.ensures in
+    let five = c.with_command-program-5.ensures _ _ four c.replies_command.ensures in
+    let six = c.with_command-program-6.ensures _ _ five c.why_command.ensures in
+    c.with_command.ensures _ _ six c.explain_command.ensures

@@ -1,0 +1,7 @@
+//! `recover`: a journal that a crash left open is cut back to its lines, and ended.
+//! It knows the file of a journal by what it is asked of it, and nothing of names, of locks or of who writes lines.
+#![tactic(auto)]
+
+mod recover;
+
+pub use recover::desk_recover;

@@ -1,0 +1,95 @@
+//! `recover` over the real file of a journal, which it locks.
+//! It knows which file is which, and nothing of what stands in a journal.
+use crate::commands::{days_of, inputs_of};
+use airline_base::Failures;
+use seat_desk::{DeskFault, Inputs};
+use seat_files::{Guard, Input, Output, Refusal, Shown, standard_output};
+use seat_restoring::desk_recover;
+use seat_tape::{BesideFile, OpenFault, TapeFile, open};
+use seat_words::Horizon;
+use std::{fs, io};
+
+/// What the name of the file that keeps what is cut ends with, behind the journal's, ahead of its number.
+const TORN_BEFORE: &str = ".torn-";
+
+/// Cuts a journal back to its right lines and ends it, while it is locked. Damage is cut where that is said.
+pub fn recover<'a>(
+    rt: &'a HostRuntime,
+    over: &Horizon<'a>,
+    is_said: bool,
+    journal: &'a str,
+) -> Result<(), Refusal<'a>> {
+    let days = days_of(over.first, over.days)?;
+    let mut inputs = match inputs_of(rt, over, days) {
+        Ok(inputs) => inputs,
+        Err(refusal) => return Err(refusal),
+    };
+    let guard = Guard::new(rt, journal)?;
+    guard.pass(&inputs, &[], &[])?;
+    guard.pass_output(rt)?;
+    let path = match fs::canonicalize(rt, journal) {
+        Ok(path) => path.into_string(),
+        Err(error) => return Err(Refusal::unopened(journal, &error)),
+    };
+    let mut tape = match open(rt, journal) {
+        Ok(tape) => tape,
+        Err(fault) => return Err(unopened(journal, fault)),
+    };
+    let mut beside = BesideFile::of(rt, path.as_str());
+    let mut out = standard_output(rt);
+    let outcome = desk_recover(
+        rt.alloc(),
+        &mut inputs,
+        is_said,
+        &mut tape,
+        &mut beside,
+        &mut out,
+    );
+    tell_kept(rt, journal, &beside);
+    match outcome {
+        Ok(()) => Ok(()),
+        Err(fault) => Err(refused(fault, &inputs, journal, &tape, &beside, &out)),
+    }
+}
+
+/// Why the journal is not opened.
+fn unopened<'a>(journal: &'a str, fault: OpenFault) -> Refusal<'a> {
+    match fault {
+        OpenFault::NotRegular => Refusal::barred(journal, "Is no regular file"),
+        OpenFault::Taken => Refusal::barred(journal, "Another run has it"),
+        OpenFault::Replaced => Refusal::barred(journal, "Is replaced at each look"),
+        OpenFault::System(reason) => Refusal::from(DeskFault::Device).at(journal, reason),
+    }
+}
+
+/// Says where what was cut is kept.
+fn tell_kept(rt: &HostRuntime, journal: &str, beside: &BesideFile<'_>) {
+    if let Some(number) = beside.number() {
+        let file = Shown { name: journal };
+        let _ = eprintln!(rt; "seatdesk: note: {file}{TORN_BEFORE}{number} has what was cut");
+    }
+}
+
+/// The fault, of the file that it is of.
+fn refused<'a>(
+    fault: DeskFault,
+    inputs: &Inputs<Input<'a>, Input<'a>>,
+    journal: &'a str,
+    tape: &TapeFile,
+    beside: &BesideFile<'_>,
+    out: &Output<'a>,
+) -> Refusal<'a> {
+    let refusal = Refusal::from(fault);
+    match fault {
+        DeskFault::Journal(_) | DeskFault::Replay(_) => refusal.at(journal, None),
+        DeskFault::Device if tape.failures() > 0 => refusal.at(journal, tape.reason()),
+        DeskFault::Device if beside.failures() > 0 => {
+            refusal.at(journal, beside.reason()).beside(TORN_BEFORE)
+        }
+        // (an input, or the journal)
+        DeskFault::TooLarge => refusal,
+        _ => refusal
+            .noting_all(&[&inputs.set, &inputs.limits])
+            .noting_outputs(&[out]),
+    }
+}
