@@ -90,6 +90,6 @@ fn refused<'a>(
         DeskFault::TooLarge => refusal,
         _ => refusal
             .noting_all(&[&inputs.set, &inputs.limits])
-            .noting_outputs(&[out]),
+            .noting_output(out),
     }
 }
