@@ -15,7 +15,7 @@ _seatdesk() {
     esac
     for ((i = 1; i < COMP_CWORD; i++)); do
         case ${COMP_WORDS[i]} in
-        ladder | check | flights | cover | rooms | run | bookings | audit | seal | replies | why | explain | help)
+        ladder | check | flights | cover | rooms | run | bookings | audit | seal | recover | replies | why | explain | help)
             command=${COMP_WORDS[i]}
             break
             ;;
@@ -23,7 +23,7 @@ _seatdesk() {
     done
     case $command in
     '')
-        words='ladder check flights cover rooms run bookings audit seal replies why explain help -v --verbose -h --help -V --version'
+        words='ladder check flights cover rooms run bookings audit seal recover replies why explain help -v --verbose -h --help -V --version'
         files=''
         values=''
         place=''
@@ -82,6 +82,12 @@ _seatdesk() {
         values='--first --days'
         place='files'
         ;;
+    recover)
+        words='--set --limits --first --days --cut -v --verbose -h --help'
+        files='--set --limits'
+        values='--first --days'
+        place='files'
+        ;;
     replies)
         words='--set --limits --first --days --after --behind --today --session --from -v --verbose -h --help'
         files='--set --limits --after'
@@ -103,7 +109,7 @@ _seatdesk() {
         place=''
         ;;
     help)
-        words='ladder check flights cover rooms run bookings audit seal replies why explain'
+        words='ladder check flights cover rooms run bookings audit seal recover replies why explain'
         files=''
         values=''
         place=''

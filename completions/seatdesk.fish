@@ -13,6 +13,7 @@ complete -c seatdesk -n __fish_use_subcommand -a run -d 'Books the requests of s
 complete -c seatdesk -n __fish_use_subcommand -a bookings -d 'Writes the live bookings of a locator, in the codes of AIRIMP'
 complete -c seatdesk -n __fish_use_subcommand -a audit -d 'Replays a journal against its schedule and limits, and writes one summary line'
 complete -c seatdesk -n __fish_use_subcommand -a seal -d 'Writes the seal of a journal that audit accepts, which says what the journal belongs to'
+complete -c seatdesk -n __fish_use_subcommand -a recover -d 'Cuts a journal that was left open back to its right lines, writes its END line, and says so'
 complete -c seatdesk -n __fish_use_subcommand -a replies -d 'Writes the replies of a run once more, from its journal and its scripts'
 complete -c seatdesk -n __fish_use_subcommand -a why -d 'Writes the reason of one reply of a journal: what the limits left, and the right answer'
 complete -c seatdesk -n __fish_use_subcommand -a explain -d 'Says what a fault line means, or the code of a reply'
@@ -97,6 +98,15 @@ complete -c seatdesk -n '__fish_seen_subcommand_from seal' -s v -l verbose -d 'N
 complete -c seatdesk -n '__fish_seen_subcommand_from seal' -s h -l help -d 'Print help'
 complete -c seatdesk -n '__fish_seen_subcommand_from seal' -F
 
+complete -c seatdesk -n '__fish_seen_subcommand_from recover' -l set -r -F -d 'The data set of the schedule (SSIM chapter 7, a file)'
+complete -c seatdesk -n '__fish_seen_subcommand_from recover' -l limits -r -F -d 'The booking limits of the legs, in seats from 0 to 999 (a file)'
+complete -c seatdesk -n '__fish_seen_subcommand_from recover' -l first -x -d 'The first day of departure, as 2024-06-01, from 2000 to 2099'
+complete -c seatdesk -n '__fish_seen_subcommand_from recover' -l days -x -d 'How many days from the first on, 1 to 366'
+complete -c seatdesk -n '__fish_seen_subcommand_from recover' -l cut -d 'Cuts damage too: a whole line that is not right, and what stands behind it'
+complete -c seatdesk -n '__fish_seen_subcommand_from recover' -s v -l verbose -d 'Names the file of a fault, and where in it the fault stands, or the system\'s reason'
+complete -c seatdesk -n '__fish_seen_subcommand_from recover' -s h -l help -d 'Print help'
+complete -c seatdesk -n '__fish_seen_subcommand_from recover' -F
+
 complete -c seatdesk -n '__fish_seen_subcommand_from replies' -l set -r -F -d 'The data set of the schedule (SSIM chapter 7, a file)'
 complete -c seatdesk -n '__fish_seen_subcommand_from replies' -l limits -r -F -d 'The booking limits of the legs, in seats from 0 to 999 (a file)'
 complete -c seatdesk -n '__fish_seen_subcommand_from replies' -l first -x -d 'The first day of departure, as 2024-06-01, from 2000 to 2099'
@@ -124,4 +134,4 @@ complete -c seatdesk -n '__fish_seen_subcommand_from explain' -s v -l verbose -d
 complete -c seatdesk -n '__fish_seen_subcommand_from explain' -s h -l help -d 'Print help'
 complete -c seatdesk -n '__fish_seen_subcommand_from explain' -a 'A1 A2 A3 A4 A5 A6 A7 A8 A9 B1 C1 DEVICE E1 E2 F1 F2 F3 F4 F5 F6 F7 F8 F9 J1 J2 J3 J4 L1 L2 L3 L4 M1 M2 M3 M4 M5 M6 M7 MEMORY P1 P2 P3 P4 P5 P6 P7 P8 Q1 Q2 Q3 R2 S1 S2 S3 S4 S5 S6 S7 S8 S9 S10 S11 S12 S13 S14 S15 SEAL U1'
 
-complete -c seatdesk -n '__fish_seen_subcommand_from help' -a 'ladder check flights cover rooms run bookings audit seal replies why explain'
+complete -c seatdesk -n '__fish_seen_subcommand_from help' -a 'ladder check flights cover rooms run bookings audit seal recover replies why explain'
