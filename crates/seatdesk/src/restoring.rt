@@ -83,6 +83,7 @@ fn refused<'a>(
     match fault {
         DeskFault::Journal(_) | DeskFault::Replay(_) => refusal.at(journal, None),
         DeskFault::Device if tape.failures() > 0 => refusal.at(journal, tape.reason()),
+        DeskFault::Device if beside.wants_memory() => Refusal::from(DeskFault::Memory),
         DeskFault::Device if beside.failures() > 0 => {
             refusal.at(journal, beside.reason()).beside(TORN_BEFORE)
         }
