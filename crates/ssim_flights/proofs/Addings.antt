@@ -1,5 +1,5 @@
 -- Adding a chain's flights, and an itinerary's.
-use Rattle.std.proofs.Common.{◌≡◌, ℕ, Bool, List, [], ◌∷◌, ◌++◌, length, map, Option, Some, None, Result, Err, IfErr, refl, sym, ap, subst, ◌∙◌, inr, append-nil, arith}
+use Rattle.std.proofs.Common.{◌≡◌, ℕ, Bool, List, [], ◌∷◌, ◌++◌, length, map, Option, Some, None, Result, Ok, Err, IfErr, OnOk, refl, sym, ap, subst, ◌∙◌, inr, append-nil, arith}
 use Rattle.ssim_flights.proofs.Common.{Leg, FlightFault, Flight, Departure, Plan, Scheduled, chain, missing_leg, repeated_leg, broken_chain, days_fault, departure, departures_on, fault_of, rows, schedule, flights_on, flight_on}
 use Rattle.ssim_flights.specs.declared.adding.Flown.{Flown}
 use Rattle.ssim_flights.specs.Adding.{IsChainAdded, IsAdded}
@@ -59,3 +59,7 @@ refused A r fault o e h = subst (λ (x : Result A FlightFault). IfErr x (λ f. I
 pub empty : {A : Type 0} (xs : List A) → length xs ≡ 0 → xs ≡ []
 empty [] e = refl
 empty (x ∷ xs) e = absurd (omega arith)
+
+pub on_ok : {A E : Type 0} (r : Result A E) (P Q : Type 0) → (P → Q) → OnOk r P → OnOk r Q
+on_ok (Ok x) P Q f h = f h
+on_ok (Err x) P Q f h = tt

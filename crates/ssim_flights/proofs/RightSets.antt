@@ -1,11 +1,11 @@
 -- The carrier and the legs of a data set are right in what dates are reckoned from.
-use Rattle.std.proofs.Common.{◌≡◌, ℕ, ◌+◌, ◌*◌, ◌<◌, ◌≤◌, List, [], ◌∷◌, Option, Some, None, All, ⊎_elim, sym, subst, ℤ, pos, negsuc, ◌-ℤ◌, ◌≤ℤ◌, unwrap_or, arith}
+use Rattle.std.proofs.Common.{◌≡◌, ℕ, ◌+◌, ◌<◌, ◌≤◌, List, [], ◌∷◌, Option, Some, None, All, ⊎_elim, sym, subst, ℤ, pos, negsuc, ◌-ℤ◌, ◌≤ℤ◌, unwrap_or, arith}
 use Rattle.ssim_flights.proofs.Common.{Leg}
 use Rattle.std.proofs.lemmas.List.Elements.{All-nil, All-cons}
 use Rattle.jiff_core.proofs.SignedLemmas.{signed_arith}
 use Rattle.airline_base.specs.Days.{IsDate, IsDayField}
 use Rattle.airline_base.proofs.Years.{high_century, low_century}
-use Rattle.ssim_records.specs.SetText.{IsBody, IsDataSet, IsLeg, IsOffset, IsShift, IsUntil}
+use Rattle.ssim_records.specs.SetText.{IsBody, IsDataSet, IsLeg, IsUntil}
 use Rattle.ssim_records.specs.declared.set.DataSet.{DataSet}
 use Rattle.ssim_flights.specs.Right.{IsOfCentury, IsRightCarrier, IsRightLeg}
 use Rattle.ssim_records.proofs.RightLaws.{right_offset, right_shift}

@@ -4,7 +4,7 @@ use Rattle.ssim_flights.specs.LegChains.{chain, broken_chain}
 use Rattle.ssim_flights.specs.Right.{IsRightLeg}
 use Rattle.ssim_flights.specs.Schedules.{schedule}
 use Rattle.ssim_flights.specs.Taken.{has_departure}
-use Rattle.ssim_flights.proofs.Indexing.{on_ok}
+use Rattle.ssim_flights.proofs.Addings.{on_ok}
 use Rattle.ssim_flights.proofs.Chaining.{chain_right, fault_one, fault_two, fault_three}
 use Rattle.ssim_flights.proofs.Addings.{added_chain, days_are, refusal_same, refused}
 use Rattle.ssim_flights.proofs.adding.add.Goals as goal
