@@ -11,6 +11,6 @@ mod writing;
 
 pub use again::the_same_again;
 pub use laws::{ends_are_last, no_crash_denies};
-pub use older::older_entry;
+pub use older::{entry_beside, older_entry};
 pub use replacing::{may_be_sealed, replace_sealed};
 pub use writing::write_sealed;
