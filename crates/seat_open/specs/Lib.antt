@@ -1,4 +1,5 @@
 pub mod Ending
+pub mod Laws
 pub mod OpenAudits
 pub mod OpenQuestions
 pub mod Recovered

@@ -4,6 +4,7 @@
 #![tactic(auto)]
 
 mod ending;
+pub mod laws;
 mod open_audit;
 mod open_question;
 mod recovered;
