@@ -24,7 +24,7 @@ pub struct Refusal<'a> {
     pub fault: Fault,
     file: Option<&'a str>,
     /// What the name of the very file ends with behind that, where it is one that stands beside it.
-    ending: &'static str,
+    ending: Ending,
     reason: Option<i32>,
     /// Why the file may not be the journal's.
     why: Option<&'static str>,
@@ -34,6 +34,30 @@ pub struct Refusal<'a> {
     is_unheard: bool,
     /// The journal of a run whose replies failed.
     put: Option<Put<'a>>,
+}
+
+/// What the name of a file beside another ends with: a word, and behind it a number where it has one.
+#[derive(Clone, Copy)]
+struct Ending {
+    word: &'static str,
+    number: Option<u32>,
+}
+
+impl Ending {
+    const NONE: Ending = Ending {
+        word: "",
+        number: None,
+    };
+}
+
+impl fmt::Display for Ending {
+    fn fmt<W: fmt::Write>(&self, f: &mut fmt::Formatter<W>) -> fmt::Result {
+        f.write_str(self.word)?;
+        match self.number {
+            Some(number) => write!(f, "{number}"),
+            None => Ok(()),
+        }
+    }
 }
 
 /// A file that has a run's journal: behind how many lines its scripts stand, and how many it had of them ahead of the new ones.
@@ -64,7 +88,7 @@ impl<'a> Refusal<'a> {
         Refusal {
             fault,
             file: None,
-            ending: "",
+            ending: Ending::NONE,
             reason: None,
             why: None,
             has_mark: false,
@@ -103,7 +127,20 @@ impl<'a> Refusal<'a> {
         ensures { result.fault ≡ self.entry.fault }
     {
         let mut refusal = self;
-        refusal.ending = ending;
+        refusal.ending = Ending {
+            word: ending,
+            number: None,
+        };
+        refusal
+    }
+
+    /// The same where the name ends with this number behind that.
+    pub fn numbered(self, number: Option<u32>) -> Refusal<'a>
+        ensures { result.fault ≡ self.entry.fault }
+    {
+        let word = self.ending.word;
+        let mut refusal = self;
+        refusal.ending = Ending { word, number };
         refusal
     }
 
@@ -282,7 +319,7 @@ impl<'a> Refusal<'a> {
     {
         let mut refusal = self;
         refusal.file = Some(file);
-        refusal.ending = "";
+        refusal.ending = Ending::NONE;
         refusal.reason = reason;
         refusal
     }
@@ -297,7 +334,7 @@ impl<'a> Refusal<'a> {
         let Some(name) = self.file else {
             return;
         };
-        if !self.ending.is_empty() && is_link(rt, name) {
+        if !self.ending.word.is_empty() && is_link(rt, name) {
             // (what stands beside a file stands where a link leads)
             if let Ok(path) = fs::canonicalize(rt, name) {
                 let path = path.into_string();
