@@ -511,7 +511,7 @@ const JOURNALS: &[Explanation] = &[
         behind: "",
         code: "R2",
         numbers: NONE,
-        text: "An input is too large: a data set or a journal has at most 256 MiB, any other input 16 MiB.\nseatdesk -v names the file.",
+        text: "An input is too large: a data set or a journal has at most 256 MiB, any other input 16 MiB.\nOr what stands behind the lines of a journal that is to be recovered is a line without an end, of more than 256 KiB.\nseatdesk -v names the file.",
     },
     Explanation {
         behind: "",
@@ -627,7 +627,7 @@ const SEALS: &[Explanation] = &[
         behind: "SEAL",
         code: "journal",
         numbers: NONE,
-        text: "The journal's head and entries are others than those that were sealed: a line was changed, added or taken away,\nor the journal is another than the seal's: a run writes both, and a kept journal has its own beside it.",
+        text: "The journal's head and entries are others than those that were sealed: a line was changed, added or taken away,\nor the journal is another than the seal's: a run writes both, and a kept journal has its own beside it.\nBehind seatdesk recover the seal is that of the journal as it was: seatdesk seal writes the new one.",
     },
     Explanation {
         behind: "SEAL",
@@ -744,6 +744,12 @@ const NOTES: &[Explanation] = &[
         code: "note",
         numbers: NONE,
         text: "What stood behind the right lines of the journal is in this file from now on: a line that did not end, or with --cut\nwhole lines that were not right. It is no journal, and no command takes it.",
+    },
+    Explanation {
+        behind: "seal",
+        code: "note",
+        numbers: NONE,
+        text: "The seal beside the journal that was recovered is of the lines that it had before, so a command that compares it answers\nSEAL journal. seatdesk seal writes the seal of the lines that it has now.",
     },
     Explanation {
         behind: "",
