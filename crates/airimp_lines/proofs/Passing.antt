@@ -1,6 +1,5 @@
 -- One line of a script, and what remains behind it.
-use Rattle.std.proofs.Common.{◌≡◌, ℕ, ◌+◌, Bool, true, false, cond, not, ◌==◌, List, [], ◌∷◌, ◌++◌, length, Option, Some, None, Result, Ok, Err, inr, refl, sym, ap, subst, ◌∙◌}
-use Rattle.std.specs.Result.{IsErrAnd, IfErr}
+use Rattle.std.proofs.Common.{◌≡◌, ℕ, ◌+◌, Bool, true, false, cond, not, ◌==◌, List, [], ◌∷◌, ◌++◌, length, Option, Some, None, Result, Ok, Err, refl, sym, ap, subst, ◌∙◌}
 use Rattle.airline_base.proofs.Tests.{some_is, none_some, nothing}
 use Rattle.airimp_lines.specs.declared.fault.LineFault.{LineFault}
 use Rattle.airimp_lines.specs.declared.fault.ScriptKind.{ScriptKind}
@@ -10,7 +9,7 @@ use Rattle.airimp_lines.specs.declared.segment.Undated.{Undated}
 use Rattle.airimp_lines.specs.Messages.{heading_at, is_passed_over}
 use Rattle.airimp_lines.specs.Reading.{undated_at}
 use Rattle.airimp_lines.specs.Script.{Line, runs_of, segment_lines, IsRequest, AreRequests, AreMessages}
-use Rattle.airimp_lines.specs.Steps.{Message, after_heading, after_segment, step, HasRequest, AreOwn, IsStop}
+use Rattle.airimp_lines.specs.Steps.{Message, after_heading, after_segment, step, AreOwn}
 use Rattle.std.specs.List.{enumerate_from}
 use Rattle.airimp_lines.proofs.Headings.{heading_takes, heading_again}
 use Rattle.airimp_lines.proofs.Remaining.{AreLeft, Remain, more_left, less_left, open_message, opened_message, part_more, part_split, same_requests}
@@ -163,16 +162,6 @@ asked_one today locator n [] q some pass h = absurd cc
 asked_one today locator n (c ∷ text) q some pass h =
     let P : Bool → Type 0 = λ b. AreRequests today locator (cond (not b) ((n, c ∷ text) ∷ []) []) (q ∷ []) in
     subst P (sym pass) (h, tt)
-
-pub has_request : (locator text : List ℕ) (u : Undated) → (length text == 0) ≡ false → is_passed_over text ≡ false
-    → undated_at text ≡ Ok u → HasRequest (Some locator) text
-has_request locator [] u some pass e = absurd cc
-has_request locator (c ∷ text) u some pass e = (rw pass refl, rw e refl)
-
-pub memory_stop : (message : Message) (text : List ℕ) (r : Result Message ScriptKind)
-    → IsErrAnd r (λ kind. kind ≡ kinds.Memory) → HasRequest message text → IfErr r (λ kind. IsStop message text kind)
-memory_stop message text (Ok next) h e = tt
-memory_stop message text (Err kind) h e = inr (h, e)
 
 -- ---- a stop
 

@@ -6,6 +6,8 @@ mod date;
 mod fault;
 mod fields;
 pub mod laws;
+mod line;
+mod look;
 mod messages;
 mod reading;
 mod reply;
@@ -14,6 +16,8 @@ mod script;
 mod segment;
 
 pub use fault::{LineFault, ScriptFault, ScriptKind};
+pub use line::{LineRead, read_line};
+pub use look::{FlightClass, Look, read_look};
 pub use reading::read_segment;
 pub use reply::reply_text;
 pub use requests::{Request, Requests};

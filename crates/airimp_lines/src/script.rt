@@ -1,5 +1,6 @@
 //! Scripts: booking messages with empty lines between them.
-ghost use Rattle.std.specs.Prelude.{◌≢◌, All, ◌≡◌, ◌<◌, ◌^◌, List, length, Ok, IfOk, IfErr};
+ghost use Rattle.std.specs.Prelude.{◌≢◌, All, ◌≡◌, ◌<◌, ◌^◌, ◌++◌, List, length, Ok, IfOk, IfErr, IsSome, OnOk};
+ghost use Rattle.std.specs.Prelude.{option_to_list};
 ghost use Rattle.std.specs.Result.{MatchResult};
 ghost use Rattle.airline_base.specs.Days.{IsCenturyDay};
 ghost use Rattle.airimp_lines.specs.Grammar.{IsRightSegment};
@@ -9,8 +10,7 @@ ghost use Rattle.airimp_lines.specs.declared.requests.Request.{Request as Said};
 ghost use Rattle.airimp_lines.specs.declared.fault.ScriptKind.TheVariants.{Memory};
 
 use crate::fault::{ScriptFault, ScriptKind};
-use crate::messages::{heading_of, is_passed_over};
-use crate::reading::read_segment;
+use crate::line::read_line;
 use crate::requests::{Request, Requests};
 use airline_base::lines::cut_line;
 use airline_base::{Day, Locator};
@@ -62,27 +62,22 @@ fn take_line(
     ensures added { IfOk result (λ _. Adds today message (line, text.now) requests.old requests.new) }
     ensures fault { IfErr result (λ kind. IsStop message text.now kind) }
 {
-    if text.is_empty() {
-        return Ok(None);
-    }
-    let Some(locator) = message else {
-        let Some(locator) = heading_of(text) else {
-            return Err(ScriptKind::Locator);
-        };
-        return Ok(Some(locator));
-    };
-    if is_passed_over(text) {
-        return Ok(message);
-    }
-    match read_segment(text, today) {
-        Ok(segment) => {
-            requests.push(Request {
-                locator,
-                segment,
-                line,
-            })?;
-            Ok(message)
+    match read_line(message, text, line, today) {
+        Ok(read) => {
+            add_request(requests, read.request)?;
+            Ok(read.message)
         }
-        Err(fault) => Err(ScriptKind::Line(fault)),
+        Err(kind) => Err(kind),
     }
+}
+
+/// Adds a line's request, if it has one.
+fn add_request(requests: &mut Requests, request: Option<Request>) -> Result<(), ScriptKind>
+    ensures ok { OnOk result (requests.new ≡ requests.old ++ option_to_list request) }
+    ensures memory { IfErr result (λ kind. (kind ≡ Memory) × IsSome request) }
+{
+    if let Some(request) = request {
+        requests.push(request)?;
+    }
+    Ok(())
 }
