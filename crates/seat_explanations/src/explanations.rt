@@ -141,6 +141,8 @@ const ENTRY: &[&str] = &["entry"];
 
 const SCRIPT: &[&str] = &["script", "line"];
 
+const DESK: &[&str] = &["desk", "line"];
+
 // Records of a data set.
 const RECORDS: &[Explanation] = &[
     Explanation {
@@ -396,6 +398,18 @@ const SCRIPTS: &[Explanation] = &[
         code: "Q3",
         numbers: SCRIPT,
         text: "Memory was refused for a request. The program prints MEMORY in place of it.",
+    },
+    Explanation {
+        behind: "",
+        code: "H1",
+        numbers: DESK,
+        text: "A line of the desk has more than 256 bytes, its end with them. It was passed over up to its end.\nWhere it should begin a message, the message is passed over up to the next empty line.",
+    },
+    Explanation {
+        behind: "",
+        code: "H2",
+        numbers: DESK,
+        text: "A line of the desk begins with ?, and is no word to the host. These are: ? LZ601Q27JUL LHRKEF, which looks at a class,\n? 27JUL LHRKEF, which looks at each flight of that day, and ?BYE, with which the desk goes.",
     },
     Explanation {
         behind: "",

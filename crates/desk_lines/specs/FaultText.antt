@@ -1,0 +1,11 @@
+-- The texts of a desk's faults.
+use Rattle.std.specs.Prelude.{ℕ, List, codes}
+use Rattle.airimp_lines.specs.FaultText.{kind_text}
+use Rattle.desk_lines.specs.declared.desk.Wrong.{Wrong}
+use Rattle.desk_lines.specs.declared.desk.Wrong.TheVariants as faults
+
+-- a line is too long, is no word to the host, or is a wrong line of a message
+abbrev pub wrong_text : Wrong → List ℕ
+wrong_text faults.TooLong = codes "H1"
+wrong_text faults.Word = codes "H2"
+wrong_text (faults.Line kind) = kind_text kind

@@ -1,0 +1,108 @@
+-- What a desk's lines mean, each by where the desk stands.
+use Rattle.std.specs.Prelude.{◌≡◌, ℕ, ◌+◌, ◌-◌, ◌^◌, min, nat_lt, ◌==◌, Bool, true, false, List, [], ◌∷◌, length, codes, Option, Some, None, Result, Ok, Err, ⊤}
+use Rattle.std.specs.Prelude.{option_to_list}
+use Rattle.airline_base.specs.Fields.{word_at}
+use Rattle.airline_base.specs.Lines.{line_at}
+use Rattle.airimp_lines.specs.Grammar.{IsRightSegment}
+use Rattle.airimp_lines.specs.Looks.{look_at, NamesLook}
+use Rattle.airimp_lines.specs.Steps.{Message, step, AreOwn}
+use Rattle.airimp_lines.specs.declared.fault.ScriptKind.{ScriptKind}
+use Rattle.airimp_lines.specs.declared.requests.Request.{Request as Asked}
+use Rattle.desk_lines.specs.declared.desk.Desk.{Desk}
+use Rattle.desk_lines.specs.declared.desk.Meaning.{Meaning}
+use Rattle.desk_lines.specs.declared.desk.Meaning.TheVariants.{Nothing, Request, Look, Leave, Wrong}
+use Rattle.desk_lines.specs.declared.desk.Standing.{Standing}
+use Rattle.desk_lines.specs.declared.desk.Standing.TheVariants.{Between, Within, Refused}
+use Rattle.desk_lines.specs.declared.desk.Wrong.TheVariants as faults
+
+-- lines count from 1, and stay at the highest number
+abbrev pub next_number : ℕ → ℕ
+next_number n = min (n + 1) (2 ^ 32 - 1)
+
+-- a line has more than 256 bytes, its end with it
+abbrev pub is_long : List ℕ → Bool
+is_long line = nat_lt 256 (length line)
+
+-- a word to the host begins with ?
+abbrev pub is_word : List ℕ → Bool
+is_word [] = false
+is_word (c ∷ text) = c == 63
+
+-- between two messages, or within one
+abbrev pub standing_of : Message → Standing
+standing_of None = Between
+standing_of (Some locator) = Within locator
+
+-- a wrong first line refuses its message; behind any other wrong line the desk stands where it stood
+abbrev pub spoilt : Standing → Standing
+spoilt Between = Refused
+spoilt (Within locator) = Within locator
+spoilt Refused = Refused
+
+-- ---- words to the host
+
+-- what is looked at, where something is
+abbrev pub MeansLook : ℕ → Option (List ℕ) → Meaning → Type 0
+MeansLook today (Some named) (Look look) = NamesLook today named look
+MeansLook today (Some named) (Wrong faults.Word) = look_at named ≡ None
+MeansLook today None (Wrong faults.Word) = ⊤
+MeansLook today named _ = ⊥
+
+-- what stands behind `?BYE`, where that is there: nothing; else what stands behind `? ` is looked at
+abbrev pub MeansBye : ℕ → Option (List ℕ) → List ℕ → Meaning → Type 0
+MeansBye today (Some []) text meaning = meaning ≡ Leave
+MeansBye today more text meaning = MeansLook today (word_at (codes "? ") text) meaning
+
+abbrev pub MeansWord : ℕ → List ℕ → Meaning → Type 0
+MeansWord today text meaning = MeansBye today (word_at (codes "?BYE") text) text meaning
+
+-- ---- lines of messages
+
+-- what a line without a fault asks for
+abbrev pub asked : Option Asked → Meaning
+asked None = Nothing
+asked (Some request) = Request request
+
+-- a line behind which this message goes on, or which has this fault
+abbrev pub MeansStep : ℕ → Message → ℕ → List ℕ → Result Message ScriptKind → Standing → Meaning → Type 0
+MeansStep today message n text (Ok behind) next meaning =
+    (own : Option Asked) × AreOwn today message (n, text) (option_to_list own) × (meaning ≡ asked own)
+    × (next ≡ standing_of behind)
+MeansStep today message n text (Err kind) next meaning =
+    (meaning ≡ Wrong (faults.Line kind)) × (next ≡ spoilt (standing_of message))
+
+-- a line of a message, or between two
+abbrev pub MeansLine : ℕ → Message → ℕ → List ℕ → Standing → Meaning → Type 0
+MeansLine today message n text next meaning = MeansStep today message n text (step message text) next meaning
+
+-- a message that was refused ends with an empty line
+abbrev pub behind_refused : List ℕ → Standing
+behind_refused [] = Between
+behind_refused (c ∷ text) = Refused
+
+abbrev pub MeansText : ℕ → Standing → ℕ → List ℕ → Standing → Meaning → Type 0
+MeansText today Refused n text next meaning = (meaning ≡ Nothing) × (next ≡ behind_refused text)
+MeansText today Between n text next meaning = MeansLine today None n text next meaning
+MeansText today (Within locator) n text next meaning = MeansLine today (Some locator) n text next meaning
+
+-- ---- the whole
+
+-- a line that is not too long, without its end: a word, wherever the desk stands, or a line of a message
+abbrev pub MeansShort : Bool → ℕ → Standing → List ℕ → ℕ → Standing → Meaning → Type 0
+MeansShort true today standing text n next meaning = MeansWord today text meaning × (next ≡ standing)
+MeansShort false today standing text n next meaning = MeansText today standing n text next meaning
+
+-- a line with its end: it is too long, or that
+abbrev pub MeansBy : Bool → ℕ → Standing → List ℕ → ℕ → Standing → Meaning → Type 0
+MeansBy true today standing line n next meaning = (meaning ≡ Wrong faults.TooLong) × (next ≡ spoilt standing)
+MeansBy false today standing line n next meaning =
+    MeansShort (is_word (line_at line).0) today standing (line_at line).0 n next meaning
+
+-- what it asks for has numbers and a suffix as they may be
+abbrev pub IsRightMeaning : Meaning → Type 0
+IsRightMeaning (Request request) = IsRightSegment request.segment
+IsRightMeaning _ = ⊤
+
+-- the desk hears this line, and it means this
+pub record Hears (old new : Desk) (line : List ℕ) (meaning : Meaning) : Type 0 where
+  pub means : MeansBy (is_long line) old.today old.standing line (next_number old.lines) new.standing meaning

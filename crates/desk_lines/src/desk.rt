@@ -1,0 +1,255 @@
+//! A desk, and what each of its lines means.
+//! It knows no inventory.
+ghost use Rattle.std.specs.Prelude.{◌≡◌, IfSome, Some, codes};
+ghost use Rattle.airline_base.specs.Fields.{word_at};
+ghost use Rattle.airline_base.specs.Days.{IsCenturyDay};
+ghost use Rattle.airimp_lines.specs.Grammar.{IsRightSegment};
+ghost use Rattle.desk_lines.specs.Lines.{asked, behind_refused, is_long, is_word, next_number, spoilt, standing_of, Hears, IsRightMeaning, MeansBy, MeansLine, MeansLook, MeansShort, MeansText, MeansWord};
+
+use airimp_lines::{LineRead, Look, Request, ScriptKind, read_line, read_look};
+use airline_base::fields::word_of;
+use airline_base::lines::cut_line;
+use airline_base::{Day, Locator};
+use std::fmt;
+
+/// The most bytes of a line, its end with it.
+const MOST_BYTES: usize = 256;
+
+/// Why a line is refused. Nothing else changes by it.
+#[derive(Clone, Copy, Debug, PartialEq, Eq)]
+pub enum Wrong {
+    /// It has more than 256 bytes.
+    TooLong,
+    /// It begins with `?`, and is no word to the host.
+    Word,
+    /// It is a wrong line of a message.
+    Line(ScriptKind),
+}
+
+impl fmt::Display for Wrong {
+    ghost use Rattle.std.specs.Prelude.{Some};
+    ghost use Rattle.desk_lines.specs.FaultText.{wrong_text};
+
+    ghost output = { λ wrong. Some (wrong_text wrong) };
+
+    /// The code: H1, H2, or that of a script.
+    fn fmt<W: fmt::Write>(&self, f: &mut fmt::Formatter<W>) -> fmt::Result {
+        match self {
+            Wrong::TooLong => f.write_str("H1"),
+            Wrong::Word => f.write_str("H2"),
+            Wrong::Line(kind) => kind.fmt(f),
+        }
+    }
+}
+
+/// What a line means.
+#[derive(Clone, Copy)]
+pub enum Meaning {
+    /// It asks for nothing.
+    Nothing,
+    /// It asks for seats.
+    Request(Request),
+    /// It looks at the seats that are left.
+    Look(Look),
+    /// The desk goes.
+    Leave,
+    /// It is refused.
+    Wrong(Wrong),
+}
+
+/// Where a desk stands.
+#[derive(Clone, Copy)]
+pub enum Standing {
+    /// Between two messages.
+    Between,
+    /// In the message of this locator.
+    Within(Locator),
+    /// In a message whose first line was refused: it is passed over up to the next empty line.
+    Refused,
+}
+
+/// A desk: where it stands, and the day on which its lines are read, a day of the years 2000 to 2099.
+#[derive(Clone, Copy)]
+pub struct Desk {
+    pub today: Day,
+    pub standing: Standing,
+    /// How many lines it has heard.
+    pub lines: u32,
+}
+
+impl Desk {
+    /// A desk that has said nothing.
+    pub fn new(today: Day) -> Desk
+        ensures { (result.today ≡ today) × (result.standing ≡ Standing.Between) × (result.lines ≡ 0) }
+    {
+        Desk {
+            today,
+            standing: Standing::Between,
+            lines: 0,
+        }
+    }
+
+    /// Hears a line with its end. A wrong line changes nothing but that it counts, and that a wrong first line refuses its message.
+    pub fn hear(&mut self, line: &[u8]) -> Meaning
+        requires today { IsCenturyDay self.old.today }
+        ensures means { Hears self.old self.new line.now result }
+        ensures right { IsRightMeaning result }
+        ensures counted { self.new.lines ≡ next_number self.old.lines }
+        ensures same { self.new.today ≡ self.old.today }
+    {
+        self.lines = self.lines.saturating_add(1);
+        let (standing, meaning) = heard(self.standing, line, self.lines, self.today);
+        self.standing = standing;
+        meaning
+    }
+}
+
+// What a line with its end means to a desk that stands so, and where it stands then.
+fn heard(standing: Standing, line: &[u8], number: u32, today: Day) -> (Standing, Meaning)
+    requires today { IsCenturyDay today }
+    ensures means { MeansBy (is_long line.now) today standing line.now number result.0 result.1 }
+    ensures right { IsRightMeaning result.1 }
+{
+    if is_long(line) {
+        return (spoilt(standing), Meaning::Wrong(Wrong::TooLong));
+    }
+    let (text, _) = cut_line(line);
+    short_heard(standing, text, number, today)
+}
+
+fn is_long(line: &[u8]) -> bool
+    ensures { result ≡ is_long line.now }
+{
+    line.len() > MOST_BYTES
+}
+
+fn short_heard(standing: Standing, text: &[u8], number: u32, today: Day) -> (Standing, Meaning)
+    requires today { IsCenturyDay today }
+    ensures means { MeansShort (is_word text.now) today standing text.now number result.0 result.1 }
+    ensures right { IsRightMeaning result.1 }
+{
+    if is_word(text) {
+        return (standing, word(text, today));
+    }
+    meaning_of(standing, text, number, today)
+}
+
+// Whether a line is a word to the host, which no line of a message is.
+fn is_word(text: &[u8]) -> bool
+    ensures { result ≡ is_word text.now }
+{
+    match text {
+        [] => false,
+        [first, ..] => *first == b'?',
+    }
+}
+
+// What a word to the host means.
+fn word(text: &[u8], today: Day) -> Meaning
+    requires today { IsCenturyDay today }
+    ensures means { MeansWord today text.now result }
+    ensures right { IsRightMeaning result }
+{
+    match word_of(b"?BYE", text) {
+        Some([]) => Meaning::Leave,
+        _ => looking(text, today),
+    }
+}
+
+// A look, where something is looked at.
+fn looking(text: &[u8], today: Day) -> Meaning
+    requires today { IsCenturyDay today }
+    ensures means { MeansLook today (word_at (codes "? ") text.now) result }
+    ensures right { IsRightMeaning result }
+{
+    match word_of(b"? ", text) {
+        Some(named) => look(named, today),
+        None => Meaning::Wrong(Wrong::Word),
+    }
+}
+
+fn look(text: &[u8], today: Day) -> Meaning
+    requires today { IsCenturyDay today }
+    ensures means { MeansLook today (Some text.now) result }
+    ensures right { IsRightMeaning result }
+{
+    match read_look(text, today) {
+        Some(look) => Meaning::Look(look),
+        None => Meaning::Wrong(Wrong::Word),
+    }
+}
+
+// What a line that is no word means.
+fn meaning_of(standing: Standing, text: &[u8], number: u32, today: Day) -> (Standing, Meaning)
+    requires today { IsCenturyDay today }
+    ensures means { MeansText today standing number text.now result.0 result.1 }
+    ensures right { IsRightMeaning result.1 }
+{
+    match standing {
+        Standing::Refused => (behind_refused(text), Meaning::Nothing),
+        Standing::Between => line_meaning(None, Standing::Refused, text, number, today),
+        Standing::Within(locator) => line_meaning(Some(locator), standing, text, number, today),
+    }
+}
+
+// Where a desk stands behind a line of a message that is passed over.
+fn behind_refused(text: &[u8]) -> Standing
+    ensures { result ≡ behind_refused text.now }
+{
+    match text {
+        [] => Standing::Between,
+        [_, ..] => Standing::Refused,
+    }
+}
+
+// What a line of a message means; where it is wrong the desk then stands as given.
+#[tactic(auto, using(crate::proofs::Hearing::right_line, crate::proofs::Hearing::wrong_line))]
+fn line_meaning(
+    message: Option<Locator>,
+    wrong: Standing,
+    text: &[u8],
+    number: u32,
+    today: Day,
+) -> (Standing, Meaning)
+    requires today { IsCenturyDay today }
+    requires wrong { wrong ≡ spoilt (standing_of message) }
+    ensures means { MeansLine today message number text.now result.0 result.1 }
+    ensures right { IsRightMeaning result.1 }
+{
+    match read_line(message, text, number, today) {
+        Ok(read) => (standing_behind(&read), asked(&read)),
+        Err(kind) => (wrong, Meaning::Wrong(Wrong::Line(kind))),
+    }
+}
+
+// What a line asks for.
+fn asked(read: &LineRead) -> Meaning
+    requires { IfSome read.now.request (λ request. IsRightSegment request.segment) }
+    ensures value { result ≡ asked read.now.request }
+    ensures right { IsRightMeaning result }
+{
+    match read.request {
+        Some(request) => Meaning::Request(request),
+        None => Meaning::Nothing,
+    }
+}
+
+// Where a desk stands behind a line without a fault.
+fn standing_behind(read: &LineRead) -> Standing
+    ensures { result ≡ standing_of read.now.message }
+{
+    match read.message {
+        Some(locator) => Standing::Within(locator),
+        None => Standing::Between,
+    }
+}
+
+// Behind a wrong line: a wrong first line refuses its message.
+fn spoilt(standing: Standing) -> Standing
+    ensures { result ≡ spoilt standing }
+{
+    match standing {
+        Standing::Between => Standing::Refused,
+        _ => standing,
+    }
+}

@@ -1,0 +1,7 @@
+//! What each line of a desk means that talks with an open host: a line of a message, a look at the seats that are left, or its leave.
+//! It knows the text of lines, and nothing of schedules, limits, bookings or answers.
+#![tactic(auto)]
+
+mod desk;
+
+pub use desk::{Desk, Meaning, Standing, Wrong};
