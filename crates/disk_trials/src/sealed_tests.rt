@@ -6,10 +6,10 @@ ghost use Rattle.seat_seal.specs.Fronts.{front_of};
 use airline_base::Failures;
 use seat_disk::{Folder, Fuse};
 use seat_seal::{
-    Date, JournalState, Script, Scripts, SealEntry, Sealed, SealedJournal, digest_of, entry_for,
-    front_of, imprint_of, read_seal,
+    Date, JournalState, Run, Runs, Script, Scripts, SealEntry, Sealed, SealedJournal, digest_of,
+    entry_for, front_of, has_script, imprint_of, lines_behind, read_seal,
 };
-use seat_sealing::{may_be_sealed, older_entry, replace_sealed, the_same_again};
+use seat_sealing::{may_be_sealed, older_entry, replace_sealed};
 use std::alloc::{AllocError, Global};
 use std::process::Abort;
 use std::test::Fail;
@@ -19,17 +19,17 @@ const OLD: &[u8] = b"SEATJOURNAL 2\n1 1 1 K7M2QP 11.0.0 J NN 2 KK 0\nEND 1\n";
 const NEW: &[u8] =
     b"SEATJOURNAL 2\n1 1 1 R4T8WX 66.0.1 Y NN 1 KK 0\n2 2 1 ABCDEF 11.0.0 J NN 3 KK 0\nEND 2\n";
 
-const HEAD: &[u8] = b"SEATSEAL 1\n";
+const HEAD: &[u8] = b"SEATSEAL 2\n";
 
 // The older journal's seal, and its entry.
 const OF_OLD: &[u8] =
-    b"SEATSEAL 1\nset 6ee0eb490ff832101cf82a3d387c35f29e4230be786978f7acf9e811febf6723\nlimits 8a46fd6fc3d79d419361a7043d0365b6dfeb6b92da9e376450898ff88d9cea00\nfirst 2024-07-01\ndays 31\njournal 1f17ec36ae2eb204de74df9b6e615bee04d4a02b213a24f56ad1d37674f93bad lines 1 bytes 46 closed\nbehind 0\ntoday 2024-06-19\nscript 1 d618fb157a4b382e92fcd4a830c5fa8adef45a809543c524f7904e38f867dac8\nEND\n";
+    b"SEATSEAL 2\nset 6ee0eb490ff832101cf82a3d387c35f29e4230be786978f7acf9e811febf6723\nlimits 8a46fd6fc3d79d419361a7043d0365b6dfeb6b92da9e376450898ff88d9cea00\nfirst 2024-07-01\ndays 31\njournal 1f17ec36ae2eb204de74df9b6e615bee04d4a02b213a24f56ad1d37674f93bad lines 1 bytes 46 closed\nrun behind 0 today 2024-06-19\nscript 1 d618fb157a4b382e92fcd4a830c5fa8adef45a809543c524f7904e38f867dac8\nEND\n";
 
 const ENTRY_OF_OLD: &[u8] =
-    b"set 6ee0eb490ff832101cf82a3d387c35f29e4230be786978f7acf9e811febf6723\nlimits 8a46fd6fc3d79d419361a7043d0365b6dfeb6b92da9e376450898ff88d9cea00\nfirst 2024-07-01\ndays 31\njournal 1f17ec36ae2eb204de74df9b6e615bee04d4a02b213a24f56ad1d37674f93bad lines 1 bytes 46 closed\nbehind 0\ntoday 2024-06-19\nscript 1 d618fb157a4b382e92fcd4a830c5fa8adef45a809543c524f7904e38f867dac8\nEND\n";
+    b"set 6ee0eb490ff832101cf82a3d387c35f29e4230be786978f7acf9e811febf6723\nlimits 8a46fd6fc3d79d419361a7043d0365b6dfeb6b92da9e376450898ff88d9cea00\nfirst 2024-07-01\ndays 31\njournal 1f17ec36ae2eb204de74df9b6e615bee04d4a02b213a24f56ad1d37674f93bad lines 1 bytes 46 closed\nrun behind 0 today 2024-06-19\nscript 1 d618fb157a4b382e92fcd4a830c5fa8adef45a809543c524f7904e38f867dac8\nEND\n";
 
 const ENTRY_OF_NEW: &[u8] =
-    b"set 6ee0eb490ff832101cf82a3d387c35f29e4230be786978f7acf9e811febf6723\nlimits 8a46fd6fc3d79d419361a7043d0365b6dfeb6b92da9e376450898ff88d9cea00\nfirst 2024-07-01\ndays 31\njournal 3f65600df3ab236180aba5bfb426671abb6a57b71e08abc5ead200e0514f802d lines 2 bytes 78 closed\nbehind 0\ntoday 2024-06-20\nscript 1 d78d1a3f3bcf22d7b74f7e559090240cc8d0bc88470a8a23383a8e4f3328bf8a\nEND\n";
+    b"set 6ee0eb490ff832101cf82a3d387c35f29e4230be786978f7acf9e811febf6723\nlimits 8a46fd6fc3d79d419361a7043d0365b6dfeb6b92da9e376450898ff88d9cea00\nfirst 2024-07-01\ndays 31\njournal 3f65600df3ab236180aba5bfb426671abb6a57b71e08abc5ead200e0514f802d lines 2 bytes 78 closed\nrun behind 0 today 2024-06-20\nscript 1 d78d1a3f3bcf22d7b74f7e559090240cc8d0bc88470a8a23383a8e4f3328bf8a\nEND\n";
 
 // Of the older journal where nothing is known of it, and of an empty file.
 const OTHER_OF_OLD: &[u8] =
@@ -41,11 +41,8 @@ const OTHER_OF_NONE: &[u8] =
 fn sealed(text: &[u8], lines: u32, day: u8, script: &[u8]) -> Sealed
     ensures { result.journal.imprint ≡ imprint_of (front_of text.now) }
 {
-    let mut scripts = Scripts::new();
-    scripts.push(Script {
-        session: 1,
-        digest: digest_of(script),
-    });
+    let mut runs = Runs::new();
+    runs.push(run(0, day, script));
     Sealed {
         set: digest_of(b"set"),
         limits: digest_of(b"limits"),
@@ -60,7 +57,19 @@ fn sealed(text: &[u8], lines: u32, day: u8, script: &[u8]) -> Sealed
             lines,
             state: JournalState::Closed,
         },
-        behind: 0,
+        runs,
+    }
+}
+
+// A run of one script on a day of June.
+fn run(behind: u32, day: u8, script: &[u8]) -> Run {
+    let mut scripts = Scripts::new();
+    scripts.push(Script {
+        session: 1,
+        digest: digest_of(script),
+    });
+    Run {
+        behind,
         today: Date {
             year: 2024,
             month: 6,
@@ -304,14 +313,21 @@ fn ends_ahead_of_the_last_line(rt: HostRuntime) -> Result<(), Fail> {
     Ok(())
 }
 
+// Of the runs that a seal has, those of the day of the new one stay, and the very same run stands there once.
 #[test]
-fn finds_the_first_script_that_stands_there(rt: HostRuntime) -> Result<(), Fail> {
-    let entry = sealed(OLD, 1, 19, b"monday");
-    let monday = digest_of(b"monday");
-    let tuesday = digest_of(b"tuesday");
-    assert!(rt; the_same_again(&entry, &[]) == None);
-    assert!(rt; the_same_again(&entry, &[tuesday]) == None);
-    assert!(rt; the_same_again(&entry, &[tuesday, monday, monday]) == Some(1));
+fn keeps_the_runs_of_a_day(rt: HostRuntime) -> Result<(), Fail> {
+    let mut runs = Runs::new();
+    runs.push(run(0, 19, b"monday"));
+    runs.push(run(3, 20, b"tuesday"));
+    runs.push(run(5, 20, b"more"));
+    let same = run(3, 20, b"tuesday");
+    runs.keep_beside(&same);
+    assert!(rt; runs.as_slice().len() == 1);
+    assert!(rt; lines_behind(runs.as_slice()) == 5);
+    runs.push(same);
+    assert!(rt; lines_behind(runs.as_slice()) == 3);
+    assert!(rt; runs.as_slice().iter().any(|run| has_script(run, &digest_of(b"more"))));
+    assert!(rt; !runs.as_slice().iter().any(|run| has_script(run, &digest_of(b"monday"))));
     Ok(())
 }
 

@@ -647,7 +647,19 @@ const SEALS: &[Explanation] = &[
         behind: "SEAL",
         code: "again",
         numbers: NONE,
-        text: "A script that is to be booked, or the file of --changes, stands in the journal already: the seal of its last run has\nthe digest of the very same bytes. So the same command given twice books nothing twice. --again books it once more;\n--resume JOURNAL books what is new of scripts that have grown, and nothing where nothing is.",
+        text: "A script that is to be booked, or the file of --changes, stands in the journal already: its seal has the digest of the\nvery same bytes, by one of the runs of the journal's last day. So the same command given twice books nothing twice.\n--again books it once more; --resume JOURNAL books what is new of scripts that have grown, and nothing where nothing is.",
+    },
+    Explanation {
+        behind: "SEAL",
+        code: "behind",
+        numbers: NONE,
+        text: "--behind N, or the journal of --after, says behind how many lines the scripts of --resume began. The seal of the journal\nhas no run that began behind so many: all would be booked once more. Its lines run behind have the numbers.",
+    },
+    Explanation {
+        behind: "SEAL",
+        code: "runs",
+        numbers: NONE,
+        text: "The seal of the journal of --resume has several runs, which began behind several numbers of lines. Say by --behind N with\nwhich of them the scripts began: N stands in the seal's lines run behind. The first of a day has what all desks sold.",
     },
 ];
 

@@ -17,7 +17,7 @@ use std::{fs, io};
 pub const SEAL: &str = ".seal";
 
 /// The most bytes that are read of a seal, which has fewer: a longer file is no seal.
-const MOST_SEAL_BYTES: u64 = 4096;
+const MOST_SEAL_BYTES: u64 = 262_144;
 
 /// What stands beside a journal, as it was read.
 #[derive(Drop)]

@@ -1,18 +1,22 @@
 -- What `seal` writes: the seal of a journal that an audit accepts.
-use Rattle.std.specs.Prelude.{◌≡◌, ◌≤◌, ◌⊎◌, ℕ, false, List, [], length, Option, None, IfSome}
+use Rattle.std.specs.Prelude.{◌≡◌, ◌≤◌, ◌⊎◌, ℕ, false, List, [], length, Option, None, Some, IfSome}
 use Rattle.airline_base.specs.Days.{IsDate}
 use Rattle.ssim_flights.specs.declared.flight.Flight.{Flight as Flown}
 use Rattle.seat_disk.specs.Leaving.{Only, replaced_by}
 use Rattle.seat_limits.specs.Authorised.{authorised_grid}
 use Rattle.seat_limits.specs.declared.limit_row.LimitRow.{LimitRow}
 use Rattle.seat_rules.specs.Inventory.{Inventory}
+use Rattle.seat_seal.specs.Besides.{IsFaultBeside}
 use Rattle.seat_seal.specs.Fronts.{front_of}
 use Rattle.seat_seal.specs.Imprints.{imprint_of}
+use Rattle.seat_seal.specs.Known.{AreRunsOf}
 use Rattle.seat_seal.specs.Reading.{one_entry}
 use Rattle.seat_seal.specs.Text.{seal_text}
 use Rattle.seat_seal.specs.declared.beside.Basis.{Basis}
 use Rattle.seat_seal.specs.declared.beside.Beside.{Beside}
+use Rattle.seat_seal.specs.declared.comparing.SealFault.{SealFault}
 use Rattle.seat_seal.specs.declared.imprint.Imprint.{Imprint}
+use Rattle.seat_seal.specs.declared.run.Run.{Run}
 use Rattle.seat_seal.specs.declared.seal.JournalState.TheVariants.{Closed}
 use Rattle.seat_seal.specs.declared.seal.Sealed.{Sealed as Belonging}
 use Rattle.seat_seal.specs.declared.seal.SealEntry.TheVariants.{Sealed}
@@ -22,8 +26,23 @@ use Rattle.seat_desk.specs.Loading.{Bytes, IsGround}
 use Rattle.seat_desk.specs.Sealing.{basis_of}
 use Rattle.seat_desk.specs.declared.inputs.Inputs.{Inputs}
 
--- the entry is of that basis and of a journal with so many lines, closed; it names no day of a run but the first, no older lines and no scripts
-pub record IsEntryOf (basis : Basis) (imprint : Imprint) (lines : ℕ) (entry : Belonging) : Type 0 where
+-- what stands beside a journal differs from it, and its runs are not known
+pub record AreDenied (beside : Beside) (basis : Basis) (journal : List ℕ) (runs : List Run) : Type 0 where
+  pub fault : SealFault
+  pub is_first : IsFaultBeside beside basis journal (Some fault)
+  pub none : runs ≡ []
+
+-- what stands beside a journal has no fault, and its runs are those that it knows
+pub record AreAgreed (beside : Beside) (basis : Basis) (journal : List ℕ) (runs : List Run) : Type 0 where
+  pub faultless : IsFaultBeside beside basis journal None
+  pub are_runs : AreRunsOf beside journal runs
+
+-- the runs that are kept of what stands beside a journal
+abbrev pub AreKept : Beside → Basis → List ℕ → List Run → Type 0
+AreKept beside basis journal runs = AreDenied beside basis journal runs ⊎ AreAgreed beside basis journal runs
+
+-- the entry is of that basis and of a journal with so many lines, closed, and with these runs
+pub record IsEntryOf (basis : Basis) (imprint : Imprint) (lines : ℕ) (runs : List Run) (entry : Belonging) : Type 0 where
   pub set : entry.set ≡ basis.set
   pub limits : entry.limits ≡ basis.limits
   pub first : IsDate entry.first.year entry.first.month entry.first.day basis.first
@@ -31,28 +50,28 @@ pub record IsEntryOf (basis : Basis) (imprint : Imprint) (lines : ℕ) (entry : 
   pub imprint_is : entry.journal.imprint ≡ imprint
   pub lines_are : entry.journal.lines ≡ lines
   pub state : entry.journal.state ≡ Closed
-  pub behind : entry.behind ≡ 0
-  pub today : entry.today ≡ entry.first
-  pub scripts : entry.scripts ≡ []
-  pub changes : entry.changes ≡ None
+  pub runs_are : entry.runs ≡ runs
 
--- the bytes of the journal are a legal history over the ladders of these inputs, and the text is that of its seal
-pub record IsSealOf (set limits : List ℕ) (first days : ℕ) (journal text : List ℕ) : Type 0 where
+-- the bytes of the journal are a legal history over the ladders of these inputs, and the text is that of its seal, with the runs that are
+-- kept of what stands beside it
+pub record IsSealOf (beside : Beside) (set limits : List ℕ) (first days : ℕ) (journal text : List ℕ) : Type 0 where
   pub flights : List Flown
   pub rows : List LimitRow
   pub is_ground : IsGround set limits first days flights rows
   pub within : length journal ≤ most_journal_bytes
   pub core : Inventory
   pub is_replay : IsReplayOf (authorised_grid rows flights) journal core
+  pub runs : List Run
+  pub are_kept : AreKept beside (basis_of set limits first days) journal runs
   pub entry : Belonging
-  pub is_entry : IsEntryOf (basis_of set limits first days) (imprint_of (front_of journal)) (length core.journal) entry
+  pub is_entry : IsEntryOf (basis_of set limits first days) (imprint_of (front_of journal)) (length core.journal) runs entry
   pub is_text : text ≡ seal_text (one_entry (Sealed entry))
 
 -- where the bytes of the three inputs are known
-abbrev pub IsSealOfKnown : {S L : Type 0} → Bytes S → Bytes L → Inputs S L → Option (List ℕ) → List ℕ → Type 0
-IsSealOfKnown set limits inputs journal text =
+abbrev pub IsSealOfKnown : {S L : Type 0} → Beside → Bytes S → Bytes L → Inputs S L → Option (List ℕ) → List ℕ → Type 0
+IsSealOfKnown beside set limits inputs journal text =
     IfSome (set inputs.set) (λ xs. IfSome (limits inputs.limits)
-    (λ ys. IfSome journal (λ zs. IsSealOf xs ys inputs.first inputs.days zs text)))
+    (λ ys. IfSome journal (λ zs. IsSealOf beside xs ys inputs.first inputs.days zs text)))
 
 -- nothing stands beside the journal, and nothing must
 abbrev pub nothing : Beside

@@ -9,32 +9,32 @@ ghost use Rattle.seat_seal.specs.declared.seal.SealEntry.TheVariants.{Sealed as 
 ghost use Rattle.seat_desk.specs.Answering.{HasFirstFailed, IsFirstTooLargeOf, IsRefusedAnswerOf};
 ghost use Rattle.seat_desk.specs.AuditDesk.{IsUnlawful};
 ghost use Rattle.seat_desk.specs.Desk.{HasFailed, InputFailed, IsOfInput};
-ghost use Rattle.seat_reports.specs.SealDesk.{IsEntryOf, IsPut, IsSealOfKnown, PuttingFailed, nothing};
+ghost use Rattle.seat_reports.specs.SealDesk.{AreKept, IsEntryOf, IsPut, IsSealOfKnown, PuttingFailed, nothing};
 
 use airline_base::NotedRead;
-use arrayvec::ArrayVec;
 use seat_desk::{
     Based, DeskFault, Inputs, Loaded, MOST_JOURNAL_BYTES, load_based, read_input, replayed,
 };
 use seat_disk::{Replaced, replace_whole};
 use seat_seal::{
-    Basis, Date, Imprint, JournalState, Scripts, Seal, SealEntry, Sealed, SealedJournal, front_of,
-    imprint_of, seal_text,
+    Basis, Beside, Date, Imprint, JournalState, Runs, Seal, SealEntry, SealText, Sealed,
+    SealedJournal, fault_beside, front_of, imprint_of, known_of, runs_known, seal_text,
 };
 use std::alloc::Global;
 
 /// Reads a data set, limit rows and a journal as an audit reads them, and puts the journal's seal in place of what its file has: at any
-/// moment a crash leaves what it would have left before, or the new seal, whole. It is closed, names no scripts, and no day of a run
-/// but the first day. What stands beside the journal so far is not read. What an audit refuses is refused here.
+/// moment a crash leaves what it would have left before, or the new seal, whole. It is closed, and names the runs that what stands beside
+/// the journal so far knows, where that has no fault, and else none. What an audit refuses is refused here.
 pub fn desk_seal<S: NotedRead, L: NotedRead, J: NotedRead, K: Replaced>(
     alloc: Global,
     inputs: &mut Inputs<S, L>,
     journal: &mut J,
+    beside: &Beside<'_>,
     seal: &mut K,
 ) -> Result<(), DeskFault>
     requires first { IsOfCentury inputs.old.first }
     requires days { (1 ≤ inputs.old.days) × (inputs.old.days ≤ 366) }
-    ensures ok { OnOk result (IsPut (IsSealOfKnown S.remaining L.remaining inputs.old (J.remaining journal.old))
+    ensures ok { OnOk result (IsPut (IsSealOfKnown beside.now S.remaining L.remaining inputs.old (J.remaining journal.old))
         (K.named seal.old) (K.named seal.new) (K.may_leave seal.new)) }
     ensures fault { IfErr result (λ f. IsOfInput f →
         IsRefusedAnswerOf IsUnlawful nothing S.remaining L.remaining inputs.old (J.remaining journal.old) f) }
@@ -44,10 +44,10 @@ pub fn desk_seal<S: NotedRead, L: NotedRead, J: NotedRead, K: Replaced>(
         InputFailed (HasFirstFailed S.remaining L.remaining S.failure_count L.failure_count J.failure_count inputs.old inputs.new journal.old journal.new)
         seal.old seal.new
         ⊎ PuttingFailed K.failure_count K.named seal.old seal.new
-        (IsSealOfKnown S.remaining L.remaining inputs.old (J.remaining journal.old))) }
+        (IsSealOfKnown beside.now S.remaining L.remaining inputs.old (J.remaining journal.old))) }
     ensures untouched { IfErr result (λ f. f ≢ DeskFault.Device → seal.new ≡ seal.old) }
 {
-    let text = match sealed(alloc, inputs, journal) {
+    let text = match sealed(alloc, inputs, journal, beside) {
         Ok(text) => text,
         Err(fault) => return Err(fault),
     };
@@ -62,11 +62,12 @@ fn sealed<S: NotedRead, L: NotedRead, J: NotedRead>(
     alloc: Global,
     inputs: &mut Inputs<S, L>,
     journal: &mut J,
-) -> Result<ArrayVec<u8, 2304>, DeskFault>
+    beside: &Beside<'_>,
+) -> Result<SealText, DeskFault>
     requires first { IsOfCentury inputs.old.first }
     requires days { (1 ≤ inputs.old.days) × (inputs.old.days ≤ 366) }
     ensures ok { IfOk result
-        (λ text. IsSealOfKnown S.remaining L.remaining inputs.old (J.remaining journal.old) text.items) }
+        (λ text. IsSealOfKnown beside.now S.remaining L.remaining inputs.old (J.remaining journal.old) text.items) }
     ensures fault { IfErr result (λ f. IsOfInput f →
         IsRefusedAnswerOf IsUnlawful nothing S.remaining L.remaining inputs.old (J.remaining journal.old) f) }
     ensures large { IfErr result (λ f. f ≡ DeskFault.TooLarge
@@ -90,14 +91,25 @@ fn sealed<S: NotedRead, L: NotedRead, J: NotedRead>(
         Err(fault) => return Err(fault),
     };
     let imprint = imprint_of(front_of(&bytes));
+    let runs = kept_runs(beside, &basis, &bytes);
     match replayed(alloc, grid, bytes) {
-        Ok(core) => Ok(text_of(entry_of(&basis, imprint, core.journal().len() as u32))),
+        Ok(core) => Ok(text_of(entry_of(&basis, imprint, core.journal().len() as u32, runs))),
         Err(fault) => Err(fault),
     }
 }
 
+/// The runs that are kept of what stands beside a journal: those that it knows, where it has no fault.
+fn kept_runs(beside: &Beside<'_>, basis: &Basis, journal: &[u8]) -> Runs
+    ensures { AreKept beside.now basis.now journal.now result }
+{
+    match fault_beside(beside, basis, journal) {
+        Some(_) => Runs::new(),
+        None => runs_known(known_of(beside, journal)),
+    }
+}
+
 /// A seal of this entry alone.
-fn text_of(entry: Sealed) -> ArrayVec<u8, 2304>
+fn text_of(entry: Sealed) -> SealText
     ensures { result.items ≡ seal_text (one_entry (Told entry)) }
 {
     let seal = Seal {
@@ -107,24 +119,20 @@ fn text_of(entry: Sealed) -> ArrayVec<u8, 2304>
     seal_text(&seal)
 }
 
-fn entry_of(basis: &Basis, imprint: Imprint, lines: u32) -> Sealed
-    ensures { IsEntryOf basis.now imprint lines result }
+fn entry_of(basis: &Basis, imprint: Imprint, lines: u32, runs: Runs) -> Sealed
+    ensures { IsEntryOf basis.now imprint lines runs result }
 {
-    let first = Date::of(basis.first);
     Sealed {
         set: basis.set,
         limits: basis.limits,
-        first,
+        first: Date::of(basis.first),
         days: basis.days,
         journal: SealedJournal {
             imprint,
             lines,
             state: JournalState::Closed,
         },
-        behind: 0,
-        today: first,
-        scripts: Scripts::new(),
-        changes: None,
+        runs,
     }
 }
 

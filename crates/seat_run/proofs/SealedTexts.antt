@@ -7,10 +7,12 @@ use Rattle.seat_nesting.specs.Nesting.{Ladders}
 use Rattle.seat_journal.specs.Text.{IsEntry, journal_text}
 use Rattle.seat_journal.specs.declared.entry.Change.{Change}
 use Rattle.seat_journal.specs.declared.entry.Entry.{Entry}
+use Rattle.seat_seal.specs.Known.{AreRunsOf}
 use Rattle.seat_seal.specs.Reading.{two_entries}
 use Rattle.seat_seal.specs.Rules.{is_entry, is_seal, is_sealed}
 use Rattle.seat_seal.specs.declared.beside.Basis.{Basis}
 use Rattle.seat_seal.specs.declared.beside.Beside.{Beside}
+use Rattle.seat_seal.specs.declared.run.Run.{Run}
 use Rattle.seat_seal.specs.declared.seal.Sealed.{Sealed as Belonging}
 use Rattle.seat_seal.specs.declared.seal.SealEntry.{SealEntry}
 use Rattle.seat_seal.specs.declared.seal.SealEntry.TheVariants.{Sealed}
@@ -43,11 +45,11 @@ pub keeps_no_rules : (older : SealEntry) (newer : Belonging) (may : Bool) → is
 unfolding is_seal
 keeps_no_rules older newer may first is none = last_false (is_entry older) (is_sealed newer) first (sym is ∙ none)
 
-module _ (basis : Basis) (digests : List (Option (List ℕ))) (changed : Option (List ℕ)) (behind today : ℕ) (lines : List Entry) (said : List ℕ)
+module _ (basis : Basis) (digests : List (Option (List ℕ))) (changed : Option (List ℕ)) (behind today : ℕ) (earlier : List Run) (lines : List Entry) (said : List ℕ)
     (text : List ℕ) (newer : Belonging) (is_text : text ≡ journal_text lines)
-    (is_entry_of : IsEntryOfRun basis digests changed behind (length lines) today text newer) where
+    (is_entry_of : IsEntryOfRun basis digests changed behind (length lines) today earlier text newer) where
   abbrev Told : List ℕ → Belonging → List ℕ → Type 0
-  Told = AreTexts basis digests changed behind today lines said
+  Told = AreTexts basis digests changed behind today earlier lines said
 
   abbrev are_told : Told text newer said
   are_told = record { journal_is = is_text; entry_is = is_entry_of; replies_are = refl }
@@ -127,18 +129,36 @@ pub record IsBooked (flights : List Flown) (grid : Ladders) (past : List Entry) 
 
 -- the texts are told by other names
 pub same_texts : (b basis : Basis) (named digests : List (Option (List ℕ))) (told changed : Option (List ℕ)) (ahead behind today : ℕ)
-    (slice lines : List Entry) (text said : List ℕ)
-    → b ≡ basis → named ≡ digests → told ≡ changed → ahead ≡ behind → slice ≡ lines → text ≡ said
+    (before earlier : List Run) (slice lines : List Entry) (text said : List ℕ)
+    → b ≡ basis → named ≡ digests → told ≡ changed → ahead ≡ behind → before ≡ earlier → slice ≡ lines → text ≡ said
     → (journal : List ℕ) (entry : Belonging) (replies : List ℕ)
-    → AreTexts b named told ahead today slice text journal entry replies
-    → AreTexts basis digests changed behind today lines said journal entry replies
-same_texts b basis named digests told changed ahead behind today slice lines text said zero one two three four five journal entry replies are =
-    subst (λ (x : Basis). AreTexts x digests changed behind today lines said journal entry replies) zero
-    (subst (λ (l : List (Option (List ℕ))). AreTexts b l changed behind today lines said journal entry replies) one
-    (subst (λ (l : Option (List ℕ)). AreTexts b named l behind today lines said journal entry replies) two
-    (subst (λ (n : ℕ). AreTexts b named told n today lines said journal entry replies) three
-    (subst (λ (l : List Entry). AreTexts b named told ahead today l said journal entry replies) four
-    (subst (λ (l : List ℕ). AreTexts b named told ahead today slice l journal entry replies) five are)))))
+    → AreTexts b named told ahead today before slice text journal entry replies
+    → AreTexts basis digests changed behind today earlier lines said journal entry replies
+same_texts b basis named digests told changed ahead behind today before earlier slice lines text said zero one two three runs four five journal entry replies are =
+    subst (λ (x : Basis). AreTexts x digests changed behind today earlier lines said journal entry replies) zero
+    (subst (λ (l : List (Option (List ℕ))). AreTexts b l changed behind today earlier lines said journal entry replies) one
+    (subst (λ (l : Option (List ℕ)). AreTexts b named l behind today earlier lines said journal entry replies) two
+    (subst (λ (n : ℕ). AreTexts b named told n today earlier lines said journal entry replies) three
+    (subst (λ (l : List Run). AreTexts b named told ahead today l lines said journal entry replies) runs
+    (subst (λ (l : List Entry). AreTexts b named told ahead today before l said journal entry replies) four
+    (subst (λ (l : List ℕ). AreTexts b named told ahead today before slice l journal entry replies) five are))))))
+
+-- what is said of the last of three texts, or of four, beside what is said of them all
+with_third : (P : List ℕ → List ℕ → List ℕ → Type 0) (Q : List ℕ → Type 0) (set limits after : Option (List ℕ))
+    → OfThree set limits after P → IfSome after Q → OfThree set limits after (λ xs ys zs. P xs ys zs × Q zs)
+with_third P Q (Some xs) (Some ys) (Some zs) p q = (p, q)
+with_third P Q (Some xs) (Some ys) None p q = tt
+with_third P Q (Some xs) None after p q = tt
+with_third P Q None limits after p q = tt
+
+with_fourth : (P : List ℕ → List ℕ → List ℕ → List ℕ → Type 0) (Q : List ℕ → Type 0) (set limits after resumed : Option (List ℕ))
+    → OfFour set limits after resumed P → IfSome resumed Q
+    → OfFour set limits after resumed (λ xs ys old zs. P xs ys old zs × Q zs)
+with_fourth P Q (Some xs) (Some ys) (Some old) (Some zs) p q = (p, q)
+with_fourth P Q (Some xs) (Some ys) (Some old) None p q = tt
+with_fourth P Q (Some xs) (Some ys) None resumed p q = tt
+with_fourth P Q (Some xs) None after resumed p q = tt
+with_fourth P Q None limits after resumed p q = tt
 
 based_three : (P Q : List ℕ → List ℕ → List ℕ → Type 0) (basis : Basis) (first days : ℕ) (set limits after : Option (List ℕ))
     → IfSome set (λ xs. IfSome limits (λ ys. basis ≡ basis_of xs ys first days))
@@ -163,15 +183,15 @@ based_four P Q R basis first days None limits after resumed known give p q = tt
 module _ (set limits after : Option (List ℕ)) (first days today : ℕ) (texts : List (Option (List ℕ))) (changing : Option (List ℕ)) (flights : List Flown) (grid : Ladders) (past : List Entry) (scripts : List (List Request)) (changes : List Change)
     (history : List Entry) (receipts : List (List Entry)) (replies : List ℕ) (booked : IsBooked flights grid past scripts changes history receipts replies)
     (basis : Basis) (known : IfSome set (λ xs. IfSome limits (λ ys. basis ≡ basis_of xs ys first days)))
-    (digests : List (Option (List ℕ))) (are : AreDigests texts digests) (changed : Option (List ℕ)) (is : IsDigestOf changing changed) (behind : ℕ) where
+    (digests : List (Option (List ℕ))) (are : AreDigests texts digests) (changed : Option (List ℕ)) (is : IsDigestOf changing changed) (behind : ℕ) (earlier : List Run) (beside : Beside) where
   module _ (asked : OfThree set limits after (λ xs ys zs. IsAsked xs ys first days today zs texts changing flights grid past scripts changes))
-      (count : behind ≡ length past) where
+      (count : behind ≡ length past) (runs : IfSome after (λ zs. AreRunsOf beside zs earlier)) where
     pub sealed_run : (journal : List ℕ) (entry : Belonging) (said : List ℕ)
-        → AreTexts basis digests changed behind today history replies journal entry said
-        → OfThree set limits after (λ xs ys zs. IsSealedRun xs ys first days today zs texts changing journal entry said)
+        → AreTexts basis digests changed behind today earlier history replies journal entry said
+        → OfThree set limits after (λ xs ys zs. IsSealedRun beside xs ys first days today zs texts changing journal entry said)
     sealed_run journal entry said t =
-        based_three (λ xs ys zs. IsAsked xs ys first days today zs texts changing flights grid past scripts changes)
-        (λ xs ys zs. IsSealedRun xs ys first days today zs texts changing journal entry said) basis first days set limits after known
+        based_three (λ xs ys zs. IsAsked xs ys first days today zs texts changing flights grid past scripts changes × AreRunsOf beside zs earlier)
+        (λ xs ys zs. IsSealedRun beside xs ys first days today zs texts changing journal entry said) basis first days set limits after known
         (λ xs ys zs same a. record {
           run = record {
             flights = flights;
@@ -179,7 +199,7 @@ module _ (set limits after : Option (List ℕ)) (first days today : ℕ) (texts 
             past = past;
             scripts = scripts;
             changes = changes;
-            is_asked = a;
+            is_asked = a.0;
             history = history;
             receipts = receipts;
             is_history = booked.is_history;
@@ -191,24 +211,28 @@ module _ (set limits after : Option (List ℕ)) (first days today : ℕ) (texts 
           are_digests = are;
           changed = changed;
           is_changed = is;
-          is_entry = subst (λ (b : Basis). IsEntryOfRun b digests changed (length past) (length history) today journal entry) same
-              (subst (λ (n : ℕ). IsEntryOfRun basis digests changed n (length history) today journal entry) count t.entry_is);
-        }) asked
+          earlier = earlier;
+          are_earlier = a.1;
+          is_entry = subst (λ (b : Basis). IsEntryOfRun b digests changed (length past) (length history) today earlier journal entry) same
+              (subst (λ (n : ℕ). IsEntryOfRun basis digests changed n (length history) today earlier journal entry) count t.entry_is);
+        })
+        (with_third (λ xs ys zs. IsAsked xs ys first days today zs texts changing flights grid past scripts changes) (λ zs. AreRunsOf beside zs earlier) set limits after asked runs)
 
-  module _ (resumed : Option (List ℕ)) (given : Option ℕ) (beside : Beside)
+  module _ (resumed : Option (List ℕ)) (given : Option ℕ)
       (asked : OfFour set limits after resumed (λ xs ys old zs. WithTaken given beside zs (λ more. IsAskedStill xs ys first days today old more zs texts changing flights grid past scripts changes)))
-      (ahead : OfFour set limits after resumed (λ xs ys old zs. WithTaken given beside zs (λ more. IsAhead more old behind))) where
+      (ahead : OfFour set limits after resumed (λ xs ys old zs. WithTaken given beside zs (λ more. IsAhead more old behind)))
+      (runs : IfSome resumed (λ zs. AreRunsOf beside zs earlier)) where
     pub sealed_resume : (journal : List ℕ) (entry : Belonging) (said : List ℕ)
-        → AreTexts basis digests changed behind today history replies journal entry said
+        → AreTexts basis digests changed behind today earlier history replies journal entry said
         → OfFour set limits after resumed
-        (λ xs ys old zs. WithTaken given beside zs (λ more. IsSealedResume xs ys first days today old more zs texts changing journal entry said))
+        (λ xs ys old zs. WithTaken given beside zs (λ more. IsSealedResume beside xs ys first days today old more zs texts changing journal entry said))
     sealed_resume journal entry said t =
-        based_four (λ xs ys old zs. WithTaken given beside zs (λ more. IsAskedStill xs ys first days today old more zs texts changing flights grid past scripts changes))
+        based_four (λ xs ys old zs. WithTaken given beside zs (λ more. IsAskedStill xs ys first days today old more zs texts changing flights grid past scripts changes) × AreRunsOf beside zs earlier)
         (λ xs ys old zs. WithTaken given beside zs (λ more. IsAhead more old behind))
-        (λ xs ys old zs. WithTaken given beside zs (λ more. IsSealedResume xs ys first days today old more zs texts changing journal entry said)) basis first days set limits after resumed known
+        (λ xs ys old zs. WithTaken given beside zs (λ more. IsSealedResume beside xs ys first days today old more zs texts changing journal entry said)) basis first days set limits after resumed known
         (λ xs ys old zs same a h. record {
-          more = a.more;
-          are_taken = a.are_taken;
+          more = a.0.more;
+          are_taken = a.0.are_taken;
           here = record {
             run = record {
               flights = flights;
@@ -216,7 +240,7 @@ module _ (set limits after : Option (List ℕ)) (first days today : ℕ) (texts 
               lines = past;
               left = scripts;
               rest = changes;
-              is_asked = a.here;
+              is_asked = a.0.here;
               history = history;
               receipts = receipts;
               is_history = booked.is_history;
@@ -228,8 +252,11 @@ module _ (set limits after : Option (List ℕ)) (first days today : ℕ) (texts 
             are_digests = are;
             changed = changed;
             is_changed = is;
-            is_entry = subst (λ (b : Basis). IsEntryOfRun b digests changed (length a.here.older + a.more) (length history) today journal entry) same
-                (subst (λ (n : ℕ). IsEntryOfRun basis digests changed (length a.here.older + n) (length history) today journal entry) (one_taken given beside zs h.more a.more h.are_taken a.are_taken)
-                (subst (λ (n : ℕ). IsEntryOfRun basis digests changed n (length history) today journal entry) (h.here.each a.here.older a.here.is_asked.are_ready.is_older.is_text) t.entry_is));
+            earlier = earlier;
+            are_earlier = a.1;
+            is_entry = subst (λ (b : Basis). IsEntryOfRun b digests changed (length a.0.here.older + a.0.more) (length history) today earlier journal entry) same
+                (subst (λ (n : ℕ). IsEntryOfRun basis digests changed (length a.0.here.older + n) (length history) today earlier journal entry) (one_taken given beside zs h.more a.0.more h.are_taken a.0.are_taken)
+                (subst (λ (n : ℕ). IsEntryOfRun basis digests changed n (length history) today earlier journal entry) (h.here.each a.0.here.older a.0.here.is_asked.are_ready.is_older.is_text) t.entry_is));
           };
-        }) asked ahead
+        })
+        (with_fourth (λ xs ys old zs. WithTaken given beside zs (λ more. IsAskedStill xs ys first days today old more zs texts changing flights grid past scripts changes)) (λ zs. AreRunsOf beside zs earlier) set limits after resumed asked runs) ahead

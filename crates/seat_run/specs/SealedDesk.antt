@@ -2,9 +2,11 @@
 use Rattle.std.specs.Prelude.{◌≡◌, ◌+◌, ◌⊎◌, ℕ, false, List, length, Option}
 use Rattle.seat_journal.specs.Text.{journal_text}
 use Rattle.seat_journal.specs.declared.entry.Entry.{Entry}
+use Rattle.seat_seal.specs.Known.{AreRunsOf}
 use Rattle.seat_seal.specs.Rules.{is_sealed}
 use Rattle.seat_seal.specs.declared.beside.Basis.{Basis}
 use Rattle.seat_seal.specs.declared.beside.Beside.{Beside}
+use Rattle.seat_seal.specs.declared.run.Run.{Run}
 use Rattle.seat_seal.specs.declared.seal.Sealed.{Sealed as Belonging}
 use Rattle.seat_seal.specs.declared.seal.SealEntry.{SealEntry}
 use Rattle.seat_desk.specs.Loading.{Bytes}
@@ -24,9 +26,9 @@ use Rattle.seat_sealing.specs.Written.{AreInPlace, AreWritten, RepliesFailed, Se
 
 -- the journal of these lines, an entry of it on that basis, and these replies
 pub record AreTexts (basis : Basis) (digests : List (Option (List ℕ))) (changes : Option (List ℕ)) (behind today : ℕ)
-    (lines : List Entry) (said journal : List ℕ) (entry : Belonging) (replies : List ℕ) : Type 0 where
+    (earlier : List Run) (lines : List Entry) (said journal : List ℕ) (entry : Belonging) (replies : List ℕ) : Type 0 where
   pub journal_is : journal ≡ journal_text lines
-  pub entry_is : IsEntryOfRun basis digests changes behind (length lines) today journal entry
+  pub entry_is : IsEntryOfRun basis digests changes behind (length lines) today earlier journal entry
   pub replies_are : replies ≡ said
 
 -- ---- what is written
@@ -85,27 +87,29 @@ pub record InputFailed {J K W : Type 0} (failed : Type 0) (journal_old journal_n
 -- ---- the entry of a run
 
 -- the texts of a run, and an entry of its journal: on the set, the limits and the days, by the scripts and the changes, with all its
--- lines, of which the run went on from those of the older journal
-pub record IsSealedRun (set limits : List ℕ) (first days today : ℕ) (after : List ℕ) (texts : List (Option (List ℕ)))
+-- lines, of which the run went on from those of the older journal, and with the runs of its day that the seal beside that one knows
+pub record IsSealedRun (beside : Beside) (set limits : List ℕ) (first days today : ℕ) (after : List ℕ) (texts : List (Option (List ℕ)))
     (changing : Option (List ℕ)) (journal : List ℕ) (entry : Belonging) (replies : List ℕ) : Type 0 where
   pub run : IsRun set limits first days today after texts changing journal replies
   pub digests : List (Option (List ℕ))
   pub are_digests : AreDigests texts digests
   pub changed : Option (List ℕ)
   pub is_changed : IsDigestOf changing changed
+  pub earlier : List Run
+  pub are_earlier : AreRunsOf beside after earlier
   pub is_entry : IsEntryOfRun (basis_of set limits first days) digests changed (length run.past) (length run.history) today
-      journal entry
+      earlier journal entry
 
 -- where the bytes of the set, of the limits and of the older journal are known
-abbrev pub IsSealedRunOf : {S L : Type 0} → Bytes S → Bytes L → Inputs S L → ℕ → Option (List ℕ)
+abbrev pub IsSealedRunOf : {S L : Type 0} → Beside → Bytes S → Bytes L → Inputs S L → ℕ → Option (List ℕ)
     → List (Option (List ℕ)) → Option (List ℕ) → List ℕ → Belonging → List ℕ → Type 0
-IsSealedRunOf set limits inputs today after texts changing journal entry replies =
+IsSealedRunOf beside set limits inputs today after texts changing journal entry replies =
     OfThree (set inputs.set) (limits inputs.limits) after
-    (λ xs ys zs. IsSealedRun xs ys inputs.first inputs.days today zs texts changing journal entry replies)
+    (λ xs ys zs. IsSealedRun beside xs ys inputs.first inputs.days today zs texts changing journal entry replies)
 
 -- the same of a run that goes on with the scripts of a journal: the whole scripts and changes stand behind the lines of the older one and
 -- so many more
-pub record IsSealedResume (set limits : List ℕ) (first days today : ℕ) (after : List ℕ) (more : ℕ) (resumed : List ℕ)
+pub record IsSealedResume (beside : Beside) (set limits : List ℕ) (first days today : ℕ) (after : List ℕ) (more : ℕ) (resumed : List ℕ)
     (texts : List (Option (List ℕ))) (changing : Option (List ℕ)) (journal : List ℕ) (entry : Belonging)
     (replies : List ℕ) : Type 0 where
   pub run : IsResumed set limits first days today after more resumed texts changing journal replies
@@ -113,12 +117,14 @@ pub record IsSealedResume (set limits : List ℕ) (first days today : ℕ) (afte
   pub are_digests : AreDigests texts digests
   pub changed : Option (List ℕ)
   pub is_changed : IsDigestOf changing changed
+  pub earlier : List Run
+  pub are_earlier : AreRunsOf beside resumed earlier
   pub is_entry : IsEntryOfRun (basis_of set limits first days) digests changed (length run.is_asked.older + more)
-      (length run.history) today journal entry
+      (length run.history) today earlier journal entry
 
 -- where the bytes of the set, of the limits and of both journals are known, behind the number of lines that is taken
 abbrev pub IsSealedResumeOf : {S L : Type 0} → Beside → Bytes S → Bytes L → Inputs S L → ℕ → Option (List ℕ) → Option ℕ
     → Option (List ℕ) → List (Option (List ℕ)) → Option (List ℕ) → List ℕ → Belonging → List ℕ → Type 0
 IsSealedResumeOf beside set limits inputs today after given resumed texts changing journal entry replies =
     OfFour (set inputs.set) (limits inputs.limits) after resumed (λ xs ys older zs. WithTaken given beside zs
-    (λ more. IsSealedResume xs ys inputs.first inputs.days today older more zs texts changing journal entry replies))
+    (λ more. IsSealedResume beside xs ys inputs.first inputs.days today older more zs texts changing journal entry replies))

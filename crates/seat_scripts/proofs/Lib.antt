@@ -28,5 +28,5 @@ mod Rest
 pub mod Still
 mod Again
 mod Very
-mod Repeating
+pub mod Judged
 mod Sessions

@@ -1,44 +1,23 @@
 -- The number of lines that is taken of a journal is one.
-use Rattle.std.proofs.Common.{◌≡◌, ⊎_elim, ℕ, List, Option, Some, None, IfSome, sym, ap, ◌∙◌, subst}
-use Rattle.std.specs.Prelude.{option_map}
-use Rattle.seat_seal.proofs.EntryLaws.{one_seal}
-use Rattle.seat_seal.specs.Besides.{entry_of}
-use Rattle.seat_seal.specs.Fronts.{front_of}
-use Rattle.seat_seal.specs.Imprints.{imprint_of}
+use Rattle.std.proofs.Common.{◌≡◌, ℕ, List, Option, Some, None, IfSome, sym, ap, ◌∙◌, subst}
+use Rattle.seat_seal.proofs.Knowing.{one_known}
+use Rattle.seat_seal.specs.Known.{IsKnown}
 use Rattle.seat_seal.specs.declared.beside.Beside.{Beside}
-use Rattle.seat_seal.specs.declared.seal.Seal.{Seal}
 use Rattle.seat_seal.specs.declared.seal.Sealed.{Sealed as Belonging}
 use Rattle.seat_scripts.specs.Against.{OfFour}
-use Rattle.seat_scripts.specs.Repeated.{IsKnownBy, IsKnownByNone, IsKnownFrom, IsLastRun, known_in}
 use Rattle.seat_scripts.specs.Taken.{AreTaken, ForTaken, OneIsTaken, WithTaken, lines_taken}
-
-one_known : (text : Option (List ℕ)) (journal : List ℕ) (a b : Option Belonging) → IsKnownFrom text journal a
-    → IsKnownFrom text journal b → a ≡ b
-one_known None journal a b x y = x ∙ sym y
-one_known (Some text) journal a b x y = ⊎_elim
-    (λ (n : IsKnownByNone text a). ⊎_elim
-    (λ (m : IsKnownByNone text b). n.nothing ∙ sym m.nothing)
-    (λ (k : IsKnownBy text journal b). absurd (n.none k.seal k.is_seal k.is_text))
-    y)
-    (λ (h : IsKnownBy text journal a). ⊎_elim
-    (λ (m : IsKnownByNone text b). absurd (m.none h.seal h.is_seal h.is_text))
-    (λ (k : IsKnownBy text journal b). h.known_is
-    ∙ (ap (λ (s : Seal). known_in (entry_of s (imprint_of (front_of journal)) (imprint_of journal))) (one_seal h.seal k.seal h.is_seal k.is_seal (sym h.is_text ∙ k.is_text))
-    ∙ sym k.known_is))
-    y)
-    x
 
 pub one_taken : OneIsTaken
 one_taken given beside journal more other x y =
     x.count
-    ∙ (ap (lines_taken given) (one_known (option_map (λ text. text.now) beside.text) journal x.last y.last x.is_last y.is_last)
+    ∙ (ap (lines_taken given) (one_known beside journal x.known y.known x.is_known y.is_known)
     ∙ sym y.count)
 
 -- the number that was taken of what is known of the last run
 pub are_taken : (given : Option ℕ) (beside : Beside) (journal : Option (List ℕ)) (last : Option Belonging) (more : ℕ)
-    → IfSome journal (λ zs. IsLastRun beside zs last) → more ≡ lines_taken given last
+    → IfSome journal (λ zs. IsKnown beside zs last) → more ≡ lines_taken given last
     → IfSome journal (λ zs. AreTaken given beside zs more)
-are_taken given beside (Some zs) last more is same = record { last = last; is_last = is; count = same }
+are_taken given beside (Some zs) last more is same = record { known = last; is_known = is; count = same }
 are_taken given beside None last more is same = tt
 
 module _ (P : ℕ → List ℕ → List ℕ → List ℕ → List ℕ → Type 0) (set limits after journal : Option (List ℕ)) (given : Option ℕ) (beside : Beside) where

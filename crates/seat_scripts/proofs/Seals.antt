@@ -19,7 +19,9 @@ use Rattle.seat_scripts.specs.Beside.{IsFaultless, IsRefusedBeside, IsRefusedSea
 use Rattle.seat_scripts.specs.Changes.{IsOfChanges, IsUnchanged, most_change_bytes}
 use Rattle.seat_scripts.specs.Going.{IsPast}
 use Rattle.seat_scripts.specs.Asked.{IsAsked, IsTooLargeRun}
-use Rattle.seat_scripts.specs.Repeated.{IsLastRun, IsRepeatedOf, is_repeated}
+use Rattle.seat_seal.specs.Known.{AreRunsOf, IsKnown, runs_known}
+use Rattle.seat_seal.specs.declared.run.Run.{Run}
+use Rattle.seat_scripts.specs.Repeated.{IsRepeatedOf, is_repeated}
 use Rattle.seat_scripts.specs.TextDigests.{AreDigests, IsDigestOf}
 use Rattle.seat_scripts.specs.RunDesk.{IsRefusedRun}
 use Rattle.seat_scripts.specs.Requests.{IsOfScript}
@@ -56,22 +58,28 @@ module _ (beside : Beside) (basis : Basis) (text : Option (List ℕ)) (bytes sli
         here = refused (λ (e : fault ≡ Memory). subst IsOfInput e input);
       })))
 
--- what the seal says of the last run, where all bytes were read
+-- what the seal knows, where all bytes were read
 pub read_last : (beside : Beside) (text : Option (List ℕ)) (bytes slice : List ℕ) (last : Option Belonging) → slice ≡ bytes
-    → IfSome text (λ xs. bytes ≡ xs) → IsLastRun beside slice last
-    → IfSome text (λ xs. IsLastRun beside xs last)
+    → IfSome text (λ xs. bytes ≡ xs) → IsKnown beside slice last
+    → IfSome text (λ xs. IsKnown beside xs last)
 read_last beside (Some xs) bytes slice last is_slice whole h =
-    subst (λ (l : List ℕ). IsLastRun beside l last) whole (subst (λ (l : List ℕ). IsLastRun beside l last) is_slice h)
+    subst (λ (l : List ℕ). IsKnown beside l last) whole (subst (λ (l : List ℕ). IsKnown beside l last) is_slice h)
 read_last beside None bytes slice last is_slice whole h = tt
 
--- whether the last run's seal names a script, where the journal's bytes are known
+-- the runs that it knows
+pub runs_of : (beside : Beside) (text : Option (List ℕ)) (last : Option Belonging) (runs : List Run)
+    → IfSome text (λ xs. IsKnown beside xs last) → runs ≡ runs_known last → IfSome text (λ xs. AreRunsOf beside xs runs)
+runs_of beside (Some xs) last runs is same = record { known = last; is_known = is; runs_are = same }
+runs_of beside None last runs is same = tt
+
+-- whether a run that the seal knows names a script, where the journal's bytes are known
 pub repeated_of : (answer : Bool) (beside : Beside) (after : Option (List ℕ)) (texts digests slice : List (Option (List ℕ)))
     (changing changed : Option (List ℕ)) (last : Option Belonging)
-    → IfSome after (λ zs. IsLastRun beside zs last) → AreDigests texts digests → IsDigestOf changing changed → slice ≡ digests
+    → IfSome after (λ zs. IsKnown beside zs last) → AreDigests texts digests → IsDigestOf changing changed → slice ≡ digests
     → is_repeated last slice changed ≡ answer → IsRepeatedOf answer beside after texts changing
 repeated_of answer beside (Some zs) texts digests slice changing changed last known are is same judged = record {
-  last = last;
-  is_last = known;
+  known = last;
+  is_known = known;
   digests = digests;
   are_digests = are;
   changes = changed;

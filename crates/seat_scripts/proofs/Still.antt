@@ -13,7 +13,7 @@ use Rattle.seat_scripts.proofs.Common.{Change, DeskFault, Entry, Ladders, Memory
 use Rattle.seat_scripts.specs.Against.{AreRead, IsOfReading, IsRefusedAgainst, IsTooLargeAgainst, OfFour}
 use Rattle.seat_scripts.specs.Both.{IsRefusedSealed, IsTooLargeSealed}
 use Rattle.seat_scripts.specs.Changes.{AreChanges, IsOfChanges, IsUnchanged, most_change_bytes}
-use Rattle.seat_scripts.specs.Resumed.{AreReady, HasReady, IsAskedStill, IsAhead, IsRefusedResume, IsTooLargeResume}
+use Rattle.seat_scripts.specs.Resumed.{AreReady, HasReady, IsAskedStill, IsAhead, IsRefusedResume, IsTooLargeResume, IsWholeAsked}
 use Rattle.seat_scripts.specs.Resuming.{IsNoRest, IsRestOf}
 use Rattle.seat_scripts.specs.RunDesk.{IsUnbooked}
 use Rattle.seat_scripts.specs.Taken.{ForTaken, WithTaken}
@@ -173,6 +173,12 @@ module _ (set limits after journal : Option (List ℕ)) (first days today more :
         (λ xs ys old zs are. of_changes xs ys first days today old more zs texts changing flights core.grid older.journal core.journal scripts are fault (of input) (refused input)) all_ready
 
     module _ (changes : List Change) (may : IfSome changing (AreChanges flights changes)) where
+      pub whole_still : OfFour set limits after journal
+          (λ xs ys old zs. IsWholeAsked xs ys first days today old zs texts changing flights core.grid older.journal core.journal scripts changes)
+      whole_still =
+          if_four IsReady (λ xs ys old zs. IsWholeAsked xs ys first days today old zs texts changing flights core.grid older.journal core.journal scripts changes) set limits after journal
+          (λ xs ys old zs are. record { are_ready = are; are_changes = may }) all_ready
+
       pub no_rest_still : (slice : List (List Request)) (given : List Change) (said : ℕ) → slice ≡ scripts
           → given ≡ changes → said ≡ more → (fault : DeskFault)
           → (fault ≢ Memory → IsNoRest flights slice given older.journal said core.journal fault)

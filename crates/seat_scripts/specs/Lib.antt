@@ -2,6 +2,7 @@ pub mod Against
 pub mod Answering
 pub mod Asked
 pub mod Audits
+pub mod Begun
 pub mod Beside
 pub mod Both
 pub mod Changes

@@ -1,9 +1,12 @@
 -- What the seal of a run's journal says.
-use Rattle.std.specs.Prelude.{◌≡◌, ◌+◌, ◌++◌, ℕ, List, [], ◌∷◌, Option, None, Some}
+use Rattle.std.specs.Prelude.{◌≡◌, ◌+◌, ◌++◌, ℕ, false, List, [], ◌∷◌, Option, None, Some}
 use Rattle.airline_base.specs.Days.{IsDate}
 use Rattle.seat_seal.specs.Fronts.{front_of}
 use Rattle.seat_seal.specs.Imprints.{imprint_of}
+use Rattle.seat_seal.specs.Rules.{is_sealed}
+use Rattle.seat_seal.specs.Runs.{runs_with}
 use Rattle.seat_seal.specs.declared.beside.Basis.{Basis}
+use Rattle.seat_seal.specs.declared.run.Run.{Run}
 use Rattle.seat_seal.specs.declared.scripts.Script.{Script}
 use Rattle.seat_seal.specs.declared.seal.JournalState.TheVariants.{Closed}
 use Rattle.seat_seal.specs.declared.seal.Sealed.{Sealed as Belonging}
@@ -18,10 +21,16 @@ abbrev pub named_from : ℕ → List (Option (List ℕ)) → List Script
 named_from session [] = []
 named_from session (digest ∷ more) = named session digest ++ named_from (session + 1) more
 
--- the entry of a journal of this text: of that basis, closed, with so many lines, of which the run went on from so many, on that day,
--- by these scripts and changes
+-- the run behind so many lines, on that day, by these scripts and changes
+pub record IsRun (digests : List (Option (List ℕ))) (changes : Option (List ℕ)) (behind today : ℕ) (run : Run) : Type 0 where
+  pub behind_is : run.behind ≡ behind
+  pub today_is : IsDate run.today.year run.today.month run.today.day today
+  pub scripts_are : run.scripts ≡ named_from 1 digests
+  pub changes_is : run.changes ≡ changes
+
+-- the entry of a journal of this text: of that basis, closed, with so many lines, and with this run behind the earlier ones of its day
 pub record IsEntryOfRun (basis : Basis) (digests : List (Option (List ℕ))) (changes : Option (List ℕ)) (behind lines today : ℕ)
-    (text : List ℕ) (entry : Belonging) : Type 0 where
+    (earlier : List Run) (text : List ℕ) (entry : Belonging) : Type 0 where
   pub set : entry.set ≡ basis.set
   pub limits : entry.limits ≡ basis.limits
   pub first : IsDate entry.first.year entry.first.month entry.first.day basis.first
@@ -29,7 +38,13 @@ pub record IsEntryOfRun (basis : Basis) (digests : List (Option (List ℕ))) (ch
   pub imprint_is : entry.journal.imprint ≡ imprint_of (front_of text)
   pub lines_are : entry.journal.lines ≡ lines
   pub state : entry.journal.state ≡ Closed
-  pub behind_is : entry.behind ≡ behind
-  pub today_is : IsDate entry.today.year entry.today.month entry.today.day today
-  pub scripts_are : entry.scripts ≡ named_from 1 digests
-  pub changes_is : entry.changes ≡ changes
+  pub run : Run
+  pub is_run : IsRun digests changes behind today run
+  pub runs_are : entry.runs ≡ runs_with earlier run
+
+-- the entry would have more runs than a seal says, and keeps not the rules of one
+pub record IsOverfull (basis : Basis) (digests : List (Option (List ℕ))) (changes : Option (List ℕ)) (behind lines today : ℕ)
+    (earlier : List Run) (text : List ℕ) : Type 0 where
+  pub entry : Belonging
+  pub is_entry : IsEntryOfRun basis digests changes behind lines today earlier text entry
+  pub broken : is_sealed entry ≡ false

@@ -6,6 +6,7 @@
 
 mod against;
 mod asked;
+mod begun;
 mod besides;
 mod by_session;
 mod changes;

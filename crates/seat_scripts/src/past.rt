@@ -6,14 +6,13 @@ ghost use Rattle.seat_desk.specs.Desk.{HasFailed, IsOfInput};
 ghost use Rattle.seat_scripts.specs.Against.{IsReplayWithin};
 ghost use Rattle.seat_scripts.specs.Beside.{IsFaultless, IsRefusedBeside};
 ghost use Rattle.seat_scripts.specs.Going.{IsPast, highest_to, past_of};
-ghost use Rattle.seat_scripts.specs.Repeated.{IsLastRun};
+ghost use Rattle.seat_seal.specs.Known.{IsKnown};
 
-use crate::repeated::last_run;
 use airline_base::NotedRead;
 use seat_core::Core;
 use seat_desk::{DeskFault, MOST_JOURNAL_BYTES, agreed, read_input, replayed};
 use seat_nesting::Grid;
-use seat_seal::{Basis, Beside, Sealed};
+use seat_seal::{Basis, Beside, Sealed, known_of};
 use std::alloc::Global;
 
 /// How many lines an older journal has of each session: 0, the manager, to 8.
@@ -22,7 +21,7 @@ pub struct Past {
     pub calls: [u32; 9],
 }
 
-/// The inventory of a journal, and what the seal beside it says of its last run.
+/// The inventory of a journal, and what the seal beside it knows of it.
 #[derive(Drop)]
 pub(crate) struct Known {
     pub past: Core,
@@ -41,7 +40,7 @@ pub(crate) fn replayed_beside<J: NotedRead>(
     ensures ok { IfOk result (λ k. IfSome (J.remaining journal.old) (IsReplayWithin grid k.past)) }
     ensures past { IfOk result (λ k. IfSome (J.remaining journal.old) (IsPast grid k.past.journal)) }
     ensures sealed { OnOk result (IfSome (J.remaining journal.old) (IsFaultless beside.now basis.now)) }
-    ensures last { IfOk result (λ k. IfSome (J.remaining journal.old) (λ bytes. IsLastRun beside.now bytes k.last)) }
+    ensures last { IfOk result (λ k. IfSome (J.remaining journal.old) (λ bytes. IsKnown beside.now bytes k.last)) }
     ensures grid { IfOk result (λ k. k.past.grid ≡ grid) }
     ensures legal { IfOk result (λ k. IsLegal k.past.grid k.past.journal) }
     ensures cap { IfOk result (λ k. k.past.cap ≡ most_lines) }
@@ -56,7 +55,7 @@ pub(crate) fn replayed_beside<J: NotedRead>(
     if let Err(fault) = agreed(beside, basis, &bytes) {
         return Err(fault);
     }
-    let last = last_run(beside, &bytes);
+    let last = known_of(beside, &bytes);
     match replayed(alloc, grid, bytes) {
         Ok(past) => Ok(Known { past, last }),
         Err(fault) => Err(fault),

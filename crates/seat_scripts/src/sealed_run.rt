@@ -1,11 +1,12 @@
 //! The entry that a seal has of a run's journal.
 //! It knows digests and counts, and no file.
-ghost use Rattle.std.specs.Prelude.{◌≡◌, ◌+◌, ◌++◌, ◌<◌, ◌≤◌, length};
-ghost use Rattle.seat_scripts.specs.SealedRun.{IsEntryOfRun, named, named_from};
+ghost use Rattle.std.specs.Prelude.{◌≡◌, ◌+◌, ◌++◌, ◌<◌, ◌≤◌, IfNone, IfSome, length};
+ghost use Rattle.seat_scripts.specs.SealedRun.{IsEntryOfRun, IsOverfull, IsRun, named, named_from};
 
 use airline_base::Day;
 use seat_seal::{
-    Basis, Date, Digest, JournalState, Script, Scripts, Sealed, SealedJournal, front_of, imprint_of,
+    Basis, Date, Digest, JournalState, Run, Runs, Script, Scripts, Sealed, SealedJournal, front_of,
+    imprint_of,
 };
 
 /// What a run stands on: the set, the limits and the days, its scripts and changes, the count of the lines that it goes on from, and
@@ -20,21 +21,43 @@ pub struct RunBasis<'a> {
     pub today: Day,
 }
 
-/// The entry of a journal of this text, with so many lines.
-pub fn entry_of_run(run: &RunBasis<'_>, lines: u32, text: &[u8]) -> Sealed
+/// The entry of a journal of this text, with so many lines and behind the earlier runs of its day; none where that is one run more than
+/// a seal says.
+pub fn entry_of_run(run: &RunBasis<'_>, earlier: Runs, lines: u32, text: &[u8]) -> Option<Sealed>
     requires { length run.now.digests.now ≤ 8 }
-    ensures { IsEntryOfRun run.now.basis run.now.digests.now run.now.changes run.now.behind lines run.now.today text.now result }
+    ensures some { IfSome result (λ e. IsEntryOfRun run.now.basis run.now.digests.now run.now.changes run.now.behind lines
+        run.now.today earlier text.now e) }
+    ensures none { IfNone result (IsOverfull run.now.basis run.now.digests.now run.now.changes run.now.behind lines
+        run.now.today earlier text.now) }
 {
-    Sealed {
+    let journal = SealedJournal {
+        imprint: imprint_of(front_of(text)),
+        lines,
+        state: JournalState::Closed,
+    };
+    let first = Date::of(run.basis.first);
+    let this = run_of(run);
+    let mut runs = earlier;
+    runs.keep_beside(&this);
+    if runs.is_full() {
+        return None;
+    }
+    runs.push(this);
+    Some(Sealed {
         set: run.basis.set,
         limits: run.basis.limits,
-        first: Date::of(run.basis.first),
+        first,
         days: run.basis.days,
-        journal: SealedJournal {
-            imprint: imprint_of(front_of(text)),
-            lines,
-            state: JournalState::Closed,
-        },
+        journal,
+        runs,
+    })
+}
+
+fn run_of(run: &RunBasis<'_>) -> Run
+    requires { length run.now.digests.now ≤ 8 }
+    ensures { IsRun run.now.digests.now run.now.changes run.now.behind run.now.today result }
+{
+    Run {
         behind: run.behind,
         today: Date::of(run.today),
         scripts: named_scripts(run.digests),

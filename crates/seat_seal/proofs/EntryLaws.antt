@@ -1,12 +1,14 @@
 -- An entry that is spelled is read, and so is a seal.
-use Rattle.std.proofs.Common.{◌≡◌, ℕ, zero, suc, ◌+◌, ◌<◌, ◌≤◌, true, leb, ltb, ◌&&◌, List, [], ◌∷◌, ◌++◌, length, Option, Some, None, refl, sym, ap, ◌∙◌, arith, decimal, append_assoc, append-nil}
+use Rattle.std.proofs.Common.{◌≡◌, ℕ, zero, suc, ◌+◌, ◌<◌, ◌≤◌, Bool, true, false, leb, ltb, ◌&&◌, List, [], ◌∷◌, ◌++◌, length, Option, Some, None, refl, sym, ap, ◌∙◌, arith, decimal, append_assoc, append-nil}
 use Rattle.std.specs.Prelude.{codes, IfSome}
-use Rattle.std.specs.List.{flat_map, AllByRecursion}
+use Rattle.std.specs.List.{flat_map, list_all, AllByRecursion}
 use Rattle.std.proofs.lemmas.Bool.Decides.{nat_tests}
 use Rattle.hex.specs.Hex.{encode_lower}
 use Rattle.airline_base.specs.Fields.{◌>>=◌}
 use Rattle.airline_base.proofs.Tests.{both_true, some_is}
+use Rattle.seat_seal.specs.declared.date.Date.{Date}
 use Rattle.seat_seal.specs.declared.imprint.Imprint.{Imprint}
+use Rattle.seat_seal.specs.declared.run.Run.{Run}
 use Rattle.seat_seal.specs.declared.scripts.Script.{Script}
 use Rattle.seat_seal.specs.declared.seal.Sealed.{Sealed as Belonging}
 use Rattle.seat_seal.specs.declared.seal.SealEntry.{SealEntry}
@@ -14,9 +16,9 @@ use Rattle.seat_seal.specs.declared.seal.SealEntry.TheVariants.{Sealed, Other}
 use Rattle.seat_seal.specs.declared.seal.Seal.{Seal}
 use Rattle.seat_seal.specs.Dates.{is_date}
 use Rattle.seat_seal.specs.Digests.{IsDigest}
-use Rattle.seat_seal.specs.Rules.{is_imprint, is_journal, are_rising, is_sealed, is_entry, is_second, is_seal, IsScript, HasDigests, HasTypes, IsSeal}
-use Rattle.seat_seal.specs.Text.{newline, line, date_text, imprint_text, journal_text, script_text, script_line, changes_text, sealed_text, other_text, entry_text, second_text, seal_text}
-use Rattle.seat_seal.specs.Reading.{digest_at, number_at, date_at, imprint_at, journal_at, script_at, line_at, script_line_at, scripts_in, changes_at, sealed_at, other_at, entry_at, second_at, seal_at, two_entries}
+use Rattle.seat_seal.specs.Rules.{is_imprint, is_journal, are_rising, is_run, is_sealed, is_entry, is_second, is_seal, IsScript, IsNamed, HasDigests, HasTypes, IsSeal}
+use Rattle.seat_seal.specs.Text.{newline, most_runs, line, date_text, imprint_text, journal_text, script_text, script_line, changes_text, run_line, run_text, sealed_text, other_text, entry_text, second_text, seal_text}
+use Rattle.seat_seal.specs.Reading.{digest_at, number_at, date_at, imprint_at, journal_at, script_at, line_at, script_line_at, items_in, changes_at, run_at, sealed_at, other_at, entry_at, second_at, seal_at, two_entries}
 use Rattle.seat_seal.proofs.Calendar.{date_again}
 use Rattle.seat_seal.proofs.FieldLaws.{digest_again, number_again, imprint_again, journal_again, script_again, line_again}
 
@@ -52,8 +54,8 @@ script_line_again s rest is low = line_again (codes "script ") (script_text s) r
 
 scripts_again : (n last : ℕ) (read more : List Script) (rest : List ℕ) → AllByRecursion IsScript more
     → are_rising last more ≡ true → length more ≤ n → script_line_at rest ≡ None
-    → scripts_in n read (flat_map script_line more ++ rest) ≡ (read ++ more, rest)
-unfolding scripts_in
+    → items_in script_line_at n read (flat_map script_line more ++ rest) ≡ (read ++ more, rest)
+unfolding items_in
 scripts_again zero last read [] rest is rising few none = rw (append-nil read) refl
 scripts_again zero last read (s ∷ more) rest is rising few none = absurd (omega arith)
 scripts_again (suc n) last read [] rest is rising few none = rw (none, append-nil read) refl
@@ -66,35 +68,104 @@ scripts_again (suc n) last read (s ∷ more) rest is rising few none =
 
 -- ---- changes
 
-changes_again : (o : Option (List ℕ)) (rest : List ℕ) → IfSome o IsDigest
-    → changes_at (changes_text o ++ (codes "END\n" ++ rest)) ≡ (o, codes "END\n" ++ rest)
-unfolding changes_at line_at
-changes_again None rest is = refl
-changes_again (Some d) rest is =
-    let after = codes "END\n" ++ rest in
-    rw (line_again (codes "changes ") (encode_lower d) after digest_at d (digest_again d (newline ∷ after) is)) refl
+-- neither a script's line nor that of changes stands there
+record StandsApart (rest : List ℕ) : Type 0 where
+  pub script : script_line_at rest ≡ None
+  pub changes : line_at (codes "changes ") digest_at rest ≡ None
 
-no_script : (o : Option (List ℕ)) (rest : List ℕ)
-    → script_line_at (changes_text o ++ (codes "END\n" ++ rest)) ≡ None
+changes_again : (o : Option (List ℕ)) (rest : List ℕ) → IfSome o IsDigest → StandsApart rest
+    → changes_at (changes_text o ++ rest) ≡ (o, rest)
+unfolding changes_at
+changes_again None rest is apart = rw apart.changes refl
+changes_again (Some d) rest is apart =
+    rw (line_again (codes "changes ") (encode_lower d) rest digest_at d (digest_again d (newline ∷ rest) is)) refl
+
+no_script : (o : Option (List ℕ)) (rest : List ℕ) → StandsApart rest → script_line_at (changes_text o ++ rest) ≡ None
 unfolding line_at
-no_script None rest = refl
-no_script (Some d) rest = refl
+no_script None rest apart = apart.script
+no_script (Some d) rest apart = refl
+
+-- ---- runs
+
+-- the rules of a run, one by one
+record KeepsRules (r : Run) : Type 0 where
+  pub behind : r.behind ≤ 999_999
+  pub today : is_date r.today ≡ true
+  pub scripts : are_rising 0 r.scripts ≡ true
+
+keeps_rules : (lines : ℕ) (r : Run) → lines ≤ 999_999 → is_run lines r ≡ true → KeepsRules r
+unfolding is_run
+keeps_rules lines r low h =
+    let a = both_true _ _ h in
+    let b = both_true _ _ a.0 in
+    let behind : r.behind ≤ lines = le_is r.behind lines b.0 in
+    record { behind = omega (arith, low, behind); today = b.1; scripts = a.1 }
+
+parts_apart : (a n b d rest : List ℕ)
+    → (a ++ n ++ line b d) ++ rest ≡ a ++ (n ++ (b ++ (d ++ newline ∷ rest)))
+parts_apart a n b d rest = simp append_assoc
+
+line_apart : (behind : ℕ) (today : Date) (rest : List ℕ)
+    → run_line behind today ++ rest ≡ codes "run behind "
+    ++ (decimal behind ++ (codes " today " ++ (date_text today ++ newline ∷ rest)))
+unfolding run_line
+line_apart behind today rest = parts_apart (codes "run behind ") (decimal behind) (codes " today ") (date_text today) rest
+
+run_apart : (a b c rest : List ℕ) → (a ++ b ++ c) ++ rest ≡ a ++ (b ++ (c ++ rest))
+run_apart a b c rest = simp append_assoc
+
+run_again : (r : Run) (rest : List ℕ) → IsNamed r → KeepsRules r → StandsApart rest
+    → run_at (run_text r ++ rest) ≡ Some (r, rest)
+unfolding run_at run_text
+run_again r rest is k apart =
+    let r4 = changes_text r.changes ++ rest in
+    let r3 = flat_map script_line r.scripts ++ r4 in
+    let r2 = date_text r.today ++ newline ∷ r3 in
+    let behind = number_again 999_999 r.behind (codes " today " ++ r2) (omega arith) k.behind refl in
+    let today = date_again r.today (newline ∷ r3) k.today in
+    let few : length r.scripts ≤ 8 = omega (arith, few 0 r.scripts (omega arith) k.scripts) in
+    let scripts = scripts_again 8 0 [] r.scripts r4 is.scripts k.scripts few (no_script r.changes rest apart) in
+    let changes = changes_again r.changes rest is.changes apart in
+    rw (run_apart (run_line r.behind r.today) (flat_map script_line r.scripts) (changes_text r.changes) rest, line_apart r.behind r.today r3, behind, today, scripts, changes) refl
+
+-- a run or the end stands there
+apart : (more : List Run) (rest : List ℕ) → StandsApart (flat_map run_text more ++ (codes "END\n" ++ rest))
+unfolding line_at run_text run_line
+apart [] rest = record { script = refl; changes = refl }
+apart (r ∷ more) rest = record { script = refl; changes = refl }
+
+no_run : (rest : List ℕ) → run_at (codes "END\n" ++ rest) ≡ None
+unfolding run_at
+no_run rest = refl
+
+runs_again : (n lines : ℕ) (read more : List Run) (rest : List ℕ) → lines ≤ 999_999 → AllByRecursion IsNamed more
+    → list_all (is_run lines) more ≡ true → length more ≤ n
+    → items_in run_at n read (flat_map run_text more ++ (codes "END\n" ++ rest)) ≡ (read ++ more, codes "END\n" ++ rest)
+unfolding items_in
+runs_again zero lines read [] rest low is keep few = rw (append-nil read) refl
+runs_again zero lines read (r ∷ more) rest low is keep few = absurd (omega arith)
+runs_again (suc n) lines read [] rest low is keep few = rw (no_run rest, append-nil read) refl
+runs_again (suc n) lines read (r ∷ more) rest low is keep few =
+    let both = both_true (is_run lines r) (list_all (is_run lines) more) keep in
+    let after = flat_map run_text more ++ (codes "END\n" ++ rest) in
+    let one = run_again r after is.0 (keeps_rules lines r low both.0) (apart more rest) in
+    let others = runs_again n lines (read ++ r ∷ []) more rest low is.1 both.1 (omega arith) in
+    rw (append_assoc (run_text r) (flat_map run_text more) (codes "END\n" ++ rest), one, others, append_assoc read (r ∷ []) more) refl
 
 -- ---- entries
 
-sealed_apart : (a b c d e f g h i j rest : List ℕ)
-    → (a ++ b ++ c ++ d ++ e ++ f ++ g ++ h ++ i ++ j) ++ rest ≡ a
-    ++ (b ++ (c ++ (d ++ (e ++ (f ++ (g ++ (h ++ (i ++ (j ++ rest)))))))))
-sealed_apart a b c d e f g h i j rest = simp append_assoc
+sealed_apart : (a b c d e f g rest : List ℕ)
+    → (a ++ b ++ c ++ d ++ e ++ f ++ g) ++ rest ≡ a ++ (b ++ (c ++ (d ++ (e ++ (f ++ (g ++ rest))))))
+sealed_apart a b c d e f g rest = simp append_assoc
 
 -- the rules of an entry, one by one
 pub record HasRules (s : Belonging) : Type 0 where
   pub first : is_date s.first ≡ true
   pub days : s.days ≤ 366
   pub journal : is_journal s.journal ≡ true
-  pub behind : s.behind ≤ 999_999
-  pub today : is_date s.today ≡ true
-  pub scripts : are_rising 0 s.scripts ≡ true
+  pub lines : s.journal.lines ≤ 999_999
+  pub few : length s.runs ≤ most_runs
+  pub runs : list_all (is_run s.journal.lines) s.runs ≡ true
 
 has_rules : (s : Belonging) → is_sealed s ≡ true → HasRules s
 unfolding is_sealed
@@ -104,15 +175,13 @@ has_rules s h =
     let c = both_true _ _ b.0 in
     let d = both_true _ _ c.0 in
     let e = both_true _ _ d.0 in
-    let f = both_true _ _ e.0 in
-    let lines = le_is s.journal.lines 999_999 (both_true (is_imprint s.journal.imprint) (leb s.journal.lines 999_999) d.1).1 in
     record {
-      first = f.0;
-      days = le_is s.days 366 e.1;
-      journal = d.1;
-      behind = omega (arith, lines, le_is s.behind s.journal.lines c.1);
-      today = b.1;
-      scripts = a.1;
+      first = e.0;
+      days = le_is s.days 366 d.1;
+      journal = c.1;
+      lines = le_is s.journal.lines 999_999 (both_true (is_imprint s.journal.imprint) (leb s.journal.lines 999_999) c.1).1;
+      few = le_is (length s.runs) most_runs b.1;
+      runs = a.1;
     }
 
 pub sealed_again : (s : Belonging) (rest : List ℕ) → HasDigests s → is_sealed s ≡ true
@@ -120,11 +189,8 @@ pub sealed_again : (s : Belonging) (rest : List ℕ) → HasDigests s → is_sea
 unfolding sealed_at sealed_text
 sealed_again s rest is rules =
     let r = has_rules s rules in
-    let r9 = codes "END\n" ++ rest in
-    let r8 = changes_text s.changes ++ r9 in
-    let r7 = flat_map script_line s.scripts ++ r8 in
-    let r6 = line (codes "today ") (date_text s.today) ++ r7 in
-    let r5 = line (codes "behind ") (decimal s.behind) ++ r6 in
+    let r6 = codes "END\n" ++ rest in
+    let r5 = flat_map run_text s.runs ++ r6 in
     let r4 = line (codes "journal ") (journal_text s.journal) ++ r5 in
     let r3 = line (codes "days ") (decimal s.days) ++ r4 in
     let r2 = line (codes "first ") (date_text s.first) ++ r3 in
@@ -134,12 +200,8 @@ sealed_again s rest is rules =
     let first = line_again (codes "first ") (date_text s.first) r3 date_at s.first (date_again s.first (newline ∷ r3) r.first) in
     let days = line_again (codes "days ") (decimal s.days) r4 (number_at 366) s.days (number_again 366 s.days (newline ∷ r4) (omega arith) r.days refl) in
     let journal = line_again (codes "journal ") (journal_text s.journal) r5 journal_at s.journal (journal_again s.journal (newline ∷ r5) is.journal r.journal) in
-    let behind = line_again (codes "behind ") (decimal s.behind) r6 (number_at 999_999) s.behind (number_again 999_999 s.behind (newline ∷ r6) (omega arith) r.behind refl) in
-    let today = line_again (codes "today ") (date_text s.today) r7 date_at s.today (date_again s.today (newline ∷ r7) r.today) in
-    let few : length s.scripts ≤ 8 = omega (arith, few 0 s.scripts (omega arith) r.scripts) in
-    let scripts = scripts_again 8 0 [] s.scripts r8 is.scripts r.scripts few (no_script s.changes rest) in
-    let changes = changes_again s.changes rest is.changes in
-    rw (sealed_apart (line (codes "set ") (encode_lower s.set)) (line (codes "limits ") (encode_lower s.limits)) (line (codes "first ") (date_text s.first)) (line (codes "days ") (decimal s.days)) (line (codes "journal ") (journal_text s.journal)) (line (codes "behind ") (decimal s.behind)) (line (codes "today ") (date_text s.today)) (flat_map script_line s.scripts) (changes_text s.changes) (codes "END\n") rest, set, limits, first, days, journal, behind, today, scripts, changes) refl
+    let runs = runs_again most_runs s.journal.lines [] s.runs rest r.lines is.runs r.runs r.few in
+    rw (sealed_apart (line (codes "set ") (encode_lower s.set)) (line (codes "limits ") (encode_lower s.limits)) (line (codes "first ") (date_text s.first)) (line (codes "days ") (decimal s.days)) (line (codes "journal ") (journal_text s.journal)) (flat_map run_text s.runs) (codes "END\n") rest, set, limits, first, days, journal, runs) refl
 
 other_again : (i : Imprint) (rest : List ℕ) → IsDigest i.digest → is_imprint i ≡ true
     → other_at (other_text i ++ rest) ≡ Some (i, rest)
@@ -187,3 +249,16 @@ seal_again s is =
 
 pub one_seal : (a b : Seal) → IsSeal a → IsSeal b → seal_text a ≡ seal_text b → a ≡ b
 one_seal a b p q same = some_is a b (sym (seal_again a p) ∙ ap seal_at same ∙ seal_again b q)
+
+-- ---- entries that keep no rules
+
+one_false : (a b c : Bool) → b ≡ false → ((a && b) && c) ≡ false
+one_false true b c h = rw h refl
+one_false false b c h = refl
+
+-- more runs than an entry may have
+pub too_many : (s : Belonging) → most_runs < length s.runs → is_sealed s ≡ false
+unfolding is_sealed
+too_many s many =
+    let few : leb (length s.runs) most_runs ≡ false = grind (arith, nat_tests, many) in
+    one_false _ (leb (length s.runs) most_runs) _ few

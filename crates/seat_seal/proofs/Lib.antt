@@ -4,4 +4,5 @@ pub mod FieldLaws
 pub mod Joined
 pub mod Lists
 pub mod Answering
-pub mod ScriptRuns
+pub mod ItemRuns
+pub mod Knowing

@@ -6,6 +6,7 @@ use Rattle.seat_seal.specs.declared.comparing.SealFault.{SealFault}
 use Rattle.seat_seal.specs.declared.comparing.SealFault.TheVariants as faults
 use Rattle.seat_seal.specs.declared.date.Date.{Date}
 use Rattle.seat_seal.specs.declared.imprint.Imprint.{Imprint}
+use Rattle.seat_seal.specs.declared.run.Run.{Run}
 use Rattle.seat_seal.specs.declared.scripts.Script.{Script}
 use Rattle.seat_seal.specs.declared.seal.Sealed.{Sealed as Belonging}
 use Rattle.seat_seal.specs.declared.seal.SealEntry.{SealEntry}
@@ -46,5 +47,6 @@ abbrev pub names_script : List Script → List ℕ → Bool
 names_script [] digest = false
 names_script (s ∷ more) digest = same_text s.digest digest || names_script more digest
 
-abbrev pub has_script : Belonging → List ℕ → Bool
-has_script e digest = names_script e.scripts digest
+-- a script of this digest was booked by the run
+abbrev pub has_script : Run → List ℕ → Bool
+has_script r digest = names_script r.scripts digest

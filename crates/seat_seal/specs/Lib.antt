@@ -5,7 +5,9 @@ pub mod Digests
 pub mod Faults
 pub mod Fronts
 pub mod Imprints
+pub mod Known
 pub mod Laws
 pub mod Reading
 pub mod Rules
+pub mod Runs
 pub mod Text

@@ -6,6 +6,7 @@ use Rattle.std.specs.Str.Parse.{digits_value}
 use Rattle.airline_base.specs.Fields.{Field, ◌>>=◌, word_at, byte_at, two_are, two_value}
 use Rattle.seat_seal.specs.declared.date.Date.{Date}
 use Rattle.seat_seal.specs.declared.imprint.Imprint.{Imprint}
+use Rattle.seat_seal.specs.declared.run.Run.{Run}
 use Rattle.seat_seal.specs.declared.scripts.Script.{Script}
 use Rattle.seat_seal.specs.declared.seal.JournalState.{JournalState}
 use Rattle.seat_seal.specs.declared.seal.JournalState.TheVariants.{Open, Closed}
@@ -15,7 +16,7 @@ use Rattle.seat_seal.specs.declared.seal.SealEntry.{SealEntry}
 use Rattle.seat_seal.specs.declared.seal.SealEntry.TheVariants.{Sealed, Other}
 use Rattle.seat_seal.specs.declared.seal.Seal.{Seal}
 use Rattle.seat_seal.specs.Digests.{digest_in}
-use Rattle.seat_seal.specs.Text.{blank, dash, newline}
+use Rattle.seat_seal.specs.Text.{blank, dash, most_runs, newline}
 
 -- ---- fields
 
@@ -85,18 +86,18 @@ line_at word field bytes = do
 abbrev pub script_line_at : List ℕ → Field Script
 script_line_at bytes = line_at (codes "script ") script_at bytes
 
-abbrev pub scripts_from : (List Script → List ℕ → List Script × List ℕ) → List Script → List ℕ → Field Script
-    → List Script × List ℕ
-scripts_from next read bytes None = (read, bytes)
-scripts_from next read bytes (Some s) = next (read ++ s.0 ∷ []) s.1
+abbrev pub items_from : {A : Type 0} → (List A → List ℕ → List A × List ℕ) → List A → List ℕ → Field A
+    → List A × List ℕ
+items_from next read bytes None = (read, bytes)
+items_from next read bytes (Some x) = next (read ++ x.0 ∷ []) x.1
 
--- the scripts behind those that were read, at most n more
-unfoldable pub scripts_in : ℕ → List Script → List ℕ → List Script × List ℕ
-scripts_in zero read bytes = (read, bytes)
-scripts_in (suc n) read bytes = scripts_from (scripts_in n) read bytes (script_line_at bytes)
+-- the items behind those that were read, at most n more
+unfoldable pub items_in : {A : Type 0} → (List ℕ → Field A) → ℕ → List A → List ℕ → List A × List ℕ
+items_in at zero read bytes = (read, bytes)
+items_in at (suc n) read bytes = items_from (items_in at n) read bytes (at bytes)
 
 abbrev pub scripts_at : List ℕ → List Script × List ℕ
-scripts_at bytes = scripts_in 8 [] bytes
+scripts_at bytes = items_in script_line_at 8 [] bytes
 
 abbrev pub changes_from : List ℕ → Field (List ℕ) → Option (List ℕ) × List ℕ
 changes_from bytes None = (None, bytes)
@@ -105,6 +106,27 @@ changes_from bytes (Some digest) = (Some digest.0, digest.1)
 -- the line of changes, where it stands there
 unfoldable pub changes_at : List ℕ → Option (List ℕ) × List ℕ
 changes_at bytes = changes_from bytes (line_at (codes "changes ") digest_at bytes)
+
+-- ---- runs
+
+-- the line of a run, its scripts and its changes
+unfoldable pub run_at : List ℕ → Field Run
+run_at bytes = do
+  behind ← word_at (codes "run behind ") bytes >>= number_at 999_999
+  today ← word_at (codes " today ") behind.1 >>= date_at
+  rest ← byte_at newline today.1
+  Some (
+    record {
+      behind = behind.0;
+      today = today.0;
+      scripts = (scripts_at rest).0;
+      changes = (changes_at (scripts_at rest).1).0;
+    },
+    (changes_at (scripts_at rest).1).1,
+  )
+
+abbrev pub runs_at : List ℕ → List Run × List ℕ
+runs_at bytes = items_in run_at most_runs [] bytes
 
 -- ---- entries
 
@@ -115,9 +137,7 @@ sealed_at bytes = do
   first ← line_at (codes "first ") date_at limits.1
   days ← line_at (codes "days ") (number_at 366) first.1
   journal ← line_at (codes "journal ") journal_at days.1
-  behind ← line_at (codes "behind ") (number_at 999_999) journal.1
-  today ← line_at (codes "today ") date_at behind.1
-  rest ← word_at (codes "END\n") (changes_at (scripts_at today.1).1).1
+  rest ← word_at (codes "END\n") (runs_at journal.1).1
   Some (
     record {
       set = set.0;
@@ -125,10 +145,7 @@ sealed_at bytes = do
       first = first.0;
       days = days.0;
       journal = journal.0;
-      behind = behind.0;
-      today = today.0;
-      scripts = (scripts_at today.1).0;
-      changes = (changes_at (scripts_at today.1).1).0;
+      runs = (runs_at journal.1).0;
     },
     rest,
   )
@@ -160,6 +177,6 @@ second_at first (c ∷ rest) = entry_at (c ∷ rest) >>= (λ second. Some (two_e
 
 unfoldable pub seal_at : List ℕ → Option Seal
 seal_at bytes = do
-  rest ← word_at (codes "SEATSEAL 1\n") bytes
+  rest ← word_at (codes "SEATSEAL 2\n") bytes
   first ← entry_at rest
   second_at first.0 first.1

@@ -1,7 +1,8 @@
 -- What a seal may say.
-use Rattle.std.specs.Prelude.{ℕ, Bool, true, ◌&&◌, nat_le, nat_lt, List, [], ◌∷◌, Option, None, Some, IfSome, IsTrue}
-use Rattle.std.specs.List.{AllByRecursion}
+use Rattle.std.specs.Prelude.{ℕ, Bool, true, ◌&&◌, nat_le, nat_lt, List, [], ◌∷◌, length, Option, None, Some, IfSome, IsTrue}
+use Rattle.std.specs.List.{AllByRecursion, list_all}
 use Rattle.seat_seal.specs.declared.imprint.Imprint.{Imprint}
+use Rattle.seat_seal.specs.declared.run.Run.{Run}
 use Rattle.seat_seal.specs.declared.scripts.Script.{Script}
 use Rattle.seat_seal.specs.declared.seal.SealedJournal.{SealedJournal}
 use Rattle.seat_seal.specs.declared.seal.Sealed.{Sealed as Belonging}
@@ -10,6 +11,7 @@ use Rattle.seat_seal.specs.declared.seal.SealEntry.TheVariants.{Sealed, Other}
 use Rattle.seat_seal.specs.declared.seal.Seal.{Seal}
 use Rattle.seat_seal.specs.Dates.{is_date}
 use Rattle.seat_seal.specs.Digests.{IsDigest}
+use Rattle.seat_seal.specs.Text.{most_runs}
 
 -- at most ten digits
 abbrev pub is_imprint : Imprint → Bool
@@ -23,11 +25,15 @@ abbrev pub are_rising : ℕ → List Script → Bool
 are_rising last [] = true
 are_rising last (s ∷ more) = nat_lt last s.session && nat_le s.session 8 && are_rising s.session more
 
--- the rules of an entry: 1 to 366 days, no more lines behind than there are, scripts of sessions 1 to 8 in order
+-- a run of a journal with so many lines: it began behind no more than these, its scripts are of sessions 1 to 8 in order
+unfoldable pub is_run : ℕ → Run → Bool
+is_run lines r = nat_le r.behind lines && is_date r.today && are_rising 0 r.scripts
+
+-- the rules of an entry: 1 to 366 days, and not too many runs
 unfoldable pub is_sealed : Belonging → Bool
 is_sealed s =
     is_date s.first && nat_le 1 s.days && nat_le s.days 366 && is_journal s.journal
-    && nat_le s.behind s.journal.lines && is_date s.today && are_rising 0 s.scripts
+    && nat_le (length s.runs) most_runs && list_all (is_run s.journal.lines) s.runs
 
 abbrev pub is_entry : SealEntry → Bool
 is_entry (Sealed s) = is_sealed s
@@ -45,12 +51,15 @@ is_seal s = is_entry s.first && is_second s.second
 abbrev pub IsScript : Script → Type 0
 IsScript s = IsDigest s.digest
 
+pub record IsNamed (r : Run) : Type 0 where
+  pub scripts : AllByRecursion IsScript r.scripts
+  pub changes : IfSome r.changes IsDigest
+
 pub record HasDigests (s : Belonging) : Type 0 where
   pub set : IsDigest s.set
   pub limits : IsDigest s.limits
   pub journal : IsDigest s.journal.imprint.digest
-  pub scripts : AllByRecursion IsScript s.scripts
-  pub changes : IfSome s.changes IsDigest
+  pub runs : AllByRecursion IsNamed s.runs
 
 abbrev pub HasTypes : SealEntry → Type 0
 HasTypes (Sealed s) = HasDigests s

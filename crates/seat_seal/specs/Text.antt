@@ -1,10 +1,11 @@
--- The text of a seal, version 1.
+-- The text of a seal, version 2.
 use Rattle.std.specs.Prelude.{ℕ, ◌/◌, ◌%◌, List, [], ◌∷◌, ◌++◌, Option, None, Some, codes, decimal}
 use Rattle.std.specs.List.{flat_map}
 use Rattle.hex.specs.Hex.{encode_lower}
 use Rattle.airline_base.specs.Days.{two_digits}
 use Rattle.seat_seal.specs.declared.date.Date.{Date}
 use Rattle.seat_seal.specs.declared.imprint.Imprint.{Imprint}
+use Rattle.seat_seal.specs.declared.run.Run.{Run}
 use Rattle.seat_seal.specs.declared.scripts.Script.{Script}
 use Rattle.seat_seal.specs.declared.seal.JournalState.{JournalState}
 use Rattle.seat_seal.specs.declared.seal.JournalState.TheVariants.{Open, Closed}
@@ -22,6 +23,10 @@ dash = 45
 
 abbrev pub newline : ℕ
 newline = 10
+
+-- the most runs of an entry
+abbrev pub most_runs : ℕ
+most_runs = 128
 
 -- a word, what stands behind it, and LF
 abbrev pub line : List ℕ → List ℕ → List ℕ
@@ -57,6 +62,14 @@ abbrev pub changes_text : Option (List ℕ) → List ℕ
 changes_text None = []
 changes_text (Some digest) = line (codes "changes ") (encode_lower digest)
 
+-- behind how many lines a run began, and its day
+unfoldable pub run_line : ℕ → Date → List ℕ
+run_line behind today = codes "run behind " ++ decimal behind ++ line (codes " today ") (date_text today)
+
+-- the lines of a run
+unfoldable pub run_text : Run → List ℕ
+run_text r = run_line r.behind r.today ++ flat_map script_line r.scripts ++ changes_text r.changes
+
 -- the lines of an entry
 unfoldable pub sealed_text : Belonging → List ℕ
 sealed_text s =
@@ -65,10 +78,7 @@ sealed_text s =
     ++ line (codes "first ") (date_text s.first)
     ++ line (codes "days ") (decimal s.days)
     ++ line (codes "journal ") (journal_text s.journal)
-    ++ line (codes "behind ") (decimal s.behind)
-    ++ line (codes "today ") (date_text s.today)
-    ++ flat_map script_line s.scripts
-    ++ changes_text s.changes
+    ++ flat_map run_text s.runs
     ++ codes "END\n"
 
 unfoldable pub other_text : Imprint → List ℕ
@@ -84,4 +94,4 @@ second_text (Some entry) = entry_text entry
 
 -- the head, and a block for each entry
 unfoldable pub seal_text : Seal → List ℕ
-seal_text s = codes "SEATSEAL 1\n" ++ entry_text s.first ++ second_text s.second
+seal_text s = codes "SEATSEAL 2\n" ++ entry_text s.first ++ second_text s.second

@@ -6,6 +6,7 @@ ghost use Rattle.seat_seal.specs.Comparing.{same_imprint, same_date, compared, i
 use crate::date::Date;
 use crate::digest::Digest;
 use crate::imprint::Imprint;
+use crate::run::Run;
 use crate::seal::{Seal, SealEntry, Sealed};
 use std::fmt;
 
@@ -28,6 +29,10 @@ pub enum SealFault {
     Journal,
     /// A script stands in the journal.
     Again,
+    /// No run began behind so many lines.
+    Behind,
+    /// Several runs began, and behind which of them is not said.
+    Several,
 }
 
 impl fmt::Display for SealFault {
@@ -47,6 +52,8 @@ impl fmt::Display for SealFault {
             SealFault::Days => f.write_str("SEAL days"),
             SealFault::Journal => f.write_str("SEAL journal"),
             SealFault::Again => f.write_str("SEAL again"),
+            SealFault::Behind => f.write_str("SEAL behind"),
+            SealFault::Several => f.write_str("SEAL runs"),
         }
     }
 }
@@ -107,11 +114,11 @@ pub fn is_its_journal(entry: &SealEntry, entries: &Imprint, whole: &Imprint) -> 
     }
 }
 
-/// Whether the entry names a script of this digest.
-pub fn has_script(entry: &Sealed, digest: &Digest) -> bool
-    ensures { result ≡ has_script entry.now digest.now }
+/// Whether the run booked a script of this digest.
+pub fn has_script(run: &Run, digest: &Digest) -> bool
+    ensures { result ≡ has_script run.now digest.now }
 {
-    let mut rest = entry.scripts.as_slice();
+    let mut rest = run.scripts.as_slice();
     while let [script, more @ ..] = rest {
         if same_digest(&script.digest, digest) {
             return true;
@@ -121,7 +128,7 @@ pub fn has_script(entry: &Sealed, digest: &Digest) -> bool
     false
 }
 
-fn same_digest(a: &Digest, b: &Digest) -> bool
+pub(crate) fn same_digest(a: &Digest, b: &Digest) -> bool
     ensures { result ≡ same_text a.now b.now }
 {
     a.bytes() == b.bytes()
@@ -133,7 +140,7 @@ pub(crate) fn same_imprint(a: &Imprint, b: &Imprint) -> bool
     same_digest(&a.digest, &b.digest) && a.bytes == b.bytes
 }
 
-fn same_date(a: &Date, b: &Date) -> bool
+pub(crate) fn same_date(a: &Date, b: &Date) -> bool
     ensures { result ≡ same_date a.now b.now }
 {
     a.year == b.year && a.month == b.month && a.day == b.day

@@ -4,16 +4,20 @@ ghost use Rattle.airline_base.specs.Bytes.{same_text};
 ghost use Rattle.seat_seal.specs.declared.seal.Seal.{Seal as Told};
 ghost use Rattle.seat_seal.specs.Rules.{IsSeal, HasTypes};
 ghost use Rattle.seat_seal.specs.Text.{seal_text};
-ghost use Rattle.seat_seal.specs.Reading.{scripts_at, changes_at, sealed_at, other_at, entry_at, second_at, seal_at};
+ghost use Rattle.seat_seal.specs.Reading.{scripts_at, changes_at, run_at, runs_at, sealed_at, other_at, entry_at, second_at, seal_at};
 
 use crate::digest::Digest;
-use crate::fields::{date_line, digest_line, imprint_line, journal_line, number_line, script_line};
+use crate::fields::{
+    date_at, date_line, digest_line, imprint_line, journal_line, number_at, number_line,
+    script_line,
+};
 use crate::imprint::Imprint;
 use crate::rules::is_seal;
+use crate::run::{Run, Runs};
 use crate::scripts::Scripts;
 use crate::seal::{Seal, SealEntry, Sealed};
 use crate::spelling::seal_text;
-use airline_base::fields::word_of;
+use airline_base::fields::{byte_of, word_of};
 
 /// Reads a seal from its text.
 ///
@@ -47,7 +51,7 @@ fn is_text_of(seal: &Seal, bytes: &[u8]) -> bool
 fn seal_at(bytes: &[u8]) -> Option<Seal>
     ensures { result ≡ seal_at bytes.now }
 {
-    let Some((first, rest)) = entry_at(word_of(b"SEATSEAL 1\n", bytes)?) else {
+    let Some((first, rest)) = entry_at(word_of(b"SEATSEAL 2\n", bytes)?) else {
         return None;
     };
     second_at(first, rest)
@@ -118,14 +122,7 @@ fn sealed_at(bytes: &[u8]) -> Option<(Sealed, &[u8])>
     let Some((journal, rest)) = journal_line(b"journal ", rest) else {
         return None;
     };
-    let Some((behind, rest)) = number_line(b"behind ", rest, 999_999) else {
-        return None;
-    };
-    let Some((today, rest)) = date_line(b"today ", rest) else {
-        return None;
-    };
-    let (scripts, rest) = scripts_at(rest);
-    let (changes, rest) = changes_at(rest);
+    let (runs, rest) = runs_at(rest);
     let rest = word_of(b"END\n", rest)?;
     let sealed = Sealed {
         set,
@@ -133,12 +130,47 @@ fn sealed_at(bytes: &[u8]) -> Option<(Sealed, &[u8])>
         first,
         days: days as u16,
         journal,
+        runs,
+    };
+    Some((sealed, rest))
+}
+
+fn runs_at(bytes: &[u8]) -> (Runs, &[u8])
+    ensures runs { result.0 ≡ (runs_at bytes.now).0 }
+    ensures rest { result.1.now ≡ (runs_at bytes.now).1 }
+{
+    let mut runs = Runs::new();
+    let mut rest = bytes;
+    for _ in 0..128u8 {
+        let Some((one, after)) = run_at(rest) else {
+            return (runs, rest);
+        };
+        runs.push(one);
+        rest = after;
+    }
+    (runs, rest)
+}
+
+#[tactic(auto, unfolding(crate::specs::Reading::run_at))]
+fn run_at(bytes: &[u8]) -> Option<(Run, &[u8])>
+    ensures { option_map (λ x. (x.0, x.1.now)) result ≡ run_at bytes.now }
+{
+    let Some((behind, rest)) = number_at(word_of(b"run behind ", bytes)?, 999_999) else {
+        return None;
+    };
+    let Some((today, rest)) = date_at(word_of(b" today ", rest)?) else {
+        return None;
+    };
+    let rest = byte_of(b'\n', rest)?;
+    let (scripts, rest) = scripts_at(rest);
+    let (changes, rest) = changes_at(rest);
+    let run = Run {
         behind: behind as u32,
         today,
         scripts,
         changes,
     };
-    Some((sealed, rest))
+    Some((run, rest))
 }
 
 fn scripts_at(bytes: &[u8]) -> (Scripts, &[u8])

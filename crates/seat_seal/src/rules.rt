@@ -1,13 +1,18 @@
 //! Whether a seal keeps its rules.
 ghost use Rattle.std.specs.Prelude.{◌≡◌};
-ghost use Rattle.seat_seal.specs.Rules.{is_imprint, is_journal, are_rising, is_sealed, is_entry, is_second, is_seal};
+ghost use Rattle.std.specs.List.{list_all};
+ghost use Rattle.seat_seal.specs.Rules.{is_imprint, is_journal, are_rising, is_run, is_sealed, is_entry, is_second, is_seal};
 
 use crate::imprint::Imprint;
+use crate::run::Run;
 use crate::scripts::Script;
 use crate::seal::{Seal, SealEntry, Sealed, SealedJournal};
 
 /// The most lines of a journal.
 const MOST_LINES: u32 = 999_999;
+
+/// The most runs of an entry.
+const MOST_RUNS: usize = 128;
 
 /// Whether each entry keeps the rules of an entry.
 #[tactic(auto, unfolding(crate::specs::Rules::is_seal))]
@@ -45,9 +50,21 @@ pub fn is_sealed(sealed: &Sealed) -> bool
         && 1 <= sealed.days
         && sealed.days <= 366
         && is_journal(&sealed.journal)
-        && sealed.behind <= sealed.journal.lines
-        && sealed.today.day().is_some()
-        && are_rising(sealed.scripts.as_slice())
+        && sealed.runs.as_slice().len() <= MOST_RUNS
+        && are_runs(sealed.runs.as_slice(), sealed.journal.lines)
+}
+
+fn are_runs(runs: &[Run], lines: u32) -> bool
+    ensures { result ≡ list_all (is_run lines) runs.now }
+{
+    runs.iter().all(|run| is_run(run, lines))
+}
+
+#[tactic(auto, unfolding(crate::specs::Rules::is_run))]
+fn is_run(run: &Run, lines: u32) -> bool
+    ensures { result ≡ is_run lines run.now }
+{
+    run.behind <= lines && run.today.day().is_some() && are_rising(run.scripts.as_slice())
 }
 
 fn is_journal(journal: &SealedJournal) -> bool

@@ -2,7 +2,7 @@
 use crate::date::Date;
 use crate::digest::Digest;
 use crate::imprint::Imprint;
-use crate::scripts::Scripts;
+use crate::run::Runs;
 
 /// Whether more lines may come.
 #[derive(Clone, Copy, Debug, PartialEq, Eq)]
@@ -30,12 +30,8 @@ pub struct Sealed {
     pub first: Date,
     pub days: u16,
     pub journal: SealedJournal,
-    /// How many of its lines the run went on from, 0 where from none.
-    pub behind: u32,
-    pub today: Date,
-    pub scripts: Scripts,
-    /// Of the change rows' bytes, where there are any.
-    pub changes: Option<Digest>,
+    /// The runs of its last day, the last one last.
+    pub runs: Runs,
 }
 
 /// A journal and what is known of it.

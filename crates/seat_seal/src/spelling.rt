@@ -3,36 +3,37 @@ ghost use Rattle.std.specs.Prelude.{◌≡◌, ◌+◌, ◌≤◌, ◌++◌, cod
 ghost use Rattle.std.specs.List.{flat_map, AllByRecursion};
 ghost use Rattle.hex.specs.Hex.{encode_lower};
 ghost use Rattle.seat_seal.specs.Digests.{IsDigest};
-ghost use Rattle.seat_seal.specs.Rules.{HasDigests, HasTypes, IsScript};
-ghost use Rattle.seat_seal.specs.Text.{line, date_text, imprint_text, journal_text, script_text, script_line, changes_text, sealed_text, other_text, entry_text, second_text, seal_text, state_text};
+ghost use Rattle.seat_seal.specs.Rules.{HasDigests, HasTypes, IsNamed, IsScript};
+ghost use Rattle.seat_seal.specs.Text.{line, date_text, imprint_text, journal_text, most_runs, run_line, run_text, script_text, script_line, changes_text, sealed_text, other_text, entry_text, second_text, seal_text, state_text};
 
 use crate::date::Date;
 use crate::digest::Digest;
 use crate::imprint::Imprint;
+use crate::run::Run;
 use crate::scripts::Script;
 use crate::seal::{JournalState, Seal, SealEntry, Sealed, SealedJournal};
 use airline_base::spelling::{put, put_number};
 use arrayvec::ArrayVec;
 use itoa::Buffer;
 
-/// A head line, and two entries of at most 1,120 bytes.
-pub type SealText = ArrayVec<u8, 2304>;
+/// A head line, and two entries of at most 99,900 bytes.
+pub type SealText = ArrayVec<u8, 200000>;
 
 /// The text of a seal.
-pub fn seal_text(seal: &Seal) -> ArrayVec<u8, 2304>
+pub fn seal_text(seal: &Seal) -> ArrayVec<u8, 200000>
     ensures text { result.items ≡ seal_text seal.now }
     ensures first { HasTypes seal.now.first }
     ensures second { IfSome seal.now.second HasTypes }
 {
     let mut text = ArrayVec::new();
-    put(&mut text, b"SEATSEAL 1\n");
+    put(&mut text, b"SEATSEAL 2\n");
     put_entry(&mut text, &seal.first);
     put_second(&mut text, &seal.second);
     text
 }
 
 fn put_second(text: &mut SealText, entry: &Option<SealEntry>)
-    requires room { length text.old.items + 1120 ≤ 2304 }
+    requires room { length text.old.items + 99900 ≤ 200000 }
     ensures text { text.new.items ≡ text.old.items ++ second_text entry.now }
     ensures is { IfSome entry.now HasTypes }
 {
@@ -43,9 +44,9 @@ fn put_second(text: &mut SealText, entry: &Option<SealEntry>)
 }
 
 fn put_entry(text: &mut SealText, entry: &SealEntry)
-    requires room { length text.old.items + 1120 ≤ 2304 }
+    requires room { length text.old.items + 99900 ≤ 200000 }
     ensures text { text.new.items ≡ text.old.items ++ entry_text entry.now }
-    ensures len { length text.new.items ≤ length text.old.items + 1120 }
+    ensures len { length text.new.items ≤ length text.old.items + 99900 }
     ensures is { HasTypes entry.now }
 {
     match entry {
@@ -55,9 +56,9 @@ fn put_entry(text: &mut SealText, entry: &SealEntry)
 }
 
 fn put_other(text: &mut SealText, imprint: &Imprint)
-    requires room { length text.old.items + 1120 ≤ 2304 }
+    requires room { length text.old.items + 99900 ≤ 200000 }
     ensures text { text.new.items ≡ text.old.items ++ other_text imprint.now }
-    ensures len { length text.new.items ≤ length text.old.items + 1120 }
+    ensures len { length text.new.items ≤ length text.old.items + 99900 }
     ensures is { IsDigest imprint.now.digest }
 {
     put(text, b"other ");
@@ -68,9 +69,9 @@ fn put_other(text: &mut SealText, imprint: &Imprint)
 }
 
 fn put_sealed(text: &mut SealText, sealed: &Sealed)
-    requires room { length text.old.items + 1120 ≤ 2304 }
+    requires room { length text.old.items + 99900 ≤ 200000 }
     ensures text { text.new.items ≡ text.old.items ++ sealed_text sealed.now }
-    ensures len { length text.new.items ≤ length text.old.items + 1120 }
+    ensures len { length text.new.items ≤ length text.old.items + 99900 }
     ensures is { HasDigests sealed.now }
 {
     put_digest_line(text, b"set ", &sealed.set);
@@ -78,15 +79,46 @@ fn put_sealed(text: &mut SealText, sealed: &Sealed)
     put_date_line(text, b"first ", sealed.first);
     put_number_line(text, b"days ", sealed.days as u32);
     put_journal_line(text, &sealed.journal);
-    put_number_line(text, b"behind ", sealed.behind);
-    put_date_line(text, b"today ", sealed.today);
-    put_scripts(text, sealed.scripts.as_slice());
-    put_changes(text, &sealed.changes);
+    put_runs(text, sealed.runs.as_slice());
     put(text, b"END\n");
 }
 
+// Each run takes at most 776 bytes.
+fn put_runs(text: &mut SealText, runs: &[Run])
+    requires few { length runs.now ≤ most_runs }
+    requires room { length text.old.items + 99328 ≤ 200000 }
+    ensures text { text.new.items ≡ text.old.items ++ flat_map run_text runs.now }
+    ensures len { length text.new.items ≤ length text.old.items + 99328 }
+    ensures is { AllByRecursion IsNamed runs.now }
+{
+    for run in runs {
+        put_run(text, run);
+    }
+}
+
+fn put_run(text: &mut SealText, run: &Run)
+    requires room { length text.old.items + 776 ≤ 200000 }
+    ensures text { text.new.items ≡ text.old.items ++ run_text run.now }
+    ensures len { length text.new.items ≤ length text.old.items + 776 }
+    ensures is { IsNamed run.now }
+{
+    put_run_line(text, run.behind, run.today);
+    put_scripts(text, run.scripts.as_slice());
+    put_changes(text, &run.changes);
+}
+
+fn put_run_line(text: &mut SealText, behind: u32, today: Date)
+    requires room { length text.old.items + 39 ≤ 200000 }
+    ensures text { text.new.items ≡ text.old.items ++ run_line behind today }
+    ensures len { length text.new.items ≤ length text.old.items + 39 }
+{
+    put(text, b"run behind ");
+    put_number(text, behind);
+    put_date_line(text, b" today ", today);
+}
+
 fn put_journal_line(text: &mut SealText, journal: &SealedJournal)
-    requires room { length text.old.items + 160 ≤ 2304 }
+    requires room { length text.old.items + 160 ≤ 200000 }
     ensures text { text.new.items ≡ text.old.items ++ line (codes "journal ") (journal_text journal.now) }
     ensures len { length text.new.items ≤ length text.old.items + 160 }
     ensures is { IsDigest journal.now.imprint.digest }
@@ -102,7 +134,7 @@ fn put_journal_line(text: &mut SealText, journal: &SealedJournal)
 }
 
 fn put_state(text: &mut SealText, state: JournalState)
-    requires room { length text.old.items + 7 ≤ 2304 }
+    requires room { length text.old.items + 7 ≤ 200000 }
     ensures text { text.new.items ≡ text.old.items ++ state_text state }
     ensures len { length text.new.items ≤ length text.old.items + 7 }
 {
@@ -114,7 +146,7 @@ fn put_state(text: &mut SealText, state: JournalState)
 
 fn put_scripts(text: &mut SealText, scripts: &[Script])
     requires few { length scripts.now ≤ 8 }
-    requires room { length text.old.items + 664 ≤ 2304 }
+    requires room { length text.old.items + 664 ≤ 200000 }
     ensures text { text.new.items ≡ text.old.items ++ flat_map script_line scripts.now }
     ensures len { length text.new.items ≤ length text.old.items + 664 }
     ensures is { AllByRecursion IsScript scripts.now }
@@ -125,7 +157,7 @@ fn put_scripts(text: &mut SealText, scripts: &[Script])
 }
 
 fn put_script(text: &mut SealText, script: &Script)
-    requires room { length text.old.items + 83 ≤ 2304 }
+    requires room { length text.old.items + 83 ≤ 200000 }
     ensures text { text.new.items ≡ text.old.items ++ script_line script.now }
     ensures len { length text.new.items ≤ length text.old.items + 83 }
     ensures is { IsScript script.now }
@@ -138,7 +170,7 @@ fn put_script(text: &mut SealText, script: &Script)
 }
 
 fn put_changes(text: &mut SealText, changes: &Option<Digest>)
-    requires room { length text.old.items + 73 ≤ 2304 }
+    requires room { length text.old.items + 73 ≤ 200000 }
     ensures text { text.new.items ≡ text.old.items ++ changes_text changes.now }
     ensures len { length text.new.items ≤ length text.old.items + 73 }
     ensures is { IfSome changes.now IsDigest }
@@ -150,7 +182,7 @@ fn put_changes(text: &mut SealText, changes: &Option<Digest>)
 }
 
 fn put_digest_line(text: &mut SealText, word: &[u8], digest: &Digest)
-    requires room { length text.old.items + length word.now + 65 ≤ 2304 }
+    requires room { length text.old.items + length word.now + 65 ≤ 200000 }
     ensures text { text.new.items ≡ text.old.items ++ line word.now (encode_lower digest.now) }
     ensures len { length text.new.items ≡ length text.old.items + length word.now + 65 }
     ensures is { IsDigest digest.now }
@@ -161,7 +193,7 @@ fn put_digest_line(text: &mut SealText, word: &[u8], digest: &Digest)
 }
 
 fn put_date_line(text: &mut SealText, word: &[u8], date: Date)
-    requires room { length text.old.items + length word.now + 11 ≤ 2304 }
+    requires room { length text.old.items + length word.now + 11 ≤ 200000 }
     ensures text { text.new.items ≡ text.old.items ++ line word.now (date_text date) }
     ensures len { length text.new.items ≡ length text.old.items + length word.now + 11 }
 {
@@ -171,7 +203,7 @@ fn put_date_line(text: &mut SealText, word: &[u8], date: Date)
 }
 
 fn put_number_line(text: &mut SealText, word: &[u8], number: u32)
-    requires room { length text.old.items + length word.now + 11 ≤ 2304 }
+    requires room { length text.old.items + length word.now + 11 ≤ 200000 }
     ensures text { text.new.items ≡ text.old.items ++ line word.now (decimal number) }
     ensures len { length text.new.items ≤ length text.old.items + length word.now + 11 }
 {
@@ -182,7 +214,7 @@ fn put_number_line(text: &mut SealText, word: &[u8], number: u32)
 
 // 64 hex digits.
 fn put_digest(text: &mut SealText, digest: &Digest)
-    requires room { length text.old.items + 64 ≤ 2304 }
+    requires room { length text.old.items + 64 ≤ 200000 }
     ensures text { text.new.items ≡ text.old.items ++ encode_lower digest.now }
     ensures len { length text.new.items ≡ length text.old.items + 64 }
     ensures is { IsDigest digest.now }
@@ -192,7 +224,7 @@ fn put_digest(text: &mut SealText, digest: &Digest)
 
 // A number of at most twenty digits.
 fn put_count(text: &mut SealText, number: u64)
-    requires room { length text.old.items + 20 ≤ 2304 }
+    requires room { length text.old.items + 20 ≤ 200000 }
     ensures text { text.new.items ≡ text.old.items ++ decimal number }
     ensures len { length text.new.items ≤ length text.old.items + 20 }
 {

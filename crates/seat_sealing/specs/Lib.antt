@@ -1,4 +1,3 @@
-pub mod Again
 pub mod Laws
 pub mod Older
 pub mod Pairs

@@ -3,13 +3,11 @@
 //! real files.
 #![tactic(auto)]
 
-mod again;
 mod laws;
 mod older;
 mod replacing;
 mod writing;
 
-pub use again::the_same_again;
 pub use laws::{ends_are_last, no_crash_denies};
 pub use older::{entry_beside, older_entry};
 pub use replacing::{may_be_sealed, replace_sealed};

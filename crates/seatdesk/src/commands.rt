@@ -135,7 +135,7 @@ pub fn audit<'a>(
     answered(rt, over, days, &Audit, Some(journal), looked)
 }
 
-/// Writes the seal of a journal that an audit accepts, while the journal is locked.
+/// Writes the seal of a journal that an audit accepts, while the journal is locked. It keeps the runs of a seal that agrees.
 pub fn seal<'a>(
     rt: &'a HostRuntime,
     over: &Horizon<'a>,
@@ -148,7 +148,20 @@ pub fn seal<'a>(
     };
     let files = files_taken(rt, &inputs, &[], &[])?;
     let (mut out, mut journal) = SealOut::open(rt, journal, files.as_slice())?;
-    let outcome = desk_seal(rt.alloc(), &mut inputs, &mut journal, &mut out);
+    let seal = match SealFile::beside(rt, &journal, false) {
+        Ok(seal) => seal,
+        Err(refusal) => {
+            out.leave();
+            return Err(refusal);
+        }
+    };
+    let outcome = desk_seal(
+        rt.alloc(),
+        &mut inputs,
+        &mut journal,
+        &seal.as_beside(),
+        &mut out,
+    );
     out.leave();
     match told(outcome, &[&inputs.set, &inputs.limits, &journal], &[]) {
         Ok(()) => Ok(()),

@@ -18,7 +18,7 @@ use seat_files::{
 };
 use seat_run::{desk_resume, desk_run};
 use seat_scripts::{Besides, Wanted, desk_audit_against, desk_replies};
-use seat_seal::{SealEntry, front_of, imprint_of, is_entry, read_seal};
+use seat_seal::{SealEntry, front_of, imprint_of, is_entry, lines_behind, read_seal};
 use seat_sealing::older_entry;
 use seat_words::{
     Horizon, WordFault, audit_lacks, behind_word, date_word, line_word, session_word,
@@ -331,7 +331,7 @@ pub struct Asking<'a, 'b> {
     pub journal: &'a str,
     pub changes: Option<&'a str>,
     pub no_clobber: bool,
-    /// Books what the older journal's last run has booked.
+    /// Books what a run that the journal's seal knows has booked.
     pub again: bool,
     pub scripts: &'b [&'a str],
 }
@@ -551,8 +551,23 @@ fn booked<'a, T: Threads + Wait + Sync>(
     let seal = &mut place.seal;
     if asking.resume.is_some() {
         return desk_resume(
-            threads, alloc, inputs, after, given, resumed, besides, scripts, changes, today,
-            &NoGate, older, keeps, journal, seal, out,
+            threads,
+            alloc,
+            inputs,
+            after,
+            given,
+            resumed,
+            besides,
+            asking.again,
+            scripts,
+            changes,
+            today,
+            &NoGate,
+            older,
+            keeps,
+            journal,
+            seal,
+            out,
         );
     }
     desk_run(
@@ -633,7 +648,7 @@ fn lines_sealed(place: &Place<'_>) -> Option<u32> {
         None => seal.first,
     };
     match last {
-        SealEntry::Sealed(entry) => Some(entry.behind),
+        SealEntry::Sealed(entry) => Some(lines_behind(entry.runs.as_slice())),
         SealEntry::Other(_) => None,
     }
 }

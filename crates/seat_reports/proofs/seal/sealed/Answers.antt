@@ -4,8 +4,8 @@ use Rattle.seat_reports.proofs.seal.sealed.Goals as goal
 
 pub returns-in-Ok-replayed-clause-ok : goal.returns-in-Ok-replayed-clause-ok
 returns-in-Ok-replayed-clause-ok g c =
-    sealed_of c.args.inputs.now.first c.args.inputs.now.days c.in-Ok.based.loaded.flights c.in-Ok.based.loaded.rows c.in-Ok.based.loaded.grid c.in-Ok-replayed.core c.entry_of.result c.text_of.result.items
+    sealed_of c.args.inputs.now.first c.args.inputs.now.days c.in-Ok.based.loaded.flights c.in-Ok.based.loaded.rows c.in-Ok.based.loaded.grid c.in-Ok-replayed.core c.kept_runs-runs.result c.entry_of.result c.text_of.result.items c.args.beside.now
     c.in-Ok.ensures.ladders c.text_of.ensures (g.S.Read.remaining c.args.inputs.now.set) (g.L.Read.remaining c.args.inputs.now.limits) (g.J.Read.remaining c.args.journal.now)
-    c.in-Ok-read_input.bytes.items c.deref.result.now c.front_of.result.now c.imprint_of-imprint.result (length c.journal.result.now) c.in-Ok.based.basis
+    c.in-Ok-read_input.bytes.items c.deref.result.now c.deref-2.result.now c.front_of.result.now c.imprint_of-imprint.result (length c.journal.result.now) c.in-Ok.based.basis
     c.in-Ok.ensures.rows (c.in-Ok.ensures.basis refl) c.in-Ok-read_input.ensures.whole c.in-Ok-read_input.ensures.within c.deref.ensures.value
-    c.front_of.ensures c.imprint_of-imprint.ensures (ap length c.journal.ensures.value) c.in-Ok-replayed.ensures.ok c.entry_of.ensures
+    c.front_of.ensures c.imprint_of-imprint.ensures (ap length c.journal.ensures.value) c.in-Ok-replayed.ensures.ok c.kept_runs-runs.ensures c.deref-2.ensures.value c.entry_of.ensures

@@ -12,43 +12,43 @@ use Rattle.seat_run.proofs.run.desk_run.Goals as goal
 
 pub returns-clause-ok : goal.returns-clause-ok
 returns-clause-ok g c =
-    all_sealed (AreTexts c.in_ok-answer.answer.basis c.as_slice.result.now c.in_ok-answer.answer.changes c.in_ok-answer.answer.behind c.args.today c.as_slice-2.result.now c.deref.result.now)
-    (IsSealedRunOf g.S.Read.remaining g.L.Read.remaining c.args.inputs.now c.args.today (g.A.Read.remaining c.args.after.now) (map g.C.Read.remaining c.args.scripts.now) (g.D.Read.remaining c.args.changes.now))
+    all_sealed (AreTexts c.in_ok-settled.field-0.basis c.as_slice.result.now c.in_ok-settled.field-0.changes c.in_ok-settled.field-0.behind c.args.today c.in_ok-settled.field-0.earlier c.as_slice-2.result.now c.deref.result.now)
+    (IsSealedRunOf c.args.beside.now g.S.Read.remaining g.L.Read.remaining c.args.inputs.now c.args.today (g.A.Read.remaining c.args.after.now) (map g.C.Read.remaining c.args.scripts.now) (g.D.Read.remaining c.args.changes.now))
     (λ journal entry said t. sealed_run (g.S.Read.remaining c.args.inputs.now.set) (g.L.Read.remaining c.args.inputs.now.limits) (g.A.Read.remaining c.args.after.now) c.args.inputs.now.first c.args.inputs.now.days c.args.today
     (map g.C.Read.remaining c.args.scripts.now) (g.D.Read.remaining c.args.changes.now) c.in_ok-asked.asked.flights c.in_ok-asked.asked.past.grid c.in_ok-asked.asked.past.journal c.in_ok-asked.asked.scripts c.in_ok-asked.asked.changes.items
-    c.in_ok-answer.answer.settled.journal c.in_ok-answer.answer.settled.receipts c.in_ok-answer.answer.replies.items
-    (record { is_history = c.in_ok-answer.ensures.ok; are_entries = c.in_ok-answer.ensures.entries; is_replied = c.in_ok-answer.ensures.replies })
-    c.in_ok-asked.asked.basis c.in_ok-asked.ensures.basis c.in_ok-asked.asked.digests c.in_ok-asked.ensures.digests c.in_ok-asked.asked.changes_digest c.in_ok-asked.ensures.changed c.in_ok-asked.asked.behind c.in_ok-asked.ensures.ok c.in_ok-asked.ensures.behind journal entry said (same_texts c.in_ok-answer.answer.basis c.in_ok-asked.asked.basis c.as_slice.result.now c.in_ok-asked.asked.digests c.in_ok-answer.answer.changes c.in_ok-asked.asked.changes_digest c.in_ok-answer.answer.behind c.in_ok-asked.asked.behind c.args.today
-    c.as_slice-2.result.now c.in_ok-answer.answer.settled.journal c.deref.result.now c.in_ok-answer.answer.replies.items
-    c.in_ok-answer.ensures.basis (c.as_slice.ensures ∙ c.in_ok-answer.ensures.digests) c.in_ok-answer.ensures.changes c.in_ok-answer.ensures.behind c.as_slice-2.ensures c.deref.ensures.value journal entry said t))
+    c.in_ok-settled.field-0.settled.journal c.in_ok-settled.field-0.settled.receipts c.in_ok-settled.field-0.replies.items
+    (record { is_history = c.in_ok-settled.ensures.ok; are_entries = c.in_ok-settled.ensures.entries; is_replied = c.in_ok-settled.ensures.replies })
+    c.in_ok-asked.asked.basis c.in_ok-asked.ensures.basis c.in_ok-asked.asked.digests c.in_ok-asked.ensures.digests c.in_ok-asked.asked.changes_digest c.in_ok-asked.ensures.changed c.in_ok-asked.asked.behind c.in_ok-asked.asked.earlier c.args.beside.now c.in_ok-asked.ensures.ok c.in_ok-asked.ensures.behind c.in_ok-asked.ensures.earlier journal entry said (same_texts c.in_ok-settled.field-0.basis c.in_ok-asked.asked.basis c.as_slice.result.now c.in_ok-asked.asked.digests c.in_ok-settled.field-0.changes c.in_ok-asked.asked.changes_digest c.in_ok-settled.field-0.behind c.in_ok-asked.asked.behind c.args.today
+    c.in_ok-settled.field-0.earlier c.in_ok-asked.asked.earlier c.as_slice-2.result.now c.in_ok-settled.field-0.settled.journal c.deref.result.now c.in_ok-settled.field-0.replies.items
+    c.in_ok-settled.ensures.basis (c.as_slice.ensures ∙ c.in_ok-settled.ensures.digests) c.in_ok-settled.ensures.changes c.in_ok-settled.ensures.behind c.in_ok-settled.ensures.earlier c.as_slice-2.ensures c.deref.ensures.value journal entry said t))
     (g.J.Replaced.named c.args.journal.now) (g.J.Replaced.named c.put_sealed.new.journal) (g.K.Replaced.named c.args.seal.now) (g.K.Replaced.named c.put_sealed.new.seal)
     (g.J.Replaced.may_leave c.put_sealed.new.journal) (g.K.Replaced.may_leave c.put_sealed.new.seal) (g.W.Write.contents c.args.out.now) (g.W.Write.contents c.put_sealed.new.out)
     c.put_sealed.result c.put_sealed.ensures.ok
 
 pub returns-clause-large : goal.returns-clause-large
 returns-clause-large g c =
-    all_unsealable (AreTexts c.in_ok-answer.answer.basis c.as_slice.result.now c.in_ok-answer.answer.changes c.in_ok-answer.answer.behind c.args.today c.as_slice-2.result.now c.deref.result.now)
-    (IsSealedRunOf g.S.Read.remaining g.L.Read.remaining c.args.inputs.now c.args.today (g.A.Read.remaining c.args.after.now) (map g.C.Read.remaining c.args.scripts.now) (g.D.Read.remaining c.args.changes.now))
+    all_unsealable (AreTexts c.in_ok-settled.field-0.basis c.as_slice.result.now c.in_ok-settled.field-0.changes c.in_ok-settled.field-0.behind c.args.today c.in_ok-settled.field-0.earlier c.as_slice-2.result.now c.deref.result.now)
+    (IsSealedRunOf c.args.beside.now g.S.Read.remaining g.L.Read.remaining c.args.inputs.now c.args.today (g.A.Read.remaining c.args.after.now) (map g.C.Read.remaining c.args.scripts.now) (g.D.Read.remaining c.args.changes.now))
     (λ journal entry said t. sealed_run (g.S.Read.remaining c.args.inputs.now.set) (g.L.Read.remaining c.args.inputs.now.limits) (g.A.Read.remaining c.args.after.now) c.args.inputs.now.first c.args.inputs.now.days c.args.today
     (map g.C.Read.remaining c.args.scripts.now) (g.D.Read.remaining c.args.changes.now) c.in_ok-asked.asked.flights c.in_ok-asked.asked.past.grid c.in_ok-asked.asked.past.journal c.in_ok-asked.asked.scripts c.in_ok-asked.asked.changes.items
-    c.in_ok-answer.answer.settled.journal c.in_ok-answer.answer.settled.receipts c.in_ok-answer.answer.replies.items
-    (record { is_history = c.in_ok-answer.ensures.ok; are_entries = c.in_ok-answer.ensures.entries; is_replied = c.in_ok-answer.ensures.replies })
-    c.in_ok-asked.asked.basis c.in_ok-asked.ensures.basis c.in_ok-asked.asked.digests c.in_ok-asked.ensures.digests c.in_ok-asked.asked.changes_digest c.in_ok-asked.ensures.changed c.in_ok-asked.asked.behind c.in_ok-asked.ensures.ok c.in_ok-asked.ensures.behind journal entry said (same_texts c.in_ok-answer.answer.basis c.in_ok-asked.asked.basis c.as_slice.result.now c.in_ok-asked.asked.digests c.in_ok-answer.answer.changes c.in_ok-asked.asked.changes_digest c.in_ok-answer.answer.behind c.in_ok-asked.asked.behind c.args.today
-    c.as_slice-2.result.now c.in_ok-answer.answer.settled.journal c.deref.result.now c.in_ok-answer.answer.replies.items
-    c.in_ok-answer.ensures.basis (c.as_slice.ensures ∙ c.in_ok-answer.ensures.digests) c.in_ok-answer.ensures.changes c.in_ok-answer.ensures.behind c.as_slice-2.ensures c.deref.ensures.value journal entry said t))
+    c.in_ok-settled.field-0.settled.journal c.in_ok-settled.field-0.settled.receipts c.in_ok-settled.field-0.replies.items
+    (record { is_history = c.in_ok-settled.ensures.ok; are_entries = c.in_ok-settled.ensures.entries; is_replied = c.in_ok-settled.ensures.replies })
+    c.in_ok-asked.asked.basis c.in_ok-asked.ensures.basis c.in_ok-asked.asked.digests c.in_ok-asked.ensures.digests c.in_ok-asked.asked.changes_digest c.in_ok-asked.ensures.changed c.in_ok-asked.asked.behind c.in_ok-asked.asked.earlier c.args.beside.now c.in_ok-asked.ensures.ok c.in_ok-asked.ensures.behind c.in_ok-asked.ensures.earlier journal entry said (same_texts c.in_ok-settled.field-0.basis c.in_ok-asked.asked.basis c.as_slice.result.now c.in_ok-asked.asked.digests c.in_ok-settled.field-0.changes c.in_ok-asked.asked.changes_digest c.in_ok-settled.field-0.behind c.in_ok-asked.asked.behind c.args.today
+    c.in_ok-settled.field-0.earlier c.in_ok-asked.asked.earlier c.as_slice-2.result.now c.in_ok-settled.field-0.settled.journal c.deref.result.now c.in_ok-settled.field-0.replies.items
+    c.in_ok-settled.ensures.basis (c.as_slice.ensures ∙ c.in_ok-settled.ensures.digests) c.in_ok-settled.ensures.changes c.in_ok-settled.ensures.behind c.in_ok-settled.ensures.earlier c.as_slice-2.ensures c.deref.ensures.value journal entry said t))
     _ c.put_sealed.result c.put_sealed.ensures.large
 
 pub returns-clause-device : goal.returns-clause-device
 returns-clause-device g c =
-    all_stopped (AreTexts c.in_ok-answer.answer.basis c.as_slice.result.now c.in_ok-answer.answer.changes c.in_ok-answer.answer.behind c.args.today c.as_slice-2.result.now c.deref.result.now)
-    (IsSealedRunOf g.S.Read.remaining g.L.Read.remaining c.args.inputs.now c.args.today (g.A.Read.remaining c.args.after.now) (map g.C.Read.remaining c.args.scripts.now) (g.D.Read.remaining c.args.changes.now))
+    all_stopped (AreTexts c.in_ok-settled.field-0.basis c.as_slice.result.now c.in_ok-settled.field-0.changes c.in_ok-settled.field-0.behind c.args.today c.in_ok-settled.field-0.earlier c.as_slice-2.result.now c.deref.result.now)
+    (IsSealedRunOf c.args.beside.now g.S.Read.remaining g.L.Read.remaining c.args.inputs.now c.args.today (g.A.Read.remaining c.args.after.now) (map g.C.Read.remaining c.args.scripts.now) (g.D.Read.remaining c.args.changes.now))
     (λ journal entry said t. sealed_run (g.S.Read.remaining c.args.inputs.now.set) (g.L.Read.remaining c.args.inputs.now.limits) (g.A.Read.remaining c.args.after.now) c.args.inputs.now.first c.args.inputs.now.days c.args.today
     (map g.C.Read.remaining c.args.scripts.now) (g.D.Read.remaining c.args.changes.now) c.in_ok-asked.asked.flights c.in_ok-asked.asked.past.grid c.in_ok-asked.asked.past.journal c.in_ok-asked.asked.scripts c.in_ok-asked.asked.changes.items
-    c.in_ok-answer.answer.settled.journal c.in_ok-answer.answer.settled.receipts c.in_ok-answer.answer.replies.items
-    (record { is_history = c.in_ok-answer.ensures.ok; are_entries = c.in_ok-answer.ensures.entries; is_replied = c.in_ok-answer.ensures.replies })
-    c.in_ok-asked.asked.basis c.in_ok-asked.ensures.basis c.in_ok-asked.asked.digests c.in_ok-asked.ensures.digests c.in_ok-asked.asked.changes_digest c.in_ok-asked.ensures.changed c.in_ok-asked.asked.behind c.in_ok-asked.ensures.ok c.in_ok-asked.ensures.behind journal entry said (same_texts c.in_ok-answer.answer.basis c.in_ok-asked.asked.basis c.as_slice.result.now c.in_ok-asked.asked.digests c.in_ok-answer.answer.changes c.in_ok-asked.asked.changes_digest c.in_ok-answer.answer.behind c.in_ok-asked.asked.behind c.args.today
-    c.as_slice-2.result.now c.in_ok-answer.answer.settled.journal c.deref.result.now c.in_ok-answer.answer.replies.items
-    c.in_ok-answer.ensures.basis (c.as_slice.ensures ∙ c.in_ok-answer.ensures.digests) c.in_ok-answer.ensures.changes c.in_ok-answer.ensures.behind c.as_slice-2.ensures c.deref.ensures.value journal entry said t))
+    c.in_ok-settled.field-0.settled.journal c.in_ok-settled.field-0.settled.receipts c.in_ok-settled.field-0.replies.items
+    (record { is_history = c.in_ok-settled.ensures.ok; are_entries = c.in_ok-settled.ensures.entries; is_replied = c.in_ok-settled.ensures.replies })
+    c.in_ok-asked.asked.basis c.in_ok-asked.ensures.basis c.in_ok-asked.asked.digests c.in_ok-asked.ensures.digests c.in_ok-asked.asked.changes_digest c.in_ok-asked.ensures.changed c.in_ok-asked.asked.behind c.in_ok-asked.asked.earlier c.args.beside.now c.in_ok-asked.ensures.ok c.in_ok-asked.ensures.behind c.in_ok-asked.ensures.earlier journal entry said (same_texts c.in_ok-settled.field-0.basis c.in_ok-asked.asked.basis c.as_slice.result.now c.in_ok-asked.asked.digests c.in_ok-settled.field-0.changes c.in_ok-asked.asked.changes_digest c.in_ok-settled.field-0.behind c.in_ok-asked.asked.behind c.args.today
+    c.in_ok-settled.field-0.earlier c.in_ok-asked.asked.earlier c.as_slice-2.result.now c.in_ok-settled.field-0.settled.journal c.deref.result.now c.in_ok-settled.field-0.replies.items
+    c.in_ok-settled.ensures.basis (c.as_slice.ensures ∙ c.in_ok-settled.ensures.digests) c.in_ok-settled.ensures.changes c.in_ok-settled.ensures.behind c.in_ok-settled.ensures.earlier c.as_slice-2.ensures c.deref.ensures.value journal entry said t))
     (FailsSealedRun c.args.beside.now g.S.Read.remaining g.L.Read.remaining c.args.inputs.now c.args.today (g.A.Read.remaining c.args.after.now) (map g.C.Read.remaining c.args.scripts.now)
     (HasFirstLoadFailed g.S.Read.remaining g.S.Failures.failure_count g.L.Failures.failure_count c.args.inputs.now c.read_asked.new.inputs) (HasFailed g.A.Failures.failure_count c.args.after.now c.read_asked.new.after)
     (HasFailedAmong c.args.today (map g.C.Read.remaining c.args.scripts.now) g.C.Failures.failure_count c.args.scripts.now c.read_asked.new.scripts)
@@ -57,12 +57,12 @@ returns-clause-device g c =
     c.args.journal.now c.put_sealed.new.journal c.args.seal.now c.put_sealed.new.seal c.args.out.now c.put_sealed.new.out
     c.put_sealed.result c.put_sealed.ensures.stopped
 
-pub returns-in_err-answer-clause-fault : goal.returns-in_err-answer-clause-fault
-returns-in_err-answer-clause-fault g c =
-    let p = err_from_is_err_and c.from_residual-in_err-answer.result c.from_residual-in_err-answer.ensures.1 in
+pub returns-in_err-settled-clause-fault : goal.returns-in_err-settled-clause-fault
+returns-in_err-settled-clause-fault g c =
+    let p = err_from_is_err_and c.from_residual-in_err-settled.result c.from_residual-in_err-settled.ensures.1 in
     rw (p.1, p.2) (λ input. behind_seal (g.S.Read.remaining c.args.inputs.now.set) (g.L.Read.remaining c.args.inputs.now.limits) (g.A.Read.remaining c.args.after.now) c.args.inputs.now.first c.args.inputs.now.days c.args.today
-    (map g.C.Read.remaining c.args.scripts.now) (g.D.Read.remaining c.args.changes.now) c.args.beside.now c.args.again c.in_err-answer.field-0.0 c.in_ok-asked.ensures.sealed
+    (map g.C.Read.remaining c.args.scripts.now) (g.D.Read.remaining c.args.changes.now) c.args.beside.now c.args.again c.in_err-settled.field-0.0 c.in_ok-asked.ensures.sealed
     (run_unbooked (g.S.Read.remaining c.args.inputs.now.set) (g.L.Read.remaining c.args.inputs.now.limits) (g.A.Read.remaining c.args.after.now) c.args.inputs.now.first c.args.inputs.now.days c.args.today
     (map g.C.Read.remaining c.args.scripts.now) (g.D.Read.remaining c.args.changes.now)
-    c.in_ok-asked.asked.flights c.in_ok-asked.asked.past.grid c.in_ok-asked.asked.past.journal c.in_ok-asked.asked.scripts c.in_ok-asked.asked.changes.items c.in_err-answer.field-0.0
-    c.in_ok-asked.ensures.ok c.in_err-answer.ensures.fault input))
+    c.in_ok-asked.asked.flights c.in_ok-asked.asked.past.grid c.in_ok-asked.asked.past.journal c.in_ok-asked.asked.scripts c.in_ok-asked.asked.changes.items c.in_err-settled.field-0.0
+    c.in_ok-asked.ensures.ok c.in_err-settled.ensures.fault input))

@@ -1,6 +1,6 @@
--- What a seal says of the last run.
-use Rattle.std.proofs.Common.{◌≡◌, ◌⊎◌, inl, inr, ℕ, Bool, true, false, List, Option, Some, None, refl, sym, ap, ◌∙◌}
-use Rattle.std.specs.Prelude.{if◌then◌else◌, unwrap_or}
+-- What a seal knows of a journal, by the entry that is compared, and that it is one.
+use Rattle.std.proofs.Common.{◌≡◌, ◌⊎◌, ⊎_elim, inl, inr, ℕ, Bool, true, false, List, Option, Some, None, refl, sym, ap, ◌∙◌}
+use Rattle.std.specs.Prelude.{if◌then◌else◌, option_map, unwrap_or}
 use Rattle.airline_base.proofs.Tests.{none_some}
 use Rattle.seat_seal.specs.Besides.{entry_of}
 use Rattle.seat_seal.specs.Comparing.{is_its_journal}
@@ -13,7 +13,8 @@ use Rattle.seat_seal.specs.declared.imprint.Imprint.{Imprint}
 use Rattle.seat_seal.specs.declared.seal.Seal.{Seal}
 use Rattle.seat_seal.specs.declared.seal.Sealed.{Sealed as Belonging}
 use Rattle.seat_seal.specs.declared.seal.SealEntry.{SealEntry}
-use Rattle.seat_scripts.specs.Repeated.{IsKnownBy, IsKnownByNone, known_in}
+use Rattle.seat_seal.specs.Known.{IsKnownBy, IsKnownByNone, IsKnownFrom, OneIsKnown, known_in}
+use Rattle.seat_seal.proofs.EntryLaws.{one_seal}
 
 pub known_by : (text journal : List ℕ) (seal : Seal) (known : Option Belonging) → IsSeal seal → text ≡ seal_text seal
     → known ≡ known_in (entry_of seal (imprint_of (front_of journal)) (imprint_of journal))
@@ -49,3 +50,24 @@ pub compared_second : (first second : SealEntry) (entries whole : Imprint) (know
     → known ≡ known_in (entry_of (two_entries first second) entries whole)
 compared_second first second entries whole known other same =
     rw other (same ∙ sym (ap known_in (one_of (is_its_journal second entries whole) second)))
+
+-- ---- what is known is one
+
+one_from : (text : Option (List ℕ)) (journal : List ℕ) (a b : Option Belonging) → IsKnownFrom text journal a
+    → IsKnownFrom text journal b → a ≡ b
+one_from None journal a b x y = x ∙ sym y
+one_from (Some text) journal a b x y = ⊎_elim
+    (λ (n : IsKnownByNone text a). ⊎_elim
+    (λ (m : IsKnownByNone text b). n.nothing ∙ sym m.nothing)
+    (λ (k : IsKnownBy text journal b). absurd (n.none k.seal k.is_seal k.is_text))
+    y)
+    (λ (h : IsKnownBy text journal a). ⊎_elim
+    (λ (m : IsKnownByNone text b). absurd (m.none h.seal h.is_seal h.is_text))
+    (λ (k : IsKnownBy text journal b). h.known_is
+    ∙ (ap (λ (s : Seal). known_in (entry_of s (imprint_of (front_of journal)) (imprint_of journal))) (one_seal h.seal k.seal h.is_seal k.is_seal (sym h.is_text ∙ k.is_text))
+    ∙ sym k.known_is))
+    y)
+    x
+
+pub one_known : OneIsKnown
+one_known beside journal a b x y = one_from (option_map (λ text. text.now) beside.text) journal a b x y

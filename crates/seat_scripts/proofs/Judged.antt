@@ -1,0 +1,84 @@
+-- What the runs that a seal knows have against a run that goes on with scripts, as far as the inputs are known.
+use Rattle.std.proofs.Common.{◌≡◌, ◌+◌, ℕ, Bool, List, Option, Some, None, IfSome, length, sym, ap, ◌∙◌, subst}
+use Rattle.seat_rules.specs.Inventory.{Inventory}
+use Rattle.ssim_flights.specs.declared.flight.Flight.{Flight as Flown}
+use Rattle.seat_seal.specs.Known.{AreRunsOf, IsKnown, runs_known}
+use Rattle.seat_seal.specs.declared.comparing.SealFault.{SealFault}
+use Rattle.seat_seal.specs.declared.run.Run.{Run}
+use Rattle.seat_seal.specs.declared.seal.Sealed.{Sealed as Belonging}
+use Rattle.seat_desk.specs.declared.fault.DeskFault.TheVariants.{Seal}
+use Rattle.seat_scripts.proofs.Common.{Change, DeskFault, Entry, Ladders, Request}
+use Rattle.seat_scripts.proofs.SealedBoth.{both_four}
+use Rattle.seat_scripts.specs.Against.{AreRead, OfFour}
+use Rattle.seat_scripts.specs.Begun.{IsJudged, IsRefusedByRuns, fault_of_runs}
+use Rattle.seat_scripts.specs.Both.{BothAgree}
+use Rattle.seat_scripts.specs.Resumed.{IsWholeAsked}
+use Rattle.seat_scripts.specs.Taken.{lines_taken}
+use Rattle.seat_scripts.specs.TextDigests.{AreDigests, IsDigestOf}
+use Rattle.seat_scripts.specs.declared.besides.Besides.{Besides}
+
+-- what is said of the last of four texts
+of_last : (Q : List ℕ → Type 0) (set limits after journal : Option (List ℕ)) → IfSome journal Q
+    → OfFour set limits after journal (λ xs ys older zs. Q zs)
+of_last Q (Some xs) (Some ys) (Some older) (Some zs) q = q
+of_last Q (Some xs) (Some ys) (Some older) None q = tt
+of_last Q (Some xs) (Some ys) None journal q = tt
+of_last Q (Some xs) None after journal q = tt
+of_last Q None limits after journal q = tt
+
+module _ (set limits after journal : Option (List ℕ)) (first days today : ℕ) (texts : List (Option (List ℕ))) (changing : Option (List ℕ)) (given : Option ℕ) (besides : Besides) (again : Bool) where
+  -- both agree, all is asked, and this is what the runs have against it
+  pub refused_by_runs : (flights : List Flown) (grid : Ladders) (older lines : List Entry) (scripts : List (List Request)) (changes : List Change)
+      (fault : DeskFault) (s : SealFault)
+      → OfFour set limits after journal (λ xs ys old zs. BothAgree besides xs ys first days old zs)
+      → OfFour set limits after journal (λ xs ys old zs. IsWholeAsked xs ys first days today old zs texts changing flights grid older lines scripts changes)
+      → OfFour set limits after journal (λ xs ys old zs. IsJudged (Some s) again given besides.journal old zs texts changing)
+      → fault ≡ Seal s
+      → OfFour set limits after journal (λ xs ys old zs. IsRefusedByRuns besides again xs ys first days today old given zs texts changing fault)
+  refused_by_runs flights grid older lines scripts changes fault s agree asked judged is =
+      both_four (λ xs ys old zs. BothAgree besides xs ys first days old zs)
+      (λ xs ys old zs. IsWholeAsked xs ys first days today old zs texts changing flights grid older lines scripts changes × IsJudged (Some s) again given besides.journal old zs texts changing)
+      (λ xs ys old zs. IsRefusedByRuns besides again xs ys first days today old given zs texts changing fault) set limits after journal
+      (λ xs ys old zs a b. record {
+        agree = a;
+        flights = flights;
+        grid = grid;
+        older = older;
+        lines = lines;
+        scripts = scripts;
+        changes = changes;
+        is_asked = b.0;
+        of_runs = s;
+        is_judged = b.1;
+        fault_is = is;
+      }) agree
+      (both_four (λ xs ys old zs. IsWholeAsked xs ys first days today old zs texts changing flights grid older lines scripts changes)
+      (λ xs ys old zs. IsJudged (Some s) again given besides.journal old zs texts changing)
+      (λ xs ys old zs. IsWholeAsked xs ys first days today old zs texts changing flights grid older lines scripts changes × IsJudged (Some s) again given besides.journal old zs texts changing)
+      set limits after journal (λ xs ys old zs a b. (a, b)) asked judged)
+
+  -- what they have against it
+  pub judged : (flights : List Flown) (older core : Inventory) (scripts : List (List Request))
+      → OfFour set limits after journal (λ xs ys old zs. AreRead xs ys first days old zs today texts flights older core scripts)
+      → (known : Option Belonging) → IfSome journal (λ zs. IsKnown besides.journal zs known)
+      → (more : ℕ) → more ≡ lines_taken given known
+      → (digests slice : List (Option (List ℕ))) → AreDigests texts digests → slice ≡ digests
+      → (changed : Option (List ℕ)) → IsDigestOf changing changed
+      → (answer : Option SealFault) → fault_of_runs again given (length older.journal + more) (runs_known known) slice changed ≡ answer
+      → OfFour set limits after journal (λ xs ys old zs. IsJudged answer again given besides.journal old zs texts changing)
+  judged flights older core scripts read known is_known more count digests slice are same changed is answer said =
+      both_four (λ xs ys old zs. AreRead xs ys first days old zs today texts flights older core scripts)
+      (λ xs ys old zs. IsKnown besides.journal zs known)
+      (λ xs ys old zs. IsJudged answer again given besides.journal old zs texts changing) set limits after journal
+      (λ xs ys old zs r k. record {
+        known = known;
+        is_known = k;
+        older = older.journal;
+        is_older = r.is_older.is_replay.is_text;
+        digests = digests;
+        are_digests = are;
+        changes = changed;
+        is_changes = is;
+        answer_is = subst (λ (n : ℕ). fault_of_runs again given (length older.journal + n) (runs_known known) digests changed ≡ answer) count
+            (subst (λ (l : List (Option (List ℕ))). fault_of_runs again given (length older.journal + more) (runs_known known) l changed ≡ answer) same said);
+      }) read (of_last (λ zs. IsKnown besides.journal zs known) set limits after journal is_known)
