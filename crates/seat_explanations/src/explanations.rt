@@ -525,7 +525,7 @@ const JOURNALS: &[Explanation] = &[
         behind: "",
         code: "R2",
         numbers: NONE,
-        text: "An input is too large: a data set or a journal has at most 256 MiB, any other input 16 MiB.\nOr what stands behind the lines of a journal that is to be recovered is a line without an end, of more than 256 KiB.\nseatdesk -v names the file.",
+        text: "An input is too large: a data set or a journal has at most 256 MiB, any other input 16 MiB.\nOr what stands behind the lines of a journal that is to be recovered is a line without an end, of more than 256 KiB.\nOr the run would be the 129th of its day: a seal names 128. seatdesk -v names the file.",
     },
     Explanation {
         behind: "",
@@ -611,7 +611,7 @@ const SEALS: &[Explanation] = &[
         behind: "SEAL",
         code: "form",
         numbers: NONE,
-        text: "JOURNAL.seal is no seal: a byte of it was changed, or it was cut off, or it is another file.",
+        text: "JOURNAL.seal is no seal: a byte of it was changed, or it was cut off, or it is another file.\nOne that begins with SEATSEAL 1 is of an older version: seatdesk seal writes it anew, without the scripts.",
     },
     Explanation {
         behind: "SEAL",
@@ -641,13 +641,13 @@ const SEALS: &[Explanation] = &[
         behind: "SEAL",
         code: "journal",
         numbers: NONE,
-        text: "The journal's head and entries are others than those that were sealed: a line was changed, added or taken away,\nor the journal is another than the seal's: a run writes both, and a kept journal has its own beside it.\nBehind seatdesk recover the seal is that of the journal as it was: seatdesk seal writes the new one.",
+        text: "The journal's head and entries are others than those that were sealed: a line was changed, added or taken away,\nor the journal is another than the seal's: a run writes both, and a kept journal has its own beside it.\nBehind seatdesk recover the seal is that of the journal as it was: seatdesk seal writes the new one.\nOf seatdesk seal: the seal there has a run behind more lines than the journal has, so it was changed.",
     },
     Explanation {
         behind: "SEAL",
         code: "again",
         numbers: NONE,
-        text: "A script that is to be booked, or the file of --changes, stands in the journal already: its seal has the digest of the\nvery same bytes, by one of the runs of the journal's last day. So the same command given twice books nothing twice.\n--again books it once more; --resume JOURNAL books what is new of scripts that have grown, and nothing where nothing is.",
+        text: "A script that is to be booked, or the file of --changes, stands in the journal already: its seal has the digest of the\nvery same bytes, by one of the runs of the journal's last day. So the same command given twice books nothing twice.\n--again books it once more; --resume JOURNAL books what is new of scripts that have grown, and nothing where nothing is.\nOf --resume JOURNAL it is a script of a run ahead of the lines that --behind names: say where that run began.",
     },
     Explanation {
         behind: "SEAL",
