@@ -6,12 +6,15 @@ use Rattle.seat_seal.specs.Known.{AreRunsOf, IsKnown, runs_known}
 use Rattle.seat_seal.specs.declared.comparing.SealFault.{SealFault}
 use Rattle.seat_seal.specs.declared.run.Run.{Run}
 use Rattle.seat_seal.specs.declared.seal.Sealed.{Sealed as Belonging}
-use Rattle.seat_desk.specs.declared.fault.DeskFault.TheVariants.{Seal}
+use Rattle.seat_desk.specs.Desk.{IsOfInput}
+use Rattle.seat_desk.specs.declared.fault.DeskFault.TheVariants.{Book, NoBehind, Seal, Unasked}
 use Rattle.seat_scripts.proofs.Common.{Change, DeskFault, Entry, Ladders, Request}
+use Rattle.seat_scripts.proofs.Beside.{if_four}
 use Rattle.seat_scripts.proofs.SealedBoth.{both_four}
-use Rattle.seat_scripts.specs.Against.{AreRead, OfFour}
-use Rattle.seat_scripts.specs.Begun.{IsJudged, IsRefusedByRuns, fault_of_runs}
+use Rattle.seat_scripts.specs.Against.{AreRead, IsOfReading, OfFour}
+use Rattle.seat_scripts.specs.Begun.{IsBehindRuns, IsJudged, IsRefusedByRuns, fault_of_runs}
 use Rattle.seat_scripts.specs.Both.{BothAgree}
+use Rattle.seat_scripts.specs.Changes.{IsOfChanges}
 use Rattle.seat_scripts.specs.Resumed.{IsWholeAsked}
 use Rattle.seat_scripts.specs.Taken.{lines_taken}
 use Rattle.seat_scripts.specs.TextDigests.{AreDigests, IsDigestOf}
@@ -82,3 +85,37 @@ module _ (set limits after journal : Option (List ℕ)) (first days today : ℕ)
         answer_is = subst (λ (n : ℕ). fault_of_runs again given (length older.journal + n) (runs_known known) digests changed ≡ answer) count
             (subst (λ (l : List (Option (List ℕ))). fault_of_runs again given (length older.journal + more) (runs_known known) l changed ≡ answer) same said);
       }) read (of_last (λ zs. IsKnown besides.journal zs known) set limits after journal is_known)
+
+-- ---- faults that stand behind what they have against it
+
+is_input : (fault : DeskFault) → IsBehindRuns fault → IsOfInput fault
+is_input (Unasked session call) behind = tt
+is_input NoBehind behind = tt
+is_input (Book session call) behind = tt
+is_input _ behind = absurd behind
+
+-- no fault of an input of an audit is one
+not_read : (fault : DeskFault) → IsOfReading fault → IsBehindRuns fault → ⊥
+not_read (Unasked session call) read behind = absurd read
+not_read NoBehind read behind = absurd read
+not_read (Book session call) read behind = absurd read
+not_read _ read behind = absurd behind
+
+not_changes : (fault : DeskFault) → IsOfChanges fault → IsBehindRuns fault → ⊥
+not_changes (Unasked session call) of behind = absurd of
+not_changes NoBehind of behind = absurd of
+not_changes (Book session call) of behind = absurd of
+not_changes _ of behind = absurd behind
+
+pub never_of_reading : (P : List ℕ → List ℕ → List ℕ → List ℕ → Type 0) (set limits after journal : Option (List ℕ)) (fault : DeskFault)
+    → (IsOfInput fault → OfFour set limits after journal (λ xs ys old zs. IsOfReading fault))
+    → IsBehindRuns fault → OfFour set limits after journal P
+never_of_reading P set limits after journal fault read behind =
+    if_four (λ xs ys old zs. IsOfReading fault) P set limits after journal
+    (λ xs ys old zs of. absurd (not_read fault of behind)) (read (is_input fault behind))
+
+pub never_of_changes : (P : Type 0) (fault : DeskFault) → (IsOfInput fault → IsOfChanges fault) → IsBehindRuns fault → P
+never_of_changes P fault of behind = absurd (not_changes fault (of (is_input fault behind)) behind)
+
+pub never_of_seal : (P : Type 0) (fault : DeskFault) (s : SealFault) → fault ≡ Seal s → IsBehindRuns fault → P
+never_of_seal P fault s is behind = absurd (subst (λ (f : DeskFault). IsBehindRuns f) is behind)

@@ -7,7 +7,7 @@ use Rattle.seat_seal.specs.declared.beside.Beside.{Beside}
 use Rattle.seat_seal.specs.declared.comparing.SealFault.TheVariants.{Again}
 use Rattle.seat_seal.specs.declared.seal.Sealed.{Sealed as Belonging}
 use Rattle.seat_journal.specs.declared.entry.Change.{Change}
-use Rattle.seat_desk.specs.declared.fault.DeskFault.TheVariants.{Seal}
+use Rattle.seat_desk.specs.declared.fault.DeskFault.TheVariants.{Book, Change as BadChange, NoLeg, Script, Seal}
 use Rattle.seat_desk.proofs.Grounds.{ground_of_loaded}
 use Rattle.seat_desk.specs.Answering.{IsRefusedAnswer}
 use Rattle.seat_desk.specs.AuditDesk.{IsUnlawful}
@@ -15,7 +15,7 @@ use Rattle.seat_desk.specs.Desk.{IsOfInput}
 use Rattle.seat_desk.specs.Loading.{IsBehind, IsRefusedLoad}
 use Rattle.seat_desk.specs.Sealing.{Agrees, IsBesideFault, basis_of}
 use Rattle.seat_scripts.proofs.Common.{AreScripts, DeskFault, Entry, HasLoaded, IsFirstTooLargeLoad, IsLoaded, IsRefusedAmong, IsTooLargeAmong, Ladders, Memory, OfThree, Request, most_journal_bytes}
-use Rattle.seat_scripts.specs.Beside.{IsFaultless, IsRefusedBeside, IsRefusedSealedRun, IsTooLargeSealedRun, IsUnsealed}
+use Rattle.seat_scripts.specs.Beside.{IsCallOnce, IsFaultless, IsRefusedBeside, IsRefusedSealedRun, IsTooLargeSealedRun, IsUnsealed}
 use Rattle.seat_scripts.specs.Changes.{IsOfChanges, IsUnchanged, most_change_bytes}
 use Rattle.seat_scripts.specs.Going.{IsPast}
 use Rattle.seat_scripts.specs.Asked.{IsAsked, IsTooLargeRun}
@@ -157,6 +157,32 @@ module _ (set limits after : Option (List ℕ)) (first days : ℕ) (flights : Li
 
 -- ---- a run
 
+-- what is booked already is told ahead of a call
+pub call_once : (again : Bool) (beside : Beside) (after : Option (List ℕ)) (texts : List (Option (List ℕ)))
+    (changing : Option (List ℕ)) (fault : DeskFault)
+    → (again ≡ false → IsRepeatedOf false beside after texts changing)
+    → IfSome after (λ zs. IsCallOnce again beside zs texts changing fault)
+call_once again beside None texts changing fault once = tt
+call_once again beside (Some zs) texts changing (Book session call) once = once
+call_once again beside (Some zs) texts changing _ once = tt
+
+-- a script's fault is no call's
+of_script : (again : Bool) (beside : Beside) (after : Option (List ℕ)) (texts : List (Option (List ℕ)))
+    (changing : Option (List ℕ)) (fault : DeskFault) → IsOfScript fault
+    → IfSome after (λ zs. IsCallOnce again beside zs texts changing fault)
+of_script again beside None texts changing fault is = tt
+of_script again beside (Some zs) texts changing (Script session fault) is = tt
+of_script again beside (Some zs) texts changing _ is = absurd is
+
+-- nor one of the changes
+of_changes : (again : Bool) (beside : Beside) (after : Option (List ℕ)) (texts : List (Option (List ℕ)))
+    (changing : Option (List ℕ)) (fault : DeskFault) → IsOfChanges fault
+    → IfSome after (λ zs. IsCallOnce again beside zs texts changing fault)
+of_changes again beside None texts changing fault is = tt
+of_changes again beside (Some zs) texts changing (BadChange fault) is = tt
+of_changes again beside (Some zs) texts changing (NoLeg line) is = tt
+of_changes again beside (Some zs) texts changing _ is = absurd is
+
 module _ (set limits after : Option (List ℕ)) (first days today : ℕ) (texts : List (Option (List ℕ))) (changing : Option (List ℕ)) (beside : Beside) (again : Bool) where
   abbrev IsRefused : DeskFault → Type 0
   IsRefused fault = OfThree set limits after (λ xs ys zs. IsRefusedSealedRun beside again xs ys first days today zs texts changing fault)
@@ -170,10 +196,17 @@ module _ (set limits after : Option (List ℕ)) (first days today : ℕ) (texts 
   -- behind what agrees
   pub behind_seal : (fault : DeskFault) → Agreeing
       → OfThree set limits after (λ xs ys zs. IsRefusedRun xs ys first days today zs texts changing fault)
-      → IsRefused fault
-  behind_seal fault agreed refused =
-      both_three (λ xs ys zs. Agrees beside xs ys first days zs) (λ xs ys zs. IsRefusedRun xs ys first days today zs texts changing fault) (λ xs ys zs. IsRefusedSealedRun beside again xs ys first days today zs texts changing fault) set limits after
-      (λ xs ys zs a r. inr (record { ahead = a; here = inl r })) agreed refused
+      → IfSome after (λ zs. IsCallOnce again beside zs texts changing fault) → IsRefused fault
+  behind_seal fault agreed refused once = by set limits after agreed refused once where
+    by : (s l a : Option (List ℕ)) → OfThree s l a (λ xs ys zs. Agrees beside xs ys first days zs)
+        → OfThree s l a (λ xs ys zs. IsRefusedRun xs ys first days today zs texts changing fault)
+        → IfSome a (λ zs. IsCallOnce again beside zs texts changing fault)
+        → OfThree s l a (λ xs ys zs. IsRefusedSealedRun beside again xs ys first days today zs texts changing fault)
+    by (Some xs) (Some ys) (Some zs) agreed refused once =
+        inr (record { ahead = agreed; here = inl (record { refused = refused; once = once }) })
+    by (Some xs) (Some ys) None agreed refused once = tt
+    by (Some xs) None a agreed refused once = tt
+    by None l a agreed refused once = tt
 
   -- behind all inputs
   pub sealed_again : (flights : List Flown) (grid : Ladders) (past : List Entry) (scripts : List (List Request)) (changes : List Change)
@@ -249,6 +282,7 @@ module _ (set limits after : Option (List ℕ)) (first days today : ℕ) (texts 
           → (IsOfInput fault → IsRefusedAmong today 1 texts fault) → IsOfInput fault → IsRefused fault
       sealed_refused fault script refused input =
           behind_seal fault all_agree (run_refused set limits after first days today texts changing flights grid past fault loaded before script refused input)
+          (of_script again beside after texts changing fault (script input))
 
       pub sealed_large_script : IsTooLargeAmong today texts → IsLarge
       sealed_large_script over = large_behind all_agree (large_script set limits after first days today texts changing flights grid loaded past before over)
@@ -258,6 +292,7 @@ module _ (set limits after : Option (List ℕ)) (first days today : ℕ) (texts 
           → IsOfInput fault → IsRefused fault
       sealed_unchanged scripts are fault of refused input =
           behind_seal fault all_agree (run_unchanged set limits after first days today texts changing flights grid past scripts fault loaded before are of refused input)
+          (of_changes again beside after texts changing fault (of input))
 
       pub sealed_large_changes : (scripts : List (List Request)) → AreScripts today texts scripts
           → IfSome changing (λ bytes. most_change_bytes < length bytes) → IsLarge

@@ -15,7 +15,7 @@ use Rattle.seat_seal.specs.declared.run.Run.{Run}
 use Rattle.seat_seal.specs.declared.seal.Sealed.{Sealed as Belonging}
 use Rattle.seat_desk.specs.Loading.{Bytes}
 use Rattle.seat_desk.specs.declared.fault.DeskFault.{DeskFault}
-use Rattle.seat_desk.specs.declared.fault.DeskFault.TheVariants.{Seal}
+use Rattle.seat_desk.specs.declared.fault.DeskFault.TheVariants.{Book, NoBehind, Seal, Unasked}
 use Rattle.seat_desk.specs.declared.inputs.Inputs.{Inputs}
 use Rattle.seat_scripts.specs.Against.{OfFour}
 use Rattle.seat_scripts.specs.Both.{BothAgree}
@@ -67,6 +67,13 @@ abbrev pub IsJudgedOf : {S L : Type 0} → Option SealFault → Bool → Beside 
 IsJudgedOf answer again beside set limits inputs after given journal texts changing =
     OfFour (set inputs.set) (limits inputs.limits) after journal
     (λ xs ys older zs. IsJudged answer again given beside older zs texts changing)
+
+-- a fault that is looked for behind what the runs have against it: a line that is not asked, lines that the journal lacks, a call
+abbrev pub IsBehindRuns : DeskFault → Type 0
+IsBehindRuns (Unasked session call) = Unit {0}
+IsBehindRuns NoBehind = Unit {0}
+IsBehindRuns (Book session call) = Unit {0}
+IsBehindRuns _ = ⊥
 
 -- both journals agree with what stands beside them and all inputs are right, but this is what the runs have against them
 pub record IsRefusedByRuns (besides : Besides) (again : Bool) (set limits : List ℕ) (first days today : ℕ) (after : List ℕ)

@@ -14,7 +14,7 @@ use Rattle.seat_desk.specs.AuditDesk.{IsUnlawful, most_journal_bytes}
 use Rattle.seat_desk.specs.Loading.{Bytes, IsBehind}
 use Rattle.seat_desk.specs.Sealing.{Agrees, IsBesideFault}
 use Rattle.seat_desk.specs.declared.fault.DeskFault.{DeskFault}
-use Rattle.seat_desk.specs.declared.fault.DeskFault.TheVariants.{Seal}
+use Rattle.seat_desk.specs.declared.fault.DeskFault.TheVariants.{Book, Seal}
 use Rattle.seat_desk.specs.declared.inputs.Inputs.{Inputs}
 use Rattle.seat_scripts.specs.Asked.{FailsRun, HasLoaded, IsAsked, IsTooLargeRun, OfThree}
 use Rattle.seat_scripts.specs.Repeated.{IsRepeated}
@@ -43,7 +43,7 @@ abbrev pub AgreesOf : {S L : Type 0} → Beside → Bytes S → Bytes L → Inpu
 AgreesOf beside set limits inputs journal =
     OfThree (set inputs.set) (limits inputs.limits) journal (λ xs ys zs. Agrees beside xs ys inputs.first inputs.days zs)
 
--- all inputs are right, but the last run's seal names a script or the changes, which are not to be booked again
+-- all inputs are right, but a run that the seal knows names a script or the changes, which are not to be booked again
 pub record IsRefusedAgain (again : Bool) (beside : Beside) (set limits : List ℕ) (first days today : ℕ) (after : List ℕ)
     (texts : List (Option (List ℕ))) (changing : Option (List ℕ)) (fault : DeskFault) : Type 0 where
   pub flights : List Flown
@@ -56,6 +56,19 @@ pub record IsRefusedAgain (again : Bool) (beside : Beside) (set limits : List �
   pub is_repeated : IsRepeated true beside after texts changing
   pub fault_is : fault ≡ Seal Again
 
+-- a call is refused only where the seal names no script and no changes, or these are to be booked again: what is booked
+-- already is told first, also where the journal has no room for it
+abbrev pub IsCallOnce : Bool → Beside → List ℕ → List (Option (List ℕ)) → Option (List ℕ) → DeskFault → Type 0
+IsCallOnce again beside after texts changing (Book session call) =
+    again ≡ false → IsRepeated false beside after texts changing
+IsCallOnce again beside after texts changing _ = Unit {0}
+
+-- the fault is one of the run
+pub record IsRefusedOnce (again : Bool) (beside : Beside) (set limits : List ℕ) (first days today : ℕ) (after : List ℕ)
+    (texts : List (Option (List ℕ))) (changing : Option (List ℕ)) (fault : DeskFault) : Type 0 where
+  pub refused : IsRefusedRun set limits first days today after texts changing fault
+  pub once : IsCallOnce again beside after texts changing fault
+
 -- the fault is that of the set, of its flights, of the limits, of what stands beside the older journal, or of that journal; or what
 -- stands there agrees, and the fault is one of the run, or that it is booked already
 abbrev pub IsRefusedSealedRun : Beside → Bool → List ℕ → List ℕ → ℕ → ℕ → ℕ → List ℕ → List (Option (List ℕ))
@@ -63,7 +76,7 @@ abbrev pub IsRefusedSealedRun : Beside → Bool → List ℕ → List ℕ → �
 IsRefusedSealedRun beside again set limits first days today after texts changing fault =
     IsRefusedAnswer IsUnlawful beside set limits first days after fault
     ⊎ IsBehind (Agrees beside set limits first days after)
-    (IsRefusedRun set limits first days today after texts changing fault
+    (IsRefusedOnce again beside set limits first days today after texts changing fault
     ⊎ IsRefusedAgain again beside set limits first days today after texts changing fault)
 
 abbrev pub IsRefusedSealedRunOf : {S L : Type 0} → Beside → Bool → Bytes S → Bytes L → Inputs S L → ℕ → Option (List ℕ)

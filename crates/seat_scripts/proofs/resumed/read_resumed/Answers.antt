@@ -1,7 +1,8 @@
 use Rattle.std.proofs.Common.{None, Some, inl, inr, map, refl}
 use Rattle.std.proofs.lemmas.Result.{err_from_is_err_and}
 use Rattle.seat_scripts.proofs.OneTaken.{for_each, for_taken, with_taken}
-use Rattle.seat_scripts.proofs.Judged.{judged, refused_by_runs}
+use Rattle.seat_scripts.proofs.Judged.{judged, never_of_changes, never_of_reading, never_of_seal, refused_by_runs}
+use Rattle.seat_scripts.specs.Begun.{IsJudged, IsJudgedOf}
 use Rattle.seat_scripts.proofs.Seals.{runs_of}
 use Rattle.seat_scripts.proofs.SealedBoth.{large_behind, refused_behind}
 use Rattle.seat_scripts.proofs.Still.{asked_still, behind_still, has_ready, large_still, no_rest_still, still_large, still_read, unchanged_still, whole_still}
@@ -165,3 +166,40 @@ returns-clause-once g c =
 pub returns-clause-earlier : goal.returns-clause-earlier
 returns-clause-earlier g c =
     runs_of c.args.besides.now.journal (g.J.Read.remaining c.args.journal.now) c.in_ok-flights.field-0.known c.runs_known.result c.in_ok-flights.ensures.known c.runs_known.ensures
+
+pub returns-in_err-flights-clause-judged : goal.returns-in_err-flights-clause-judged
+returns-in_err-flights-clause-judged g c =
+    let p = err_from_is_err_and c.from_residual.result c.from_residual.ensures.1 in
+    rw (p.1, p.2) (λ behind. never_of_reading (λ xs ys older zs. IsJudged None c.args.again c.args.given c.args.besides.now.journal older zs (map g.C.Read.remaining c.args.scripts.now) (g.D.Read.remaining c.args.changes.now))
+    (g.S.Read.remaining c.args.inputs.now.set) (g.L.Read.remaining c.args.inputs.now.limits) (g.A.Read.remaining c.args.after.now) (g.J.Read.remaining c.args.journal.now)
+    c.in_err-flights.field-0.0 c.in_err-flights.ensures.read behind)
+
+pub returns-in-Err-clause-judged : goal.returns-in-Err-clause-judged
+returns-in-Err-clause-judged g c = λ behind. never_of_changes
+    (IsJudgedOf None c.args.again c.args.besides.now.journal (g.S.Read.remaining) (g.L.Read.remaining) c.args.inputs.now (g.A.Read.remaining c.args.after.now) c.args.given (g.J.Read.remaining c.args.journal.now) (map g.C.Read.remaining c.args.scripts.now) (g.D.Read.remaining c.args.changes.now))
+    c.in-Err.fault c.in-Err.ensures.changes behind
+
+pub returns-in_err-of_runs-clause-judged : goal.returns-in_err-of_runs-clause-judged
+returns-in_err-of_runs-clause-judged g c =
+    let p = err_from_is_err_and c.from_residual-in_err-of_runs.result c.from_residual-in_err-of_runs.ensures.1 in
+    let said = c.in_err-of_runs.ensures.fault in
+    rw (p.1, p.2) (λ behind. never_of_seal
+    (IsJudgedOf None c.args.again c.args.besides.now.journal (g.S.Read.remaining) (g.L.Read.remaining) c.args.inputs.now (g.A.Read.remaining c.args.after.now) c.args.given (g.J.Read.remaining c.args.journal.now) (map g.C.Read.remaining c.args.scripts.now) (g.D.Read.remaining c.args.changes.now))
+    c.in_err-of_runs.field-0.0 said.0 said.1 behind)
+
+pub returns-in_err-rest-clause-judged : goal.returns-in_err-rest-clause-judged
+returns-in_err-rest-clause-judged g c =
+    let p = err_from_is_err_and c.from_residual-in_err-rest.result c.from_residual-in_err-rest.ensures.1 in
+    let set = g.S.Read.remaining c.args.inputs.now.set in
+    let limits = g.L.Read.remaining c.args.inputs.now.limits in
+    let after = g.A.Read.remaining c.args.after.now in
+    let journal = g.J.Read.remaining c.args.journal.now in
+    let first = c.args.inputs.now.first in
+    let days = c.args.inputs.now.days in
+    let texts = map g.C.Read.remaining c.args.scripts.now in
+    let changing = g.D.Read.remaining c.args.changes.now in
+    rw (p.1, p.2) (λ behind. judged set limits after journal first days c.args.today texts changing c.args.given c.args.besides.now c.args.again
+    c.in_ok-flights.field-0.flights c.in_ok-flights.field-0.older c.in_ok-flights.field-0.core c.in_ok-flights.field-0.scripts c.in_ok-flights.ensures.ok
+    c.in_ok-flights.field-0.known c.in_ok-flights.ensures.known c.in_ok-flights.field-0.more c.in_ok-flights.ensures.taken
+    c.in_ok-flights.field-0.digests c.as_slice.result.now c.in_ok-flights.ensures.digests c.as_slice.ensures c.in-Ok.changes.digest c.in-Ok.ensures.digest
+    None c.in_ok-of_runs.ensures.ok)
