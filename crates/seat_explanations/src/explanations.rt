@@ -525,7 +525,7 @@ const JOURNALS: &[Explanation] = &[
         behind: "",
         code: "R2",
         numbers: NONE,
-        text: "An input is too large: a data set or a journal has at most 256 MiB, any other input 16 MiB.\nOr what stands behind the lines of a journal that is to be recovered is a line without an end, of more than 256 KiB.\nOr the run would be the 129th of its day: a seal names 128. seatdesk -v names the file.",
+        text: "An input is too large: a data set or a journal has at most 256 MiB, any other input 16 MiB.\nOr what stands behind the lines of a journal that is to be recovered is a line without an end, of more than 256 KiB.\nOr the run would be the 129th of its day, and a seal names 128: take it away, and seatdesk seal writes one that names none.\nseatdesk -v names the file.",
     },
     Explanation {
         behind: "",

@@ -1,5 +1,5 @@
 -- What `seal` writes: the seal of a journal that an audit accepts.
-use Rattle.std.specs.Prelude.{◌≡◌, ◌≤◌, ◌⊎◌, ℕ, false, List, [], length, Option, None, Some, IfSome}
+use Rattle.std.specs.Prelude.{◌≡◌, ◌≤◌, ◌⊎◌, ℕ, true, false, List, [], length, Option, None, Some, IfSome}
 use Rattle.airline_base.specs.Days.{IsDate}
 use Rattle.ssim_flights.specs.declared.flight.Flight.{Flight as Flown}
 use Rattle.seat_disk.specs.Leaving.{Only, replaced_by}
@@ -11,10 +11,12 @@ use Rattle.seat_seal.specs.Fronts.{front_of}
 use Rattle.seat_seal.specs.Imprints.{imprint_of}
 use Rattle.seat_seal.specs.Known.{AreRunsOf}
 use Rattle.seat_seal.specs.Reading.{one_entry}
+use Rattle.seat_seal.specs.Rules.{is_sealed}
 use Rattle.seat_seal.specs.Text.{seal_text}
 use Rattle.seat_seal.specs.declared.beside.Basis.{Basis}
 use Rattle.seat_seal.specs.declared.beside.Beside.{Beside}
 use Rattle.seat_seal.specs.declared.comparing.SealFault.{SealFault}
+use Rattle.seat_seal.specs.declared.comparing.SealFault.TheVariants.{Journal}
 use Rattle.seat_seal.specs.declared.imprint.Imprint.{Imprint}
 use Rattle.seat_seal.specs.declared.run.Run.{Run}
 use Rattle.seat_seal.specs.declared.seal.JournalState.TheVariants.{Closed}
@@ -24,6 +26,8 @@ use Rattle.seat_desk.specs.AuditDesk.{IsReplayOf, most_journal_bytes}
 use Rattle.seat_desk.specs.Desk.{HasFailed}
 use Rattle.seat_desk.specs.Loading.{Bytes, IsGround}
 use Rattle.seat_desk.specs.Sealing.{basis_of}
+use Rattle.seat_desk.specs.declared.fault.DeskFault.{DeskFault}
+use Rattle.seat_desk.specs.declared.fault.DeskFault.TheVariants.{Seal}
 use Rattle.seat_desk.specs.declared.inputs.Inputs.{Inputs}
 
 -- what stands beside a journal differs from it, and its runs are not known
@@ -52,9 +56,9 @@ pub record IsEntryOf (basis : Basis) (imprint : Imprint) (lines : ℕ) (runs : L
   pub state : entry.journal.state ≡ Closed
   pub runs_are : entry.runs ≡ runs
 
--- the bytes of the journal are a legal history over the ladders of these inputs, and the text is that of its seal, with the runs that are
--- kept of what stands beside it
-pub record IsSealOf (beside : Beside) (set limits : List ℕ) (first days : ℕ) (journal text : List ℕ) : Type 0 where
+-- the bytes of the journal are a legal history over the ladders of these inputs, and this is the entry of it, with the runs that are kept
+-- of what stands beside it
+pub record IsOwnEntry (beside : Beside) (set limits : List ℕ) (first days : ℕ) (journal : List ℕ) (entry : Belonging) : Type 0 where
   pub flights : List Flown
   pub rows : List LimitRow
   pub is_ground : IsGround set limits first days flights rows
@@ -63,15 +67,32 @@ pub record IsSealOf (beside : Beside) (set limits : List ℕ) (first days : ℕ)
   pub is_replay : IsReplayOf (authorised_grid rows flights) journal core
   pub runs : List Run
   pub are_kept : AreKept beside (basis_of set limits first days) journal runs
-  pub entry : Belonging
   pub is_entry : IsEntryOf (basis_of set limits first days) (imprint_of (front_of journal)) (length core.journal) runs entry
+
+-- the text is that of the journal's seal, which keeps the rules of one
+pub record IsSealOf (beside : Beside) (set limits : List ℕ) (first days : ℕ) (journal text : List ℕ) : Type 0 where
+  pub entry : Belonging
+  pub is_own : IsOwnEntry beside set limits first days journal entry
+  pub rules : is_sealed entry ≡ true
   pub is_text : text ≡ seal_text (one_entry (Sealed entry))
+
+-- no seal may have the journal's entry: a run that is kept began behind more lines than the journal has
+pub record IsMisnumbered (beside : Beside) (set limits : List ℕ) (first days : ℕ) (journal : List ℕ) (fault : DeskFault) : Type 0 where
+  pub entry : Belonging
+  pub is_own : IsOwnEntry beside set limits first days journal entry
+  pub broken : is_sealed entry ≡ false
+  pub fault_is : fault ≡ Seal Journal
 
 -- where the bytes of the three inputs are known
 abbrev pub IsSealOfKnown : {S L : Type 0} → Beside → Bytes S → Bytes L → Inputs S L → Option (List ℕ) → List ℕ → Type 0
 IsSealOfKnown beside set limits inputs journal text =
     IfSome (set inputs.set) (λ xs. IfSome (limits inputs.limits)
     (λ ys. IfSome journal (λ zs. IsSealOf beside xs ys inputs.first inputs.days zs text)))
+
+abbrev pub IsMisnumberedOf : {S L : Type 0} → Beside → Bytes S → Bytes L → Inputs S L → Option (List ℕ) → DeskFault → Type 0
+IsMisnumberedOf beside set limits inputs journal fault =
+    IfSome (set inputs.set) (λ xs. IfSome (limits inputs.limits)
+    (λ ys. IfSome journal (λ zs. IsMisnumbered beside xs ys inputs.first inputs.days zs fault)))
 
 -- nothing stands beside the journal, and nothing must
 abbrev pub nothing : Beside

@@ -1,15 +1,18 @@
 //! `seal`: the seal of a journal that an audit accepts.
-ghost use Rattle.std.specs.Prelude.{◌≡◌, ◌≢◌, ◌⊎◌, ◌≤◌, IfErr, IfOk, OnErr, OnOk};
+ghost use Rattle.std.specs.Prelude.{◌≡◌, ◌≢◌, ◌⊎◌, ◌≤◌, true, false, IfErr, IfOk, OnErr, OnOk};
 ghost use Rattle.airline_base.specs.Noting.{noted};
 ghost use Rattle.ssim_flights.specs.Right.{IsOfCentury};
+ghost use Rattle.seat_disk.specs.Keeping.{KeepsNoMore};
 ghost use Rattle.seat_disk.specs.Leaving.{OldOr, Only, replaced_by};
 ghost use Rattle.seat_seal.specs.Reading.{one_entry};
+ghost use Rattle.seat_seal.specs.Rules.{is_sealed};
 ghost use Rattle.seat_seal.specs.Text.{seal_text};
+ghost use Rattle.seat_seal.specs.declared.comparing.SealFault.TheVariants.{Journal};
 ghost use Rattle.seat_seal.specs.declared.seal.SealEntry.TheVariants.{Sealed as Told};
 ghost use Rattle.seat_desk.specs.Answering.{HasFirstFailed, IsFirstTooLargeOf, IsRefusedAnswerOf};
 ghost use Rattle.seat_desk.specs.AuditDesk.{IsUnlawful};
 ghost use Rattle.seat_desk.specs.Desk.{HasFailed, InputFailed, IsOfInput};
-ghost use Rattle.seat_reports.specs.SealDesk.{AreKept, IsEntryOf, IsPut, IsSealOfKnown, PuttingFailed, nothing};
+ghost use Rattle.seat_reports.specs.SealDesk.{AreKept, IsEntryOf, IsMisnumberedOf, IsPut, IsSealOfKnown, PuttingFailed, nothing};
 
 use airline_base::NotedRead;
 use seat_desk::{
@@ -17,14 +20,15 @@ use seat_desk::{
 };
 use seat_disk::{Replaced, replace_whole};
 use seat_seal::{
-    Basis, Beside, Date, Imprint, JournalState, Runs, Seal, SealEntry, SealText, Sealed,
-    SealedJournal, fault_beside, front_of, imprint_of, known_of, runs_known, seal_text,
+    Basis, Beside, Date, Imprint, JournalState, Runs, Seal, SealEntry, SealFault, SealText, Sealed,
+    SealedJournal, fault_beside, front_of, imprint_of, is_sealed, known_of, runs_known, seal_text,
 };
 use std::alloc::Global;
 
 /// Reads a data set, limit rows and a journal as an audit reads them, and puts the journal's seal in place of what its file has: at any
 /// moment a crash leaves what it would have left before, or the new seal, whole. It is closed, and names the runs that what stands beside
-/// the journal so far knows, where that has no fault, and else none. What an audit refuses is refused here.
+/// the journal so far knows, where that has no fault, and else none; a run that began behind more lines than the journal has is of
+/// another journal, and refused. What an audit refuses is refused here.
 pub fn desk_seal<S: NotedRead, L: NotedRead, J: NotedRead, K: Replaced>(
     alloc: Global,
     inputs: &mut Inputs<S, L>,
@@ -37,7 +41,8 @@ pub fn desk_seal<S: NotedRead, L: NotedRead, J: NotedRead, K: Replaced>(
     ensures ok { OnOk result (IsPut (IsSealOfKnown beside.now S.remaining L.remaining inputs.old (J.remaining journal.old))
         (K.named seal.old) (K.named seal.new) (K.may_leave seal.new)) }
     ensures fault { IfErr result (λ f. IsOfInput f →
-        IsRefusedAnswerOf IsUnlawful nothing S.remaining L.remaining inputs.old (J.remaining journal.old) f) }
+        IsRefusedAnswerOf IsUnlawful nothing S.remaining L.remaining inputs.old (J.remaining journal.old) f
+        ⊎ IsMisnumberedOf beside.now S.remaining L.remaining inputs.old (J.remaining journal.old) f) }
     ensures large { IfErr result (λ f. f ≡ DeskFault.TooLarge
         → IsFirstTooLargeOf S.remaining L.remaining inputs.old (J.remaining journal.old)) }
     ensures device { IfErr result (λ f. f ≡ DeskFault.Device →
@@ -46,6 +51,7 @@ pub fn desk_seal<S: NotedRead, L: NotedRead, J: NotedRead, K: Replaced>(
         ⊎ PuttingFailed K.failure_count K.named seal.old seal.new
         (IsSealOfKnown beside.now S.remaining L.remaining inputs.old (J.remaining journal.old))) }
     ensures untouched { IfErr result (λ f. f ≢ DeskFault.Device → seal.new ≡ seal.old) }
+    ensures only { KeepsNoMore (K.kept_may_leave seal.old) (K.kept_may_leave seal.new) }
 {
     let text = match sealed(alloc, inputs, journal, beside) {
         Ok(text) => text,
@@ -69,7 +75,8 @@ fn sealed<S: NotedRead, L: NotedRead, J: NotedRead>(
     ensures ok { IfOk result
         (λ text. IsSealOfKnown beside.now S.remaining L.remaining inputs.old (J.remaining journal.old) text.items) }
     ensures fault { IfErr result (λ f. IsOfInput f →
-        IsRefusedAnswerOf IsUnlawful nothing S.remaining L.remaining inputs.old (J.remaining journal.old) f) }
+        IsRefusedAnswerOf IsUnlawful nothing S.remaining L.remaining inputs.old (J.remaining journal.old) f
+        ⊎ IsMisnumberedOf beside.now S.remaining L.remaining inputs.old (J.remaining journal.old) f) }
     ensures large { IfErr result (λ f. f ≡ DeskFault.TooLarge
         → IsFirstTooLargeOf S.remaining L.remaining inputs.old (J.remaining journal.old)) }
     ensures device { IfErr result (λ f. f ≡ DeskFault.Device →
@@ -92,8 +99,12 @@ fn sealed<S: NotedRead, L: NotedRead, J: NotedRead>(
     };
     let imprint = imprint_of(front_of(&bytes));
     let runs = kept_runs(beside, &basis, &bytes);
-    match replayed(alloc, grid, bytes) {
-        Ok(core) => Ok(text_of(entry_of(&basis, imprint, core.journal().len() as u32, runs))),
+    let core = match replayed(alloc, grid, bytes) {
+        Ok(core) => core,
+        Err(fault) => return Err(fault),
+    };
+    match text_of(entry_of(&basis, imprint, core.journal().len() as u32, runs)) {
+        Ok(text) => Ok(text),
         Err(fault) => Err(fault),
     }
 }
@@ -108,15 +119,21 @@ fn kept_runs(beside: &Beside<'_>, basis: &Basis, journal: &[u8]) -> Runs
     }
 }
 
-/// A seal of this entry alone.
-fn text_of(entry: Sealed) -> SealText
-    ensures { result.items ≡ seal_text (one_entry (Told entry)) }
+/// A seal of this entry alone, where it keeps the rules of one.
+fn text_of(entry: Sealed) -> Result<SealText, DeskFault>
+    ensures ok { IfOk result (λ text. text.items ≡ seal_text (one_entry (Told entry))) }
+    ensures rules { OnOk result (is_sealed entry ≡ true) }
+    ensures broken { OnErr result (is_sealed entry ≡ false) }
+    ensures fault { IfErr result (λ f. f ≡ DeskFault.Seal Journal) }
 {
+    if !is_sealed(&entry) {
+        return Err(DeskFault::Seal(SealFault::Journal));
+    }
     let seal = Seal {
         first: SealEntry::Sealed(entry),
         second: None,
     };
-    seal_text(&seal)
+    Ok(seal_text(&seal))
 }
 
 fn entry_of(basis: &Basis, imprint: Imprint, lines: u32, runs: Runs) -> Sealed
@@ -144,6 +161,7 @@ fn put_seal<K: Replaced>(seal: &mut K, text: &[u8]) -> Result<(), DeskFault>
     ensures counted { OnErr result (HasFailed K.failure_count seal.old seal.new) }
     ensures either { OnErr result ((K.named seal.new ≡ K.named seal.old)
         ⊎ (K.named seal.new ≡ replaced_by (K.named seal.old) text.now)) }
+    ensures only { KeepsNoMore (K.kept_may_leave seal.old) (K.kept_may_leave seal.new) }
 {
     match replace_whole(seal, text, false) {
         Ok(()) => Ok(()),
