@@ -1,4 +1,5 @@
 pub mod Besides
+pub mod Closing
 pub mod Comparing
 pub mod Dates
 pub mod Digests

@@ -1,6 +1,7 @@
 //! The runs that a seal names.
 ghost use Rattle.std.specs.Prelude.{◌≡◌, ◌<◌, ◌≤◌, ◌++◌, ◌∷◌, [], ◌==◌, filter, length};
 ghost use Rattle.airline_base.specs.Bytes.{same_text};
+ghost use Rattle.seat_seal.specs.Closing.{runs_within};
 ghost use Rattle.seat_seal.specs.Runs.{are_same_scripts, is_other_of_day, is_same_run, is_same_script, lines_behind, same_digests};
 ghost use Rattle.seat_seal.specs.Text.{most_runs};
 
@@ -89,12 +90,25 @@ impl Runs {
     {
         keep_beside(&mut self.items, run);
     }
+
+    /// Leaves the runs that began behind no more than so many lines.
+    pub fn keep_within(&mut self, lines: u32)
+        ensures { self.new ≡ runs_within lines self.old }
+    {
+        keep_within(&mut self.items, lines);
+    }
 }
 
 fn keep_beside(runs: &mut ArrayVec<Run, 128>, run: &Run)
     ensures { runs.new.items ≡ filter (is_other_of_day run.now) runs.old.items }
 {
     runs.retain(|other| is_other_of_day(run, other));
+}
+
+fn keep_within(runs: &mut ArrayVec<Run, 128>, lines: u32)
+    ensures { runs.new.items ≡ runs_within lines runs.old.items }
+{
+    runs.retain(|run| run.behind <= lines);
 }
 
 /// How many lines stand ahead of the last run's scripts, 0 where there is no run.

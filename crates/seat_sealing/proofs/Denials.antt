@@ -12,7 +12,7 @@ use Rattle.seat_seal.specs.Rules.{HasDigests, HasTypes, IsSeal, is_entry, is_sea
 use Rattle.seat_disk.specs.Leaving.{Only}
 use Rattle.seat_seal.specs.Fronts.{front_of}
 use Rattle.seat_sealing.specs.Laws.{AreEntriesOf}
-use Rattle.seat_sealing.specs.Pairs.{HasEntry, IsEntryOf, NoneDenied, NoneDeniedSince}
+use Rattle.seat_sealing.specs.Pairs.{HasEntry, IsEntryOf, Names, NoneDenied, NoneDeniedSince}
 use Rattle.seat_sealing.specs.Steps.{InOrder, IsClosing, IsReplacing, IsSealing, alone_text, both_text}
 use Rattle.seat_sealing.proofs.Known.{sealed_is_its}
 
@@ -88,6 +88,16 @@ has_alone older newer journal is same = record {
   entry = Sealed newer;
   found = one_found newer (imprint_of (front_of journal)) (imprint_of journal) (sealed_is_its newer (imprint_of (front_of journal)) (imprint_of journal) same);
 }
+
+pub both_name : (older : SealEntry) (newer : Belonging) → HasTypes older → HasDigests newer
+    → is_seal (two_entries older (Sealed newer)) ≡ true → Names (both_text older newer) newer.journal.imprint
+both_name older newer first second rules =
+    record { each = λ journal same. has_newer older newer journal (are_both older newer first second rules) same }
+
+pub alone_names : (older : SealEntry) (newer : Belonging) → HasTypes older → HasDigests newer
+    → is_seal (two_entries older (Sealed newer)) ≡ true → Names (alone_text newer) newer.journal.imprint
+alone_names older newer first second rules =
+    record { each = λ journal same. has_alone older newer journal (are_both older newer first second rules) same }
 
 -- ---- steps
 

@@ -1,5 +1,6 @@
 -- A journal and the seal beside it, and what a crash may leave of both: of each file one of its outcomes, so each pair of them.
 use Rattle.std.specs.Prelude.{◌≡◌, ◌⊎◌, ℕ, IsTrue, List, Some}
+use Rattle.seat_seal.specs.declared.imprint.Imprint.{Imprint}
 use Rattle.seat_seal.specs.declared.seal.Seal.{Seal}
 use Rattle.seat_seal.specs.declared.seal.SealEntry.{SealEntry}
 use Rattle.seat_seal.specs.Comparing.{entry_for, is_its_journal}
@@ -15,6 +16,10 @@ pub record HasEntry (seal journal : List ℕ) : Type 0 where
   pub text : seal ≡ seal_text said
   pub entry : SealEntry
   pub found : entry_for said (imprint_of (front_of journal)) (imprint_of journal) ≡ Some entry
+
+-- a reader finds in the seal the entry of each journal with this imprint of its head and entries
+pub record Names (seal : List ℕ) (imprint : Imprint) : Type 0 where
+  pub each : (journal : List ℕ) → imprint ≡ imprint_of (front_of journal) → HasEntry seal journal
 
 -- the entry is that of whatever a crash leaves of the journal
 pub record IsEntryOf (entry : SealEntry) (journals : List ℕ → Type 0) : Type 0 where

@@ -10,5 +10,5 @@ mod writing;
 
 pub use laws::{ends_are_last, no_crash_denies};
 pub use older::{entry_beside, older_entry};
-pub use replacing::{may_be_sealed, replace_sealed};
+pub use replacing::{SealTexts, may_be_sealed, replace_sealed, seal_texts};
 pub use writing::write_sealed;
