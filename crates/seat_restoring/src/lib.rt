@@ -2,6 +2,7 @@
 //! It knows the file of a journal by what it is asked of it, and nothing of names, of locks or of who writes lines.
 #![tactic(auto)]
 
+mod comparing;
 mod recover;
 
 pub use recover::desk_recover;

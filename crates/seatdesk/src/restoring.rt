@@ -1,17 +1,13 @@
 //! `recover` over the real file of a journal, which it locks.
 //! It knows which file is which, and nothing of what stands in a journal.
-ghost use Rattle.std.specs.Prelude.{◌≤◌};
-ghost use Rattle.ssim_flights.specs.Right.{IsOfCentury};
+ghost use Rattle.std.specs.Prelude.{◌≡◌, ◌⊎◌, IfErr, IsTrue};
+ghost use Rattle.seat_files.specs.Refusals.{is_failure, is_of_file};
 
 use crate::commands::{days_of, inputs_of};
-use airline_base::{Counted, Day, Failures};
-use seat_desk::{DeskFault, Inputs, answer_question};
-use seat_files::{
-    Fault, Guard, Input, Output, Refusal, SealFile, Shown, opened, standard_output, told,
-};
-use seat_reports::Audit;
+use airline_base::Failures;
+use seat_desk::{DeskFault, Inputs};
+use seat_files::{Fault, Guard, Input, Output, Refusal, SealFile, Shown, opened, standard_output};
 use seat_restoring::desk_recover;
-use seat_seal::SealFault;
 use seat_tape::{BesideFile, OpenFault, TapeFile, open};
 use seat_words::Horizon;
 use std::{fs, io};
@@ -43,12 +39,16 @@ pub fn recover<'a>(
         Ok(tape) => tape,
         Err(fault) => return Err(unopened(journal, fault)),
     };
-    agrees_with_seal(rt, over, &days, journal)?;
+    let seal = match seal_beside(rt, journal) {
+        Ok(seal) => seal,
+        Err(refusal) => return Err(refusal),
+    };
     let mut beside = BesideFile::of(rt, path.as_str());
     let mut out = standard_output(rt);
     let outcome = desk_recover(
         rt.alloc(),
         &mut inputs,
+        &seal.as_beside(),
         is_said,
         &mut tape,
         &mut beside,
@@ -61,62 +61,18 @@ pub fn recover<'a>(
     }
 }
 
-/// What stands beside the journal is compared as an audit does it. That the journal is another than the sealed one is what a
-/// recovery is for.
-fn agrees_with_seal<'a>(
-    rt: &HostRuntime,
-    over: &Horizon<'a>,
-    days: &(Day, u16),
-    journal: &'a str,
-) -> Result<(), Refusal<'a>>
-    requires first { IsOfCentury days.now.0 }
-    requires days { (1 ≤ days.now.1) × (days.now.1 ≤ 366) }
+/// What stands beside the journal.
+fn seal_beside<'a>(rt: &HostRuntime, journal: &'a str) -> Result<SealFile, Refusal<'a>>
+    ensures refused { IfErr result (λ refusal. IsTrue (is_failure refusal.fault)) }
 {
-    let mut journal = opened(rt, journal)?;
-    let seal = SealFile::beside(rt, &journal, false)?;
-    let beside = seal.as_beside();
-    if beside.text.is_none() {
-        return Ok(());
-    }
-    let mut inputs = match inputs_of(rt, over, *days) {
-        Ok(inputs) => inputs,
-        Err(refusal) => return Err(refusal),
-    };
-    let mut unheard = Counted::new(Vec::new(rt.alloc()));
-    let outcome = answer_question(
-        rt.alloc(),
-        &Audit,
-        &mut inputs,
-        &mut journal,
-        &beside,
-        &mut unheard,
-    );
-    match told(outcome, &[&inputs.set, &inputs.limits, &journal], &[]) {
-        Ok(()) => Ok(()),
-        Err(refusal) => {
-            if stops(&refusal.fault) {
-                Err(refusal)
-            } else {
-                Ok(())
-            }
-        }
-    }
-}
-
-/// Whether a look at the seal ends with this fault: faults of the inputs' texts are told by what comes behind it.
-fn stops(fault: &Fault) -> bool {
-    match fault {
-        Fault::Desk(DeskFault::Seal(SealFault::Journal)) => false,
-        Fault::Desk(DeskFault::Seal(_)) => true,
-        Fault::Desk(DeskFault::Memory) => true,
-        Fault::Desk(DeskFault::Device) => true,
-        Fault::Desk(DeskFault::TooLarge) => true,
-        _ => false,
-    }
+    let journal = opened(rt, journal)?;
+    SealFile::beside(rt, &journal, false)
 }
 
 /// Why the journal is not opened.
-fn unopened<'a>(journal: &'a str, fault: OpenFault) -> Refusal<'a> {
+fn unopened<'a>(journal: &'a str, fault: OpenFault) -> Refusal<'a>
+    ensures { IsTrue (is_of_file result.fault) }
+{
     match fault {
         OpenFault::NotRegular => Refusal::barred(journal, "Is no regular file"),
         OpenFault::Taken => Refusal::barred(journal, "Another run has it"),
@@ -145,10 +101,16 @@ fn refused<'a>(
     tape: &TapeFile,
     beside: &BesideFile<'_>,
     out: &Output<'a>,
-) -> Refusal<'a> {
+) -> Refusal<'a>
+    // A file beside the journal that wants memory is told as that.
+    ensures { (result.fault ≡ Fault.Desk fault)
+        ⊎ ((fault ≡ DeskFault.Device) × (result.fault ≡ Fault.Desk DeskFault.Memory)) }
+{
     let refusal = Refusal::from(fault);
     match fault {
-        DeskFault::Journal(_) | DeskFault::Replay(_) => refusal.at(journal, None),
+        DeskFault::Seal(_) | DeskFault::Journal(_) | DeskFault::Replay(_) => refusal.at(
+            journal, None,
+        ),
         DeskFault::Device if tape.failures() > 0 => refusal.at(journal, tape.reason()),
         DeskFault::Device if beside.wants_memory() => Refusal::from(DeskFault::Memory),
         DeskFault::Device if beside.failures() > 0 => {
