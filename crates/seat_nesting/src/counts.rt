@@ -103,11 +103,14 @@ impl Counts {
         }
     }
 
-    /// Gives back so many seats of the class on each leg of the place.
+    /// Gives back so many seats of the class on each leg of the place. For none it looks at no leg.
     pub fn give(&mut self, place: Place, class: Class, seats: u16)
         requires { IsTrue (holds (limits_of self.old) (table_of self.old) place class seats) }
         ensures { Gives self.old self.new place class seats }
     {
+        if seats == 0 {
+            return;
+        }
         self.give_on(place.flight, place.from, class, seats);
         for leg in place.from..place.to {
             self.give_on(place.flight, leg + 1, class, seats);
