@@ -30,9 +30,9 @@ count_none (s ∷ lower) (n ∷ more) k h =
 pub is_fresh : (leg : LegSeats) → KeepsLimits leg → ((k : ℕ) → held_on leg k ≡ 0) → IsFresh leg
 is_fresh leg kept none = record { kept = kept; none = none }
 
-pub kept_none : (steps : Steps) (held : List ℕ) → IsLegLadder steps → length held ≡ 26
+pub kept_none : (steps : Steps) (held : List ℕ) → IsLegLadder steps → length steps ≤ length held
     → list_all (λ n. n == 0) held ≡ true → KeepsLimits (record { steps = steps; held = held })
-kept_none steps held ladder all h = record { ladder = ladder; counted = omega (arith, ladder.most); within = within_none steps (count_at steps held) (λ k. count_none steps held k h) }
+kept_none steps held ladder all h = record { ladder = ladder; counted = all; within = within_none steps (count_at steps held) (λ k. count_none steps held k h) }
 
 -- ---- a class and its rank
 
@@ -225,7 +225,7 @@ room_at (s ∷ lower) seats class (suc rank) d distinct lt is =
     let below = room_at lower seats class rank d distinct.1 (omega arith) is in
     rw other (omega (arith, below))
 
-get_or_any : {X : Type 0} (xs : List X) (i : ℕ) (d e : X) → i < length xs → get_or xs i d ≡ get_or xs i e
+pub get_or_any : {X : Type 0} (xs : List X) (i : ℕ) (d e : X) → i < length xs → get_or xs i d ≡ get_or xs i e
 get_or_any [] i d e h = absurd (omega arith)
 get_or_any (x ∷ xs) zero d e h = refl
 get_or_any (x ∷ xs) (suc i) d e h = get_or_any xs i d e (omega arith)

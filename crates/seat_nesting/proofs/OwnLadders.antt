@@ -8,80 +8,91 @@ use Rattle.std.proofs.lemmas.Option.{unwrap_or-slice_get, slice_get-get_or}
 use Rattle.seat_nesting.specs.Nesting.{Steps, IsLadder, steps_at}
 use Rattle.seat_nesting.specs.Counting.{LegSeats, Counted, leg_of, held_on, count_at, leg_at, limits_of, table_of, no_leg, KeepsLimits, IsWithinLimits}
 use Rattle.seat_nesting.specs.Changing.{with_limit, may_have, can_set, LegSets, Sets, FlightSets}
-use Rattle.seat_nesting.specs.OwnLadders.{steps_by, own_after, limits_after, may_come, leg_seen, with_limits, no_counted, counted_in, counted_at, legs_seen, all_seen, limits_in, all_limits, limits_at, may_come_on, yet_to_come, AreCounters, HaveOwn}
-use Rattle.seat_nesting.specs.declared.counted_leg.CountedLeg.{CountedLeg}
-use Rattle.seat_nesting.specs.declared.counted_leg.Limits.{Limits}
-use Rattle.seat_nesting.specs.declared.counted_leg.Limits.TheVariants.{Absent, Shared, Own}
+use Rattle.seat_nesting.specs.OwnLadders.{Pool, CountedLeg, pool_of, pool_after, steps_by, own_after, limits_after, may_come, leg_seen, with_limits, no_counted, counted_in, counted_at, legs_seen, all_seen, limits_in, all_limits, limits_at, may_come_on, put, yet_to_come, AreCounters, HaveOwn}
+use Rattle.seat_nesting.specs.declared.limits.Limits.{Limits}
+use Rattle.seat_nesting.specs.declared.limits.Limits.TheVariants.{Absent, Shared, Own}
 use Rattle.seat_nesting.proofs.CountChanges.{at_set, flight_sets, all_sets, within_sets}
 use Rattle.seat_nesting.proofs.LimitChanges.{ladder_seen, ladder_of_leg, ladder_with, leg_ladder_with, length_with, count_with, within_with, can_parts}
 use Rattle.seat_nesting.proofs.Rooms.{within_same}
-use Rattle.seat_nesting.proofs.CountedLegs.{at_map, legs_at, flight_seen, one_seen, leg_seen_at, limits_seen_at, put, Meets, met_leg, met_kept, met_inside, met_put, met_here, met_counted}
-
--- ---- two readings of a list that agree
-
-map_each : {X Y : Type 0} (f g : X → Y) (xs : List X) (d : X)
-    → ((j : ℕ) → f (unwrap_or (slice_get xs j) d) ≡ g (unwrap_or (slice_get xs j) d)) → map f xs ≡ map g xs
-map_each f g [] d e = refl
-map_each f g (x ∷ xs) d e = ap (λ y. y ∷ map f xs) (e zero) ∙ ap (λ ys. g x ∷ ys) (map_each f g xs d (λ j. e (suc j)))
-
--- and that agree everywhere but where the list is written
-set_but : {X Y : Type 0} (f g : X → Y) (xs : List X) (i : ℕ) (y : Y) (d : X)
-    → ((j : ℕ) → j ≢ i → f (unwrap_or (slice_get xs j) d) ≡ g (unwrap_or (slice_get xs j) d))
-    → set (map f xs) i y ≡ set (map g xs) i y
-set_but f g [] i y d e = refl
-set_but f g (x ∷ xs) zero y d e = ap (λ ys. y ∷ ys) (map_each f g xs d (λ j. e (suc j) (λ h. absurd cc)))
-set_but f g (x ∷ xs) (suc i) y d e = ap (λ z. z ∷ set (map f xs) i y) (e zero (λ h. absurd cc)) ∙ ap (λ ys. g x ∷ ys) (set_but f g xs i y d (λ j ne. e (suc j) (λ h. ne (omega (arith, h)))))
+use Rattle.seat_nesting.proofs.CountedLegs.{legs_at, flight_seen, one_seen, leg_seen_at, limits_seen_at, flight_there, Meets, met_leg, met_kept, met_inside}
+use Rattle.seat_nesting.proofs.FlatCounts.{at_map, of_held}
+use Rattle.seat_nesting.proofs.Parts.{map_each, set_but}
 
 -- ---- own ladders after a change
 
 own_index : (i j : ℕ) → Own i ≡ Own j → i ≡ j
 own_index i j e = cc
 
-steps_more : (own : List Steps) (new : Steps) (limits : Limits) → ((i : ℕ) → limits ≡ Own i → i < length own)
-    → steps_by (own ++ new ∷ []) limits ≡ steps_by own limits
-steps_more own new Absent there = refl
-steps_more own new (Shared steps) there = refl
-steps_more own new (Own i) there =
-    unwrap_or-slice_get (own ++ new ∷ []) i [] ∙ get_or_append_left own (new ∷ []) [] i (there i refl) ∙ sym (unwrap_or-slice_get own i [])
+-- an own ladder more
+steps_more : (pool : Pool) (new : Steps) (limits : Limits) → ((i : ℕ) → limits ≡ Own i → i < length pool.own)
+    → steps_by (pool_of pool.shared (pool.own ++ new ∷ [])) limits ≡ steps_by pool limits
+steps_more pool new Absent there = refl
+steps_more pool new (Shared i) there = refl
+steps_more pool new (Own i) there =
+    unwrap_or-slice_get (pool.own ++ new ∷ []) i [] ∙ get_or_append_left pool.own (new ∷ []) [] i (there i refl) ∙ sym (unwrap_or-slice_get pool.own i [])
 
-steps_other : (own : List Steps) (new : Steps) (i : ℕ) (limits : Limits) → limits ≢ Own i
-    → steps_by (set own i new) limits ≡ steps_by own limits
-steps_other own new i Absent ne = refl
-steps_other own new i (Shared steps) ne = refl
-steps_other own new i (Own j) ne =
-    unwrap_or-slice_get (set own i new) j [] ∙ get_or-set_other own i j new [] (λ e. ne (ap Own e)) ∙ sym (unwrap_or-slice_get own j [])
+-- another own ladder in the place of one
+steps_other : (pool : Pool) (new : Steps) (i : ℕ) (limits : Limits) → limits ≢ Own i
+    → steps_by (pool_of pool.shared (set pool.own i new)) limits ≡ steps_by pool limits
+steps_other pool new i Absent ne = refl
+steps_other pool new i (Shared j) ne = refl
+steps_other pool new i (Own j) ne =
+    unwrap_or-slice_get (set pool.own i new) j [] ∙ get_or-set_other pool.own i j new [] (λ e. ne (ap Own e)) ∙ sym (unwrap_or-slice_get pool.own j [])
 
 -- the leg that is changed
-steps_after : (own : List Steps) (limits : Limits) (class limit wait : ℕ) → ((i : ℕ) → limits ≡ Own i → i < length own)
-    → steps_by (own_after own limits class limit wait) (limits_after own limits)
-    ≡ with_limit (steps_by own limits) class limit wait
-steps_after own Absent class limit wait there = refl
-steps_after own (Shared steps) class limit wait there =
-    let new = with_limit steps class limit wait in
+steps_after : (pool : Pool) (limits : Limits) (class limit wait : ℕ) → ((i : ℕ) → limits ≡ Own i → i < length pool.own)
+    → steps_by (pool_after pool limits class limit wait) (limits_after pool limits)
+    ≡ with_limit (steps_by pool limits) class limit wait
+steps_after pool Absent class limit wait there = refl
+steps_after pool (Shared j) class limit wait there =
+    let own = pool.own in
+    let new = with_limit (steps_at pool.shared j) class limit wait in
     let none : length own - length own ≡ 0 = omega arith in
     unwrap_or-slice_get (own ++ new ∷ []) (length own) [] ∙ get_or-append_right own (new ∷ []) (length own) (length own) [] refl (omega arith) ∙ ap (λ (k : ℕ). get_or (new ∷ []) k []) none
-steps_after own (Own i) class limit wait there =
-    let new = with_limit (steps_at own i) class limit wait in
-    unwrap_or-slice_get (set own i new) i [] ∙ get_or-set_same own i new [] (there i refl)
+steps_after pool (Own i) class limit wait there =
+    let new = with_limit (steps_at pool.own i) class limit wait in
+    unwrap_or-slice_get (set pool.own i new) i [] ∙ get_or-set_same pool.own i new [] (there i refl)
 
--- the own ladder of this index
-pub own_at : (own : List Steps) (limits : Limits) (i : ℕ) (x : Steps) → limits ≡ Own i → i < length own
-    → x ≡ get_or own i x → steps_by own limits ≡ x
-own_at own limits i x e inside is = ap (steps_by own) e ∙ ap (λ (o : Option Steps). unwrap_or o []) (slice_get-get_or own i x inside) ∙ sym is
+-- the own ladder of this number
+pub own_at : (pool : Pool) (limits : Limits) (i : ℕ) (x : Steps) → limits ≡ Own i → i < length pool.own
+    → x ≡ get_or pool.own i x → steps_by pool limits ≡ x
+own_at pool limits i x e inside is = ap (steps_by pool) e ∙ ap (λ (o : Option Steps). unwrap_or o []) (slice_get-get_or pool.own i x inside) ∙ sym is
 
-pub own_written : (own : List Steps) (limits : Limits) (i : ℕ) (x new : Steps) (class limit wait : ℕ) → limits ≡ Own i
-    → i < length own → x ≡ get_or own i x → new ≡ with_limit x class limit wait
-    → set own i new ≡ own_after own limits class limit wait
-own_written own limits i x new class limit wait e inside is written =
-    ap (set own i) (written ∙ ap (λ (s : Steps). with_limit s class limit wait) (sym (own_at own (Own i) i x refl inside is))) ∙ ap (λ (l : Limits). own_after own l class limit wait) (sym e)
+pub own_written : (pool : Pool) (limits : Limits) (i : ℕ) (x new : Steps) (class limit wait : ℕ) → limits ≡ Own i
+    → i < length pool.own → x ≡ get_or pool.own i x → new ≡ with_limit x class limit wait
+    → set pool.own i new ≡ own_after pool limits class limit wait
+own_written pool limits i x new class limit wait e inside is written =
+    ap (set pool.own i) (written ∙ ap (λ (s : Steps). with_limit s class limit wait) (sym (own_at pool (Own i) i x refl inside is))) ∙ ap (λ (l : Limits). own_after pool l class limit wait) (sym e)
+
+-- the shared ladder of this number, which is there where it can be changed
+pub shared_inside : (pool : Pool) (limits : Limits) (i class limit wait : ℕ) → limits ≡ Shared i
+    → IsLadder (with_limit (steps_by pool limits) class limit wait) → i < length pool.shared
+shared_inside pool limits i class limit wait e is =
+    let here : IsLadder (with_limit (steps_at pool.shared i) class limit wait) = subst (λ (l : Limits). IsLadder (with_limit (steps_by pool l) class limit wait)) e is in
+    of pool.shared i (omega (arith, here.some, length_with (steps_at pool.shared i) class limit wait))
+  where
+    of : (shared : List Steps) (i : ℕ) → 0 < length (steps_at shared i) → i < length shared
+    of [] i h = absurd (omega (arith, h))
+    of (s ∷ shared) zero h = omega arith
+    of (s ∷ shared) (suc i) h = let below = of shared i h in omega (arith, below)
+
+pub shared_at : (pool : Pool) (limits : Limits) (i : ℕ) (x : Steps) → limits ≡ Shared i → i < length pool.shared
+    → x ≡ get_or pool.shared i x → steps_by pool limits ≡ x
+shared_at pool limits i x e inside is = ap (steps_by pool) e ∙ ap (λ (o : Option Steps). unwrap_or o []) (slice_get-get_or pool.shared i x inside) ∙ sym is
+
+pub own_joined : (pool : Pool) (limits : Limits) (i : ℕ) (x new : Steps) (class limit wait : ℕ) → limits ≡ Shared i
+    → i < length pool.shared → x ≡ get_or pool.shared i x → new ≡ with_limit x class limit wait
+    → pool.own ++ new ∷ [] ≡ own_after pool limits class limit wait
+own_joined pool limits i x new class limit wait e inside is written =
+    ap (λ (s : Steps). pool.own ++ s ∷ []) (written ∙ ap (λ (s : Steps). with_limit s class limit wait) (sym (shared_at pool (Shared i) i x refl inside is))) ∙ ap (λ (l : Limits). own_after pool l class limit wait) (sym e)
 
 -- a leg beside it: its own ladder, where it has one, is another
-steps_beside : (own : List Steps) (limits other : Limits) (class limit wait : ℕ)
-    → ((i : ℕ) → other ≡ Own i → i < length own) → ((i : ℕ) → limits ≡ Own i → other ≢ Own i)
-    → steps_by (own_after own limits class limit wait) other ≡ steps_by own other
-steps_beside own Absent other class limit wait there apart = refl
-steps_beside own (Shared steps) other class limit wait there apart = steps_more own (with_limit steps class limit wait) other there
-steps_beside own (Own i) other class limit wait there apart = steps_other own (with_limit (steps_at own i) class limit wait) i other (apart i refl)
+steps_beside : (pool : Pool) (limits other : Limits) (class limit wait : ℕ)
+    → ((i : ℕ) → other ≡ Own i → i < length pool.own) → ((i : ℕ) → limits ≡ Own i → other ≢ Own i)
+    → steps_by (pool_after pool limits class limit wait) other ≡ steps_by pool other
+steps_beside pool Absent other class limit wait there apart = refl
+steps_beside pool (Shared i) other class limit wait there apart = steps_more pool (with_limit (steps_at pool.shared i) class limit wait) other there
+steps_beside pool (Own i) other class limit wait there apart = steps_other pool (with_limit (steps_at pool.own i) class limit wait) i other (apart i refl)
 
 -- ---- the limits of all legs after a change
 
@@ -154,20 +165,22 @@ own_same limits flight leg =
     ∙ ap (set limits flight) (unwrap_or-slice_get limits flight [])
     ∙ set-get_or limits flight []
 
-own_set : (own : List Steps) (places : ℕ) (limits : List (List Limits)) (flight leg : ℕ) (old : Limits)
-    (class limit wait : ℕ) → HaveOwn (length own) places limits → flight < length limits
+own_set : (pool : Pool) (places : ℕ) (limits : List (List Limits)) (flight leg : ℕ) (old : Limits)
+    (class limit wait : ℕ) → HaveOwn (length pool.own) places limits → flight < length limits
     → leg < length (limits_on limits flight) → limits_at limits flight leg ≡ old
-    → HaveOwn (length (own_after own old class limit wait)) places (put_in limits flight leg (limits_after own old))
-own_set own places limits flight leg Absent class limit wait h there inside e =
+    → HaveOwn (length (own_after pool old class limit wait)) places (put_in limits flight leg (limits_after pool old))
+own_set pool places limits flight leg Absent class limit wait h there inside e =
     let same : put_in limits flight leg Absent ≡ limits = ap (put_in limits flight leg) (sym e) ∙ own_same limits flight leg in
-    subst (λ (l : List (List Limits)). HaveOwn (length own) places l) (sym same) h
-own_set own places limits flight leg (Shared steps) class limit wait h there inside e =
-    let more : length (own ++ with_limit steps class limit wait ∷ []) ≡ length own + 1 = length-append own (with_limit steps class limit wait ∷ []) in
+    subst (λ (l : List (List Limits)). HaveOwn (length pool.own) places l) (sym same) h
+own_set pool places limits flight leg (Shared i) class limit wait h there inside e =
+    let own = pool.own in
+    let new = with_limit (steps_at pool.shared i) class limit wait in
+    let more : length (own ++ new ∷ []) ≡ length own + 1 = length-append own (new ∷ []) in
     subst (λ (n : ℕ). HaveOwn n places (put_in limits flight leg (Own (length own)))) (sym more) (own_more (length own) places limits flight leg h there inside (ap may_come e))
-own_set own places limits flight leg (Own i) class limit wait h there inside e =
+own_set pool places limits flight leg (Own i) class limit wait h there inside e =
     let same : put_in limits flight leg (Own i) ≡ limits = ap (put_in limits flight leg) (sym e) ∙ own_same limits flight leg in
-    let as_many : length (set own i (with_limit (steps_at own i) class limit wait)) ≡ length own = length-set own i (with_limit (steps_at own i) class limit wait) in
-    subst (λ (n : ℕ). HaveOwn n places (put_in limits flight leg (Own i))) (sym as_many) (subst (λ (l : List (List Limits)). HaveOwn (length own) places l) (sym same) h)
+    let as_many : length (set pool.own i (with_limit (steps_at pool.own i) class limit wait)) ≡ length pool.own = length-set pool.own i (with_limit (steps_at pool.own i) class limit wait) in
+    subst (λ (n : ℕ). HaveOwn n places (put_in limits flight leg (Own i))) (sym as_many) (subst (λ (l : List (List Limits)). HaveOwn (length pool.own) places l) (sym same) h)
 
 -- there is a place for what a leg may yet need
 one_of_sum : (limits : List (List Limits)) (flight leg : ℕ) → flight < length limits
@@ -182,45 +195,45 @@ one_of_sum limits flight leg there inside =
 -- ---- what is seen after a change
 
 -- where the limits stand, and what no other leg has
-record Stands (own : List Steps) (flights : List (List CountedLeg)) (flight leg : ℕ) : Type 0 where
-  there : (f at i : ℕ) → (counted_at flights f at).limits ≡ Own i → i < length own
+record Stands (pool : Pool) (flights : List (List CountedLeg)) (flight leg : ℕ) : Type 0 where
+  there : (f at i : ℕ) → (counted_at flights f at).limits ≡ Own i → i < length pool.own
   apart : (f at i : ℕ) → (counted_at flights flight leg).limits ≡ Own i → (counted_at flights f at).limits ≡ Own i
       → (f ≡ flight) × (at ≡ leg)
 
-stands : (own : List Steps) (places : ℕ) (flights : List (List CountedLeg)) (flight leg : ℕ)
-    → HaveOwn (length own) places (all_limits flights) → Stands own flights flight leg
-stands own places flights flight leg h = record {
+stands : (pool : Pool) (places : ℕ) (flights : List (List CountedLeg)) (flight leg : ℕ)
+    → HaveOwn (length pool.own) places (all_limits flights) → Stands pool flights flight leg
+stands pool places flights flight leg h = record {
   there = λ f at i e. h.there f at i (limits_seen_at flights f at ∙ e);
   apart = λ f at i d e. h.apart f at flight leg i (limits_seen_at flights f at ∙ e) (limits_seen_at flights flight leg ∙ d);
 }
 
-beside : (own : List Steps) (flights : List (List CountedLeg)) (flight leg class limit wait f at : ℕ)
-    → Stands own flights flight leg → ((f ≡ flight) × (at ≡ leg) → ⊥)
-    → leg_seen (own_after own (counted_at flights flight leg).limits class limit wait) (counted_at flights f at)
-    ≡ leg_seen own (counted_at flights f at)
-beside own flights flight leg class limit wait f at h other =
+beside : (pool : Pool) (flights : List (List CountedLeg)) (flight leg class limit wait f at : ℕ)
+    → Stands pool flights flight leg → ((f ≡ flight) × (at ≡ leg) → ⊥)
+    → leg_seen (pool_after pool (counted_at flights flight leg).limits class limit wait) (counted_at flights f at)
+    ≡ leg_seen pool (counted_at flights f at)
+beside pool flights flight leg class limit wait f at h other =
     let x = counted_at flights f at in
     ap (λ (s : Steps). leg_of s x.held)
-    (steps_beside own (counted_at flights flight leg).limits x.limits class limit wait (h.there f at) (λ i d e. other (h.apart f at i d e)))
+    (steps_beside pool (counted_at flights flight leg).limits x.limits class limit wait (h.there f at) (λ i d e. other (h.apart f at i d e)))
 
-set_seen : (own : List Steps) (flights : List (List CountedLeg)) (flight leg class limit wait : ℕ)
-    → Stands own flights flight leg
-    → all_seen (own_after own (counted_at flights flight leg).limits class limit wait)
+set_seen : (pool : Pool) (flights : List (List CountedLeg)) (flight leg class limit wait : ℕ)
+    → Stands pool flights flight leg
+    → all_seen (pool_after pool (counted_at flights flight leg).limits class limit wait)
     (put flights flight leg (with_limits (counted_at flights flight leg)
-    (limits_after own (counted_at flights flight leg).limits)))
-    ≡ set (all_seen own flights) flight (set (legs_seen own (legs_at flights flight)) leg (leg_of (with_limit (steps_by own (counted_at flights flight leg).limits) class limit wait) (counted_at flights flight leg).held))
-set_seen own flights flight leg class limit wait h =
+    (limits_after pool (counted_at flights flight leg).limits)))
+    ≡ set (all_seen pool flights) flight (set (legs_seen pool (legs_at flights flight)) leg (leg_of (with_limit (steps_by pool (counted_at flights flight leg).limits) class limit wait) (counted_at flights flight leg).held))
+set_seen pool flights flight leg class limit wait h =
     let old = counted_at flights flight leg in
-    let new = own_after own old.limits class limit wait in
-    let x = with_limits old (limits_after own old.limits) in
-    let y = leg_of (with_limit (steps_by own old.limits) class limit wait) old.held in
+    let new = pool_after pool old.limits class limit wait in
+    let x = with_limits old (limits_after pool old.limits) in
+    let y = leg_of (with_limit (steps_by pool old.limits) class limit wait) old.held in
     map-set (legs_seen new) flights flight (set (legs_at flights flight) leg x)
     ∙ ap (set (all_seen new flights) flight)
     (map-set (leg_seen new) (legs_at flights flight) leg x
-    ∙ ap (set (legs_seen new (legs_at flights flight)) leg) (ap (λ (s : Steps). leg_of s old.held) (steps_after own old.limits class limit wait (h.there flight leg)))
-    ∙ set_but (leg_seen new) (leg_seen own) (legs_at flights flight) leg y no_counted (λ at ne. beside own flights flight leg class limit wait flight at h (λ e. ne e.1)))
-    ∙ set_but (legs_seen new) (legs_seen own) flights flight (set (legs_seen own (legs_at flights flight)) leg y) []
-    (λ f ne. map_each (leg_seen new) (leg_seen own) (legs_at flights f) no_counted (λ at. beside own flights flight leg class limit wait f at h (λ e. ne e.0)))
+    ∙ ap (set (legs_seen new (legs_at flights flight)) leg) (ap (λ (s : Steps). leg_of s old.held) (steps_after pool old.limits class limit wait (h.there flight leg)))
+    ∙ set_but (leg_seen new) (leg_seen pool) (legs_at flights flight) leg y no_counted (λ at ne. beside pool flights flight leg class limit wait flight at h (λ e. ne e.1)))
+    ∙ set_but (legs_seen new) (legs_seen pool) flights flight (set (legs_seen pool (legs_at flights flight)) leg y) []
+    (λ f ne. map_each (leg_seen new) (leg_seen pool) (legs_at flights f) no_counted (λ at. beside pool flights flight leg class limit wait f at h (λ e. ne e.0)))
 
 -- ---- what the setting of a limit needs, and what it gives
 
@@ -233,44 +246,49 @@ may_leg now flight leg class limit wait h =
     let p = can_parts (limits_of now) (table_of now) flight leg class limit wait h in
     (p.0, subst (λ (s : Steps). may_have s (table_of now flight leg) class limit ≡ true) (ladder_seen now flight leg) p.1)
 
-pub set_some : (own : List Steps) (places : ℕ) (flights : List (List CountedLeg)) (now : Counted) (flight : ℕ)
-    (legs : List CountedLeg) (at leg class limit wait : ℕ) → Meets own places flights now flight legs at leg
-    → May now flight leg class limit wait → at < length legs
-set_some own places flights now flight legs at leg class limit wait m may =
-    let kept = met_kept own places flights now flight legs at leg m in
+pub set_some : (pool : Pool) (places : ℕ) (flights : List (List CountedLeg)) (now : Counted)
+    (flight leg class limit wait : ℕ) → Meets pool places flights now → May now flight leg class limit wait
+    → leg < length (legs_at flights flight)
+set_some pool places flights now flight leg class limit wait m may =
+    let kept = met_kept pool places flights now flight leg m in
     let p = may_leg now flight leg class limit wait may in
     let is = ladder_of_leg (leg_at now flight leg).steps (held_on (leg_at now flight leg)) class limit kept.ladder p.1 in
-    met_inside own places flights now flight legs at leg m is.some
+    met_inside pool places flights now flight leg m is.some
 
-pub set_ladder : (own : List Steps) (places : ℕ) (flights : List (List CountedLeg)) (now : Counted) (flight : ℕ)
-    (legs : List CountedLeg) (at leg class limit wait : ℕ) → Meets own places flights now flight legs at leg
-    → May now flight leg class limit wait
-    → IsLadder (with_limit (steps_by own (counted_in legs at).limits) class limit wait)
-set_ladder own places flights now flight legs at leg class limit wait m may =
-    let kept = met_kept own places flights now flight legs at leg m in
+pub set_ladder : (pool : Pool) (places : ℕ) (flights : List (List CountedLeg)) (now : Counted)
+    (flight leg class limit wait : ℕ) → Meets pool places flights now → May now flight leg class limit wait
+    → IsLadder (with_limit (steps_by pool (counted_at flights flight leg).limits) class limit wait)
+set_ladder pool places flights now flight leg class limit wait m may =
+    let kept = met_kept pool places flights now flight leg m in
     let p = may_leg now flight leg class limit wait may in
     let is = ladder_of_leg (leg_at now flight leg).steps (held_on (leg_at now flight leg)) class limit kept.ladder p.1 in
-    let same : steps_by own (counted_in legs at).limits ≡ (leg_at now flight leg).steps = ap (λ (l : LegSeats). l.steps) (met_leg own places flights now flight legs at leg m) in
+    let same : steps_by pool (counted_at flights flight leg).limits ≡ (leg_at now flight leg).steps = ap (λ (l : LegSeats). l.steps) (met_leg pool places flights now flight leg m) in
     subst (λ (s : Steps). IsLadder (with_limit s class limit wait)) (sym same) (ladder_with (leg_at now flight leg).steps (held_on (leg_at now flight leg)) class limit wait is p.1 p.0)
 
-pub set_there : (own : List Steps) (places : ℕ) (flights : List (List CountedLeg)) (now : Counted) (flight : ℕ)
-    (legs : List CountedLeg) (at leg : ℕ) → Meets own places flights now flight legs at leg → (i : ℕ)
-    → (counted_in legs at).limits ≡ Own i → i < length own
-set_there own places flights now flight legs at leg m i e =
-    m.counters.owned.there flight leg i (limits_seen_at flights flight leg ∙ ap (λ (c : CountedLeg). c.limits) (sym (met_counted own places flights now flight legs at leg m)) ∙ e)
+pub set_there : (pool : Pool) (places : ℕ) (flights : List (List CountedLeg)) (now : Counted) (flight leg : ℕ)
+    → Meets pool places flights now → (i : ℕ) → (counted_at flights flight leg).limits ≡ Own i → i < length pool.own
+set_there pool places flights now flight leg m i e = m.counters.owned.there flight leg i (limits_seen_at flights flight leg ∙ e)
 
-pub set_reserved : (own : List Steps) (places : ℕ) (flights : List (List CountedLeg)) (now : Counted) (flight : ℕ)
-    (legs : List CountedLeg) (at leg class limit wait : ℕ) → Meets own places flights now flight legs at leg
-    → May now flight leg class limit wait
-    → length own + may_come (counted_in legs at).limits ≤ places
-set_reserved own places flights now flight legs at leg class limit wait m may =
-    let here = met_here own places flights now flight legs at leg m (set_some own places flights now flight legs at leg class limit wait m may) in
-    let flights_are : flight < length (all_limits flights) = rw length-map m.there in
+come_of_sum : (n places : ℕ) (flights : List (List CountedLeg)) (flight leg : ℕ) → HaveOwn n places (all_limits flights)
+    → leg < length (legs_at flights flight) → n + may_come (counted_at flights flight leg).limits ≤ places
+come_of_sum n places flights flight leg h here =
+    let flights_are : flight < length (all_limits flights) = rw length-map (flight_there flights flight leg here) in
     let legs_are : leg < length (limits_on (all_limits flights) flight) = rw (at_map limits_in flights flight [], length-map) here in
     let one = one_of_sum (all_limits flights) flight leg flights_are legs_are in
-    let same : may_come (limits_at (all_limits flights) flight leg) ≡ may_come (counted_in legs at).limits =
-    ap may_come (limits_seen_at flights flight leg ∙ ap (λ (c : CountedLeg). c.limits) (sym (met_counted own places flights now flight legs at leg m))) in
-    omega (arith, one, same, m.counters.owned.reserved)
+    let same : may_come (limits_at (all_limits flights) flight leg) ≡ may_come (counted_at flights flight leg).limits = ap may_come (limits_seen_at flights flight leg) in
+    omega (arith, one, same, h.reserved)
+
+pub set_reserved : (pool : Pool) (places : ℕ) (flights : List (List CountedLeg)) (now : Counted)
+    (flight leg class limit wait : ℕ) → Meets pool places flights now → May now flight leg class limit wait
+    → length pool.own + may_come (counted_at flights flight leg).limits ≤ places
+set_reserved pool places flights now flight leg class limit wait m may =
+    come_of_sum (length pool.own) places flights flight leg m.counters.owned (set_some pool places flights now flight leg class limit wait m may)
+
+pub set_numbered : (pool : Pool) (places : ℕ) (flights : List (List CountedLeg)) (now : Counted)
+    (flight leg class limit wait : ℕ) → Meets pool places flights now → May now flight leg class limit wait
+    → length pool.own + may_come (counted_at flights flight leg).limits ≤ 4294967295
+set_numbered pool places flights now flight leg class limit wait m may =
+    come_of_sum (length pool.own) 4294967295 flights flight leg m.counters.numbered (set_some pool places flights now flight leg class limit wait m may)
 
 -- the leg as it is seen, with the limit
 set_leg : (leg : LegSeats) (class limit wait : ℕ) → KeepsLimits leg
@@ -288,81 +306,92 @@ set_leg leg class limit wait kept may most = record {
 }
 
 -- the flight's legs as they are seen, and with the limit
-set_flight : (own : List Steps) (flights : List (List CountedLeg)) (now : Counted) (flight leg class limit wait : ℕ)
-    → all_seen own flights ≡ now → KeepsLimits (leg_at now flight leg) → leg < length (legs_at flights flight)
+set_flight : (pool : Pool) (flights : List (List CountedLeg)) (now : Counted) (flight leg class limit wait : ℕ)
+    → all_seen pool flights ≡ now → KeepsLimits (leg_at now flight leg) → leg < length (legs_at flights flight)
     → May now flight leg class limit wait
-    → FlightSets (legs_seen own (legs_at flights flight))
-    (set (legs_seen own (legs_at flights flight)) leg
-    (leg_of (with_limit (steps_by own (counted_at flights flight leg).limits) class limit wait)
+    → FlightSets (legs_seen pool (legs_at flights flight))
+    (set (legs_seen pool (legs_at flights flight)) leg
+    (leg_of (with_limit (steps_by pool (counted_at flights flight leg).limits) class limit wait)
     (counted_at flights flight leg).held)) leg class limit wait
-set_flight own flights now flight leg class limit wait e kept here may =
+set_flight pool flights now flight leg class limit wait e kept here may =
     let p = may_leg now flight leg class limit wait may in
-    let x = leg_seen own (counted_at flights flight leg) in
-    let same : leg_at now flight leg ≡ x = ap (λ (c : Counted). leg_at c flight leg) (sym e) ∙ leg_seen_at own flights flight leg in
+    let x = leg_seen pool (counted_at flights flight leg) in
+    let same : leg_at now flight leg ≡ x = ap (λ (c : Counted). leg_at c flight leg) (sym e) ∙ leg_seen_at pool flights flight leg in
     let sets : LegSets x (leg_of (with_limit x.steps class limit wait) x.held) class limit wait =
     subst (λ (l : LegSeats). LegSets l (leg_of (with_limit l.steps class limit wait) l.held) class limit wait) same (set_leg (leg_at now flight leg) class limit wait kept p.1 p.0) in
-    let is : x ≡ get_or (legs_seen own (legs_at flights flight)) leg no_leg = sym (one_seen own (legs_at flights flight) leg) ∙ unwrap_or-slice_get (legs_seen own (legs_at flights flight)) leg no_leg in
-    flight_sets (legs_seen own (legs_at flights flight)) (legs_seen own (legs_at flights flight)) leg x (leg_of (with_limit x.steps class limit wait) x.held) class limit wait refl (rw length-map here) is sets
+    let is : x ≡ get_or (legs_seen pool (legs_at flights flight)) leg no_leg = sym (one_seen pool (legs_at flights flight) leg) ∙ unwrap_or-slice_get (legs_seen pool (legs_at flights flight)) leg no_leg in
+    flight_sets (legs_seen pool (legs_at flights flight)) (legs_seen pool (legs_at flights flight)) leg x (leg_of (with_limit x.steps class limit wait) x.held) class limit wait refl (rw length-map here) is sets
+
+-- the limits that stand elsewhere, and the pool with what is set
+abbrev pub SetTo : Pool → List (List CountedLeg) → ℕ → ℕ → ℕ → ℕ → ℕ → Pool → List (List CountedLeg) → Type 0
+SetTo pool flights flight leg class limit wait new_pool new =
+    (new_pool ≡ pool_after pool (counted_at flights flight leg).limits class limit wait)
+    × (new ≡ put flights flight leg (with_limits (counted_at flights flight leg) (limits_after pool (counted_at flights flight leg).limits)))
+
+-- as the calls that do it say it
+pub set_to : (shared own all : List Steps) (flights : List (List CountedLeg)) (flight leg class limit wait : ℕ)
+    (limits : Limits) (held : List ℕ) (new_own : List Steps) (new_limits : Limits) (new : List (List CountedLeg))
+    → all ≡ shared → of_held limits held ≡ counted_at flights flight leg
+    → new_own ≡ own_after (pool_of all own) limits class limit wait → new_limits ≡ limits_after (pool_of all own) limits
+    → new ≡ put flights flight leg (with_limits (counted_at flights flight leg) new_limits)
+    → SetTo (pool_of shared own) flights flight leg class limit wait (pool_of shared new_own) new
+set_to shared own all flights flight leg class limit wait limits held new_own new_limits new all_are found own_is limits_are new_is =
+    (ap (pool_of shared) (own_is ∙ ap (λ (s : List Steps). own_after (pool_of s own) limits class limit wait) all_are ∙ ap (λ (c : CountedLeg). own_after (pool_of shared own) c.limits class limit wait) found),
+    new_is ∙ ap (λ (l : Limits). put flights flight leg (with_limits (counted_at flights flight leg) l)) (limits_are ∙ ap (λ (s : List Steps). limits_after (pool_of s own) limits) all_are ∙ ap (λ (c : CountedLeg). limits_after (pool_of shared own) c.limits) found))
 
 -- the counters after, as they are seen
-set_now : (own : List Steps) (places : ℕ) (flights : List (List CountedLeg)) (now : Counted) (flight : ℕ)
-    (legs : List CountedLeg) (at leg class limit wait : ℕ) (new : List CountedLeg) (owned : List Steps)
-    → Meets own places flights now flight legs at leg
-    → new ≡ set legs at (with_limits (counted_in legs at) (limits_after own (counted_in legs at).limits))
-    → owned ≡ own_after own (counted_in legs at).limits class limit wait
-    → all_seen owned (set flights flight new)
-    ≡ set (all_seen own flights) flight (set (legs_seen own (legs_at flights flight)) leg (leg_of (with_limit (steps_by own (counted_at flights flight leg).limits) class limit wait) (counted_at flights flight leg).held))
-set_now own places flights now flight legs at leg class limit wait new owned m e d =
-    ap (λ (o : List Steps). all_seen o (set flights flight new)) (d ∙ ap (λ (c : CountedLeg). own_after own c.limits class limit wait) (met_counted own places flights now flight legs at leg m))
-    ∙ ap (all_seen (own_after own (counted_at flights flight leg).limits class limit wait)) (met_put own places flights now flight legs at leg new (λ (c : CountedLeg). with_limits c (limits_after own c.limits)) m e)
-    ∙ set_seen own flights flight leg class limit wait (stands own places flights flight leg m.counters.owned)
+set_now : (pool : Pool) (places : ℕ) (flights : List (List CountedLeg)) (now : Counted)
+    (flight leg class limit wait : ℕ) (new_pool : Pool) (new : List (List CountedLeg)) → Meets pool places flights now
+    → SetTo pool flights flight leg class limit wait new_pool new
+    → all_seen new_pool new
+    ≡ set (all_seen pool flights) flight (set (legs_seen pool (legs_at flights flight)) leg (leg_of (with_limit (steps_by pool (counted_at flights flight leg).limits) class limit wait) (counted_at flights flight leg).held))
+set_now pool places flights now flight leg class limit wait new_pool new m to =
+    ap (λ (p : Pool). all_seen p new) to.0
+    ∙ ap (all_seen (pool_after pool (counted_at flights flight leg).limits class limit wait)) to.1
+    ∙ set_seen pool flights flight leg class limit wait (stands pool places flights flight leg m.counters.owned)
 
-pub sets_on : (own : List Steps) (places : ℕ) (flights : List (List CountedLeg)) (now : Counted) (flight : ℕ)
-    (legs : List CountedLeg) (at leg class limit wait : ℕ) (new : List CountedLeg) (owned : List Steps)
-    → Meets own places flights now flight legs at leg → May now flight leg class limit wait
-    → new ≡ set legs at (with_limits (counted_in legs at) (limits_after own (counted_in legs at).limits))
-    → owned ≡ own_after own (counted_in legs at).limits class limit wait
-    → Sets now (all_seen owned (set flights flight new)) flight leg class limit wait
-sets_on own places flights now flight legs at leg class limit wait new owned m may e d =
-    let here = met_here own places flights now flight legs at leg m (set_some own places flights now flight legs at leg class limit wait m may) in
-    let after = set_flight own flights now flight leg class limit wait m.seen (met_kept own places flights now flight legs at leg m) here may in
-    let is : legs_seen own (legs_at flights flight) ≡ get_or (all_seen own flights) flight [] = sym (flight_seen own flights flight) ∙ unwrap_or-slice_get (all_seen own flights) flight [] in
-    subst (λ (c : Counted). Sets now c flight leg class limit wait) (sym (set_now own places flights now flight legs at leg class limit wait new owned m e d))
-    (all_sets (all_seen own flights) now flight (legs_seen own (legs_at flights flight)) _ leg class limit wait m.seen (rw length-map m.there) is after)
+pub sets_on : (pool : Pool) (places : ℕ) (flights : List (List CountedLeg)) (now : Counted)
+    (flight leg class limit wait : ℕ) (new_pool : Pool) (new : List (List CountedLeg)) → Meets pool places flights now
+    → May now flight leg class limit wait → SetTo pool flights flight leg class limit wait new_pool new
+    → Sets now (all_seen new_pool new) flight leg class limit wait
+sets_on pool places flights now flight leg class limit wait new_pool new m may to =
+    let here = set_some pool places flights now flight leg class limit wait m may in
+    let there = flight_there flights flight leg here in
+    let after = set_flight pool flights now flight leg class limit wait m.seen (met_kept pool places flights now flight leg m) here may in
+    let is : legs_seen pool (legs_at flights flight) ≡ get_or (all_seen pool flights) flight [] = sym (flight_seen pool flights flight) ∙ unwrap_or-slice_get (all_seen pool flights) flight [] in
+    subst (λ (c : Counted). Sets now c flight leg class limit wait) (sym (set_now pool places flights now flight leg class limit wait new_pool new m to))
+    (all_sets (all_seen pool flights) now flight (legs_seen pool (legs_at flights flight)) _ leg class limit wait m.seen (rw length-map there) is after)
 
-pub set_counters : (own : List Steps) (places : ℕ) (flights : List (List CountedLeg)) (now : Counted) (flight : ℕ)
-    (legs : List CountedLeg) (at leg class limit wait : ℕ) (new : List CountedLeg) (owned : List Steps)
-    → Meets own places flights now flight legs at leg → May now flight leg class limit wait
-    → new ≡ set legs at (with_limits (counted_in legs at) (limits_after own (counted_in legs at).limits))
-    → owned ≡ own_after own (counted_in legs at).limits class limit wait
-    → AreCounters owned places (set flights flight new)
-set_counters own places flights now flight legs at leg class limit wait new owned m may e d =
-    let here = met_here own places flights now flight legs at leg m (set_some own places flights now flight legs at leg class limit wait m may) in
-    let after = set_flight own flights now flight leg class limit wait m.seen (met_kept own places flights now flight legs at leg m) here may in
-    let is : legs_seen own (legs_at flights flight) ≡ get_or (all_seen own flights) flight [] = sym (flight_seen own flights flight) ∙ unwrap_or-slice_get (all_seen own flights) flight [] in
+set_owned : (pool : Pool) (places : ℕ) (flights : List (List CountedLeg)) (flight leg class limit wait : ℕ)
+    (new_pool : Pool) (new : List (List CountedLeg)) → HaveOwn (length pool.own) places (all_limits flights)
+    → leg < length (legs_at flights flight) → SetTo pool flights flight leg class limit wait new_pool new
+    → HaveOwn (length new_pool.own) places (all_limits new)
+set_owned pool places flights flight leg class limit wait new_pool new h here to =
+    let old = counted_at flights flight leg in
+    let x = with_limits old (limits_after pool old.limits) in
+    let placed : all_limits new ≡ put_in (all_limits flights) flight leg (limits_after pool old.limits) =
+    ap all_limits to.1
+    ∙ map-set limits_in flights flight (set (legs_at flights flight) leg x)
+    ∙ ap (set (all_limits flights) flight) (map-set (λ (c : CountedLeg). c.limits) (legs_at flights flight) leg x)
+    ∙ ap (λ (l : List Limits). set (all_limits flights) flight (set l leg (limits_after pool old.limits))) (sym (at_map limits_in flights flight [])) in
+    let flights_are : flight < length (all_limits flights) = rw length-map (flight_there flights flight leg here) in
+    let legs_are : leg < length (limits_on (all_limits flights) flight) = rw (at_map limits_in flights flight [], length-map) here in
+    subst (λ (l : List (List Limits)). HaveOwn (length new_pool.own) places l) (sym placed)
+    (subst (λ (p : Pool). HaveOwn (length p.own) places (put_in (all_limits flights) flight leg (limits_after pool old.limits))) (sym to.0)
+    (own_set pool places (all_limits flights) flight leg old.limits class limit wait h flights_are legs_are (limits_seen_at flights flight leg)))
+
+pub set_counters : (pool : Pool) (places : ℕ) (flights : List (List CountedLeg)) (now : Counted)
+    (flight leg class limit wait : ℕ) (new_pool : Pool) (new : List (List CountedLeg)) → Meets pool places flights now
+    → May now flight leg class limit wait → SetTo pool flights flight leg class limit wait new_pool new
+    → AreCounters new_pool places new
+set_counters pool places flights now flight leg class limit wait new_pool new m may to =
+    let here = set_some pool places flights now flight leg class limit wait m may in
+    let there = flight_there flights flight leg here in
+    let after = set_flight pool flights now flight leg class limit wait m.seen (met_kept pool places flights now flight leg m) here may in
+    let is : legs_seen pool (legs_at flights flight) ≡ get_or (all_seen pool flights) flight [] = sym (flight_seen pool flights flight) ∙ unwrap_or-slice_get (all_seen pool flights) flight [] in
     record {
-      kept = subst (λ (c : Counted). IsWithinLimits c) (sym (set_now own places flights now flight legs at leg class limit wait new owned m e d))
-          (within_sets (all_seen own flights) flight (legs_seen own (legs_at flights flight)) _ leg class limit wait (rw length-map m.there) is after m.counters.kept);
-      owned = set_owned own places flights now flight legs at leg class limit wait new owned m here e d;
+      kept = subst (λ (c : Counted). IsWithinLimits c) (sym (set_now pool places flights now flight leg class limit wait new_pool new m to))
+          (within_sets (all_seen pool flights) flight (legs_seen pool (legs_at flights flight)) _ leg class limit wait (rw length-map there) is after m.counters.kept);
+      owned = set_owned pool places flights flight leg class limit wait new_pool new m.counters.owned here to;
+      numbered = set_owned pool 4294967295 flights flight leg class limit wait new_pool new m.counters.numbered here to;
     }
-  where
-    set_owned : (own : List Steps) (places : ℕ) (flights : List (List CountedLeg)) (now : Counted) (flight : ℕ)
-        (legs : List CountedLeg) (at leg class limit wait : ℕ) (new : List CountedLeg) (owned : List Steps)
-        → Meets own places flights now flight legs at leg → leg < length (legs_at flights flight)
-        → new ≡ set legs at (with_limits (counted_in legs at) (limits_after own (counted_in legs at).limits))
-        → owned ≡ own_after own (counted_in legs at).limits class limit wait
-        → HaveOwn (length owned) places (all_limits (set flights flight new))
-    set_owned own places flights now flight legs at leg class limit wait new owned m here e d =
-        let old = counted_at flights flight leg in
-        let x = with_limits old (limits_after own old.limits) in
-        let placed : all_limits (set flights flight new) ≡ put_in (all_limits flights) flight leg (limits_after own old.limits) =
-        ap all_limits (met_put own places flights now flight legs at leg new (λ (c : CountedLeg). with_limits c (limits_after own c.limits)) m e)
-        ∙ map-set limits_in flights flight (set (legs_at flights flight) leg x)
-        ∙ ap (set (all_limits flights) flight) (map-set (λ (c : CountedLeg). c.limits) (legs_at flights flight) leg x)
-        ∙ ap (λ (l : List Limits). set (all_limits flights) flight (set l leg (limits_after own old.limits))) (sym (at_map limits_in flights flight [])) in
-        let is : owned ≡ own_after own old.limits class limit wait = d ∙ ap (λ (c : CountedLeg). own_after own c.limits class limit wait) (met_counted own places flights now flight legs at leg m) in
-        let flights_are : flight < length (all_limits flights) = rw length-map m.there in
-        let legs_are : leg < length (limits_on (all_limits flights) flight) = rw (at_map limits_in flights flight [], length-map) here in
-        subst (λ (l : List (List Limits)). HaveOwn (length owned) places l) (sym placed)
-        (subst (λ (o : List Steps). HaveOwn (length o) places (put_in (all_limits flights) flight leg (limits_after own old.limits))) (sym is)
-        (own_set own places (all_limits flights) flight leg old.limits class limit wait m.counters.owned flights_are legs_are (limits_seen_at flights flight leg)))

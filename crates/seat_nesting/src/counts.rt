@@ -1,15 +1,15 @@
 //! The seats that are held on each leg of a grid, by rank: all that a step and a look need to know of the bookings.
-ghost use Rattle.std.specs.Prelude.{◌≡◌, ◌≤◌, ◌↔◌, ℕ, [], drop, length, false, unwrap_or, slice_get, IfOk, IfSome, IfNone, IsTrue};
+ghost use Rattle.std.specs.Prelude.{◌≡◌, ◌≤◌, ◌↔◌, ℕ, [], drop, false, replicate, IfOk, IfSome, IfNone, IsTrue};
 ghost use Rattle.seat_nesting.specs.Nesting.{Fits, held_from, ladder_at, has_class, room, room_on};
 ghost use Rattle.seat_nesting.specs.Counting.{limits_of, table_of, holds, leg_holds, Takes, Gives, OneLegChanges, plus, less, IsRank, IsWithinLimits, leg_at, no_leg};
 ghost use Rattle.seat_nesting.specs.Changing.{can_set, may_have, step_of, Sets};
-ghost use Rattle.seat_nesting.specs.OwnLadders.{counted_at, no_counted};
 
-use crate::counted_leg::CountedLeg;
-use crate::flight_counts::FlightCounts;
+use crate::counted_flights::CountedFlights;
 use crate::grid::Grid;
 use crate::ladder::{Ladder, Step};
+use crate::laid_out::{Layout, lay_out, number};
 use crate::leg_counts::LegCounts;
+use crate::shared::SharedLadder;
 use airline_base::{Class, Memory, Place};
 use std::alloc::Global;
 use std::marker::Model;
@@ -17,7 +17,9 @@ use std::marker::Model;
 /// How many seats are held on each leg in each rank, with the limits of the grid that it was made for.
 #[derive(Drop)]
 pub struct Counts {
-    flights: Vec<FlightCounts>,
+    flights: CountedFlights,
+    /// The ladders of the grid that several legs may have.
+    shared: Vec<SharedLadder>,
     /// The ladders of the legs whose limits were changed. There is memory for one for each leg,
     /// which is not touched before it is needed.
     own: Vec<Ladder>,
@@ -26,13 +28,13 @@ pub struct Counts {
 impl Model for Counts {
     ghost use Rattle.std.specs.Prelude.{List, vec_capacity};
     ghost use Rattle.seat_nesting.specs.Counting.{LegSeats};
-    ghost use Rattle.seat_nesting.specs.OwnLadders.{all_seen, AreCounters};
+    ghost use Rattle.seat_nesting.specs.OwnLadders.{all_seen, pool_of, AreCounters};
 
     ghost Value = { List (List LegSeats) };
 
-    ghost view = { λ c. all_seen c.own.items c.flights.items };
+    ghost view = { λ c. all_seen (pool_of c.shared.items c.own.items) c.flights };
 
-    ghost invariant = { λ c. AreCounters c.own.items (vec_capacity c.own) c.flights.items };
+    ghost invariant = { λ c. AreCounters (pool_of c.shared.items c.own.items) (vec_capacity c.own) c.flights };
 }
 
 impl Counts {
@@ -41,22 +43,28 @@ impl Counts {
         ensures limits { IfOk result (λ counts. limits_of counts ≡ grid.now) }
         ensures seats { IfOk result (λ counts. (flight leg class : ℕ) → table_of counts flight leg class ≡ 0) }
     {
-        let mut flights = Vec::with_capacity(alloc, grid.flights().len())?;
-        let mut places = 0usize;
-        for legs in grid.flights() {
-            let counts = FlightCounts::new(alloc, legs)?;
-            places = places.checked_add(counts.len()).ok_or(Memory)?;
-            flights.push(counts)?;
-        }
-        let own = Vec::with_capacity(alloc, places)?;
-        Ok(Counts { flights, own })
+        let Layout {
+            shared,
+            legs,
+            flights,
+            numbers,
+        } = lay_out(alloc, grid)?;
+        let places = number(legs.len())?;
+        let seats = no_seats(alloc, numbers)?;
+        let own = Vec::with_capacity(alloc, places as usize)?;
+        let flights = CountedFlights::of(seats, legs, flights);
+        Ok(Counts {
+            flights,
+            shared,
+            own,
+        })
     }
 
     /// Whether the flight and both legs are there, the second not before the first.
     pub fn fits(&self, place: Place) -> bool
         ensures { IsTrue result ↔ Fits (limits_of self.now) place }
     {
-        place.from <= place.to && usize::from(place.to) < legs_on(&self.flights, place.flight)
+        place.from <= place.to && u32::from(place.to) < self.flights.legs_on(place.flight)
     }
 
     /// The seats that are left on a place in a class; 0 where the place does not fit, or a leg lacks the class.
@@ -122,8 +130,8 @@ impl Counts {
         ensures found { IfSome result (λ l. l.now ≡ ladder_at (limits_of self.now) flight leg) }
         ensures none { IfNone result (ladder_at (limits_of self.now) flight leg ≡ []) }
     {
-        let counts = counted_at(&self.flights, flight, leg)?;
-        counts.limits.ladder(&self.own)
+        let (limits, _held) = self.flights.leg(flight, leg)?;
+        limits.ladder(&self.shared, &self.own)
     }
 
     /// The limit and the wait of a class on a leg now, where the leg has the class.
@@ -157,10 +165,11 @@ impl Counts {
         requires { IsTrue (can_set (limits_of self.old) (table_of self.old) flight leg class limit wait) }
         ensures { Sets self.old self.new flight leg class limit wait }
     {
-        let Some(counts) = self.flights.get_mut(flight as usize) else {
+        let Some((limits, _held)) = self.flights.leg(flight, leg) else {
             return;
         };
-        counts.set(&mut self.own, usize::from(leg), class, limit, wait);
+        let limits = limits.set(&self.shared, &mut self.own, class, limit, wait);
+        self.flights.move_limits(flight, leg, limits);
     }
 
     /// No leg holds more than a limit.
@@ -175,8 +184,8 @@ impl Counts {
         ensures found { IfSome result (λ l. l ≡ leg_at self.now flight leg) }
         ensures none { IfNone result (leg_at self.now flight leg ≡ no_leg) }
     {
-        let counts = counted_at(&self.flights, flight, leg)?;
-        Some(LegCounts::of(counts.limits.steps(&self.own), &counts.held))
+        let (limits, held) = self.flights.leg(flight, leg)?;
+        Some(LegCounts::of(limits.steps(&self.shared, &self.own), held))
     }
 
     /// The rank of a class on a leg, counted from 0.
@@ -223,10 +232,7 @@ impl Counts {
         let Some(rank) = self.rank_on(flight, leg, class) else {
             return;
         };
-        let Some(counts) = self.flights.get_mut(flight as usize) else {
-            return;
-        };
-        counts.take(usize::from(leg), rank, seats);
+        self.flights.take(flight, leg, rank, seats);
     }
 
     fn give_on(&mut self, flight: u32, leg: u8, class: Class, seats: u16)
@@ -236,27 +242,14 @@ impl Counts {
         let Some(rank) = self.rank_on(flight, leg, class) else {
             return;
         };
-        let Some(counts) = self.flights.get_mut(flight as usize) else {
-            return;
-        };
-        counts.give(usize::from(leg), rank, seats);
+        self.flights.give(flight, leg, rank, seats);
     }
 }
 
-/// What is kept of a leg, where it is there.
-fn counted_at(flights: &[FlightCounts], flight: u32, leg: u8) -> Option<&CountedLeg>
-    ensures found { IfSome result (λ l. l.now ≡ counted_at flights.now flight leg) }
-    ensures none { IfNone result (counted_at flights.now flight leg ≡ no_counted) }
+/// A run of so many numbers, no seat being held.
+fn no_seats(alloc: Global, numbers: u32) -> Result<Vec<u16>, Memory>
+    ensures { IfOk result (λ run. run.items ≡ replicate numbers 0) }
 {
-    flights.get(flight as usize)?.leg(usize::from(leg))
-}
-
-/// How many legs the flight has; none where it is not there.
-fn legs_on(flights: &[FlightCounts], flight: u32) -> usize
-    ensures { result ≡ length (unwrap_or (slice_get flights.now flight) []) }
-{
-    match flights.get(flight as usize) {
-        Some(legs) => legs.len(),
-        None => 0,
-    }
+    let run = vec![in alloc; 0u16; numbers as usize]?;
+    Ok(run)
 }

@@ -12,7 +12,7 @@ use std::marker::Model;
 #[derive(Drop)]
 pub struct LegCounts<'a> {
     steps: &'a [Step],
-    held: &'a [u16; 26],
+    held: &'a [u16],
 }
 
 impl<'a> Model for LegCounts<'a> {
@@ -27,7 +27,7 @@ impl<'a> Model for LegCounts<'a> {
 
 impl<'a> LegCounts<'a> {
     /// The leg with these steps and these held seats, which keep within their limits.
-    pub fn of(steps: &'a [Step], held: &'a [u16; 26]) -> LegCounts<'a>
+    pub fn of(steps: &'a [Step], held: &'a [u16]) -> LegCounts<'a>
         requires { KeepsLimits (leg_of steps.now held.now) }
         ensures { result ≡ leg_of steps.now held.now }
     {

@@ -2,12 +2,13 @@
 //! It knows how many seats a table of held seats leaves, and nothing of limit rows, of bookings or of who holds them.
 #![tactic(auto)]
 
-mod counted_leg;
+mod counted_flights;
 mod counts;
-mod flight_counts;
 mod grid;
 mod ladder;
+mod laid_out;
 mod leg_counts;
+mod limits;
 mod shared;
 
 pub use counts::Counts;
