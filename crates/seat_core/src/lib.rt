@@ -8,5 +8,6 @@ mod pass;
 mod replaying;
 mod reply;
 
-pub use inventory::{Core, Prepared};
-pub use replaying::replay;
+pub use inventory::{Core, Prepared, place_of};
+pub use replaying::{are_same_advices, replay};
+pub use reply::{Answer, answer_work};
