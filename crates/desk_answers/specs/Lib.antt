@@ -1,0 +1,4 @@
+pub mod FaultLines
+pub mod Looks
+pub mod Hosts
+pub mod Saying

@@ -1,0 +1,92 @@
+-- What a desk is answered, by what its line means.
+use Rattle.std.specs.Prelude.{◌≡◌, ℕ, ◌+◌, Bool, true, false, nat_lt, List, [], ◌∷◌, ◌++◌, length, Option, Some, None}
+use Rattle.airimp_lines.specs.declared.look.FlightClass.{FlightClass}
+use Rattle.airimp_lines.specs.declared.look.Look.{Look as Looked}
+use Rattle.airimp_lines.specs.declared.requests.Request.{Request as Wish}
+use Rattle.desk_lines.specs.Lines.{next_number, Hears}
+use Rattle.desk_lines.specs.declared.desk.Desk.{Desk}
+use Rattle.desk_lines.specs.declared.desk.Meaning.{Meaning}
+use Rattle.desk_lines.specs.declared.desk.Meaning.TheVariants.{Nothing, Request, Look, Leave, Wrong}
+use Rattle.desk_lines.specs.declared.desk.Wrong.TheVariants as faults
+use Rattle.ssim_flights.specs.declared.flight.Flight.{Flight as Flown}
+use Rattle.seat_journal.specs.declared.entry.Entry.{Entry}
+use Rattle.seat_journal.specs.declared.entry.Work.TheVariants.{Seats}
+use Rattle.seat_nesting.specs.Nesting.{Ladders}
+use Rattle.seat_rules.specs.Journal.{calls_of}
+use Rattle.seat_serving.specs.Answering.{line_for, with_line}
+use Rattle.seat_serving.specs.declared.asked.Asked.{Asked}
+use Rattle.seat_scripts.specs.Requests.{command_of}
+use Rattle.seat_scripts.specs.RunDesk.{IsAnswer}
+use Rattle.desk_answers.specs.FaultLines.{full_line, wrong_line}
+use Rattle.desk_answers.specs.Hosts.{Attended}
+use Rattle.desk_answers.specs.Looks.{IsLookLine}
+use Rattle.desk_answers.specs.declared.heard.Heard.{Heard}
+
+-- a request of a session, on the first place that serves it
+abbrev pub asked_by : List Flown → ℕ → Wish → Asked
+asked_by flights session wish = record { session = session; work = Seats (command_of flights wish) }
+
+-- the journal has one line more, that of the request, and the text is its reply and its advices as a run writes them
+pub record IsBooked (flights : List Flown) (grid : Ladders) (past journal : List Entry) (asked : Asked) (wish : Wish)
+    (text : List ℕ) : Type 0 where
+  pub line_is : journal ≡ with_line grid past asked
+  pub answer : IsAnswer flights (wish ∷ []) journal 0 (line_for grid past asked) text
+
+-- it is the last of these lines
+pub record IsLastOf (journal : List Entry) (line : Entry) : Type 0 where
+  pub past : List Entry
+  pub is : journal ≡ past ++ line ∷ []
+
+-- it is booked where the journal has room, and else refused
+abbrev pub IsAsked : Bool → List Flown → Ladders → ℕ → List Entry → List Entry → Wish → List ℕ → Type 0
+IsAsked true flights grid session past journal wish text =
+    IsBooked flights grid past journal (asked_by flights session wish) wish text
+IsAsked false flights grid session past journal wish text =
+    (journal ≡ past) × (text ≡ full_line session (calls_of past session + 1))
+
+-- a class of a flight is looked at; a look at each flight of a day is no word yet
+abbrev pub IsLooked : List Flown → Ladders → ℕ → ℕ → List Entry → Option FlightClass → Looked → List ℕ → Type 0
+IsLooked flights grid session number journal (Some flight) look text = IsLookLine flights grid journal flight look text
+IsLooked flights grid session number journal None look text = text ≡ wrong_line faults.Word session number
+
+-- what is said of a line by its meaning, what the journal is then, and whether the desk stays
+abbrev pub Says : List Flown → Ladders → ℕ → ℕ → ℕ → List Entry → List Entry → Meaning → Bool → List ℕ → Type 0
+Says flights grid cap session number past journal Nothing stays text = (stays ≡ true) × (journal ≡ past) × (text ≡ [])
+Says flights grid cap session number past journal (Request wish) stays text =
+    (stays ≡ true) × IsAsked (nat_lt (length past) cap) flights grid session past journal wish text
+Says flights grid cap session number past journal (Look look) stays text =
+    (stays ≡ true) × (journal ≡ past) × IsLooked flights grid session number past look.flight look text
+Says flights grid cap session number past journal Leave stays text = (stays ≡ false) × (journal ≡ past) × (text ≡ [])
+Says flights grid cap session number past journal (Wrong wrong) stays text =
+    (stays ≡ true) × (journal ≡ past) × (text ≡ wrong_line wrong session number)
+
+-- the desk has heard this line, which counts, and it means this
+pub record HasHeard (old new : Desk) (line : List ℕ) (meaning : Meaning) : Type 0 where
+  pub hears : Hears old new line meaning
+  pub counted : new.lines ≡ next_number old.lines
+  pub same_day : new.today ≡ old.today
+
+-- the host has answered this line
+pub record IsAnswered {D : Type 0} (old new : Attended D) (line : List ℕ) (heard : Heard) : Type 0 where
+  pub meaning : Meaning
+  pub is_heard : HasHeard old.desk new.desk line meaning
+  pub says : Says old.flights old.serving.grid old.serving.cap old.session new.desk.lines old.serving.journal
+      new.serving.journal meaning heard.stays heard.text.items
+
+-- the request that was meant is in the journal, and its answer is not told
+pub record IsUntoldOf (flights : List Flown) (grid : Ladders) (session : ℕ) (past journal : List Entry) (meaning : Meaning)
+    : Type 0 where
+  pub wish : Wish
+  pub is : meaning ≡ Request wish
+  pub line_is : journal ≡ with_line grid past (asked_by flights session wish)
+
+-- the line counts, and the request that it meant is in the journal; nobody is told of it
+pub record IsUntold {D : Type 0} (old new : Attended D) (line : List ℕ) : Type 0 where
+  pub meaning : Meaning
+  pub is_heard : HasHeard old.desk new.desk line meaning
+  pub untold : IsUntoldOf old.flights old.serving.grid old.session old.serving.journal new.serving.journal meaning
+
+-- the line counts, whatever it means
+pub record IsCounted (old new : Desk) (line : List ℕ) : Type 0 where
+  pub meaning : Meaning
+  pub is_heard : HasHeard old new line meaning

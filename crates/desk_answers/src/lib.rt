@@ -1,0 +1,16 @@
+//! What an open host answers to each line of a desk: the reply and the advices of a request once its line is on the disk, the
+//! seats that are left, or a fault.
+//! It knows the inventory with its file and the texts of replies, and nothing of who reads a desk's lines or writes the answers.
+#![tactic(auto)]
+
+mod asking;
+mod faults;
+mod heard;
+mod hearing;
+mod looking;
+mod open_host;
+mod placing;
+
+pub use faults::memory_line;
+pub use heard::{HearFault, Heard};
+pub use open_host::OpenHost;
