@@ -52,6 +52,8 @@ pub(crate) fn ask<R: Wait, D: Tape>(
         × (serving.new.kept ≡ serving.old.kept)
         × (D.failure_count serving.new.tape ≡ noted (D.failure_count serving.old.tape))) }
     ensures counted { OnOk result (D.failure_count serving.new.tape ≡ D.failure_count serving.old.tape) }
+    ensures uncounted { IfErr result (λ f. (f ≡ Device → ⊥)
+        → D.failure_count serving.new.tape ≡ D.failure_count serving.old.tape) }
     ensures front { Begins serving.old.kept serving.new.kept }
     ensures told { KeepsFront (open_text serving.old.kept) (D.may_leave serving.new.tape) }
     ensures same { (serving.new.grid ≡ serving.old.grid) × (serving.new.cap ≡ serving.old.cap) }
@@ -101,6 +103,8 @@ fn book<R: Wait, D: Tape>(
         × (serving.new.kept ≡ serving.old.kept)
         × (D.failure_count serving.new.tape ≡ noted (D.failure_count serving.old.tape))) }
     ensures counted { OnOk result (D.failure_count serving.new.tape ≡ D.failure_count serving.old.tape) }
+    ensures uncounted { IfErr result (λ f. (f ≡ Device → ⊥)
+        → D.failure_count serving.new.tape ≡ D.failure_count serving.old.tape) }
     ensures front { Begins serving.old.kept serving.new.kept }
     ensures told { KeepsFront (open_text serving.old.kept) (D.may_leave serving.new.tape) }
     ensures same { (serving.new.grid ≡ serving.old.grid) × (serving.new.cap ≡ serving.old.cap) }

@@ -50,6 +50,8 @@ pub(crate) fn answer_to<R: Wait, D: Tape>(
         × (serving.new.kept ≡ serving.old.kept)
         × (D.failure_count serving.new.tape ≡ noted (D.failure_count serving.old.tape))) }
     ensures counted { OnOk result (D.failure_count serving.new.tape ≡ D.failure_count serving.old.tape) }
+    ensures uncounted { IfErr result (λ f. (f ≡ Device → ⊥)
+        → D.failure_count serving.new.tape ≡ D.failure_count serving.old.tape) }
     ensures front { Begins serving.old.kept serving.new.kept }
     ensures told { KeepsFront (open_text serving.old.kept) (D.may_leave serving.new.tape) }
     ensures same { (serving.new.grid ≡ serving.old.grid) × (serving.new.cap ≡ serving.old.cap) }

@@ -126,6 +126,8 @@ impl<'a, D: Tape> OpenHost<'a, D> {
             × (self.new.serving.kept ≡ self.old.serving.kept)
             × (D.failure_count self.new.serving.tape ≡ noted (D.failure_count self.old.serving.tape))) }
         ensures counted { OnOk result (D.failure_count self.new.serving.tape ≡ D.failure_count self.old.serving.tape) }
+        ensures uncounted { IfErr result (λ f. (f ≡ Device → ⊥)
+            → D.failure_count self.new.serving.tape ≡ D.failure_count self.old.serving.tape) }
         ensures front { Begins self.old.serving.kept self.new.serving.kept }
         ensures told { KeepsFront (open_text self.old.serving.kept) (D.may_leave self.new.serving.tape) }
         ensures same { (self.new.flights ≡ self.old.flights) × (self.new.session ≡ self.old.session)
