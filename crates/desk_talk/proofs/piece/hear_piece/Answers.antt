@@ -1,0 +1,18 @@
+use Rattle.std.proofs.Common.{arith, refl, take, true}
+use Rattle.desk_talk.proofs.Talking.{on_err_any, talks_left, talks_more, told_before}
+use Rattle.desk_talk.proofs.piece.hear_piece.Goals as goal
+
+pub returns-in_err-hear_byte-clause-told : goal.returns-in_err-hear_byte-clause-told
+returns-in_err-hear_byte-clause-told g c =
+    on_err_any _ _ (told_before g.D.Tape.seen g.D.Tape.may_leave g.D.Tape.unsynced g.D.Failures.failure_count c.args.host.now c.loop-byte.host c.args.line.now.items c.loop-byte.line.items
+    (take c.loop-byte.byte-index c.args.piece.now) (g.D.Tape.may_leave c.hear_byte.new.host.serving.tape) true _ _ _ _ c.loop-byte.invariant c.in_err-hear_byte.ensures.told)
+
+pub returns-then-not-branch-clause-talks : goal.returns-then-not-branch-clause-talks
+returns-then-not-branch-clause-talks g c =
+    talks_left g.D.Tape.seen g.D.Tape.may_leave g.D.Tape.unsynced g.D.Failures.failure_count c.args.host.now c.loop-byte.host c.hear_byte.new.host c.args.line.now.items c.loop-byte.line.items
+    c.hear_byte.new.line.items c.args.piece.now c.loop-byte.byte-index _ c.in_ok-hear_byte.field-0 _ _ _ _ _ _ c.loop-byte.invariant (omega (arith, c.loop-byte-test.true)) refl c.in_ok-hear_byte.ensures.talks c.if-not-branch.true
+
+pub loop-byte-preserved : goal.loop-byte-preserved
+loop-byte-preserved g c =
+    talks_more g.D.Tape.seen g.D.Tape.may_leave g.D.Tape.unsynced g.D.Failures.failure_count c.args.host.now c.loop-byte.host c.hear_byte.new.host c.args.line.now.items c.loop-byte.line.items
+    c.hear_byte.new.line.items c.args.piece.now c.loop-byte.byte-index _ c.in_ok-hear_byte.field-0 true _ _ _ _ _ _ c.loop-byte.invariant (omega (arith, c.loop-byte-test.true)) refl c.in_ok-hear_byte.ensures.talks c.if-not-branch.false

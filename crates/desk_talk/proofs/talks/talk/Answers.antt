@@ -1,0 +1,32 @@
+use Rattle.std.proofs.Common.{◌≡◌, List, ℕ, [], refl, rules, subst, true, ◌∙◌}
+use Rattle.std.specs.Io.KnownBytes.{Appends}
+use Rattle.desk_talk.proofs.Talking.{grown_behind, reads_none, reads_on, talk_is, told_before}
+use Rattle.desk_talk.proofs.talks.talk.Goals as goal
+
+pub loop-init : goal.loop-init
+loop-init g c =
+    (reads_none g.D.Tape.seen g.D.Tape.may_leave g.D.Tape.unsynced g.D.Failures.failure_count c.args.host.now c.new-line.result.items _ _ _ c.requires.ready, refl)
+
+pub returns-in_err-turn-clause-told : goal.returns-in_err-turn-clause-told
+returns-in_err-turn-clause-told g c =
+    told_before g.D.Tape.seen g.D.Tape.may_leave g.D.Tape.unsynced g.D.Failures.failure_count c.args.host.now c.loop.host c.new-line.result.items c.loop.line.items
+    c.loop.invariant.0.bytes (g.D.Tape.may_leave c.turn.new.host.serving.tape) true _ _ _ _ c.loop.invariant.0.talks c.in_err-turn.ensures.told
+
+pub returns-then-not-branch-clause-talk : goal.returns-then-not-branch-clause-talk
+returns-then-not-branch-clause-talk g c =
+    let put : Appends (g.W.Write.contents c.args.out.now) (g.W.Write.contents c.put_all.new.out) c.ready_of-ready.result.items = subst (λ (t : List ℕ). Appends (g.W.Write.contents c.args.out.now) (g.W.Write.contents c.put_all.new.out) t) c.as_slice.ensures.value c.in-Ok.ensures.ok in
+    let empty : c.new-line.result.items ≡ [] = search rules in
+    talk_is g.D.Tape.seen g.D.Tape.may_leave g.D.Tape.unsynced g.D.Failures.failure_count c.args.host.now c.loop.host c.turn.new.host c.loop.line.items c.turn.new.line.items c.new-line.result.items
+    c.in_ok-turn.field-0 _ _ _ (g.W.Write.contents c.args.out.now) _ _ _ _ _ _ c.ready_of-ready.result.items c.ready_of-ready.ensures put empty c.loop.invariant.0 c.in_ok-turn.ensures.turns c.if-not-branch.true
+
+pub returns-then-not-branch-clause-told : goal.returns-then-not-branch-clause-told
+returns-then-not-branch-clause-told g c =
+    grown_behind g.D.Tape.seen g.D.Tape.may_leave g.D.Tape.unsynced g.D.Failures.failure_count c.args.host.now c.loop.host c.turn.new.host c.loop.line.items c.turn.new.line.items c.new-line.result.items
+    c.in_ok-turn.field-0 _ _ _ _ _ _ _ _ _ c.loop.invariant.0 c.in_ok-turn.ensures.turns c.if-not-branch.true
+
+pub loop-preserved : goal.loop-preserved
+loop-preserved g c = (
+  reads_on g.D.Tape.seen g.D.Tape.may_leave g.D.Tape.unsynced g.D.Failures.failure_count c.args.host.now c.loop.host c.turn.new.host c.new-line.result.items c.loop.line.items c.turn.new.line.items
+      c.in_ok-turn.field-0 _ _ _ _ _ _ _ _ _ c.loop.invariant.0 c.in_ok-turn.ensures.turns c.if-not-branch.false,
+  c.in_ok-turn.ensures.counted ∙ c.loop.invariant.1,
+)

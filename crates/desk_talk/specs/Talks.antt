@@ -1,0 +1,113 @@
+-- What a desk is told that talks with an open host, byte by byte of what it writes.
+use Rattle.std.specs.Prelude.{◌≡◌, ◌⊎◌, ℕ, Bool, true, false, Option, List, [], ◌∷◌, ◌++◌, length, take}
+use Rattle.std.specs.Io.KnownBytes.{Appends, Consumes, IsAtEnd}
+use Rattle.airline_base.specs.Lines.{is_line_feed}
+use Rattle.seat_rules.specs.Journal.{calls_of}
+use Rattle.seat_rules.specs.Prefixes.{Begins}
+use Rattle.desk_answers.specs.FaultLines.{memory_line}
+use Rattle.desk_answers.specs.Hosts.{Attended, IsReady}
+use Rattle.desk_answers.specs.Saying.{IsAnswered, IsCounted}
+use Rattle.desk_answers.specs.declared.heard.Heard.{Heard}
+use Rattle.desk_talk.specs.Ready.{IsReadyLine}
+
+-- ---- a line
+
+-- the host answered it, and so the desk stays or goes
+pub record IsSpoken {D : Type 0} (old new : Attended D) (line : List ℕ) (stays : Bool) (text : List ℕ) : Type 0 where
+  pub heard : Heard
+  pub answered : IsAnswered old new line heard
+  pub stays_is : stays ≡ heard.stays
+  pub says : text ≡ heard.text.items
+
+-- memory was wanting for it: it counts, nothing was booked, and the desk stays
+pub record IsWanting {D : Type 0} (old new : Attended D) (line : List ℕ) (stays : Bool) (text : List ℕ) : Type 0 where
+  pub counts : IsCounted old.desk new.desk line
+  pub same : new.serving.journal ≡ old.serving.journal
+  pub stays_on : stays ≡ true
+  pub says : text ≡ memory_line old.session new.desk.lines
+
+abbrev pub IsTold : {D : Type 0} → Attended D → Attended D → List ℕ → Bool → List ℕ → Type 0
+IsTold old new line stays text = IsSpoken old new line stays text ⊎ IsWanting old new line stays text
+
+-- ---- bytes
+
+-- of a line 257 bytes are held, which is enough to tell that it is too long
+unfoldable pub held : List ℕ → List ℕ
+held bytes = take 257 bytes
+
+-- the byte ends a line, or it is of one
+abbrev pub IsEnd : ℕ → Type 0
+IsEnd c = is_line_feed c ≡ true
+
+abbrev pub IsHeld : ℕ → Type 0
+IsHeld c = is_line_feed c ≡ false
+
+-- behind these bytes of a line come those: each is held until an LF ends the line, which is then told of. Behind the line with
+-- which the desk goes nothing is heard; what is held at the end is no line, and nothing is told of it
+abbrev pub Talked : {D : Type 0} → Attended D → List ℕ → List ℕ → Attended D → List ℕ → Bool → List ℕ → Type 0
+Talked {D} old before [] new after stays text = (new ≡ old) × (after ≡ before) × (stays ≡ true) × (text ≡ [])
+Talked {D} old before (c ∷ bytes) new after stays text =
+    (IsHeld c × Talked old (held (before ++ c ∷ [])) bytes new after stays text)
+    ⊎ (((mid : Attended D) × (first more : List ℕ) × IsEnd c × IsTold old mid (held (before ++ c ∷ [])) true first
+    × Talked mid [] bytes new after stays more × (text ≡ first ++ more))
+    ⊎ (IsEnd c × IsTold old new (held (before ++ c ∷ [])) false text × (after ≡ []) × (stays ≡ false)))
+
+-- ---- talks
+
+-- how many calls of a device have failed
+abbrev pub Failures : Type 0 → Type 0
+Failures D = D → ℕ
+
+-- a line was told of: it is on the disk, where it asks for seats, and no device failed
+pub record TellsOf {D : Type 0} (seen : D → Option (List ℕ)) (leaves : D → List ℕ → Type 0) (unsynced failures : Failures D)
+    (old : Attended D) (line : List ℕ) (new : Attended D) (stays : Bool) (out_old out_new : Option (List ℕ))
+    (count_old count_new : ℕ) : Type 0 where
+  pub text : List ℕ
+  pub told : IsTold old new line stays text
+  pub written : Appends out_old out_new text
+  pub is_ready : IsReady seen leaves unsynced new.serving
+  pub grows : Begins old.serving.kept new.serving.kept
+  pub counted : count_new ≡ count_old
+  pub tape_counted : failures new.serving.tape ≡ failures old.serving.tape
+
+-- what a desk has written so far, and what it was told
+pub record TalksOn {D : Type 0} (seen : D → Option (List ℕ)) (leaves : D → List ℕ → Type 0) (unsynced failures : Failures D)
+    (old : Attended D) (before bytes : List ℕ) (new : Attended D) (after : List ℕ) (stays : Bool)
+    (out_old out_new : Option (List ℕ)) (count_old count_new : ℕ) : Type 0 where
+  pub text : List ℕ
+  pub talked : Talked old before bytes new after stays text
+  pub written : Appends out_old out_new text
+  pub is_ready : IsReady seen leaves unsynced new.serving
+  pub grows : Begins old.serving.kept new.serving.kept
+  pub counted : count_new ≡ count_old
+  pub tape_counted : failures new.serving.tape ≡ failures old.serving.tape
+
+-- these bytes of what the desk writes were read, and heard
+pub record Reads {D : Type 0} (seen : D → Option (List ℕ)) (leaves : D → List ℕ → Type 0) (unsynced failures : Failures D)
+    (old : Attended D) (before : List ℕ) (new : Attended D) (after : List ℕ) (stays : Bool) (in_old in_new : Option (List ℕ))
+    (out_old out_new : Option (List ℕ)) (count_old count_new : ℕ) : Type 0 where
+  pub bytes : List ℕ
+  pub consumed : Consumes in_old in_new bytes
+  pub talks : TalksOn seen leaves unsynced failures old before bytes new after stays out_old out_new count_old count_new
+
+-- one read: more may come; or it is the last, at the end of what the desk writes, or with the line with which the desk goes
+abbrev pub Turns : {D : Type 0} → (D → Option (List ℕ)) → (D → List ℕ → Type 0) → Failures D → Failures D → Attended D
+    → List ℕ → Attended D → List ℕ → Bool → Option (List ℕ) → Option (List ℕ) → Option (List ℕ) → Option (List ℕ) → ℕ → ℕ
+    → Type 0
+Turns seen leaves unsynced failures old before new after true in_old in_new out_old out_new m n =
+    Reads seen leaves unsynced failures old before new after true in_old in_new out_old out_new m n
+Turns seen leaves unsynced failures old before new after false in_old in_new out_old out_new m n =
+    (IsAtEnd in_new × Reads seen leaves unsynced failures old before new after true in_old in_new out_old out_new m n)
+    ⊎ Reads seen leaves unsynced failures old before new after false in_old in_new out_old out_new m n
+
+-- a whole talk: the desk is told where it stands, and then of each of its lines, up to the end of what it writes, or to the line
+-- with which it goes
+pub record IsTalk {D : Type 0} (old new : Attended D) (out_old out_new : Option (List ℕ)) (input : List ℕ) : Type 0 where
+  pub ready : List ℕ
+  pub is_ready : IsReadyLine old.session (length old.serving.journal) (calls_of old.serving.journal old.session)
+      old.desk.today ready
+  pub after : List ℕ
+  pub stays : Bool
+  pub told : List ℕ
+  pub talked : Talked old [] input new after stays told
+  pub written : Appends out_old out_new (ready ++ told)
