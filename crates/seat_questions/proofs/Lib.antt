@@ -1,11 +1,11 @@
 pub mod Common
 mod Coverages
-mod Covers
+pub mod Covers
 mod Effects
 mod Numbering
 mod Reasons
-mod RoomTexts
-mod Standings
+pub mod RoomTexts
+pub mod Standings
 mod Winners
 pub mod LiveTexts
 pub mod Making

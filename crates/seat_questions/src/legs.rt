@@ -89,7 +89,8 @@ fn put_leg(
     put_covered(text, core, place.flight, leg, dated)
 }
 
-fn has_leg(place: Place, leg: u8) -> bool
+/// Whether a place covers a leg of its flight.
+pub fn has_leg(place: Place, leg: u8) -> bool
     ensures { result ≡ has_leg place leg }
 {
     place.from <= leg && leg <= place.to
@@ -128,7 +129,7 @@ fn put_standing(text: &mut Vec<u8>, core: &Core, flight: u32, leg: u8) -> Result
 }
 
 /// Adds a class and a number behind a blank.
-fn put_class(text: &mut Vec<u8>, class: Class, number: u64) -> Result<(), AllocError>
+pub fn put_class(text: &mut Vec<u8>, class: Class, number: u64) -> Result<(), AllocError>
     ensures { OnOk result (text.new.items ≡ text.old.items ++ class_text class number) }
 {
     put(text, &[b' ', class.letter()])?;
@@ -237,7 +238,8 @@ fn put_rooms(
     put(text, b"\n")
 }
 
-fn put_each_room(
+/// Adds the room in each class on a leg alone.
+pub fn put_each_room(
     text: &mut Vec<u8>,
     core: &Core,
     flight: u32,
@@ -275,7 +277,8 @@ fn put_waits(
     put(text, b"\n")
 }
 
-fn put_each_wait(
+/// Adds the seats that wait in each class, of the most that may.
+pub fn put_each_wait(
     text: &mut Vec<u8>,
     core: &Core,
     flight: u32,

@@ -19,5 +19,6 @@ pub use laws::{
     found_places_are_written, opening_rooms_are_of_no_lines, rows_without_effect_give_nothing,
     written_places_are_found,
 };
-pub use rooms::{Bars, CityPair, RoomsOf};
+pub use legs::{has_leg, put_class, put_each_room, put_each_wait};
+pub use rooms::{Bars, CityPair, RoomsOf, keeps_day, keeps_pair};
 pub use why::Why;

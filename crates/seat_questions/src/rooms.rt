@@ -276,7 +276,8 @@ fn keeps(asked: &RoomsOf, run: &DatedLeg) -> bool
     keeps_day(asked.day, run.day) && keeps_pair(asked.pair, run)
 }
 
-fn keeps_day(asked: Option<Day>, day: Day) -> bool
+/// Whether a day is asked for.
+pub fn keeps_day(asked: Option<Day>, day: Day) -> bool
     ensures { result ≡ keeps_day asked day }
 {
     match asked {
@@ -285,7 +286,8 @@ fn keeps_day(asked: Option<Day>, day: Day) -> bool
     }
 }
 
-fn keeps_pair(asked: Option<CityPair>, run: &DatedLeg) -> bool
+/// Whether the stations of a run are asked for.
+pub fn keeps_pair(asked: Option<CityPair>, run: &DatedLeg) -> bool
     ensures { result ≡ keeps_pair asked run.now }
 {
     match asked {

@@ -1,0 +1,3 @@
+pub mod LoadTexts
+pub mod Adding
+pub mod Riding

@@ -1,0 +1,90 @@
+-- The lines of legs, and the text of all of them.
+use Rattle.std.proofs.Common.{arith, Bool, true, false, ◌≡◌, ℕ, ◌+◌, ◌<◌, List, [], ◌∷◌, ◌++◌, length, drop, get_or, refl, sym, ap, ◌∙◌, subst, append_assoc, codes}
+use Rattle.std.specs.List.{flat_map}
+use Rattle.std.proofs.lemmas.List.{append-nil}
+use Rattle.seat_questions.proofs.Common.{DatedLeg, Flight, Fits, Ladders, Steps, Entry, replay, State, IsLegText}
+use Rattle.seat_nesting.specs.Nesting.{ByClass, held_from, ladder_at, legs_of}
+use Rattle.seat_nesting.specs.declared.ladder.Step.{Step}
+use Rattle.seat_rules.specs.Inventory.{Inventory, state_now}
+use Rattle.seat_desk.specs.AuditDesk.{IsReplayOf}
+use Rattle.seat_desk.specs.FlightsDesk.{IsText, head_text}
+use Rattle.seat_questions.specs.Why.{one_leg}
+use Rattle.seat_loads.specs.Legs.{is_kept, load_text, load_texts, standing_text}
+use Rattle.seat_loads.specs.Loads.{AreLoadsAfter, IsFlightPart, IsLegLine, IsLegPart, IsLegPartBy, IsLoadsText, IsPutBehind}
+use Rattle.seat_loads.specs.Sums.{AreSums, sums_text}
+use Rattle.seat_loads.specs.declared.loads.LoadsOf.{LoadsOf}
+use Rattle.seat_loads.specs.declared.sums.Sums.{Sums}
+use Rattle.ssim_flights.proofs.Walks.{drop_step}
+
+-- the loads of the inventory that the journal comes to are those that the journal leaves
+pub loads_of_replay : (asked : LoadsOf) (flights : List Flight) (grid : Ladders) (bytes text : List ℕ)
+    (core : Inventory) → IsReplayOf grid bytes core
+    → IsLoadsText asked (state_now core) flights text → AreLoadsAfter asked flights grid bytes text
+loads_of_replay asked flights grid bytes text core is listed = record {
+  entries = core.journal;
+  is_text = is.is_text;
+  legal = is.legal;
+  few = is.few;
+  listed = subst (λ (g : Ladders). IsLoadsText asked (replay g core.journal) flights text) is.grid_is listed;
+}
+
+pub text_put : (asked : LoadsOf) (s : State) (flights : List Flight) (lines text : List ℕ) (sums : Sums)
+    → IsText (IsFlightPart asked s) 0 flights lines → AreSums asked s flights sums → text ≡ lines ++ sums_text sums
+    → IsLoadsText asked s flights text
+text_put asked s flights lines text sums are_lines are_sums is =
+    record { lines = lines; are_lines = are_lines; sums = sums; are_sums = are_sums; written = is }
+
+-- ---- a leg
+
+pub leg_left : (asked : LoadsOf) (s : State) (i : ℕ) (flight : Flight) (j : ℕ) (leg : DatedLeg) (text : List ℕ)
+    → is_kept asked leg ≡ false → IsPutBehind (IsLegPart asked s i flight j leg) text text
+leg_left asked s i flight j leg text e = record {
+  part = [];
+  is_part = subst (λ (b : Bool). IsLegPartBy b s i flight j leg []) (sym e) refl;
+  written = sym (append-nil text);
+}
+
+pub leg_kept : (asked : LoadsOf) (s : State) (i : ℕ) (flight : Flight) (j : ℕ) (leg : DatedLeg) (old new : List ℕ)
+    → is_kept asked leg ≡ true → IsPutBehind (IsLegLine s i flight j leg) old new
+    → IsPutBehind (IsLegPart asked s i flight j leg) old new
+leg_kept asked s i flight j leg old new e put = record {
+  part = put.part;
+  is_part = subst (λ (b : Bool). IsLegPartBy b s i flight j leg put.part) (sym e) put.is_part;
+  written = put.written;
+}
+
+assoc_four : (o a b c d : List ℕ) → (((o ++ a) ++ b) ++ c) ++ d ≡ o ++ (a ++ b ++ c ++ d)
+assoc_four o a b c d = simp append_assoc
+
+pub leg_put : (s : State) (i : ℕ) (flight : Flight) (j : ℕ) (leg : DatedLeg) (old a b c new : List ℕ)
+    → a ≡ old ++ head_text i flight → (way : List ℕ) × IsLegText 0 leg way × (b ≡ a ++ way)
+    → c ≡ b ++ standing_text s i j → new ≡ c ++ 10 ∷ []
+    → IsPutBehind (IsLegLine s i flight j leg) old new
+leg_put s i flight j leg old a b c new is_a way is_c is_new =
+    let feed : List ℕ = 10 ∷ [] in
+    record {
+      part = head_text i flight ++ way.0 ++ standing_text s i j ++ feed;
+      is_part = record { way = way.0; is_way = way.1; written = refl };
+      written =
+          is_new ∙ ap (λ (l : List ℕ). l ++ feed)
+          (is_c ∙ ap (λ (l : List ℕ). l ++ standing_text s i j) (way.2 ∙ ap (λ (l : List ℕ). l ++ way.0) is_a))
+          ∙ assoc_four old (head_text i flight) way.0 (standing_text s i j) feed;
+    }
+
+-- a leg that is there fits the grid alone
+pub leg_fits : (grid : Ladders) (i j : ℕ) → j < length (legs_of grid i) → Fits grid (one_leg i j)
+leg_fits grid i j there = (omega arith, there)
+
+-- one class more
+pub class_put : (seats : ByClass) (steps ladder : Steps) (i : ℕ) (s : Step) (count : ℕ) (mid new whole : List ℕ)
+    → steps ≡ ladder → i < length steps → s ≡ get_or steps i s
+    → count ≡ held_from seats (drop i ladder) → mid ++ load_texts seats (drop i steps) ≡ whole
+    → new ≡ mid ++ load_text count s
+    → new ++ load_texts seats (drop (i + 1) steps) ≡ whole
+class_put seats steps ladder i s count mid new whole same inside is counted so_far put =
+    let rest : drop i steps ≡ s ∷ drop (i + 1) steps = drop_step steps i s inside is in
+    let here : count ≡ held_from seats (s ∷ drop (i + 1) steps) = counted ∙ ap (λ (l : Steps). held_from seats (drop i l)) (sym same) ∙ ap (held_from seats) rest in
+    ap (λ (l : List ℕ). l ++ load_texts seats (drop (i + 1) steps)) (put ∙ ap (λ (n : ℕ). mid ++ load_text n s) here)
+    ∙ append_assoc mid (load_text (held_from seats (s ∷ drop (i + 1) steps)) s) (load_texts seats (drop (i + 1) steps))
+    ∙ ap (λ (l : Steps). mid ++ load_texts seats l) (sym rest)
+    ∙ so_far

@@ -1,0 +1,20 @@
+use Rattle.std.proofs.Common.{ℕ, [], subst, sym, zero-add}
+use Rattle.seat_rules.specs.Inventory.{state_now}
+use Rattle.seat_desk.proofs.Texts.{put_more, put_none, text_whole}
+use Rattle.seat_questions.proofs.Covers.{there, here}
+use Rattle.seat_loads.specs.Loads.{IsFlightPart}
+use Rattle.seat_loads.proofs.loads.lines_of.Goals as goal
+
+pub loop-index-init : goal.loop-index-init
+loop-index-init c = rw c.new-text.ensures.items (put_none (IsFlightPart c.args.asked.now (state_now c.args.core.now)) 0 [])
+
+pub loop-index-preserved : goal.loop-index-preserved
+loop-index-preserved c =
+    let legs = c.in_ok-put_flight.ensures in
+    let state = state_now c.args.core.now in
+    put_more (IsFlightPart c.args.asked.now state) 0 c.loop-index.index c.args.flights.now c.flight.result.now [] c.loop-index.text.items c.put_flight.new.text.items legs.part
+    c.loop-index.invariant (there c.args.flights.now c.loop-index.index c.flight.result.now c.flight.ensures.value) (here c.args.flights.now c.loop-index.index c.flight.result.now c.flight.ensures.value)
+    (subst (λ (k : ℕ). IsFlightPart c.args.asked.now state k c.flight.result.now legs.part) (sym (zero-add c.loop-index.index)) legs.is_text) legs.written
+
+pub returns : goal.returns
+returns c = text_whole (IsFlightPart c.args.asked.now (state_now c.args.core.now)) 0 c.loop-index.index c.len-index-end.result c.args.flights.now c.loop-index.text.items c.loop-index.invariant c.len-index-end.ensures.value c.loop-index-test.false

@@ -1,0 +1,55 @@
+-- What `loads` writes: a line for each leg that is kept, and one of sums.
+use Rattle.std.specs.Prelude.{◌≡◌, ◌≤◌, ℕ, Bool, true, false, List, [], ◌∷◌, ◌++◌, length}
+use Rattle.ssim_flights.specs.declared.flight.DatedLeg.{DatedLeg}
+use Rattle.ssim_flights.specs.declared.flight.Flight.{Flight as Flown}
+use Rattle.seat_journal.specs.Text.{IsJournalText}
+use Rattle.seat_journal.specs.declared.entry.Entry.{Entry}
+use Rattle.seat_nesting.specs.Nesting.{Ladders}
+use Rattle.seat_rules.specs.Journal.{IsLegal, replay}
+use Rattle.seat_rules.specs.Sequential.{State}
+use Rattle.seat_desk.specs.AuditDesk.{most_lines}
+use Rattle.seat_desk.specs.FlightsDesk.{IsLegText, IsText, head_text}
+use Rattle.seat_loads.specs.Legs.{is_kept, standing_text}
+use Rattle.seat_loads.specs.Sums.{AreSums, sums_text}
+use Rattle.seat_loads.specs.declared.loads.LoadsOf.{LoadsOf}
+use Rattle.seat_loads.specs.declared.sums.Sums.{Sums}
+
+-- INDEX DESIGNATOR BOARD/DAY/OFF, and how the leg stands
+pub record IsLegLine (s : State) (i : ℕ) (flight : Flown) (j : ℕ) (leg : DatedLeg) (text : List ℕ) : Type 0 where
+  pub way : List ℕ
+  pub is_way : IsLegText 0 leg way
+  pub written : text ≡ head_text i flight ++ way ++ standing_text s i j ++ 10 ∷ []
+
+abbrev pub IsLegPartBy : Bool → State → ℕ → Flown → ℕ → DatedLeg → List ℕ → Type 0
+IsLegPartBy true s i flight j leg text = IsLegLine s i flight j leg text
+IsLegPartBy false s i flight j leg text = text ≡ []
+
+-- the line of a leg, where it is kept
+abbrev pub IsLegPart : LoadsOf → State → ℕ → Flown → ℕ → DatedLeg → List ℕ → Type 0
+IsLegPart asked s i flight j leg text = IsLegPartBy (is_kept asked leg) s i flight j leg text
+
+-- such a text is written behind what was there
+pub record IsPutBehind (IsPart : List ℕ → Type 0) (old new : List ℕ) : Type 0 where
+  pub part : List ℕ
+  pub is_part : IsPart part
+  pub written : new ≡ old ++ part
+
+-- the legs of a flight
+abbrev pub IsFlightPart : LoadsOf → State → ℕ → Flown → List ℕ → Type 0
+IsFlightPart asked s i flight text = IsText (IsLegPart asked s i flight) 0 flight.legs text
+
+-- those of all flights, flights and legs counted from 0, and the sums
+pub record IsLoadsText (asked : LoadsOf) (s : State) (flights : List Flown) (text : List ℕ) : Type 0 where
+  pub lines : List ℕ
+  pub are_lines : IsText (IsFlightPart asked s) 0 flights lines
+  pub sums : Sums
+  pub are_sums : AreSums asked s flights sums
+  pub written : text ≡ lines ++ sums_text sums
+
+-- the bytes are the text of a legal history over these limits, and the text has the loads that it leaves
+pub record AreLoadsAfter (asked : LoadsOf) (flights : List Flown) (grid : Ladders) (journal text : List ℕ) : Type 0 where
+  pub entries : List Entry
+  pub is_text : IsJournalText journal entries
+  pub legal : IsLegal grid entries
+  pub few : length entries ≤ most_lines
+  pub listed : IsLoadsText asked (replay grid entries) flights text
