@@ -1,0 +1,3 @@
+pub mod Laws
+pub mod Segments
+pub mod Telling
