@@ -2,8 +2,6 @@
 use Rattle.std.proofs.Common.{◌≡◌, ℕ, List, [], ◌∷◌, ◌++◌, Some, None, refl, sym, ap, subst, ◌∙◌, append_assoc, decimal, codes}
 use Rattle.airline_base.specs.Days.{IsDateText}
 use Rattle.airline_base.specs.Fields.{suffix_text}
-use Rattle.airimp_lines.specs.Grammar.{IsPlainLine, reply_of}
-use Rattle.airimp_lines.specs.declared.segment.Segment.{Segment}
 use Rattle.ssim_flights.specs.declared.flight.DatedLeg.{DatedLeg}
 use Rattle.ssim_flights.specs.declared.flight.Flight.{Flight as Flown}
 use Rattle.seat_journal.specs.declared.entry.Change.{Change}
@@ -13,21 +11,14 @@ use Rattle.desk_telling.specs.Segments.{segment_of}
 use Rattle.desk_telling.specs.Telling.{IsBehind, IsLegName, IsLegOn, IsLimitLine, IsSeatsLine, IsSegmentText, limit_text, told_head}
 use Rattle.std.specs.Prelude.{slice_get}
 
-four : (a b c d : List ℕ) → ((a ++ b) ++ c) ++ d ≡ a ++ ((b ++ c) ++ d)
-four a b c d = simp append_assoc
-
 pub seats_line : (flights : List Flown) (desk : ℕ) (e : Entry) (c : Command) (code : List ℕ) (seats : ℕ)
-    (none head located spaced named line : List ℕ) → none ≡ [] → head ≡ none ++ told_head desk e
+    (none head located spaced text named line : List ℕ) → none ≡ [] → head ≡ none ++ told_head desk e
     → located ≡ head ++ c.locator → spaced ≡ located ++ 32 ∷ []
-    → IsBehind (IsSegmentText (segment_of flights c) code seats) spaced named → line ≡ named ++ 10 ∷ []
+    → IsSegmentText (segment_of flights c) code seats text → named ≡ spaced ++ text → line ≡ named ++ 10 ∷ []
     → IsSeatsLine flights desk e c code seats line
-seats_line flights desk e c code seats none head located spaced named line e0 e1 e2 e3 put e5 =
+seats_line flights desk e c code seats none head located spaced text named line e0 e1 e2 e3 is e4 e5 =
     let begun : head ≡ told_head desk e = e1 ∙ ap (λ (l : List ℕ). l ++ told_head desk e) e0 in
-    record {
-      text = put.part;
-      is_text = put.is_part;
-      written = rw (e5, put.written, e3, e2, begun) refl;
-    }
+    record { text = text; is_text = is; written = rw (e5, e4, e3, e2, begun) refl }
 
 pub limit_line : (flights : List Flown) (desk : ℕ) (e : Entry) (c : Change) (none head named spaced limited line : List ℕ)
     → none ≡ [] → head ≡ none ++ told_head desk e → IsBehind (IsLegOn (slice_get flights c.flight) c.leg) head named
@@ -41,20 +32,9 @@ limit_line flights desk e c none head named spaced limited line e0 e1 put e3 e4 
       written = rw (e5, e4, e3, put.written, begun) refl;
     }
 
-pub names_put : (s : Segment) (code : List ℕ) (seats : ℕ) (old part new : List ℕ) → IsPlainLine (reply_of s code seats) part
-    → new ≡ old ++ part → IsBehind (IsSegmentText (Some s) code seats) old new
-names_put s code seats old part new is written = record { part = part; is_part = is; written = written }
-
-pub no_names_put : (code : List ℕ) (seats : ℕ) (old a b new : List ℕ) → a ≡ old ++ codes "- " → b ≡ a ++ code
-    → new ≡ b ++ decimal seats → IsBehind (IsSegmentText None code seats) old new
-no_names_put code seats old a b new e1 e2 e3 = record {
-  part = codes "- " ++ code ++ decimal seats;
-  is_part = refl;
-  written = rw (e3, e2, e1) (four old (codes "- ") code (decimal seats));
-}
-
-pub text_put : (is : List ℕ → Type 0) (old part new : List ℕ) → is part → new ≡ old ++ part → IsBehind is old new
-text_put is old part new holds written = record { part = part; is_part = holds; written = written }
+pub no_segment : (code : List ℕ) (seats : ℕ) (none a b new : List ℕ) → none ≡ [] → a ≡ none ++ codes "- " → b ≡ a ++ code
+    → new ≡ b ++ decimal seats → new ≡ codes "- " ++ code ++ decimal seats
+no_segment code seats none a b new e0 e1 e2 e3 = rw (e3, e2, e1, e0) refl
 
 all_names : (o a n s d b f : List ℕ)
     → (((((((o ++ a) ++ n) ++ s) ++ 32 ∷ []) ++ d) ++ 32 ∷ []) ++ b) ++ f

@@ -7,5 +7,6 @@ mod lines;
 mod segment;
 mod telling;
 
+pub use lines::segment_text;
 pub use segment::segment_of;
 pub use telling::{put_told, put_told_behind};

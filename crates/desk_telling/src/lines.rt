@@ -1,12 +1,12 @@
 //! The lines in which a desk is told of replies and advices. Each has a bound, so it is spelled without memory.
 //! It knows how a line is spelled, and nothing of which lines a desk is told.
-ghost use Rattle.std.specs.Prelude.{◌≡◌, ◌+◌, ◌≤◌, ◌++◌, Some, codes, length, slice_get};
+ghost use Rattle.std.specs.Prelude.{◌≡◌, ◌+◌, ◌≤◌, ◌++◌, codes, decimal, length, slice_get};
 ghost use Rattle.airline_base.specs.Fields.{suffix_text};
 ghost use Rattle.desk_telling.specs.Segments.{segment_of};
 ghost use Rattle.desk_telling.specs.Telling.{IsBehind, IsLegName, IsLegOf, IsLegOn, IsLimitLine, IsReplyLine, IsSeatsLine, IsSegmentText, limit_text, told_head};
 
 use crate::segment::segment_of;
-use airimp_lines::{Segment, reply_text};
+use airimp_lines::reply_text;
 use airline_base::Code;
 use airline_base::spelling::{put, put_number};
 use arrayvec::ArrayVec;
@@ -45,7 +45,10 @@ pub(crate) fn seats_line(
     put_head(&mut line, desk, entry);
     put(&mut line, &command.locator.characters());
     put(&mut line, b" ");
-    put_segment(&mut line, segment_of(flights, command), code, seats);
+    put(
+        &mut line,
+        segment_text(flights, command, code, seats).as_slice(),
+    );
     put(&mut line, b"\n");
     line
 }
@@ -76,36 +79,31 @@ fn put_head(line: &mut Line, desk: u8, entry: &Entry)
     put(line, b" ");
 }
 
-/// A segment line, or `- `, two letters and a number.
-fn put_segment(line: &mut Line, segment: Option<Segment>, code: Code, seats: u16)
-    requires room { length line.old.items + 48 ≤ 96 }
-    ensures text { IsBehind (IsSegmentText segment code seats) line.old.items line.new.items }
-    ensures len { length line.new.items ≤ length line.old.items + 48 }
+/// The segment of a command with this code and these seats; `-` stands for one that is not there.
+pub fn segment_text(
+    flights: &Flights,
+    command: &Command,
+    code: Code,
+    seats: u16,
+) -> ArrayVec<u8, 48>
+    ensures { IsSegmentText (segment_of flights.now command.now) code seats result.items }
 {
-    match segment {
-        Some(segment) => put_names(line, &segment, code, seats),
-        None => put_no_names(line, code, seats),
+    match segment_of(flights, command) {
+        Some(segment) => reply_text(&segment, code, seats),
+        None => no_segment_text(code, seats),
     }
 }
 
-#[tactic(auto, using(crate::proofs::Spelling::names_put))]
-fn put_names(line: &mut Line, segment: &Segment, code: Code, seats: u16)
-    requires room { length line.old.items + 48 ≤ 96 }
-    ensures text { IsBehind (IsSegmentText (Some segment.now) code seats) line.old.items line.new.items }
-    ensures len { length line.new.items ≤ length line.old.items + 48 }
+/// `- `, two letters and a number.
+#[tactic(auto, using(crate::proofs::Spelling::no_segment))]
+fn no_segment_text(code: Code, seats: u16) -> ArrayVec<u8, 48>
+    ensures { result.items ≡ codes "- " ++ code ++ decimal seats }
 {
-    put(line, reply_text(segment, code, seats).as_slice());
-}
-
-#[tactic(auto, using(crate::proofs::Spelling::no_names_put))]
-fn put_no_names(line: &mut Line, code: Code, seats: u16)
-    requires room { length line.old.items + 48 ≤ 96 }
-    ensures text { IsBehind (IsSegmentText None code seats) line.old.items line.new.items }
-    ensures len { length line.new.items ≤ length line.old.items + 48 }
-{
-    put(line, b"- ");
-    put(line, &code.letters());
-    put_number(line, seats as u32);
+    let mut text = ArrayVec::new();
+    put(&mut text, b"- ");
+    put(&mut text, &code.letters());
+    put_number(&mut text, seats as u32);
+    text
 }
 
 /// The leg of a change, by the names of its flight.
