@@ -15,6 +15,7 @@ complete -c seatdesk -n __fish_use_subcommand -a audit -d 'Replays a journal aga
 complete -c seatdesk -n __fish_use_subcommand -a seal -d 'Writes the seal of a journal that audit accepts, which says what the journal belongs to'
 complete -c seatdesk -n __fish_use_subcommand -a recover -d 'Cuts a journal that was left open back to its right lines, writes its END line, and says so'
 complete -c seatdesk -n __fish_use_subcommand -a replies -d 'Writes the replies of a run once more, from its journal and its scripts'
+complete -c seatdesk -n __fish_use_subcommand -a told -d 'Writes what a desk is told of a journal: the replies to its lines, and the advices to its bookings'
 complete -c seatdesk -n __fish_use_subcommand -a why -d 'Writes the reason of one reply of a journal: what the limits left, and the right answer'
 complete -c seatdesk -n __fish_use_subcommand -a explain -d 'Says what a fault line means, or the code of a reply'
 complete -c seatdesk -n __fish_use_subcommand -a help -d 'Print this message or the help of the given subcommand(s)'
@@ -120,6 +121,17 @@ complete -c seatdesk -n '__fish_seen_subcommand_from replies' -s v -l verbose -d
 complete -c seatdesk -n '__fish_seen_subcommand_from replies' -s h -l help -d 'Print help'
 complete -c seatdesk -n '__fish_seen_subcommand_from replies' -F
 
+complete -c seatdesk -n '__fish_seen_subcommand_from told' -l set -r -F -d 'The data set of the schedule (SSIM chapter 7, a file)'
+complete -c seatdesk -n '__fish_seen_subcommand_from told' -l limits -r -F -d 'The booking limits of the legs, in seats from 0 to 999 (a file)'
+complete -c seatdesk -n '__fish_seen_subcommand_from told' -l first -x -d 'The first day of departure, as 2024-06-01, from 2000 to 2099'
+complete -c seatdesk -n '__fish_seen_subcommand_from told' -l days -x -d 'How many days from the first on, 1 to 366'
+complete -c seatdesk -n '__fish_seen_subcommand_from told' -l desk -x -d 'The desk, by its session, 1 to 8, or 0 for the manager'
+complete -c seatdesk -n '__fish_seen_subcommand_from told' -l from -x -d 'What the desk is told of the lines of JOURNAL from this number on'
+complete -c seatdesk -n '__fish_seen_subcommand_from told' -l open -d 'Takes a JOURNAL that is still open: its whole lines count, and it needs no END line'
+complete -c seatdesk -n '__fish_seen_subcommand_from told' -s v -l verbose -d 'Names the file of a fault, and where in it the fault stands, or the system\'s reason'
+complete -c seatdesk -n '__fish_seen_subcommand_from told' -s h -l help -d 'Print help'
+complete -c seatdesk -n '__fish_seen_subcommand_from told' -F
+
 complete -c seatdesk -n '__fish_seen_subcommand_from why' -l set -r -F -d 'The data set of the schedule (SSIM chapter 7, a file)'
 complete -c seatdesk -n '__fish_seen_subcommand_from why' -l limits -r -F -d 'The booking limits of the legs, in seats from 0 to 999 (a file)'
 complete -c seatdesk -n '__fish_seen_subcommand_from why' -l first -x -d 'The first day of departure, as 2024-06-01, from 2000 to 2099'
@@ -134,4 +146,4 @@ complete -c seatdesk -n '__fish_seen_subcommand_from explain' -s v -l verbose -d
 complete -c seatdesk -n '__fish_seen_subcommand_from explain' -s h -l help -d 'Print help'
 complete -c seatdesk -n '__fish_seen_subcommand_from explain' -a 'A1 A2 A3 A4 A5 A6 A7 A8 A9 B1 C1 DEVICE E1 E2 F1 F2 F3 F4 F5 F6 F7 F8 F9 H1 H2 J1 J2 J3 J4 L1 L2 L3 L4 M1 M2 M3 M4 M5 M6 M7 MEMORY P1 P2 P3 P4 P5 P6 P7 P8 Q1 Q2 Q3 R2 S1 S2 S3 S4 S5 S6 S7 S8 S9 S10 S11 S12 S13 S14 S15 SEAL U1'
 
-complete -c seatdesk -n '__fish_seen_subcommand_from help' -a 'ladder check flights cover rooms run bookings audit seal recover replies why explain'
+complete -c seatdesk -n '__fish_seen_subcommand_from help' -a 'ladder check flights cover rooms run bookings audit seal recover replies told why explain'

@@ -727,6 +727,12 @@ const WORDS: &[Explanation] = &[
     },
     Explanation {
         behind: "E2",
+        code: "desk",
+        numbers: NONE,
+        text: "--desk is no digit of 0 to 8: a desk has the number of its session, and 0 is the manager of the limits.",
+    },
+    Explanation {
+        behind: "E2",
         code: "journal",
         numbers: NONE,
         text: "The file of --journal is one of the inputs, other than the journals of --after and --resume, or that of standard output,\nor another run has it, as it may have the journal that is to be sealed or recovered, or its name is - or ends in .seal, .unfinished or .kept-N,\nor what is called as its seal is another file of the command or no regular file, or --no-clobber keeps it: it is there and not empty. Nothing was written. seatdesk -v says which of these it is.",

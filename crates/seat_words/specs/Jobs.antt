@@ -6,7 +6,7 @@ use Rattle.std.specs.Option.{option_map, option_map_or}
 use Rattle.clap.specs.Words.{Row, Text, all_of, first_of}
 use Rattle.seat_words.specs.declared.job.Horizon.{Horizon}
 use Rattle.seat_words.specs.declared.job.Job.{Job}
-use Rattle.seat_words.specs.declared.job.Job.TheVariants.{Ladder, Check, Flights, Cover, Rooms, Run, Bookings, Audit, Seal, Recover, Replies, Why, Explain}
+use Rattle.seat_words.specs.declared.job.Job.TheVariants.{Ladder, Check, Flights, Cover, Rooms, Run, Bookings, Audit, Seal, Recover, Replies, Told, Why, Explain}
 
 -- a command that clap found in the words, and what it found of the command's values
 abbrev pub Line : Type 0
@@ -100,6 +100,12 @@ Asks (Replies over after behind today session from journal scripts) line = (line
     × MayHave line (codes "from") (option_map (λ text. text.now) from)
     × Has line (codes "journal") journal.now
     × HasAny line (codes "scripts") scripts
+Asks (Told over desk from is_open journal) line = (line.0 ≡ codes "told")
+    × IsOver line.1 over
+    × Has line (codes "desk") desk.now
+    × MayHave line (codes "from") (option_map (λ text. text.now) from)
+    × HasFlag line (codes "open") is_open
+    × Has line (codes "journal") journal.now
 Asks (Why over line_word is_open journal) line = (line.0 ≡ codes "why")
     × IsOver line.1 over
     × Has line (codes "line") line_word.now
@@ -128,6 +134,7 @@ asked_values = (codes "ladder", [])
     ∷ (codes "seal", horizon_values ++ codes "journal" ∷ [])
     ∷ (codes "recover", horizon_values ++ codes "journal" ∷ [])
     ∷ (codes "replies", horizon_values ++ codes "today" ∷ codes "journal" ∷ [])
+    ∷ (codes "told", horizon_values ++ codes "desk" ∷ codes "journal" ∷ [])
     ∷ (codes "why", horizon_values ++ codes "line" ∷ codes "journal" ∷ [])
     ∷ (codes "explain", codes "code" ∷ [])
     ∷ []

@@ -1,7 +1,7 @@
 //! The commands, as clap reads them and as their help shows them.
 ghost use Rattle.std.specs.Prelude.{IfOk, IsOkAnd, codes};
 ghost use Rattle.clap.specs.Words.{AddsArg, App, new_app};
-ghost use Rattle.seat_words.specs.CommandLine.{IsBuiltAs, IsReadAlike, IsReadAs, audit_app, bare_app, bookings_app, check_app, cover_app, explain_app, flag, flights_app, horizon_app, ladder_app, lettered_flag, named_app, optional, optional_value, optional_values, recover_app, replies_app, required_option, required_value, rooms_app, run_app, seal_app, seatdesk_app, selling_app, why_app, with_command, with_verbose};
+ghost use Rattle.seat_words.specs.CommandLine.{IsBuiltAs, IsReadAlike, IsReadAs, audit_app, bare_app, bookings_app, check_app, cover_app, explain_app, flag, flights_app, horizon_app, ladder_app, lettered_flag, named_app, optional, optional_value, optional_values, recover_app, replies_app, required_option, required_value, rooms_app, run_app, seal_app, seatdesk_app, selling_app, told_app, why_app, with_command, with_verbose};
 
 use clap::{Arg, ArgAction, Command};
 use std::alloc::{AllocError, Global};
@@ -48,6 +48,10 @@ const BEHIND_HELP: &str =
 const SESSION_HELP: &str = "The replies to this session alone, 1 to 8, or 0 for the manager";
 
 const FROM_HELP: &str = "The replies to the lines of JOURNAL from this number on";
+
+const DESK_HELP: &str = "The desk, by its session, 1 to 8, or 0 for the manager";
+
+const TOLD_HELP: &str = "What the desk is told of the lines of JOURNAL from this number on";
 
 const JOURNAL_HELP: &str = "The journal to replay: a file that run wrote, or - for standard input";
 
@@ -113,6 +117,7 @@ pub(crate) fn seatdesk_command<'a>(alloc: Global) -> Result<Command<'a>, AllocEr
     let program = with_command(alloc, program, seal_command(alloc));
     let program = with_command(alloc, program, recover_command(alloc));
     let program = with_command(alloc, program, replies_command(alloc));
+    let program = with_command(alloc, program, told_command(alloc));
     let program = with_command(alloc, program, why_command(alloc));
     with_command(alloc, program, explain_command(alloc))
 }
@@ -376,6 +381,24 @@ fn replies_command<'a>(alloc: Global) -> Result<Command<'a>, AllocError>
     with_argument(
         replies,
         optional_values(alloc, "scripts", "SCRIPT", SCRIPTS_HELP),
+    )
+}
+
+fn told_command<'a>(alloc: Global) -> Result<Command<'a>, AllocError>
+    ensures { IfOk result (IsBuiltAs told_app) }
+{
+    let told = horizon_command(
+        alloc,
+        "told",
+        "Writes what a desk is told of a journal: the replies to its lines, and the advices to its bookings",
+        "A desk is told of its own alone, each under its own session and the number of the line that is told of.\n\nExample: seatdesk told --set examples/summer.ssim --limits examples/limits.txt --first 2024-07-01 --days 31 --desk 2 examples/journal.txt",
+    );
+    let told = with_argument(told, wanted_option(alloc, "desk", "N", DESK_HELP));
+    let told = with_argument(told, optional_option(alloc, "from", "LINE", TOLD_HELP));
+    let told = with_argument(told, flag(alloc, "open", OPEN_HELP));
+    with_argument(
+        told,
+        wanted_value(alloc, "journal", "JOURNAL", JOURNAL_HELP),
     )
 }
 

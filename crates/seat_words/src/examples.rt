@@ -101,6 +101,14 @@ pub fn examples_are_read()
         ∷ (codes "locator", codes "B3N6VC" ∷ []) ∷ (codes "journal", codes "examples/journal.txt" ∷ [])
         ∷ (codes "open", codes "false" ∷ [])
         ∷ (codes "verbose", codes "false" ∷ []) ∷ []) }
+    ensures told { IsReadTo
+        (codes "seatdesk told --set examples/summer.ssim --limits examples/limits.txt --first 2024-07-01 --days 31 --desk 2 examples/journal.txt")
+        (codes "told")
+        ((codes "set", codes "examples/summer.ssim" ∷ []) ∷ (codes "limits", codes "examples/limits.txt" ∷ [])
+        ∷ (codes "first", codes "2024-07-01" ∷ []) ∷ (codes "days", codes "31" ∷ [])
+        ∷ (codes "desk", codes "2" ∷ []) ∷ (codes "journal", codes "examples/journal.txt" ∷ [])
+        ∷ (codes "open", codes "false" ∷ [])
+        ∷ (codes "verbose", codes "false" ∷ []) ∷ []) }
     ensures against { IsReadTo
         (codes "seatdesk audit --set examples/summer.ssim --limits examples/limits.txt --first 2024-07-01 --days 31 --today 2024-06-20 examples/journal.txt examples/london.txt examples/lisbon.txt")
         (codes "audit")

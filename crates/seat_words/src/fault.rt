@@ -24,6 +24,8 @@ pub enum WordFault {
     BadBehind,
     /// The session is not one of 0 to 8.
     BadSession,
+    /// The desk is not one of 0 to 8.
+    BadDesk,
     /// The file of the journal is an input or that of the replies, is another run's, or may not be replaced.
     BadJournal,
     /// A word is not UTF-8.
@@ -49,6 +51,7 @@ impl fmt::Display for WordFault {
             WordFault::BadLine => "E2 line",
             WordFault::BadBehind => "E2 behind",
             WordFault::BadSession => "E2 session",
+            WordFault::BadDesk => "E2 desk",
             WordFault::BadJournal => "E2 journal",
             WordFault::BadWords => "E2 words",
         })

@@ -106,6 +106,14 @@ pub enum Job<'a> {
         /// None or more.
         scripts: Several<'a>,
     },
+    /// `seatdesk told` over a horizon `--desk N [--from LINE] [--open] JOURNAL`
+    Told {
+        over: Horizon<'a>,
+        desk: &'a str,
+        from: Option<&'a str>,
+        is_open: bool,
+        journal: &'a str,
+    },
     /// `seatdesk why` over a horizon `--line N [--open] JOURNAL`
     Why {
         over: Horizon<'a>,
@@ -246,6 +254,13 @@ fn job_named<'a>(alloc: Global, name: &str, matches: &ArgMatches<'a>) -> Result<
             from: may_value_of(matches, "from"),
             journal: value_of(matches, "journal"),
             scripts: any_values_of(alloc, matches, "scripts")?,
+        },
+        "told" => Job::Told {
+            over: horizon_of(matches),
+            desk: value_of(matches, "desk"),
+            from: may_value_of(matches, "from"),
+            is_open: flag_of(matches, "open"),
+            journal: value_of(matches, "journal"),
         },
         "why" => Job::Why {
             over: horizon_of(matches),

@@ -5,6 +5,7 @@ ghost use Rattle.ssim_flights.specs.Right.{IsOfCentury};
 
 use crate::locale::is_utf_8;
 use airline_base::Day;
+use desk_questions::ToldOf;
 use seat_desk::{Inputs, NO_LINES, Question, answer_question};
 use seat_files::{
     Input, Refusal, SealFile, SealOut, files_taken, is_moved, opened, standard_input,
@@ -13,7 +14,9 @@ use seat_files::{
 use seat_open::{OpenAudit, OpenQuestion};
 use seat_questions::{Bars, BookingsOf, CityPair, Cover, RoomsOf, Why};
 use seat_reports::{Audit, desk_check, desk_flights, desk_ladder, desk_seal};
-use seat_words::{Horizon, WordFault, date_word, days_word, line_word, locator_word, pair_word};
+use seat_words::{
+    Horizon, WordFault, date_word, days_word, line_word, locator_word, pair_word, session_word,
+};
 
 pub fn ladder<'a>(rt: &HostRuntime) -> Result<(), Refusal<'a>> {
     let mut input = standard_input(rt);
@@ -83,6 +86,30 @@ pub fn bookings<'a>(
         over,
         days,
         &BookingsOf { locator },
+        Some(journal),
+        is_open,
+    )
+}
+
+/// What a desk is told of a journal, of its first line or a later one on.
+pub fn told_of<'a>(
+    rt: &HostRuntime,
+    over: &Horizon<'a>,
+    desk: &str,
+    from: Option<&str>,
+    is_open: bool,
+    journal: &'a str,
+) -> Result<(), Refusal<'a>> {
+    let days = days_of(over.first, over.days)?;
+    let Some(desk) = session_word(desk) else {
+        return Err(Refusal::from(WordFault::BadDesk));
+    };
+    let from = from_asked(from)?;
+    asked_of(
+        rt,
+        over,
+        days,
+        &ToldOf { desk, from },
         Some(journal),
         is_open,
     )
@@ -303,6 +330,17 @@ pub fn days_of(first: &str, days: &str) -> Result<(Day, u16), WordFault>
         return Err(WordFault::BadDays);
     };
     Ok((first, days))
+}
+
+/// The line from which on is asked; without one it is the first.
+fn from_asked(from: Option<&str>) -> Result<u32, WordFault> {
+    match from {
+        None => Ok(1),
+        Some(word) => match line_word(word) {
+            Some(line) => Ok(line),
+            None => Err(WordFault::BadLine),
+        },
+    }
 }
 
 fn day_asked(day: Option<&str>) -> Result<Option<Day>, WordFault> {

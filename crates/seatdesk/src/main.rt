@@ -153,6 +153,13 @@ fn carry_out<'a, T: Threads + Wait + Sync>(
             is_open,
             journal,
         } => commands::bookings(rt, over, locator, *is_open, journal)?,
+        Job::Told {
+            over,
+            desk,
+            from,
+            is_open,
+            journal,
+        } => commands::told_of(rt, over, desk, *from, *is_open, journal)?,
         Job::Why {
             over,
             line,

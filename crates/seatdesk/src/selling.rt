@@ -18,7 +18,7 @@ use seat_files::{
 };
 use seat_run::{desk_resume, desk_run};
 use seat_scripts::{Besides, Wanted, desk_audit_against, desk_replies};
-use seat_seal::{SealEntry, front_of, imprint_of, is_entry, lines_behind, read_seal};
+use seat_seal::{SealEntry, front_of, imprint_of, is_entry, read_seal};
 use seat_sealing::older_entry;
 use seat_words::{
     Horizon, WordFault, audit_lacks, behind_word, date_word, line_word, session_word,
@@ -648,7 +648,7 @@ fn lines_sealed(place: &Place<'_>) -> Option<u32> {
         None => seal.first,
     };
     match last {
-        SealEntry::Sealed(entry) => Some(lines_behind(entry.runs.as_slice())),
+        SealEntry::Sealed(entry) => Some(seat_seal::lines_behind(entry.runs.as_slice())),
         SealEntry::Other(_) => None,
     }
 }

@@ -9,5 +9,6 @@ returns c =
     let three = c.with_command-program-3.ensures _ _ two c.seal_command.ensures in
     let four = c.with_command-program-4.ensures _ _ three c.recover_command.ensures in
     let five = c.with_command-program-5.ensures _ _ four c.replies_command.ensures in
-    let six = c.with_command-program-6.ensures _ _ five c.why_command.ensures in
-    c.with_command.ensures _ _ six c.explain_command.ensures
+    let six = c.with_command-program-6.ensures _ _ five c.told_command.ensures in
+    let seven = c.with_command-program-7.ensures _ _ six c.why_command.ensures in
+    c.with_command.ensures _ _ seven c.explain_command.ensures

@@ -1,6 +1,6 @@
 use Rattle.std.proofs.Common.{rules}
 use Rattle.seat_words.proofs.job.job_named.Goals as goal
-use Rattle.seat_words.proofs.job.job_named.Goals.{in-ladder, in-check, in-flights, in-cover, in-rooms, in-run+in_ok-any_values_of-in-run, in-bookings, in-audit+in_ok-any_values_of-in-audit, in-seal, in-recover, in-replies+in_ok-any_values_of-in-replies, in-why, in-explain+in_ok-any_values_of-in-explain}
+use Rattle.seat_words.proofs.job.job_named.Goals.{in-ladder, in-check, in-flights, in-cover, in-rooms, in-run+in_ok-any_values_of-in-run, in-bookings, in-audit+in_ok-any_values_of-in-audit, in-seal, in-recover, in-replies+in_ok-any_values_of-in-replies, in-told, in-why, in-explain+in_ok-any_values_of-in-explain}
 
 pub returns : goal.returns
 returns c = elim c.match-name.branch [
@@ -15,6 +15,7 @@ returns c = elim c.match-name.branch [
   | in-seal w ↦ search rules
   | in-recover w ↦ search rules
   | in-replies+in_ok-any_values_of-in-replies w ↦ search rules
+  | in-told w ↦ search rules
   | in-why w ↦ search rules
   | in-explain+in_ok-any_values_of-in-explain w ↦ search rules
 ]
