@@ -15,7 +15,7 @@ _seatdesk() {
     esac
     for ((i = 1; i < COMP_CWORD; i++)); do
         case ${COMP_WORDS[i]} in
-        ladder | check | flights | cover | rooms | run | bookings | audit | seal | recover | replies | told | why | explain | help)
+        ladder | check | flights | cover | rooms | loads | run | bookings | audit | seal | recover | replies | told | why | explain | help)
             command=${COMP_WORDS[i]}
             break
             ;;
@@ -23,7 +23,7 @@ _seatdesk() {
     done
     case $command in
     '')
-        words='ladder check flights cover rooms run bookings audit seal recover replies told why explain help -v --verbose -h --help -V --version'
+        words='ladder check flights cover rooms loads run bookings audit seal recover replies told why explain help -v --verbose -h --help -V --version'
         files=''
         values=''
         place=''
@@ -54,6 +54,12 @@ _seatdesk() {
         ;;
     rooms)
         words='--set --limits --first --days --day --pair --bars --open -v --verbose -h --help'
+        files='--set --limits'
+        values='--first --days --day --pair'
+        place='files'
+        ;;
+    loads)
+        words='--set --limits --first --days --day --pair --open -v --verbose -h --help'
         files='--set --limits'
         values='--first --days --day --pair'
         place='files'
@@ -115,7 +121,7 @@ _seatdesk() {
         place=''
         ;;
     help)
-        words='ladder check flights cover rooms run bookings audit seal recover replies told why explain'
+        words='ladder check flights cover rooms loads run bookings audit seal recover replies told why explain'
         files=''
         values=''
         place=''

@@ -9,6 +9,7 @@ complete -c seatdesk -n __fish_use_subcommand -a check -d 'Reads a data set and 
 complete -c seatdesk -n __fish_use_subcommand -a flights -d 'Writes one line for each dated flight'
 complete -c seatdesk -n __fish_use_subcommand -a cover -d 'Writes the limits that are for no leg, and the legs that have no limits'
 complete -c seatdesk -n __fish_use_subcommand -a rooms -d 'Writes the seats that are left on each place of a flight, by class'
+complete -c seatdesk -n __fish_use_subcommand -a loads -d 'Writes how full each dated leg is, by class, and what all of them come to'
 complete -c seatdesk -n __fish_use_subcommand -a run -d 'Books the requests of scripts, one session on a thread for each script, and writes the replies'
 complete -c seatdesk -n __fish_use_subcommand -a bookings -d 'Writes the live bookings of a locator, in the codes of AIRIMP'
 complete -c seatdesk -n __fish_use_subcommand -a audit -d 'Replays a journal against its schedule and limits, and writes one summary line'
@@ -51,6 +52,16 @@ complete -c seatdesk -n '__fish_seen_subcommand_from rooms' -l open -d 'Takes a 
 complete -c seatdesk -n '__fish_seen_subcommand_from rooms' -s v -l verbose -d 'Names the file of a fault, and where in it the fault stands, or the system\'s reason'
 complete -c seatdesk -n '__fish_seen_subcommand_from rooms' -s h -l help -d 'Print help'
 complete -c seatdesk -n '__fish_seen_subcommand_from rooms' -F
+complete -c seatdesk -n '__fish_seen_subcommand_from loads' -l set -r -F -d 'The data set of the schedule (SSIM chapter 7, a file)'
+complete -c seatdesk -n '__fish_seen_subcommand_from loads' -l limits -r -F -d 'The booking limits of the legs, in seats from 0 to 999 (a file)'
+complete -c seatdesk -n '__fish_seen_subcommand_from loads' -l first -x -d 'The first day of departure, as 2024-06-01, from 2000 to 2099'
+complete -c seatdesk -n '__fish_seen_subcommand_from loads' -l days -x -d 'How many days from the first on, 1 to 366'
+complete -c seatdesk -n '__fish_seen_subcommand_from loads' -l day -x -d 'The legs that depart on this day alone, as 2024-06-01'
+complete -c seatdesk -n '__fish_seen_subcommand_from loads' -l pair -x -d 'The legs between these two stations alone, as LHRJFK'
+complete -c seatdesk -n '__fish_seen_subcommand_from loads' -l open -d 'Takes a JOURNAL that is still open: its whole lines count, and it needs no END line'
+complete -c seatdesk -n '__fish_seen_subcommand_from loads' -s v -l verbose -d 'Names the file of a fault, and where in it the fault stands, or the system\'s reason'
+complete -c seatdesk -n '__fish_seen_subcommand_from loads' -s h -l help -d 'Print help'
+complete -c seatdesk -n '__fish_seen_subcommand_from loads' -F
 
 complete -c seatdesk -n '__fish_seen_subcommand_from run' -l set -r -F -d 'The data set of the schedule (SSIM chapter 7, a file)'
 complete -c seatdesk -n '__fish_seen_subcommand_from run' -l limits -r -F -d 'The booking limits of the legs, in seats from 0 to 999 (a file)'
@@ -146,4 +157,4 @@ complete -c seatdesk -n '__fish_seen_subcommand_from explain' -s v -l verbose -d
 complete -c seatdesk -n '__fish_seen_subcommand_from explain' -s h -l help -d 'Print help'
 complete -c seatdesk -n '__fish_seen_subcommand_from explain' -a 'A1 A2 A3 A4 A5 A6 A7 A8 A9 B1 C1 DEVICE E1 E2 F1 F2 F3 F4 F5 F6 F7 F8 F9 H1 H2 J1 J2 J3 J4 L1 L2 L3 L4 M1 M2 M3 M4 M5 M6 M7 MEMORY P1 P2 P3 P4 P5 P6 P7 P8 Q1 Q2 Q3 R2 S1 S2 S3 S4 S5 S6 S7 S8 S9 S10 S11 S12 S13 S14 S15 SEAL U1'
 
-complete -c seatdesk -n '__fish_seen_subcommand_from help' -a 'ladder check flights cover rooms run bookings audit seal recover replies told why explain'
+complete -c seatdesk -n '__fish_seen_subcommand_from help' -a 'ladder check flights cover rooms loads run bookings audit seal recover replies told why explain'

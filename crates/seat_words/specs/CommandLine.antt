@@ -69,6 +69,13 @@ rooms_app = with_rule (with_rule (with_rule (with_rule (with_rule (horizon_app (
     (flag (codes "open")))
     (optional_value (codes "journal"))
 
+unfoldable pub loads_app : App
+loads_app = with_rule (with_rule (with_rule (with_rule (horizon_app (codes "loads"))
+    (optional (codes "day")))
+    (optional (codes "pair")))
+    (flag (codes "open")))
+    (optional_value (codes "journal"))
+
 unfoldable pub run_app : App
 run_app = with_rule (with_rule (with_rule (with_rule (with_rule (with_rule (with_rule (with_rule (with_rule (horizon_app (codes "run"))
     (optional (codes "after")))
@@ -154,8 +161,8 @@ with_command program command = with_subcommand program (with_verbose command).to
 
 -- the commands that work on a schedule, or on one leg
 unfoldable pub selling_app : App
-selling_app = with_command (with_command (with_command (with_command (with_command (with_command
-    bare_app ladder_app) check_app) flights_app) cover_app) rooms_app) run_app
+selling_app = with_command (with_command (with_command (with_command (with_command (with_command (with_command
+    bare_app ladder_app) check_app) flights_app) cover_app) rooms_app) loads_app) run_app
 
 -- the program: one of its commands must be named
 unfoldable pub seatdesk_app : App

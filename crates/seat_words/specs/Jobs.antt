@@ -6,7 +6,7 @@ use Rattle.std.specs.Option.{option_map, option_map_or}
 use Rattle.clap.specs.Words.{Row, Text, all_of, first_of}
 use Rattle.seat_words.specs.declared.job.Horizon.{Horizon}
 use Rattle.seat_words.specs.declared.job.Job.{Job}
-use Rattle.seat_words.specs.declared.job.Job.TheVariants.{Ladder, Check, Flights, Cover, Rooms, Run, Bookings, Audit, Seal, Recover, Replies, Told, Why, Explain}
+use Rattle.seat_words.specs.declared.job.Job.TheVariants.{Ladder, Check, Flights, Cover, Rooms, Loads, Run, Bookings, Audit, Seal, Recover, Replies, Told, Why, Explain}
 
 -- a command that clap found in the words, and what it found of the command's values
 abbrev pub Line : Type 0
@@ -57,6 +57,12 @@ Asks (Rooms over day pair bars is_open journal) line = (line.0 ≡ codes "rooms"
     × MayHave line (codes "day") (option_map (λ text. text.now) day)
     × MayHave line (codes "pair") (option_map (λ text. text.now) pair)
     × HasFlag line (codes "bars") bars
+    × HasFlag line (codes "open") is_open
+    × MayHave line (codes "journal") (option_map (λ text. text.now) journal)
+Asks (Loads over day pair is_open journal) line = (line.0 ≡ codes "loads")
+    × IsOver line.1 over
+    × MayHave line (codes "day") (option_map (λ text. text.now) day)
+    × MayHave line (codes "pair") (option_map (λ text. text.now) pair)
     × HasFlag line (codes "open") is_open
     × MayHave line (codes "journal") (option_map (λ text. text.now) journal)
 Asks (Run over after behind resume today journal changes no_clobber again scripts) line = (line.0 ≡ codes "run")
@@ -128,6 +134,7 @@ asked_values = (codes "ladder", [])
     ∷ (codes "flights", codes "first" ∷ codes "days" ∷ codes "set" ∷ [])
     ∷ (codes "cover", horizon_values)
     ∷ (codes "rooms", horizon_values)
+    ∷ (codes "loads", horizon_values)
     ∷ (codes "run", horizon_values ++ codes "today" ∷ codes "journal" ∷ [])
     ∷ (codes "bookings", horizon_values ++ codes "locator" ∷ codes "journal" ∷ [])
     ∷ (codes "audit", horizon_values ++ codes "journal" ∷ [])

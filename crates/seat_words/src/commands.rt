@@ -1,7 +1,7 @@
 //! The commands, as clap reads them and as their help shows them.
 ghost use Rattle.std.specs.Prelude.{IfOk, IsOkAnd, codes};
 ghost use Rattle.clap.specs.Words.{AddsArg, App, new_app};
-ghost use Rattle.seat_words.specs.CommandLine.{IsBuiltAs, IsReadAlike, IsReadAs, audit_app, bare_app, bookings_app, check_app, cover_app, explain_app, flag, flights_app, horizon_app, ladder_app, lettered_flag, named_app, optional, optional_value, optional_values, recover_app, replies_app, required_option, required_value, rooms_app, run_app, seal_app, seatdesk_app, selling_app, told_app, why_app, with_command, with_verbose};
+ghost use Rattle.seat_words.specs.CommandLine.{IsBuiltAs, IsReadAlike, IsReadAs, audit_app, bare_app, bookings_app, check_app, cover_app, explain_app, flag, flights_app, horizon_app, ladder_app, lettered_flag, loads_app, named_app, optional, optional_value, optional_values, recover_app, replies_app, required_option, required_value, rooms_app, run_app, seal_app, seatdesk_app, selling_app, told_app, why_app, with_command, with_verbose};
 
 use clap::{Arg, ArgAction, Command};
 use std::alloc::{AllocError, Global};
@@ -83,6 +83,13 @@ const PAIR_HELP: &str = "The places between these two stations alone, as LHRJFK"
 
 const BARS_HELP: &str = "Shows the seats held of each limit as a bar, behind each leg";
 
+const LEG_DAY_HELP: &str = "The legs that depart on this day alone, as 2024-06-01";
+
+const LEG_PAIR_HELP: &str = "The legs between these two stations alone, as LHRJFK";
+
+const OPENING_LOADS_HELP: &str =
+    "The journal to replay: a file that run wrote, or - for standard input; without it the loads before the first booking";
+
 const OPENING_HELP: &str =
     "The journal to replay: a file that run wrote, or - for standard input; without it the rooms before the first booking";
 
@@ -132,6 +139,7 @@ fn selling_command<'a>(alloc: Global) -> Result<Command<'a>, AllocError>
     let program = with_command(alloc, program, flights_command(alloc));
     let program = with_command(alloc, program, cover_command(alloc));
     let program = with_command(alloc, program, rooms_command(alloc));
+    let program = with_command(alloc, program, loads_command(alloc));
     with_command(alloc, program, run_command(alloc))
 }
 
@@ -247,6 +255,24 @@ fn rooms_command<'a>(alloc: Global) -> Result<Command<'a>, AllocError>
     with_argument(
         rooms,
         optional_value(alloc, "journal", "JOURNAL", OPENING_HELP),
+    )
+}
+
+fn loads_command<'a>(alloc: Global) -> Result<Command<'a>, AllocError>
+    ensures { IfOk result (IsBuiltAs loads_app) }
+{
+    let loads = horizon_command(
+        alloc,
+        "loads",
+        "Writes how full each dated leg is, by class, and what all of them come to",
+        "Example: seatdesk loads --set examples/summer.ssim --limits examples/limits.txt --first 2024-07-01 --days 31 --day 2024-07-27 examples/journal.txt",
+    );
+    let loads = with_argument(loads, optional_option(alloc, "day", "DATE", LEG_DAY_HELP));
+    let loads = with_argument(loads, optional_option(alloc, "pair", "PAIR", LEG_PAIR_HELP));
+    let loads = with_argument(loads, flag(alloc, "open", OPEN_HELP));
+    with_argument(
+        loads,
+        optional_value(alloc, "journal", "JOURNAL", OPENING_LOADS_HELP),
     )
 }
 

@@ -93,6 +93,15 @@ pub fn examples_are_read()
         ∷ (codes "journal", codes "examples/journal.txt" ∷ [])
         ∷ (codes "bars", codes "false" ∷ []) ∷ (codes "open", codes "false" ∷ [])
         ∷ (codes "verbose", codes "false" ∷ []) ∷ []) }
+    ensures loads { IsReadTo
+        (codes "seatdesk loads --set examples/summer.ssim --limits examples/limits.txt --first 2024-07-01 --days 31 --day 2024-07-27 examples/journal.txt")
+        (codes "loads")
+        ((codes "set", codes "examples/summer.ssim" ∷ []) ∷ (codes "limits", codes "examples/limits.txt" ∷ [])
+        ∷ (codes "first", codes "2024-07-01" ∷ []) ∷ (codes "days", codes "31" ∷ [])
+        ∷ (codes "day", codes "2024-07-27" ∷ [])
+        ∷ (codes "journal", codes "examples/journal.txt" ∷ [])
+        ∷ (codes "open", codes "false" ∷ [])
+        ∷ (codes "verbose", codes "false" ∷ []) ∷ []) }
     ensures bookings { IsReadTo
         (codes "seatdesk bookings --set examples/summer.ssim --limits examples/limits.txt --first 2024-07-01 --days 31 --locator B3N6VC examples/journal.txt")
         (codes "bookings")

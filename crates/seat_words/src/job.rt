@@ -49,6 +49,14 @@ pub enum Job<'a> {
         is_open: bool,
         journal: Option<&'a str>,
     },
+    /// `seatdesk loads` over a horizon `[--day DATE] [--pair PAIR] [--open] [JOURNAL]`
+    Loads {
+        over: Horizon<'a>,
+        day: Option<&'a str>,
+        pair: Option<&'a str>,
+        is_open: bool,
+        journal: Option<&'a str>,
+    },
     /// `seatdesk run` over a horizon `[--after JOURNAL] [--behind N] [--resume JOURNAL] --today DATE --journal OUT [--changes FILE]
     /// [--no-clobber] [--again] [SCRIPT...]`
     Run {
@@ -205,6 +213,13 @@ fn job_named<'a>(alloc: Global, name: &str, matches: &ArgMatches<'a>) -> Result<
             day: may_value_of(matches, "day"),
             pair: may_value_of(matches, "pair"),
             bars: flag_of(matches, "bars"),
+            is_open: flag_of(matches, "open"),
+            journal: may_value_of(matches, "journal"),
+        },
+        "loads" => Job::Loads {
+            over: horizon_of(matches),
+            day: may_value_of(matches, "day"),
+            pair: may_value_of(matches, "pair"),
             is_open: flag_of(matches, "open"),
             journal: may_value_of(matches, "journal"),
         },

@@ -12,6 +12,7 @@ use seat_files::{
     standard_output, taken, taken_or, told,
 };
 use seat_open::{OpenAudit, OpenQuestion};
+use seat_loads::LoadsOf;
 use seat_questions::{Bars, BookingsOf, CityPair, Cover, RoomsOf, Why};
 use seat_reports::{Audit, desk_check, desk_flights, desk_ladder, desk_seal};
 use seat_words::{
@@ -66,6 +67,23 @@ pub fn rooms<'a>(
         day: day_asked(day)?,
         pair: pair_asked(pair)?,
         bars: bars_asked(rt, bars),
+    };
+    asked_of(rt, over, days, &asked, journal, is_open)
+}
+
+/// How full the legs are that `--day` and `--pair` keep. Without a journal that is before the first booking.
+pub fn loads<'a>(
+    rt: &HostRuntime,
+    over: &Horizon<'a>,
+    day: Option<&str>,
+    pair: Option<&str>,
+    is_open: bool,
+    journal: Option<&'a str>,
+) -> Result<(), Refusal<'a>> {
+    let days = days_of(over.first, over.days)?;
+    let asked = LoadsOf {
+        day: day_asked(day)?,
+        pair: pair_asked(pair)?,
     };
     asked_of(rt, over, days, &asked, journal, is_open)
 }

@@ -147,6 +147,13 @@ fn carry_out<'a, T: Threads + Wait + Sync>(
             is_open,
             journal,
         } => commands::rooms(rt, over, *day, *pair, *bars, *is_open, *journal)?,
+        Job::Loads {
+            over,
+            day,
+            pair,
+            is_open,
+            journal,
+        } => commands::loads(rt, over, *day, *pair, *is_open, *journal)?,
         Job::Bookings {
             over,
             locator,

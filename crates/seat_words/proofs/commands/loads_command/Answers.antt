@@ -1,0 +1,11 @@
+use Rattle.seat_words.specs.CommandLine.{loads_app}
+use Rattle.seat_words.proofs.Building.{argued}
+use Rattle.seat_words.proofs.commands.loads_command.Goals as goal
+
+pub returns : goal.returns
+unfolding loads_app
+returns c =
+    let day = argued _ _ c.horizon_command-loads.result c.with_argument-loads.result c.optional_option.result c.horizon_command-loads.ensures c.optional_option.ensures c.with_argument-loads.ensures in
+    let pair = argued _ _ c.with_argument-loads.result c.with_argument-loads-2.result c.optional_option-2.result day c.optional_option-2.ensures c.with_argument-loads-2.ensures in
+    let still = argued _ _ c.with_argument-loads-2.result c.with_argument-loads-3.result c.flag.result pair c.flag.ensures c.with_argument-loads-3.ensures in
+    argued _ _ c.with_argument-loads-3.result c.with_argument.result c.optional_value.result still c.optional_value.ensures c.with_argument.ensures
