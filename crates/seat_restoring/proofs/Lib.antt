@@ -1,2 +1,5 @@
 pub mod Compared
+pub mod Ordered
+pub mod Over
 pub mod Refusing
+pub mod Sealed

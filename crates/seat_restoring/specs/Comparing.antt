@@ -6,8 +6,8 @@ use Rattle.seat_seal.specs.declared.beside.Basis.{Basis}
 use Rattle.seat_seal.specs.declared.beside.Beside.{Beside}
 use Rattle.seat_seal.specs.declared.comparing.SealFault.{SealFault}
 use Rattle.seat_seal.specs.declared.comparing.SealFault.TheVariants.{Journal}
-use Rattle.seat_desk.specs.Answering.{HasGround}
-use Rattle.seat_desk.specs.Loading.{Bytes}
+use Rattle.seat_desk.specs.Answering.{HasGroundOf}
+use Rattle.seat_desk.specs.Loading.{Bytes, IsBehind}
 use Rattle.seat_desk.specs.Sealing.{IsBesideFault, basis_of}
 use Rattle.seat_desk.specs.declared.inputs.Inputs.{Inputs}
 use Rattle.seat_desk.specs.declared.fault.DeskFault.{DeskFault}
@@ -42,19 +42,13 @@ pub record IsDenied (beside : Beside) (basis : Basis) (old : Option (List ℕ)) 
   pub is_file : AreBytes old file
   pub differs : Differs beside basis file fault
 
--- behind a set and limits that are right
-pub record IsDeniedBehind (beside : Beside) (set limits : List ℕ) (first days : ℕ) (old : Option (List ℕ)) (fault : DeskFault) : Type 0
-  where
-    pub ground : HasGround first days set limits
-    pub denied : IsDenied beside (basis_of set limits first days) old fault
-
--- where the bytes of the set and of the limits are known
-abbrev pub IsPassedOver : {S L : Type 0} → Beside → Bytes S → Bytes L → Inputs S L → Option (List ℕ) → Type 0
-IsPassedOver beside set limits inputs old =
+-- what holds of the digests of a set and limits with the bytes that are known, and of the days
+abbrev pub OfBasis : {S L : Type 0} → Bytes S → Bytes L → Inputs S L → (Basis → Type 0) → Type 0
+OfBasis set limits inputs Holds =
     IfSome (set inputs.set) (λ xs. IfSome (limits inputs.limits)
-    (λ ys. IsPassed beside (basis_of xs ys inputs.first inputs.days) old))
+    (λ ys. Holds (basis_of xs ys inputs.first inputs.days)))
 
+-- behind a set and limits that are right
 abbrev pub IsDeniedOver : {S L : Type 0} → Beside → Bytes S → Bytes L → Inputs S L → Option (List ℕ) → DeskFault → Type 0
 IsDeniedOver beside set limits inputs old fault =
-    IfSome (set inputs.set) (λ xs. IfSome (limits inputs.limits)
-    (λ ys. IsDeniedBehind beside xs ys inputs.first inputs.days old fault))
+    IsBehind (HasGroundOf set limits inputs) (OfBasis set limits inputs (λ basis. IsDenied beside basis old fault))

@@ -3,6 +3,8 @@
 #![tactic(auto)]
 
 mod comparing;
+mod ending;
 mod recover;
+mod sealing;
 
 pub use recover::desk_recover;

@@ -1,0 +1,129 @@
+-- The seal of a journal that `recover` ends, and the three steps in which both are written.
+use Rattle.std.specs.Prelude.{◌≡◌, ◌⊎◌, ℕ, false, List, length, Option}
+use Rattle.seat_journal.specs.declared.entry.Entry.{Entry}
+use Rattle.seat_journal.specs.Text.{journal_text}
+use Rattle.seat_nesting.specs.Nesting.{Ladders}
+use Rattle.seat_disk.specs.Leaving.{Only, Within, replaced_by}
+use Rattle.seat_recovery.specs.OpenText.{open_text}
+use Rattle.seat_recovery.specs.Recovering.{IsRecovered}
+use Rattle.seat_seal.specs.Closing.{IsClosedEntry, runs_within}
+use Rattle.seat_seal.specs.Fronts.{front_of}
+use Rattle.seat_seal.specs.Imprints.{imprint_of}
+use Rattle.seat_seal.specs.Known.{IsKnown, runs_known}
+use Rattle.seat_seal.specs.Reading.{two_entries}
+use Rattle.seat_seal.specs.Rules.{is_seal}
+use Rattle.seat_seal.specs.declared.beside.Basis.{Basis}
+use Rattle.seat_seal.specs.declared.beside.Beside.{Beside}
+use Rattle.seat_seal.specs.declared.imprint.Imprint.{Imprint}
+use Rattle.seat_seal.specs.declared.seal.Sealed.{Sealed as Belonging}
+use Rattle.seat_seal.specs.declared.seal.SealEntry.TheVariants.{Sealed}
+use Rattle.seat_sealing.specs.Pairs.{Names}
+use Rattle.seat_sealing.specs.Steps.{IsClosing, IsSealing, alone_text, both_text}
+use Rattle.seat_desk.specs.AuditDesk.{most_lines}
+use Rattle.seat_desk.specs.Loading.{Bytes}
+use Rattle.seat_desk.specs.declared.inputs.Inputs.{Inputs}
+use Rattle.seat_restoring.specs.Comparing.{OfBasis}
+use Rattle.seat_restoring.specs.Restoring.{AreBytes}
+
+-- ---- the entries
+
+-- an entry with this imprint and count of lines, and with the runs that what stands beside the file knows, but for those that began behind
+-- more lines
+pub record IsEntryOver (beside : Beside) (basis : Basis) (file : List ℕ) (imprint : Imprint) (lines : ℕ) (entry : Belonging) : Type 0
+  where
+    pub known : Option Belonging
+    pub is_known : IsKnown beside file known
+    pub is : IsClosedEntry basis imprint lines (runs_within lines (runs_known known)) entry
+
+-- that of the file as it is, and that of the journal of these lines
+pub record AreEntries (beside : Beside) (basis : Basis) (file : List ℕ) (journal : List Entry) (older newer : Belonging) : Type 0 where
+  pub is_older : IsEntryOver beside basis file (imprint_of (front_of file)) (length journal) older
+  pub is_newer : IsEntryOver beside basis file (imprint_of (open_text journal)) (length journal) newer
+
+-- the texts of the seal that names both, and of that of the journal alone; a reader finds in each the entry of the journal
+pub record AreSeals (beside : Beside) (basis : Basis) (file : List ℕ) (journal : List Entry) (both alone : List ℕ) : Type 0 where
+  pub older : Belonging
+  pub newer : Belonging
+  pub entries : AreEntries beside basis file journal older newer
+  pub both_is : both ≡ both_text (Sealed older) newer
+  pub alone_is : alone ≡ alone_text newer
+  pub first : Names both (imprint_of (open_text journal))
+  pub last : Names alone (imprint_of (open_text journal))
+
+-- no seal may have the two entries
+pub record AreUnsealable (beside : Beside) (basis : Basis) (file : List ℕ) (journal : List Entry) : Type 0 where
+  pub older : Belonging
+  pub newer : Belonging
+  pub entries : AreEntries beside basis file journal older newer
+  pub broken : is_seal (two_entries (Sealed older) (Sealed newer)) ≡ false
+
+-- ---- what is written
+
+-- the seal of the journal alone has its name, and a crash leaves it and nothing else
+pub record IsSealed (beside : Beside) (basis : Basis) (old new : Option (List ℕ)) (leaves : List ℕ → Type 0) (file : List ℕ)
+    (journal : List Entry) : Type 0 where
+  pub both : List ℕ
+  pub alone : List ℕ
+  pub seals : AreSeals beside basis file journal both alone
+  pub named : new ≡ replaced_by old alone
+  pub kept : Only alone leaves
+
+-- the seal is about to name both, and a crash leaves no more of the journal's file than before; or a crash leaves that seal and nothing else,
+-- while the file is cut and ended; or it leaves the journal, and only then the seal of it alone
+pub record IsStep (both text alone : List ℕ) (journals_old seals_old journals_new seals_new : List ℕ → Type 0) : Type 0 where
+  pub step : IsSealing both journals_old seals_old journals_new seals_new
+      ⊎ (Only both seals_new ⊎ IsClosing both text alone journals_new seals_new)
+
+-- the same of the journal that is recovered of a file
+pub record IsOrdered (grid : Ladders) (beside : Beside) (basis : Basis) (file : List ℕ)
+    (journals_old seals_old journals_new seals_new : List ℕ → Type 0) : Type 0 where
+  pub journal : List Entry
+  pub recovered : IsRecovered grid most_lines file journal
+  pub both : List ℕ
+  pub alone : List ℕ
+  pub seals : AreSeals beside basis file journal both alone
+  pub step : IsStep both (journal_text journal) alone journals_old seals_old journals_new seals_new
+
+-- a crash leaves no more than it did, or the steps are in order
+abbrev pub Follow : Ladders → Beside → Basis → List ℕ → (List ℕ → Type 0) → (List ℕ → Type 0) → (List ℕ → Type 0)
+    → (List ℕ → Type 0) → Type 0
+Follow grid beside basis file journals_old seals_old journals_new seals_new =
+    (Within journals_new journals_old × Within seals_new seals_old)
+    ⊎ IsOrdered grid beside basis file journals_old seals_old journals_new seals_new
+
+-- ---- of a file with the bytes that are known
+
+pub record IsOrderedIn (grid : Ladders) (beside : Beside) (basis : Basis) (old : Option (List ℕ))
+    (journals_old seals_old journals_new seals_new : List ℕ → Type 0) : Type 0 where
+  pub file : List ℕ
+  pub is_file : AreBytes old file
+  pub ordered : IsOrdered grid beside basis file journals_old seals_old journals_new seals_new
+
+abbrev pub FollowIn : Ladders → Beside → Basis → Option (List ℕ) → (List ℕ → Type 0) → (List ℕ → Type 0) → (List ℕ → Type 0)
+    → (List ℕ → Type 0) → Type 0
+FollowIn grid beside basis old journals_old seals_old journals_new seals_new =
+    (Within journals_new journals_old × Within seals_new seals_old)
+    ⊎ IsOrderedIn grid beside basis old journals_old seals_old journals_new seals_new
+
+-- ---- over the inputs
+
+abbrev pub IsSealedOver : {S L : Type 0} → Beside → Bytes S → Bytes L → Inputs S L → Option (List ℕ) → Option (List ℕ)
+    → (List ℕ → Type 0) → List ℕ → List Entry → Type 0
+IsSealedOver beside set limits inputs old new leaves file journal =
+    OfBasis set limits inputs (λ basis. IsSealed beside basis old new leaves file journal)
+
+abbrev pub AreUnsealableOver : {S L : Type 0} → Beside → Bytes S → Bytes L → Inputs S L → List ℕ → List Entry → Type 0
+AreUnsealableOver beside set limits inputs file journal =
+    OfBasis set limits inputs (λ basis. AreUnsealable beside basis file journal)
+
+pub record IsOrderedOver (Are : Ladders → Type 0) (OfInputs : (Basis → Type 0) → Type 0) (beside : Beside) (old : Option (List ℕ))
+    (journals_old seals_old journals_new seals_new : List ℕ → Type 0) : Type 0 where
+  pub grid : Ladders
+  pub are : Are grid
+  pub ordered : OfInputs (λ basis. IsOrderedIn grid beside basis old journals_old seals_old journals_new seals_new)
+
+abbrev pub FollowOver : {S L : Type 0} → (Ladders → Type 0) → Beside → Bytes S → Bytes L → Inputs S L → Option (List ℕ)
+    → (List ℕ → Type 0) → (List ℕ → Type 0) → (List ℕ → Type 0) → (List ℕ → Type 0) → Type 0
+FollowOver Are beside set limits inputs old journals_old seals_old journals_new seals_new =
+    (Within journals_new journals_old × Within seals_new seals_old)
+    ⊎ IsOrderedOver Are (OfBasis set limits inputs) beside old journals_old seals_old journals_new seals_new
