@@ -1,13 +1,16 @@
 //! `recover` over the real file of a journal, which it locks.
 //! It knows which file is which, and nothing of what stands in a journal.
 ghost use Rattle.std.specs.Prelude.{◌≡◌, ◌⊎◌, IfErr, IsTrue};
-ghost use Rattle.seat_files.specs.Refusals.{is_failure, is_of_file};
+ghost use Rattle.seat_files.specs.Refusals.{is_of_file};
 
 use crate::commands::{days_of, inputs_of};
 use airline_base::Failures;
 use seat_desk::{DeskFault, Inputs};
-use seat_files::{Fault, Guard, Input, Output, Refusal, SealFile, Shown, opened, standard_output};
+use seat_files::{
+    Fault, Guard, Input, Output, Refusal, SealOut, Shown, files_taken, of, standard_output,
+};
 use seat_restoring::desk_recover;
+use seat_seal::Beside;
 use seat_tape::{BesideFile, OpenFault, TapeFile, open};
 use seat_words::Horizon;
 use std::{fs, io};
@@ -15,7 +18,7 @@ use std::{fs, io};
 /// What the name of the file that keeps what is cut ends with, behind the journal's, ahead of its number.
 const TORN_BEFORE: &str = ".torn-";
 
-/// Cuts a journal back to its right lines and ends it, while it is locked. Damage is cut where that is said, and where the seal beside
+/// Cuts a journal back to its right lines, ends and seals it, while it is locked. Damage is cut where that is said, and where the seal beside
 /// the journal is of this set, these limits and these days.
 pub fn recover<'a>(
     rt: &'a HostRuntime,
@@ -39,34 +42,64 @@ pub fn recover<'a>(
         Ok(tape) => tape,
         Err(fault) => return Err(unopened(journal, fault)),
     };
-    let seal = match seal_beside(rt, journal) {
-        Ok(seal) => seal,
+    let mut seals = match seal_out(rt, journal, path.as_str(), &inputs) {
+        Ok(seals) => seals,
         Err(refusal) => return Err(refusal),
+    };
+    let text = match seals.text() {
+        Ok(text) => text,
+        Err(refusal) => {
+            seals.leave();
+            return Err(refusal);
+        }
     };
     let mut beside = BesideFile::of(rt, path.as_str());
     let mut out = standard_output(rt);
     let outcome = desk_recover(
         rt.alloc(),
         &mut inputs,
-        &seal.as_beside(),
+        &as_beside(&text),
         is_said,
         &mut tape,
         &mut beside,
+        &mut seals,
         &mut out,
     );
+    seals.leave();
     tell_kept(rt, journal, &beside);
     match outcome {
         Ok(()) => Ok(()),
-        Err(fault) => Err(refused(fault, &inputs, journal, &tape, &beside, &out)),
+        Err(fault) => {
+            let refusal = refused(fault, &inputs, journal, &tape, &beside, &out);
+            Err(refusal.noting_seal(&seals))
+        }
     }
 }
 
-/// What stands beside the journal.
-fn seal_beside<'a>(rt: &HostRuntime, journal: &'a str) -> Result<SealFile, Refusal<'a>>
-    ensures refused { IfErr result (λ refusal. IsTrue (is_failure refusal.fault)) }
+/// The new seal of a journal at this path, which is locked.
+fn seal_out<'a>(
+    rt: &'a HostRuntime,
+    journal: &'a str,
+    path: &str,
+    inputs: &Inputs<Input<'a>, Input<'a>>,
+) -> Result<SealOut<'a>, Refusal<'a>>
+    ensures refused { IfErr result (λ refusal. IsTrue (is_of_file refusal.fault)) }
 {
-    let journal = opened(rt, journal)?;
-    SealFile::beside(rt, &journal, false)
+    let files = files_taken(rt, inputs, &[], &[])?;
+    let own = of(journal, fs::metadata(rt, path))?;
+    SealOut::of_locked(rt, journal, path, &own, files.as_slice())
+}
+
+/// What stands beside the journal. There need be nothing.
+fn as_beside(text: &Option<Vec<u8>>) -> Beside<'_> {
+    let text = match text {
+        Some(text) => Some(text.as_slice()),
+        None => None,
+    };
+    Beside {
+        text,
+        is_wanted: false,
+    }
 }
 
 /// Why the journal is not opened.
