@@ -335,9 +335,10 @@ pub set_to : (shared own all : List Steps) (flights : List (List CountedLeg)) (f
     → new_own ≡ own_after (pool_of all own) limits class limit wait → new_limits ≡ limits_after (pool_of all own) limits
     → new ≡ put flights flight leg (with_limits (counted_at flights flight leg) new_limits)
     → SetTo (pool_of shared own) flights flight leg class limit wait (pool_of shared new_own) new
-set_to shared own all flights flight leg class limit wait limits held new_own new_limits new all_are found own_is limits_are new_is =
-    (ap (pool_of shared) (own_is ∙ ap (λ (s : List Steps). own_after (pool_of s own) limits class limit wait) all_are ∙ ap (λ (c : CountedLeg). own_after (pool_of shared own) c.limits class limit wait) found),
-    new_is ∙ ap (λ (l : Limits). put flights flight leg (with_limits (counted_at flights flight leg) l)) (limits_are ∙ ap (λ (s : List Steps). limits_after (pool_of s own) limits) all_are ∙ ap (λ (c : CountedLeg). limits_after (pool_of shared own) c.limits) found))
+set_to shared own all flights flight leg class limit wait limits held new_own new_limits new all_are found own_is limits_are new_is = (
+  ap (pool_of shared) (own_is ∙ ap (λ (s : List Steps). own_after (pool_of s own) limits class limit wait) all_are ∙ ap (λ (c : CountedLeg). own_after (pool_of shared own) c.limits class limit wait) found),
+  new_is ∙ ap (λ (l : Limits). put flights flight leg (with_limits (counted_at flights flight leg) l)) (limits_are ∙ ap (λ (s : List Steps). limits_after (pool_of s own) limits) all_are ∙ ap (λ (c : CountedLeg). limits_after (pool_of shared own) c.limits) found),
+)
 
 -- the counters after, as they are seen
 set_now : (pool : Pool) (places : ℕ) (flights : List (List CountedLeg)) (now : Counted)

@@ -121,11 +121,15 @@ seatdesk_line words e = line_in is_complete (built seatdesk_app) (argument_words
           (
             λ _. cover_line,
             (
-              λ _. rooms_line, (λ _. loads_line,
+              λ _. rooms_line,
               (
-                λ _. run_line,
-                (λ _. bookings_line, (λ _. audit_line, (λ _. seal_line, (λ _. recover_line, (λ _. replies_line, (λ _. told_line, (λ _. why_line, (λ _. explain_line, (λ h. absurd (no_help name o h), tt))))))))),
-              ))),
+                λ _. loads_line,
+                (
+                  λ _. run_line,
+                  (λ _. bookings_line, (λ _. audit_line, (λ _. seal_line, (λ _. recover_line, (λ _. replies_line, (λ _. told_line, (λ _. why_line, (λ _. explain_line, (λ h. absurd (no_help name o h), tt))))))))),
+                ),
+              ),
+            ),
           ),
         ),
       ),

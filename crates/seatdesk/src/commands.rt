@@ -11,8 +11,8 @@ use seat_files::{
     Input, Refusal, SealFile, SealOut, files_taken, is_moved, opened, standard_input,
     standard_output, taken, taken_or, told,
 };
-use seat_open::{OpenAudit, OpenQuestion};
 use seat_loads::LoadsOf;
+use seat_open::{OpenAudit, OpenQuestion};
 use seat_questions::{Bars, BookingsOf, CityPair, Cover, RoomsOf, Why};
 use seat_reports::{Audit, desk_check, desk_flights, desk_ladder, desk_seal};
 use seat_words::{
