@@ -1,4 +1,4 @@
-use Rattle.std.proofs.Common.{true, map, refl}
+use Rattle.std.proofs.Common.{true, false, map, refl}
 use Rattle.std.proofs.lemmas.Result.{err_from_is_err_and}
 use Rattle.seat_scripts.proofs.Inputs.{asked_of}
 use Rattle.seat_scripts.proofs.Seals.{agrees, repeated_of, sealed_again, sealed_changes_fail, sealed_large_changes}
@@ -37,3 +37,8 @@ returns-in_err-once-clause-fault g c =
     known.past.grid made.changes.items c.in_ok-past.ensures.grid c.in-Ok-limit_changes.ensures.ok)
     (repeated_of true c.args.beside.now after texts read.digests c.as_slice.result.now changing made.digest known.last c.in_ok-past.ensures.last c.in-Ok.ensures.digests c.in-Ok-limit_changes.ensures.digest c.as_slice.ensures c.in_err-once.ensures.repeated)
     c.in_err-once.ensures.given c.in_err-once.ensures.fault)
+
+pub returns-clause-once : goal.returns-clause-once
+returns-clause-once g c = λ given.
+    repeated_of false c.args.beside.now (g.A.Read.remaining c.args.after.now) (map g.C.Read.remaining c.args.scripts.now) c.in-Ok.scripts.digests c.as_slice.result.now (g.D.Read.remaining c.args.changes.now) c.in-Ok-limit_changes.changes.digest c.in_ok-past.field-0.last
+    c.in_ok-past.ensures.last c.in-Ok.ensures.digests c.in-Ok-limit_changes.ensures.digest c.as_slice.ensures (c.in_ok-once.ensures.ok given)

@@ -26,6 +26,16 @@ returns-in_err-text-clause-fault g c =
     (for_taken (λ more xs ys older zs. IsRefusedAgainst xs ys first days older more zs c.args.today texts fault) set limits after journal c.args.given c.args.besides.now.journal c.in_ok-read.read.more c.in_ok-read.ensures.more (refused_unasked set limits after journal first days c.in_ok-read.read.more c.args.today texts
     c.in_ok-read.read.flights c.in_ok-read.read.older c.in_ok-read.read.core c.in_ok-read.read.scripts c.as_slice.result.now c.as_slice.ensures c.in_ok-read.read.more refl c.in_ok-read.ensures.ok fault c.in_err-text.ensures.fault input)))
 
+pub returns-in_err-text-clause-large : goal.returns-in_err-text-clause-large
+returns-in_err-text-clause-large g c =
+    let p = err_from_is_err_and c.from_residual-in_err-text.result c.from_residual-in_err-text.ensures.1 in
+    rw (p.1, p.2) (λ large. absurd (c.in_err-text.ensures.kind.1 large))
+
+pub returns-in_err-text-clause-device : goal.returns-in_err-text-clause-device
+returns-in_err-text-clause-device g c =
+    let p = err_from_is_err_and c.from_residual-in_err-text.result c.from_residual-in_err-text.ensures.1 in
+    rw (p.1, p.2) (λ device. absurd (c.in_err-text.ensures.kind.0 device))
+
 pub returns-in-Ok-clause-ok : goal.returns-in-Ok-clause-ok
 returns-in-Ok-clause-ok g c = record {
   text = c.in_ok-text.text.items;
