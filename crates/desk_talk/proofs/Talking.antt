@@ -11,9 +11,9 @@ use Rattle.seat_recovery.specs.OpenText.{open_text}
 use Rattle.seat_serving.proofs.Holding.{seen_kept}
 use Rattle.desk_answers.specs.FaultLines.{memory_line}
 use Rattle.desk_answers.specs.Hosts.{Attended, IsReady}
-use Rattle.desk_answers.specs.Saying.{IsCounted}
+use Rattle.desk_answers.specs.Saying.{IsCounted, IsUntold}
 use Rattle.desk_talk.specs.declared.talk_fault.TalkFault.{TalkFault}
-use Rattle.desk_talk.specs.Talks.{held, IsEnd, IsHeld, IsTalk, IsTold, Reads, Talked, TalksOn, TellsOf, Turns}
+use Rattle.desk_talk.specs.Talks.{held, EndsUntold, IsEnd, IsHeld, IsTalk, IsTold, Reads, Talked, TalksOn, TellsOf, Turns}
 use Rattle.desk_talk.specs.Ready.{IsReadyLine}
 use Rattle.seat_rules.specs.Journal.{calls_of}
 use Rattle.airline_base.specs.Lines.{is_line_feed}
@@ -71,6 +71,10 @@ module _ {D : Type 0} where
       (λ (g : Goes old before c new after false told). inr (inr g))
       r)
       one
+
+-- a line that was not told of is the last
+pub ends_untold : {D : Type 0} (old new : Attended D) (line : List ℕ) → IsUntold old new line → EndsUntold new
+ends_untold old new line untold = record { mid = old; line = line; untold = untold }
 
 pub on_err_any : {T E : Type 0} (r : Result T E) (P : Type 0) → P → OnErr r P
 on_err_any (Ok x) P p = tt

@@ -6,7 +6,7 @@ use Rattle.seat_rules.specs.Journal.{calls_of}
 use Rattle.seat_rules.specs.Prefixes.{Begins}
 use Rattle.desk_answers.specs.FaultLines.{memory_line}
 use Rattle.desk_answers.specs.Hosts.{Attended, IsReady}
-use Rattle.desk_answers.specs.Saying.{IsAnswered, IsCounted}
+use Rattle.desk_answers.specs.Saying.{IsAnswered, IsCounted, IsUntold}
 use Rattle.desk_answers.specs.declared.heard.Heard.{Heard}
 use Rattle.desk_talk.specs.Ready.{IsReadyLine}
 
@@ -89,6 +89,12 @@ pub record Reads {D : Type 0} (seen : D → Option (List ℕ)) (leaves : D → L
   pub bytes : List ℕ
   pub consumed : Consumes in_old in_new bytes
   pub talks : TalksOn seen leaves unsynced failures old before bytes new after stays out_old out_new count_old count_new
+
+-- the last line that was heard is in the journal, and was not told of
+pub record EndsUntold {D : Type 0} (new : Attended D) : Type 0 where
+  pub mid : Attended D
+  pub line : List ℕ
+  pub untold : IsUntold mid new line
 
 -- one read: more may come; or it is the last, at the end of what the desk writes, or with the line with which the desk goes
 abbrev pub Turns : {D : Type 0} → (D → Option (List ℕ)) → (D → List ℕ → Type 0) → Failures D → Failures D → Attended D

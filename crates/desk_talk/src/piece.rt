@@ -6,8 +6,8 @@ ghost use Rattle.seat_disk.specs.Growing.{KeepsFront};
 ghost use Rattle.seat_recovery.specs.OpenText.{open_text};
 ghost use Rattle.desk_answers.specs.FaultLines.{memory_line};
 ghost use Rattle.desk_answers.specs.Hosts.{IsReady};
-ghost use Rattle.desk_talk.specs.Talks.{held, TalksOn, TellsOf};
-ghost use Rattle.desk_talk.specs.declared.talk_fault.TalkFault.TheVariants.{Input, Journal, Output};
+ghost use Rattle.desk_talk.specs.Talks.{held, EndsUntold, TalksOn, TellsOf};
+ghost use Rattle.desk_talk.specs.declared.talk_fault.TalkFault.TheVariants.{Input, Journal, Memory as NoMemory, Output};
 
 use crate::talk_fault::TalkFault;
 use airline_base::{NotedWrite, put_all};
@@ -38,6 +38,7 @@ pub(crate) fn hear_piece<R: Wait, W: NotedWrite, D: Tape>(
     ensures journal { IfErr result (λ f. f ≡ Journal → D.failure_count host.new.serving.tape
         ≡ noted (D.failure_count host.old.serving.tape)) }
     ensures input { IfErr result (λ f. f ≡ Input → ⊥) }
+    ensures memory { IfErr result (λ f. f ≡ NoMemory → EndsUntold host.new) }
     ensures told { OnErr result (KeepsFront (open_text host.old.serving.kept) (D.may_leave host.new.serving.tape)) }
 {
     for byte in piece {
@@ -66,6 +67,7 @@ fn hear_byte<R: Wait, W: NotedWrite, D: Tape>(
     ensures journal { IfErr result (λ f. f ≡ Journal → D.failure_count host.new.serving.tape
         ≡ noted (D.failure_count host.old.serving.tape)) }
     ensures input { IfErr result (λ f. f ≡ Input → ⊥) }
+    ensures memory { IfErr result (λ f. f ≡ NoMemory → EndsUntold host.new) }
     ensures told { OnErr result (KeepsFront (open_text host.old.serving.kept) (D.may_leave host.new.serving.tape)) }
 {
     hold(line, byte);
@@ -88,6 +90,7 @@ fn hold(line: &mut HeldLine, byte: u8)
 }
 
 // Answers a line. Whether the desk stays.
+#[tactic(auto, using(crate::proofs::Talking::ends_untold))]
 fn tell<R: Wait, W: NotedWrite, D: Tape>(
     rt: &R,
     alloc: Global,
@@ -102,6 +105,7 @@ fn tell<R: Wait, W: NotedWrite, D: Tape>(
     ensures journal { IfErr result (λ f. f ≡ Journal → D.failure_count host.new.serving.tape
         ≡ noted (D.failure_count host.old.serving.tape)) }
     ensures input { IfErr result (λ f. f ≡ Input → ⊥) }
+    ensures memory { IfErr result (λ f. f ≡ NoMemory → EndsUntold host.new) }
     ensures told { OnErr result (KeepsFront (open_text host.old.serving.kept) (D.may_leave host.new.serving.tape)) }
 {
     let heard = match host.hear(rt, alloc, line) {

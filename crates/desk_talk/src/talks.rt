@@ -6,8 +6,8 @@ ghost use Rattle.seat_recovery.specs.OpenText.{open_text};
 ghost use Rattle.desk_answers.specs.Hosts.{IsReady};
 ghost use Rattle.seat_rules.specs.Journal.{calls_of};
 ghost use Rattle.desk_talk.specs.Ready.{IsReadyLine};
-ghost use Rattle.desk_talk.specs.Talks.{IsTalk, Turns};
-ghost use Rattle.desk_talk.specs.declared.talk_fault.TalkFault.TheVariants.{Input, Journal, Output};
+ghost use Rattle.desk_talk.specs.Talks.{EndsUntold, IsTalk, Turns};
+ghost use Rattle.desk_talk.specs.declared.talk_fault.TalkFault.TheVariants.{Input, Journal, Memory as NoMemory, Output};
 
 use crate::piece::{HeldLine, hear_piece};
 use crate::ready::ready_line;
@@ -40,6 +40,7 @@ pub fn talk<R: Wait, I: NotedRead, W: NotedWrite, D: Tape>(
     ensures output { IfErr result (λ f. f ≡ Output → W.failure_count out.new ≡ noted (W.failure_count out.old)) }
     ensures journal { IfErr result (λ f. f ≡ Journal → D.failure_count host.new.serving.tape
         ≡ noted (D.failure_count host.old.serving.tape)) }
+    ensures memory { IfErr result (λ f. f ≡ NoMemory → EndsUntold host.new) }
 {
     let ready = ready_of(host);
     let Ok(()) = put_all(out, ready.as_slice()) else {
@@ -75,6 +76,7 @@ fn turn<R: Wait, I: NotedRead, W: NotedWrite, D: Tape>(
     ensures output { IfErr result (λ f. f ≡ Output → W.failure_count out.new ≡ noted (W.failure_count out.old)) }
     ensures journal { IfErr result (λ f. f ≡ Journal → D.failure_count host.new.serving.tape
         ≡ noted (D.failure_count host.old.serving.tape)) }
+    ensures memory { IfErr result (λ f. f ≡ NoMemory → EndsUntold host.new) }
 {
     match input.read_noted(piece) {
         Ok(0) => Ok(false),
