@@ -52,6 +52,7 @@ complete -c seatdesk -n '__fish_seen_subcommand_from rooms' -l open -d 'Takes a 
 complete -c seatdesk -n '__fish_seen_subcommand_from rooms' -s v -l verbose -d 'Names the file of a fault, and where in it the fault stands, or the system\'s reason'
 complete -c seatdesk -n '__fish_seen_subcommand_from rooms' -s h -l help -d 'Print help'
 complete -c seatdesk -n '__fish_seen_subcommand_from rooms' -F
+
 complete -c seatdesk -n '__fish_seen_subcommand_from loads' -l set -r -F -d 'The data set of the schedule (SSIM chapter 7, a file)'
 complete -c seatdesk -n '__fish_seen_subcommand_from loads' -l limits -r -F -d 'The booking limits of the legs, in seats from 0 to 999 (a file)'
 complete -c seatdesk -n '__fish_seen_subcommand_from loads' -l first -x -d 'The first day of departure, as 2024-06-01, from 2000 to 2099'
