@@ -326,8 +326,17 @@ fn keeps_the_runs_of_a_day(rt: HostRuntime) -> Result<(), Fail> {
     assert!(rt; lines_behind(runs.as_slice()) == 5);
     runs.push(same);
     assert!(rt; lines_behind(runs.as_slice()) == 3);
-    assert!(rt; runs.as_slice().iter().any(|run| has_script(run, &digest_of(b"more"))));
-    assert!(rt; !runs.as_slice().iter().any(|run| has_script(run, &digest_of(b"monday"))));
+    assert!(rt;
+        runs.as_slice()
+            .iter()
+            .any(|run| has_script(run, &digest_of(b"more")))
+    );
+    assert!(rt;
+        !runs
+            .as_slice()
+            .iter()
+            .any(|run| has_script(run, &digest_of(b"monday")))
+    );
     Ok(())
 }
 
