@@ -75,7 +75,7 @@ complete -c seatdesk -n '__fish_seen_subcommand_from run' -l today -x -d 'The da
 complete -c seatdesk -n '__fish_seen_subcommand_from run' -l journal -r -F -d 'The file that the journal is written to, which may be no input but the journal of --after or --resume'
 complete -c seatdesk -n '__fish_seen_subcommand_from run' -l changes -r -F -d 'Changes of the limits, made beside the sessions (a file); without it no limit changes'
 complete -c seatdesk -n '__fish_seen_subcommand_from run' -l no-clobber -d 'Refuses an OUT that is there and is not empty'
-complete -c seatdesk -n '__fish_seen_subcommand_from run' -l again -d 'Books scripts once more that a run of the journal\'s last day has booked, as its seal says'
+complete -c seatdesk -n '__fish_seen_subcommand_from run' -l again -d 'Books scripts once more that a run of the journal has booked, as its seal says'
 complete -c seatdesk -n '__fish_seen_subcommand_from run' -s v -l verbose -d 'Names the file of a fault, and where in it the fault stands, or the system\'s reason'
 complete -c seatdesk -n '__fish_seen_subcommand_from run' -s h -l help -d 'Print help'
 complete -c seatdesk -n '__fish_seen_subcommand_from run' -F

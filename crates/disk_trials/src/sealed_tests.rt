@@ -313,30 +313,42 @@ fn ends_ahead_of_the_last_line(rt: HostRuntime) -> Result<(), Fail> {
     Ok(())
 }
 
-// Of the runs that a seal has, those of the day of the new one stay, and the very same run stands there once.
+// A run takes the place of those that began behind as many lines, and leaves the others, whatever their day.
 #[test]
-fn keeps_the_runs_of_a_day(rt: HostRuntime) -> Result<(), Fail> {
+fn keeps_the_runs_behind_other_numbers(rt: HostRuntime) -> Result<(), Fail> {
     let mut runs = Runs::new();
-    runs.push(run(0, 19, b"monday"));
-    runs.push(run(3, 20, b"tuesday"));
-    runs.push(run(5, 20, b"more"));
-    let same = run(3, 20, b"tuesday");
-    runs.keep_beside(&same);
-    assert!(rt; runs.as_slice().len() == 1);
-    assert!(rt; lines_behind(runs.as_slice()) == 5);
-    runs.push(same);
+    runs.add(run(0, 19, b"monday"));
+    runs.add(run(3, 20, b"tuesday"));
+    runs.add(run(5, 20, b"more"));
+    runs.add(run(3, 21, b"grown"));
+    assert!(rt; runs.as_slice().len() == 3);
     assert!(rt; lines_behind(runs.as_slice()) == 3);
-    assert!(rt;
-        runs.as_slice()
-            .iter()
-            .any(|run| has_script(run, &digest_of(b"more")))
-    );
-    assert!(rt;
-        !runs
+    let rows: [(&[u8], bool); 4] = [
+        (b"monday", true),
+        (b"tuesday", false),
+        (b"more", true),
+        (b"grown", true),
+    ];
+    for (script, wanted) in rows {
+        let is_known = runs
             .as_slice()
             .iter()
-            .any(|run| has_script(run, &digest_of(b"monday")))
-    );
+            .any(|run| has_script(run, &digest_of(script)));
+        assert!(rt; is_known == wanted);
+    }
+    Ok(())
+}
+
+// Where a seal has no room for one run more, the oldest goes.
+#[test]
+fn keeps_the_last_runs(rt: HostRuntime) -> Result<(), Fail> {
+    let mut runs = Runs::new();
+    for behind in 0..130u32 {
+        runs.add(run(behind, 19, b"monday"));
+    }
+    assert!(rt; runs.as_slice().len() == 128);
+    assert!(rt; runs.as_slice()[0].behind == 2);
+    assert!(rt; lines_behind(runs.as_slice()) == 129);
     Ok(())
 }
 

@@ -525,7 +525,7 @@ const JOURNALS: &[Explanation] = &[
         behind: "",
         code: "R2",
         numbers: NONE,
-        text: "An input is too large: a data set or a journal has at most 256 MiB, any other input 16 MiB.\nOr what stands behind the lines of a journal that is to be recovered is a line without an end, of more than 256 KiB.\nOr the run would be the 129th of its day, and a seal names 128: take it away, and seatdesk seal writes one that names none.\nseatdesk -v names the file.",
+        text: "An input is too large: a data set or a journal has at most 256 MiB, any other input 16 MiB.\nOr what stands behind the lines of a journal that is to be recovered is a line without an end, of more than 256 KiB.\nseatdesk -v names the file.",
     },
     Explanation {
         behind: "",
@@ -647,7 +647,7 @@ const SEALS: &[Explanation] = &[
         behind: "SEAL",
         code: "again",
         numbers: NONE,
-        text: "A script that is to be booked, or the file of --changes, stands in the journal already: its seal has the digest of the\nvery same bytes, by one of the runs of the journal's last day. So the same command given twice books nothing twice.\n--again books it once more; --resume JOURNAL books what is new of scripts that have grown, and nothing where nothing is.\nOf --resume JOURNAL it is a script of a run ahead of the lines that --behind names: say where that run began.",
+        text: "A script that is to be booked, or the file of --changes, stands in the journal already: its seal has the digest of the\nvery same bytes, by one of the last 128 runs that wrote it. So the same command given twice books nothing twice.\n--again books it once more; --resume JOURNAL books what is new of scripts that have grown, and nothing where nothing is.\nOf --resume JOURNAL it is a script of a run ahead of the lines that --behind names: say where that run began.",
     },
     Explanation {
         behind: "SEAL",
@@ -659,7 +659,7 @@ const SEALS: &[Explanation] = &[
         behind: "SEAL",
         code: "runs",
         numbers: NONE,
-        text: "The seal of the journal of --resume has several runs, which began behind several numbers of lines. Say by --behind N with\nwhich of them the scripts began: N stands in the seal's lines run behind. The first of a day has what all desks sold.",
+        text: "The seal of the journal of --resume has several runs, which began behind several numbers of lines. Say by --behind N with\nwhich of them the scripts began: N stands in the seal's lines run behind. Behind the first of a day stands what all desks sold that day.",
     },
 ];
 

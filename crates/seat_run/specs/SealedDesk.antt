@@ -87,7 +87,7 @@ pub record InputFailed {J K W : Type 0} (failed : Type 0) (journal_old journal_n
 -- ---- the entry of a run
 
 -- the texts of a run, and an entry of its journal: on the set, the limits and the days, by the scripts and the changes, with all its
--- lines, of which the run went on from those of the older journal, and with the runs of its day that the seal beside that one knows
+-- lines, of which the run went on from those of the older journal, and with the runs that the seal beside that one knows
 pub record IsSealedRun (beside : Beside) (set limits : List ℕ) (first days today : ℕ) (after : List ℕ) (texts : List (Option (List ℕ)))
     (changing : Option (List ℕ)) (journal : List ℕ) (entry : Belonging) (replies : List ℕ) : Type 0 where
   pub run : IsRun set limits first days today after texts changing journal replies

@@ -1,9 +1,8 @@
 -- What the seal of a run's journal says.
-use Rattle.std.specs.Prelude.{◌≡◌, ◌+◌, ◌++◌, ℕ, false, List, [], ◌∷◌, Option, None, Some}
+use Rattle.std.specs.Prelude.{◌≡◌, ◌+◌, ◌++◌, ℕ, List, [], ◌∷◌, Option, None, Some}
 use Rattle.airline_base.specs.Days.{IsDate}
 use Rattle.seat_seal.specs.Fronts.{front_of}
 use Rattle.seat_seal.specs.Imprints.{imprint_of}
-use Rattle.seat_seal.specs.Rules.{is_sealed}
 use Rattle.seat_seal.specs.Runs.{runs_with}
 use Rattle.seat_seal.specs.declared.beside.Basis.{Basis}
 use Rattle.seat_seal.specs.declared.run.Run.{Run}
@@ -28,7 +27,7 @@ pub record IsRun (digests : List (Option (List ℕ))) (changes : Option (List �
   pub scripts_are : run.scripts ≡ named_from 1 digests
   pub changes_is : run.changes ≡ changes
 
--- the entry of a journal of this text: of that basis, closed, with so many lines, and with this run behind the earlier ones of its day
+-- the entry of a journal of this text: of that basis, closed, with so many lines, and with this run behind the earlier ones
 pub record IsEntryOfRun (basis : Basis) (digests : List (Option (List ℕ))) (changes : Option (List ℕ)) (behind lines today : ℕ)
     (earlier : List Run) (text : List ℕ) (entry : Belonging) : Type 0 where
   pub set : entry.set ≡ basis.set
@@ -41,10 +40,3 @@ pub record IsEntryOfRun (basis : Basis) (digests : List (Option (List ℕ))) (ch
   pub run : Run
   pub is_run : IsRun digests changes behind today run
   pub runs_are : entry.runs ≡ runs_with earlier run
-
--- the entry would have more runs than a seal says, and keeps not the rules of one
-pub record IsOverfull (basis : Basis) (digests : List (Option (List ℕ))) (changes : Option (List ℕ)) (behind lines today : ℕ)
-    (earlier : List Run) (text : List ℕ) : Type 0 where
-  pub entry : Belonging
-  pub is_entry : IsEntryOfRun basis digests changes behind lines today earlier text entry
-  pub broken : is_sealed entry ≡ false

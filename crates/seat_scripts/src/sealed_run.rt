@@ -1,7 +1,7 @@
 //! The entry that a seal has of a run's journal.
 //! It knows digests and counts, and no file.
-ghost use Rattle.std.specs.Prelude.{◌≡◌, ◌+◌, ◌++◌, ◌<◌, ◌≤◌, IfNone, IfSome, length};
-ghost use Rattle.seat_scripts.specs.SealedRun.{IsEntryOfRun, IsOverfull, IsRun, named, named_from};
+ghost use Rattle.std.specs.Prelude.{◌≡◌, ◌+◌, ◌++◌, ◌<◌, ◌≤◌, length};
+ghost use Rattle.seat_scripts.specs.SealedRun.{IsEntryOfRun, IsRun, named, named_from};
 
 use airline_base::Day;
 use seat_seal::{
@@ -21,14 +21,11 @@ pub struct RunBasis<'a> {
     pub today: Day,
 }
 
-/// The entry of a journal of this text, with so many lines and behind the earlier runs of its day; none where that is one run more than
-/// a seal says.
-pub fn entry_of_run(run: &RunBasis<'_>, earlier: Runs, lines: u32, text: &[u8]) -> Option<Sealed>
+/// The entry of a journal of this text, with so many lines and this run behind the earlier ones.
+pub fn entry_of_run(run: &RunBasis<'_>, earlier: Runs, lines: u32, text: &[u8]) -> Sealed
     requires { length run.now.digests.now ≤ 8 }
-    ensures some { IfSome result (λ e. IsEntryOfRun run.now.basis run.now.digests.now run.now.changes run.now.behind lines
-        run.now.today earlier text.now e) }
-    ensures none { IfNone result (IsOverfull run.now.basis run.now.digests.now run.now.changes run.now.behind lines
-        run.now.today earlier text.now) }
+    ensures { IsEntryOfRun run.now.basis run.now.digests.now run.now.changes run.now.behind lines run.now.today earlier
+        text.now result }
 {
     let journal = SealedJournal {
         imprint: imprint_of(front_of(text)),
@@ -38,19 +35,15 @@ pub fn entry_of_run(run: &RunBasis<'_>, earlier: Runs, lines: u32, text: &[u8]) 
     let first = Date::of(run.basis.first);
     let this = run_of(run);
     let mut runs = earlier;
-    runs.keep_beside(&this);
-    if runs.is_full() {
-        return None;
-    }
-    runs.push(this);
-    Some(Sealed {
+    runs.add(this);
+    Sealed {
         set: run.basis.set,
         limits: run.basis.limits,
         first,
         days: run.basis.days,
         journal,
         runs,
-    })
+    }
 }
 
 fn run_of(run: &RunBasis<'_>) -> Run

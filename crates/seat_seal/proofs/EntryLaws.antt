@@ -1,5 +1,5 @@
 -- An entry that is spelled is read, and so is a seal.
-use Rattle.std.proofs.Common.{◌≡◌, ℕ, zero, suc, ◌+◌, ◌<◌, ◌≤◌, Bool, true, false, leb, ltb, ◌&&◌, List, [], ◌∷◌, ◌++◌, length, Option, Some, None, refl, sym, ap, ◌∙◌, arith, decimal, append_assoc, append-nil}
+use Rattle.std.proofs.Common.{◌≡◌, ℕ, zero, suc, ◌+◌, ◌<◌, ◌≤◌, true, leb, ltb, ◌&&◌, List, [], ◌∷◌, ◌++◌, length, Option, Some, None, refl, sym, ap, ◌∙◌, arith, decimal, append_assoc, append-nil}
 use Rattle.std.specs.Prelude.{codes, IfSome}
 use Rattle.std.specs.List.{flat_map, list_all, AllByRecursion}
 use Rattle.std.proofs.lemmas.Bool.Decides.{nat_tests}
@@ -249,16 +249,3 @@ seal_again s is =
 
 pub one_seal : (a b : Seal) → IsSeal a → IsSeal b → seal_text a ≡ seal_text b → a ≡ b
 one_seal a b p q same = some_is a b (sym (seal_again a p) ∙ ap seal_at same ∙ seal_again b q)
-
--- ---- entries that keep no rules
-
-one_false : (a b c : Bool) → b ≡ false → ((a && b) && c) ≡ false
-one_false true b c h = rw h refl
-one_false false b c h = refl
-
--- more runs than an entry may have
-pub too_many : (s : Belonging) → most_runs < length s.runs → is_sealed s ≡ false
-unfolding is_sealed
-too_many s many =
-    let few : leb (length s.runs) most_runs ≡ false = grind (arith, nat_tests, many) in
-    one_false _ (leb (length s.runs) most_runs) _ few

@@ -6,3 +6,4 @@ pub mod Lists
 pub mod Answering
 pub mod ItemRuns
 pub mod Knowing
+pub mod Newest

@@ -1,14 +1,12 @@
 //! The runs that a seal names.
-ghost use Rattle.std.specs.Prelude.{◌≡◌, ◌<◌, ◌≤◌, ◌++◌, ◌∷◌, [], ◌==◌, filter, length};
-ghost use Rattle.airline_base.specs.Bytes.{same_text};
+ghost use Rattle.std.specs.Prelude.{◌≡◌, ◌+◌, ◌-◌, ◌<◌, ◌≤◌, ◌++◌, ◌∷◌, [], drop, filter, length};
 ghost use Rattle.seat_seal.specs.Closing.{runs_within};
-ghost use Rattle.seat_seal.specs.Runs.{are_same_scripts, is_other_of_day, is_same_run, is_same_script, lines_behind, same_digests};
+ghost use Rattle.seat_seal.specs.Runs.{is_elsewhere, lines_behind, runs_with};
 ghost use Rattle.seat_seal.specs.Text.{most_runs};
 
-use crate::comparing::{same_date, same_digest};
 use crate::date::Date;
 use crate::digest::Digest;
-use crate::scripts::{Script, Scripts};
+use crate::scripts::Scripts;
 use arrayvec::ArrayVec;
 use std::marker::Model;
 
@@ -69,13 +67,6 @@ impl Runs {
         self.items.as_slice()
     }
 
-    pub fn is_full(&self) -> bool
-        ensures value { result ≡ (length self.now == most_runs) }
-        ensures few { length self.now ≤ most_runs }
-    {
-        self.items.is_full()
-    }
-
     /// Adds a run at the end.
     pub fn push(&mut self, run: Run)
         requires { length self.old < most_runs }
@@ -84,11 +75,14 @@ impl Runs {
         self.items.push(run);
     }
 
-    /// Leaves the runs of the day of this one, but for the very same run.
-    pub fn keep_beside(&mut self, run: &Run)
-        ensures { self.new ≡ filter (is_other_of_day run.now) self.old }
+    /// Adds a run at the end, in place of those that began behind as many lines. Where that is one more than a seal says, the oldest goes.
+    #[tactic(auto, using(crate::proofs::Newest::newest))]
+    pub fn add(&mut self, run: Run)
+        ensures { self.new ≡ runs_with self.old run }
     {
-        keep_beside(&mut self.items, run);
+        keep_elsewhere(&mut self.items, &run);
+        make_room(&mut self.items);
+        self.items.push(run);
     }
 
     /// Leaves the runs that began behind no more than so many lines.
@@ -99,10 +93,21 @@ impl Runs {
     }
 }
 
-fn keep_beside(runs: &mut ArrayVec<Run, 128>, run: &Run)
-    ensures { runs.new.items ≡ filter (is_other_of_day run.now) runs.old.items }
+fn keep_elsewhere(runs: &mut ArrayVec<Run, 128>, run: &Run)
+    ensures { runs.new.items ≡ filter (is_elsewhere run.now) runs.old.items }
 {
-    runs.retain(|other| is_other_of_day(run, other));
+    runs.retain(|other| is_elsewhere(run, other));
+}
+
+// For one more.
+fn make_room(runs: &mut ArrayVec<Run, 128>)
+    ensures items { runs.new.items ≡ drop (length runs.old.items + 1 - most_runs) runs.old.items }
+    ensures room { length runs.new.items < most_runs }
+    ensures few { length runs.old.items ≤ most_runs }
+{
+    if runs.is_full() {
+        let _oldest = runs.remove(0);
+    }
 }
 
 fn keep_within(runs: &mut ArrayVec<Run, 128>, lines: u32)
@@ -122,48 +127,9 @@ pub fn lines_behind(runs: &[Run]) -> u32
     }
 }
 
-/// Whether a run is of the day of another, and not the very same.
-fn is_other_of_day(run: &Run, other: &Run) -> bool
-    ensures { result ≡ is_other_of_day run.now other.now }
+/// Whether a run began behind another number of lines.
+fn is_elsewhere(run: &Run, other: &Run) -> bool
+    ensures { result ≡ is_elsewhere run.now other.now }
 {
-    same_date(&run.today, &other.today) && !is_same_run(run, other)
-}
-
-fn is_same_run(a: &Run, b: &Run) -> bool
-    ensures { result ≡ is_same_run a.now b.now }
-{
-    a.behind == b.behind
-        && are_same_scripts(a.scripts.as_slice(), b.scripts.as_slice())
-        && same_digests(&a.changes, &b.changes)
-}
-
-fn are_same_scripts(a: &[Script], b: &[Script]) -> bool
-    ensures { result ≡ are_same_scripts a.now b.now }
-{
-    match a {
-        [] => b.is_empty(),
-        [one, more @ ..] => match b {
-            [] => false,
-            [other, rest @ ..] => is_same_script(one, other) && are_same_scripts(more, rest),
-        },
-    }
-}
-
-fn is_same_script(a: &Script, b: &Script) -> bool
-    ensures { result ≡ is_same_script a.now b.now }
-{
-    a.session == b.session && same_digest(&a.digest, &b.digest)
-}
-
-/// Whether both are there and the same, or neither is there.
-fn same_digests(a: &Option<Digest>, b: &Option<Digest>) -> bool
-    ensures { result ≡ same_digests a.now b.now }
-{
-    match a {
-        Some(a) => match b {
-            Some(b) => same_digest(a, b),
-            None => false,
-        },
-        None => b.is_none(),
-    }
+    run.behind != other.behind
 }

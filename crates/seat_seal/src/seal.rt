@@ -30,7 +30,7 @@ pub struct Sealed {
     pub first: Date,
     pub days: u16,
     pub journal: SealedJournal,
-    /// The runs of its last day, the last one last.
+    /// The last runs that wrote it, the last one last.
     pub runs: Runs,
 }
 

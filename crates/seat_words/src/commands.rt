@@ -69,7 +69,7 @@ const CHANGES_HELP: &str =
 const NO_CLOBBER_HELP: &str = "Refuses an OUT that is there and is not empty";
 
 const AGAIN_HELP: &str =
-    "Books scripts once more that a run of the journal's last day has booked, as its seal says";
+    "Books scripts once more that a run of the journal has booked, as its seal says";
 
 const SCRIPTS_HELP: &str =
     "The scripts of the sessions, up to 8 files of AIRIMP messages; 3=FILE is that of session 3";
