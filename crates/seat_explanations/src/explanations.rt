@@ -653,13 +653,13 @@ const SEALS: &[Explanation] = &[
         behind: "SEAL",
         code: "behind",
         numbers: NONE,
-        text: "--behind N, or the journal of --after, says behind how many lines the scripts of --resume began. The seal of the journal\nhas no run that began behind so many: all would be booked once more. Its lines run behind have the numbers.",
+        text: "--behind N, or the journal of --after, says behind how many lines the scripts of --resume began. The seal of the journal\nhas no run that began behind so many: all would be booked once more.\ngrep run JOURNAL.seal shows behind how many lines each run began, as run behind 25.",
     },
     Explanation {
         behind: "SEAL",
         code: "runs",
         numbers: NONE,
-        text: "The seal of the journal of --resume has several runs, which began behind several numbers of lines. Say by --behind N with\nwhich of them the scripts began: N stands in the seal's lines run behind. Behind the first of a day stands what all desks sold that day.",
+        text: "The seal of the journal of --resume has several runs, which began behind several numbers of lines. Say by --behind N with\nwhich of them the scripts began. grep run JOURNAL.seal shows behind how many lines each run began, as run behind 25.\nBehind the first of a day stands what all desks sold that day.",
     },
 ];
 
@@ -687,7 +687,7 @@ const WORDS: &[Explanation] = &[
         behind: "E2",
         code: "script",
         numbers: NONE,
-        text: "There are more than 8 scripts, or some have a number ahead of their file, as 3=lisbon.txt, and some have none,\nor a number is not 1 to 8, stands twice or has no file behind it. A file whose name begins so is ./3=lisbon.txt.\nOr there is no script: run needs one unless it has --changes, and audit where it has --after, --behind or --today.",
+        text: "There are more than 8 scripts, or some have a number ahead of their file, as 3=lisbon.txt, and some have none,\nor a number is not one digit of 1 to 8, stands twice or has no file behind it. A file whose name begins so is ./3=lisbon.txt.\nOr one file, by whatever names, is the script of two sessions, or a script and the file of --changes: run would book twice\nwhat it asks. seatdesk -v says which.\nOr there is no script: run needs one unless it has --changes, and audit where it has --after, --behind or --today.",
     },
     Explanation {
         behind: "E2",
@@ -752,6 +752,18 @@ const NOTES: &[Explanation] = &[
         code: "kept",
         numbers: NONE,
         text: "What the file of --journal had before the run stands under this name from now on. The new journal is not behind it:\na run that is to be goes on from it by --after.",
+    },
+    Explanation {
+        behind: "asks",
+        code: "note",
+        numbers: NONE,
+        text: "The scripts of the run have bytes, and no request: the journal has no line of them. A request is a segment line with a code\nand seats, as LZ601Q27JUL LHRKEF NN12, below the address and the locator of its message. Lines of names, as 1LZ1J12JUL,\nbegin with a digit and ask for nothing.",
+    },
+    Explanation {
+        behind: "compared",
+        code: "note",
+        numbers: NONE,
+        text: "No seal stands beside the journal that the run went on from, as JOURNAL.seal, so nothing says of which set, limits and days\nit is, and which scripts it has already. The run was made all the same. seatdesk seal writes a seal of a journal that is right.",
     },
     Explanation {
         behind: "found",

@@ -1,7 +1,8 @@
-//! What each fault line, reply and note of the program means, in tables of texts, and the search in them.
+//! What each fault line, reply, note and word of an answer means that the program prints, in tables of texts, and the search in them.
 //! It knows the codes as they are printed, and nothing of the faults behind them or of how an answer is found.
 #![tactic(auto)]
 
+mod answers;
 mod explanations;
 mod meaning;
 mod replies;

@@ -1,4 +1,4 @@
-//! What a line means that the program printed: a fault, a reply or a note.
+//! What a line means that the program printed: a fault, a reply, a note or an answer.
 //! It knows how such a line is written, and nothing of what its codes say.
 ghost use Rattle.std.specs.Prelude.{◌≡◌, ◌==◌, [], ◌∷◌, ◌++◌, IfOk, IfSome, IsTrue, OnOk, map};
 ghost use Rattle.std.specs.List.{slice_split};
@@ -7,6 +7,7 @@ ghost use Rattle.seat_explanations.specs.Meanings.{IsMeaning};
 ghost use Rattle.seat_explanations.specs.Rows.{Begins, is_of, row_text};
 ghost use Rattle.seat_explanations.specs.Words.{filled, first_word, line_of, unnamed, words_of};
 
+use crate::answers::answer_row;
 use crate::explanations::{Explanation, row_behind, row_of, row_of_note};
 use crate::replies::reply_row;
 use std::alloc::{AllocError, Global};
@@ -20,7 +21,8 @@ pub enum Meaning<'a> {
     Unknown(&'a str),
 }
 
-/// What a fault line means: its code, the code or word behind that, and what each number counts; or what a reply or a note says.
+/// What a fault line means: its code, the code or word behind that, and what each number counts; or what a reply, a note or the word that an
+/// answer begins with says.
 /// The line may be one word or several, as it was printed or without the program's name, and in small letters.
 pub fn meaning_of<'a>(
     alloc: Global,
@@ -47,6 +49,9 @@ fn explained<'a>(alloc: Global, line: &[&'a str]) -> Result<Meaning<'a>, AllocEr
     };
     if let Some(note) = row_of_note(code, behind) {
         return Ok(Meaning::Found(text_of(alloc, note)?));
+    }
+    if let Some(answer) = answer_row(code) {
+        return Ok(Meaning::Found(text_of(alloc, answer)?));
     }
     let Some(first) = row_for(code) else {
         return Ok(Meaning::Unknown(*code));

@@ -1,0 +1,253 @@
+//! What each word in capital letters says that stands in an answer of a command, or at the head or the end of a file, in one table.
+//! It knows the words, and nothing of how an answer is found.
+ghost use Rattle.std.specs.Prelude.{IfSome, IsTrue};
+ghost use Rattle.seat_explanations.specs.Rows.{is_of};
+
+use crate::explanations::Explanation;
+
+/// The row of a word of an answer, in small letters or capitals.
+#[tactic(auto, using(crate::proofs::Rows::either))]
+pub fn answer_row(word: &str) -> Option<&'static Explanation>
+    ensures { IfSome result (λ row. IsTrue (is_of word.now row.now)) }
+{
+    first_named(verdicts(), word)
+        .or(first_named(sets(), word))
+        .or(first_named(rooms(), word))
+        .or(first_named(reasons(), word))
+        .or(first_named(covers(), word))
+        .or(first_named(desks(), word))
+        .or(first_named(requests(), word))
+        .or(first_named(files(), word))
+}
+
+fn first_named<'a>(rows: &'a [Explanation], word: &str) -> Option<&'a Explanation>
+    ensures { IfSome result (λ row. IsTrue (is_of word.now row.now)) }
+{
+    rows.iter().find(|row| row.code.eq_ignore_ascii_case(word))
+}
+
+fn verdicts() -> &'static [Explanation] {
+    VERDICTS
+}
+
+fn sets() -> &'static [Explanation] {
+    SETS
+}
+
+fn rooms() -> &'static [Explanation] {
+    ROOMS
+}
+
+fn reasons() -> &'static [Explanation] {
+    REASONS
+}
+
+fn covers() -> &'static [Explanation] {
+    COVERS
+}
+
+fn desks() -> &'static [Explanation] {
+    DESKS
+}
+
+fn requests() -> &'static [Explanation] {
+    REQUESTS
+}
+
+fn files() -> &'static [Explanation] {
+    FILES
+}
+
+const NONE: &[&str] = &[];
+
+// What audit and recover say of a whole journal.
+const VERDICTS: &[Explanation] = &[
+    Explanation {
+        behind: "",
+        code: "LEGAL",
+        numbers: NONE,
+        text: "Of audit: the journal is a legal history over the set and the limits, and with scripts it is what they ask.\nlines: its entries. confirmed: the seats of the KK replies and of all advices. released: the seats given back.",
+    },
+    Explanation {
+        behind: "",
+        code: "RECOVERED",
+        numbers: NONE,
+        text: "Of recover: the journal has its END line and its seal. lines: the entries that it has.\ncut: the bytes that stood behind these; a note names the file that has them now.",
+    },
+];
+
+// What check says of a data set.
+const SETS: &[Explanation] = &[Explanation {
+    behind: "",
+    code: "00XXX00",
+    numbers: NONE,
+    text: "Of check: the end of the period of schedule validity is open. In a data set: an open end of a period.",
+}];
+
+// What rooms and loads say of a place or a leg.
+const ROOMS: &[Explanation] = &[
+    Explanation {
+        behind: "",
+        code: "ROOM",
+        numbers: NONE,
+        text: "Behind it stands each class with its room: the seats that a request for it would find on the whole place;\nof loads and why on this one leg; of ladder on its leg, when all lines are answered.",
+    },
+    Explanation {
+        behind: "",
+        code: "LOAD",
+        numbers: NONE,
+        text: "Of loads: the seats held on the leg, of the limit of its highest class, then what part of that is held, per mille;\nbehind that each class, with the seats held in it and those below it, and its limit.",
+    },
+    Explanation {
+        behind: "",
+        code: "SUMS",
+        numbers: NONE,
+        text: "Of loads: the legs above it, the seats held on them of the sum of their highest limits, what part of that is held,\nper mille, the passengers who hold seats there, and those who wait, each booking once.",
+    },
+];
+
+// What why says of a line's reply.
+const REASONS: &[Explanation] = &[
+    Explanation {
+        behind: "",
+        code: "LIMIT",
+        numbers: NONE,
+        text: "Of why: each class of the leg with its limit, as it stood ahead of the line.",
+    },
+    Explanation {
+        behind: "",
+        code: "HELD",
+        numbers: NONE,
+        text: "Of why: each class of the leg with the seats held in it and in those below it, ahead of the line.",
+    },
+    Explanation {
+        behind: "",
+        code: "WAIT",
+        numbers: NONE,
+        text: "Of why and loads: each class of the leg with the seats that wait in it, of those that may.",
+    },
+    Explanation {
+        behind: "",
+        code: "RIGHT",
+        numbers: NONE,
+        text: "Of why: the reply to the line, the seats given back and the advices, as they must be.\nWhat the journal has of these stands behind GIVEN.",
+    },
+    Explanation {
+        behind: "",
+        code: "GIVEN",
+        numbers: NONE,
+        text: "Of why: what the journal has. What is right stands ahead of it, behind RIGHT.",
+    },
+    Explanation {
+        behind: "",
+        code: "NONE",
+        numbers: NONE,
+        text: "Of why, RIGHT NONE: no reply is right, since the line asks for a place that is not there, for no seats,\nor for more than 999.",
+    },
+];
+
+// What cover says of rows and legs.
+const COVERS: &[Explanation] = &[
+    Explanation {
+        behind: "",
+        code: "LEG",
+        numbers: NONE,
+        text: "Of why: a leg of the line's place. Of cover, with NO ROW behind it: a leg that no row of the limits is for,\non which nothing can be sold.",
+    },
+    Explanation {
+        behind: "",
+        code: "ROW",
+        numbers: NONE,
+        text: "Of cover: a row of the limits, by its number without empty lines. NO LEG: it is for no leg of these days.\nHIDDEN: it gives no leg its limits.",
+    },
+    Explanation {
+        behind: "",
+        code: "HIDDEN",
+        numbers: NONE,
+        text: "Of cover: on each leg that the row is for, a row behind it is for that leg too, and the last one counts.",
+    },
+    Explanation {
+        behind: "",
+        code: "COVERED",
+        numbers: NONE,
+        text: "Of cover: how many of the legs have a row, and how many of the rows have a leg, hidden ones too.",
+    },
+];
+
+// What an open host says to a desk.
+const DESKS: &[Explanation] = &[
+    Explanation {
+        behind: "",
+        code: "READY",
+        numbers: NONE,
+        text: "The host hears the desk. Behind it stand the session, how many lines the journal has, how many of these are the session's,\nand the day of the run.",
+    },
+    Explanation {
+        behind: "",
+        code: "LOOK",
+        numbers: NONE,
+        text: "The answer to a line that begins with ?, which books nothing: how many lines the journal has, the flight, its day,\nthe stations, and the seats that are left behind those lines.",
+    },
+    Explanation {
+        behind: "",
+        code: "FAULT",
+        numbers: NONE,
+        text: "A line of the desk is refused, and nothing was booked for it. Behind it stands the code, which seatdesk explain takes\nby itself, and the number of the line.",
+    },
+];
+
+// What desks and the manager ask, in scripts and in a journal.
+const REQUESTS: &[Explanation] = &[
+    Explanation {
+        behind: "",
+        code: "NN",
+        numbers: NONE,
+        text: "A request: the seats are needed. The reply is KK, UU, UC, UN or NO.",
+    },
+    Explanation {
+        behind: "",
+        code: "SS",
+        numbers: NONE,
+        text: "A request: the seats are sold, where they can be. The reply is KK, US, UC, UN or NO.",
+    },
+    Explanation {
+        behind: "",
+        code: "LL",
+        numbers: NONE,
+        text: "A request: the seats are to wait. The reply is HL, UC, UN or NO.",
+    },
+    Explanation {
+        behind: "",
+        code: "XX",
+        numbers: NONE,
+        text: "A request: so many seats of a booking are cancelled. The reply is HX, UN or NO.",
+    },
+    Explanation {
+        behind: "",
+        code: "AU",
+        numbers: NONE,
+        text: "A row of limits or of changes. In a journal and in a ladder's input: a change of a limit, whose reply is OK or NO.",
+    },
+];
+
+// The first and the last line of what is kept in files.
+const FILES: &[Explanation] = &[
+    Explanation {
+        behind: "",
+        code: "SEATJOURNAL",
+        numbers: NONE,
+        text: "The first line of a journal, with the version of its text. A line for each call stands behind it, and last END.",
+    },
+    Explanation {
+        behind: "",
+        code: "SEATSEAL",
+        numbers: NONE,
+        text: "The first line of a seal, with the version of its text: what the journal beside it belongs to.",
+    },
+    Explanation {
+        behind: "",
+        code: "END",
+        numbers: NONE,
+        text: "The last line of a journal, with the number of its entries; a journal that is open has none. Of a seal: the end of an entry.",
+    },
+];
