@@ -1,16 +1,32 @@
 -- Words that name the scripts of sessions: each by its place, or each by a number ahead of its file.
-use Rattle.std.specs.Prelude.{◌≡◌, ◌≤◌, ℕ, zero, suc, ◌-◌, ◌==◌, ◌&&◌, ◌||◌, nat_le, if◌then◌else◌, Bool, false, true, not, is_some, List, [], ◌∷◌, find, length, max, slice_get, Option, Some, None, option_map, option_and_then}
+use Rattle.std.specs.Prelude.{◌≡◌, ◌≤◌, ℕ, zero, suc, ◌-◌, ◌==◌, ◌&&◌, ◌||◌, nat_le, nat_lt, if◌then◌else◌, Bool, false, true, not, is_some, List, [], ◌∷◌, find, length, max, slice_get, Option, Some, None, option_map, option_and_then}
 use Rattle.std.specs.Char.{is_ascii_digit}
-use Rattle.std.specs.List.{list_all, list_any}
+use Rattle.std.specs.List.{after_first, before_first, list_all, list_any, position_or_len}
 use Rattle.std.specs.Option.{option_map_or}
 use Rattle.clap.specs.Words.{Text}
 use Rattle.seat_words.specs.declared.fault.WordFault.{WordFault}
 use Rattle.seat_words.specs.declared.fault.WordFault.TheVariants as faults
 
--- a digit and = ahead of the file, as in 3=lisbon.txt: the number, and the file
+-- the sign between a number and a file is =
+abbrev pub is_sign : ℕ → Bool
+is_sign byte = byte == 61
+
+-- the number that digits write: one digit's own; several are no session's, and 0 stands for these
+abbrev pub digit_value : List ℕ → ℕ
+digit_value (digit ∷ []) = digit - 48
+digit_value _ = 0
+
+-- digits, at least one, and = behind them
+abbrev pub begins_with_number : Text → Bool
+begins_with_number word =
+    nat_lt (position_or_len is_sign word) (length word)
+    && nat_lt 0 (length (before_first is_sign word))
+    && list_all is_ascii_digit (before_first is_sign word)
+
+-- digits and = ahead of the file, as in 3=lisbon.txt: the number, and the file
 abbrev pub numbered : Text → Option (ℕ × Text)
-numbered (digit ∷ mark ∷ file) = if is_ascii_digit digit && (mark == 61) then Some (digit - 48, file) else None
-numbered _ = None
+numbered word =
+    if begins_with_number word then Some (digit_value (before_first is_sign word), after_first is_sign word) else None
 
 -- the words have numbers: one of them has
 abbrev pub have_numbers : List Text → Bool

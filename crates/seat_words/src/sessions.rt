@@ -3,9 +3,10 @@ ghost use Rattle.std.specs.Prelude.{◌≡◌, ◌≤◌, IfSome, option_map, sl
 ghost use Rattle.std.specs.List.{AllByRecursion, list_all};
 ghost use Rattle.std.specs.Option.{option_map_or};
 ghost use Rattle.clap.specs.Walk.{texts};
-ghost use Rattle.seat_words.specs.SessionWords.{IsServed, are_apart, audit_lacks, file_of, have_numbers, highest_after, is_of, is_of_a_session, is_repeated, numbered, numbered_file, sessions_in, sessions_of_run};
+ghost use Rattle.seat_words.specs.SessionWords.{IsServed, are_apart, audit_lacks, digit_value, file_of, have_numbers, highest_after, is_of, is_of_a_session, is_repeated, numbered, numbered_file, sessions_in, sessions_of_run};
 
 use super::fault::WordFault;
+use airline_base::fields::are_digits;
 
 /// As many sessions as a run may have.
 const MOST_SESSIONS: usize = 8;
@@ -192,13 +193,25 @@ fn is_of_a_session(word: &str) -> bool
     }
 }
 
-/// The number and the file of a word that begins with one digit and `=`.
+/// The number and the file of a word that begins with digits and `=`. Several digits are no session's number.
+#[tactic(auto, using(std::proofs::lemmas::Str::Pattern::split_once_first))]
 fn numbered(word: &str) -> Option<(u8, &str)>
     ensures { option_map (λ named. (named.0, named.1.now)) result ≡ numbered word.now }
 {
-    let (number, file) = word.split_once('=')?;
-    match number.as_bytes() {
-        [digit] if digit.is_ascii_digit() => Some((*digit - b'0', file)),
-        _ => None,
+    let (digits, file) = word.split_once('=')?;
+    let digits = digits.as_bytes();
+    if digits.is_empty() || !are_digits(digits) {
+        return None;
+    }
+    Some((digit_value(digits), file))
+}
+
+/// The value of one digit, and 0 for several.
+fn digit_value(digits: &[u8]) -> u8
+    ensures { result ≡ digit_value digits.now }
+{
+    match digits {
+        [digit] => digit.saturating_sub(b'0'),
+        _ => 0,
     }
 }
