@@ -1,2 +1,3 @@
 mod Fronts
 pub mod Keeping
+pub mod Syncs

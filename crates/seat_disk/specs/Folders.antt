@@ -1,7 +1,8 @@
 -- What a clause reads of a `Folder`.
-use Rattle.std.specs.Prelude.{◌≡◌, ◌⊎◌, ℕ, Bool, ◌&&◌, if◌then◌else◌, List, length, map, take, IsTrue}
+use Rattle.std.specs.Prelude.{◌≡◌, ◌⊎◌, ℕ, Bool, ◌&&◌, not, if◌then◌else◌, List, length, map, take, IsTrue}
 use Rattle.seat_disk.specs.declared.replaced.Content.{Content}
 use Rattle.seat_disk.specs.declared.replaced.Folder.{Folder}
+use Rattle.seat_disk.specs.declared.synced.Synced.{Synced}
 use Rattle.seat_disk.specs.Leaving.{IsLeft}
 
 -- `folder.bytes()`
@@ -47,3 +48,7 @@ are_left files left = left ≡ bytes_of_files files
 -- a crash leaves each file that was kept
 abbrev pub folder_keeps : Folder → List (List ℕ) → Type 0
 folder_keeps f left = are_left f.kept.items left
+
+-- the folder is synced where no renaming waits for it
+abbrev pub folder_synced : Folder → Synced
+folder_synced f = record { beside = f.beside.is_synced; file = f.named.is_synced; name = not f.is_renamed }

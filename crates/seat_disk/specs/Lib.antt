@@ -4,4 +4,5 @@ pub mod Fuses
 pub mod Growing
 pub mod Keeping
 pub mod Leaving
+pub mod Syncs
 pub mod Tapes

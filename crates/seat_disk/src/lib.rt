@@ -5,8 +5,10 @@
 mod failing;
 mod fuse;
 mod replaced;
+mod synced;
 mod tape;
 
 pub use fuse::Fuse;
 pub use replaced::{Folder, Replaced, replace_whole};
+pub use synced::Synced;
 pub use tape::{Tape, TornTape, keep};
