@@ -6,8 +6,8 @@ ghost use Rattle.seat_seal.specs.Fronts.{front_of};
 use airline_base::Failures;
 use seat_disk::{Folder, Fuse};
 use seat_seal::{
-    Date, JournalState, Run, Runs, Script, Scripts, SealEntry, Sealed, SealedJournal, digest_of,
-    entry_for, front_of, has_script, imprint_of, lines_behind, read_seal,
+    Date, JournalState, Run, Runs, Script, Scripts, Seal, SealEntry, Sealed, SealedJournal,
+    digest_of, entry_for, front_of, has_script, imprint_of, lines_behind, read_seal,
 };
 use seat_sealing::{may_be_sealed, older_entry, replace_sealed};
 use std::alloc::{AllocError, Global};
@@ -82,11 +82,7 @@ fn run(behind: u32, day: u8, script: &[u8]) -> Run {
 
 // What an older seal says of its journal.
 fn known(seal: &[u8], journal: &[u8]) -> SealEntry {
-    older_entry(
-        read_seal(seal),
-        &imprint_of(front_of(journal)),
-        imprint_of(journal),
-    )
+    older_entry(read_seal(seal), journal)
 }
 
 // Whether a reader finds the journal's entry in the seal.
@@ -94,7 +90,7 @@ fn is_found(seal: &[u8], journal: &[u8]) -> bool {
     let Some(seal) = read_seal(seal) else {
         return false;
     };
-    entry_for(&seal, &imprint_of(front_of(journal)), &imprint_of(journal)).is_some()
+    entry_for(&seal, journal).is_some()
 }
 
 // A replacement that keeps what the names have passes 17 calls on: six of the seal (begin, append, sync, keep, rename, sync of the
@@ -309,6 +305,35 @@ fn ends_ahead_of_the_last_line(rt: HostRuntime) -> Result<(), Fail> {
     ];
     for (text, wanted) in rows {
         assert!(rt; front_of(text) == wanted);
+    }
+    Ok(())
+}
+
+// The seal of an open journal is that of each journal that begins with it.
+#[test]
+fn finds_an_open_journal_with_more_lines(rt: HostRuntime) -> Result<(), Fail> {
+    let mut open = sealed(OLD, 1, 20, b"tuesday");
+    open.journal.state = JournalState::Open;
+    let seal = Seal {
+        first: SealEntry::Sealed(open),
+        second: None,
+    };
+    let rows: [(&[u8], bool); 6] = [
+        (OLD, true),
+        (b"SEATJOURNAL 2\n1 1 1 K7M2QP 11.0.0 J NN 2 KK 0\n", true),
+        (
+            b"SEATJOURNAL 2\n1 1 1 K7M2QP 11.0.0 J NN 2 KK 0\n2 2 1 ABCD",
+            true,
+        ),
+        (b"SEATJOURNAL 2\n1 1 1 K7M2QP 11.0.0 J NN 2 KK 0", false),
+        (
+            b"SEATJOURNAL 2\n1 1 1 K7M2QP 11.0.0 J NN 3 KK 0\n2 2 1 ABCD",
+            false,
+        ),
+        (NEW, false),
+    ];
+    for (journal, wanted) in rows {
+        assert!(rt; entry_for(&seal, journal).is_some() == wanted);
     }
     Ok(())
 }

@@ -1,23 +1,17 @@
 -- What a seal knows of a journal, by the entry that is compared, and that it is one.
-use Rattle.std.proofs.Common.{◌≡◌, ◌⊎◌, ⊎_elim, inl, inr, ℕ, Bool, true, false, List, Option, Some, None, refl, sym, ap, ◌∙◌}
-use Rattle.std.specs.Prelude.{if◌then◌else◌, option_map, unwrap_or}
+use Rattle.std.proofs.Common.{◌≡◌, ◌⊎◌, ⊎_elim, inl, inr, ℕ, List, Option, Some, None, sym, ap, ◌∙◌}
+use Rattle.std.specs.Prelude.{option_map}
 use Rattle.airline_base.proofs.Tests.{none_some}
 use Rattle.seat_seal.specs.Besides.{entry_of}
-use Rattle.seat_seal.specs.Comparing.{is_its_journal}
-use Rattle.seat_seal.specs.Fronts.{front_of}
-use Rattle.seat_seal.specs.Imprints.{imprint_of}
-use Rattle.seat_seal.specs.Reading.{two_entries}
 use Rattle.seat_seal.specs.Rules.{IsSeal}
 use Rattle.seat_seal.specs.Text.{seal_text}
-use Rattle.seat_seal.specs.declared.imprint.Imprint.{Imprint}
 use Rattle.seat_seal.specs.declared.seal.Seal.{Seal}
 use Rattle.seat_seal.specs.declared.seal.Sealed.{Sealed as Belonging}
-use Rattle.seat_seal.specs.declared.seal.SealEntry.{SealEntry}
 use Rattle.seat_seal.specs.Known.{IsKnownBy, IsKnownByNone, IsKnownFrom, OneIsKnown, known_in}
 use Rattle.seat_seal.proofs.EntryLaws.{one_seal}
 
 pub known_by : (text journal : List ℕ) (seal : Seal) (known : Option Belonging) → IsSeal seal → text ≡ seal_text seal
-    → known ≡ known_in (entry_of seal (imprint_of (front_of journal)) (imprint_of journal))
+    → known ≡ known_in (entry_of seal journal)
     → IsKnownByNone text known ⊎ IsKnownBy text journal known
 known_by text journal seal known is same entry =
     inr (record { seal = seal; is_seal = is; is_text = same; known_is = entry })
@@ -29,27 +23,6 @@ known_by_none text journal read known is only nothing = inl (record {
   none = λ (seal : Seal) (keeps : IsSeal seal) (same : text ≡ seal_text seal). none_some seal (sym is ∙ only seal keeps same);
   nothing = nothing;
 })
-
-one_of : (b : Bool) (entry : SealEntry) → unwrap_or (if b then Some entry else None) entry ≡ entry
-one_of true entry = refl
-one_of false entry = refl
-
--- a seal of one entry has that one
-pub compared_one : (seal : Seal) (entries whole : Imprint) (known : Option Belonging) → seal.second ≡ None
-    → known ≡ known_in seal.first → known ≡ known_in (entry_of seal entries whole)
-compared_one seal entries whole known alone same =
-    rw alone (same ∙ sym (ap known_in (one_of (is_its_journal seal.first entries whole) seal.first)))
-
-pub compared_first : (first second : SealEntry) (entries whole : Imprint) (known : Option Belonging)
-    → is_its_journal first entries whole ≡ true → known ≡ known_in first
-    → known ≡ known_in (entry_of (two_entries first second) entries whole)
-compared_first first second entries whole known is same = rw is same
-
-pub compared_second : (first second : SealEntry) (entries whole : Imprint) (known : Option Belonging)
-    → is_its_journal first entries whole ≡ false → known ≡ known_in second
-    → known ≡ known_in (entry_of (two_entries first second) entries whole)
-compared_second first second entries whole known other same =
-    rw other (same ∙ sym (ap known_in (one_of (is_its_journal second entries whole) second)))
 
 -- ---- what is known is one
 
@@ -64,7 +37,7 @@ one_from (Some text) journal a b x y = ⊎_elim
     (λ (h : IsKnownBy text journal a). ⊎_elim
     (λ (m : IsKnownByNone text b). absurd (m.none h.seal h.is_seal h.is_text))
     (λ (k : IsKnownBy text journal b). h.known_is
-    ∙ (ap (λ (s : Seal). known_in (entry_of s (imprint_of (front_of journal)) (imprint_of journal))) (one_seal h.seal k.seal h.is_seal k.is_seal (sym h.is_text ∙ k.is_text))
+    ∙ (ap (λ (s : Seal). known_in (entry_of s journal)) (one_seal h.seal k.seal h.is_seal k.is_seal (sym h.is_text ∙ k.is_text))
     ∙ sym k.known_is))
     y)
     x

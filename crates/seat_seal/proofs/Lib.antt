@@ -7,3 +7,4 @@ pub mod Answering
 pub mod ItemRuns
 pub mod Knowing
 pub mod Newest
+pub mod Fitting

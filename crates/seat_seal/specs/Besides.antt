@@ -1,43 +1,42 @@
 -- What stands beside a journal, and the first fault of it.
-use Rattle.std.specs.Prelude.{◌≡◌, ◌⊎◌, ℕ, Bool, if◌then◌else◌, List, Option, None, Some, option_map, unwrap_or}
+use Rattle.std.specs.Prelude.{◌≡◌, ◌⊎◌, ℕ, Bool, if◌then◌else◌, List, Option, None, Some, option_map}
 use Rattle.airline_base.specs.Days.{IsDate}
 use Rattle.seat_seal.specs.declared.beside.Basis.{Basis}
 use Rattle.seat_seal.specs.declared.beside.Beside.{Beside}
 use Rattle.seat_seal.specs.declared.comparing.Given.{Given}
 use Rattle.seat_seal.specs.declared.comparing.SealFault.{SealFault}
 use Rattle.seat_seal.specs.declared.comparing.SealFault.TheVariants.{Form, Journal, Missing}
-use Rattle.seat_seal.specs.declared.imprint.Imprint.{Imprint}
 use Rattle.seat_seal.specs.declared.seal.SealEntry.{SealEntry}
 use Rattle.seat_seal.specs.declared.seal.SealEntry.TheVariants.{Sealed, Other}
 use Rattle.seat_seal.specs.declared.seal.Seal.{Seal}
-use Rattle.seat_seal.specs.Comparing.{compared, entry_for, same_imprint}
-use Rattle.seat_seal.specs.Fronts.{front_of}
+use Rattle.seat_seal.specs.Comparing.{compared, is_its_journal, same_imprint}
 use Rattle.seat_seal.specs.Imprints.{imprint_of}
 use Rattle.seat_seal.specs.Rules.{IsSeal}
 use Rattle.seat_seal.specs.Text.{seal_text}
 
--- what a seal is compared with: the basis, its day as a date, and the imprint of a journal's head and entries
-pub record IsGiven (basis : Basis) (journal : Imprint) (given : Given) : Type 0 where
+-- what a seal is compared with: the basis, its day as a date
+pub record IsGiven (basis : Basis) (given : Given) : Type 0 where
   pub set : given.set ≡ basis.set
   pub limits : given.limits ≡ basis.limits
   pub first : IsDate given.first.year given.first.month given.first.day basis.first
   pub days : given.days ≡ basis.days
-  pub entries : given.journal ≡ journal
 
-abbrev pub last_of : Seal → SealEntry
-last_of s = unwrap_or s.second s.first
+-- the first of two entries where the journal is its, or else the second
+abbrev pub entry_among : SealEntry → Option SealEntry → List ℕ → SealEntry
+entry_among first None journal = first
+entry_among first (Some second) journal = if is_its_journal first journal then first else second
 
--- the entry that is compared: the first whose journal it is, or else the last
-abbrev pub entry_of : Seal → Imprint → Imprint → SealEntry
-entry_of s entries whole = unwrap_or (entry_for s entries whole) (last_of s)
+-- the entry that is compared
+abbrev pub entry_of : Seal → List ℕ → SealEntry
+entry_of s journal = entry_among s.first s.second journal
 
 -- of a journal of which nothing else is known all bytes are compared
-abbrev pub entry_fault : SealEntry → Given → Imprint → Option SealFault
-entry_fault (Sealed e) given whole = compared e given
-entry_fault (Other i) given whole = if same_imprint i whole then None else Some Journal
+abbrev pub entry_fault : SealEntry → Given → List ℕ → Option SealFault
+entry_fault (Sealed e) given journal = compared e given journal
+entry_fault (Other i) given journal = if same_imprint i (imprint_of journal) then None else Some Journal
 
-abbrev pub seal_fault : Seal → Given → Imprint → Option SealFault
-seal_fault s given whole = entry_fault (entry_of s given.journal whole) given whole
+abbrev pub seal_fault : Seal → Given → List ℕ → Option SealFault
+seal_fault s given journal = entry_fault (entry_of s journal) given journal
 
 -- the text is that of a seal, and this is the first in which it differs
 pub record IsDifference (text : List ℕ) (basis : Basis) (journal : List ℕ) (fault : Option SealFault) : Type 0 where
@@ -45,8 +44,8 @@ pub record IsDifference (text : List ℕ) (basis : Basis) (journal : List ℕ) (
   pub is_seal : IsSeal seal
   pub is_text : text ≡ seal_text seal
   pub given : Given
-  pub is_given : IsGiven basis (imprint_of (front_of journal)) given
-  pub is_first : fault ≡ seal_fault seal given (imprint_of journal)
+  pub is_given : IsGiven basis given
+  pub is_first : fault ≡ seal_fault seal given journal
 
 -- no seal has the text
 pub record IsNoSeal (text : List ℕ) (fault : Option SealFault) : Type 0 where

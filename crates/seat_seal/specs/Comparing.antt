@@ -8,10 +8,13 @@ use Rattle.seat_seal.specs.declared.date.Date.{Date}
 use Rattle.seat_seal.specs.declared.imprint.Imprint.{Imprint}
 use Rattle.seat_seal.specs.declared.run.Run.{Run}
 use Rattle.seat_seal.specs.declared.scripts.Script.{Script}
+use Rattle.seat_seal.specs.declared.seal.SealedJournal.{SealedJournal}
 use Rattle.seat_seal.specs.declared.seal.Sealed.{Sealed as Belonging}
 use Rattle.seat_seal.specs.declared.seal.SealEntry.{SealEntry}
 use Rattle.seat_seal.specs.declared.seal.SealEntry.TheVariants.{Sealed, Other}
 use Rattle.seat_seal.specs.declared.seal.Seal.{Seal}
+use Rattle.seat_seal.specs.Fronts.{front_for}
+use Rattle.seat_seal.specs.Imprints.{imprint_of}
 
 abbrev pub same_date : Date → Date → Bool
 same_date a b = nat_eq a.year b.year && nat_eq a.month b.month && nat_eq a.day b.day
@@ -19,29 +22,32 @@ same_date a b = nat_eq a.year b.year && nat_eq a.month b.month && nat_eq a.day b
 abbrev pub same_imprint : Imprint → Imprint → Bool
 same_imprint a b = same_text a.digest b.digest && nat_eq a.bytes b.bytes
 
+-- the journal is the sealed one, or where more lines may come begins with it
+abbrev pub is_sealed_one : SealedJournal → List ℕ → Bool
+is_sealed_one sealed journal = same_imprint sealed.imprint (imprint_of (front_for sealed journal))
+
 -- the first that differs: set, limits, first, days, journal
-unfoldable pub compared : Belonging → Given → Option SealFault
-compared e g =
+unfoldable pub compared : Belonging → Given → List ℕ → Option SealFault
+compared e g journal =
     if not (same_text e.set g.set) then Some faults.Set
     else if not (same_text e.limits g.limits) then Some faults.Limits
     else if not (same_date e.first g.first) then Some faults.First
     else if not (nat_eq e.days g.days) then Some faults.Days
-    else if not (same_imprint e.journal.imprint g.journal) then Some faults.Journal
+    else if not (is_sealed_one e.journal journal) then Some faults.Journal
     else None
 
--- an entry's journal: by its head and entries, or by all its bytes where nothing else is known of it
-abbrev pub is_its_journal : SealEntry → Imprint → Imprint → Bool
-is_its_journal (Sealed s) entries whole = same_imprint s.journal.imprint entries
-is_its_journal (Other i) entries whole = same_imprint i whole
+-- an entry's journal: the sealed one, or the one with these bytes where nothing else is known of it
+abbrev pub is_its_journal : SealEntry → List ℕ → Bool
+is_its_journal (Sealed s) journal = is_sealed_one s.journal journal
+is_its_journal (Other i) journal = same_imprint i (imprint_of journal)
 
-abbrev pub second_for : Option SealEntry → Imprint → Imprint → Option SealEntry
-second_for None entries whole = None
-second_for (Some e) entries whole = if is_its_journal e entries whole then Some e else None
+abbrev pub second_for : Option SealEntry → List ℕ → Option SealEntry
+second_for None journal = None
+second_for (Some e) journal = if is_its_journal e journal then Some e else None
 
 -- the first entry whose journal it is
-abbrev pub entry_for : Seal → Imprint → Imprint → Option SealEntry
-entry_for s entries whole =
-    if is_its_journal s.first entries whole then Some s.first else second_for s.second entries whole
+abbrev pub entry_for : Seal → List ℕ → Option SealEntry
+entry_for s journal = if is_its_journal s.first journal then Some s.first else second_for s.second journal
 
 abbrev pub names_script : List Script → List ℕ → Bool
 names_script [] digest = false

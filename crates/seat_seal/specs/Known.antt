@@ -7,8 +7,6 @@ use Rattle.seat_seal.specs.declared.seal.Sealed.{Sealed as Belonging}
 use Rattle.seat_seal.specs.declared.seal.SealEntry.{SealEntry}
 use Rattle.seat_seal.specs.declared.seal.SealEntry.TheVariants.{Sealed, Other}
 use Rattle.seat_seal.specs.Besides.{entry_of}
-use Rattle.seat_seal.specs.Fronts.{front_of}
-use Rattle.seat_seal.specs.Imprints.{imprint_of}
 use Rattle.seat_seal.specs.Rules.{IsSeal}
 use Rattle.seat_seal.specs.Text.{seal_text}
 
@@ -22,7 +20,7 @@ pub record IsKnownBy (text journal : List ℕ) (known : Option Belonging) : Type
   pub seal : Seal
   pub is_seal : IsSeal seal
   pub is_text : text ≡ seal_text seal
-  pub known_is : known ≡ known_in (entry_of seal (imprint_of (front_of journal)) (imprint_of journal))
+  pub known_is : known ≡ known_in (entry_of seal journal)
 
 -- nothing is known where no seal has the text
 pub record IsKnownByNone (text : List ℕ) (known : Option Belonging) : Type 0 where

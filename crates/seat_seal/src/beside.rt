@@ -1,14 +1,11 @@
 //! What stands beside a journal, and the first fault of it.
-ghost use Rattle.std.specs.Prelude.{◌≡◌, ◌<◌, ◌^◌, length};
-ghost use Rattle.seat_seal.specs.Besides.{IsFaultBeside, IsGiven, entry_fault, entry_of, last_of, missing, seal_fault};
-ghost use Rattle.seat_seal.specs.Fronts.{front_of};
-ghost use Rattle.seat_seal.specs.Imprints.{imprint_of};
+ghost use Rattle.std.specs.Prelude.{◌≡◌};
+ghost use Rattle.seat_seal.specs.Besides.{IsFaultBeside, IsGiven, entry_fault, entry_of, missing, seal_fault};
 
-use crate::comparing::{Given, SealFault, compared, entry_for, same_imprint};
+use crate::comparing::{Given, SealFault, compared, is_its_journal, same_imprint};
 use crate::date::Date;
 use crate::digest::Digest;
-use crate::front::front_len;
-use crate::imprint::{Imprint, Tally};
+use crate::imprint::imprint_of;
 use crate::reading::read_seal;
 use crate::seal::{Seal, SealEntry};
 use airline_base::Day;
@@ -36,7 +33,8 @@ pub struct Basis {
 
 /// The first fault of what stands beside a journal of these bytes on this basis: a seal that must be there and is not, a text that is no
 /// seal, and then the first in which the seal differs, in the order of [`compared`]. Of a seal of two entries that is compared whose
-/// journal it is, and where it is of neither the last one.
+/// journal it is, and where it is of neither the last one. The journal's bytes are digested once, and again only beside a seal of two
+/// entries.
 pub fn fault_beside(beside: &Beside<'_>, basis: &Basis, journal: &[u8]) -> Option<SealFault>
     ensures { IsFaultBeside beside.now basis.now journal.now result }
 {
@@ -46,8 +44,7 @@ pub fn fault_beside(beside: &Beside<'_>, basis: &Basis, journal: &[u8]) -> Optio
     let Some(seal) = read_seal(text) else {
         return Some(SealFault::Form);
     };
-    let (entries, whole) = imprints_of(journal);
-    seal_fault(&seal, &given_of(basis, entries), &whole)
+    seal_fault(&seal, &given_of(basis), journal)
 }
 
 fn missing(is_wanted: bool) -> Option<SealFault>
@@ -60,20 +57,20 @@ fn missing(is_wanted: bool) -> Option<SealFault>
     }
 }
 
-/// The first in which a seal differs from what is given, with the imprint of all bytes of the journal.
-fn seal_fault(seal: &Seal, given: &Given, whole: &Imprint) -> Option<SealFault>
-    ensures { result ≡ seal_fault seal.now given.now whole.now }
+/// The first in which a seal differs from what is given and the journal.
+fn seal_fault(seal: &Seal, given: &Given, journal: &[u8]) -> Option<SealFault>
+    ensures { result ≡ seal_fault seal.now given.now journal.now }
 {
-    entry_fault(entry_of(seal, &given.journal, whole), given, whole)
+    entry_fault(entry_of(seal, journal), given, journal)
 }
 
-fn entry_fault(entry: &SealEntry, given: &Given, whole: &Imprint) -> Option<SealFault>
-    ensures { result ≡ entry_fault entry.now given.now whole.now }
+fn entry_fault(entry: &SealEntry, given: &Given, journal: &[u8]) -> Option<SealFault>
+    ensures { result ≡ entry_fault entry.now given.now journal.now }
 {
     match entry {
-        SealEntry::Sealed(sealed) => compared(sealed, given),
+        SealEntry::Sealed(sealed) => compared(sealed, given, journal),
         SealEntry::Other(imprint) => {
-            if same_imprint(imprint, whole) {
+            if same_imprint(imprint, &imprint_of(journal)) {
                 None
             } else {
                 Some(SealFault::Journal)
@@ -83,45 +80,23 @@ fn entry_fault(entry: &SealEntry, given: &Given, whole: &Imprint) -> Option<Seal
 }
 
 /// The entry that is compared: the first whose journal it is, or else the last.
-fn entry_of<'a>(seal: &'a Seal, entries: &Imprint, whole: &Imprint) -> &'a SealEntry
-    ensures { result.now ≡ entry_of seal.now entries.now whole.now }
-{
-    match entry_for(seal, entries, whole) {
-        Some(entry) => entry,
-        None => last_of(seal),
-    }
-}
-
-fn last_of(seal: &Seal) -> &SealEntry
-    ensures { result.now ≡ last_of seal.now }
+fn entry_of<'a>(seal: &'a Seal, journal: &[u8]) -> &'a SealEntry
+    ensures { result.now ≡ entry_of seal.now journal.now }
 {
     match &seal.second {
-        Some(second) => second,
         None => &seal.first,
+        Some(_) if is_its_journal(&seal.first, journal) => &seal.first,
+        Some(second) => second,
     }
 }
 
-fn given_of(basis: &Basis, journal: Imprint) -> Given
-    ensures { IsGiven basis.now journal result }
+fn given_of(basis: &Basis) -> Given
+    ensures { IsGiven basis.now result }
 {
     Given {
         set: basis.set,
         limits: basis.limits,
         first: Date::of(basis.first),
         days: basis.days,
-        journal,
     }
-}
-
-/// The imprints of a journal: that of its head and entries, and that of all its bytes.
-fn imprints_of(journal: &[u8]) -> (Imprint, Imprint)
-    ensures entries { result.0 ≡ imprint_of (front_of journal.now) }
-    ensures whole { result.1 ≡ imprint_of journal.now }
-{
-    let (front, last) = journal.split_at(front_len(journal));
-    let mut tally = Tally::new();
-    tally.take(front);
-    let entries = tally.so_far();
-    tally.take(last);
-    (entries, tally.imprint())
 }

@@ -1,13 +1,14 @@
 //! What a seal says beside what is given.
 ghost use Rattle.std.specs.Prelude.{◌≡◌, option_map};
 ghost use Rattle.airline_base.specs.Bytes.{same_text};
-ghost use Rattle.seat_seal.specs.Comparing.{same_imprint, same_date, compared, is_its_journal, entry_for, has_script};
+ghost use Rattle.seat_seal.specs.Comparing.{same_imprint, same_date, compared, is_its_journal, is_sealed_one, entry_for, has_script};
 
 use crate::date::Date;
 use crate::digest::Digest;
-use crate::imprint::Imprint;
+use crate::front::front_for;
+use crate::imprint::{Imprint, imprint_of};
 use crate::run::Run;
-use crate::seal::{Seal, SealEntry, Sealed};
+use crate::seal::{Seal, SealEntry, Sealed, SealedJournal};
 use std::fmt;
 
 /// What is wrong with a seal.
@@ -58,20 +59,19 @@ impl fmt::Display for SealFault {
     }
 }
 
-/// What a journal that goes on is to belong to.
+/// What a journal is to belong to.
 #[derive(Clone, Copy, Debug, PartialEq, Eq)]
 pub struct Given {
     pub set: Digest,
     pub limits: Digest,
     pub first: Date,
     pub days: u16,
-    pub journal: Imprint,
 }
 
 /// The first in which the entry differs from what is given: set, limits, first, days, journal.
 #[tactic(auto, unfolding(crate::specs::Comparing::compared))]
-pub fn compared(entry: &Sealed, given: &Given) -> Option<SealFault>
-    ensures { result ≡ compared entry.now given.now }
+pub fn compared(entry: &Sealed, given: &Given, journal: &[u8]) -> Option<SealFault>
+    ensures { result ≡ compared entry.now given.now journal.now }
 {
     if !same_digest(&entry.set, &given.set) {
         return Some(SealFault::Set);
@@ -85,33 +85,40 @@ pub fn compared(entry: &Sealed, given: &Given) -> Option<SealFault>
     if entry.days != given.days {
         return Some(SealFault::Days);
     }
-    if !same_imprint(&entry.journal.imprint, &given.journal) {
+    if !is_sealed_one(&entry.journal, journal) {
         return Some(SealFault::Journal);
     }
     None
 }
 
-/// The first entry whose journal it is, by the imprint of its head and entries and by that of all its bytes.
-pub fn entry_for<'a>(seal: &'a Seal, entries: &Imprint, whole: &Imprint) -> Option<&'a SealEntry>
-    ensures { option_map (λ e. e.now) result ≡ entry_for seal.now entries.now whole.now }
+/// The first entry whose journal it is.
+pub fn entry_for<'a>(seal: &'a Seal, journal: &[u8]) -> Option<&'a SealEntry>
+    ensures { option_map (λ e. e.now) result ≡ entry_for seal.now journal.now }
 {
-    if is_its_journal(&seal.first, entries, whole) {
+    if is_its_journal(&seal.first, journal) {
         return Some(&seal.first);
     }
     match &seal.second {
-        Some(second) if is_its_journal(second, entries, whole) => Some(second),
+        Some(second) if is_its_journal(second, journal) => Some(second),
         _ => None,
     }
 }
 
-/// Whether the entry is of this journal, by the imprint of its head and entries and by that of all its bytes.
-pub fn is_its_journal(entry: &SealEntry, entries: &Imprint, whole: &Imprint) -> bool
-    ensures { result ≡ is_its_journal entry.now entries.now whole.now }
+/// Whether the entry is of this journal: by its head and entries, or by those that it began with, or by all its bytes.
+pub fn is_its_journal(entry: &SealEntry, journal: &[u8]) -> bool
+    ensures { result ≡ is_its_journal entry.now journal.now }
 {
     match entry {
-        SealEntry::Sealed(sealed) => same_imprint(&sealed.journal.imprint, entries),
-        SealEntry::Other(imprint) => same_imprint(imprint, whole),
+        SealEntry::Sealed(sealed) => is_sealed_one(&sealed.journal, journal),
+        SealEntry::Other(imprint) => same_imprint(imprint, &imprint_of(journal)),
     }
+}
+
+/// Whether the journal is the sealed one, or where more lines may come begins with it.
+fn is_sealed_one(sealed: &SealedJournal, journal: &[u8]) -> bool
+    ensures { result ≡ is_sealed_one sealed.now journal.now }
+{
+    same_imprint(&sealed.imprint, &imprint_of(front_for(sealed, journal)))
 }
 
 /// Whether the run booked a script of this digest.

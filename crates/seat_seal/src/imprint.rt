@@ -49,19 +49,6 @@ impl Tally {
         self.bytes += piece.len() as u64;
     }
 
-    /// The imprint of the bytes that it has taken so far.
-    pub fn so_far(&self) -> Imprint
-        ensures { (taken : List ℕ) → HasTaken self.now taken → result ≡ imprint_of taken }
-    {
-        let Ok(hasher) = self.hasher.clone() else {
-            unreachable!()
-        };
-        Imprint {
-            digest: Digest::of(hasher.finalize()),
-            bytes: self.bytes,
-        }
-    }
-
     /// The imprint of all bytes that it has taken.
     pub fn imprint(self) -> Imprint
         ensures { (taken : List ℕ) → HasTaken self taken → result ≡ imprint_of taken }

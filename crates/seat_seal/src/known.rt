@@ -1,15 +1,11 @@
 //! What a seal knows of the journal beside it.
 ghost use Rattle.std.specs.Prelude.{◌≡◌, ◌⊎◌};
 ghost use Rattle.seat_seal.specs.Besides.{entry_of};
-ghost use Rattle.seat_seal.specs.Fronts.{front_of};
-ghost use Rattle.seat_seal.specs.Imprints.{imprint_of};
 ghost use Rattle.seat_seal.specs.Known.{IsKnown, IsKnownBy, IsKnownByNone, known_in, runs_known};
 ghost use Rattle.seat_seal.specs.Reading.{two_entries};
 
 use crate::beside::Beside;
 use crate::comparing::is_its_journal;
-use crate::front::front_of;
-use crate::imprint::imprint_of;
 use crate::reading::read_seal;
 use crate::run::{Run, Runs};
 use crate::seal::{Seal, SealEntry, Sealed};
@@ -63,9 +59,8 @@ fn known_by(text: &[u8], journal: &[u8]) -> Option<Sealed>
 }
 
 // The journal's bytes are read once more only beside a seal of two entries.
-#[tactic(auto, using(crate::proofs::Knowing::compared_one))]
 fn compared_in(seal: Seal, journal: &[u8]) -> Option<Sealed>
-    ensures { result ≡ known_in (entry_of seal (imprint_of (front_of journal.now)) (imprint_of journal.now)) }
+    ensures { result ≡ known_in (entry_of seal journal.now) }
 {
     let Seal { first, second } = seal;
     match second {
@@ -74,13 +69,10 @@ fn compared_in(seal: Seal, journal: &[u8]) -> Option<Sealed>
     }
 }
 
-#[tactic(auto, using(crate::proofs::Knowing::compared_first, crate::proofs::Knowing::compared_second))]
 fn compared_of(first: SealEntry, second: SealEntry, journal: &[u8]) -> Option<Sealed>
-    ensures { result ≡ known_in (entry_of (two_entries first second) (imprint_of (front_of journal.now)) (imprint_of journal.now)) }
+    ensures { result ≡ known_in (entry_of (two_entries first second) journal.now) }
 {
-    let entries = imprint_of(front_of(journal));
-    let whole = imprint_of(journal);
-    if is_its_journal(&first, &entries, &whole) {
+    if is_its_journal(&first, journal) {
         return known_in(first);
     }
     known_in(second)

@@ -20,7 +20,7 @@ mod seal;
 mod spelling;
 
 pub use beside::{Basis, Beside, fault_beside};
-pub use closing::closed_entry;
+pub use closing::{closed_entry, open_entry};
 pub use comparing::{Given, SealFault, compared, entry_for, has_script, is_its_journal};
 pub use date::Date;
 pub use digest::{Digest, digest_of};

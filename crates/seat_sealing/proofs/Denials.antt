@@ -1,10 +1,11 @@
 -- In each of the three steps the seal has the journal's entry.
-use Rattle.std.proofs.Common.{◌≡◌, ◌⊎◌, inl, inr, ℕ, Bool, true, false, List, Some, refl, sym, subst}
+use Rattle.std.proofs.Common.{◌≡◌, ◌⊎◌, inl, inr, ℕ, Bool, true, false, List, ◌++◌, Some, refl, sym, subst}
 use Rattle.airline_base.proofs.Tests.{both_are, both_true}
-use Rattle.seat_seal.specs.declared.imprint.Imprint.{Imprint}
 use Rattle.seat_seal.specs.declared.seal.Sealed.{Sealed as Belonging}
 use Rattle.seat_seal.specs.declared.seal.SealEntry.{SealEntry}
 use Rattle.seat_seal.specs.declared.seal.SealEntry.TheVariants.{Sealed}
+use Rattle.seat_seal.specs.declared.seal.JournalState.TheVariants.{Open}
+use Rattle.seat_seal.proofs.Fitting.{begins_so}
 use Rattle.seat_seal.specs.Comparing.{entry_for, is_its_journal}
 use Rattle.seat_seal.specs.Imprints.{imprint_of}
 use Rattle.seat_seal.specs.Reading.{one_entry, two_entries}
@@ -12,7 +13,7 @@ use Rattle.seat_seal.specs.Rules.{HasDigests, HasTypes, IsSeal, is_entry, is_sea
 use Rattle.seat_disk.specs.Leaving.{Only}
 use Rattle.seat_seal.specs.Fronts.{front_of}
 use Rattle.seat_sealing.specs.Laws.{AreEntriesOf}
-use Rattle.seat_sealing.specs.Pairs.{HasEntry, IsEntryOf, Names, NoneDenied, NoneDeniedSince}
+use Rattle.seat_sealing.specs.Pairs.{HasEntry, IsEntryOf, Names, NamesEach, NoneDenied, NoneDeniedSince}
 use Rattle.seat_sealing.specs.Steps.{InOrder, IsClosing, IsReplacing, IsSealing, alone_text, both_text}
 use Rattle.seat_sealing.proofs.Known.{sealed_is_its}
 
@@ -32,49 +33,49 @@ are_both older newer first second rules = record { first = first; second = secon
 
 -- ---- which entry is found
 
-first_found : (older : SealEntry) (newer : Belonging) (entries whole : Imprint) → is_its_journal older entries whole ≡ true
-    → entry_for (two_entries older (Sealed newer)) entries whole ≡ Some older
-first_found older newer entries whole its = rw its refl
+first_found : (older : SealEntry) (newer : Belonging) (journal : List ℕ) → is_its_journal older journal ≡ true
+    → entry_for (two_entries older (Sealed newer)) journal ≡ Some older
+first_found older newer journal its = rw its refl
 
-second_found : (older : SealEntry) (newer : Belonging) (entries whole : Imprint) → is_its_journal older entries whole ≡ false
-    → is_its_journal (Sealed newer) entries whole ≡ true
-    → entry_for (two_entries older (Sealed newer)) entries whole ≡ Some (Sealed newer)
-second_found older newer entries whole other its = rw (other, its) refl
+second_found : (older : SealEntry) (newer : Belonging) (journal : List ℕ) → is_its_journal older journal ≡ false
+    → is_its_journal (Sealed newer) journal ≡ true
+    → entry_for (two_entries older (Sealed newer)) journal ≡ Some (Sealed newer)
+second_found older newer journal other its = rw (other, its) refl
 
-one_found : (newer : Belonging) (entries whole : Imprint) → is_its_journal (Sealed newer) entries whole ≡ true
-    → entry_for (one_entry (Sealed newer)) entries whole ≡ Some (Sealed newer)
-one_found newer entries whole its = rw its refl
+one_found : (newer : Belonging) (journal : List ℕ) → is_its_journal (Sealed newer) journal ≡ true
+    → entry_for (one_entry (Sealed newer)) journal ≡ Some (Sealed newer)
+one_found newer journal its = rw its refl
 
 -- ---- pairs
 
 pub has_older : (older : SealEntry) (newer : Belonging) (journal : List ℕ) → IsSeal (two_entries older (Sealed newer))
-    → is_its_journal older (imprint_of (front_of journal)) (imprint_of journal) ≡ true
+    → is_its_journal older journal ≡ true
     → HasEntry (both_text older newer) journal
 has_older older newer journal is its = record {
   said = two_entries older (Sealed newer);
   is = is;
   text = refl;
   entry = older;
-  found = first_found older newer (imprint_of (front_of journal)) (imprint_of journal) its;
+  found = first_found older newer journal its;
 }
 
 has_second : (older : SealEntry) (newer : Belonging) (journal : List ℕ) → IsSeal (two_entries older (Sealed newer))
-    → is_its_journal older (imprint_of (front_of journal)) (imprint_of journal) ≡ false
+    → is_its_journal older journal ≡ false
     → newer.journal.imprint ≡ imprint_of (front_of journal) → HasEntry (both_text older newer) journal
 has_second older newer journal is other same = record {
   said = two_entries older (Sealed newer);
   is = is;
   text = refl;
   entry = Sealed newer;
-  found = second_found older newer (imprint_of (front_of journal)) (imprint_of journal) other (sealed_is_its newer (imprint_of (front_of journal)) (imprint_of journal) same);
+  found = second_found older newer journal other (sealed_is_its newer journal same);
 }
 
 has_newer : (older : SealEntry) (newer : Belonging) (journal : List ℕ) → IsSeal (two_entries older (Sealed newer))
     → newer.journal.imprint ≡ imprint_of (front_of journal) → HasEntry (both_text older newer) journal
 has_newer older newer journal is same =
-    cases (is_its_journal older (imprint_of (front_of journal)) (imprint_of journal)) refl
+    cases (is_its_journal older journal) refl
   where
-    cases : (b : Bool) → is_its_journal older (imprint_of (front_of journal)) (imprint_of journal) ≡ b
+    cases : (b : Bool) → is_its_journal older journal ≡ b
         → HasEntry (both_text older newer) journal
     cases true its = has_older older newer journal is its
     cases false other = has_second older newer journal is other same
@@ -86,7 +87,7 @@ has_alone older newer journal is same = record {
   is = is_alone older newer is;
   text = refl;
   entry = Sealed newer;
-  found = one_found newer (imprint_of (front_of journal)) (imprint_of journal) (sealed_is_its newer (imprint_of (front_of journal)) (imprint_of journal) same);
+  found = one_found newer journal (sealed_is_its newer journal same);
 }
 
 pub both_name : (older : SealEntry) (newer : Belonging) → HasTypes older → HasDigests newer
@@ -98,6 +99,33 @@ pub alone_names : (older : SealEntry) (newer : Belonging) → HasTypes older →
     → is_seal (two_entries older (Sealed newer)) ≡ true → Names (alone_text newer) newer.journal.imprint
 alone_names older newer first second rules =
     record { each = λ journal same. has_alone older newer journal (are_both older newer first second rules) same }
+
+-- ---- a seal of one entry
+
+alone_seal : (entry : Belonging) → HasDigests entry → is_sealed entry ≡ true → IsSeal (one_entry (Sealed entry))
+unfolding is_seal
+alone_seal entry types rules = record { first = types; second = tt; rules = both_are (is_sealed entry) true rules refl }
+
+alone_has : (entry : Belonging) (journal : List ℕ) → IsSeal (one_entry (Sealed entry)) → is_its_journal (Sealed entry) journal ≡ true
+    → HasEntry (alone_text entry) journal
+alone_has entry journal is its = record {
+  said = one_entry (Sealed entry);
+  is = is;
+  text = refl;
+  entry = Sealed entry;
+  found = one_found entry journal its;
+}
+
+pub one_names : (entry : Belonging) → HasDigests entry → is_sealed entry ≡ true → Names (alone_text entry) entry.journal.imprint
+one_names entry types rules = record {
+  each = λ journal same. alone_has entry journal (alone_seal entry types rules) (sealed_is_its entry journal same);
+}
+
+pub one_names_each : (entry : Belonging) → HasDigests entry → is_sealed entry ≡ true → (begun : List ℕ)
+    → entry.journal.state ≡ Open → entry.journal.imprint ≡ imprint_of begun → NamesEach (alone_text entry) begun
+one_names_each entry types rules begun is_open same = record {
+  each = λ more. alone_has entry (begun ++ more) (alone_seal entry types rules) (begins_so entry.journal begun more is_open same);
+}
 
 -- ---- steps
 
