@@ -283,14 +283,14 @@ fn finds_what_was_told_by_lot(rt: HostRuntime) -> Result<(), Fail> {
         torn: 0,
         damaged: 0,
     };
-    for crash in 0..4000u32 {
+    for crash in 0..10000u32 {
         let tried = try_crash(&rt, rt.alloc(), &mut lots, &mut counts);
         assert!(rt; tried.is_ok(), "crash {crash}");
     }
     // The lots are no few of each kind.
-    assert!(rt; counts.told > 1000, "{} told", counts.told);
-    assert!(rt; counts.more > 200, "{} more", counts.more);
-    assert!(rt; counts.torn > 200, "{} torn", counts.torn);
-    assert!(rt; counts.damaged > 200, "{} damaged", counts.damaged);
+    assert!(rt; counts.told > 2500, "{} told", counts.told);
+    assert!(rt; counts.more > 500, "{} more", counts.more);
+    assert!(rt; counts.torn > 500, "{} torn", counts.torn);
+    assert!(rt; counts.damaged > 500, "{} damaged", counts.damaged);
     Ok(())
 }

@@ -1,4 +1,5 @@
 pub mod Faults
+pub mod Once
 pub mod Refusals
 pub mod Seals
 pub mod Streams

@@ -33,17 +33,18 @@ pub enum Content {
 }
 
 /// The number of the first names `PATH.kept-N` and `PATH.kept-N.seal` for what the file at the path has and for what stands beside it
-/// at the other: each is free, or has the same bytes already. No seal may stand beside a journal kept under a free name without it.
+/// at the other: each is free, or has the same bytes already. No seal may stand beside a journal kept under a free name without it. A
+/// name is free where nothing has it, be it a link that leads nowhere.
 pub fn kept_number(rt: &HostRuntime, path: &str, seal: &str) -> io::Result<u32> {
     let has_seal = fs::exists(rt, seal)?;
     for number in 1..u32::MAX {
         let kept = kept_path(rt, path, number, "")?;
         let kept_seal = kept_path(rt, path, number, SEAL)?;
-        let is_kept = fs::exists(rt, kept.as_str())?;
+        let is_kept = is_there(rt, kept.as_str())?;
         if is_kept && !has_same_bytes(rt, path, kept.as_str())? {
             continue;
         }
-        if !fs::exists(rt, kept_seal.as_str())? {
+        if !is_there(rt, kept_seal.as_str())? {
             return Ok(number);
         }
         let fits = if has_seal {
@@ -97,7 +98,7 @@ pub fn keep_seal(
 
 /// A link of this name, or a copy where the file system knows no links. What is there already has the same bytes.
 fn keep_as(rt: &HostRuntime, path: &str, kept: &str) -> io::Result<()> {
-    if fs::exists(rt, kept)? {
+    if is_there(rt, kept)? {
         if has_same_bytes(rt, path, kept)? {
             return fs::open(rt, kept)?.sync_all();
         }
@@ -138,10 +139,20 @@ fn copy_whole(rt: &HostRuntime, path: &str, part: &str) -> io::Result<()> {
     to.sync_all()
 }
 
-/// Whether the two files have the same bytes. Something else than a regular file has others.
+/// Whether something has the name, which may be a link that leads nowhere.
+fn is_there(rt: &HostRuntime, path: &str) -> io::Result<bool> {
+    match fs::symlink_metadata(rt, path) {
+        Ok(_) => Ok(true),
+        Err(error) if error.kind() == io::ErrorKind::NotFound => Ok(false),
+        Err(error) => Err(error),
+    }
+}
+
+/// Whether the file has the bytes of another that was kept. Something else than a regular file has others, a link to one too, which may lead
+/// to the very file whose name another is to take.
 fn has_same_bytes(rt: &HostRuntime, one: &str, other: &str) -> io::Result<bool> {
     let ours = fs::metadata(rt, one)?;
-    let theirs = match fs::metadata(rt, other) {
+    let theirs = match fs::symlink_metadata(rt, other) {
         Ok(theirs) => theirs,
         Err(_) => return Ok(false),
     };

@@ -3,10 +3,12 @@
 //! It knows the system and the faults, and nothing of what a command does with its files.
 #![tactic(auto)]
 
+mod booked_file;
 mod fault;
 mod guard;
 mod journal_file;
 mod kept_file;
+mod once;
 mod refusal;
 mod seal_file;
 mod seal_out;
@@ -16,6 +18,7 @@ pub use fault::Fault;
 pub use guard::{Guard, NOT_EMPTY, files_taken};
 pub use journal_file::{JournalFile, TOO_LONG, is_one_file, is_same, lines_in, of};
 pub use kept_file::{Content, KEPT_BEFORE, Kept, kept_number};
+pub use once::pass_once;
 pub use refusal::{Refusal, Shown, told};
 pub use seal_file::{SEAL, SealFile, is_moved};
 pub use seal_out::SealOut;

@@ -8,6 +8,7 @@ use crate::seal_out::SealOut;
 use crate::streams::{Input, Output};
 use airline_base::Failures;
 use seat_desk::DeskFault;
+use seat_seal::SealFault;
 use seat_words::WordFault;
 use std::fmt::Write;
 use std::{fmt, fs, io};
@@ -26,7 +27,7 @@ pub struct Refusal<'a> {
     /// What the name of the very file ends with behind that, where it is one that stands beside it.
     ending: Ending,
     reason: Option<i32>,
-    /// Why the file may not be the journal's.
+    /// Why the file may not be what it is named for.
     why: Option<&'static str>,
     /// The file begins with a byte order mark.
     has_mark: bool,
@@ -117,7 +118,17 @@ impl<'a> Refusal<'a> {
         refusal
     }
 
-    /// Whether it is known why a file may not be the journal's.
+    /// A file that may not be a script, and why.
+    pub fn doubled(file: &'a str, why: &'static str) -> Refusal<'a>
+        ensures { result.fault ≡ Fault.Word WordFault.BadScripts }
+    {
+        let mut refusal = Refusal::from(WordFault::BadScripts);
+        refusal.file = Some(file);
+        refusal.why = Some(why);
+        refusal
+    }
+
+    /// Whether it is known why a file may not be what it is named for.
     pub fn is_barred(&self) -> bool {
         self.why.is_some()
     }
@@ -184,18 +195,23 @@ impl<'a> Refusal<'a> {
             }
             return self;
         }
-        if input.is_used() && is_of_input(&self.fault) {
+        if input.is_used() && !input.name().is_empty() && is_of_input(&self.fault) {
             return self.of_input(input);
         }
         self
     }
 
-    /// Names the journal where one of its lines is not what the scripts ask, or it has fewer than the words say.
+    /// Names the journal where one of its lines is not what the scripts ask, or it has fewer than the words say, or where no run of its
+    /// seal, or several, began where the scripts may have begun.
     pub fn noting_unasked(self, journal: &Input<'a>) -> Refusal<'a>
         ensures { result.fault ≡ self.entry.fault }
     {
         match self.fault {
-            Fault::Desk(DeskFault::Unasked { .. } | DeskFault::NoBehind) => self.of_input(journal),
+            Fault::Desk(
+                DeskFault::Unasked { .. }
+                | DeskFault::NoBehind
+                | DeskFault::Seal(SealFault::Behind | SealFault::Several),
+            ) => self.of_input(journal),
             _ => self,
         }
     }
@@ -410,7 +426,7 @@ impl fmt::Display for Shown<'_> {
     }
 }
 
-/// Whether the fault is one of an input, and of the one that was read last.
+/// Whether the fault is one of an input, and of the one that was read last. What the runs of a seal have against scripts is one of none.
 fn is_of_input(fault: &Fault) -> bool {
     match fault {
         Fault::Desk(fault) => !matches!(
@@ -418,6 +434,7 @@ fn is_of_input(fault: &Fault) -> bool {
             DeskFault::Unasked { .. }
                 | DeskFault::NoBehind
                 | DeskFault::Book { .. }
+                | DeskFault::Seal(SealFault::Again | SealFault::Behind | SealFault::Several)
                 | DeskFault::Device
                 | DeskFault::Memory
         ),

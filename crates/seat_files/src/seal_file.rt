@@ -1,6 +1,6 @@
 //! The seal beside a journal: a file of its own in the folder of the file that the journal's name leads to.
 //! It knows names and bytes, and nothing of what a seal says.
-ghost use Rattle.std.specs.Prelude.{◌≡◌, IfErr, IfOk, IsTrue, None};
+ghost use Rattle.std.specs.Prelude.{◌≡◌, IfErr, IfOk, IsTrue, None, is_some};
 ghost use Rattle.std.specs.Option.{option_map};
 ghost use Rattle.seat_files.specs.Refusals.{is_failure};
 ghost use Rattle.seat_files.specs.Seals.{seal_bytes, seal_wanted};
@@ -54,6 +54,13 @@ impl SealFile {
             }),
             _ => Ok(SealFile::nothing(is_wanted)),
         }
+    }
+
+    /// Whether something stands beside the journal.
+    pub fn is_there(&self) -> bool
+        ensures { result ≡ is_some (seal_bytes self.now) }
+    {
+        self.text.is_some()
     }
 
     pub fn as_beside(&self) -> Beside<'_>

@@ -1,5 +1,5 @@
-//! Replies on their way out, and whether one of them found a flight.
-//! It knows the code at the end of a reply's line, and nothing of what the other codes say.
+//! Replies on their way out: whether one of them found a flight, and whether one is to a request.
+//! It knows the session ahead of a reply's line and the code at its end, and nothing of what the other codes say.
 ghost use Rattle.seat_files.specs.Streams.{output_failures};
 
 use airline_base::{Failures, NotedWrite};
@@ -10,12 +10,17 @@ use std::io::Write;
 /// The code of a request that found no flight.
 const NO_FLIGHT: [u8; 2] = *b"UN";
 
-/// What was heard of replies. A reply's line ends with a word that begins with its code.
+/// How a line begins that is a reply to a change of a limit: session 0 makes these.
+const MANAGER: u8 = b'0';
+
+/// What was heard of replies. A reply's line begins with its session, and ends with a word that begins with its code.
 #[derive(Drop)]
 struct Ear {
     /// How many bytes of a word went out, and its first two.
     length: u64,
     code: [u8; 2],
+    begins_line: bool,
+    has_request: bool,
     has_reply: bool,
     has_flight: bool,
 }
@@ -28,6 +33,8 @@ impl Ear {
     }
 
     fn hear_one(&mut self, byte: u8) {
+        self.has_request |= self.begins_line && byte != MANAGER;
+        self.begins_line = byte == b'\n';
         match byte {
             b' ' => self.length = 0,
             b'\n' => {
@@ -60,6 +67,8 @@ impl<'a> Heard<'a> {
         let ear = Ear {
             length: 0,
             code: [0; 2],
+            begins_line: true,
+            has_request: false,
             has_reply: false,
             has_flight: false,
         };
@@ -70,9 +79,14 @@ impl<'a> Heard<'a> {
         &self.out
     }
 
-    /// Says on standard error where there are replies and none of them found a flight, and where a run that goes on with its scripts
-    /// has none. It is no fault.
-    pub fn tell(&self, rt: &HostRuntime, is_resumed: bool) {
+    /// Says on standard error where there are replies and none of them found a flight, where a run that goes on with its scripts
+    /// has none, and where scripts that have bytes ask for nothing. It is no fault.
+    pub fn tell(&self, rt: &HostRuntime, is_resumed: bool, have_bytes: bool) {
+        if have_bytes && !is_resumed && !self.ear.has_request {
+            let _ = eprintln!(rt;
+                "seatdesk: note: no script asks for anything: a request is a line as LZ601Q27JUL LHRKEF NN12"
+            );
+        }
         if is_resumed && !self.ear.has_reply {
             let _ = eprintln!(rt;
                 "seatdesk: note: nothing was booked: the journal of --resume has all that is asked"

@@ -14,7 +14,7 @@ use seat_desk::{DeskFault, Inputs, NO_LINES};
 use seat_files::{
     Content, Guard, Input, JournalFile, KEPT_BEFORE, Kept, NOT_EMPTY, Output, Refusal, SEAL,
     SealFile, SealOut, Shown, TOO_LONG, files_taken, is_moved, is_one_file, is_same, kept_number,
-    lines_in, of, opened_or, standard_output, taken, told,
+    lines_in, of, opened_or, pass_once, standard_output, taken, told,
 };
 use seat_run::{desk_resume, desk_run};
 use seat_scripts::{Besides, Wanted, desk_audit_against, desk_replies};
@@ -372,6 +372,7 @@ pub fn run<'a, T: Threads + Wait + Sync>(
     if is_one_journal(&texts)? {
         return Err(Refusal::from(WordFault::BadBehind));
     }
+    pass_once(rt, texts.scripts.as_slice(), &texts.changes)?;
     let mut place = locked_out(rt, asking, &texts)?;
     let outcome = sell(rt, threads, asking, given, today, texts, &mut place);
     leave(&place);
@@ -508,11 +509,15 @@ fn sell<'a, T: Threads + Wait + Sync>(
     );
     match behind(ahead, scripts.as_slice(), &[&changes], &[]) {
         Ok(()) => {
-            out.tell(rt, asking.resume.is_some());
+            let have_bytes = scripts.iter().any(|script| script.has_bytes());
+            out.tell(rt, asking.resume.is_some(), have_bytes);
+            tell_unsealed(rt, asking, &seals.older);
             Ok(())
         }
         Err(refusal) => {
+            let (seal, lines) = runs_ahead(rt, asking, given, &after, &seals, place);
             let refusal = refusal
+                .noting_booked(rt, seal, lines, scripts.as_slice(), &changes)
                 .noting_unasked(&resumed)
                 .noting_journal(&place.journal)
                 .noting_seal(&place.seal)
@@ -635,6 +640,39 @@ fn noting_place<'a>(
     };
     let from = lines_of(rt, asking.resume, resumed, &mut place.journal)?;
     Err(refusal.noting_put(asking.journal, behind, from))
+}
+
+/// The seal whose runs may have booked what the words ask, and ahead of how many lines these began: all of them, where the scripts go
+/// behind the whole journal.
+fn runs_ahead<'a, 'b>(
+    rt: &HostRuntime,
+    asking: &Asking<'a, '_>,
+    given: Option<u32>,
+    after: &Input<'a>,
+    seals: &'b Seals,
+    place: &mut Place<'a>,
+) -> (&'b SealFile, u64) {
+    if asking.resume.is_none() {
+        return (&seals.older, u64::MAX);
+    }
+    let lines = match given {
+        Some(more) if asking.older.after.is_none() => u64::from(more),
+        _ => lines_of(rt, asking.older.after, after, &mut place.journal).unwrap_or(0),
+    };
+    (&seals.journal, lines)
+}
+
+/// Says on standard error where nothing stands beside the journal that a run went on from, so that it could not be compared. It is no fault.
+fn tell_unsealed(rt: &HostRuntime, asking: &Asking<'_, '_>, seal: &SealFile) {
+    let Some(name) = asking.older.after else {
+        return;
+    };
+    if asking.resume.is_none() && !seal.is_there() {
+        let file = Shown { name };
+        let _ = eprintln!(rt;
+            "seatdesk: note: {file} has no seal beside it, and was not compared with what is given"
+        );
+    }
 }
 
 /// How many lines the new journal went on from, as its seal says, which has its entry last.
