@@ -18,7 +18,7 @@ use seat_files::{
 };
 use seat_run::{desk_resume, desk_run};
 use seat_scripts::{Besides, Wanted, desk_audit_against, desk_replies};
-use seat_seal::{SealEntry, front_of, imprint_of, is_entry, read_seal};
+use seat_seal::{SealEntry, is_entry, read_seal};
 use seat_sealing::older_entry;
 use seat_words::{
     Horizon, WordFault, audit_lacks, behind_word, date_word, line_word, session_word,
@@ -601,7 +601,7 @@ fn older_in<'a>(place: &Place<'a>) -> Result<SealEntry, Refusal<'a>> {
         Some(text) => read_seal(&text),
         None => None,
     };
-    Ok(older_entry(seal, &imprint_of(front_of(&bytes)), imprint_of(&bytes)))
+    Ok(older_entry(seal, &bytes))
 }
 
 /// Whether what OUT and its seal have is to be kept: where the run does not go on from it. Under which names is decided here.
