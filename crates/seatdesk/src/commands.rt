@@ -152,7 +152,7 @@ pub fn why<'a>(
 pub struct Looked {
     /// There must be a seal beside it.
     pub is_sealed: bool,
-    /// It is still open. A seal beside it is of lines that it had before, and is looked at only where there must be one.
+    /// It is still open, and may be written meanwhile.
     pub is_open: bool,
 }
 
@@ -237,7 +237,8 @@ fn asked_of<'a, Q: Question>(
 }
 
 /// The answer to a question about a journal, or about one without lines, with what stands beside it. A journal that a run has replaced
-/// meanwhile is read once more, with its seal: nothing is written of one that is refused.
+/// meanwhile is read once more, with its seal, and so is an open one that the seal denies, to which the first line may just have been added: nothing is
+/// written of one that is refused.
 fn answered<'a, Q: Question>(
     rt: &HostRuntime,
     over: &Horizon<'a>,
@@ -286,7 +287,7 @@ fn answered_once<'a, Q: Question>(
         Err(refusal) => return Err(refusal),
     };
     let mut journal = taken_or(rt, journal, &NO_LINES)?;
-    let seal = seal_of(rt, &journal, looked)?;
+    let seal = SealFile::beside(rt, &journal, looked.is_sealed)?;
     let mut out = standard_output(rt);
     let outcome = answer_question(
         rt.alloc(),
@@ -298,22 +299,10 @@ fn answered_once<'a, Q: Question>(
     );
     let outcome = told(outcome, &[&inputs.set, &inputs.limits, &journal], &[&out]);
     let is_moved = match &outcome {
-        Err(refusal) => refusal.is_of_seal() && is_moved(rt, &journal),
+        Err(refusal) => refusal.is_of_seal() && (looked.is_open || is_moved(rt, &journal)),
         Ok(()) => false,
     };
     Ok(Answer { outcome, is_moved })
-}
-
-/// What of the seal beside a journal is looked at.
-fn seal_of<'a>(
-    rt: &HostRuntime,
-    journal: &Input<'a>,
-    looked: Looked,
-) -> Result<SealFile, Refusal<'a>> {
-    if looked.is_open && !looked.is_sealed {
-        return Ok(SealFile::nothing(false));
-    }
-    SealFile::beside(rt, journal, looked.is_sealed)
 }
 
 /// The data set and the limit rows, open, and the dates.
