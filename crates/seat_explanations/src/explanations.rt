@@ -793,7 +793,7 @@ const NOTES: &[Explanation] = &[
         behind: "seal",
         code: "note",
         numbers: NONE,
-        text: "The seal beside the journal that was recovered is of the lines that it had before, so a command that compares it answers\nSEAL journal. seatdesk seal writes the seal of the lines that it has now.",
+        text: "The seal that stood beside the journal had other bytes than the one that seatdesk seal wrote: it was of another journal, of other\ninputs or of an older version. Nothing of it is left; a copy that is kept elsewhere has so many bytes and this digest.",
     },
     Explanation {
         behind: "",

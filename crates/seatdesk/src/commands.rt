@@ -4,6 +4,7 @@ ghost use Rattle.std.specs.Prelude.{◌≡◌, ◌≤◌, IfOk};
 ghost use Rattle.ssim_flights.specs.Right.{IsOfCentury};
 
 use crate::locale::is_utf_8;
+use crate::replaced::tell_replaced;
 use airline_base::Day;
 use desk_questions::ToldOf;
 use seat_desk::{Inputs, NO_LINES, Question, answer_question};
@@ -180,7 +181,8 @@ pub fn audit<'a>(
     answered(rt, over, days, &Audit, Some(journal), looked)
 }
 
-/// Writes the seal of a journal that an audit accepts, while the journal is locked. It keeps the runs of a seal that agrees.
+/// Writes the seal of a journal that an audit accepts, while the journal is locked. It keeps the runs of a seal that agrees, and tells of a
+/// seal of other bytes that it took the place of.
 pub fn seal<'a>(
     rt: &'a HostRuntime,
     over: &Horizon<'a>,
@@ -209,7 +211,10 @@ pub fn seal<'a>(
     );
     out.leave();
     match told(outcome, &[&inputs.set, &inputs.limits, &journal], &[]) {
-        Ok(()) => Ok(()),
+        Ok(()) => {
+            tell_replaced(rt, journal.name(), &seal, &out);
+            Ok(())
+        }
         Err(refusal) => Err(refusal.noting_seal(&out)),
     }
 }
