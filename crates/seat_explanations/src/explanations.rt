@@ -433,7 +433,7 @@ const SCRIPTS: &[Explanation] = &[
         behind: "",
         code: "E2",
         numbers: NONE,
-        text: "A word of the command line is wrong. The word behind it says which.\nNo file was opened for it, but where that word is line or journal.",
+        text: "A word of the command line is wrong. The word behind it says which.\nNo file was read for it, but where that word is line or behind.",
     },
 ];
 
