@@ -4,12 +4,13 @@ mod Chaining
 mod Clocks
 pub mod Departing
 mod Expanding
+mod FirstPlaces
 mod Grouping
 mod Horizons
-mod Indexing
 mod LegChains
 mod OperatingDays
 mod Repeating
 pub mod RightSets
 mod Rounding
+mod Slotting
 pub mod Walks

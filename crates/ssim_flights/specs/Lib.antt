@@ -2,7 +2,6 @@ pub mod Adding
 pub mod FaultText
 pub mod Few
 pub mod Flown
-pub mod Index
 pub mod Itineraries
 pub mod LegChains
 pub mod Operating
@@ -10,4 +9,5 @@ pub mod Places
 pub mod Right
 pub mod Rounds
 pub mod Schedules
+pub mod Slots
 pub mod Taken

@@ -10,15 +10,16 @@ mod fault;
 mod flight;
 mod flights;
 mod flown;
-mod index;
 mod itinerary;
 mod laws;
 mod leg_list;
+mod on_flight;
 mod plan;
 mod rounds;
 mod rows;
 mod schedule;
 mod served;
+mod slots;
 
 pub use days::Days;
 pub use expansion::expand;

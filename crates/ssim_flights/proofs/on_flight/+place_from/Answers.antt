@@ -1,6 +1,6 @@
 use Rattle.std.proofs.Common.{◌≡◌, ◌∷◌, rules}
-use Rattle.ssim_flights.proofs.Indexing.{from_first, from_rest}
-use Rattle.ssim_flights.proofs.index.+place_from.Goals as goal
+use Rattle.ssim_flights.proofs.FirstPlaces.{from_first, from_rest}
+use Rattle.ssim_flights.proofs.on_flight.+place_from.Goals as goal
 
 pub returns-in-Some : goal.returns-in-Some
 returns-in-Some t c =

@@ -1,5 +1,5 @@
 use Rattle.std.proofs.Common.{length}
-use Rattle.ssim_flights.proofs.index.+add_legs.Given as goal
+use Rattle.ssim_flights.proofs.slots.+add_legs.Given as goal
 
 abbrev pub decreases-add_legs : goal.decreases-add_legs
 decreases-add_legs l = length l.legs.now

@@ -1,0 +1,73 @@
+-- The first place on a flight, and where there is none.
+use Rattle.std.proofs.Common.{◌≡◌, ℕ, ◌+◌, ◌&&◌, ◌==◌, nat_eq, Bool, true, false, cond, List, [], ◌∷◌, ◌++◌, Option, Some, None, refl, sym, ap, subst, ◌∙◌}
+use Rattle.ssim_flights.proofs.Common.{Flight}
+use Rattle.std.specs.Option.{option_eq, option_or}
+use Rattle.std.specs.Map.{lookup}
+use Rattle.std.specs.Cmp.Lexicographic.{pointwise}
+use Rattle.std.proofs.lemmas.Bool.{true≢false}
+use Rattle.airline_base.specs.declared.place.Place.{Place}
+use Rattle.ssim_flights.specs.declared.flight.DatedLeg.{DatedLeg}
+use Rattle.ssim_flights.specs.declared.flight.Wanted.{Wanted}
+use Rattle.ssim_flights.specs.Flown.{same_departure}
+use Rattle.ssim_flights.specs.Places.{same_wanted, wish, ends_from, places_from}
+use Rattle.ssim_flights.specs.Slots.{has_leg_at, leaving, leaving_for}
+use Rattle.ssim_flights.proofs.Departing.{or_parts}
+
+or_cond : {A : Type 0} (b : Bool) (x : A) (o p : Option A)
+    → option_or (cond b (Some x) o) p ≡ cond b (Some x) (option_or o p)
+or_cond true x o p = refl
+or_cond false x o p = refl
+
+pub lookup_append : {K X : Type 0} (test : K → Bool) (xs ys : List (K × X))
+    → lookup test (xs ++ ys) ≡ option_or (lookup test xs) (lookup test ys)
+lookup_append test [] ys = refl
+lookup_append test (e ∷ xs) ys = ap (λ o. cond (test e.0) (Some e.1) o) (lookup_append test xs ys) ∙ sym (or_cond (test e.0) e.1 (lookup test xs) (lookup test ys))
+
+-- ---- a flight without a leg of that departure
+
+apart : (a n s d r : Bool) → (n && (s && d)) ≡ false → (a && (n && (s && (d && r)))) ≡ false
+apart false n s d r e = refl
+apart true false s d r e = refl
+apart true true false d r e = refl
+apart true true true false r e = refl
+apart true true true true r e = absurd (true≢false e)
+
+not_wanted : (flight : Flight) (first last : DatedLeg) (w : Wanted)
+    → same_departure (leaving flight first) (leaving_for w) ≡ false → same_wanted (wish flight first last) w ≡ false
+not_wanted flight first last w e =
+    apart (pointwise nat_eq flight.airline w.airline) (flight.number == w.number) (option_eq nat_eq flight.suffix w.suffix)
+    (first.day == w.day) (pointwise nat_eq first.board w.board && pointwise nat_eq last.off w.off) e
+
+ends_none : (flight : Flight) (n from : ℕ) (first : DatedLeg) (to : ℕ) (legs : List DatedLeg) (w : Wanted)
+    → same_departure (leaving flight first) (leaving_for w) ≡ false
+    → lookup (λ k. same_wanted k w) (ends_from flight n from first to legs) ≡ None
+ends_none flight n from first to [] w e = refl
+ends_none flight n from first to (leg ∷ legs) w e =
+    ap (λ b. cond b (Some (record { flight = n; from = from; to = to })) (lookup (λ k. same_wanted k w) (ends_from flight n from first (to + 1) legs))) (not_wanted flight first leg w e)
+    ∙ ends_none flight n from first (to + 1) legs w e
+
+pub places_none : (flight : Flight) (n from : ℕ) (legs : List DatedLeg) (w : Wanted)
+    → has_leg_at flight legs (leaving_for w) ≡ false
+    → lookup (λ k. same_wanted k w) (places_from flight n from legs) ≡ None
+places_none flight n from [] w e = refl
+places_none flight n from (leg ∷ legs) w e =
+    let parts = or_parts (same_departure (leaving flight leg) (leaving_for w)) (has_leg_at flight legs (leaving_for w)) e in
+    lookup_append (λ k. same_wanted k w) (ends_from flight n from leg from (leg ∷ legs)) (places_from flight n (from + 1) legs)
+    ∙ (ap (λ o. option_or o (lookup (λ k. same_wanted k w) (places_from flight n (from + 1) legs))) (ends_none flight n from leg from (leg ∷ legs) w parts.0)
+    ∙ places_none flight n (from + 1) legs w parts.1)
+
+-- ---- the place that is found
+
+pub from_first : (test : Wanted → Bool) (flight : Flight) (n from : ℕ) (first : DatedLeg) (rest legs : List DatedLeg)
+    (p : Place) → legs ≡ first ∷ rest → Some p ≡ lookup test (ends_from flight n from first from legs)
+    → Some p ≡ lookup test (places_from flight n from legs)
+from_first test flight n from first rest legs p are e = subst (λ (l : List DatedLeg). Some p ≡ lookup test (ends_from flight n from first from l) → Some p ≡ lookup test (places_from flight n from l)) (sym are)
+    (λ h. sym (lookup_append test (ends_from flight n from first from (first ∷ rest)) (places_from flight n (from + 1) rest)
+    ∙ ap (λ o. option_or o (lookup test (places_from flight n (from + 1) rest))) (sym h))) e
+
+pub from_rest : (test : Wanted → Bool) (flight : Flight) (n from : ℕ) (first : DatedLeg) (rest legs : List DatedLeg)
+    (r : Option Place) → legs ≡ first ∷ rest → None ≡ lookup test (ends_from flight n from first from legs)
+    → r ≡ lookup test (places_from flight n (from + 1) rest) → r ≡ lookup test (places_from flight n from legs)
+from_rest test flight n from first rest legs r are none e = subst (λ (l : List DatedLeg). None ≡ lookup test (ends_from flight n from first from l) → r ≡ lookup test (places_from flight n from l)) (sym are)
+    (λ h. e ∙ sym (lookup_append test (ends_from flight n from first from (first ∷ rest)) (places_from flight n (from + 1) rest)
+    ∙ ap (λ o. option_or o (lookup test (places_from flight n (from + 1) rest))) (sym h))) none

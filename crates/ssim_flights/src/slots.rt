@@ -1,0 +1,164 @@
+//! Flights in slots, by number, suffix and the local days on which their legs depart.
+ghost use Rattle.std.specs.Prelude.{◌≡◌, ◌*◌, ◌+◌, ◌≤◌, ◌<◌, ◌==◌, [], IfOk, OnOk, length, replicate};
+ghost use Rattle.ssim_flights.specs.Few.{AreFew};
+ghost use Rattle.ssim_flights.specs.Slots.{along, begins_on, in_slot, leaving_for, listed, place_among, slot_of, AreLinked, AreSlotsOf, IsInside, PutsFirst};
+
+use crate::flight::{DatedLeg, Flight, Wanted};
+use crate::flown::Departure;
+use crate::on_flight::place_on;
+use airline_base::{Day, Memory, Place};
+use std::alloc::Global;
+
+/// A flight that is listed in a slot, and the entry with which the list of that slot goes on.
+/// Entries are counted from 1, and 0 ends a list.
+#[derive(Clone, Copy)]
+pub(crate) struct Entry {
+    flight: u32,
+    next: usize,
+}
+
+/// Flights in slots, by their departures. Those of a slot are listed in the order of their numbers.
+#[derive(Drop)]
+pub(crate) struct Slots {
+    /// The first entry of each slot.
+    heads: Vec<usize>,
+    entries: Vec<Entry>,
+}
+
+impl Slots {
+    /// The first place that serves what is wanted, on the first of the flights of its slot that has one.
+    #[tactic(auto, using(crate::proofs::Slotting::head_linked, crate::proofs::Slotting::head_inside, crate::proofs::Slotting::listed_is))]
+    pub(crate) fn place(&self, flights: &[Flight], wanted: &Wanted) -> Option<Place>
+        requires few { AreFew flights.now }
+        requires inside { IsInside self.now }
+        ensures { result ≡ place_among flights.now (listed self.now (leaving_for wanted.now)) wanted.now }
+    {
+        let slot = slot_of(&leaving_for(wanted), self.heads.len());
+        place_along(flights, self.entries.as_slice(), self.heads[slot], wanted)
+    }
+}
+
+/// The departure that is wanted.
+fn leaving_for(wanted: &Wanted) -> Departure
+    ensures { result ≡ leaving_for wanted.now }
+{
+    Departure {
+        number: wanted.number,
+        suffix: wanted.suffix,
+        day: wanted.day,
+    }
+}
+
+/// The slot of a departure, counted from 0. Departures that differ by little lie far apart.
+#[tactic(auto, unfolding(crate::specs::Slots::slot_of))]
+fn slot_of(departure: &Departure, slots: usize) -> usize
+    requires { 0 < slots }
+    ensures value { result ≡ slot_of departure.now slots }
+    ensures bound { result < slots }
+{
+    let letter = departure.suffix.unwrap_or(0);
+    let day = departure.day.number();
+    let key = u64::from(departure.number) * 401 + u64::from(letter) * 13 + u64::from(day);
+    (key * 2_654_435_769 % 4_294_967_296 % slots as u64) as usize
+}
+
+/// These flights in slots.
+#[tactic(auto, using(crate::proofs::Slotting::slots_none, crate::proofs::Slotting::slots_more))]
+pub(crate) fn slots_for(alloc: Global, flights: &[Flight]) -> Result<Slots, Memory>
+    requires { AreFew flights.now }
+    ensures { IfOk result (λ held. AreSlotsOf held flights.now 0) }
+{
+    let mut held = empty(alloc, flights.len())?;
+    let mut n = flights.len();
+    while n > 0 {
+        n -= 1;
+        let flight = &flights[n];
+        add_legs(&mut held, flight, n as u32, flight.legs.as_slice())?;
+    }
+    Ok(held)
+}
+
+/// No flights, and two slots for each of so many.
+fn empty(alloc: Global, count: usize) -> Result<Slots, Memory>
+    requires { count ≤ 100000 }
+    ensures heads { IfOk result (λ held. held.heads.items ≡ replicate (2 * count + 1) 0) }
+    ensures entries { IfOk result (λ held. held.entries.items ≡ []) }
+{
+    let heads = no_entries(alloc, 2 * count + 1)?;
+    let entries = Vec::with_capacity(alloc, count)?;
+    Ok(Slots { heads, entries })
+}
+
+/// So many slots without an entry.
+fn no_entries(alloc: Global, slots: usize) -> Result<Vec<usize>, Memory>
+    ensures { IfOk result (λ heads. heads.items ≡ replicate slots 0) }
+{
+    let heads = vec![in alloc; 0usize; slots]?;
+    Ok(heads)
+}
+
+/// Lists a flight for the departures of these legs of it, once for legs behind one another on one day.
+#[tactic(auto, using(crate::proofs::Slotting::first_none, crate::proofs::Slotting::first_more, crate::proofs::Slotting::first_same, crate::proofs::Slotting::still_inside))]
+fn add_legs(held: &mut Slots, flight: &Flight, n: u32, legs: &[DatedLeg]) -> Result<(), Memory>
+    requires { IsInside held.old }
+    ensures { OnOk result (PutsFirst held.old held.new n (in_slot flight.now legs.now (length held.old.heads.items))) }
+{
+    let Some((leg, rest)) = legs.split_first() else {
+        return Ok(());
+    };
+    if begins_on(rest, leg.day) {
+        return add_legs(held, flight, n, rest);
+    }
+    let departure = Departure {
+        number: flight.number,
+        suffix: flight.suffix,
+        day: leg.day,
+    };
+    add(held, &departure, n)?;
+    add_legs(held, flight, n, rest)
+}
+
+/// Lists a flight ahead of the others in the slot of a departure.
+#[tactic(auto, using(crate::proofs::Slotting::first_one))]
+fn add(held: &mut Slots, departure: &Departure, n: u32) -> Result<(), Memory>
+    requires { IsInside held.old }
+    ensures { OnOk result (PutsFirst held.old held.new n (λ slot. slot_of departure.now (length held.old.heads.items) == slot)) }
+{
+    let slot = slot_of(departure, held.heads.len());
+    let next = held.heads[slot];
+    held.entries.push(Entry { flight: n, next })?;
+    let entry = held.entries.len();
+    held.heads[slot] = entry;
+    Ok(())
+}
+
+/// Whether the first of these legs departs on a day.
+fn begins_on(legs: &[DatedLeg], day: Day) -> bool
+    ensures { result ≡ begins_on legs.now day }
+{
+    match legs.first() {
+        Some(leg) => leg.day == day,
+        None => false,
+    }
+}
+
+/// The first place that serves what is wanted, on the flights of a list from one entry on.
+#[tactic(auto, using(crate::proofs::Slotting::along_none, crate::proofs::Slotting::along_found, crate::proofs::Slotting::along_more, crate::proofs::Slotting::along_back))]
+fn place_along(
+    flights: &[Flight],
+    entries: &[Entry],
+    entry: usize,
+    wanted: &Wanted,
+) -> Option<Place>
+    requires few { AreFew flights.now }
+    requires linked { AreLinked entries.now }
+    requires inside { entry ≤ length entries.now }
+    ensures { result ≡ place_among flights.now (along entries.now entry) wanted.now }
+{
+    let k = entry.checked_sub(1)?;
+    let listed = &entries[k];
+    match place_on(flights, listed.flight, wanted) {
+        Some(place) => Some(place),
+        None => place_along(flights, entries, listed.next, wanted),
+    }
+}
