@@ -23,7 +23,7 @@ pub(crate) fn days_among(alloc: Global, leg: &Leg, count: u32) -> Result<Days, M
     requires { leg.now.from + count ≤ 84006 }
     ensures { IfOk result (λ days. days ≡ days_among leg.now count) }
 {
-    let mut days = Days::new(alloc);
+    let mut days = Days::with_room(alloc, count as usize)?;
     let first = leg.from.number();
     for past in 0..count {
         if operates(leg, first + past) {

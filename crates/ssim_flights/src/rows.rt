@@ -15,15 +15,15 @@ use std::alloc::Global;
 pub(crate) fn rows(alloc: Global, plan: &Plan, legs: &[Scheduled]) -> Result<Vec<usize>, Memory>
     ensures { IfOk result (λ list. list.items ≡ rows plan.now legs.now) }
 {
-    let mut list = Vec::new(alloc);
     let Some((first, rest)) = legs.split_first() else {
-        return Ok(list);
+        return Ok(Vec::new(alloc));
     };
     let count = shortest(first.operations.len(), rest);
     let ahead = first.before(plan.first.number());
     let within = first.before(plan.last.number() + 1);
     let begin = ahead.min(count);
     let end = within.min(count).max(begin);
+    let mut list = Vec::with_capacity(alloc, end - begin)?;
     for i in begin..end {
         list.push(i)?;
     }

@@ -105,7 +105,7 @@ pub(crate) fn schedule(alloc: Global, plan: &Plan, legs: &[Leg]) -> Result<Vec<S
     requires end { plan.now.end ≤ 47846 }
     ensures { IfOk result (λ list. list.items ≡ schedule plan.now legs.now) }
 {
-    let mut list = Vec::new(alloc);
+    let mut list = Vec::with_capacity(alloc, legs.len())?;
     for leg in legs {
         list.push(schedule_leg(alloc, plan, leg)?)?;
     }
