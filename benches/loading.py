@@ -2,6 +2,8 @@
 """Writes inputs that are hard to load, the same bytes for the same arguments, for the 366 days from 1 March 2024.
 
     benches/loading.py set NUMBERS LEGS > set.ssim          so many flight numbers, each daily, each of so many legs (1 to 8)
+    benches/loading.py spread NUMBERS LEGS > set.ssim       the same, each leg on the day after that of the leg before
+    benches/loading.py singles NUMBERS LEGS > set.ssim      the same flights as those of `set`, each an itinerary of its own
     benches/loading.py rows SET BYTES SHAPE > limits.txt    limit rows up to a number of bytes, for legs of that set
 
 The shapes of rows: `elsewhere`, all for the first leg of the set on days on which it doesn't fly; `last`, all for that leg on one
@@ -31,20 +33,29 @@ def record(fields, serial):
     return "".join(line)
 
 
-def write_set(numbers, legs):
+def leg_record(serial, number, variation, leg, period, days_later):
+    at = number * 9 + leg
+    return record([
+        (1, "3"), (3, "XX "), (6, "%4d" % number), (10, "%02d%02d" % (variation % 100, leg + 1)),
+        (15, period), (29, "1234567"), (37, station(at)),
+        (44, "%02d00+0000" % (2 * leg)), (55, station(at + 1)), (128, " ABC"[variation // 100]), (193, "%d0" % days_later),
+    ], serial)
+
+
+def write_set(numbers, legs, shape):
     period = date(FIRST) + date(LAST)
+    days = [FIRST + datetime.timedelta(day) for day in range(366)] if shape == "singles" else [None]
     out = [
         record([(1, "1"), (2, "AIRLINE STANDARD SCHEDULE DATA SET"), (41, "1"), (192, "001")], 1),
         record([(1, "2"), (2, "L"), (3, "XX "), (15, period)], 2),
     ]
     for number in range(1, numbers + 1):
-        for leg in range(legs):
-            at = number * 9 + leg
-            out.append(record([
-                (1, "3"), (3, "XX "), (6, "%4d" % number), (10, "01%02d" % (leg + 1)),
-                (15, period), (29, "1234567"), (37, station(at)),
-                (44, "%02d00+0000" % (2 * leg)), (55, station(at + 1)), (193, "00"),
-            ], len(out) + 1))
+        for variation, day in enumerate(days, 1):
+            for leg in range(legs):
+                out.append(leg_record(
+                    len(out) + 1, number, variation, leg,
+                    period if day is None else date(day) * 2, leg if shape == "spread" else 0,
+                ))
     serial = len(out)
     out.append(record([(1, "5"), (3, "XX "), (188, "%06dE" % serial)], serial + 1))
     sys.stdout.write("\n".join(out) + "\n")
@@ -80,8 +91,8 @@ def write_rows(path, most, shape):
 
 def main():
     words = sys.argv[1:]
-    if words[:1] == ["set"] and len(words) == 3:
-        write_set(int(words[1]), int(words[2]))
+    if words[:1] in (["set"], ["spread"], ["singles"]) and len(words) == 3:
+        write_set(int(words[1]), int(words[2]), words[0])
     elif words[:1] == ["rows"] and len(words) == 4 and words[3] in ("elsewhere", "last", "nested", "all"):
         write_rows(words[1], int(words[2]), words[3])
     else:
