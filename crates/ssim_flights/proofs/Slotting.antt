@@ -1,6 +1,6 @@
 -- Flights in slots, flight by flight, and the place that is found by them.
 use Rattle.std.proofs.Common.{◌≡◌, ℕ, zero, suc, ◌+◌, ◌-◌, ◌*◌, ◌<◌, ◌≤◌, ◌&&◌, ◌||◌, ◌==◌, nat_eq, Bool, true, false, cond, List, [], ◌∷◌, ◌++◌, length, drop, get_or, replicate, set, Option, Some, None, inl, inr, ◌≢◌, arith, refl, sym, ap, subst, ◌∙◌, length-append}
-use Rattle.ssim_flights.proofs.Common.{Flight, Departure, list_any}
+use Rattle.ssim_flights.proofs.Common.{Flight, Departure}
 use Rattle.std.specs.Prelude.{◌⊎◌}
 use Rattle.std.specs.Option.{option_eq, option_or}
 use Rattle.std.specs.Map.{lookup}
