@@ -1,2 +1,3 @@
-pub mod Wishes
+pub mod Days
 pub mod Finding
+pub mod Wishes

@@ -7,7 +7,6 @@ use Rattle.desk_lines.specs.Lines.{next_number, Hears}
 use Rattle.desk_lines.specs.declared.desk.Desk.{Desk}
 use Rattle.desk_lines.specs.declared.desk.Meaning.{Meaning}
 use Rattle.desk_lines.specs.declared.desk.Meaning.TheVariants.{Nothing, Request, Look, Leave, Wrong}
-use Rattle.desk_lines.specs.declared.desk.Wrong.TheVariants as faults
 use Rattle.ssim_flights.specs.declared.flight.Flight.{Flight as Flown}
 use Rattle.seat_journal.specs.declared.entry.Entry.{Entry}
 use Rattle.seat_journal.specs.declared.entry.Work.TheVariants.{Seats}
@@ -19,7 +18,7 @@ use Rattle.seat_scripts.specs.Requests.{command_of}
 use Rattle.seat_scripts.specs.RunDesk.{IsAnswer}
 use Rattle.desk_answers.specs.FaultLines.{full_line, wrong_line}
 use Rattle.desk_answers.specs.Hosts.{Attended}
-use Rattle.desk_answers.specs.Looks.{IsLookLine}
+use Rattle.desk_answers.specs.Looks.{IsDayLook, IsLookLine}
 use Rattle.desk_answers.specs.declared.heard.Heard.{Heard}
 
 -- a request of a session, on the first place that serves it
@@ -44,10 +43,10 @@ IsAsked true flights grid session past journal wish text =
 IsAsked false flights grid session past journal wish text =
     (journal ≡ past) × (text ≡ full_line session (calls_of past session + 1))
 
--- a class of a flight is looked at; a look at each flight of a day is no word yet
-abbrev pub IsLooked : List Flown → Ladders → ℕ → ℕ → List Entry → Option FlightClass → Looked → List ℕ → Type 0
-IsLooked flights grid session number journal (Some flight) look text = IsLookLine flights grid journal flight look text
-IsLooked flights grid session number journal None look text = text ≡ wrong_line faults.Word session number
+-- a class of a flight is looked at, or each class of each flight of a day
+abbrev pub IsLooked : List Flown → Ladders → List Entry → Option FlightClass → Looked → List ℕ → Type 0
+IsLooked flights grid journal (Some flight) look text = IsLookLine flights grid journal flight look text
+IsLooked flights grid journal None look text = IsDayLook flights grid journal look text
 
 -- what is said of a line by its meaning, what the journal is then, and whether the desk stays
 abbrev pub Says : List Flown → Ladders → ℕ → ℕ → ℕ → List Entry → List Entry → Meaning → Bool → List ℕ → Type 0
@@ -55,7 +54,7 @@ Says flights grid cap session number past journal Nothing stays text = (stays �
 Says flights grid cap session number past journal (Request wish) stays text =
     (stays ≡ true) × IsAsked (nat_lt (length past) cap) flights grid session past journal wish text
 Says flights grid cap session number past journal (Look look) stays text =
-    (stays ≡ true) × (journal ≡ past) × IsLooked flights grid session number past look.flight look text
+    (stays ≡ true) × (journal ≡ past) × IsLooked flights grid past look.flight look text
 Says flights grid cap session number past journal Leave stays text = (stays ≡ false) × (journal ≡ past) × (text ≡ [])
 Says flights grid cap session number past journal (Wrong wrong) stays text =
     (stays ≡ true) × (journal ≡ past) × (text ≡ wrong_line wrong session number)

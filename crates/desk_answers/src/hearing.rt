@@ -13,10 +13,10 @@ ghost use Rattle.desk_answers.specs.declared.heard.HearFault.TheVariants.{Memory
 use crate::asking::ask;
 use crate::faults::wrong_line;
 use crate::heard::{HearFault, Heard};
-use crate::looking::look_line;
+use crate::looking::{day_lines, look_line};
 use airimp_lines::Look;
 use airline_base::Memory;
-use desk_lines::{Meaning, Wrong};
+use desk_lines::Meaning;
 use seat_disk::Tape;
 use seat_serving::Serving;
 use ssim_flights::{Flights, Served};
@@ -65,7 +65,7 @@ pub(crate) fn answer_to<R: Wait, D: Tape>(
                 Err(fault) => Err(fault),
             }
         }
-        Meaning::Look(look) => match looked(alloc, served, serving, session, number, &look) {
+        Meaning::Look(look) => match looked(alloc, flights, served, serving, &look) {
             Ok(text) => Ok(Heard { text, stays: true }),
             Err(_) => Err(HearFault::Memory),
         },
@@ -85,21 +85,21 @@ fn silent(alloc: Global, stays: bool) -> Heard
     }
 }
 
-// The line that answers a look. One at each flight of a day is no word to this host.
+// The lines that answer a look.
 fn looked<D: Tape>(
     alloc: Global,
+    flights: &Flights,
     served: &Served<'_>,
     serving: &Serving<D>,
-    session: u8,
-    number: u32,
     look: &Look,
 ) -> Result<Vec<u8>, Memory>
-    requires { IsGridOf served.now serving.now.grid }
-    ensures { IfOk result (λ text. IsLooked served.now serving.now.grid session number serving.now.journal
-        look.now.flight look.now text.items) }
+    requires served { served.now ≡ flights.now }
+    requires grid { IsGridOf flights.now serving.now.grid }
+    ensures { IfOk result (λ text. IsLooked flights.now serving.now.grid serving.now.journal look.now.flight look.now
+        text.items) }
 {
     match &look.flight {
         Some(flight) => look_line(alloc, served, serving, flight, look),
-        None => wrong_line(alloc, Wrong::Word, session, number),
+        None => day_lines(alloc, flights, served, serving, look),
     }
 }
