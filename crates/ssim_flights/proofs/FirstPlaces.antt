@@ -10,7 +10,7 @@ use Rattle.ssim_flights.specs.declared.flight.DatedLeg.{DatedLeg}
 use Rattle.ssim_flights.specs.declared.flight.Wanted.{Wanted}
 use Rattle.ssim_flights.specs.Flown.{same_departure}
 use Rattle.ssim_flights.specs.Places.{same_wanted, wish, ends_from, places_from}
-use Rattle.ssim_flights.specs.Slots.{has_leg_at, leaving, leaving_for}
+use Rattle.ssim_flights.specs.Slots.{departs, has_leg_at, leaving, leaving_for}
 use Rattle.ssim_flights.proofs.Departing.{or_parts}
 
 or_cond : {A : Type 0} (b : Bool) (x : A) (o p : Option A)
@@ -39,12 +39,12 @@ not_wanted flight first last w e =
     (first.day == w.day) (pointwise nat_eq first.board w.board && pointwise nat_eq last.off w.off) e
 
 ends_none : (flight : Flight) (n from : ℕ) (first : DatedLeg) (to : ℕ) (legs : List DatedLeg) (w : Wanted)
-    → same_departure (leaving flight first) (leaving_for w) ≡ false
+    → ((last : DatedLeg) → same_wanted (wish flight first last) w ≡ false)
     → lookup (λ k. same_wanted k w) (ends_from flight n from first to legs) ≡ None
-ends_none flight n from first to [] w e = refl
-ends_none flight n from first to (leg ∷ legs) w e =
-    ap (λ b. cond b (Some (record { flight = n; from = from; to = to })) (lookup (λ k. same_wanted k w) (ends_from flight n from first (to + 1) legs))) (not_wanted flight first leg w e)
-    ∙ ends_none flight n from first (to + 1) legs w e
+ends_none flight n from first to [] w none = refl
+ends_none flight n from first to (leg ∷ legs) w none =
+    ap (λ b. cond b (Some (record { flight = n; from = from; to = to })) (lookup (λ k. same_wanted k w) (ends_from flight n from first (to + 1) legs))) (none leg)
+    ∙ ends_none flight n from first (to + 1) legs w none
 
 pub places_none : (flight : Flight) (n from : ℕ) (legs : List DatedLeg) (w : Wanted)
     → has_leg_at flight legs (leaving_for w) ≡ false
@@ -53,8 +53,23 @@ places_none flight n from [] w e = refl
 places_none flight n from (leg ∷ legs) w e =
     let parts = or_parts (same_departure (leaving flight leg) (leaving_for w)) (has_leg_at flight legs (leaving_for w)) e in
     lookup_append (λ k. same_wanted k w) (ends_from flight n from leg from (leg ∷ legs)) (places_from flight n (from + 1) legs)
-    ∙ (ap (λ o. option_or o (lookup (λ k. same_wanted k w) (places_from flight n (from + 1) legs))) (ends_none flight n from leg from (leg ∷ legs) w parts.0)
+    ∙ (ap (λ o. option_or o (lookup (λ k. same_wanted k w) (places_from flight n (from + 1) legs))) (ends_none flight n from leg from (leg ∷ legs) w (λ last. not_wanted flight leg last w parts.0))
     ∙ places_none flight n (from + 1) legs w parts.1)
+
+elsewhere : (a n s d b o : Bool) → (d && b) ≡ false → (a && (n && (s && (d && (b && o))))) ≡ false
+elsewhere false n s d b o e = refl
+elsewhere true false s d b o e = refl
+elsewhere true true false d b o e = refl
+elsewhere true true true false b o e = refl
+elsewhere true true true true false o e = refl
+elsewhere true true true true true o e = absurd (true≢false e)
+
+-- a leg that departs elsewhere or on another day
+pub ends_elsewhere : (flight : Flight) (n from : ℕ) (first : DatedLeg) (to : ℕ) (legs : List DatedLeg) (w : Wanted)
+    → departs first w ≡ false → None ≡ lookup (λ k. same_wanted k w) (ends_from flight n from first to legs)
+ends_elsewhere flight n from first to legs w e =
+    sym (ends_none flight n from first to legs w (λ last. elsewhere (pointwise nat_eq flight.airline w.airline) (flight.number == w.number)
+    (option_eq nat_eq flight.suffix w.suffix) (first.day == w.day) (pointwise nat_eq first.board w.board) (pointwise nat_eq last.off w.off) e))
 
 -- ---- the place that is found
 

@@ -1,8 +1,9 @@
 -- Flights in slots by number, suffix and the local days on which their legs depart.
-use Rattle.std.specs.Prelude.{◌≡◌, ℕ, zero, suc, ◌+◌, ◌*◌, ◌%◌, ◌≤◌, ◌<◌, ◌==◌, Bool, false, if◌then◌else◌, List, [], ◌∷◌, length, drop, Option, Some, None, slice_get, slice_index_or, unwrap_or}
+use Rattle.std.specs.Prelude.{◌≡◌, ℕ, zero, suc, ◌+◌, ◌*◌, ◌%◌, ◌≤◌, ◌<◌, ◌==◌, ◌&&◌, nat_eq, Bool, false, if◌then◌else◌, List, [], ◌∷◌, length, drop, Option, Some, None, slice_get, slice_index_or, unwrap_or}
 use Rattle.std.specs.Option.{option_or}
 use Rattle.std.specs.List.{list_any}
 use Rattle.std.specs.Map.{lookup}
+use Rattle.std.specs.Cmp.Lexicographic.{pointwise}
 use Rattle.airline_base.specs.declared.place.Place.{Place}
 use Rattle.ssim_flights.specs.declared.flight.DatedLeg.{DatedLeg}
 use Rattle.ssim_flights.specs.declared.flight.Flight.{Flight}
@@ -74,6 +75,10 @@ pub record IsInside (held : Slots) : Type 0 where
   pub linked : AreLinked held.entries.items
 
 -- ---- the place that is found
+
+-- the leg departs where and when it is wanted
+abbrev pub departs : DatedLeg → Wanted → Bool
+departs leg w = (leg.day == w.day) && pointwise nat_eq leg.board w.board
 
 abbrev pub place_of : ℕ → Wanted → Option Flight → Option Place
 place_of n wanted None = None

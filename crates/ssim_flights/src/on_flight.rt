@@ -3,7 +3,7 @@ ghost use Rattle.std.specs.Prelude.{◌≡◌, ◌+◌, ◌≤◌, length};
 ghost use Rattle.std.specs.Map.{lookup};
 ghost use Rattle.ssim_flights.specs.Few.{AreFew};
 ghost use Rattle.ssim_flights.specs.Places.{ends_from, places_from, same_wanted};
-ghost use Rattle.ssim_flights.specs.Slots.{place_on};
+ghost use Rattle.ssim_flights.specs.Slots.{departs, place_on};
 
 use crate::flight::{DatedLeg, Flight, Wanted};
 use airline_base::Place;
@@ -35,13 +35,40 @@ fn place_from(
         from,
         to: from,
     };
-    match place_to(flight, place, first, legs, wanted) {
+    match place_beginning(flight, place, first, legs, wanted) {
         Some(place) => Some(place),
         None => place_from(flight, n, from + 1, rest, wanted),
     }
 }
 
 /// The first place that begins with a leg and ends with one of the last legs of a flight.
+/// Most legs depart elsewhere or on another day, and none of their places is looked at.
+fn place_beginning(
+    flight: &Flight,
+    place: Place,
+    first: &DatedLeg,
+    legs: &[DatedLeg],
+    wanted: &Wanted,
+) -> Option<Place>
+    requires { place.to + length legs.now ≤ 8 }
+    ensures { result ≡ lookup (λ w. same_wanted w wanted.now)
+        (ends_from flight.now place.flight place.from first.now place.to legs.now) }
+{
+    if departs(first, wanted) {
+        place_to(flight, place, first, legs, wanted)
+    } else {
+        None
+    }
+}
+
+/// Whether a leg departs where and when it is wanted.
+fn departs(first: &DatedLeg, wanted: &Wanted) -> bool
+    ensures { result ≡ departs first.now wanted.now }
+{
+    first.day == wanted.day && first.board == wanted.board
+}
+
+/// The first place with one of the last legs of a flight at its end.
 fn place_to(
     flight: &Flight,
     place: Place,
