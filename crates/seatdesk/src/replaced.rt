@@ -25,6 +25,7 @@ pub fn tell_replaced(rt: &HostRuntime, journal: &str, stood: &SealFile, written:
 }
 
 /// A digest, in hex digits.
+#[derive(Drop)]
 struct Hex {
     digest: Digest,
 }
