@@ -189,6 +189,15 @@ impl Seals {
             journal: self.journal.as_beside(),
         }
     }
+
+    /// What stands beside the journal that a run goes on from.
+    fn gone_on_from(&self, is_resumed: bool) -> &SealFile {
+        if is_resumed {
+            &self.journal
+        } else {
+            &self.older
+        }
+    }
 }
 
 /// What stands beside both, once they are open. Beside the journal there may have to be a seal.
@@ -515,7 +524,8 @@ fn sell<'a, T: Threads + Wait + Sync>(
             Ok(())
         }
         Err(refusal) => {
-            let (seal, lines) = runs_ahead(rt, asking, given, &after, &seals, place);
+            let lines = lines_ahead(rt, asking, given, &after, place);
+            let seal = seals.gone_on_from(asking.resume.is_some());
             let refusal = refusal
                 .noting_booked(rt, seal, lines, scripts.as_slice(), &changes)
                 .noting_unasked(&resumed)
@@ -642,24 +652,21 @@ fn noting_place<'a>(
     Err(refusal.noting_put(asking.journal, behind, from))
 }
 
-/// The seal whose runs may have booked what the words ask, and ahead of how many lines these began: all of them, where the scripts go
-/// behind the whole journal.
-fn runs_ahead<'a, 'b>(
+/// Ahead of how many lines a run began that may have booked what is asked: of all, where the scripts go behind the whole journal.
+fn lines_ahead<'a>(
     rt: &HostRuntime,
     asking: &Asking<'a, '_>,
     given: Option<u32>,
     after: &Input<'a>,
-    seals: &'b Seals,
     place: &mut Place<'a>,
-) -> (&'b SealFile, u64) {
+) -> u64 {
     if asking.resume.is_none() {
-        return (&seals.older, u64::MAX);
+        return u64::MAX;
     }
-    let lines = match given {
-        Some(more) if asking.older.after.is_none() => u64::from(more),
-        _ => lines_of(rt, asking.older.after, after, &mut place.journal).unwrap_or(0),
-    };
-    (&seals.journal, lines)
+    if asking.older.after.is_none() {
+        return u64::from(given.unwrap_or(0));
+    }
+    lines_of(rt, asking.older.after, after, &mut place.journal).unwrap_or(0)
 }
 
 /// Says on standard error where nothing stands beside the journal that a run went on from, so that it could not be compared. It is no fault.
