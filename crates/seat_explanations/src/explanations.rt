@@ -599,7 +599,7 @@ const SEALS: &[Explanation] = &[
         behind: "",
         code: "SEAL",
         numbers: NONE,
-        text: "JOURNAL.seal beside the journal says that the journal belongs to something else than is given.\nThe word behind it says what. It is compared ahead of the journal's own lines.",
+        text: "JOURNAL.seal beside the journal says that the journal belongs to something else than is given.\nThe word behind it says what. It is compared ahead of the journal's own lines.\ngrep run JOURNAL.seal shows behind how many lines each run of it began, as run behind 25.",
     },
     Explanation {
         behind: "SEAL",
@@ -653,13 +653,13 @@ const SEALS: &[Explanation] = &[
         behind: "SEAL",
         code: "behind",
         numbers: NONE,
-        text: "--behind N, or the journal of --after, says behind how many lines the scripts of --resume began. The seal of the journal\nhas no run that began behind so many: all would be booked once more.\ngrep run JOURNAL.seal shows behind how many lines each run began, as run behind 25.",
+        text: "--behind N, or the journal of --after, says behind how many lines the scripts of --resume began. The seal of the journal\nhas no run that began behind so many: all would be booked once more. Its lines run behind have the numbers.",
     },
     Explanation {
         behind: "SEAL",
         code: "runs",
         numbers: NONE,
-        text: "The seal of the journal of --resume has several runs, which began behind several numbers of lines. Say by --behind N with\nwhich of them the scripts began. grep run JOURNAL.seal shows behind how many lines each run began, as run behind 25.\nBehind the first of a day stands what all desks sold that day.",
+        text: "The seal of the journal of --resume has several runs, which began behind several numbers of lines. Say by --behind N with\nwhich of them the scripts began: N stands in the seal's lines run behind. Behind the first of a day stands what all desks sold that day.",
     },
 ];
 
