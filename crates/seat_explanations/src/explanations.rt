@@ -703,6 +703,12 @@ const WORDS: &[Explanation] = &[
     },
     Explanation {
         behind: "E2",
+        code: "flight",
+        numbers: NONE,
+        text: "--flight is not an airline of two characters, a number of 1 to 9999 and a letter or none, as LZ601 or LZ205A.",
+    },
+    Explanation {
+        behind: "E2",
         code: "locator",
         numbers: NONE,
         text: "--locator is not six characters of A to Z and 0 to 9, as B3N6VC.",

@@ -7,6 +7,3 @@ mod Reasons
 pub mod RoomTexts
 pub mod Standings
 mod Winners
-pub mod LiveTexts
-pub mod Making
-pub mod Picking

@@ -1,6 +1,5 @@
 pub mod Cover
 pub mod Coverage
-pub mod LiveBookings
 pub mod PairNumbers
 pub mod Rooms
 pub mod Why

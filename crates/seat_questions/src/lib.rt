@@ -1,8 +1,7 @@
-//! Questions that a desk and an auditor ask of limits and a journal: `rooms`, `bookings`, `why` and `cover`.
+//! Questions that a desk and an auditor ask of limits and a journal: `rooms`, `why` and `cover`.
 //! It knows the texts of the answers, and leaves what is read to the crate below and every answer to those below that.
 #![tactic(auto)]
 
-mod bookings;
 mod cover;
 mod coverage;
 mod laws;
@@ -13,12 +12,11 @@ mod rooms;
 mod why;
 mod winning;
 
-pub use bookings::BookingsOf;
 pub use cover::Cover;
 pub use laws::{
     found_places_are_written, opening_rooms_are_of_no_lines, rows_without_effect_give_nothing,
     written_places_are_found,
 };
 pub use legs::{has_leg, put_class, put_each_room, put_each_wait};
-pub use rooms::{Bars, CityPair, RoomsOf, keeps_day, keeps_pair};
+pub use rooms::{Bars, CityPair, RoomsOf, keeps_day, keeps_pair, put_bars};
 pub use why::Why;

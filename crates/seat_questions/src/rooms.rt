@@ -348,7 +348,7 @@ fn put_room(text: &mut Vec<u8>, core: &Core, place: Place, step: &Step) -> Resul
 }
 
 /// Adds the bars of a place, where it is one leg and they are asked for.
-fn put_bars(
+pub fn put_bars(
     text: &mut Vec<u8>,
     core: &Core,
     bars: Option<Bars>,

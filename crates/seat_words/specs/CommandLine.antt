@@ -122,6 +122,13 @@ replies_app = with_rule (with_rule (with_rule (with_rule (with_rule (with_rule (
     (required_value (codes "journal")))
     (optional_values (codes "scripts"))
 
+unfoldable pub waiting_app : App
+waiting_app = with_rule (with_rule (with_rule (with_rule (horizon_app (codes "waiting"))
+    (optional (codes "flight")))
+    (optional (codes "day")))
+    (flag (codes "open")))
+    (required_value (codes "journal"))
+
 unfoldable pub told_app : App
 told_app = with_rule (with_rule (with_rule (with_rule (horizon_app (codes "told"))
     (required_option (codes "desk")))
@@ -166,8 +173,8 @@ selling_app = with_command (with_command (with_command (with_command (with_comma
 
 -- the program: one of its commands must be named
 unfoldable pub seatdesk_app : App
-seatdesk_app = with_command (with_command (with_command (with_command (with_command (with_command (with_command (with_command
-    selling_app bookings_app) audit_app) seal_app) recover_app) replies_app) told_app) why_app) explain_app
+seatdesk_app = with_command (with_command (with_command (with_command (with_command (with_command (with_command (with_command (with_command
+    selling_app bookings_app) waiting_app) audit_app) seal_app) recover_app) replies_app) told_app) why_app) explain_app
 
 -- the command is read as a, and its options are its own
 pub record IsBuiltAs (a : App) (c : Command) : Type 0 where

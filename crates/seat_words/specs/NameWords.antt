@@ -1,14 +1,29 @@
 -- Words that name a pair of stations, a line of a journal, how many lines it began with, or a session.
 use Rattle.std.specs.Prelude.{◌≡◌, ℕ, ◌≤◌, nat_le, ◌-◌, ◌&&◌, if◌then◌else◌, true, List, [], ◌∷◌, length, take, drop, Option, Some, None}
-use Rattle.std.specs.Char.{is_ascii_digit}
+use Rattle.std.specs.Char.{is_ascii_digit, is_ascii_uppercase}
 use Rattle.std.specs.List.{list_all}
 use Rattle.std.specs.Str.Parse.{digits_value}
-use Rattle.airline_base.specs.Names.{is_station}
+use Rattle.airline_base.specs.Fields.{◌>>=◌, fixed_at, numeral_at}
+use Rattle.airline_base.specs.Names.{is_airline, is_station}
 
 -- two stations, the board point and behind it the off point
 abbrev pub pair_word_in : List ℕ → Option (List ℕ × List ℕ)
 pair_word_in word =
     if is_station (take 3 word) && is_station (drop 3 word) then Some (take 3 word, drop 3 word) else None
+
+-- no suffix, or the one letter of one
+abbrev pub suffix_in : List ℕ → Option (Option ℕ)
+suffix_in [] = Some None
+suffix_in (letter ∷ []) = if is_ascii_uppercase letter then Some (Some letter) else None
+suffix_in _ = None
+
+-- an airline, a number of at most four digits and a suffix, or none
+unfoldable pub flight_in : List ℕ → Option (List ℕ × ℕ × Option ℕ)
+flight_in word = do
+  airline ← fixed_at 2 is_airline word
+  number ← numeral_at 4 airline.1
+  suffix ← suffix_in number.1
+  Some (airline.0, number.0, suffix)
 
 -- the word is n in one to six digits, from 1 on
 pub record IsLineWord (word : List ℕ) (n : ℕ) : Type 0 where

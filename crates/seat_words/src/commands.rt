@@ -1,7 +1,7 @@
 //! The commands, as clap reads them and as their help shows them.
 ghost use Rattle.std.specs.Prelude.{IfOk, IsOkAnd, codes};
 ghost use Rattle.clap.specs.Words.{AddsArg, App, new_app};
-ghost use Rattle.seat_words.specs.CommandLine.{IsBuiltAs, IsReadAlike, IsReadAs, audit_app, bare_app, bookings_app, check_app, cover_app, explain_app, flag, flights_app, horizon_app, ladder_app, lettered_flag, loads_app, named_app, optional, optional_value, optional_values, recover_app, replies_app, required_option, required_value, rooms_app, run_app, seal_app, seatdesk_app, selling_app, told_app, why_app, with_command, with_verbose};
+ghost use Rattle.seat_words.specs.CommandLine.{IsBuiltAs, IsReadAlike, IsReadAs, audit_app, bare_app, bookings_app, check_app, cover_app, explain_app, flag, flights_app, horizon_app, ladder_app, lettered_flag, loads_app, named_app, optional, optional_value, optional_values, recover_app, replies_app, required_option, required_value, rooms_app, run_app, seal_app, seatdesk_app, selling_app, told_app, waiting_app, why_app, with_command, with_verbose};
 
 use clap::{Arg, ArgAction, Command};
 use std::alloc::{AllocError, Global};
@@ -99,6 +99,8 @@ const OPEN_HELP: &str =
 const OPEN_AUDIT_HELP: &str =
     "Takes a JOURNAL that is still open: its whole lines count, and it needs no END line; for a JOURNAL alone, without scripts";
 
+const FLIGHT_HELP: &str = "The flights of this name alone, as LZ601";
+
 const LOCATOR_HELP: &str = "The locator of the bookings: six letters and digits, as B3N6VC";
 
 const LINE_HELP: &str = "The line of the journal, counted from 1";
@@ -120,6 +122,7 @@ pub(crate) fn seatdesk_command<'a>(alloc: Global) -> Result<Command<'a>, AllocEr
 {
     let program = selling_command(alloc);
     let program = with_command(alloc, program, bookings_command(alloc));
+    let program = with_command(alloc, program, waiting_command(alloc));
     let program = with_command(alloc, program, audit_command(alloc));
     let program = with_command(alloc, program, seal_command(alloc));
     let program = with_command(alloc, program, recover_command(alloc));
@@ -318,6 +321,27 @@ fn bookings_command<'a>(alloc: Global) -> Result<Command<'a>, AllocError>
     let bookings = with_argument(bookings, flag(alloc, "open", OPEN_HELP));
     with_argument(
         bookings,
+        wanted_value(alloc, "journal", "JOURNAL", JOURNAL_HELP),
+    )
+}
+
+fn waiting_command<'a>(alloc: Global) -> Result<Command<'a>, AllocError>
+    ensures { IfOk result (IsBuiltAs waiting_app) }
+{
+    let waiting = horizon_command(
+        alloc,
+        "waiting",
+        "Writes who waits, in the order in which they would be confirmed, and the seats that they lack",
+        "Example: seatdesk waiting --set examples/summer.ssim --limits examples/limits.txt --first 2024-07-01 --days 31 --flight LZ601 --day 2024-07-27 examples/journal.txt",
+    );
+    let waiting = with_argument(
+        waiting,
+        optional_option(alloc, "flight", "FLIGHT", FLIGHT_HELP),
+    );
+    let waiting = with_argument(waiting, optional_option(alloc, "day", "DATE", DAY_HELP));
+    let waiting = with_argument(waiting, flag(alloc, "open", OPEN_HELP));
+    with_argument(
+        waiting,
         wanted_value(alloc, "journal", "JOURNAL", JOURNAL_HELP),
     )
 }

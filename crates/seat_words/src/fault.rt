@@ -16,6 +16,8 @@ pub enum WordFault {
     BadDay,
     /// The pair is not two stations of three letters each.
     BadPair,
+    /// The flight is not an airline, a number of 1 to 9999 and a letter or none.
+    BadFlight,
     /// The locator is not six characters of A to Z and 0 to 9.
     BadLocator,
     /// The number of a line is not one of 1 to 999999.
@@ -47,6 +49,7 @@ impl fmt::Display for WordFault {
             WordFault::BadScripts => "E2 script",
             WordFault::BadDay => "E2 day",
             WordFault::BadPair => "E2 pair",
+            WordFault::BadFlight => "E2 flight",
             WordFault::BadLocator => "E2 locator",
             WordFault::BadLine => "E2 line",
             WordFault::BadBehind => "E2 behind",

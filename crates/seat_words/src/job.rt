@@ -79,6 +79,14 @@ pub enum Job<'a> {
         is_open: bool,
         journal: &'a str,
     },
+    /// `seatdesk waiting` over a horizon `[--flight FLIGHT] [--day DATE] [--open] JOURNAL`
+    Waiting {
+        over: Horizon<'a>,
+        flight: Option<&'a str>,
+        day: Option<&'a str>,
+        is_open: bool,
+        journal: &'a str,
+    },
     /// `seatdesk audit` over a horizon `[--after JOURNAL] [--behind N] [--today DATE] [--sealed] [--open] JOURNAL [SCRIPT...]`
     Audit {
         over: Horizon<'a>,
@@ -238,6 +246,13 @@ fn job_named<'a>(alloc: Global, name: &str, matches: &ArgMatches<'a>) -> Result<
         "bookings" => Job::Bookings {
             over: horizon_of(matches),
             locator: value_of(matches, "locator"),
+            is_open: flag_of(matches, "open"),
+            journal: value_of(matches, "journal"),
+        },
+        "waiting" => Job::Waiting {
+            over: horizon_of(matches),
+            flight: may_value_of(matches, "flight"),
+            day: may_value_of(matches, "day"),
             is_open: flag_of(matches, "open"),
             journal: value_of(matches, "journal"),
         },

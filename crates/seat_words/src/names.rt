@@ -1,10 +1,10 @@
-//! Words that name a pair of stations, a locator, a line of a journal, how many lines it began with, or a session.
+//! Words that name a pair of stations, a flight, a locator, a line of a journal, how many lines it began with, or a session.
 ghost use Rattle.std.specs.Prelude.{◌≡◌, ℕ, IfSome, Some, None, if◌then◌else◌};
 ghost use Rattle.airline_base.specs.Names.{is_locator};
-ghost use Rattle.seat_words.specs.NameWords.{IsBehindWord, IsLineWord, pair_word_in, session_in};
+ghost use Rattle.seat_words.specs.NameWords.{IsBehindWord, IsLineWord, flight_in, pair_word_in, session_in, suffix_in};
 
-use airline_base::fields::{are_digits, value_of};
-use airline_base::{Locator, Station};
+use airline_base::fields::{airline_of, are_digits, numeral_of, value_of};
+use airline_base::{Airline, Locator, Station};
 
 /// The board and the off point that the word names: two stations of three letters A to Z, as `LHRJFK`.
 pub fn pair_word(word: &str) -> Option<(Station, Station)>
@@ -12,6 +12,32 @@ pub fn pair_word(word: &str) -> Option<(Station, Station)>
 {
     let (board, off) = word.as_bytes().split_at_checked(3)?;
     Some((Station::new(board)?, Station::new(off)?))
+}
+
+/// The airline, the number of 1 to 9999 and the operational suffix of the flight that the word names, as `LZ601` or `LZ205A`.
+#[tactic(auto, unfolding(crate::specs::NameWords::flight_in))]
+pub fn flight_word(word: &str) -> Option<(Airline, u16, Option<u8>)>
+    ensures { result ≡ flight_in word.now }
+{
+    let Some((airline, rest)) = airline_of(word.as_bytes()) else {
+        return None;
+    };
+    let Some((number, rest)) = numeral_of(rest, 4) else {
+        return None;
+    };
+    let suffix = suffix_of(rest)?;
+    Some((airline, number, suffix))
+}
+
+/// The operational suffix that stands last, if there is one.
+fn suffix_of(rest: &[u8]) -> Option<Option<u8>>
+    ensures { result ≡ suffix_in rest.now }
+{
+    match rest {
+        [] => Some(None),
+        [letter] if letter.is_ascii_uppercase() => Some(Some(*letter)),
+        _ => None,
+    }
 }
 
 /// The locator that the word names: six of A to Z and 0 to 9.

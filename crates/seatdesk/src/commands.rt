@@ -12,12 +12,14 @@ use seat_files::{
     Input, Refusal, SealFile, SealOut, files_taken, is_moved, opened, standard_input,
     standard_output, taken, taken_or, told,
 };
+use seat_lists::{BookingsOf, Designator, WaitingOf, Wanted};
 use seat_loads::LoadsOf;
 use seat_open::{OpenAudit, OpenQuestion};
-use seat_questions::{Bars, BookingsOf, CityPair, Cover, RoomsOf, Why};
+use seat_questions::{Bars, CityPair, Cover, RoomsOf, Why};
 use seat_reports::{Audit, desk_check, desk_flights, desk_ladder, desk_seal};
 use seat_words::{
-    Horizon, WordFault, date_word, days_word, line_word, locator_word, pair_word, session_word,
+    Horizon, WordFault, date_word, days_word, flight_word, line_word, locator_word, pair_word,
+    session_word,
 };
 
 pub fn ladder<'a>(rt: &HostRuntime) -> Result<(), Refusal<'a>> {
@@ -100,11 +102,41 @@ pub fn bookings<'a>(
     let Some(locator) = locator_word(locator) else {
         return Err(Refusal::from(WordFault::BadLocator));
     };
+    let wanted = Wanted {
+        locators: &[locator],
+        flight: None,
+        day: None,
+    };
     asked_of(
         rt,
         over,
         days,
-        &BookingsOf { locator },
+        &BookingsOf { wanted },
+        Some(journal),
+        is_open,
+    )
+}
+
+/// Who waits, on the flights and the day that are asked for.
+pub fn waiting<'a>(
+    rt: &HostRuntime,
+    over: &Horizon<'a>,
+    flight: Option<&str>,
+    day: Option<&str>,
+    is_open: bool,
+    journal: &'a str,
+) -> Result<(), Refusal<'a>> {
+    let days = days_of(over.first, over.days)?;
+    let wanted = Wanted {
+        locators: &[],
+        flight: flight_asked(flight)?,
+        day: day_asked(day)?,
+    };
+    asked_of(
+        rt,
+        over,
+        days,
+        &WaitingOf { wanted },
         Some(journal),
         is_open,
     )
@@ -351,6 +383,20 @@ fn from_asked(from: Option<&str>) -> Result<u32, WordFault> {
         Some(word) => match line_word(word) {
             Some(line) => Ok(line),
             None => Err(WordFault::BadLine),
+        },
+    }
+}
+
+fn flight_asked(flight: Option<&str>) -> Result<Option<Designator>, WordFault> {
+    match flight {
+        None => Ok(None),
+        Some(word) => match flight_word(word) {
+            Some((airline, number, suffix)) => Ok(Some(Designator {
+                airline,
+                number,
+                suffix,
+            })),
+            None => Err(WordFault::BadFlight),
         },
     }
 }

@@ -161,6 +161,13 @@ fn carry_out<'a, T: Threads + Wait + Sync>(
             is_open,
             journal,
         } => commands::bookings(rt, over, locator, *is_open, journal)?,
+        Job::Waiting {
+            over,
+            flight,
+            day,
+            is_open,
+            journal,
+        } => commands::waiting(rt, over, *flight, *day, *is_open, journal)?,
         Job::Told {
             over,
             desk,
