@@ -62,7 +62,7 @@ run_line = leaf_line is_complete (built_leaf (with_verbose run_app).top)
 bookings_line : Yields is_complete (built_leaf (with_verbose bookings_app).top)
 unfolding bookings_app horizon_app
 bookings_line = leaf_line is_complete (built_leaf (with_verbose bookings_app).top)
-    (set_keeps _ refl refl, (set_keeps _ refl refl, (set_keeps _ refl refl, (set_keeps _ refl refl, (set_keeps _ refl refl, (flag_keeps _ refl _ refl, (set_keeps _ refl refl, (flag_keeps _ refl _ refl, (help_keeps _ refl, tt))))))))) (λ rows h. h)
+    (set_keeps _ refl refl, (set_keeps _ refl refl, (set_keeps _ refl refl, (set_keeps _ refl refl, (append_keeps _ refl refl, (set_keeps _ refl refl, (set_keeps _ refl refl, (flag_keeps _ refl _ refl, (set_keeps _ refl refl, (flag_keeps _ refl _ refl, (help_keeps _ refl, tt))))))))))) (λ rows h. h)
 
 waiting_line : Yields is_complete (built_leaf (with_verbose waiting_app).top)
 unfolding waiting_app horizon_app

@@ -14,6 +14,10 @@ required_option id = record (new_rule id) { long = Some id; required = true; val
 abbrev pub optional : Text → Rule
 optional id = record (new_rule id) { long = Some id; value_names = 1 }
 
+-- the same, which may be there more than once
+abbrev pub optional_several : Text → Rule
+optional_several id = record (optional id) { action = Some Append }
+
 -- an option without a value: it is there, or it is not
 abbrev pub flag : Text → Rule
 flag id = record (new_rule id) { long = Some id; action = Some SetTrue }
@@ -89,8 +93,10 @@ run_app = with_rule (with_rule (with_rule (with_rule (with_rule (with_rule (with
     (optional_values (codes "scripts"))
 
 unfoldable pub bookings_app : App
-bookings_app = with_rule (with_rule (with_rule (horizon_app (codes "bookings"))
-    (required_option (codes "locator")))
+bookings_app = with_rule (with_rule (with_rule (with_rule (with_rule (horizon_app (codes "bookings"))
+    (optional_several (codes "locator")))
+    (optional (codes "flight")))
+    (optional (codes "day")))
     (flag (codes "open")))
     (required_value (codes "journal"))
 

@@ -20,7 +20,7 @@ Has line id text = first_of id line.1 ≡ Some text
 abbrev pub MayHave : Line → Text → Option Text → Type 0
 MayHave line id text = first_of id line.1 ≡ text
 
--- clap found these values by their place, or none where there is none
+-- clap found these values, by their place or of an option, or none where there is none
 abbrev pub HasAny : Line → Text → List Text → Type 0
 HasAny line id texts = unwrap_or (all_of id line.1) [] ≡ texts
 
@@ -76,9 +76,11 @@ Asks (Run over after behind resume today journal changes no_clobber again script
     × HasFlag line (codes "no-clobber") no_clobber
     × HasFlag line (codes "again") again
     × HasAny line (codes "scripts") scripts
-Asks (Bookings over locator is_open journal) line = (line.0 ≡ codes "bookings")
+Asks (Bookings over locators flight day is_open journal) line = (line.0 ≡ codes "bookings")
     × IsOver line.1 over
-    × Has line (codes "locator") locator.now
+    × HasAny line (codes "locator") locators
+    × MayHave line (codes "flight") (option_map (λ text. text.now) flight)
+    × MayHave line (codes "day") (option_map (λ text. text.now) day)
     × HasFlag line (codes "open") is_open
     × Has line (codes "journal") journal.now
 Asks (Waiting over flight day is_open journal) line = (line.0 ≡ codes "waiting")
@@ -142,7 +144,7 @@ asked_values = (codes "ladder", [])
     ∷ (codes "rooms", horizon_values)
     ∷ (codes "loads", horizon_values)
     ∷ (codes "run", horizon_values ++ codes "today" ∷ codes "journal" ∷ [])
-    ∷ (codes "bookings", horizon_values ++ codes "locator" ∷ codes "journal" ∷ [])
+    ∷ (codes "bookings", horizon_values ++ codes "journal" ∷ [])
     ∷ (codes "waiting", horizon_values ++ codes "journal" ∷ [])
     ∷ (codes "audit", horizon_values ++ codes "journal" ∷ [])
     ∷ (codes "seal", horizon_values ++ codes "journal" ∷ [])

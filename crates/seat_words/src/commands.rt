@@ -1,7 +1,7 @@
 //! The commands, as clap reads them and as their help shows them.
 ghost use Rattle.std.specs.Prelude.{IfOk, IsOkAnd, codes};
 ghost use Rattle.clap.specs.Words.{AddsArg, App, new_app};
-ghost use Rattle.seat_words.specs.CommandLine.{IsBuiltAs, IsReadAlike, IsReadAs, audit_app, bare_app, bookings_app, check_app, cover_app, explain_app, flag, flights_app, horizon_app, ladder_app, lettered_flag, loads_app, named_app, optional, optional_value, optional_values, recover_app, replies_app, required_option, required_value, rooms_app, run_app, seal_app, seatdesk_app, selling_app, told_app, waiting_app, why_app, with_command, with_verbose};
+ghost use Rattle.seat_words.specs.CommandLine.{IsBuiltAs, IsReadAlike, IsReadAs, audit_app, bare_app, bookings_app, check_app, cover_app, explain_app, flag, flights_app, horizon_app, ladder_app, lettered_flag, loads_app, named_app, optional, optional_several, optional_value, optional_values, recover_app, replies_app, required_option, required_value, rooms_app, run_app, seal_app, seatdesk_app, selling_app, told_app, waiting_app, why_app, with_command, with_verbose};
 
 use clap::{Arg, ArgAction, Command};
 use std::alloc::{AllocError, Global};
@@ -99,9 +99,9 @@ const OPEN_HELP: &str =
 const OPEN_AUDIT_HELP: &str =
     "Takes a JOURNAL that is still open: its whole lines count, and it needs no END line; for a JOURNAL alone, without scripts";
 
-const FLIGHT_HELP: &str = "The flights of this name alone, as LZ601";
+const FLIGHT_HELP: &str = "The flights of this name alone, on all their days, as LZ601";
 
-const LOCATOR_HELP: &str = "The locator of the bookings: six letters and digits, as B3N6VC";
+const LOCATOR_HELP: &str = "The bookings of this locator alone: six letters and digits, as B3N6VC";
 
 const LINE_HELP: &str = "The line of the journal, counted from 1";
 
@@ -311,13 +311,18 @@ fn bookings_command<'a>(alloc: Global) -> Result<Command<'a>, AllocError>
     let bookings = horizon_command(
         alloc,
         "bookings",
-        "Writes the live bookings of a locator, in the codes of AIRIMP",
+        "Writes live bookings, of locators or of a flight, in the codes of AIRIMP",
         "Example: seatdesk bookings --set examples/summer.ssim --limits examples/limits.txt --first 2024-07-01 --days 31 --locator B3N6VC examples/journal.txt",
     );
     let bookings = with_argument(
         bookings,
-        wanted_option(alloc, "locator", "LOCATOR", LOCATOR_HELP),
+        several_option(alloc, "locator", "LOCATOR", LOCATOR_HELP),
     );
+    let bookings = with_argument(
+        bookings,
+        optional_option(alloc, "flight", "FLIGHT", FLIGHT_HELP),
+    );
+    let bookings = with_argument(bookings, optional_option(alloc, "day", "DATE", DAY_HELP));
     let bookings = with_argument(bookings, flag(alloc, "open", OPEN_HELP));
     with_argument(
         bookings,
@@ -561,6 +566,13 @@ fn optional_option<'a>(alloc: Global, id: &'a str, value: &'a str, help: &'a str
     ensures { IsReadAs (optional id.entry.now) result }
 {
     Arg::new(alloc, id).value_name(value).help(help).long(id)
+}
+
+// An option whose value may be left out, or given more than once.
+fn several_option<'a>(alloc: Global, id: &'a str, value: &'a str, help: &'a str) -> Arg<'a>
+    ensures { IsReadAs (optional_several id.entry.now) result }
+{
+    optional_option(alloc, id, value, help).action(ArgAction::Append)
 }
 
 // A value by its place, which may be left out.

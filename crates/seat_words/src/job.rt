@@ -72,10 +72,13 @@ pub enum Job<'a> {
         /// None or more.
         scripts: Several<'a>,
     },
-    /// `seatdesk bookings` over a horizon `--locator LOCATOR [--open] JOURNAL`
+    /// `seatdesk bookings` over a horizon `[--locator LOCATOR]... [--flight FLIGHT] [--day DATE] [--open] JOURNAL`
     Bookings {
         over: Horizon<'a>,
-        locator: &'a str,
+        /// None or more.
+        locators: Several<'a>,
+        flight: Option<&'a str>,
+        day: Option<&'a str>,
         is_open: bool,
         journal: &'a str,
     },
@@ -245,7 +248,9 @@ fn job_named<'a>(alloc: Global, name: &str, matches: &ArgMatches<'a>) -> Result<
         },
         "bookings" => Job::Bookings {
             over: horizon_of(matches),
-            locator: value_of(matches, "locator"),
+            locators: any_values_of(alloc, matches, "locator")?,
+            flight: may_value_of(matches, "flight"),
+            day: may_value_of(matches, "day"),
             is_open: flag_of(matches, "open"),
             journal: value_of(matches, "journal"),
         },

@@ -5,7 +5,7 @@ ghost use Rattle.clap.specs.Walk.{texts};
 use std::alloc::{AllocError, Global};
 use std::marker::Model;
 
-/// The values by one place, in the order of the words.
+/// The values by one place or of one option, in the order of the words.
 #[derive(Drop)]
 pub struct Several<'a> {
     values: Vec<&'a str>,

@@ -5,9 +5,9 @@ ghost use Rattle.ssim_flights.specs.Right.{IsOfCentury};
 
 use crate::locale::is_utf_8;
 use crate::replaced::tell_replaced;
-use airline_base::Day;
+use airline_base::{Day, Locator};
 use desk_questions::ToldOf;
-use seat_desk::{Inputs, NO_LINES, Question, answer_question};
+use seat_desk::{DeskFault, Inputs, NO_LINES, Question, answer_question};
 use seat_files::{
     Input, Refusal, SealFile, SealOut, files_taken, is_moved, opened, standard_input,
     standard_output, taken, taken_or, told,
@@ -21,6 +21,7 @@ use seat_words::{
     Horizon, WordFault, date_word, days_word, flight_word, line_word, locator_word, pair_word,
     session_word,
 };
+use std::alloc::Global;
 
 pub fn ladder<'a>(rt: &HostRuntime) -> Result<(), Refusal<'a>> {
     let mut input = standard_input(rt);
@@ -91,21 +92,22 @@ pub fn loads<'a>(
     asked_of(rt, over, days, &asked, journal, is_open)
 }
 
+/// The live bookings of the locators, the flights and the day that are asked for.
 pub fn bookings<'a>(
     rt: &HostRuntime,
     over: &Horizon<'a>,
-    locator: &str,
+    locators: &[&str],
+    flight: Option<&str>,
+    day: Option<&str>,
     is_open: bool,
     journal: &'a str,
 ) -> Result<(), Refusal<'a>> {
     let days = days_of(over.first, over.days)?;
-    let Some(locator) = locator_word(locator) else {
-        return Err(Refusal::from(WordFault::BadLocator));
-    };
+    let locators = locators_asked(rt.alloc(), locators)?;
     let wanted = Wanted {
-        locators: &[locator],
-        flight: None,
-        day: None,
+        locators: locators.as_slice(),
+        flight: flight_asked(flight)?,
+        day: day_asked(day)?,
     };
     asked_of(
         rt,
@@ -385,6 +387,19 @@ fn from_asked(from: Option<&str>) -> Result<u32, WordFault> {
             None => Err(WordFault::BadLine),
         },
     }
+}
+
+fn locators_asked<'a>(alloc: Global, words: &[&str]) -> Result<Vec<Locator>, Refusal<'a>> {
+    let mut locators = Vec::new(alloc);
+    for word in words {
+        let Some(locator) = locator_word(word) else {
+            return Err(Refusal::from(WordFault::BadLocator));
+        };
+        if locators.push(locator).is_err() {
+            return Err(Refusal::from(DeskFault::Memory));
+        }
+    }
+    Ok(locators)
 }
 
 fn flight_asked(flight: Option<&str>) -> Result<Option<Designator>, WordFault> {

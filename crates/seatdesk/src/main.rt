@@ -157,10 +157,15 @@ fn carry_out<'a, T: Threads + Wait + Sync>(
         } => commands::loads(rt, over, *day, *pair, *is_open, *journal)?,
         Job::Bookings {
             over,
-            locator,
+            locators,
+            flight,
+            day,
             is_open,
             journal,
-        } => commands::bookings(rt, over, locator, *is_open, journal)?,
+        } => {
+            let locators = locators.as_slice();
+            commands::bookings(rt, over, locators, *flight, *day, *is_open, journal)?
+        }
         Job::Waiting {
             over,
             flight,
