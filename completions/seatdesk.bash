@@ -15,7 +15,7 @@ _seatdesk() {
     esac
     for ((i = 1; i < COMP_CWORD; i++)); do
         case ${COMP_WORDS[i]} in
-        ladder | check | flights | cover | rooms | loads | run | bookings | audit | seal | recover | replies | told | why | explain | help)
+        ladder | check | flights | cover | rooms | loads | run | bookings | waiting | history | audit | seal | recover | replies | told | why | explain | help)
             command=${COMP_WORDS[i]}
             break
             ;;
@@ -23,7 +23,7 @@ _seatdesk() {
     done
     case $command in
     '')
-        words='ladder check flights cover rooms loads run bookings audit seal recover replies told why explain help -v --verbose -h --help -V --version'
+        words='ladder check flights cover rooms loads run bookings waiting history audit seal recover replies told why explain help -v --verbose -h --help -V --version'
         files=''
         values=''
         place=''
@@ -71,6 +71,18 @@ _seatdesk() {
         place='files'
         ;;
     bookings)
+        words='--set --limits --first --days --locator --flight --day --open -v --verbose -h --help'
+        files='--set --limits'
+        values='--first --days --locator --flight --day'
+        place='files'
+        ;;
+    waiting)
+        words='--set --limits --first --days --flight --day --open -v --verbose -h --help'
+        files='--set --limits'
+        values='--first --days --flight --day'
+        place='files'
+        ;;
+    history)
         words='--set --limits --first --days --locator --open -v --verbose -h --help'
         files='--set --limits'
         values='--first --days --locator'
@@ -114,14 +126,14 @@ _seatdesk() {
         ;;
     explain)
         words='A1 A2 A3 A4 A5 A6 A7 A8 A9 B1 C1 DEVICE E1 E2 F1 F2 F3 F4 F5 F6 F7 F8 F9 H1 H2 J1 J2 J3 J4 L1 L2 L3 L4 M1 M2 M3 M4 M5 M6 M7 MEMORY P1 P2 P3 P4 P5 P6 P7 P8 Q1 Q2 Q3 R2 S1 S2 S3 S4 S5 S6 S7 S8 S9 S10 S11 S12 S13 S14 S15 SEAL U1 -v --verbose -h --help'
-        [ "$before" != E2 ] || words='behind day days desk first journal line locator pair script session today words'
+        [ "$before" != E2 ] || words='behind day days desk first flight journal line locator pair script session today words'
         [ "$before" != SEAL ] || words='again behind days first form journal limits none runs set'
         files=''
         values=''
         place=''
         ;;
     help)
-        words='ladder check flights cover rooms loads run bookings audit seal recover replies told why explain'
+        words='ladder check flights cover rooms loads run bookings waiting history audit seal recover replies told why explain'
         files=''
         values=''
         place=''

@@ -9,4 +9,4 @@ mod telling;
 
 pub use lines::segment_text;
 pub use segment::segment_of;
-pub use telling::{put_told, put_told_behind};
+pub use telling::{line_numbered, put_told, put_told_behind};

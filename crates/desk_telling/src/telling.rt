@@ -170,7 +170,7 @@ fn made_by(journal: &[Entry], desk: u8, number: u32) -> Option<Command>
 }
 
 /// The line of a number, counted from 1.
-fn line_numbered(journal: &[Entry], number: u32) -> Option<&Entry>
+pub fn line_numbered(journal: &[Entry], number: u32) -> Option<&Entry>
     ensures found { IfSome result (λ line. line_numbered journal.now number ≡ Some line.now) }
     ensures none { IfNone result (line_numbered journal.now number ≡ None) }
 {

@@ -6,7 +6,7 @@ use Rattle.std.specs.Option.{option_map, option_map_or}
 use Rattle.clap.specs.Words.{Row, Text, all_of, first_of}
 use Rattle.seat_words.specs.declared.job.Horizon.{Horizon}
 use Rattle.seat_words.specs.declared.job.Job.{Job}
-use Rattle.seat_words.specs.declared.job.Job.TheVariants.{Ladder, Check, Flights, Cover, Rooms, Loads, Run, Bookings, Waiting, Audit, Seal, Recover, Replies, Told, Why, Explain}
+use Rattle.seat_words.specs.declared.job.Job.TheVariants.{Ladder, Check, Flights, Cover, Rooms, Loads, Run, Bookings, Waiting, History, Audit, Seal, Recover, Replies, Told, Why, Explain}
 
 -- a command that clap found in the words, and what it found of the command's values
 abbrev pub Line : Type 0
@@ -89,6 +89,11 @@ Asks (Waiting over flight day is_open journal) line = (line.0 ≡ codes "waiting
     × MayHave line (codes "day") (option_map (λ text. text.now) day)
     × HasFlag line (codes "open") is_open
     × Has line (codes "journal") journal.now
+Asks (History over locator is_open journal) line = (line.0 ≡ codes "history")
+    × IsOver line.1 over
+    × Has line (codes "locator") locator.now
+    × HasFlag line (codes "open") is_open
+    × Has line (codes "journal") journal.now
 Asks (Audit over after behind today sealed is_open journal scripts) line = (line.0 ≡ codes "audit")
     × IsOver line.1 over
     × MayHave line (codes "after") (option_map (λ text. text.now) after)
@@ -146,6 +151,7 @@ asked_values = (codes "ladder", [])
     ∷ (codes "run", horizon_values ++ codes "today" ∷ codes "journal" ∷ [])
     ∷ (codes "bookings", horizon_values ++ codes "journal" ∷ [])
     ∷ (codes "waiting", horizon_values ++ codes "journal" ∷ [])
+    ∷ (codes "history", horizon_values ++ codes "locator" ∷ codes "journal" ∷ [])
     ∷ (codes "audit", horizon_values ++ codes "journal" ∷ [])
     ∷ (codes "seal", horizon_values ++ codes "journal" ∷ [])
     ∷ (codes "recover", horizon_values ++ codes "journal" ∷ [])

@@ -1,7 +1,7 @@
 //! The commands, as clap reads them and as their help shows them.
 ghost use Rattle.std.specs.Prelude.{IfOk, IsOkAnd, codes};
 ghost use Rattle.clap.specs.Words.{AddsArg, App, new_app};
-ghost use Rattle.seat_words.specs.CommandLine.{IsBuiltAs, IsReadAlike, IsReadAs, audit_app, bare_app, bookings_app, check_app, cover_app, explain_app, flag, flights_app, horizon_app, ladder_app, lettered_flag, loads_app, named_app, optional, optional_several, optional_value, optional_values, recover_app, replies_app, required_option, required_value, rooms_app, run_app, seal_app, seatdesk_app, selling_app, told_app, waiting_app, why_app, with_command, with_verbose};
+ghost use Rattle.seat_words.specs.CommandLine.{IsBuiltAs, IsReadAlike, IsReadAs, audit_app, bare_app, bookings_app, check_app, cover_app, explain_app, flag, flights_app, history_app, horizon_app, ladder_app, lettered_flag, loads_app, named_app, optional, optional_several, optional_value, optional_values, recover_app, replies_app, required_option, required_value, rooms_app, run_app, seal_app, seatdesk_app, selling_app, told_app, waiting_app, why_app, with_command, with_verbose};
 
 use clap::{Arg, ArgAction, Command};
 use std::alloc::{AllocError, Global};
@@ -101,6 +101,8 @@ const OPEN_AUDIT_HELP: &str =
 
 const FLIGHT_HELP: &str = "The flights of this name alone, on all their days, as LZ601";
 
+const HISTORY_LOCATOR_HELP: &str = "The locator: six letters and digits, as W8Y3ZA";
+
 const LOCATOR_HELP: &str = "The bookings of this locator alone: six letters and digits, as B3N6VC";
 
 const LINE_HELP: &str = "The line of the journal, counted from 1";
@@ -123,6 +125,7 @@ pub(crate) fn seatdesk_command<'a>(alloc: Global) -> Result<Command<'a>, AllocEr
     let program = selling_command(alloc);
     let program = with_command(alloc, program, bookings_command(alloc));
     let program = with_command(alloc, program, waiting_command(alloc));
+    let program = with_command(alloc, program, history_command(alloc));
     let program = with_command(alloc, program, audit_command(alloc));
     let program = with_command(alloc, program, seal_command(alloc));
     let program = with_command(alloc, program, recover_command(alloc));
@@ -347,6 +350,26 @@ fn waiting_command<'a>(alloc: Global) -> Result<Command<'a>, AllocError>
     let waiting = with_argument(waiting, flag(alloc, "open", OPEN_HELP));
     with_argument(
         waiting,
+        wanted_value(alloc, "journal", "JOURNAL", JOURNAL_HELP),
+    )
+}
+
+fn history_command<'a>(alloc: Global) -> Result<Command<'a>, AllocError>
+    ensures { IfOk result (IsBuiltAs history_app) }
+{
+    let history = horizon_command(
+        alloc,
+        "history",
+        "Writes what the lines of a journal did for a locator, each with its reply",
+        "Example: seatdesk history --set examples/summer.ssim --limits examples/limits.txt --first 2024-07-01 --days 31 --locator W8Y3ZA examples/journal.txt",
+    );
+    let history = with_argument(
+        history,
+        wanted_option(alloc, "locator", "LOCATOR", HISTORY_LOCATOR_HELP),
+    );
+    let history = with_argument(history, flag(alloc, "open", OPEN_HELP));
+    with_argument(
+        history,
         wanted_value(alloc, "journal", "JOURNAL", JOURNAL_HELP),
     )
 }

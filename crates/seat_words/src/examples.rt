@@ -119,6 +119,15 @@ pub fn examples_are_read()
         ∷ (codes "journal", codes "examples/journal.txt" ∷ [])
         ∷ (codes "open", codes "false" ∷ [])
         ∷ (codes "verbose", codes "false" ∷ []) ∷ []) }
+    ensures history { IsReadTo
+        (codes "seatdesk history --set examples/summer.ssim --limits examples/limits.txt --first 2024-07-01 --days 31 --locator W8Y3ZA examples/journal.txt")
+        (codes "history")
+        ((codes "set", codes "examples/summer.ssim" ∷ []) ∷ (codes "limits", codes "examples/limits.txt" ∷ [])
+        ∷ (codes "first", codes "2024-07-01" ∷ []) ∷ (codes "days", codes "31" ∷ [])
+        ∷ (codes "locator", codes "W8Y3ZA" ∷ [])
+        ∷ (codes "journal", codes "examples/journal.txt" ∷ [])
+        ∷ (codes "open", codes "false" ∷ [])
+        ∷ (codes "verbose", codes "false" ∷ []) ∷ []) }
     ensures told { IsReadTo
         (codes "seatdesk told --set examples/summer.ssim --limits examples/limits.txt --first 2024-07-01 --days 31 --desk 2 examples/journal.txt")
         (codes "told")

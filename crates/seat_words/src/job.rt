@@ -90,6 +90,13 @@ pub enum Job<'a> {
         is_open: bool,
         journal: &'a str,
     },
+    /// `seatdesk history` over a horizon `--locator LOCATOR [--open] JOURNAL`
+    History {
+        over: Horizon<'a>,
+        locator: &'a str,
+        is_open: bool,
+        journal: &'a str,
+    },
     /// `seatdesk audit` over a horizon `[--after JOURNAL] [--behind N] [--today DATE] [--sealed] [--open] JOURNAL [SCRIPT...]`
     Audit {
         over: Horizon<'a>,
@@ -258,6 +265,12 @@ fn job_named<'a>(alloc: Global, name: &str, matches: &ArgMatches<'a>) -> Result<
             over: horizon_of(matches),
             flight: may_value_of(matches, "flight"),
             day: may_value_of(matches, "day"),
+            is_open: flag_of(matches, "open"),
+            journal: value_of(matches, "journal"),
+        },
+        "history" => Job::History {
+            over: horizon_of(matches),
+            locator: value_of(matches, "locator"),
             is_open: flag_of(matches, "open"),
             journal: value_of(matches, "journal"),
         },

@@ -6,7 +6,7 @@ ghost use Rattle.ssim_flights.specs.Right.{IsOfCentury};
 use crate::locale::is_utf_8;
 use crate::replaced::tell_replaced;
 use airline_base::{Day, Locator};
-use desk_questions::ToldOf;
+use desk_questions::{HistoryOf, ToldOf};
 use seat_desk::{DeskFault, Inputs, NO_LINES, Question, answer_question};
 use seat_files::{
     Input, Refusal, SealFile, SealOut, files_taken, is_moved, opened, standard_input,
@@ -139,6 +139,28 @@ pub fn waiting<'a>(
         over,
         days,
         &WaitingOf { wanted },
+        Some(journal),
+        is_open,
+    )
+}
+
+/// What the lines of a journal did for a locator.
+pub fn history<'a>(
+    rt: &HostRuntime,
+    over: &Horizon<'a>,
+    locator: &str,
+    is_open: bool,
+    journal: &'a str,
+) -> Result<(), Refusal<'a>> {
+    let days = days_of(over.first, over.days)?;
+    let Some(locator) = locator_word(locator) else {
+        return Err(Refusal::from(WordFault::BadLocator));
+    };
+    asked_of(
+        rt,
+        over,
+        days,
+        &HistoryOf { locator },
         Some(journal),
         is_open,
     )

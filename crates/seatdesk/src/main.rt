@@ -173,6 +173,12 @@ fn carry_out<'a, T: Threads + Wait + Sync>(
             is_open,
             journal,
         } => commands::waiting(rt, over, *flight, *day, *is_open, journal)?,
+        Job::History {
+            over,
+            locator,
+            is_open,
+            journal,
+        } => commands::history(rt, over, locator, *is_open, journal)?,
         Job::Told {
             over,
             desk,
