@@ -59,9 +59,9 @@ _seatdesk() {
         place='files'
         ;;
     loads)
-        words='--set --limits --first --days --day --pair --open -v --verbose -h --help'
+        words='--set --limits --first --days --flight --day --pair --bars --open -v --verbose -h --help'
         files='--set --limits'
-        values='--first --days --day --pair'
+        values='--first --days --flight --day --pair'
         place='files'
         ;;
     run)

@@ -3,8 +3,9 @@ use Rattle.std.proofs.Common.{arith, Bool, true, false, ◌≡◌, ℕ, ◌+◌,
 use Rattle.std.proofs.Math.ListN.{drop_of_length-le}
 use Rattle.ssim_flights.proofs.Walks.{drop_step}
 use Rattle.seat_questions.proofs.Common.{DatedLeg, Flight, State}
+use Rattle.seat_lists.specs.Picking.{keeps_flight}
 use Rattle.seat_loads.specs.Legs.{held_on, is_kept, limit_on}
-use Rattle.seat_loads.specs.Sums.{AddUp, AreFewLegs, AreLegSums, IsLegSum, IsLegSumOfFlight, on_flight, on_leg, one, over_legs, sum_from}
+use Rattle.seat_loads.specs.Sums.{AddUp, AreFewLegs, AreLegSums, IsLegSum, IsLegSumOfFlight, IsLegSumOfLegs, on_flight, on_leg, on_legs, one, over_legs, sum_from}
 use Rattle.seat_loads.specs.declared.loads.LoadsOf.{LoadsOf}
 use Rattle.seat_loads.specs.declared.sums.LegSums.{LegSums}
 
@@ -102,7 +103,7 @@ leg_more asked s i all j leg sums more new before inside is one_more added = rec
 
 pub all_of_flight : (asked : LoadsOf) (s : State) (i : ℕ) (flight : Flight) (all : List DatedLeg) (j : ℕ) (sums : LegSums)
     → all ≡ flight.legs → LegsSoFar asked s i all j sums → j ≤ length all → length all ≤ j → length flight.legs ≤ 8
-    → IsLegSumOfFlight asked s i flight sums
+    → IsLegSumOfLegs asked s i flight sums
 all_of_flight asked s i flight all j sums same so_far below over few =
     let eight : length all ≤ 8 = subst (λ (l : List DatedLeg). length l ≤ 8) (sym same) few in
     record {
@@ -113,6 +114,34 @@ all_of_flight asked s i flight all j sums same so_far below over few =
       few_seats = omega (arith, so_far.few_seats, below, eight);
       few_limits = omega (arith, so_far.few_limits, below, eight);
     }
+
+-- a flight that is kept, and one that is not
+pub kept_flight : (asked : LoadsOf) (s : State) (i : ℕ) (flight : Flight) (sums : LegSums)
+    → keeps_flight asked.flight flight ≡ true → IsLegSumOfLegs asked s i flight sums → IsLegSumOfFlight asked s i flight sums
+kept_flight asked s i flight sums e is = record {
+  legs = is.legs ∙ sym (kept one);
+  seats = is.seats ∙ sym (kept (held_on s));
+  limits = is.limits ∙ sym (kept (limit_on s));
+  few_legs = is.few_legs;
+  few_seats = is.few_seats;
+  few_limits = is.few_limits;
+} where
+  kept : (count : ℕ → ℕ → ℕ) → on_flight asked count i flight ≡ on_legs asked count i flight
+  kept count = ap (λ (b : Bool). if b then on_legs asked count i flight else 0) e
+
+pub left_flight : (asked : LoadsOf) (s : State) (i : ℕ) (flight : Flight) (sums : LegSums)
+    → keeps_flight asked.flight flight ≡ false → sums.legs ≡ 0 → sums.seats ≡ 0 → sums.limits ≡ 0
+    → IsLegSumOfFlight asked s i flight sums
+left_flight asked s i flight sums e legs seats limits = record {
+  legs = legs ∙ sym (none one);
+  seats = seats ∙ sym (none (held_on s));
+  limits = limits ∙ sym (none (limit_on s));
+  few_legs = omega (arith, legs);
+  few_seats = omega (arith, seats);
+  few_limits = omega (arith, limits);
+} where
+  none : (count : ℕ → ℕ → ℕ) → on_flight asked count i flight ≡ 0
+  none count = ap (λ (b : Bool). if b then on_legs asked count i flight else 0) e
 
 -- ---- all flights
 

@@ -1,5 +1,5 @@
 -- The lines of legs, and the text of all of them.
-use Rattle.std.proofs.Common.{arith, Bool, true, false, ◌≡◌, ℕ, ◌+◌, ◌<◌, List, [], ◌∷◌, ◌++◌, length, drop, get_or, refl, sym, ap, ◌∙◌, subst, append_assoc, codes}
+use Rattle.std.proofs.Common.{arith, Bool, true, false, ◌≡◌, ℕ, ◌+◌, ◌<◌, List, [], ◌∷◌, ◌++◌, length, drop, get_or, refl, sym, ap, ◌∙◌, subst, append_assoc, codes, Option}
 use Rattle.std.specs.List.{flat_map}
 use Rattle.std.proofs.lemmas.List.{append-nil}
 use Rattle.seat_questions.proofs.Common.{DatedLeg, Flight, Fits, Ladders, Steps, Entry, replay, State, IsLegText}
@@ -7,10 +7,14 @@ use Rattle.seat_nesting.specs.Nesting.{ByClass, held_from, ladder_at, legs_of}
 use Rattle.seat_nesting.specs.declared.ladder.Step.{Step}
 use Rattle.seat_rules.specs.Inventory.{Inventory, state_now}
 use Rattle.seat_desk.specs.AuditDesk.{IsReplayOf}
-use Rattle.seat_desk.specs.FlightsDesk.{IsText, head_text}
+use Rattle.seat_desk.specs.FlightsDesk.{IsPut, IsText, head_text}
+use Rattle.seat_questions.specs.Rooms.{bars_text}
 use Rattle.seat_questions.specs.Why.{one_leg}
+use Rattle.seat_questions.specs.declared.rooms.Bars.{Bars}
+use Rattle.airline_base.specs.declared.place.Place.{Place}
+use Rattle.seat_lists.specs.Picking.{keeps_flight}
 use Rattle.seat_loads.specs.Legs.{is_kept, load_text, load_texts, standing_text}
-use Rattle.seat_loads.specs.Loads.{AreLoadsAfter, IsFlightPart, IsLegLine, IsLegPart, IsLegPartBy, IsLoadsText, IsPutBehind}
+use Rattle.seat_loads.specs.Loads.{AreLoadsAfter, IsFlightPart, IsFlightPartBy, IsLegLine, IsLegPart, IsLegPartBy, IsLoadsText, IsPutBehind}
 use Rattle.seat_loads.specs.Sums.{AreSums, sums_text}
 use Rattle.seat_loads.specs.declared.loads.LoadsOf.{LoadsOf}
 use Rattle.seat_loads.specs.declared.sums.Sums.{Sums}
@@ -40,35 +44,58 @@ pub leg_left : (asked : LoadsOf) (s : State) (i : ℕ) (flight : Flight) (j : �
     → is_kept asked leg ≡ false → IsPutBehind (IsLegPart asked s i flight j leg) text text
 leg_left asked s i flight j leg text e = record {
   part = [];
-  is_part = subst (λ (b : Bool). IsLegPartBy b s i flight j leg []) (sym e) refl;
+  is_part = subst (λ (b : Bool). IsLegPartBy b asked.bars s i flight j leg []) (sym e) refl;
   written = sym (append-nil text);
 }
 
 pub leg_kept : (asked : LoadsOf) (s : State) (i : ℕ) (flight : Flight) (j : ℕ) (leg : DatedLeg) (old new : List ℕ)
-    → is_kept asked leg ≡ true → IsPutBehind (IsLegLine s i flight j leg) old new
+    → is_kept asked leg ≡ true → IsPutBehind (IsLegLine asked.bars s i flight j leg) old new
     → IsPutBehind (IsLegPart asked s i flight j leg) old new
 leg_kept asked s i flight j leg old new e put = record {
   part = put.part;
-  is_part = subst (λ (b : Bool). IsLegPartBy b s i flight j leg put.part) (sym e) put.is_part;
+  is_part = subst (λ (b : Bool). IsLegPartBy b asked.bars s i flight j leg put.part) (sym e) put.is_part;
+  written = put.written;
+}
+
+pub flight_left : (asked : LoadsOf) (s : State) (i : ℕ) (flight : Flight) (text : List ℕ)
+    → keeps_flight asked.flight flight ≡ false → IsPutBehind (IsFlightPart asked s i flight) text text
+flight_left asked s i flight text e = record {
+  part = [];
+  is_part = subst (λ (b : Bool). IsFlightPartBy b asked s i flight []) (sym e) refl;
+  written = sym (append-nil text);
+}
+
+pub flight_kept : (asked : LoadsOf) (s : State) (i : ℕ) (flight : Flight) (old new : List ℕ)
+    → keeps_flight asked.flight flight ≡ true → IsPut (IsLegPart asked s i flight) 0 flight.legs old new
+    → IsPutBehind (IsFlightPart asked s i flight) old new
+flight_kept asked s i flight old new e put = record {
+  part = put.part;
+  is_part = subst (λ (b : Bool). IsFlightPartBy b asked s i flight put.part) (sym e) put.is_text;
   written = put.written;
 }
 
 assoc_four : (o a b c d : List ℕ) → (((o ++ a) ++ b) ++ c) ++ d ≡ o ++ (a ++ b ++ c ++ d)
 assoc_four o a b c d = simp append_assoc
 
-pub leg_put : (s : State) (i : ℕ) (flight : Flight) (j : ℕ) (leg : DatedLeg) (old a b c new : List ℕ)
+pub leg_put : (bars : Option Bars) (s : State) (i : ℕ) (flight : Flight) (j : ℕ) (leg : DatedLeg) (place : Place)
+    (old a b c d new : List ℕ)
     → a ≡ old ++ head_text i flight → (way : List ℕ) × IsLegText 0 leg way × (b ≡ a ++ way)
-    → c ≡ b ++ standing_text s i j → new ≡ c ++ 10 ∷ []
-    → IsPutBehind (IsLegLine s i flight j leg) old new
-leg_put s i flight j leg old a b c new is_a way is_c is_new =
+    → c ≡ b ++ standing_text s i j → d ≡ c ++ 10 ∷ [] → new ≡ d ++ bars_text bars s place → place ≡ one_leg i j
+    → IsPutBehind (IsLegLine bars s i flight j leg) old new
+leg_put bars s i flight j leg place old a b c d new is_a way is_c is_d is_new here =
     let feed : List ℕ = 10 ∷ [] in
+    let line : List ℕ = head_text i flight ++ way.0 ++ standing_text s i j ++ feed in
+    let lined : d ≡ old ++ line =
+    is_d ∙ ap (λ (l : List ℕ). l ++ feed)
+    (is_c ∙ ap (λ (l : List ℕ). l ++ standing_text s i j) (way.2 ∙ ap (λ (l : List ℕ). l ++ way.0) is_a))
+    ∙ assoc_four old (head_text i flight) way.0 (standing_text s i j) feed in
     record {
-      part = head_text i flight ++ way.0 ++ standing_text s i j ++ feed;
+      part = line ++ bars_text bars s (one_leg i j);
       is_part = record { way = way.0; is_way = way.1; written = refl };
       written =
-          is_new ∙ ap (λ (l : List ℕ). l ++ feed)
-          (is_c ∙ ap (λ (l : List ℕ). l ++ standing_text s i j) (way.2 ∙ ap (λ (l : List ℕ). l ++ way.0) is_a))
-          ∙ assoc_four old (head_text i flight) way.0 (standing_text s i j) feed;
+          is_new ∙ ap (λ (p : Place). d ++ bars_text bars s p) here
+          ∙ ap (λ (l : List ℕ). l ++ bars_text bars s (one_leg i j)) lined
+          ∙ append_assoc old line (bars_text bars s (one_leg i j));
     }
 
 -- a leg that is there fits the grid alone

@@ -1,10 +1,13 @@
 -- Passengers over flights, over the bookings of a flight, and over the legs of a booking.
-use Rattle.std.proofs.Common.{arith, Bool, true, false, ◌≡◌, ◌&&◌, ◌||◌, ℕ, ◌+◌, ◌*◌, ◌≤◌, ◌<◌, List, [], ◌∷◌, length, drop, get_or, refl, sym, ap, ◌∙◌, subst}
+use Rattle.std.proofs.Common.{arith, Bool, true, false, ◌≡◌, ◌&&◌, ◌||◌, ℕ, ◌+◌, ◌*◌, ◌≤◌, ◌<◌, List, [], ◌∷◌, length, drop, get_or, refl, sym, ap, ◌∙◌, subst, if◌then◌else◌}
 use Rattle.std.proofs.Math.ListN.{drop_of_length-le}
 use Rattle.ssim_flights.proofs.Walks.{drop_step}
 use Rattle.seat_questions.proofs.Common.{Booking, DatedLeg, Flight, State}
 use Rattle.seat_rules.specs.Bookings.{is_held, is_waiting}
-use Rattle.seat_loads.specs.Sums.{AreRiders, AreRidersOn, is_on, meets, most_riders, riders_of, riders_on, sum_from}
+use Rattle.seat_rules.specs.Flights.{bookings_on}
+use Rattle.seat_rules.specs.declared.booking.Status.{Status}
+use Rattle.seat_lists.specs.Picking.{keeps_flight}
+use Rattle.seat_loads.specs.Sums.{AreRiders, AreRidersOn, is_on, meets, most_riders, riders_of, riders_on, seats_among, sum_from}
 use Rattle.seat_loads.specs.declared.loads.LoadsOf.{LoadsOf}
 use Rattle.seat_loads.specs.declared.passengers.Riders.{Riders}
 use Rattle.seat_loads.proofs.Adding.{sum_more, sum_none, sum_whole}
@@ -47,6 +50,39 @@ all_riders asked s flights i count riders so_far counted over =
       held = sum_whole (riders_on asked is_held s) i flights riders.held _ so_far.held past;
       waiting = sum_whole (riders_on asked is_waiting s) i flights riders.waiting _ so_far.waiting past;
     }
+
+-- a flight that is not kept, and one that is
+pub left_riders : (asked : LoadsOf) (s : State) (i : ℕ) (flight : Flight) (riders : Riders)
+    → keeps_flight asked.flight flight ≡ false → riders.held ≡ 0 → riders.waiting ≡ 0 → AreRidersOn asked s i flight riders
+left_riders asked s i flight riders e held waiting = record {
+  held = held ∙ sym (none is_held);
+  waiting = waiting ∙ sym (none is_waiting);
+  few_held = omega (arith, held);
+  few_waiting = omega (arith, waiting);
+} where
+  none : (test : Status → Bool) → riders_on asked test s i flight ≡ 0
+  none test = ap (λ (b : Bool). if b then seats_among asked test flight.legs (bookings_on i s.bookings) else 0) e
+
+pub kept_riders : (asked : LoadsOf) (s : State) (i : ℕ) (flight : Flight) (riders : Riders) (legs : List DatedLeg)
+    (bookings : List Booking) → keeps_flight asked.flight flight ≡ true → legs ≡ flight.legs
+    → bookings ≡ bookings_on i s.bookings
+    → riders.held ≡ seats_among asked is_held legs bookings → riders.held ≤ most_riders
+    → riders.waiting ≡ seats_among asked is_waiting legs bookings → riders.waiting ≤ most_riders
+    → AreRidersOn asked s i flight riders
+kept_riders asked s i flight riders legs bookings e same own held few_held waiting few_waiting = record {
+  held = held ∙ these is_held ∙ sym (kept is_held);
+  waiting = waiting ∙ these is_waiting ∙ sym (kept is_waiting);
+  few_held = few_held;
+  few_waiting = few_waiting;
+} where
+  kept : (test : Status → Bool)
+      → riders_on asked test s i flight ≡ seats_among asked test flight.legs (bookings_on i s.bookings)
+  kept test = ap (λ (b : Bool). if b then seats_among asked test flight.legs (bookings_on i s.bookings) else 0) e
+
+  these : (test : Status → Bool)
+      → seats_among asked test legs bookings ≡ seats_among asked test flight.legs (bookings_on i s.bookings)
+  these test =
+      ap (λ (l : List DatedLeg). seats_among asked test l bookings) same ∙ ap (seats_among asked test flight.legs) own
 
 -- ---- the legs of a booking
 

@@ -10,7 +10,7 @@ use Rattle.seat_questions.specs.Rooms.{keeps_day, keeps_pair}
 use Rattle.seat_questions.specs.Why.{class_text, room_text, wait_text}
 use Rattle.seat_loads.specs.declared.loads.LoadsOf.{LoadsOf}
 
--- the leg is asked for
+-- the leg is asked for, on a flight that is
 abbrev pub is_kept : LoadsOf → DatedLeg → Bool
 is_kept asked leg = keeps_day asked.day leg.day && keeps_pair asked.pair leg
 

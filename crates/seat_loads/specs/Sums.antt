@@ -9,6 +9,7 @@ use Rattle.seat_rules.specs.Sequential.{State}
 use Rattle.seat_rules.specs.declared.booking.Booking.{Booking}
 use Rattle.seat_rules.specs.declared.booking.Status.{Status}
 use Rattle.seat_questions.specs.Why.{has_leg}
+use Rattle.seat_lists.specs.Picking.{keeps_flight}
 use Rattle.seat_loads.specs.Legs.{is_kept, held_on, limit_on, share_text}
 use Rattle.seat_loads.specs.declared.loads.LoadsOf.{LoadsOf}
 use Rattle.seat_loads.specs.declared.passengers.Riders.{Riders}
@@ -26,9 +27,12 @@ sum_from count i (x ∷ xs) = count i x + sum_from count (i + 1) xs
 abbrev pub on_leg : LoadsOf → (ℕ → ℕ → ℕ) → ℕ → ℕ → DatedLeg → ℕ
 on_leg asked count i j leg = (if is_kept asked leg then count i j else 0)
 
--- over the kept legs of a flight, and of all flights
+-- over the kept legs of a flight, where the flight is kept, and of all flights
+abbrev pub on_legs : LoadsOf → (ℕ → ℕ → ℕ) → ℕ → Flown → ℕ
+on_legs asked count i flight = sum_from (on_leg asked count i) 0 flight.legs
+
 abbrev pub on_flight : LoadsOf → (ℕ → ℕ → ℕ) → ℕ → Flown → ℕ
-on_flight asked count i flight = sum_from (on_leg asked count i) 0 flight.legs
+on_flight asked count i flight = (if keeps_flight asked.flight flight then on_legs asked count i flight else 0)
 
 abbrev pub over_legs : LoadsOf → (ℕ → ℕ → ℕ) → List Flown → ℕ
 over_legs asked count flights = sum_from (on_flight asked count) 0 flights
@@ -55,9 +59,10 @@ rides asked counts legs b = (if counts && is_on asked b 0 legs then b.seats else
 abbrev pub seats_among : LoadsOf → (Status → Bool) → List DatedLeg → List Booking → ℕ
 seats_among asked test legs bookings = sum_by (λ b. rides asked (test b.status) legs b) bookings
 
--- of a flight's own bookings
+-- of a flight's own bookings, where the flight is kept
 abbrev pub riders_on : LoadsOf → (Status → Bool) → State → ℕ → Flown → ℕ
-riders_on asked test s i flight = seats_among asked test flight.legs (bookings_on i s.bookings)
+riders_on asked test s i flight =
+    (if keeps_flight asked.flight flight then seats_among asked test flight.legs (bookings_on i s.bookings) else 0)
 
 abbrev pub riders_of : LoadsOf → (Status → Bool) → State → List Flown → ℕ
 riders_of asked test s flights = sum_from (riders_on asked test s) 0 flights
@@ -96,7 +101,16 @@ pub record IsLegSum (asked : LoadsOf) (s : State) (i j : ℕ) (leg : DatedLeg) (
   pub few_seats : sums.seats ≤ 65535
   pub few_limits : sums.limits ≤ 65535
 
--- a flight of at most eight of them
+-- those of a flight of at most eight of them, kept or not
+pub record IsLegSumOfLegs (asked : LoadsOf) (s : State) (i : ℕ) (flight : Flown) (sums : LegSums) : Type 0 where
+  pub legs : sums.legs ≡ on_legs asked one i flight
+  pub seats : sums.seats ≡ on_legs asked (held_on s) i flight
+  pub limits : sums.limits ≡ on_legs asked (limit_on s) i flight
+  pub few_legs : sums.legs ≤ 8
+  pub few_seats : sums.seats ≤ 524_280
+  pub few_limits : sums.limits ≤ 524_280
+
+-- and where it is kept
 pub record IsLegSumOfFlight (asked : LoadsOf) (s : State) (i : ℕ) (flight : Flown) (sums : LegSums) : Type 0 where
   pub legs : sums.legs ≡ on_flight asked one i flight
   pub seats : sums.seats ≡ on_flight asked (held_on s) i flight

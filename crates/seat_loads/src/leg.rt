@@ -6,21 +6,24 @@ ghost use Rattle.seat_rules.specs.Bookings.{held};
 ghost use Rattle.seat_rules.specs.Inventory.{state_now};
 ghost use Rattle.seat_desk.specs.AuditDesk.{most_lines};
 ghost use Rattle.seat_desk.specs.FlightsDesk.{head_text};
+ghost use Rattle.seat_questions.specs.Why.{one_leg};
 ghost use Rattle.seat_loads.specs.Legs.{held_on, load_text, load_texts, share, share_text, standing_text, top_limit};
 ghost use Rattle.seat_loads.specs.Loads.{IsLegLine, IsPutBehind};
 
+use airline_base::Place;
 use seat_core::Core;
 use seat_desk::{put, put_head, put_number, put_way};
 use seat_nesting::Step;
-use seat_questions::{put_class, put_each_room, put_each_wait};
+use seat_questions::{Bars, put_bars, put_class, put_each_room, put_each_wait};
 use ssim_flights::{DatedLeg, Flight};
 use std::alloc::AllocError;
 
-/// Adds the line of a leg.
+/// Adds the line of a leg, and its bars where they are asked for.
 #[tactic(auto, using(crate::proofs::LoadTexts::leg_put, crate::proofs::LoadTexts::leg_fits))]
 pub fn put_leg(
     text: &mut Vec<u8>,
     core: &Core,
+    bars: Option<Bars>,
     index: u32,
     flight: &Flight,
     leg: u8,
@@ -28,13 +31,25 @@ pub fn put_leg(
 ) -> Result<(), AllocError>
     requires capped { core.now.cap ≤ most_lines }
     requires there { leg < length (legs_of core.now.grid index) }
-    ensures { OnOk result (IsPutBehind (IsLegLine (state_now core.now) index flight.now leg dated.now)
+    ensures { OnOk result (IsPutBehind (IsLegLine bars (state_now core.now) index flight.now leg dated.now)
         text.old.items text.new.items) }
 {
     put_head(text, index, flight)?;
     put_way(text, dated)?;
     put_standing(text, core, index, leg)?;
-    put(text, b"\n")
+    put(text, b"\n")?;
+    put_bars(text, core, bars, one_leg(index, leg))
+}
+
+/// The place that is one leg.
+fn one_leg(flight: u32, leg: u8) -> Place
+    ensures { result ≡ one_leg flight leg }
+{
+    Place {
+        flight,
+        from: leg,
+        to: leg,
+    }
 }
 
 /// Adds LOAD and how full the leg is, and then its classes.

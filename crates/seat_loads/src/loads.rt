@@ -14,18 +14,23 @@ use crate::sums::{put_sums, sums_of};
 use airline_base::Day;
 use seat_core::Core;
 use seat_desk::{DeskFault, Loaded, Question, replayed};
+use seat_lists::{Designator, keeps_flight};
 use seat_nesting::Grid;
-use seat_questions::{CityPair, keeps_day, keeps_pair};
+use seat_questions::{Bars, CityPair, keeps_day, keeps_pair};
 use ssim_flights::{DatedLeg, Flight, Flights};
 use std::alloc::{AllocError, Global};
 
 /// Which legs are asked for.
 #[derive(Clone, Copy)]
 pub struct LoadsOf {
+    /// Those of flights of this name; else of any.
+    pub flight: Option<Designator>,
     /// Those that depart on this local day; else on each.
     pub day: Option<Day>,
     /// Those that run between these stations; else between any.
     pub pair: Option<CityPair>,
+    /// Behind the line of each leg the bars of its classes, and in what they are drawn.
+    pub bars: Option<Bars>,
 }
 
 /// A line for each leg that is kept, by flight and leg: the seats that are held of its highest limit and that share per mille, and for
@@ -118,9 +123,30 @@ fn lines_of(
 {
     let mut text = Vec::new(alloc);
     for index in 0..flights.len() {
-        put_flight(&mut text, core, asked, index, flights.flight(index))?;
+        put_kept_flight(&mut text, core, asked, index, flights.flight(index))?;
     }
     Ok(text)
+}
+
+/// Adds the lines of the legs of a flight, if it is kept.
+#[tactic(auto, using(crate::proofs::LoadTexts::flight_left, crate::proofs::LoadTexts::flight_kept))]
+fn put_kept_flight(
+    text: &mut Vec<u8>,
+    core: &Core,
+    asked: &LoadsOf,
+    index: u32,
+    flight: &Flight,
+) -> Result<(), AllocError>
+    requires capped { core.now.cap ≤ most_lines }
+    requires few { length flight.now.legs ≤ 8 }
+    requires legs { length (legs_of core.now.grid index) ≡ length flight.now.legs }
+    ensures { OnOk result (IsPutBehind (IsFlightPart asked.now (state_now core.now) index flight.now)
+        text.old.items text.new.items) }
+{
+    if !keeps_flight(asked.flight, flight) {
+        return Ok(());
+    }
+    put_flight(text, core, asked, index, flight)
 }
 
 /// Adds the lines of the legs of a flight that are kept.
@@ -163,7 +189,7 @@ fn put_kept(
     if !is_kept(asked, dated) {
         return Ok(());
     }
-    put_leg(text, core, index, flight, leg, dated)
+    put_leg(text, core, asked.bars, index, flight, leg, dated)
 }
 
 /// Whether a leg is asked for.

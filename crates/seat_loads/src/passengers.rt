@@ -8,6 +8,7 @@ ghost use Rattle.seat_loads.specs.Sums.{AreRiders, AreRidersOn, is_on, meets, mo
 
 use crate::loads::{LoadsOf, is_kept};
 use seat_core::Core;
+use seat_lists::keeps_flight;
 use seat_questions::has_leg;
 use seat_rules::Booking;
 use ssim_flights::{DatedLeg, Flight, Flights};
@@ -41,13 +42,19 @@ pub fn riders_of(flights: &Flights, core: &Core, asked: &LoadsOf) -> Riders
     riders
 }
 
-/// Those of a flight.
-#[tactic(auto, using(seat_questions::proofs::Standings::few_bookings))]
+/// Those of a flight: none where it is not kept.
+#[tactic(auto, using(seat_questions::proofs::Standings::few_bookings, crate::proofs::Riding::left_riders, crate::proofs::Riding::kept_riders))]
 fn flight_riders(core: &Core, asked: &LoadsOf, index: u32, flight: &Flight) -> Riders
     requires capped { core.now.cap ≤ most_lines }
     requires legs { length flight.now.legs ≤ 8 }
     ensures { AreRidersOn asked.now (state_now core.now) index flight.now result }
 {
+    if !keeps_flight(asked.flight, flight) {
+        return Riders {
+            held: 0,
+            waiting: 0,
+        };
+    }
     // For the prover alone: a journal of so few lines leaves no more bookings, so that their sum fits.
     let _ = core.journal();
     let bookings = core.bookings_on(index);

@@ -4,13 +4,14 @@ ghost use Rattle.std.specs.Prelude.{◌≡◌, ◌++◌, ◌+◌, ◌^◌, ◌�
 ghost use Rattle.seat_rules.specs.Inventory.{state_now};
 ghost use Rattle.seat_desk.specs.AuditDesk.{most_lines};
 ghost use Rattle.seat_loads.specs.Legs.{held_on, limit_on};
-ghost use Rattle.seat_loads.specs.Sums.{AddUp, AreFewLegs, AreLegSums, AreSums, IsLegSum, IsLegSumOfFlight, sums_text};
+ghost use Rattle.seat_loads.specs.Sums.{AddUp, AreFewLegs, AreLegSums, AreSums, IsLegSum, IsLegSumOfFlight, IsLegSumOfLegs, sums_text};
 
 use crate::leg::{held_on, put_share, top_limit};
 use crate::loads::{LoadsOf, is_kept};
 use crate::passengers::{Riders, riders_of};
 use seat_core::Core;
 use seat_desk::{put, put_number};
+use seat_lists::keeps_flight;
 use ssim_flights::{DatedLeg, Flight, Flights};
 use std::alloc::AllocError;
 
@@ -54,17 +55,33 @@ fn legs_of(flights: &Flights, core: &Core, asked: &LoadsOf) -> LegSums
         limits: 0,
     };
     for index in 0..flights.len() {
-        let more = flight_legs(core, asked, index, flights.flight(index));
+        let more = kept_legs(core, asked, index, flights.flight(index));
         sums = plus(&sums, &more);
     }
     sums
 }
 
-/// Those of a flight.
+/// Those of a flight: none where it is not kept.
+#[tactic(auto, using(crate::proofs::Adding::left_flight, crate::proofs::Adding::kept_flight))]
+fn kept_legs(core: &Core, asked: &LoadsOf, index: u32, flight: &Flight) -> LegSums
+    requires few { length flight.now.legs ≤ 8 }
+    ensures { IsLegSumOfFlight asked.now (state_now core.now) index flight.now result }
+{
+    if !keeps_flight(asked.flight, flight) {
+        return LegSums {
+            legs: 0,
+            seats: 0,
+            limits: 0,
+        };
+    }
+    flight_legs(core, asked, index, flight)
+}
+
+/// Those of the legs of a flight.
 #[tactic(auto, using(crate::proofs::Adding::no_legs, crate::proofs::Adding::leg_more, crate::proofs::Adding::all_of_flight))]
 fn flight_legs(core: &Core, asked: &LoadsOf, index: u32, flight: &Flight) -> LegSums
     requires few { length flight.now.legs ≤ 8 }
-    ensures { IsLegSumOfFlight asked.now (state_now core.now) index flight.now result }
+    ensures { IsLegSumOfLegs asked.now (state_now core.now) index flight.now result }
 {
     let mut sums = LegSums {
         legs: 0,

@@ -52,7 +52,7 @@ rooms_line = leaf_line is_complete (built_leaf (with_verbose rooms_app).top)
 loads_line : Yields is_complete (built_leaf (with_verbose loads_app).top)
 unfolding loads_app horizon_app
 loads_line = leaf_line is_complete (built_leaf (with_verbose loads_app).top)
-    (set_keeps _ refl refl, (set_keeps _ refl refl, (set_keeps _ refl refl, (set_keeps _ refl refl, (set_keeps _ refl refl, (set_keeps _ refl refl, (flag_keeps _ refl _ refl, (set_keeps _ refl refl, (flag_keeps _ refl _ refl, (help_keeps _ refl, tt)))))))))) (λ rows h. h)
+    (set_keeps _ refl refl, (set_keeps _ refl refl, (set_keeps _ refl refl, (set_keeps _ refl refl, (set_keeps _ refl refl, (set_keeps _ refl refl, (set_keeps _ refl refl, (flag_keeps _ refl _ refl, (flag_keeps _ refl _ refl, (set_keeps _ refl refl, (flag_keeps _ refl _ refl, (help_keeps _ refl, tt)))))))))))) (λ rows h. h)
 
 run_line : Yields is_complete (built_leaf (with_verbose run_app).top)
 unfolding run_app horizon_app

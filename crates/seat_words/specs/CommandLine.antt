@@ -74,9 +74,11 @@ rooms_app = with_rule (with_rule (with_rule (with_rule (with_rule (horizon_app (
     (optional_value (codes "journal"))
 
 unfoldable pub loads_app : App
-loads_app = with_rule (with_rule (with_rule (with_rule (horizon_app (codes "loads"))
+loads_app = with_rule (with_rule (with_rule (with_rule (with_rule (with_rule (horizon_app (codes "loads"))
+    (optional (codes "flight")))
     (optional (codes "day")))
     (optional (codes "pair")))
+    (flag (codes "bars")))
     (flag (codes "open")))
     (optional_value (codes "journal"))
 

@@ -59,10 +59,12 @@ Asks (Rooms over day pair bars is_open journal) line = (line.0 ≡ codes "rooms"
     × HasFlag line (codes "bars") bars
     × HasFlag line (codes "open") is_open
     × MayHave line (codes "journal") (option_map (λ text. text.now) journal)
-Asks (Loads over day pair is_open journal) line = (line.0 ≡ codes "loads")
+Asks (Loads over flight day pair bars is_open journal) line = (line.0 ≡ codes "loads")
     × IsOver line.1 over
+    × MayHave line (codes "flight") (option_map (λ text. text.now) flight)
     × MayHave line (codes "day") (option_map (λ text. text.now) day)
     × MayHave line (codes "pair") (option_map (λ text. text.now) pair)
+    × HasFlag line (codes "bars") bars
     × HasFlag line (codes "open") is_open
     × MayHave line (codes "journal") (option_map (λ text. text.now) journal)
 Asks (Run over after behind resume today journal changes no_clobber again scripts) line = (line.0 ≡ codes "run")

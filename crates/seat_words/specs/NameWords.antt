@@ -1,4 +1,4 @@
--- Words that name a pair of stations, a line of a journal, how many lines it began with, or a session.
+-- Words that name a pair of stations, a flight, a line of a journal, how many lines it began with, or a session.
 use Rattle.std.specs.Prelude.{◌≡◌, ℕ, ◌≤◌, nat_le, ◌-◌, ◌&&◌, if◌then◌else◌, true, List, [], ◌∷◌, length, take, drop, Option, Some, None}
 use Rattle.std.specs.Char.{is_ascii_digit, is_ascii_uppercase}
 use Rattle.std.specs.List.{list_all}

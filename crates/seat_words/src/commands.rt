@@ -273,8 +273,13 @@ fn loads_command<'a>(alloc: Global) -> Result<Command<'a>, AllocError>
         "Writes how full each dated leg is, by class, and what all of them come to",
         "Example: seatdesk loads --set examples/summer.ssim --limits examples/limits.txt --first 2024-07-01 --days 31 --day 2024-07-27 examples/journal.txt",
     );
+    let loads = with_argument(
+        loads,
+        optional_option(alloc, "flight", "FLIGHT", FLIGHT_HELP),
+    );
     let loads = with_argument(loads, optional_option(alloc, "day", "DATE", LEG_DAY_HELP));
     let loads = with_argument(loads, optional_option(alloc, "pair", "PAIR", LEG_PAIR_HELP));
+    let loads = with_argument(loads, flag(alloc, "bars", BARS_HELP));
     let loads = with_argument(loads, flag(alloc, "open", OPEN_HELP));
     with_argument(
         loads,

@@ -100,7 +100,7 @@ pub fn examples_are_read()
         ∷ (codes "first", codes "2024-07-01" ∷ []) ∷ (codes "days", codes "31" ∷ [])
         ∷ (codes "day", codes "2024-07-27" ∷ [])
         ∷ (codes "journal", codes "examples/journal.txt" ∷ [])
-        ∷ (codes "open", codes "false" ∷ [])
+        ∷ (codes "bars", codes "false" ∷ []) ∷ (codes "open", codes "false" ∷ [])
         ∷ (codes "verbose", codes "false" ∷ []) ∷ []) }
     ensures bookings { IsReadTo
         (codes "seatdesk bookings --set examples/summer.ssim --limits examples/limits.txt --first 2024-07-01 --days 31 --locator B3N6VC examples/journal.txt")

@@ -49,11 +49,13 @@ pub enum Job<'a> {
         is_open: bool,
         journal: Option<&'a str>,
     },
-    /// `seatdesk loads` over a horizon `[--day DATE] [--pair PAIR] [--open] [JOURNAL]`
+    /// `seatdesk loads` over a horizon `[--flight FLIGHT] [--day DATE] [--pair PAIR] [--bars] [--open] [JOURNAL]`
     Loads {
         over: Horizon<'a>,
+        flight: Option<&'a str>,
         day: Option<&'a str>,
         pair: Option<&'a str>,
+        bars: bool,
         is_open: bool,
         journal: Option<&'a str>,
     },
@@ -236,8 +238,10 @@ fn job_named<'a>(alloc: Global, name: &str, matches: &ArgMatches<'a>) -> Result<
         },
         "loads" => Job::Loads {
             over: horizon_of(matches),
+            flight: may_value_of(matches, "flight"),
             day: may_value_of(matches, "day"),
             pair: may_value_of(matches, "pair"),
+            bars: flag_of(matches, "bars"),
             is_open: flag_of(matches, "open"),
             journal: may_value_of(matches, "journal"),
         },

@@ -75,19 +75,23 @@ pub fn rooms<'a>(
     asked_of(rt, over, days, &asked, journal, is_open)
 }
 
-/// How full the legs are that `--day` and `--pair` keep. Without a journal that is before the first booking.
+/// How full the legs are that `--flight`, `--day` and `--pair` keep, with bars where they are asked for. Without a journal that is before the first booking.
 pub fn loads<'a>(
     rt: &HostRuntime,
     over: &Horizon<'a>,
+    flight: Option<&str>,
     day: Option<&str>,
     pair: Option<&str>,
+    bars: bool,
     is_open: bool,
     journal: Option<&'a str>,
 ) -> Result<(), Refusal<'a>> {
     let days = days_of(over.first, over.days)?;
     let asked = LoadsOf {
+        flight: flight_asked(flight)?,
         day: day_asked(day)?,
         pair: pair_asked(pair)?,
+        bars: bars_asked(rt, bars),
     };
     asked_of(rt, over, days, &asked, journal, is_open)
 }

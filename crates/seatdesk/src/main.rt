@@ -150,11 +150,13 @@ fn carry_out<'a, T: Threads + Wait + Sync>(
         } => commands::rooms(rt, over, *day, *pair, *bars, *is_open, *journal)?,
         Job::Loads {
             over,
+            flight,
             day,
             pair,
+            bars,
             is_open,
             journal,
-        } => commands::loads(rt, over, *day, *pair, *is_open, *journal)?,
+        } => commands::loads(rt, over, *flight, *day, *pair, *bars, *is_open, *journal)?,
         Job::Bookings {
             over,
             locators,

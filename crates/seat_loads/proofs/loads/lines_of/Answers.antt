@@ -10,11 +10,11 @@ loop-index-init c = rw c.new-text.ensures.items (put_none (IsFlightPart c.args.a
 
 pub loop-index-preserved : goal.loop-index-preserved
 loop-index-preserved c =
-    let legs = c.in_ok-put_flight.ensures in
+    let legs = c.in_ok-put_kept_flight.ensures in
     let state = state_now c.args.core.now in
-    put_more (IsFlightPart c.args.asked.now state) 0 c.loop-index.index c.args.flights.now c.flight.result.now [] c.loop-index.text.items c.put_flight.new.text.items legs.part
+    put_more (IsFlightPart c.args.asked.now state) 0 c.loop-index.index c.args.flights.now c.flight.result.now [] c.loop-index.text.items c.put_kept_flight.new.text.items legs.part
     c.loop-index.invariant (there c.args.flights.now c.loop-index.index c.flight.result.now c.flight.ensures.value) (here c.args.flights.now c.loop-index.index c.flight.result.now c.flight.ensures.value)
-    (subst (λ (k : ℕ). IsFlightPart c.args.asked.now state k c.flight.result.now legs.part) (sym (zero-add c.loop-index.index)) legs.is_text) legs.written
+    (subst (λ (k : ℕ). IsFlightPart c.args.asked.now state k c.flight.result.now legs.part) (sym (zero-add c.loop-index.index)) legs.is_part) legs.written
 
 pub returns : goal.returns
 returns c = text_whole (IsFlightPart c.args.asked.now (state_now c.args.core.now)) 0 c.loop-index.index c.len-index-end.result c.args.flights.now c.loop-index.text.items c.loop-index.invariant c.len-index-end.ensures.value c.loop-index-test.false
