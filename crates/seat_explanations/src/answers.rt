@@ -13,6 +13,7 @@ pub fn answer_row(word: &str) -> Option<&'static Explanation>
     first_named(verdicts(), word)
         .or(first_named(sets(), word))
         .or(first_named(rooms(), word))
+        .or(first_named(lists(), word))
         .or(first_named(reasons(), word))
         .or(first_named(covers(), word))
         .or(first_named(desks(), word))
@@ -36,6 +37,10 @@ fn sets() -> &'static [Explanation] {
 
 fn rooms() -> &'static [Explanation] {
     ROOMS
+}
+
+fn lists() -> &'static [Explanation] {
+    LISTS
 }
 
 fn reasons() -> &'static [Explanation] {
@@ -103,6 +108,40 @@ const ROOMS: &[Explanation] = &[
         code: "SUMS",
         numbers: NONE,
         text: "Of loads: the legs above it, the seats held on them of the sum of their highest limits, what part of that is held,\nper mille, the passengers who hold seats there, and those who wait, each booking once.",
+    },
+];
+
+// What waiting and history say of bookings.
+const LISTS: &[Explanation] = &[
+    Explanation {
+        behind: "",
+        code: "LACKS",
+        numbers: NONE,
+        text: "Of waiting: how many of the booking's seats are beyond its room on the place. So many must become free before it fits.",
+    },
+    Explanation {
+        behind: "",
+        code: "HOLDS",
+        numbers: NONE,
+        text: "Of history: so many seats are held from the line on.",
+    },
+    Explanation {
+        behind: "",
+        code: "WAITS",
+        numbers: NONE,
+        text: "Of history: so many seats wait from the line on.",
+    },
+    Explanation {
+        behind: "",
+        code: "CANCELS",
+        numbers: NONE,
+        text: "Of history: so many seats are taken off the booking.",
+    },
+    Explanation {
+        behind: "",
+        code: "NOTHING",
+        numbers: NONE,
+        text: "Of history: the line did nothing to the bookings of the locator.",
     },
 ];
 
