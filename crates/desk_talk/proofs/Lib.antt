@@ -1,3 +1,5 @@
+pub mod Ended
 pub mod Holding
+pub mod Opened
 pub mod Readying
 pub mod Talking

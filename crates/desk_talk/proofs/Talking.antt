@@ -13,7 +13,7 @@ use Rattle.desk_answers.specs.FaultLines.{memory_line}
 use Rattle.desk_answers.specs.Hosts.{Attended, IsReady}
 use Rattle.desk_answers.specs.Saying.{IsCounted, IsUntold}
 use Rattle.desk_talk.specs.declared.talk_fault.TalkFault.{TalkFault}
-use Rattle.desk_talk.specs.Talks.{held, EndsUntold, IsEnd, IsHeld, IsTalk, IsTold, Reads, Talked, TalksOn, TellsOf, Turns}
+use Rattle.desk_talk.specs.Talks.{held, EndsUntold, IsEnd, IsHeld, IsSameHost, IsSpoken, IsTalk, IsTold, IsWanting, Reads, Talked, TalksOn, TellsOf, Turns}
 use Rattle.desk_talk.specs.Ready.{IsReadyLine}
 use Rattle.seat_rules.specs.Journal.{calls_of}
 use Rattle.airline_base.specs.Lines.{is_line_feed}
@@ -29,6 +29,39 @@ module _ {D : Type 0} where
 
   abbrev Goes : Attended D → List ℕ → ℕ → Attended D → List ℕ → Bool → List ℕ → Type 0
   Goes old before c new after stays text = IsEnd c × IsTold old new (held (before ++ c ∷ [])) false text × (after ≡ []) × (stays ≡ false)
+
+  -- the host stays the same
+  pub same_host : (old new : Attended D) → (new.flights ≡ old.flights) × (new.session ≡ old.session)
+      × (new.serving.grid ≡ old.serving.grid) × (new.serving.cap ≡ old.serving.cap) → IsSameHost old new
+  same_host old new same = record { flights_are = same.0; session_is = same.1; grid_is = same.2; cap_is = same.3 }
+
+  same_on : (old mid new : Attended D) → IsSameHost old mid → IsSameHost mid new → IsSameHost old new
+  same_on old mid new a b = record {
+    flights_are = b.flights_are ∙ a.flights_are;
+    session_is = b.session_is ∙ a.session_is;
+    grid_is = b.grid_is ∙ a.grid_is;
+    cap_is = b.cap_is ∙ a.cap_is;
+  }
+
+  told_same : (old new : Attended D) (line : List ℕ) (stays : Bool) (text : List ℕ) → IsTold old new line stays text
+      → IsSameHost old new
+  told_same old new line stays text told =
+      ⊎_elim (λ (s : IsSpoken old new line stays text). s.same_host) (λ (w : IsWanting old new line stays text). w.same_host) told
+
+  pub talked_same : (old new : Attended D) (before after bytes told : List ℕ) (stays : Bool)
+      → Talked old before bytes new after stays told → IsSameHost old new
+  talked_same old new before after [] told stays one =
+      subst (λ (h : Attended D). IsSameHost old h) (sym one.0) (same_host old old (refl, refl, refl, refl))
+  talked_same old new before after (c ∷ xs) told stays one =
+      ⊎_elim
+      (λ (h : Holds old before c xs new after stays told). talked_same old new (held (before ++ c ∷ [])) after xs told stays h.1)
+      (λ (r : Tells old before c xs new after stays told ⊎ Goes old before c new after stays told).
+      ⊎_elim
+      (λ (t : Tells old before c xs new after stays told).
+      same_on old t.0 new (told_same old t.0 (held (before ++ c ∷ [])) true t.1 t.4) (talked_same t.0 new [] after xs t.2 stays t.5))
+      (λ (g : Goes old before c new after stays told). told_same old new (held (before ++ c ∷ [])) false told g.1)
+      r)
+      one
 
   -- a talk that goes on, and then another
   pub talked_more : (old mid new : Attended D) (before between after xs ys told more : List ℕ) (stays : Bool)
@@ -80,7 +113,7 @@ pub on_err_any : {T E : Type 0} (r : Result T E) (P : Type 0) → P → OnErr r 
 on_err_any (Ok x) P p = tt
 on_err_any (Err e) P p = p
 
-begins_all : (xs : List Entry) → Begins xs xs
+pub begins_all : (xs : List Entry) → Begins xs xs
 begins_all xs = record { rest = []; is = sym (append-nil xs) }
 
 begins_on : (xs ys zs : List Entry) → Begins xs ys → Begins ys zs → Begins xs zs
@@ -96,18 +129,19 @@ module _ {D : Type 0} (seen : D → Option (List ℕ)) (leaves : D → List ℕ 
   -- memory was wanting for a line, which is told where that can be written
   pub wanting_told : (old new : Attended D) (line text : List ℕ) (a b : Option (List ℕ)) (m n : ℕ) (r : Result Bool TalkFault)
       → IfOk r (λ (stays : Bool). (stays ≡ true) × Appends a b text × (n ≡ m)) → text ≡ memory_line new.session new.desk.lines
-      → new.session ≡ old.session → IsCounted old.desk new.desk line → new.serving.journal ≡ old.serving.journal
+      → IsSameHost old new → IsCounted old.desk new.desk line → new.serving.journal ≡ old.serving.journal
       → IsReady seen leaves unsynced new.serving → Begins old.serving.kept new.serving.kept
       → failures new.serving.tape ≡ failures old.serving.tape
       → IfOk r (λ (stays : Bool). TellsOf seen leaves unsynced failures old line new stays a b m n)
-  wanting_told old new line text a b m n (Err f) said is session counts same ready front counted = tt
-  wanting_told old new line text a b m n (Ok stays) said is session counts same ready front counted = record {
+  wanting_told old new line text a b m n (Err f) said is host counts same ready front counted = tt
+  wanting_told old new line text a b m n (Ok stays) said is host counts same ready front counted = record {
     text = text;
     told = inr (record {
+      same_host = host;
       counts = counts;
       same = same;
       stays_on = said.0;
-      says = is ∙ ap (λ (s : ℕ). memory_line s new.desk.lines) session;
+      says = is ∙ ap (λ (s : ℕ). memory_line s new.desk.lines) host.session_is;
     });
     written = said.1;
     is_ready = ready;
@@ -171,6 +205,12 @@ module _ {D : Type 0} (seen : D → Option (List ℕ)) (leaves : D → List ℕ 
       → Talks old before xs mid between stays a b m n → KeepsFront (open_text mid.serving.kept) now
       → KeepsFront (open_text old.serving.kept) now
   told_before old mid before between xs now stays a b m n talks keeps = seen_kept old.serving.kept mid.serving.kept now talks.grows keeps
+
+  -- what was kept ahead of a talk is at the front of what is kept behind it
+  pub front_before : (old mid : Attended D) (before between xs : List ℕ) (kept : List Entry) (stays : Bool) (a b : Option (List ℕ)) (m n : ℕ)
+      → Talks old before xs mid between stays a b m n → Begins mid.serving.kept kept → Begins old.serving.kept kept
+  front_before old mid before between xs kept stays a b m n talks front =
+      begins_on old.serving.kept mid.serving.kept kept talks.grows front
 
   -- and so it is behind the talk
   pub told_behind : (old new : Attended D) (before after xs : List ℕ) (stays : Bool) (a b : Option (List ℕ)) (m n : ℕ)
@@ -314,18 +354,37 @@ module _ {D : Type 0} (seen : D → Option (List ℕ)) (leaves : D → List ℕ 
       gone old new after all.bytes i k o a c l n ready is put all.consumed all.talks)
       last
 
+  -- the last read and those ahead of it
+  heard_all : (old mid new : Attended D) (between after none : List ℕ) (more : Bool) (i j k a b c : Option (List ℕ)) (l m n : ℕ)
+      → Has_read old none mid between true i j a b l m
+      → Turned mid between new after more j k b c m n → more ≡ false
+      → (stays : Bool) × Has_read old none new after stays i k a c l n
+  heard_all old mid new between after none more i j k a b c l m n so_far turned ends =
+      let last : Turned mid between new after false j k b c m n = subst (λ (x : Bool). Turned mid between new after x j k b c m n) ends turned in
+      ⊎_elim
+      (λ (e : IsAtEnd k × Has_read mid between new after true j k b c m n).
+      (true, reads_more old mid new none between after true i j k a b c l m n so_far e.1))
+      (λ (g : Has_read mid between new after false j k b c m n).
+      (false, reads_more old mid new none between after false i j k a b c l m n so_far g))
+      last
+
   -- and nothing of it is lost
   pub grown_behind : (old mid new : Attended D) (between after none : List ℕ) (more : Bool) (i j k a b c : Option (List ℕ)) (l m n : ℕ)
       → Has_read old none mid between true i j a b l m
       → Turned mid between new after more j k b c m n → more ≡ false
       → KeepsFront (open_text old.serving.kept) (leaves new.serving.tape)
   grown_behind old mid new between after none more i j k a b c l m n so_far turned ends =
-      let last : Turned mid between new after false j k b c m n = subst (λ (x : Bool). Turned mid between new after x j k b c m n) ends turned in
-      ⊎_elim
-      (λ (e : IsAtEnd k × Has_read mid between new after true j k b c m n).
-      let all = reads_more old mid new none between after true i j k a b c l m n so_far e.1 in
-      told_behind old new none after all.bytes true a c l n all.talks)
-      (λ (g : Has_read mid between new after false j k b c m n).
-      let all = reads_more old mid new none between after false i j k a b c l m n so_far g in
-      told_behind old new none after all.bytes false a c l n all.talks)
-      last
+      let all = heard_all old mid new between after none more i j k a b c l m n so_far turned ends in
+      told_behind old new none after all.1.bytes all.0 a c l n all.1.talks
+
+  -- the host is the same, what was kept is at the front of what is kept, and no call of the journal's file failed
+  pub behind_all : (old mid new : Attended D) (between after none : List ℕ) (more : Bool) (i j k a b c : Option (List ℕ)) (l m n : ℕ)
+      → Has_read old none mid between true i j a b l m
+      → Turned mid between new after more j k b c m n → more ≡ false
+      → IsSameHost old new × Begins old.serving.kept new.serving.kept × (failures new.serving.tape ≡ failures old.serving.tape)
+  behind_all old mid new between after none more i j k a b c l m n so_far turned ends =
+      let all = heard_all old mid new between after none more i j k a b c l m n so_far turned ends in (
+        talked_same old new none after all.1.bytes all.1.talks.text all.0 all.1.talks.talked,
+        all.1.talks.grows,
+        all.1.talks.tape_counted,
+      )

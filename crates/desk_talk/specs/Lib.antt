@@ -1,2 +1,4 @@
+pub mod Ending
+pub mod Opening
 pub mod Ready
 pub mod Talks

@@ -12,8 +12,16 @@ use Rattle.desk_talk.specs.Ready.{IsReadyLine}
 
 -- ---- a line
 
+-- the flights, the session and the limits are the same
+pub record IsSameHost {D : Type 0} (old new : Attended D) : Type 0 where
+  pub flights_are : new.flights ≡ old.flights
+  pub session_is : new.session ≡ old.session
+  pub grid_is : new.serving.grid ≡ old.serving.grid
+  pub cap_is : new.serving.cap ≡ old.serving.cap
+
 -- the host answered it, and so the desk stays or goes
 pub record IsSpoken {D : Type 0} (old new : Attended D) (line : List ℕ) (stays : Bool) (text : List ℕ) : Type 0 where
+  pub same_host : IsSameHost old new
   pub heard : Heard
   pub answered : IsAnswered old new line heard
   pub stays_is : stays ≡ heard.stays
@@ -21,6 +29,7 @@ pub record IsSpoken {D : Type 0} (old new : Attended D) (line : List ℕ) (stays
 
 -- memory was wanting for it: it counts, nothing was booked, and the desk stays
 pub record IsWanting {D : Type 0} (old new : Attended D) (line : List ℕ) (stays : Bool) (text : List ℕ) : Type 0 where
+  pub same_host : IsSameHost old new
   pub counts : IsCounted old.desk new.desk line
   pub same : new.serving.journal ≡ old.serving.journal
   pub stays_on : stays ≡ true

@@ -4,6 +4,7 @@ ghost use Rattle.std.specs.Io.KnownBytes.{Appends};
 ghost use Rattle.airline_base.specs.Noting.{noted};
 ghost use Rattle.seat_disk.specs.Growing.{KeepsFront};
 ghost use Rattle.seat_recovery.specs.OpenText.{open_text};
+ghost use Rattle.seat_rules.specs.Prefixes.{Begins};
 ghost use Rattle.desk_answers.specs.FaultLines.{memory_line};
 ghost use Rattle.desk_answers.specs.Hosts.{IsReady};
 ghost use Rattle.desk_talk.specs.Talks.{held, EndsUntold, TalksOn, TellsOf};
@@ -40,6 +41,8 @@ pub(crate) fn hear_piece<R: Wait, W: NotedWrite, D: Tape>(
     ensures input { IfErr result (λ f. f ≡ Input → ⊥) }
     ensures memory { IfErr result (λ f. f ≡ NoMemory → EndsUntold host.new) }
     ensures told { OnErr result (KeepsFront (open_text host.old.serving.kept) (D.may_leave host.new.serving.tape)) }
+    ensures front { OnErr result (Begins host.old.serving.kept host.new.serving.kept) }
+    ensures still { IfErr result (λ f. (f ≡ Journal → ⊥) → IsReady D.seen D.may_leave D.unsynced host.new.serving) }
 {
     for byte in piece {
         if !hear_byte(rt, alloc, host, line, *byte, out)? {
@@ -69,6 +72,8 @@ fn hear_byte<R: Wait, W: NotedWrite, D: Tape>(
     ensures input { IfErr result (λ f. f ≡ Input → ⊥) }
     ensures memory { IfErr result (λ f. f ≡ NoMemory → EndsUntold host.new) }
     ensures told { OnErr result (KeepsFront (open_text host.old.serving.kept) (D.may_leave host.new.serving.tape)) }
+    ensures front { OnErr result (Begins host.old.serving.kept host.new.serving.kept) }
+    ensures still { IfErr result (λ f. (f ≡ Journal → ⊥) → IsReady D.seen D.may_leave D.unsynced host.new.serving) }
 {
     hold(line, byte);
     if byte != b'\n' {
@@ -107,6 +112,8 @@ fn tell<R: Wait, W: NotedWrite, D: Tape>(
     ensures input { IfErr result (λ f. f ≡ Input → ⊥) }
     ensures memory { IfErr result (λ f. f ≡ NoMemory → EndsUntold host.new) }
     ensures told { OnErr result (KeepsFront (open_text host.old.serving.kept) (D.may_leave host.new.serving.tape)) }
+    ensures front { OnErr result (Begins host.old.serving.kept host.new.serving.kept) }
+    ensures still { IfErr result (λ f. (f ≡ Journal → ⊥) → IsReady D.seen D.may_leave D.unsynced host.new.serving) }
 {
     let heard = match host.hear(rt, alloc, line) {
         Ok(heard) => heard,

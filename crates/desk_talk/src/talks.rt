@@ -5,8 +5,9 @@ ghost use Rattle.seat_disk.specs.Growing.{KeepsFront};
 ghost use Rattle.seat_recovery.specs.OpenText.{open_text};
 ghost use Rattle.desk_answers.specs.Hosts.{IsReady};
 ghost use Rattle.seat_rules.specs.Journal.{calls_of};
+ghost use Rattle.seat_rules.specs.Prefixes.{Begins};
 ghost use Rattle.desk_talk.specs.Ready.{IsReadyLine};
-ghost use Rattle.desk_talk.specs.Talks.{EndsUntold, IsTalk, Turns};
+ghost use Rattle.desk_talk.specs.Talks.{EndsUntold, IsSameHost, IsTalk, Turns};
 ghost use Rattle.desk_talk.specs.declared.talk_fault.TalkFault.TheVariants.{Input, Journal, Memory as NoMemory, Output};
 
 use crate::piece::{HeldLine, hear_piece};
@@ -23,7 +24,8 @@ use std::sync::Wait;
 const PIECE: usize = 4096;
 
 /// Tells a desk where it stands, and answers each of its lines before it hears the next, up to the end of what it writes, or to
-/// the line with which it goes.
+/// the line with which it goes. Where the talk is broken off, and not by the journal's file, the host is ready all the same.
+#[tactic(auto, using(crate::proofs::Talking::begins_all))]
 pub fn talk<R: Wait, I: NotedRead, W: NotedWrite, D: Tape>(
     rt: &R,
     alloc: Global,
@@ -35,7 +37,11 @@ pub fn talk<R: Wait, I: NotedRead, W: NotedWrite, D: Tape>(
     ensures talk { OnOk result (IfSome (I.remaining input.old)
         (IsTalk host.old host.new (W.contents out.old) (W.contents out.new))) }
     ensures ready { OnOk result (IsReady D.seen D.may_leave D.unsynced host.new.serving) }
+    ensures same { OnOk result (IsSameHost host.old host.new) }
+    ensures counted { OnOk result (D.failure_count host.new.serving.tape ≡ D.failure_count host.old.serving.tape) }
+    ensures front { Begins host.old.serving.kept host.new.serving.kept }
     ensures told { KeepsFront (open_text host.old.serving.kept) (D.may_leave host.new.serving.tape) }
+    ensures still { IfErr result (λ f. (f ≡ Journal → ⊥) → IsReady D.seen D.may_leave D.unsynced host.new.serving) }
     ensures input { IfErr result (λ f. f ≡ Input → I.failure_count input.new ≡ noted (I.failure_count input.old)) }
     ensures output { IfErr result (λ f. f ≡ Output → W.failure_count out.new ≡ noted (W.failure_count out.old)) }
     ensures journal { IfErr result (λ f. f ≡ Journal → D.failure_count host.new.serving.tape
@@ -57,6 +63,7 @@ pub fn talk<R: Wait, I: NotedRead, W: NotedWrite, D: Tape>(
 }
 
 // Reads once, and hears what came. Whether more may come.
+#[tactic(auto, using(crate::proofs::Talking::begins_all))]
 fn turn<R: Wait, I: NotedRead, W: NotedWrite, D: Tape>(
     rt: &R,
     alloc: Global,
@@ -72,6 +79,8 @@ fn turn<R: Wait, I: NotedRead, W: NotedWrite, D: Tape>(
         (W.contents out.new) (W.failure_count out.old) (W.failure_count out.new)) }
     ensures counted { OnOk result (I.failure_count input.new ≡ I.failure_count input.old) }
     ensures told { OnErr result (KeepsFront (open_text host.old.serving.kept) (D.may_leave host.new.serving.tape)) }
+    ensures front { OnErr result (Begins host.old.serving.kept host.new.serving.kept) }
+    ensures still { IfErr result (λ f. (f ≡ Journal → ⊥) → IsReady D.seen D.may_leave D.unsynced host.new.serving) }
     ensures input { IfErr result (λ f. f ≡ Input → I.failure_count input.new ≡ noted (I.failure_count input.old)) }
     ensures output { IfErr result (λ f. f ≡ Output → W.failure_count out.new ≡ noted (W.failure_count out.old)) }
     ensures journal { IfErr result (λ f. f ≡ Journal → D.failure_count host.new.serving.tape

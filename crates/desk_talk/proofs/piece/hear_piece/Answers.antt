@@ -1,11 +1,16 @@
 use Rattle.std.proofs.Common.{arith, refl, take, true}
-use Rattle.desk_talk.proofs.Talking.{on_err_any, talks_left, talks_more, told_before}
+use Rattle.desk_talk.proofs.Talking.{front_before, on_err_any, talks_left, talks_more, told_before}
 use Rattle.desk_talk.proofs.piece.hear_piece.Goals as goal
 
 pub returns-in_err-hear_byte-clause-told : goal.returns-in_err-hear_byte-clause-told
 returns-in_err-hear_byte-clause-told g c =
     on_err_any _ _ (told_before g.D.Tape.seen g.D.Tape.may_leave g.D.Tape.unsynced g.D.Failures.failure_count c.args.host.now c.loop-byte.host c.args.line.now.items c.loop-byte.line.items
     (take c.loop-byte.byte-index c.args.piece.now) (g.D.Tape.may_leave c.hear_byte.new.host.serving.tape) true _ _ _ _ c.loop-byte.invariant c.in_err-hear_byte.ensures.told)
+
+pub returns-in_err-hear_byte-clause-front : goal.returns-in_err-hear_byte-clause-front
+returns-in_err-hear_byte-clause-front g c =
+    on_err_any _ _ (front_before g.D.Tape.seen g.D.Tape.may_leave g.D.Tape.unsynced g.D.Failures.failure_count c.args.host.now c.loop-byte.host c.args.line.now.items c.loop-byte.line.items
+    (take c.loop-byte.byte-index c.args.piece.now) c.hear_byte.new.host.serving.kept true _ _ _ _ c.loop-byte.invariant c.in_err-hear_byte.ensures.front)
 
 pub returns-then-not-branch-clause-talks : goal.returns-then-not-branch-clause-talks
 returns-then-not-branch-clause-talks g c =

@@ -1,6 +1,6 @@
 use Rattle.std.proofs.Common.{◌≡◌, List, ℕ, [], refl, rules, subst, true, ◌∙◌}
 use Rattle.std.specs.Io.KnownBytes.{Appends}
-use Rattle.desk_talk.proofs.Talking.{grown_behind, reads_none, reads_on, talk_is, told_before}
+use Rattle.desk_talk.proofs.Talking.{behind_all, front_before, grown_behind, reads_none, reads_on, talk_is, told_before}
 use Rattle.desk_talk.proofs.talks.talk.Goals as goal
 
 pub loop-init : goal.loop-init
@@ -11,6 +11,11 @@ pub returns-in_err-turn-clause-told : goal.returns-in_err-turn-clause-told
 returns-in_err-turn-clause-told g c =
     told_before g.D.Tape.seen g.D.Tape.may_leave g.D.Tape.unsynced g.D.Failures.failure_count c.args.host.now c.loop.host c.new-line.result.items c.loop.line.items
     c.loop.invariant.0.bytes (g.D.Tape.may_leave c.turn.new.host.serving.tape) true _ _ _ _ c.loop.invariant.0.talks c.in_err-turn.ensures.told
+
+pub returns-in_err-turn-clause-front : goal.returns-in_err-turn-clause-front
+returns-in_err-turn-clause-front g c =
+    front_before g.D.Tape.seen g.D.Tape.may_leave g.D.Tape.unsynced g.D.Failures.failure_count c.args.host.now c.loop.host c.new-line.result.items c.loop.line.items
+    c.loop.invariant.0.bytes c.turn.new.host.serving.kept true _ _ _ _ c.loop.invariant.0.talks c.in_err-turn.ensures.front
 
 pub returns-then-not-branch-clause-talk : goal.returns-then-not-branch-clause-talk
 returns-then-not-branch-clause-talk g c =
@@ -23,6 +28,21 @@ pub returns-then-not-branch-clause-told : goal.returns-then-not-branch-clause-to
 returns-then-not-branch-clause-told g c =
     grown_behind g.D.Tape.seen g.D.Tape.may_leave g.D.Tape.unsynced g.D.Failures.failure_count c.args.host.now c.loop.host c.turn.new.host c.loop.line.items c.turn.new.line.items c.new-line.result.items
     c.in_ok-turn.field-0 _ _ _ _ _ _ _ _ _ c.loop.invariant.0 c.in_ok-turn.ensures.turns c.if-not-branch.true
+
+pub returns-then-not-branch-clause-same : goal.returns-then-not-branch-clause-same
+returns-then-not-branch-clause-same g c =
+    (behind_all g.D.Tape.seen g.D.Tape.may_leave g.D.Tape.unsynced g.D.Failures.failure_count c.args.host.now c.loop.host c.turn.new.host c.loop.line.items c.turn.new.line.items c.new-line.result.items
+    c.in_ok-turn.field-0 _ _ _ _ _ _ _ _ _ c.loop.invariant.0 c.in_ok-turn.ensures.turns c.if-not-branch.true).0
+
+pub returns-then-not-branch-clause-front : goal.returns-then-not-branch-clause-front
+returns-then-not-branch-clause-front g c =
+    (behind_all g.D.Tape.seen g.D.Tape.may_leave g.D.Tape.unsynced g.D.Failures.failure_count c.args.host.now c.loop.host c.turn.new.host c.loop.line.items c.turn.new.line.items c.new-line.result.items
+    c.in_ok-turn.field-0 _ _ _ _ _ _ _ _ _ c.loop.invariant.0 c.in_ok-turn.ensures.turns c.if-not-branch.true).1
+
+pub returns-then-not-branch-clause-counted : goal.returns-then-not-branch-clause-counted
+returns-then-not-branch-clause-counted g c =
+    (behind_all g.D.Tape.seen g.D.Tape.may_leave g.D.Tape.unsynced g.D.Failures.failure_count c.args.host.now c.loop.host c.turn.new.host c.loop.line.items c.turn.new.line.items c.new-line.result.items
+    c.in_ok-turn.field-0 _ _ _ _ _ _ _ _ _ c.loop.invariant.0 c.in_ok-turn.ensures.turns c.if-not-branch.true).2
 
 pub loop-preserved : goal.loop-preserved
 loop-preserved g c = (

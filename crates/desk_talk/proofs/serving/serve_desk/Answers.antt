@@ -1,0 +1,24 @@
+use Rattle.std.proofs.Common.{rules}
+use Rattle.desk_talk.specs.declared.talk_fault.TalkFault.TheVariants.{Memory as NoMemory}
+use Rattle.desk_talk.proofs.Ended.{kept_on, talk_fault_is, talk_to, talked_out, untold_in}
+use Rattle.desk_talk.proofs.serving.serve_desk.Goals as goal
+
+pub returns-in-Ok-end-clause-talk : goal.returns-in-Ok-end-clause-talk
+returns-in-Ok-end-clause-talk g c =
+    talk_to c.args.host c.talk-talked.new.host c.into_serving-serving.result (g.W.Write.contents c.args.out.now) (g.W.Write.contents c.talk-talked.new.out)
+    (g.I.Read.remaining c.args.input.now) c.in-Ok-end.ended.0.journal (search rules) c.in-Ok-end.ensures.journal c.in-Ok.ensures.talk
+
+pub returns-in-Err-end-clause-talked : goal.returns-in-Err-end-clause-talked
+returns-in-Err-end-clause-talked g c = λ e is.
+    talked_out c.args.host c.talk-talked.new.host (g.W.Write.contents c.args.out.now) (g.W.Write.contents c.talk-talked.new.out)
+    (g.I.Read.remaining c.args.input.now) c.in-Ok.ensures.talk
+
+pub returns-in-Err-end-clause-told : goal.returns-in-Err-end-clause-told
+returns-in-Err-end-clause-told g c =
+    kept_on c.args.host c.talk-talked.new.host c.into_serving-serving.result (g.D.Tape.may_leave c.in-Err-end.refused.1) (search rules)
+    c.talk-talked.ensures.front c.in-Err-end.ensures.lost
+
+pub returns-in-Err-clause-memory : goal.returns-in-Err-clause-memory
+returns-in-Err-clause-memory g c = λ is.
+    untold_in c.talk-talked.new.host c.into_serving-serving.result c.close.result (search rules) c.close.ensures.tape
+    (c.in-Err.ensures.memory (talk_fault_is c.in-Err.fault NoMemory is))
