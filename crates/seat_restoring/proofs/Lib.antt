@@ -3,3 +3,4 @@ pub mod Ordered
 pub mod Over
 pub mod Refusing
 pub mod Sealed
+pub mod Hosted

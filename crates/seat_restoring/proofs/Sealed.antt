@@ -4,20 +4,23 @@ use Rattle.seat_journal.specs.declared.entry.Entry.{Entry}
 use Rattle.seat_rules.specs.Inventory.{Inventory}
 use Rattle.seat_recovery.specs.declared.rest.Rest.{Rest}
 use Rattle.seat_recovery.specs.OpenText.{open_text}
-use Rattle.seat_seal.specs.Fronts.{front_of}
 use Rattle.seat_seal.specs.Imprints.{imprint_of}
 use Rattle.seat_seal.specs.Reading.{two_entries}
 use Rattle.seat_seal.specs.Rules.{is_seal}
 use Rattle.seat_seal.specs.declared.beside.Basis.{Basis}
 use Rattle.seat_seal.specs.declared.beside.Beside.{Beside}
 use Rattle.seat_seal.specs.declared.imprint.Imprint.{Imprint}
+use Rattle.seat_seal.specs.declared.run.Run.{Run}
+use Rattle.seat_seal.specs.declared.seal.JournalState.{JournalState}
+use Rattle.seat_seal.specs.declared.seal.JournalState.TheVariants.{Open, Closed}
+use Rattle.seat_seal.specs.Closing.{IsEntryIn}
 use Rattle.seat_seal.specs.declared.seal.Sealed.{Sealed as Belonging}
 use Rattle.seat_seal.specs.declared.seal.SealEntry.TheVariants.{Sealed}
 use Rattle.seat_sealing.specs.Pairs.{Names}
 use Rattle.seat_sealing.specs.Steps.{alone_text, both_text}
 use Rattle.seat_serving.specs.GoingOn.{IsFoundIn, head_for}
 use Rattle.seat_serving.proofs.Recovering.{whole}
-use Rattle.seat_restoring.specs.Sealing.{AreEntries, AreSeals, AreUnsealable, IsEntryOver}
+use Rattle.seat_restoring.specs.Sealing.{AreEntries, AreRunsOver, AreSeals, AreUnsealable, IsEntryOver}
 
 pub lines_are : (core : Inventory) (file lines head : List ℕ) (len : ℕ) (rest : Rest) → IsFoundIn core file len rest
     → lines ≡ take len file → head ≡ head_for rest → lines ++ head ≡ open_text core.journal
@@ -25,14 +28,22 @@ lines_are core file lines head len rest found is_lines is_head =
     ap (λ (t : List ℕ). t ++ head) is_lines ∙ ap (λ (t : List ℕ). take len file ++ t) is_head
     ∙ whole core.grid core.cap file core.journal len rest found.stands
 
-module _ (beside : Beside) (basis : Basis) (file ahead : List ℕ) (journal : List Entry) (one other : Imprint) (older newer : Belonging)
-    (is_ahead : ahead ≡ front_of file) (of_ahead : one ≡ imprint_of ahead) (of_lines : other ≡ imprint_of (open_text journal))
-    (is_older : IsEntryOver beside basis file one (length journal) older)
-    (is_newer : IsEntryOver beside basis file other (length journal) newer) where
+pub over : (state : JournalState) (beside : Beside) (basis : Basis) (file : List ℕ) (journal : List Entry) (imprint : Imprint) (lines : ℕ)
+    (runs : List Run) (entry : Belonging) → imprint ≡ imprint_of (open_text journal) → lines ≡ length journal
+    → AreRunsOver beside file lines runs → IsEntryIn state basis imprint lines runs entry
+    → IsEntryOver state beside basis file (imprint_of (open_text journal)) (length journal) entry
+over state beside basis file journal imprint lines runs entry of_lines count are is =
+    subst (λ (i : Imprint). IsEntryOver state beside basis file i (length journal) entry) of_lines
+    (subst (λ (n : ℕ). IsEntryOver state beside basis file imprint n entry) count (record { runs = runs; are_runs = are; is = is }))
+
+module _ (beside : Beside) (basis : Basis) (file : List ℕ) (journal : List Entry) (imprint : Imprint) (lines : ℕ)
+    (runs more : List Run) (older newer : Belonging) (of_lines : imprint ≡ imprint_of (open_text journal)) (count : lines ≡ length journal)
+    (are : AreRunsOver beside file lines runs) (is_newer : IsEntryIn Closed basis imprint lines runs newer)
+    (are_too : AreRunsOver beside file lines more) (is_older : IsEntryIn Open basis imprint lines more older) where
   are_entries : AreEntries beside basis file journal older newer
   are_entries = record {
-    is_older = subst (λ (i : Imprint). IsEntryOver beside basis file i (length journal) older) (of_ahead ∙ ap imprint_of is_ahead) is_older;
-    is_newer = subst (λ (i : Imprint). IsEntryOver beside basis file i (length journal) newer) of_lines is_newer;
+    is_older = over Open beside basis file journal imprint lines more older of_lines count are_too is_older;
+    is_newer = over Closed beside basis file journal imprint lines runs newer of_lines count are is_newer;
   }
 
   pub are_seals : (both alone : List ℕ) → both ≡ both_text (Sealed older) newer → alone ≡ alone_text newer

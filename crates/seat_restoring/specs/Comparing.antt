@@ -1,35 +1,54 @@
--- What `recover` compares of what stands beside a journal: the set, the limits and the days. That the journal is another than the sealed one is
--- what a recovery is for.
-use Rattle.std.specs.Prelude.{◌≡◌, ◌≢◌, ℕ, Bool, true, false, List, Option, None, Some, IfSome}
+-- What `recover` compares of what stands beside a journal: the set, the limits and the days, and where lines were added to the journal
+-- that it begins with those it had. That a closed journal is another than the sealed one is what a recovery is for.
+use Rattle.std.specs.Prelude.{◌≡◌, ℕ, Bool, true, false, not, List, Option, None, Some, IfSome}
 use Rattle.seat_seal.specs.Besides.{IsFaultBeside}
 use Rattle.seat_seal.specs.declared.beside.Basis.{Basis}
 use Rattle.seat_seal.specs.declared.beside.Beside.{Beside}
 use Rattle.seat_seal.specs.declared.comparing.SealFault.{SealFault}
 use Rattle.seat_seal.specs.declared.comparing.SealFault.TheVariants.{Journal}
+use Rattle.seat_seal.specs.declared.seal.JournalState.{JournalState}
+use Rattle.seat_seal.specs.declared.seal.JournalState.TheVariants.{Open, Closed}
+use Rattle.seat_seal.specs.declared.seal.Sealed.{Sealed as Belonging}
+use Rattle.seat_seal.specs.Known.{IsKnown}
 use Rattle.seat_desk.specs.Answering.{HasGroundOf}
 use Rattle.seat_desk.specs.Loading.{Bytes, IsBehind}
-use Rattle.seat_desk.specs.Sealing.{IsBesideFault, basis_of}
+use Rattle.seat_desk.specs.Sealing.{basis_of}
 use Rattle.seat_desk.specs.declared.inputs.Inputs.{Inputs}
 use Rattle.seat_desk.specs.declared.fault.DeskFault.{DeskFault}
 use Rattle.seat_desk.specs.declared.fault.DeskFault.TheVariants.{Seal}
 use Rattle.seat_restoring.specs.Restoring.{AreBytes}
 
--- nothing is wrong with what stands there, or the journal alone
-abbrev pub is_passed : Option SealFault → Bool
-is_passed None = true
-is_passed (Some Journal) = true
-is_passed (Some fault) = false
+abbrev pub is_open_state : JournalState → Bool
+is_open_state Open = true
+is_open_state Closed = false
 
--- the first fault of what stands beside a journal of these bytes on this basis is none, or that the journal is another
+-- more lines may come to the journal, as the entry says that is compared
+abbrev pub is_open : Option Belonging → Bool
+is_open None = false
+is_open (Some entry) = is_open_state entry.journal.state
+
+-- nothing is wrong with what stands there, or that alone that a closed journal is another
+abbrev pub is_passed : Option Belonging → Option SealFault → Bool
+is_passed known None = true
+is_passed known (Some Journal) = not (is_open known)
+is_passed known (Some fault) = false
+
+-- the first fault of what stands beside a journal of these bytes on this basis is passed
 pub record Passes (beside : Beside) (basis : Basis) (file : List ℕ) : Type 0 where
   pub fault : Option SealFault
   pub is_first : IsFaultBeside beside basis file fault
-  pub allowed : is_passed fault ≡ true
+  pub known : Option Belonging
+  pub is_known : IsKnown beside file known
+  pub allowed : is_passed known fault ≡ true
 
--- it is another one
+-- it is refused
 pub record Differs (beside : Beside) (basis : Basis) (file : List ℕ) (fault : DeskFault) : Type 0 where
-  pub is_first : IsBesideFault beside basis file fault
-  pub other : fault ≢ Seal Journal
+  pub first : SealFault
+  pub is_first : IsFaultBeside beside basis file (Some first)
+  pub known : Option Belonging
+  pub is_known : IsKnown beside file known
+  pub refused : is_passed known (Some first) ≡ false
+  pub is : fault ≡ Seal first
 
 -- of a file with the bytes that are known
 pub record IsPassed (beside : Beside) (basis : Basis) (old : Option (List ℕ)) : Type 0 where

@@ -1,3 +1,4 @@
 pub mod Comparing
 pub mod Restoring
 pub mod Sealing
+pub mod Shorter

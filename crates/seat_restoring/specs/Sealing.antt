@@ -1,20 +1,22 @@
--- The seal of a journal that `recover` ends, and the three steps in which both are written.
-use Rattle.std.specs.Prelude.{◌≡◌, ◌⊎◌, ℕ, false, List, length, Option}
+-- The seal of a journal that `recover` ends, and the three steps in which both are written. And the seals of one that lines are added to.
+use Rattle.std.specs.Prelude.{◌≡◌, ◌⊎◌, ℕ, Bool, false, List, length, Option}
 use Rattle.seat_journal.specs.declared.entry.Entry.{Entry}
 use Rattle.seat_journal.specs.Text.{journal_text}
 use Rattle.seat_nesting.specs.Nesting.{Ladders}
 use Rattle.seat_disk.specs.Leaving.{Only, Within, replaced_by}
 use Rattle.seat_recovery.specs.OpenText.{open_text}
 use Rattle.seat_recovery.specs.Recovering.{IsRecovered}
-use Rattle.seat_seal.specs.Closing.{IsClosedEntry, runs_within}
-use Rattle.seat_seal.specs.Fronts.{front_of}
+use Rattle.seat_seal.specs.Closing.{IsEntryIn, runs_within}
 use Rattle.seat_seal.specs.Imprints.{imprint_of}
 use Rattle.seat_seal.specs.Known.{IsKnown, runs_known}
 use Rattle.seat_seal.specs.Reading.{two_entries}
-use Rattle.seat_seal.specs.Rules.{is_seal}
+use Rattle.seat_seal.specs.Rules.{is_seal, is_sealed}
 use Rattle.seat_seal.specs.declared.beside.Basis.{Basis}
 use Rattle.seat_seal.specs.declared.beside.Beside.{Beside}
 use Rattle.seat_seal.specs.declared.imprint.Imprint.{Imprint}
+use Rattle.seat_seal.specs.declared.run.Run.{Run}
+use Rattle.seat_seal.specs.declared.seal.JournalState.{JournalState}
+use Rattle.seat_seal.specs.declared.seal.JournalState.TheVariants.{Open, Closed}
 use Rattle.seat_seal.specs.declared.seal.Sealed.{Sealed as Belonging}
 use Rattle.seat_seal.specs.declared.seal.SealEntry.TheVariants.{Sealed}
 use Rattle.seat_sealing.specs.Pairs.{Names}
@@ -24,21 +26,27 @@ use Rattle.seat_desk.specs.Loading.{Bytes}
 use Rattle.seat_desk.specs.declared.inputs.Inputs.{Inputs}
 use Rattle.seat_restoring.specs.Comparing.{OfBasis}
 use Rattle.seat_restoring.specs.Restoring.{AreBytes}
+use Rattle.seat_restoring.specs.Shorter.{IsWhole}
 
 -- ---- the entries
 
--- an entry with this imprint and count of lines, and with the runs that what stands beside the file knows, but for those that began behind
--- more lines
-pub record IsEntryOver (beside : Beside) (basis : Basis) (file : List ℕ) (imprint : Imprint) (lines : ℕ) (entry : Belonging) : Type 0
-  where
-    pub known : Option Belonging
-    pub is_known : IsKnown beside file known
-    pub is : IsClosedEntry basis imprint lines (runs_within lines (runs_known known)) entry
+-- the runs that what stands beside the file knows, but for those that began behind more lines
+pub record AreRunsOver (beside : Beside) (file : List ℕ) (lines : ℕ) (runs : List Run) : Type 0 where
+  pub known : Option Belonging
+  pub is_known : IsKnown beside file known
+  pub runs_are : runs ≡ runs_within lines (runs_known known)
 
--- that of the file as it is, and that of the journal of these lines
+-- an entry in this state, with this imprint and count of lines, and with these runs
+pub record IsEntryOver (state : JournalState) (beside : Beside) (basis : Basis) (file : List ℕ) (imprint : Imprint) (lines : ℕ)
+    (entry : Belonging) : Type 0 where
+  pub runs : List Run
+  pub are_runs : AreRunsOver beside file lines runs
+  pub is : IsEntryIn state basis imprint lines runs entry
+
+-- an open one, whose journal the file is as it is and at each later moment, and that of the journal of these lines
 pub record AreEntries (beside : Beside) (basis : Basis) (file : List ℕ) (journal : List Entry) (older newer : Belonging) : Type 0 where
-  pub is_older : IsEntryOver beside basis file (imprint_of (front_of file)) (length journal) older
-  pub is_newer : IsEntryOver beside basis file (imprint_of (open_text journal)) (length journal) newer
+  pub is_older : IsEntryOver Open beside basis file (imprint_of (open_text journal)) (length journal) older
+  pub is_newer : IsEntryOver Closed beside basis file (imprint_of (open_text journal)) (length journal) newer
 
 -- the texts of the seal that names both, and of that of the journal alone; a reader finds in each the entry of the journal
 pub record AreSeals (beside : Beside) (basis : Basis) (file : List ℕ) (journal : List Entry) (both alone : List ℕ) : Type 0 where
@@ -57,11 +65,40 @@ pub record AreUnsealable (beside : Beside) (basis : Basis) (file : List ℕ) (jo
   pub entries : AreEntries beside basis file journal older newer
   pub broken : is_seal (two_entries (Sealed older) (Sealed newer)) ≡ false
 
+-- ---- the seal of a journal that lines are added to, or that was ended
+
+-- the text is that of a seal of this journal alone, in this state, beside a file with these bytes
+pub record IsSealIn (state : JournalState) (beside : Beside) (basis : Basis) (file : List ℕ) (journal : List Entry) (text : List ℕ)
+    : Type 0 where
+  pub entry : Belonging
+  pub is_entry : IsEntryOver state beside basis file (imprint_of (open_text journal)) (length journal) entry
+  pub is_text : text ≡ alone_text entry
+
+-- it has its name, and a crash leaves it and nothing else
+pub record IsSealedIn (state : JournalState) (beside : Beside) (basis : Basis) (file : List ℕ) (journal : List Entry)
+    (old new : Option (List ℕ)) (leaves : List ℕ → Type 0) : Type 0 where
+  pub text : List ℕ
+  pub is_seal : IsSealIn state beside basis file journal text
+  pub named : new ≡ replaced_by old text
+  pub kept : Only text leaves
+
+-- a crash leaves of the seal what it did, or such a one
+abbrev pub LeavesSeal : JournalState → Beside → Basis → List ℕ → List Entry → (List ℕ → Type 0) → (List ℕ → Type 0) → Type 0
+LeavesSeal state beside basis file journal old new =
+    (c : List ℕ) → new c → old c ⊎ IsSealIn state beside basis file journal c
+
+-- no seal may have the entry
+pub record HasNoSeal (state : JournalState) (beside : Beside) (basis : Basis) (file : List ℕ) (journal : List Entry) : Type 0 where
+  pub entry : Belonging
+  pub is_entry : IsEntryOver state beside basis file (imprint_of (open_text journal)) (length journal) entry
+  pub broken : is_sealed entry ≡ false
+
 -- ---- what is written
 
 -- the seal of the journal alone has its name, and a crash leaves it and nothing else
-pub record IsSealed (beside : Beside) (basis : Basis) (old new : Option (List ℕ)) (leaves : List ℕ → Type 0) (file : List ℕ)
+pub record IsSealed (said : Bool) (beside : Beside) (basis : Basis) (old new : Option (List ℕ)) (leaves : List ℕ → Type 0) (file : List ℕ)
     (journal : List Entry) : Type 0 where
+  pub whole : IsWhole said beside file journal
   pub both : List ℕ
   pub alone : List ℕ
   pub seals : AreSeals beside basis file journal both alone
@@ -107,10 +144,10 @@ FollowIn grid beside basis old journals_old seals_old journals_new seals_new =
 
 -- ---- over the inputs
 
-abbrev pub IsSealedOver : {S L : Type 0} → Beside → Bytes S → Bytes L → Inputs S L → Option (List ℕ) → Option (List ℕ)
+abbrev pub IsSealedOver : {S L : Type 0} → Bool → Beside → Bytes S → Bytes L → Inputs S L → Option (List ℕ) → Option (List ℕ)
     → (List ℕ → Type 0) → List ℕ → List Entry → Type 0
-IsSealedOver beside set limits inputs old new leaves file journal =
-    OfBasis set limits inputs (λ basis. IsSealed beside basis old new leaves file journal)
+IsSealedOver said beside set limits inputs old new leaves file journal =
+    OfBasis set limits inputs (λ basis. IsSealed said beside basis old new leaves file journal)
 
 abbrev pub AreUnsealableOver : {S L : Type 0} → Beside → Bytes S → Bytes L → Inputs S L → List ℕ → List Entry → Type 0
 AreUnsealableOver beside set limits inputs file journal =

@@ -6,5 +6,7 @@ mod comparing;
 mod ending;
 mod recover;
 mod sealing;
+mod served;
 
 pub use recover::desk_recover;
+pub use served::{seal_closed, seal_open};
