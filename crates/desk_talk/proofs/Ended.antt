@@ -1,6 +1,6 @@
 -- The end of a talk, and of the journal with it.
-use Rattle.std.proofs.Common.{◌≡◌, ℕ, List, refl, subst, sym, ap, ◌∙◌}
-use Rattle.std.specs.Prelude.{true, false, IsTrue, None, Some, IfSome, Option}
+use Rattle.std.proofs.Common.{◌≡◌, ℕ, List, subst, sym, ap, ◌∙◌}
+use Rattle.std.specs.Prelude.{None, Some, IfSome, Option}
 use Rattle.seat_nesting.specs.Nesting.{Ladders}
 use Rattle.seat_journal.specs.declared.entry.Entry.{Entry}
 use Rattle.seat_journal.specs.Text.{journal_text, IsJournalText}
@@ -12,16 +12,13 @@ use Rattle.seat_disk.specs.Leaving.{Only}
 use Rattle.seat_recovery.specs.OpenText.{open_text}
 use Rattle.seat_serving.proofs.Holding.{seen_kept}
 use Rattle.seat_serving.specs.Served.{Served}
-use Rattle.seat_serving.specs.declared.serving.ServeFault.{ServeFault}
-use Rattle.seat_serving.specs.declared.serving.ServeFault.TheVariants as ends
 use Rattle.seat_serving.specs.declared.serving.ending.Ended.{Ended}
 use Rattle.desk_answers.specs.Hosts.{Attended, IsReady}
-use Rattle.desk_talk.specs.Ending.{is_of_journal, IsEnded, IsLeftOpen, IsTalkedOut, IsTalkTo, IsUntoldIn}
+use Rattle.desk_talk.specs.Ending.{IsEnded, IsLeftOpen, IsTalkedOut, IsTalkTo, IsUntoldIn}
 use Rattle.desk_talk.specs.Talks.{EndsUntold, IsSameHost, IsTalk}
 use Rattle.desk_talk.specs.declared.serving.DayFault.{DayFault}
 use Rattle.desk_talk.specs.declared.serving.DayFault.TheVariants.{Talk, End}
 use Rattle.desk_talk.specs.declared.talk_fault.TalkFault.{TalkFault}
-use Rattle.desk_talk.specs.declared.talk_fault.TalkFault.TheVariants.{Input, Output, Journal, Memory}
 
 module _ {D : Type 0} where
   -- the journal is that of the host that was opened
@@ -76,12 +73,6 @@ module _ {D : Type 0} where
   }
 
   module _ (seen : D → Option (List ℕ)) (leaves : D → List ℕ → Type 0) (unsynced : D → ℕ) where
-    pub front_to : (old new : Attended D) (s : Served D) (journal : List Entry) → IsReady seen leaves unsynced new.serving
-        → s ≡ new.serving → journal ≡ s.journal → Begins old.serving.kept new.serving.kept → Begins old.serving.kept journal
-    front_to old new s journal ready same is front =
-        subst (λ (l : List Entry). Begins old.serving.kept l)
-        (ready.kept_is ∙ ap (λ (x : Served D). x.journal) (sym same) ∙ sym is) front
-
     -- no END line was written
     pub left_open : (old new : Attended D) (s : Served D) (tape : D) → IsReady seen leaves unsynced new.serving
         → s ≡ new.serving → tape ≡ s.tape → Begins old.serving.kept new.serving.kept
@@ -96,25 +87,6 @@ module _ {D : Type 0} where
           synced = ready.synced;
         })
 
-    -- where the talk was broken off
-    pub open_behind_talk : (old new : Attended D) (s : Served D) (tape : D) (fault : TalkFault)
-        → ((fault ≡ Journal → ⊥) → IsReady seen leaves unsynced new.serving)
-        → s ≡ new.serving → tape ≡ s.tape → Begins old.serving.kept new.serving.kept → is_of_journal (Talk fault) ≡ false
-        → IsLeftOpen old.serving.kept (seen tape) (leaves tape) (unsynced tape)
-    open_behind_talk old new s tape Journal still same is front other = absurd (cc other)
-    open_behind_talk old new s tape Input still same is front other = left_open old new s tape (still (λ no. cc no)) same is front
-    open_behind_talk old new s tape Output still same is front other = left_open old new s tape (still (λ no. cc no)) same is front
-    open_behind_talk old new s tape Memory still same is front other = left_open old new s tape (still (λ no. cc no)) same is front
-
-    -- where the end wanted memory
-    pub open_behind_end : (old new : Attended D) (s : Served D) (tape : D) (fault : ServeFault)
-        → (fault ≡ ends.Memory → tape ≡ s.tape) → IsReady seen leaves unsynced new.serving
-        → s ≡ new.serving → Begins old.serving.kept new.serving.kept → is_of_journal (End fault) ≡ false
-        → IsLeftOpen old.serving.kept (seen tape) (leaves tape) (unsynced tape)
-    open_behind_end old new s tape ends.Device untouched ready same front other = absurd (cc other)
-    open_behind_end old new s tape ends.Memory untouched ready same front other =
-        left_open old new s tape ready same (untouched refl) front
-
 -- which fault of a talk
 un_talk : TalkFault → DayFault → TalkFault
 un_talk other (Talk fault) = fault
@@ -123,14 +95,3 @@ un_talk other (End fault) = other
 pub talk_fault_is : (a b : TalkFault) → Talk a ≡ Talk b → a ≡ b
 unfolding un_talk
 talk_fault_is a b is = ap (un_talk a) is
-
--- the file's fault
-pub of_talk : (fault : TalkFault) → IsTrue (is_of_journal (Talk fault)) → fault ≡ Journal
-of_talk Journal it = refl
-of_talk Input it = absurd (cc it)
-of_talk Output it = absurd (cc it)
-of_talk Memory it = absurd (cc it)
-
-pub of_end : (fault : ServeFault) → IsTrue (is_of_journal (End fault)) → fault ≡ ends.Device
-of_end ends.Device it = refl
-of_end ends.Memory it = absurd (cc it)
