@@ -1,4 +1,4 @@
-use Rattle.std.proofs.Common.{◌≡◌, ℕ, List, [], ◌∙◌, ap, ◌++◌, subst, sym, zero-add}
+use Rattle.std.proofs.Common.{ℕ, List, [], ◌∙◌, ap, ◌++◌, subst, sym, zero-add}
 use Rattle.ssim_flights.specs.declared.flight.Flight.{Flight}
 use Rattle.std.proofs.lemmas.Option.{get_or_from_slice_get, slice_get_within}
 use Rattle.seat_desk.proofs.Texts.{put_more, put_none, text_whole}
