@@ -15,7 +15,7 @@ _seatdesk() {
     esac
     for ((i = 1; i < COMP_CWORD; i++)); do
         case ${COMP_WORDS[i]} in
-        ladder | check | flights | cover | rooms | loads | run | bookings | waiting | history | audit | seal | recover | replies | told | why | explain | help)
+        ladder | check | flights | cover | rooms | loads | run | serve | bookings | waiting | history | audit | seal | recover | replies | told | why | explain | help)
             command=${COMP_WORDS[i]}
             break
             ;;
@@ -23,7 +23,7 @@ _seatdesk() {
     done
     case $command in
     '')
-        words='ladder check flights cover rooms loads run bookings waiting history audit seal recover replies told why explain help -v --verbose -h --help -V --version'
+        words='ladder check flights cover rooms loads run serve bookings waiting history audit seal recover replies told why explain help -v --verbose -h --help -V --version'
         files=''
         values=''
         place=''
@@ -69,6 +69,11 @@ _seatdesk() {
         files='--set --limits --after --resume --journal --changes'
         values='--first --days --behind --today'
         place='files'
+        ;;
+    serve)
+        words='--set --limits --first --days --today --journal --desk -v --verbose -h --help'
+        files='--set --limits --journal'
+        values='--first --days --today --desk'
         ;;
     bookings)
         words='--set --limits --first --days --locator --flight --day --open -v --verbose -h --help'
@@ -133,7 +138,7 @@ _seatdesk() {
         place=''
         ;;
     help)
-        words='ladder check flights cover rooms loads run bookings waiting history audit seal recover replies told why explain'
+        words='ladder check flights cover rooms loads run serve bookings waiting history audit seal recover replies told why explain'
         files=''
         values=''
         place=''

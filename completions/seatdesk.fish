@@ -11,6 +11,7 @@ complete -c seatdesk -n __fish_use_subcommand -a cover -d 'Writes the limits tha
 complete -c seatdesk -n __fish_use_subcommand -a rooms -d 'Writes the seats that are left on each place of a flight, by class'
 complete -c seatdesk -n __fish_use_subcommand -a loads -d 'Writes how full each dated leg is, by class, and what all of them come to'
 complete -c seatdesk -n __fish_use_subcommand -a run -d 'Books the requests of scripts, one session on a thread for each script, and writes the replies'
+complete -c seatdesk -n __fish_use_subcommand -a serve -d 'Stays open for a desk: answers each line of a message once it is on the disk'
 complete -c seatdesk -n __fish_use_subcommand -a bookings -d 'Writes live bookings, of locators or of a flight, in the codes of AIRIMP'
 complete -c seatdesk -n __fish_use_subcommand -a waiting -d 'Writes who waits, in the order in which they would be confirmed, and the seats that they lack'
 complete -c seatdesk -n __fish_use_subcommand -a history -d 'Writes what the lines of a journal did for a locator, each with its reply'
@@ -84,6 +85,15 @@ complete -c seatdesk -n '__fish_seen_subcommand_from run' -s v -l verbose -d 'Na
 complete -c seatdesk -n '__fish_seen_subcommand_from run' -s h -l help -d 'Print help'
 complete -c seatdesk -n '__fish_seen_subcommand_from run' -F
 
+complete -c seatdesk -n '__fish_seen_subcommand_from serve' -l set -r -F -d 'The data set of the schedule (SSIM chapter 7, a file)'
+complete -c seatdesk -n '__fish_seen_subcommand_from serve' -l limits -r -F -d 'The booking limits of the legs, in seats from 0 to 999 (a file)'
+complete -c seatdesk -n '__fish_seen_subcommand_from serve' -l first -x -d 'The first day of departure, as 2024-06-01, from 2000 to 2099'
+complete -c seatdesk -n '__fish_seen_subcommand_from serve' -l days -x -d 'How many days from the first on, 1 to 366'
+complete -c seatdesk -n '__fish_seen_subcommand_from serve' -l today -x -d 'The day of the host, as 2024-06-01, from 2000 to 2099; it gives the requests their year'
+complete -c seatdesk -n '__fish_seen_subcommand_from serve' -l journal -r -F -d 'The journal to go on from (a file, which is locked); it is made where it is not there'
+complete -c seatdesk -n '__fish_seen_subcommand_from serve' -l desk -x -d 'Where the desk is: - for standard input and standard output, as session 1'
+complete -c seatdesk -n '__fish_seen_subcommand_from serve' -s v -l verbose -d 'Names the file of a fault, and where in it the fault stands, or the system\'s reason'
+complete -c seatdesk -n '__fish_seen_subcommand_from serve' -s h -l help -d 'Print help'
 complete -c seatdesk -n '__fish_seen_subcommand_from bookings' -l set -r -F -d 'The data set of the schedule (SSIM chapter 7, a file)'
 complete -c seatdesk -n '__fish_seen_subcommand_from bookings' -l limits -r -F -d 'The booking limits of the legs, in seats from 0 to 999 (a file)'
 complete -c seatdesk -n '__fish_seen_subcommand_from bookings' -l first -x -d 'The first day of departure, as 2024-06-01, from 2000 to 2099'
@@ -185,4 +195,4 @@ complete -c seatdesk -n '__fish_seen_subcommand_from explain' -s v -l verbose -d
 complete -c seatdesk -n '__fish_seen_subcommand_from explain' -s h -l help -d 'Print help'
 complete -c seatdesk -n '__fish_seen_subcommand_from explain' -a 'A1 A2 A3 A4 A5 A6 A7 A8 A9 B1 C1 DEVICE E1 E2 F1 F2 F3 F4 F5 F6 F7 F8 F9 H1 H2 J1 J2 J3 J4 L1 L2 L3 L4 M1 M2 M3 M4 M5 M6 M7 MEMORY P1 P2 P3 P4 P5 P6 P7 P8 Q1 Q2 Q3 R2 S1 S2 S3 S4 S5 S6 S7 S8 S9 S10 S11 S12 S13 S14 S15 SEAL U1'
 
-complete -c seatdesk -n '__fish_seen_subcommand_from help' -a 'ladder check flights cover rooms loads run bookings waiting history audit seal recover replies told why explain'
+complete -c seatdesk -n '__fish_seen_subcommand_from help' -a 'ladder check flights cover rooms loads run serve bookings waiting history audit seal recover replies told why explain'

@@ -735,7 +735,7 @@ const WORDS: &[Explanation] = &[
         behind: "E2",
         code: "desk",
         numbers: NONE,
-        text: "--desk is no digit of 0 to 8: a desk has the number of its session, and 0 is the manager of the limits.",
+        text: "--desk of told is no digit of 0 to 8 (a desk has the number of its session, and 0 is the manager of the limits), or --desk of serve is not -, which is standard input and standard output.",
     },
     Explanation {
         behind: "E2",

@@ -94,6 +94,12 @@ run_app = with_rule (with_rule (with_rule (with_rule (with_rule (with_rule (with
     (flag (codes "again")))
     (optional_values (codes "scripts"))
 
+unfoldable pub serve_app : App
+serve_app = with_rule (with_rule (with_rule (horizon_app (codes "serve"))
+    (required_option (codes "today")))
+    (required_option (codes "journal")))
+    (required_option (codes "desk"))
+
 unfoldable pub bookings_app : App
 bookings_app = with_rule (with_rule (with_rule (with_rule (with_rule (horizon_app (codes "bookings"))
     (optional_several (codes "locator")))
@@ -182,8 +188,8 @@ with_command program command = with_subcommand program (with_verbose command).to
 
 -- the commands that work on a schedule, or on one leg
 unfoldable pub selling_app : App
-selling_app = with_command (with_command (with_command (with_command (with_command (with_command (with_command
-    bare_app ladder_app) check_app) flights_app) cover_app) rooms_app) loads_app) run_app
+selling_app = with_command (with_command (with_command (with_command (with_command (with_command (with_command (with_command
+    bare_app ladder_app) check_app) flights_app) cover_app) rooms_app) loads_app) run_app) serve_app
 
 -- the program: one of its commands must be named
 unfoldable pub seatdesk_app : App

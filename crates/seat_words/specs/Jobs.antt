@@ -6,7 +6,7 @@ use Rattle.std.specs.Option.{option_map, option_map_or}
 use Rattle.clap.specs.Words.{Row, Text, all_of, first_of}
 use Rattle.seat_words.specs.declared.job.Horizon.{Horizon}
 use Rattle.seat_words.specs.declared.job.Job.{Job}
-use Rattle.seat_words.specs.declared.job.Job.TheVariants.{Ladder, Check, Flights, Cover, Rooms, Loads, Run, Bookings, Waiting, History, Audit, Seal, Recover, Replies, Told, Why, Explain}
+use Rattle.seat_words.specs.declared.job.Job.TheVariants.{Ladder, Check, Flights, Cover, Rooms, Loads, Run, Serve, Bookings, Waiting, History, Audit, Seal, Recover, Replies, Told, Why, Explain}
 
 -- a command that clap found in the words, and what it found of the command's values
 abbrev pub Line : Type 0
@@ -78,6 +78,11 @@ Asks (Run over after behind resume today journal changes no_clobber again script
     × HasFlag line (codes "no-clobber") no_clobber
     × HasFlag line (codes "again") again
     × HasAny line (codes "scripts") scripts
+Asks (Serve over today journal desk) line = (line.0 ≡ codes "serve")
+    × IsOver line.1 over
+    × Has line (codes "today") today.now
+    × Has line (codes "journal") journal.now
+    × Has line (codes "desk") desk.now
 Asks (Bookings over locators flight day is_open journal) line = (line.0 ≡ codes "bookings")
     × IsOver line.1 over
     × HasAny line (codes "locator") locators
@@ -151,6 +156,7 @@ asked_values = (codes "ladder", [])
     ∷ (codes "rooms", horizon_values)
     ∷ (codes "loads", horizon_values)
     ∷ (codes "run", horizon_values ++ codes "today" ∷ codes "journal" ∷ [])
+    ∷ (codes "serve", horizon_values ++ codes "today" ∷ codes "journal" ∷ codes "desk" ∷ [])
     ∷ (codes "bookings", horizon_values ++ codes "journal" ∷ [])
     ∷ (codes "waiting", horizon_values ++ codes "journal" ∷ [])
     ∷ (codes "history", horizon_values ++ codes "locator" ∷ codes "journal" ∷ [])

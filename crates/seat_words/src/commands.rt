@@ -1,7 +1,7 @@
 //! The commands, as clap reads them and as their help shows them.
 ghost use Rattle.std.specs.Prelude.{IfOk, IsOkAnd, codes};
 ghost use Rattle.clap.specs.Words.{AddsArg, App, new_app};
-ghost use Rattle.seat_words.specs.CommandLine.{IsBuiltAs, IsReadAlike, IsReadAs, audit_app, bare_app, bookings_app, check_app, cover_app, explain_app, flag, flights_app, history_app, horizon_app, ladder_app, lettered_flag, loads_app, named_app, optional, optional_several, optional_value, optional_values, recover_app, replies_app, required_option, required_value, rooms_app, run_app, seal_app, seatdesk_app, selling_app, told_app, waiting_app, why_app, with_command, with_verbose};
+ghost use Rattle.seat_words.specs.CommandLine.{IsBuiltAs, IsReadAlike, IsReadAs, audit_app, bare_app, bookings_app, check_app, cover_app, explain_app, flag, flights_app, history_app, horizon_app, ladder_app, lettered_flag, loads_app, named_app, optional, optional_several, optional_value, optional_values, recover_app, replies_app, required_option, required_value, rooms_app, run_app, seal_app, seatdesk_app, selling_app, serve_app, told_app, waiting_app, why_app, with_command, with_verbose};
 
 use clap::{Arg, ArgAction, Command};
 use std::alloc::{AllocError, Global};
@@ -23,6 +23,15 @@ const DAYS_HELP: &str = "How many days from the first on, 1 to 366";
 
 const TODAY_HELP: &str =
     "The day of the run, as 2024-06-01, from 2000 to 2099; it gives the requests their year";
+
+const SERVED_DAY_HELP: &str =
+    "The day of the host, as 2024-06-01, from 2000 to 2099; it gives the requests their year";
+
+const SERVED_HELP: &str =
+    "The journal to go on from (a file, which is locked); it is made where it is not there";
+
+const DESK_PLACE_HELP: &str =
+    "Where the desk is: - for standard input and standard output, as session 1";
 
 const OUT_HELP: &str =
     "The file that the journal is written to, which may be no input but the journal of --after or --resume";
@@ -146,7 +155,8 @@ fn selling_command<'a>(alloc: Global) -> Result<Command<'a>, AllocError>
     let program = with_command(alloc, program, cover_command(alloc));
     let program = with_command(alloc, program, rooms_command(alloc));
     let program = with_command(alloc, program, loads_command(alloc));
-    with_command(alloc, program, run_command(alloc))
+    let program = with_command(alloc, program, run_command(alloc));
+    with_command(alloc, program, serve_command(alloc))
 }
 
 // The program with one more command, which has -v too, if both could be made.
@@ -311,6 +321,26 @@ fn run_command<'a>(alloc: Global) -> Result<Command<'a>, AllocError>
         run,
         optional_values(alloc, "scripts", "SCRIPT", SCRIPTS_HELP),
     )
+}
+
+fn serve_command<'a>(alloc: Global) -> Result<Command<'a>, AllocError>
+    ensures { IfOk result (IsBuiltAs serve_app) }
+{
+    let serve = horizon_command(
+        alloc,
+        "serve",
+        "Stays open for a desk: answers each line of a message once it is on the disk",
+        "Type the lines of a message, as in a script: the reply to each segment line stands below it. ? LZ601Q27JUL LHRKEF shows the seats\nthat are left in a class. The end of the input, or ?BYE, ends the journal; a host that is killed loses no reply that it gave,\nand goes on from its journal when it is started again.\n\nExample: seatdesk serve --set examples/summer.ssim --limits examples/limits.txt --first 2024-07-01 --days 31 --today 2024-06-20 --journal journal.txt --desk -",
+    );
+    let serve = with_argument(
+        serve,
+        wanted_option(alloc, "today", "DATE", SERVED_DAY_HELP),
+    );
+    let serve = with_argument(
+        serve,
+        wanted_option(alloc, "journal", "JOURNAL", SERVED_HELP),
+    );
+    with_argument(serve, wanted_option(alloc, "desk", "DESK", DESK_PLACE_HELP))
 }
 
 fn bookings_command<'a>(alloc: Global) -> Result<Command<'a>, AllocError>

@@ -74,6 +74,13 @@ pub enum Job<'a> {
         /// None or more.
         scripts: Several<'a>,
     },
+    /// `seatdesk serve` over a horizon `--today DATE --journal JOURNAL --desk DESK`
+    Serve {
+        over: Horizon<'a>,
+        today: &'a str,
+        journal: &'a str,
+        desk: &'a str,
+    },
     /// `seatdesk bookings` over a horizon `[--locator LOCATOR]... [--flight FLIGHT] [--day DATE] [--open] JOURNAL`
     Bookings {
         over: Horizon<'a>,
@@ -256,6 +263,12 @@ fn job_named<'a>(alloc: Global, name: &str, matches: &ArgMatches<'a>) -> Result<
             no_clobber: flag_of(matches, "no-clobber"),
             again: flag_of(matches, "again"),
             scripts: any_values_of(alloc, matches, "scripts")?,
+        },
+        "serve" => Job::Serve {
+            over: horizon_of(matches),
+            today: value_of(matches, "today"),
+            journal: value_of(matches, "journal"),
+            desk: value_of(matches, "desk"),
         },
         "bookings" => Job::Bookings {
             over: horizon_of(matches),

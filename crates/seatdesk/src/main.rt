@@ -9,6 +9,7 @@ mod locale;
 mod replaced;
 mod restoring;
 mod selling;
+mod serving;
 mod sessions;
 mod undone;
 
@@ -18,6 +19,7 @@ use seat_desk::DeskFault;
 use seat_files::Refusal;
 use seat_words::{Job, WordFault, read_words};
 use selling::{Asking, Older, Part};
+use serving::Open;
 use std::io;
 use std::io::IsTerminal;
 use std::process::ExitCode;
@@ -95,6 +97,19 @@ fn carry_out<'a, T: Threads + Wait + Sync>(
                 scripts: scripts.as_slice(),
             };
             selling::run(rt, threads, over, &asking)?
+        }
+        Job::Serve {
+            over,
+            today,
+            journal,
+            desk,
+        } => {
+            let asked = Open {
+                today,
+                journal,
+                desk,
+            };
+            serving::serve(rt, threads, over, &asked)?
         }
         Job::Audit {
             over,

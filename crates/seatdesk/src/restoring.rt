@@ -103,7 +103,7 @@ fn as_beside(text: &Option<Vec<u8>>) -> Beside<'_> {
 }
 
 /// Why the journal is not opened.
-fn unopened<'a>(journal: &'a str, fault: OpenFault) -> Refusal<'a>
+pub fn unopened<'a>(journal: &'a str, fault: OpenFault) -> Refusal<'a>
     ensures { IsTrue (is_of_file result.fault) }
 {
     match fault {
@@ -116,7 +116,7 @@ fn unopened<'a>(journal: &'a str, fault: OpenFault) -> Refusal<'a>
 }
 
 /// Says where what was cut is kept, if it is.
-fn tell_kept(rt: &HostRuntime, journal: &str, beside: &BesideFile<'_>) {
+pub fn tell_kept(rt: &HostRuntime, journal: &str, beside: &BesideFile<'_>) {
     if beside.failures() > 0 {
         return;
     }
