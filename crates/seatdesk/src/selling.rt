@@ -802,7 +802,7 @@ fn behind<'a>(
 }
 
 #[tactic(auto, using(crate::proofs::Horizons::day_of_word))]
-fn day_of_run(today: &str) -> Result<Day, WordFault>
+pub(crate) fn day_of_run(today: &str) -> Result<Day, WordFault>
     ensures { IfOk result IsCenturyDay }
 {
     match date_word(today) {

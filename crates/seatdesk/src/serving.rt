@@ -7,6 +7,7 @@ ghost use Rattle.seat_desk.specs.Loading.{IsGridOf};
 
 use crate::commands::{days_of, inputs_of};
 use crate::restoring::{tell_kept, unopened};
+use crate::selling::day_of_run;
 use airline_base::{Counted, Day, ReadFault};
 use desk_talk::{DayFault, TalkFault, open_host, serve_desk};
 use seat_desk::{DeskFault, Loaded, MOST_LINES, answer_question, load};
@@ -22,7 +23,7 @@ use seat_reports::Audit;
 use seat_seal::SealFault;
 use seat_serving::{GoOnFault, ServeFault};
 use seat_tape::{BesideFile, TapeFile, open};
-use seat_words::{Horizon, WordFault, date_word};
+use seat_words::{Horizon, WordFault};
 use ssim_flights::Flights;
 use std::fs;
 use std::sync::Wait;
@@ -43,9 +44,7 @@ pub fn serve<'a, R: Wait>(
     asked: &Open<'a>,
 ) -> Result<(), Refusal<'a>> {
     let days = days_of(over.first, over.days)?;
-    let Some(today) = date_word(asked.today) else {
-        return Err(Refusal::from(WordFault::BadToday));
-    };
+    let today = day_of_run(asked.today)?;
     if asked.desk != "-" {
         return Err(Refusal::from(WordFault::BadDesk));
     }
