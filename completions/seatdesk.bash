@@ -74,6 +74,7 @@ _seatdesk() {
         words='--set --limits --first --days --today --journal --desk -v --verbose -h --help'
         files='--set --limits --journal'
         values='--first --days --today --desk'
+        place=''
         ;;
     bookings)
         words='--set --limits --first --days --locator --flight --day --open -v --verbose -h --help'

@@ -94,6 +94,7 @@ complete -c seatdesk -n '__fish_seen_subcommand_from serve' -l journal -r -F -d 
 complete -c seatdesk -n '__fish_seen_subcommand_from serve' -l desk -x -d 'Where the desk is: - for standard input and standard output, as session 1'
 complete -c seatdesk -n '__fish_seen_subcommand_from serve' -s v -l verbose -d 'Names the file of a fault, and where in it the fault stands, or the system\'s reason'
 complete -c seatdesk -n '__fish_seen_subcommand_from serve' -s h -l help -d 'Print help'
+
 complete -c seatdesk -n '__fish_seen_subcommand_from bookings' -l set -r -F -d 'The data set of the schedule (SSIM chapter 7, a file)'
 complete -c seatdesk -n '__fish_seen_subcommand_from bookings' -l limits -r -F -d 'The booking limits of the legs, in seats from 0 to 999 (a file)'
 complete -c seatdesk -n '__fish_seen_subcommand_from bookings' -l first -x -d 'The first day of departure, as 2024-06-01, from 2000 to 2099'
