@@ -6,5 +6,6 @@ mod answers;
 mod explanations;
 mod meaning;
 mod replies;
+mod sealed;
 
 pub use meaning::{Meaning, meaning_of};

@@ -1,6 +1,7 @@
 //! The commands that only read, each with its streams and dates.
 //! It knows which stream is which and which words name a day or a name, and nothing of what the commands do with them.
 ghost use Rattle.std.specs.Prelude.{◌≡◌, ◌≤◌, IfOk};
+ghost use Rattle.airline_base.specs.Days.{IsCenturyDay};
 ghost use Rattle.ssim_flights.specs.Right.{IsOfCentury};
 
 use crate::locale::is_utf_8;
@@ -387,6 +388,17 @@ pub fn inputs_of<'a>(
         first: days.0,
         days: days.1,
     })
+}
+
+/// The day on which requests are read.
+#[tactic(auto, using(crate::proofs::Horizons::day_of_word))]
+pub fn day_of_run(today: &str) -> Result<Day, WordFault>
+    ensures { IfOk result IsCenturyDay }
+{
+    match date_word(today) {
+        Some(today) => Ok(today),
+        None => Err(WordFault::BadToday),
+    }
 }
 
 /// The first day and the number of days.

@@ -1,12 +1,12 @@
 //! The commands that sell, or look at what was sold: `run`, and `audit` and `replies` with the scripts of a run.
 //! It knows which stream is which, and nothing of what the commands do with them.
-ghost use Rattle.std.specs.Prelude.{◌≤◌, IfOk, IsTrue, length};
+ghost use Rattle.std.specs.Prelude.{◌≤◌, IsTrue, length};
 ghost use Rattle.airline_base.specs.Days.{IsCenturyDay};
 ghost use Rattle.seat_seal.specs.Rules.{is_entry};
 ghost use Rattle.ssim_flights.specs.Right.{IsOfCentury};
 
 use crate::commands;
-use crate::commands::{Looked, days_of, inputs_of};
+use crate::commands::{Looked, day_of_run, days_of, inputs_of};
 use crate::heard::Heard;
 use crate::sessions::scripts_opened;
 use airline_base::Day;
@@ -21,8 +21,7 @@ use seat_scripts::{Besides, Wanted, desk_audit_against, desk_replies};
 use seat_seal::{SealEntry, is_entry, read_seal};
 use seat_sealing::older_entry;
 use seat_words::{
-    Horizon, WordFault, audit_lacks, behind_word, date_word, line_word, session_word,
-    sessions_of_run,
+    Horizon, WordFault, audit_lacks, behind_word, line_word, session_word, sessions_of_run,
 };
 use seat_workers::NoGate;
 use std::fs;
@@ -107,8 +106,7 @@ struct Attempt<'a> {
     is_moved: bool,
 }
 
-/// A journal that a run has replaced meanwhile is read once more, with everything else: nothing is written where a seal
-/// denies it.
+/// A journal that a run has replaced meanwhile is read once more, with all else: nothing is written where a seal denies it.
 fn audit_against<'a>(
     rt: &HostRuntime,
     over: &Horizon<'a>,
@@ -798,15 +796,5 @@ fn behind<'a>(
                 .noting_all(more)
                 .noting_outputs(outputs),
         ),
-    }
-}
-
-#[tactic(auto, using(crate::proofs::Horizons::day_of_word))]
-pub(crate) fn day_of_run(today: &str) -> Result<Day, WordFault>
-    ensures { IfOk result IsCenturyDay }
-{
-    match date_word(today) {
-        Some(today) => Ok(today),
-        None => Err(WordFault::BadToday),
     }
 }

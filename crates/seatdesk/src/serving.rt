@@ -5,9 +5,8 @@ ghost use Rattle.airline_base.specs.Days.{IsCenturyDay};
 ghost use Rattle.ssim_flights.specs.Right.{IsOfCentury};
 ghost use Rattle.seat_desk.specs.Loading.{IsGridOf};
 
-use crate::commands::{days_of, inputs_of};
+use crate::commands::{day_of_run, days_of, inputs_of};
 use crate::restoring::{tell_kept, unopened};
-use crate::selling::day_of_run;
 use airline_base::{Counted, Day, ReadFault};
 use desk_talk::{DayFault, TalkFault, open_host, serve_desk};
 use seat_desk::{DeskFault, Loaded, MOST_LINES, answer_question, load};

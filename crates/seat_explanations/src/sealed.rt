@@ -1,0 +1,73 @@
+//! What the faults of a seal say.
+
+use crate::explanations::{Explanation, NONE};
+
+// What stands beside a journal.
+pub(crate) const SEALS: &[Explanation] = &[
+    Explanation {
+        behind: "",
+        code: "SEAL",
+        numbers: NONE,
+        text: "JOURNAL.seal beside the journal says that the journal belongs to something else than is given.\nThe word behind it says what. It is compared ahead of the journal's own lines.\ngrep run JOURNAL.seal shows behind how many lines each run of it began, as run behind 25.",
+    },
+    Explanation {
+        behind: "SEAL",
+        code: "none",
+        numbers: NONE,
+        text: "--sealed wants a seal, and JOURNAL.seal is not there, or the journal is no regular file.\nseatdesk seal writes one, for a journal that is right.",
+    },
+    Explanation {
+        behind: "SEAL",
+        code: "form",
+        numbers: NONE,
+        text: "JOURNAL.seal is no seal: a byte of it was changed, or it was cut off, or it is another file.\nOne that begins with SEATSEAL 1 is of an older version: seatdesk seal writes it anew, without the scripts.",
+    },
+    Explanation {
+        behind: "SEAL",
+        code: "set",
+        numbers: NONE,
+        text: "The data set is another than the one that the journal was booked over.",
+    },
+    Explanation {
+        behind: "SEAL",
+        code: "limits",
+        numbers: NONE,
+        text: "The limit rows are others than those that the journal was booked over.",
+    },
+    Explanation {
+        behind: "SEAL",
+        code: "first",
+        numbers: NONE,
+        text: "--first is another day than that of the journal's flights.",
+    },
+    Explanation {
+        behind: "SEAL",
+        code: "days",
+        numbers: NONE,
+        text: "--days is another number than that of the journal's flights.",
+    },
+    Explanation {
+        behind: "SEAL",
+        code: "journal",
+        numbers: NONE,
+        text: "The journal's head and entries are others than those that were sealed: a line was changed, added or taken away,\nor the journal is another than the seal's: a run writes both, and a kept journal has its own beside it.\nOf an open seal the journal does not begin with its lines. Of seatdesk recover it may have fewer lines than were\nsealed, which no crash takes: --cut ends it as it is. Of seatdesk seal: the seal there has a run behind more lines than the journal has, so it was changed.",
+    },
+    Explanation {
+        behind: "SEAL",
+        code: "again",
+        numbers: NONE,
+        text: "A script that is to be booked, or the file of --changes, stands in the journal already: its seal has the digest of the\nvery same bytes, by one of the last 128 runs that wrote it. So the same command given twice books nothing twice,\nunless a --resume of its scripts came between.\n--again books it once more; --resume JOURNAL books what is new of scripts that have grown, and nothing where nothing is.\nOf --resume JOURNAL it is a script of a run ahead of the lines that --behind names: say where that run began.",
+    },
+    Explanation {
+        behind: "SEAL",
+        code: "behind",
+        numbers: NONE,
+        text: "--behind N, or the journal of --after, says behind how many lines the scripts of --resume began. The seal of the journal\nhas no run that began behind so many: all would be booked once more. Its lines run behind have the numbers.",
+    },
+    Explanation {
+        behind: "SEAL",
+        code: "runs",
+        numbers: NONE,
+        text: "The seal of the journal of --resume has several runs, which began behind several numbers of lines. Say by --behind N with\nwhich of them the scripts began: N stands in the seal's lines run behind. Behind the first of a day stands what all desks sold that day.",
+    },
+];
