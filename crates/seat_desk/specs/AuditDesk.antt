@@ -44,6 +44,15 @@ pub record IsAudited (grid : Ladders) (bytes line : List ℕ) : Type 0 where
   pub within : HoldsWithinLimits grid entries
   pub sums : line ≡ audit_line (totals_of entries)
 
+-- the bytes are the text of a legal history over these limits, after which no leg holds more than the limits that it leaves, and this is what it comes to
+pub record IsTotalled (grid : Ladders) (bytes : List ℕ) (totals : Totals) : Type 0 where
+  pub entries : List Entry
+  pub is_text : IsJournalText bytes entries
+  pub legal : IsLegal grid entries
+  pub few : length entries ≤ most_lines
+  pub within : HoldsWithinLimits grid entries
+  pub sums : totals ≡ totals_of entries
+
 -- the bytes are the text of a legal history over these limits, and the inventory is what it comes to and takes as many lines as a journal has at most, after which no leg holds more than the limits that it leaves
 pub record IsReplayOf (grid : Ladders) (bytes : List ℕ) (core : Inventory) : Type 0 where
   pub grid_is : core.grid ≡ grid
