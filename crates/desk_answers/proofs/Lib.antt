@@ -1,3 +1,6 @@
+pub mod Behind
+pub mod Repeats
 pub mod Days
 pub mod Finding
+pub mod Readying
 pub mod Wishes

@@ -97,7 +97,7 @@ no_line past journal lines more none = more ∙ ap (λ (l : List Entry). past ++
 
 -- ---- what is told
 
-requested : (wish : Request) (work : Work) → IsRequested (wish ∷ []) 0 work
+pub requested : (wish : Request) (work : Work) → IsRequested (wish ∷ []) 0 work
 requested wish (Seats c) = omega arith
 requested wish (Limit c) = tt
 

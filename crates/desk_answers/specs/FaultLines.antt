@@ -17,6 +17,11 @@ at_line session number = codes " " ++ decimal session ++ codes " " ++ decimal nu
 abbrev pub wrong_line : Wrong → ℕ → ℕ → List ℕ
 wrong_line wrong session number = fault_line (wrong_text wrong ++ at_line session number)
 
+-- a wrong line that has the number of a call: its code, the session, @ and the call
+abbrev pub wrong_call_line : Wrong → ℕ → ℕ → List ℕ
+wrong_call_line wrong session call =
+    fault_line (wrong_text wrong ++ codes " " ++ decimal session ++ codes " @" ++ decimal call)
+
 -- a call to which a full journal gives no line: B1, the session and the call
 abbrev pub full_line : ℕ → ℕ → List ℕ
 full_line session call = fault_line (fault_text (Book session call))

@@ -1,12 +1,15 @@
 -- What a desk is answered, by what its line means.
-use Rattle.std.specs.Prelude.{◌≡◌, ℕ, ◌+◌, Bool, true, false, nat_lt, List, [], ◌∷◌, ◌++◌, length, Option, Some, None}
+use Rattle.std.specs.Prelude.{◌≡◌, ◌⊎◌, ℕ, ◌+◌, ◌==◌, Bool, true, false, nat_lt, List, [], ◌∷◌, ◌++◌, length, Option, Some, None}
 use Rattle.airimp_lines.specs.declared.look.FlightClass.{FlightClass}
 use Rattle.airimp_lines.specs.declared.look.Look.{Look as Looked}
 use Rattle.airimp_lines.specs.declared.requests.Request.{Request as Wish}
 use Rattle.desk_lines.specs.Lines.{next_number, Hears}
 use Rattle.desk_lines.specs.declared.desk.Desk.{Desk}
 use Rattle.desk_lines.specs.declared.desk.Meaning.{Meaning}
-use Rattle.desk_lines.specs.declared.desk.Meaning.TheVariants.{Nothing, Request, Look, Leave, Wrong}
+use Rattle.desk_lines.specs.declared.desk.Meaning.TheVariants.{Nothing, Request, Call, Look, Again, Hello, Leave, Wrong, WrongCall}
+use Rattle.desk_lines.specs.declared.desk.Wrong.TheVariants as faults
+use Rattle.desk_calls.specs.Calls.{call_line}
+use Rattle.desk_telling.specs.Telling.{AreTold, told_behind}
 use Rattle.ssim_flights.specs.declared.flight.Flight.{Flight as Flown}
 use Rattle.seat_journal.specs.declared.entry.Entry.{Entry}
 use Rattle.seat_journal.specs.declared.entry.Work.TheVariants.{Seats}
@@ -16,9 +19,11 @@ use Rattle.seat_serving.specs.Answering.{line_for, with_line}
 use Rattle.seat_serving.specs.declared.asked.Asked.{Asked}
 use Rattle.seat_scripts.specs.Requests.{command_of}
 use Rattle.seat_scripts.specs.RunDesk.{IsAnswer}
-use Rattle.desk_answers.specs.FaultLines.{full_line, wrong_line}
+use Rattle.seat_scripts.specs.VeryRequest.{IsVeryRequest}
+use Rattle.desk_answers.specs.FaultLines.{full_line, wrong_call_line, wrong_line}
 use Rattle.desk_answers.specs.Hosts.{Attended}
 use Rattle.desk_answers.specs.Looks.{IsDayLook, IsLookLine}
+use Rattle.desk_answers.specs.Ready.{IsReadyLine}
 use Rattle.desk_answers.specs.declared.heard.Heard.{Heard}
 
 -- a request of a session, on the first place that serves it
@@ -43,21 +48,66 @@ IsAsked true flights grid session past journal wish text =
 IsAsked false flights grid session past journal wish text =
     (journal ≡ past) × (text ≡ full_line session (calls_of past session + 1))
 
+-- ---- numbered requests
+
+-- the call of this number has this line: where it is this very request its answer is told once more, and else the line is refused
+abbrev pub IsAnsweredAgain : List Flown → List Entry → ℕ → ℕ → Entry → Wish → List ℕ → Type 0
+IsAnsweredAgain flights journal session number line wish text =
+    (IsVeryRequest flights wish line.work × IsAnswer flights (wish ∷ []) journal 0 line text)
+    ⊎ ((IsVeryRequest flights wish line.work → ⊥) × (text ≡ wrong_call_line faults.Other session number))
+
+-- and where no line has it its number is beyond the next
+abbrev pub IsAgain : Option Entry → List Flown → List Entry → ℕ → ℕ → Wish → List ℕ → Type 0
+IsAgain (Some line) flights journal session number wish text =
+    IsAnsweredAgain flights journal session number line wish text
+IsAgain None flights journal session number wish text = text ≡ wrong_call_line faults.Beyond session number
+
+-- the session's next call is booked as any request is; any other changes nothing
+abbrev pub IsCalled : Bool → List Flown → Ladders → ℕ → ℕ → ℕ → List Entry → List Entry → Wish → List ℕ → Type 0
+IsCalled true flights grid cap session number past journal wish text =
+    IsAsked (nat_lt (length past) cap) flights grid session past journal wish text
+IsCalled false flights grid cap session number past journal wish text =
+    (journal ≡ past) × IsAgain (call_line session number past) flights past session number wish text
+
+-- ---- what is said
+
 -- a class of a flight is looked at, or each class of each flight of a day
 abbrev pub IsLooked : List Flown → Ladders → List Entry → Option FlightClass → Looked → List ℕ → Type 0
 IsLooked flights grid journal (Some flight) look text = IsLookLine flights grid journal flight look text
 IsLooked flights grid journal None look text = IsDayLook flights grid journal look text
 
+-- what is said of a line that asks for no seats; of one that does, nothing
+abbrev pub SaysQuiet : List Flown → Ladders → ℕ → ℕ → ℕ → List Entry → Meaning → List ℕ → Type 0
+SaysQuiet flights grid session today number journal Nothing text = text ≡ []
+SaysQuiet flights grid session today number journal (Request wish) text = text ≡ []
+SaysQuiet flights grid session today number journal (Call call wish) text = text ≡ []
+SaysQuiet flights grid session today number journal (Look look) text = IsLooked flights grid journal look.flight look text
+SaysQuiet flights grid session today number journal (Again behind) text =
+    AreTold flights session (told_behind journal session behind) text
+SaysQuiet flights grid session today number journal (Hello name) text =
+    IsReadyLine (Some name) session (length journal) (calls_of journal session) today text
+SaysQuiet flights grid session today number journal Leave text = text ≡ []
+SaysQuiet flights grid session today number journal (Wrong wrong) text = text ≡ wrong_line wrong session number
+SaysQuiet flights grid session today number journal (WrongCall call wrong) text = text ≡ wrong_call_line wrong session call
+
+-- the desk stays, unless it said that it goes
+abbrev pub stays_behind : Meaning → Bool
+stays_behind Leave = false
+stays_behind meaning = true
+
+-- the journal is as it was
+abbrev pub SaysSame : List Flown → Ladders → ℕ → ℕ → ℕ → List Entry → List Entry → Meaning → Bool → List ℕ → Type 0
+SaysSame flights grid session today number past journal meaning stays text =
+    (stays ≡ stays_behind meaning) × (journal ≡ past) × SaysQuiet flights grid session today number past meaning text
+
 -- what is said of a line by its meaning, what the journal is then, and whether the desk stays
-abbrev pub Says : List Flown → Ladders → ℕ → ℕ → ℕ → List Entry → List Entry → Meaning → Bool → List ℕ → Type 0
-Says flights grid cap session number past journal Nothing stays text = (stays ≡ true) × (journal ≡ past) × (text ≡ [])
-Says flights grid cap session number past journal (Request wish) stays text =
+abbrev pub Says : List Flown → Ladders → ℕ → ℕ → ℕ → ℕ → List Entry → List Entry → Meaning → Bool → List ℕ → Type 0
+Says flights grid cap session today number past journal (Request wish) stays text =
     (stays ≡ true) × IsAsked (nat_lt (length past) cap) flights grid session past journal wish text
-Says flights grid cap session number past journal (Look look) stays text =
-    (stays ≡ true) × (journal ≡ past) × IsLooked flights grid past look.flight look text
-Says flights grid cap session number past journal Leave stays text = (stays ≡ false) × (journal ≡ past) × (text ≡ [])
-Says flights grid cap session number past journal (Wrong wrong) stays text =
-    (stays ≡ true) × (journal ≡ past) × (text ≡ wrong_line wrong session number)
+Says flights grid cap session today number past journal (Call call wish) stays text =
+    (stays ≡ true) × IsCalled (call == calls_of past session + 1) flights grid cap session call past journal wish text
+Says flights grid cap session today number past journal meaning stays text =
+    SaysSame flights grid session today number past journal meaning stays text
 
 -- the desk has heard this line, which counts, and it means this
 pub record HasHeard (old new : Desk) (line : List ℕ) (meaning : Meaning) : Type 0 where
@@ -69,14 +119,20 @@ pub record HasHeard (old new : Desk) (line : List ℕ) (meaning : Meaning) : Typ
 pub record IsAnswered {D : Type 0} (old new : Attended D) (line : List ℕ) (heard : Heard) : Type 0 where
   pub meaning : Meaning
   pub is_heard : HasHeard old.desk new.desk line meaning
-  pub says : Says old.flights old.serving.grid old.serving.cap old.session new.desk.lines old.serving.journal
+  pub says : Says old.flights old.serving.grid old.serving.cap old.session new.desk.today new.desk.lines old.serving.journal
       new.serving.journal meaning heard.stays heard.text.items
+
+-- with a number or without
+abbrev pub AsksFor : Meaning → Wish → Type 0
+AsksFor (Request own) wish = own ≡ wish
+AsksFor (Call call own) wish = own ≡ wish
+AsksFor meaning wish = ⊥
 
 -- the request that was meant is in the journal, and its answer is not told
 pub record IsUntoldOf (flights : List Flown) (grid : Ladders) (session : ℕ) (past journal : List Entry) (meaning : Meaning)
     : Type 0 where
   pub wish : Wish
-  pub is : meaning ≡ Request wish
+  pub is : AsksFor meaning wish
   pub line_is : journal ≡ with_line grid past (asked_by flights session wish)
 
 -- the line counts, and the request that it meant is in the journal; nobody is told of it

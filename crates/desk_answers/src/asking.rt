@@ -69,7 +69,8 @@ pub(crate) fn ask<R: Wait, D: Tape>(
     book(rt, alloc, flights, serving, wish, asked)
 }
 
-fn asked_by(served: &Served<'_>, session: u8, wish: &Request) -> Asked
+/// What a session's request asks of the inventory, on the first place that serves it.
+pub fn asked_by(served: &Served<'_>, session: u8, wish: &Request) -> Asked
     ensures { result ≡ asked_by served.now session wish.now }
 {
     Asked {

@@ -1,6 +1,6 @@
 //! The lines that say why a desk's line is refused.
 ghost use Rattle.std.specs.Prelude.{◌≡◌, IfOk};
-ghost use Rattle.desk_answers.specs.FaultLines.{full_line, memory_line, wrong_line};
+ghost use Rattle.desk_answers.specs.FaultLines.{full_line, memory_line, wrong_call_line, wrong_line};
 
 use airline_base::Memory;
 use airline_base::spelling::{put, put_number};
@@ -22,8 +22,21 @@ pub(crate) fn wrong_line(
     Ok(line.into_bytes())
 }
 
+/// A wrong line that has the number of a call.
+pub fn wrong_call_line(
+    alloc: Global,
+    wrong: Wrong,
+    session: u8,
+    call: u32,
+) -> Result<Vec<u8>, Memory>
+    ensures { IfOk result (λ text. text.items ≡ wrong_call_line wrong session call) }
+{
+    let line = format!(in alloc; "FAULT {wrong} {session} @{call}\n")?;
+    Ok(line.into_bytes())
+}
+
 /// The journal has no room for this call.
-pub(crate) fn full_line(alloc: Global, session: u8, call: u32) -> Result<Vec<u8>, Memory>
+pub fn full_line(alloc: Global, session: u8, call: u32) -> Result<Vec<u8>, Memory>
     ensures { IfOk result (λ text. text.items ≡ full_line session call) }
 {
     let fault = DeskFault::Book { session, call };

@@ -1,37 +1,45 @@
 //! The answer to a line, by what it means.
-ghost use Rattle.std.specs.Prelude.{◌≡◌, ◌≤◌, [], false, IfOk, IfErr, OnOk};
+ghost use Rattle.std.specs.Prelude.{◌≡◌, ◌≤◌, false, length, Some, IfOk, IfErr, OnOk};
 ghost use Rattle.airline_base.specs.Noting.{noted};
 ghost use Rattle.desk_lines.specs.Lines.{IsRightMeaning};
+ghost use Rattle.desk_telling.specs.Telling.{AreTold, told_behind};
 ghost use Rattle.seat_desk.specs.Loading.{IsGridOf};
 ghost use Rattle.seat_disk.specs.Growing.{KeepsFront};
 ghost use Rattle.seat_recovery.specs.OpenText.{open_text};
+ghost use Rattle.seat_rules.specs.Journal.{calls_of};
 ghost use Rattle.seat_rules.specs.Prefixes.{Begins};
 ghost use Rattle.desk_answers.specs.Hosts.{IsReady};
-ghost use Rattle.desk_answers.specs.Saying.{IsLooked, IsUntoldOf, Says};
+ghost use Rattle.desk_answers.specs.Ready.{IsReadyLine};
+ghost use Rattle.desk_answers.specs.Saying.{stays_behind, IsLooked, IsUntoldOf, Says, SaysQuiet};
 ghost use Rattle.desk_answers.specs.declared.heard.HearFault.TheVariants.{Memory as NoMemory, Untold, Device};
 
 use crate::asking::ask;
-use crate::faults::wrong_line;
+use crate::calling::call;
+use crate::faults::{wrong_call_line, wrong_line};
 use crate::heard::{HearFault, Heard};
 use crate::looking::{day_lines, look_line};
+use crate::ready::ready_line;
 use airimp_lines::Look;
-use airline_base::Memory;
-use desk_lines::Meaning;
+use airline_base::{Day, Locator, Memory};
+use desk_calls::CallIndex;
+use desk_lines::{Desk, Meaning};
+use desk_telling::put_told_behind;
 use seat_disk::Tape;
 use seat_serving::Serving;
 use ssim_flights::{Flights, Served};
 use std::alloc::Global;
 use std::sync::Wait;
 
-/// What is answered to a line that means this, the line of this number.
+/// What is answered to a line that means this, the last that the desk has said.
 pub(crate) fn answer_to<R: Wait, D: Tape>(
     rt: &R,
     alloc: Global,
     flights: &Flights,
     served: &Served<'_>,
     serving: &mut Serving<D>,
+    calls: &mut CallIndex,
     session: u8,
-    number: u32,
+    desk: &Desk,
     meaning: Meaning,
 ) -> Result<Heard, HearFault>
     requires ready { IsReady D.seen D.may_leave D.unsynced serving.old }
@@ -39,8 +47,8 @@ pub(crate) fn answer_to<R: Wait, D: Tape>(
     requires grid { IsGridOf flights.now serving.old.grid }
     requires session { (1 ≤ session) × (session ≤ 8) }
     requires right { IsRightMeaning meaning }
-    ensures says { IfOk result (λ heard. Says flights.now serving.old.grid serving.old.cap session number
-        serving.old.journal serving.new.journal meaning heard.stays heard.text.items) }
+    ensures says { IfOk result (λ heard. Says flights.now serving.old.grid serving.old.cap session
+        desk.now.today desk.now.lines serving.old.journal serving.new.journal meaning heard.stays heard.text.items) }
     ensures ready { OnOk result (IsReady D.seen D.may_leave D.unsynced serving.new) }
     ensures still { IfErr result (λ f. (f ≡ Device → ⊥) → IsReady D.seen D.may_leave D.unsynced serving.new) }
     ensures memory { IfErr result (λ f. f ≡ NoMemory → serving.new.journal ≡ serving.old.journal) }
@@ -57,32 +65,101 @@ pub(crate) fn answer_to<R: Wait, D: Tape>(
     ensures same { (serving.new.grid ≡ serving.old.grid) × (serving.new.cap ≡ serving.old.cap) }
 {
     match meaning {
-        Meaning::Nothing => Ok(silent(alloc, true)),
-        Meaning::Leave => Ok(silent(alloc, false)),
         Meaning::Request(wish) => {
             match ask(rt, alloc, flights, served, serving, session, &wish) {
                 Ok(text) => Ok(Heard { text, stays: true }),
                 Err(fault) => Err(fault),
             }
         }
-        Meaning::Look(look) => match looked(alloc, flights, served, serving, &look) {
-            Ok(text) => Ok(Heard { text, stays: true }),
-            Err(_) => Err(HearFault::Memory),
-        },
-        Meaning::Wrong(wrong) => match wrong_line(alloc, wrong, session, number) {
-            Ok(text) => Ok(Heard { text, stays: true }),
+        Meaning::Call(number, wish) => {
+            match call(
+                rt, alloc, flights, served, serving, calls, session, number, &wish,
+            ) {
+                Ok(text) => Ok(Heard { text, stays: true }),
+                Err(fault) => Err(fault),
+            }
+        }
+        _ => match quiet_answer(alloc, flights, served, serving, session, desk, &meaning) {
+            Ok(text) => Ok(Heard {
+                text,
+                stays: stays_behind(&meaning),
+            }),
             Err(_) => Err(HearFault::Memory),
         },
     }
 }
 
-fn silent(alloc: Global, stays: bool) -> Heard
-    ensures { (result.stays ≡ stays) × (result.text.items ≡ []) }
+// Whether the desk stays.
+fn stays_behind(meaning: &Meaning) -> bool
+    ensures { result ≡ stays_behind meaning.now }
 {
-    Heard {
-        text: Vec::new(alloc),
-        stays,
+    !matches!(meaning, Meaning::Leave)
+}
+
+/// What is answered to a line that asks for no seats, the last that the desk has said. To one that does it is nothing.
+pub fn quiet_answer<D: Tape>(
+    alloc: Global,
+    flights: &Flights,
+    served: &Served<'_>,
+    serving: &Serving<D>,
+    session: u8,
+    desk: &Desk,
+    meaning: &Meaning,
+) -> Result<Vec<u8>, Memory>
+    requires served { served.now ≡ flights.now }
+    requires grid { IsGridOf flights.now serving.now.grid }
+    ensures { IfOk result (λ text. SaysQuiet flights.now serving.now.grid session desk.now.today desk.now.lines
+        serving.now.journal meaning.now text.items) }
+{
+    match meaning {
+        Meaning::Look(look) => looked(alloc, flights, served, serving, look),
+        Meaning::Again(behind) => told_again(alloc, flights, serving, session, *behind),
+        Meaning::Hello(name) => greeting(alloc, serving, session, *name, desk.today),
+        Meaning::Wrong(wrong) => wrong_line(alloc, *wrong, session, desk.lines),
+        Meaning::WrongCall(number, wrong) => wrong_call_line(alloc, *wrong, session, *number),
+        Meaning::Nothing => Ok(Vec::new(alloc)),
+        Meaning::Request(_) => Ok(Vec::new(alloc)),
+        Meaning::Call(_, _) => Ok(Vec::new(alloc)),
+        Meaning::Leave => Ok(Vec::new(alloc)),
     }
+}
+
+// What the desk is told of the lines behind so many, once more.
+#[tactic(auto, using(crate::proofs::Repeats::whole_told))]
+fn told_again<D: Tape>(
+    alloc: Global,
+    flights: &Flights,
+    serving: &Serving<D>,
+    session: u8,
+    behind: u32,
+) -> Result<Vec<u8>, Memory>
+    ensures { IfOk result (λ text. AreTold flights.now session (told_behind serving.now.journal session behind) text.items) }
+{
+    let mut text = Vec::new(alloc);
+    put_told_behind(
+        &mut text,
+        flights,
+        serving.journal(),
+        session,
+        behind as usize,
+    )?;
+    Ok(text)
+}
+
+// Where the desk stands, to a client that begins.
+fn greeting<D: Tape>(
+    alloc: Global,
+    serving: &Serving<D>,
+    session: u8,
+    name: Locator,
+    today: Day,
+) -> Result<Vec<u8>, Memory>
+    ensures { IfOk result (λ text. IsReadyLine (Some name) session (length serving.now.journal)
+        (calls_of serving.now.journal session) today text.items) }
+{
+    let lines = serving.journal().len() as u32;
+    let line = ready_line(Some(name), session, lines, serving.calls_of(session), today);
+    Ok(Vec::from_slice(alloc, line.as_slice())?)
 }
 
 // The lines that answer a look.

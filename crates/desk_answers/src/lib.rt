@@ -4,13 +4,19 @@
 #![tactic(auto)]
 
 mod asking;
+mod calling;
 mod faults;
 mod heard;
 mod hearing;
+pub mod laws;
 mod looking;
 mod open_host;
 mod placing;
+mod ready;
 
-pub use faults::memory_line;
+pub use asking::asked_by;
+pub use faults::{full_line, memory_line, wrong_call_line};
 pub use heard::{HearFault, Heard};
+pub use hearing::quiet_answer;
 pub use open_host::OpenHost;
+pub use ready::ready_line;

@@ -13,6 +13,7 @@ ghost use Rattle.desk_answers.specs.declared.heard.HearFault.TheVariants.{Memory
 use crate::heard::{HearFault, Heard};
 use crate::hearing::answer_to;
 use airline_base::Day;
+use desk_calls::CallIndex;
 use desk_lines::Desk;
 use seat_disk::Tape;
 use seat_serving::Serving;
@@ -28,6 +29,7 @@ pub struct OpenHost<'a, D: Tape> {
     serving: Serving<D>,
     session: u8,
     desk: Desk,
+    calls: CallIndex,
 }
 
 impl<'a, D: Tape> Model for OpenHost<'a, D> {
@@ -48,6 +50,7 @@ impl<'a, D: Tape> Model for OpenHost<'a, D> {
 impl<'a, D: Tape> OpenHost<'a, D> {
     /// Over flights and an inventory of their legs. The desk's lines are those of a session, 1 to 8.
     pub fn over(
+        alloc: Global,
         flights: &'a Flights,
         served: Served<'a>,
         serving: Serving<D>,
@@ -67,6 +70,7 @@ impl<'a, D: Tape> OpenHost<'a, D> {
             serving,
             session,
             desk,
+            calls: CallIndex::new(alloc),
         }
     }
 
@@ -108,6 +112,7 @@ impl<'a, D: Tape> OpenHost<'a, D> {
             serving,
             session: _,
             desk: _,
+            calls: _,
         } = self;
         serving
     }
@@ -139,10 +144,11 @@ impl<'a, D: Tape> OpenHost<'a, D> {
             serving,
             session,
             desk,
+            calls,
         } = self;
         let meaning = desk.hear(line);
         answer_to(
-            rt, alloc, flights, served, serving, *session, desk.lines, meaning,
+            rt, alloc, flights, served, serving, calls, *session, desk, meaning,
         )
     }
 }

@@ -1,2 +1,4 @@
+pub mod Calls
 pub mod FaultText
 pub mod Lines
+pub mod Words

@@ -1,13 +1,14 @@
 //! A desk, and what each of its lines means.
 //! It knows no inventory.
-ghost use Rattle.std.specs.Prelude.{◌≡◌, IfSome, Some, codes};
-ghost use Rattle.airline_base.specs.Fields.{word_at};
+ghost use Rattle.std.specs.Prelude.{◌≡◌, IfSome};
 ghost use Rattle.airline_base.specs.Days.{IsCenturyDay};
 ghost use Rattle.airimp_lines.specs.Grammar.{IsRightSegment};
-ghost use Rattle.desk_lines.specs.Lines.{asked, behind_refused, is_long, is_word, next_number, spoilt, standing_of, Hears, IsRightMeaning, MeansBy, MeansLine, MeansLook, MeansShort, MeansText, MeansWord};
+ghost use Rattle.desk_lines.specs.Lines.{asked, behind_refused, behind_word, greeted, greeted_by, is_long, is_numbered, is_word, next_number, spoilt, standing_of, Hears, IsRightMeaning, MeansBy, MeansLine, MeansShort, MeansText, MeansUnnamed, MeansWordIn};
+ghost use Rattle.desk_lines.specs.Words.{plain_word};
 
-use airimp_lines::{LineRead, Look, Request, ScriptKind, read_line, read_look};
-use airline_base::fields::word_of;
+use crate::calls::numbered;
+use crate::words::{plain_word, word};
+use airimp_lines::{LineRead, Look, Request, ScriptKind, read_line};
 use airline_base::lines::cut_line;
 use airline_base::{Day, Locator};
 use std::fmt;
@@ -20,8 +21,14 @@ const MOST_BYTES: usize = 256;
 pub enum Wrong {
     /// It has more than 256 bytes.
     TooLong,
-    /// It begins with `?`, and is no word to the host.
+    /// It begins with `?` or `@`, and is neither a word to the host nor a numbered segment line.
     Word,
+    /// The call of its number is there, and is another request.
+    Other,
+    /// Its number is beyond that of the session's next call.
+    Beyond,
+    /// Nobody has said `?HELLO` yet.
+    NoHello,
     /// It is a wrong line of a message.
     Line(ScriptKind),
 }
@@ -32,11 +39,14 @@ impl fmt::Display for Wrong {
 
     ghost output = { λ wrong. Some (wrong_text wrong) };
 
-    /// The code: H1, H2, or that of a script.
+    /// The code: H1 to H5, or that of a script.
     fn fmt<W: fmt::Write>(&self, f: &mut fmt::Formatter<W>) -> fmt::Result {
         match self {
             Wrong::TooLong => f.write_str("H1"),
             Wrong::Word => f.write_str("H2"),
+            Wrong::Other => f.write_str("H3"),
+            Wrong::Beyond => f.write_str("H4"),
+            Wrong::NoHello => f.write_str("H5"),
             Wrong::Line(kind) => kind.fmt(f),
         }
     }
@@ -49,17 +59,27 @@ pub enum Meaning {
     Nothing,
     /// It asks for seats.
     Request(Request),
+    /// It asks for seats, as the call of this number of its session.
+    Call(u32, Request),
     /// It looks at the seats that are left.
     Look(Look),
+    /// It asks for what concerns its session behind so many lines, once more.
+    Again(u32),
+    /// A client begins, with a word of its own choosing, and asks where the desk stands.
+    Hello(Locator),
     /// The desk goes.
     Leave,
     /// It is refused.
     Wrong(Wrong),
+    /// It is refused, and has the number of this call.
+    WrongCall(u32, Wrong),
 }
 
 /// Where a desk stands.
 #[derive(Clone, Copy)]
 pub enum Standing {
+    /// Ahead of the first `?HELLO`.
+    Silent,
     /// Between two messages.
     Between,
     /// In the message of this locator.
@@ -85,6 +105,17 @@ impl Desk {
         Desk {
             today,
             standing: Standing::Between,
+            lines: 0,
+        }
+    }
+
+    /// A desk to whose pipe somebody may have written before: nothing is heard ahead of a `?HELLO`.
+    pub fn silent(today: Day) -> Desk
+        ensures { (result.today ≡ today) × (result.standing ≡ Standing.Silent) × (result.lines ≡ 0) }
+    {
+        Desk {
+            today,
+            standing: Standing::Silent,
             lines: 0,
         }
     }
@@ -129,9 +160,9 @@ fn short_heard(standing: Standing, text: &[u8], number: u32, today: Day) -> (Sta
     ensures right { IsRightMeaning result.1 }
 {
     if is_word(text) {
-        return (standing, word(text, today));
+        return word_meaning(standing, text, today);
     }
-    meaning_of(standing, text, number, today)
+    unnamed_meaning(standing, text, number, today)
 }
 
 // Whether a line is a word to the host, which no line of a message is.
@@ -144,48 +175,81 @@ fn is_word(text: &[u8]) -> bool
     }
 }
 
-// What a word to the host means.
-fn word(text: &[u8], today: Day) -> Meaning
-    requires today { IsCenturyDay today }
-    ensures means { MeansWord today text.now result }
-    ensures right { IsRightMeaning result }
+// Whether a line is numbered, which no line of a message is.
+fn is_numbered(text: &[u8]) -> bool
+    ensures { result ≡ is_numbered text.now }
 {
-    match word_of(b"?BYE", text) {
-        Some([]) => Meaning::Leave,
-        _ => looking(text, today),
+    match text {
+        [] => false,
+        [first, ..] => *first == b'@',
     }
 }
 
-// A look, where something is looked at.
-fn looking(text: &[u8], today: Day) -> Meaning
+// What a word to the host means to a desk that stands so.
+fn word_meaning(standing: Standing, text: &[u8], today: Day) -> (Standing, Meaning)
     requires today { IsCenturyDay today }
-    ensures means { MeansLook today (word_at (codes "? ") text.now) result }
-    ensures right { IsRightMeaning result }
+    ensures means { MeansWordIn standing today text.now result.0 result.1 }
+    ensures right { IsRightMeaning result.1 }
 {
-    match word_of(b"? ", text) {
-        Some(named) => look(named, today),
-        None => Meaning::Wrong(Wrong::Word),
+    if matches!(standing, Standing::Silent) {
+        return greeted(plain_word(text));
+    }
+    let meaning = word(text, today);
+    (behind_word(standing, &meaning), meaning)
+}
+
+// A desk that was silent begins with a hello, and hears nothing else.
+fn greeted(plain: Option<Meaning>) -> (Standing, Meaning)
+    ensures value { result ≡ greeted plain }
+    ensures right { IsRightMeaning result.1 }
+{
+    match plain {
+        Some(meaning) => greeted_by(meaning),
+        None => (Standing::Silent, Meaning::Wrong(Wrong::NoHello)),
     }
 }
 
-fn look(text: &[u8], today: Day) -> Meaning
-    requires today { IsCenturyDay today }
-    ensures means { MeansLook today (Some text.now) result }
-    ensures right { IsRightMeaning result }
+fn greeted_by(meaning: Meaning) -> (Standing, Meaning)
+    ensures value { result ≡ greeted_by meaning }
+    ensures right { IsRightMeaning result.1 }
 {
-    match read_look(text, today) {
-        Some(look) => Meaning::Look(look),
-        None => Meaning::Wrong(Wrong::Word),
+    match meaning {
+        Meaning::Hello(name) => (Standing::Between, Meaning::Hello(name)),
+        _ => (Standing::Silent, Meaning::Wrong(Wrong::NoHello)),
     }
 }
 
-// What a line that is no word means.
+// A hello ends the message that is open.
+fn behind_word(standing: Standing, meaning: &Meaning) -> Standing
+    ensures { result ≡ behind_word meaning.now standing }
+{
+    match meaning {
+        Meaning::Hello(_) => Standing::Between,
+        _ => standing,
+    }
+}
+
+// What a line means that is no word.
+fn unnamed_meaning(standing: Standing, text: &[u8], number: u32, today: Day) -> (Standing, Meaning)
+    requires today { IsCenturyDay today }
+    ensures means { MeansUnnamed (is_numbered text.now) today standing text.now number result.0 result.1 }
+    ensures right { IsRightMeaning result.1 }
+{
+    if is_numbered(text) {
+        let meaning = numbered(&standing, text, number, today);
+        return (spoilt(standing), meaning);
+    }
+    meaning_of(standing, text, number, today)
+}
+
+// What a line means that is no word and has no number.
 fn meaning_of(standing: Standing, text: &[u8], number: u32, today: Day) -> (Standing, Meaning)
     requires today { IsCenturyDay today }
     ensures means { MeansText today standing number text.now result.0 result.1 }
     ensures right { IsRightMeaning result.1 }
 {
     match standing {
+        Standing::Silent => (standing, Meaning::Wrong(Wrong::NoHello)),
         Standing::Refused => (behind_refused(text), Meaning::Nothing),
         Standing::Between => line_meaning(None, Standing::Refused, text, number, today),
         Standing::Within(locator) => line_meaning(Some(locator), standing, text, number, today),

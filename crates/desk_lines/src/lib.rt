@@ -2,6 +2,8 @@
 //! It knows the text of lines, and nothing of schedules, limits, bookings or answers.
 #![tactic(auto)]
 
+mod calls;
 mod desk;
+mod words;
 
 pub use desk::{Desk, Meaning, Standing, Wrong};

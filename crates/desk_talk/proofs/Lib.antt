@@ -1,5 +1,4 @@
 pub mod Ended
 pub mod Holding
 pub mod Opened
-pub mod Readying
 pub mod Talking

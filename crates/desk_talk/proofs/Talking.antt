@@ -14,7 +14,7 @@ use Rattle.desk_answers.specs.Hosts.{Attended, IsReady}
 use Rattle.desk_answers.specs.Saying.{IsCounted, IsUntold}
 use Rattle.desk_talk.specs.declared.talk_fault.TalkFault.{TalkFault}
 use Rattle.desk_talk.specs.Talks.{held, EndsUntold, IsEnd, IsHeld, IsSameHost, IsSpoken, IsTalk, IsTold, IsWanting, Reads, Talked, TalksOn, TellsOf, Turns}
-use Rattle.desk_talk.specs.Ready.{IsReadyLine}
+use Rattle.desk_answers.specs.Ready.{IsReadyLine}
 use Rattle.seat_rules.specs.Journal.{calls_of}
 use Rattle.airline_base.specs.Lines.{is_line_feed}
 use Rattle.std.proofs.lemmas.Bool.Decides.{nat_tests}
@@ -292,7 +292,7 @@ module _ {D : Type 0} (seen : D → Option (List ℕ)) (leaves : D → List ℕ 
   }
 
   at_end : (old new : Attended D) (after bytes : List ℕ) (i j o a b : Option (List ℕ)) (m n : ℕ) (ready : List ℕ)
-      → IsReadyLine old.session (length old.serving.journal) (calls_of old.serving.journal old.session) old.desk.today ready
+      → IsReadyLine None old.session (length old.serving.journal) (calls_of old.serving.journal old.session) old.desk.today ready
       → Appends o a ready → Consumes i j bytes → IsAtEnd j → Talks old [] bytes new after true a b m n
       → IfSome i (IsTalk old new o b)
   at_end old new after bytes None j o a b m n ready is put took end talks = tt
@@ -310,7 +310,7 @@ module _ {D : Type 0} (seen : D → Option (List ℕ)) (leaves : D → List ℕ 
       }
 
   gone : (old new : Attended D) (after bytes : List ℕ) (i j o a b : Option (List ℕ)) (m n : ℕ) (ready : List ℕ)
-      → IsReadyLine old.session (length old.serving.journal) (calls_of old.serving.journal old.session) old.desk.today ready
+      → IsReadyLine None old.session (length old.serving.journal) (calls_of old.serving.journal old.session) old.desk.today ready
       → Appends o a ready → Consumes i j bytes → Talks old [] bytes new after false a b m n
       → IfSome i (IsTalk old new o b)
   gone old new after bytes None j o a b m n ready is put took talks = tt
@@ -338,7 +338,7 @@ module _ {D : Type 0} (seen : D → Option (List ℕ)) (leaves : D → List ℕ 
 
   -- the last read ends the talk
   pub talk_is : (old mid new : Attended D) (between after none : List ℕ) (more : Bool) (i j k o a b c : Option (List ℕ)) (l m n : ℕ) (ready : List ℕ)
-      → IsReadyLine old.session (length old.serving.journal) (calls_of old.serving.journal old.session) old.desk.today ready
+      → IsReadyLine None old.session (length old.serving.journal) (calls_of old.serving.journal old.session) old.desk.today ready
       → Appends o a ready → none ≡ [] → Has_read old none mid between true i j a b l m
       → Turned mid between new after more j k b c m n → more ≡ false
       → IfSome i (IsTalk old new o c)

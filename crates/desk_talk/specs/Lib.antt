@@ -1,4 +1,3 @@
 pub mod Ending
 pub mod Opening
-pub mod Ready
 pub mod Talks

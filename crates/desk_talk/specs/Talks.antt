@@ -1,5 +1,5 @@
 -- What a desk is told that talks with an open host, byte by byte of what it writes.
-use Rattle.std.specs.Prelude.{◌≡◌, ◌⊎◌, ℕ, Bool, true, false, Option, List, [], ◌∷◌, ◌++◌, length, take}
+use Rattle.std.specs.Prelude.{◌≡◌, ◌⊎◌, ℕ, Bool, true, false, Option, None, List, [], ◌∷◌, ◌++◌, length, take}
 use Rattle.std.specs.Io.KnownBytes.{Appends, Consumes, IsAtEnd}
 use Rattle.airline_base.specs.Lines.{is_line_feed}
 use Rattle.seat_rules.specs.Journal.{calls_of}
@@ -8,7 +8,7 @@ use Rattle.desk_answers.specs.FaultLines.{memory_line}
 use Rattle.desk_answers.specs.Hosts.{Attended, IsReady}
 use Rattle.desk_answers.specs.Saying.{IsAnswered, IsCounted, IsUntold}
 use Rattle.desk_answers.specs.declared.heard.Heard.{Heard}
-use Rattle.desk_talk.specs.Ready.{IsReadyLine}
+use Rattle.desk_answers.specs.Ready.{IsReadyLine}
 
 -- ---- a line
 
@@ -119,7 +119,7 @@ Turns seen leaves unsynced failures old before new after false in_old in_new out
 -- with which it goes
 pub record IsTalk {D : Type 0} (old new : Attended D) (out_old out_new : Option (List ℕ)) (input : List ℕ) : Type 0 where
   pub ready : List ℕ
-  pub is_ready : IsReadyLine old.session (length old.serving.journal) (calls_of old.serving.journal old.session)
+  pub is_ready : IsReadyLine None old.session (length old.serving.journal) (calls_of old.serving.journal old.session)
       old.desk.today ready
   pub after : List ℕ
   pub stays : Bool

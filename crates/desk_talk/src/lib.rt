@@ -5,7 +5,6 @@
 
 mod opening;
 mod piece;
-mod ready;
 mod serving;
 mod talk_fault;
 mod talks;

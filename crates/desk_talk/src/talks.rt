@@ -1,21 +1,20 @@
 //! A talk, from the line that says where the desk stands to the end of what it writes.
-ghost use Rattle.std.specs.Prelude.{◌≡◌, length, IfSome, IfErr, IfOk, OnErr, OnOk};
+ghost use Rattle.std.specs.Prelude.{◌≡◌, length, None, IfSome, IfErr, IfOk, OnErr, OnOk};
 ghost use Rattle.airline_base.specs.Noting.{noted};
 ghost use Rattle.seat_disk.specs.Growing.{KeepsFront};
 ghost use Rattle.seat_recovery.specs.OpenText.{open_text};
 ghost use Rattle.desk_answers.specs.Hosts.{IsReady};
+ghost use Rattle.desk_answers.specs.Ready.{IsReadyLine};
 ghost use Rattle.seat_rules.specs.Journal.{calls_of};
 ghost use Rattle.seat_rules.specs.Prefixes.{Begins};
-ghost use Rattle.desk_talk.specs.Ready.{IsReadyLine};
 ghost use Rattle.desk_talk.specs.Talks.{EndsUntold, IsSameHost, IsTalk, Turns};
 ghost use Rattle.desk_talk.specs.declared.talk_fault.TalkFault.TheVariants.{Input, Journal, Memory as NoMemory, Output};
 
 use crate::piece::{HeldLine, hear_piece};
-use crate::ready::ready_line;
 use crate::talk_fault::TalkFault;
 use airline_base::{NotedRead, NotedWrite, put_all};
 use arrayvec::ArrayVec;
-use desk_answers::OpenHost;
+use desk_answers::{OpenHost, ready_line};
 use seat_disk::Tape;
 use std::alloc::Global;
 use std::sync::Wait;
@@ -95,12 +94,18 @@ fn turn<R: Wait, I: NotedRead, W: NotedWrite, D: Tape>(
 }
 
 // The line that says where the desk stands.
-fn ready_of<D: Tape>(host: &OpenHost<'_, D>) -> ArrayVec<u8, 60>
-    ensures { IsReadyLine host.now.session (length host.now.serving.journal)
+fn ready_of<D: Tape>(host: &OpenHost<'_, D>) -> ArrayVec<u8, 70>
+    ensures { IsReadyLine None host.now.session (length host.now.serving.journal)
         (calls_of host.now.serving.journal host.now.session) host.now.desk.today result.items }
 {
     let session = host.session();
     let serving = host.serving();
     let lines = serving.journal().len() as u32;
-    ready_line(session, lines, serving.calls_of(session), host.today())
+    ready_line(
+        None,
+        session,
+        lines,
+        serving.calls_of(session),
+        host.today(),
+    )
 }

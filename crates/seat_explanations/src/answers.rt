@@ -219,7 +219,7 @@ const DESKS: &[Explanation] = &[
         behind: "",
         code: "READY",
         numbers: NONE,
-        text: "The host hears the desk. Behind it stand the session, how many lines the journal has, how many of these are the session's,\nand the day of the run.",
+        text: "The host hears the desk. Behind it stand the word of the ?HELLO that it answers, where it answers one, the session,\nhow many lines the journal has, how many of these are the session's, and the day of the run.",
     },
     Explanation {
         behind: "",
@@ -231,7 +231,7 @@ const DESKS: &[Explanation] = &[
         behind: "",
         code: "FAULT",
         numbers: NONE,
-        text: "A line of the desk is refused, and nothing was booked for it. Behind it stands the code, which seatdesk explain takes\nby itself, and the number of the line.",
+        text: "A line of the desk is refused, and nothing was booked for it. Behind it stands the code, which seatdesk explain takes\nby itself, and the number of the line, or @ and that of the call that the line had.",
     },
 ];
 

@@ -145,6 +145,8 @@ const SCRIPT: &[&str] = &["script", "line"];
 
 const DESK: &[&str] = &["desk", "line"];
 
+const CALL: &[&str] = &["desk", "call of that session"];
+
 // Records of a data set.
 const RECORDS: &[Explanation] = &[
     Explanation {
@@ -411,7 +413,25 @@ const SCRIPTS: &[Explanation] = &[
         behind: "",
         code: "H2",
         numbers: DESK,
-        text: "A line of the desk begins with ?, and is no word to the host. These are: ? LZ601Q27JUL LHRKEF, which looks at a class,\n? 27JUL LHRKEF, which looks at each flight of that day, and ?BYE, with which the desk goes.",
+        text: "A line of the desk begins with ? or @, and is neither a word to the host nor a numbered segment line. The words are:\n? LZ601Q27JUL LHRKEF, which looks at a class, ? 27JUL LHRKEF, which looks at each flight of that day, ?AGAIN 25, which asks\nfor what concerns the session behind line 25 once more, ?HELLO K7M2QP, with which a client begins, and ?BYE, with which\nthe desk goes. A numbered line is @17 LZ601Q27JUL LHRKEF NN2: only a segment line of a message has a number.",
+    },
+    Explanation {
+        behind: "",
+        code: "H3",
+        numbers: CALL,
+        text: "The session has a call of this number, and it asked for something else. Nothing was booked.\n?AGAIN 0 writes what the session was told so far.",
+    },
+    Explanation {
+        behind: "",
+        code: "H4",
+        numbers: CALL,
+        text: "The number is beyond that of the session's next call. Nothing was booked: a line with a smaller number is missing,\nor was refused. READY says how many calls the session has.",
+    },
+    Explanation {
+        behind: "",
+        code: "H5",
+        numbers: DESK,
+        text: "Nobody has said ?HELLO to this host yet. A line ahead of it may be the rest of one that was cut, so nothing is heard.",
     },
     Explanation {
         behind: "",

@@ -141,14 +141,20 @@ fn put_behind<'b, 'c>(
 /// The first of these words that is no number, or one more than are counted.
 fn no_number<'a>(counted: &[&str], numbers: &[&'a str]) -> Option<&'a str> {
     for (i, word) in numbers.iter().enumerate() {
-        if i >= counted.len()
-            || word.is_empty()
-            || !word.bytes().all(|byte| byte.is_ascii_digit())
-        {
+        if i >= counted.len() || !is_number(word) {
             return Some(*word);
         }
     }
     None
+}
+
+/// Whether a word is a number, as it is printed of a line or, behind @, of a call.
+fn is_number(word: &str) -> bool {
+    let digits = match word.strip_prefix('@') {
+        Some(digits) => digits,
+        None => word,
+    };
+    !digits.is_empty() && digits.bytes().all(|byte| byte.is_ascii_digit())
 }
 
 fn put_number(text: &mut String, what: &str, number: &str) -> Result<(), AllocError>

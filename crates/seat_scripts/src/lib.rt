@@ -46,3 +46,4 @@ pub use resumed::read_resumed;
 pub use resuming::what_is_left;
 pub use scripts::Scripts;
 pub use sealed_run::{RunBasis, entry_of_run};
+pub use very_request::is_very_request;

@@ -20,7 +20,7 @@ pub(crate) fn is_asked(flights: &Flights, requests: &[Request], place: u32, work
 
 /// Whether what a line asks for is this very request, whatever the year.
 #[tactic(auto, using(crate::proofs::Very::very_then, crate::proofs::Very::very_else))]
-fn is_very_request(flights: &Flights, request: &Request, work: Work) -> bool
+pub fn is_very_request(flights: &Flights, request: &Request, work: Work) -> bool
     ensures { IsTrue result ↔ IsVeryRequest flights.now request.now work }
 {
     match work {
