@@ -294,14 +294,18 @@ fn passes_over_a_seal_of_another_journal(rt: HostRuntime) -> Result<(), Fail> {
 }
 
 #[test]
-fn ends_ahead_of_the_last_line(rt: HostRuntime) -> Result<(), Fail> {
-    let rows: [(&[u8], &[u8]); 6] = [
+fn ends_ahead_of_the_end_line(rt: HostRuntime) -> Result<(), Fail> {
+    let rows: [(&[u8], &[u8]); 10] = [
         (b"", b""),
-        (b"\n", b""),
+        (b"\n", b"\n"),
         (b"END 0", b""),
         (b"head\nEND 0\n", b"head\n"),
-        (b"head\n\n", b"head\n"),
         (b"head\nEND", b"head\n"),
+        (b"head\nE", b"head\n"),
+        (b"head\n", b"head\n"),
+        (b"head\nEND\n", b"head\nEND\n"),
+        (b"head\nline\n", b"head\nline\n"),
+        (b"head\nEND 0\nmore", b"head\nEND 0\nmore"),
     ];
     for (text, wanted) in rows {
         assert!(rt; front_of(text) == wanted);

@@ -20,7 +20,7 @@ use Rattle.seat_desk.specs.AuditDesk.{most_journal_bytes, most_lines}
 use Rattle.seat_open.specs.Ending.{ended_lines, ended_text, ends_a_line, is_ended, is_too_long, last_line, no_lines_text, whole_part, with_end}
 use Rattle.seat_open.specs.Laws.{EndedIsJournal}
 use Rattle.seat_open.specs.OpenAudits.{is_damaged, most_open_bytes}
-use Rattle.seat_seal.specs.Fronts.{front_of}
+use Rattle.seat_seal.specs.Fronts.{ahead_of_last}
 use Rattle.seat_open.proofs.LastLines.{end_is_line, front_is, front_of_end, last_is, no_feed, open_is_lines, open_is_opened, torn_ends, whole_ends}
 
 -- ---- heads
@@ -125,7 +125,7 @@ of_torn : (file : List ℕ) (es : List Entry) (rest : List ℕ) → AllByRecursi
     → ended_lines file ≡ journal_text es
 of_torn file es rest each few short text some none =
     let ends : ends_a_line file ≡ false = ap ends_a_line text ∙ torn_ends (open_text es) rest some none in
-    let whole : whole_part file ≡ open_text es = rw ends (ap front_of text ∙ front_is (open_text es) rest (open_is_opened es each).ends some (λ i lt. no_feed rest i none (omega (arith, lt)))) in
+    let whole : whole_part file ≡ open_text es = rw ends (ap ahead_of_last text ∙ front_is (open_text es) rest (open_is_opened es each).ends some (λ i lt. no_feed rest i none (omega (arith, lt)))) in
     of_open file es each few (omega (arith, short, ap length text, length-append (open_text es) rest)) whole
 
 -- ---- by what stands behind the lines

@@ -11,7 +11,7 @@ use Rattle.seat_journal.specs.declared.entry.Entry.{Entry}
 use Rattle.seat_journal.specs.Laws.{WrittenIsRead}
 use Rattle.seat_journal.specs.Text.{end_text, head_text, journal_text, IsEntry}
 use Rattle.seat_nesting.specs.Nesting.{Ladders}
-use Rattle.seat_seal.specs.Fronts.{behind_last, front_len}
+use Rattle.seat_seal.specs.Fronts.{behind_last, ahead_len}
 use Rattle.seat_recovery.specs.declared.rest.Rest.{Rest}
 use Rattle.seat_recovery.specs.declared.rest.Rest.TheVariants.{NoHead, Whole, Closed, Torn}
 use Rattle.seat_recovery.specs.OpenText.{open_text}
@@ -83,7 +83,7 @@ record IsSplit (file : List ℕ) : Type 0 where
 
 split_torn : (file : List ℕ) → ends_a_line file ≡ false → IsSplit file
 split_torn file ends =
-    let at : ℕ = front_len file in
+    let at : ℕ = ahead_len file in
     let whole : whole_part file ≡ take at file = rw ends refl in
     let byte : (i : ℕ) → i < length (drop at file) → is_line_feed (get_or (drop at file) i 0) ≡ false =
     λ i lt. ap is_line_feed (get_or-drop at file i 0) ∙ later (at + i) (omega arith) (omega (arith, lt, length-drop at file)) in
@@ -93,7 +93,7 @@ split_torn file ends =
       none = none_ends (drop at file) byte;
     }
   where
-    later : (k : ℕ) → front_len file ≤ k → k < length file → is_line_feed (get_or file k 0) ≡ false
+    later : (k : ℕ) → ahead_len file ≤ k → k < length file → is_line_feed (get_or file k 0) ≡ false
     later k from lt = by (nat_eq k (length file - 1)) refl
       where
         by : (b : Bool) → nat_eq k (length file - 1) ≡ b → is_line_feed (get_or file k 0) ≡ false

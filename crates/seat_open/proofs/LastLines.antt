@@ -13,7 +13,7 @@ use Rattle.airline_base.specs.Lines.{is_line_feed}
 use Rattle.airline_base.proofs.Tests.{both_true}
 use Rattle.seat_journal.specs.declared.entry.Entry.{Entry}
 use Rattle.seat_journal.specs.Text.{end_text, entry_text, head_text, newline, IsEntry}
-use Rattle.seat_seal.specs.Fronts.{behind_last, front_of}
+use Rattle.seat_seal.specs.Fronts.{behind_last, ahead_of_last}
 use Rattle.seat_recovery.specs.OpenText.{open_text}
 use Rattle.seat_recovery.specs.Rests.{whole_lines}
 use Rattle.seat_recovery.proofs.Ends.{line_ends, line_of, line_unended, lines_cons, lines_join, not_end}
@@ -79,7 +79,7 @@ EndsLine text = (front : List ℕ) × (text ≡ front ++ newline ∷ [])
 
 -- behind whole lines stands a last one, with no LF ahead of its last byte
 pub front_is : (whole last : List ℕ) → EndsLine whole → 0 < length last
-    → ((i : ℕ) → i < length last - 1 → is_line_feed (get_or last i 0) ≡ false) → front_of (whole ++ last) ≡ whole
+    → ((i : ℕ) → i < length last - 1 → is_line_feed (get_or last i 0) ≡ false) → ahead_of_last (whole ++ last) ≡ whole
 front_is whole last ends some none =
     let text : List ℕ = whole ++ last in
     let long : length whole ≡ length ends.0 + 1 = ap length ends.1 ∙ length-append ends.0 (newline ∷ []) in
@@ -92,7 +92,7 @@ front_is whole last ends some none =
     ap (behind_last text) all ∙ same_line text (length whole) (length last - 1) between ∙ first in
     ap (λ (n : ℕ). take n text) start ∙ take-append_seam whole last
 
-pub last_is : (whole last : List ℕ) → front_of (whole ++ last) ≡ whole → last_line (whole ++ last) ≡ last
+pub last_is : (whole last : List ℕ) → ahead_of_last (whole ++ last) ≡ whole → last_line (whole ++ last) ≡ last
 last_is whole last front = ap (λ (xs : List ℕ). drop (length xs) (whole ++ last)) front ∙ drop_at whole last (length whole) refl
 
 -- a line with its LF
@@ -104,7 +104,7 @@ one_line line is =
     let last : whole_lines (newline ∷ []) ≡ 1 = refl in
     omega (arith, ap whole_lines is.1.0, lines_join is.0 (newline ∷ []), is.1.1, last)
 
-front_of_line : (whole line : List ℕ) → EndsLine whole → IsLine line → front_of (whole ++ line) ≡ whole
+front_of_line : (whole line : List ℕ) → EndsLine whole → IsLine line → ahead_of_last (whole ++ line) ≡ whole
 front_of_line whole line ends is =
     let long : length line ≡ length is.0 + 1 = ap length is.1.0 ∙ length-append is.0 (newline ∷ []) in
     front_is whole line ends (omega (arith, long))
@@ -191,5 +191,5 @@ unfolding open_text
 open_is_opened es each = opened_all head_text es each head_is_opened
 
 -- behind an open journal stands its END line
-pub front_of_end : (es : List Entry) (n : ℕ) → AllByRecursion IsEntry es → n < 2 ^ 64 → front_of (open_text es ++ end_text n) ≡ open_text es
+pub front_of_end : (es : List Entry) (n : ℕ) → AllByRecursion IsEntry es → n < 2 ^ 64 → ahead_of_last (open_text es ++ end_text n) ≡ open_text es
 front_of_end es n each small = front_of_line (open_text es) (end_text n) (open_is_opened es each).ends (end_is_line n small)

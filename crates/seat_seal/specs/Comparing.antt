@@ -1,5 +1,5 @@
 -- What an entry says beside what is given.
-use Rattle.std.specs.Prelude.{ℕ, Bool, false, not, ◌&&◌, ◌||◌, nat_eq, if◌then◌else◌, List, [], ◌∷◌, Option, None, Some}
+use Rattle.std.specs.Prelude.{ℕ, Bool, false, not, ◌&&◌, ◌||◌, nat_eq, if◌then◌else◌, List, [], ◌∷◌, take, Option, None, Some}
 use Rattle.airline_base.specs.Bytes.{same_text}
 use Rattle.seat_seal.specs.declared.comparing.Given.{Given}
 use Rattle.seat_seal.specs.declared.comparing.SealFault.{SealFault}
@@ -25,6 +25,10 @@ same_imprint a b = same_text a.digest b.digest && nat_eq a.bytes b.bytes
 -- the journal is the sealed one, or where more lines may come begins with it
 abbrev pub is_sealed_one : SealedJournal → List ℕ → Bool
 is_sealed_one sealed journal = same_imprint sealed.imprint (imprint_of (front_for sealed journal))
+
+-- the text begins with as many bytes as were sealed, and these are the sealed ones
+abbrev pub begins_sealed : SealedJournal → List ℕ → Bool
+begins_sealed sealed text = same_imprint sealed.imprint (imprint_of (take sealed.imprint.bytes text))
 
 -- the first that differs: set, limits, first, days, journal
 unfoldable pub compared : Belonging → Given → List ℕ → Option SealFault

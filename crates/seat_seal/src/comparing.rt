@@ -1,11 +1,11 @@
 //! What a seal says beside what is given.
 ghost use Rattle.std.specs.Prelude.{◌≡◌, option_map};
 ghost use Rattle.airline_base.specs.Bytes.{same_text};
-ghost use Rattle.seat_seal.specs.Comparing.{same_imprint, same_date, compared, is_its_journal, is_sealed_one, entry_for, has_script};
+ghost use Rattle.seat_seal.specs.Comparing.{begins_sealed, same_imprint, same_date, compared, is_its_journal, is_sealed_one, entry_for, has_script};
 
 use crate::date::Date;
 use crate::digest::Digest;
-use crate::front::front_for;
+use crate::front::{beginning, front_for};
 use crate::imprint::{Imprint, imprint_of};
 use crate::run::Run;
 use crate::seal::{Seal, SealEntry, Sealed, SealedJournal};
@@ -119,6 +119,16 @@ fn is_sealed_one(sealed: &SealedJournal, journal: &[u8]) -> bool
     ensures { result ≡ is_sealed_one sealed.now journal.now }
 {
     same_imprint(&sealed.imprint, &imprint_of(front_for(sealed, journal)))
+}
+
+/// Whether a text begins with as many bytes as were sealed, and these are the sealed ones.
+pub fn begins_sealed(sealed: &SealedJournal, text: &[u8]) -> bool
+    ensures { result ≡ begins_sealed sealed.now text.now }
+{
+    same_imprint(
+        &sealed.imprint,
+        &imprint_of(beginning(text, sealed.imprint.bytes)),
+    )
 }
 
 /// Whether the run booked a script of this digest.

@@ -21,10 +21,12 @@ mod spelling;
 
 pub use beside::{Basis, Beside, fault_beside};
 pub use closing::{closed_entry, open_entry};
-pub use comparing::{Given, SealFault, compared, entry_for, has_script, is_its_journal};
+pub use comparing::{
+    Given, SealFault, begins_sealed, compared, entry_for, has_script, is_its_journal,
+};
 pub use date::Date;
 pub use digest::{Digest, digest_of};
-pub use front::front_of;
+pub use front::{ahead_of_last, front_of};
 pub use imprint::{Imprint, Tally, imprint_of};
 pub use known::{known_of, runs_in, runs_known};
 pub use laws::{one_is_known, seals_are_unique};

@@ -13,7 +13,7 @@ use Rattle.seat_seal.specs.Fronts.{front_of}
 use Rattle.seat_sealing.specs.Pairs.{IsEntryOf, NoneDeniedSince}
 use Rattle.seat_sealing.specs.Steps.{InOrder, both_text, alone_text}
 
--- of a journal of either version, what stands ahead of its last line is its head and its entries
+-- of a journal of either version, what stands ahead of its END line is its head and its entries
 pub record EndIsLast (entries : List Entry) : Type 0 where
   pub new : front_of (journal_text entries) ≡ head_text ++ flat_map entry_text entries
   pub old : front_of (old_text entries) ≡ old_head_text ++ flat_map entry_text entries

@@ -6,7 +6,7 @@ ghost use Rattle.seat_sealing.specs.Laws.{EndIsLast, NoCrashDenies};
 use seat_disk::Replaced;
 use seat_seal::{SealEntry, Sealed};
 
-/// What stands ahead of a journal's last line is its head and its entries.
+/// What stands ahead of a journal's END line is its head and its entries.
 pub fn ends_are_last()
     ensures { (entries : List Entry) → length entries < 2 ^ 64 → EndIsLast entries }
 {}
