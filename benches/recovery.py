@@ -4,7 +4,8 @@
     benches/recovery.py FOLDER [--program FILE] [--flights N] [--lines N] [--times N]
 
 FOLDER gets the inputs: a season of N dated flights (93,000) by benches/season.py, and limits and a journal of N lines (900,000) by
-benches/journal.py, once as it is and once without its END line, with the beginning of a line more. Each row is taken N times (5), in
+benches/journal.py, once as it is and once without its END line, with the beginning of a line more; each alone and beside its seal, of which that of
+the latter is open. Each row is taken N times (5), in
 turn with the others; a recovery is of a new copy each time, which is on the disk. A row has the least wall time, processor time (user and
 system) and peak memory of its runs, and how many times as much that is as `audit`'s.
 """
@@ -44,6 +45,14 @@ def write_inputs(folder, flights, lines):
         out.write(text[:text.rindex(b"END ")] + TORN)
 
 
+def seals_of(program, folder):
+    """The seal of the whole journal, and that of the same lines to which more are added."""
+    subprocess.run([program, "seal", *OVER, "journal"], check=True, cwd=folder, stdin=subprocess.DEVNULL, stdout=subprocess.DEVNULL)
+    with open(f"{folder}/journal.seal", "rb") as it:
+        closed = it.read()
+    return {"journal": closed, "copy": closed.replace(b" closed\n", b" open\n")}
+
+
 def main():
     words = argparse.ArgumentParser(description=__doc__, formatter_class=argparse.RawDescriptionHelpFormatter)
     words.add_argument("folder")
@@ -54,13 +63,23 @@ def main():
     asked = words.parse_args()
     program = os.path.abspath(asked.program)
     write_inputs(asked.folder, asked.flights, asked.lines)
-    rows = {"audit": ["audit", *OVER, "journal"], "audit --open": ["audit", *OVER, "--open", "open"], "recover": ["recover", *OVER, "copy"]}
+    rows = {
+        "audit": ("journal", ["audit", *OVER, "journal"]),
+        "audit --open": ("open", ["audit", *OVER, "--open", "open"]),
+        "recover": ("copy", ["recover", *OVER, "copy"]),
+        "audit --sealed": ("journal", ["audit", *OVER, "--sealed", "journal"]),
+        "recover beside its seal": ("copy", ["recover", *OVER, "copy"]),
+    }
+    seals = seals_of(program, asked.folder)
     taken = {name: [] for name in rows}
     for _ in range(asked.times):
-        for name, row in rows.items():
-            for left in ("copy", "copy.torn-1"):
+        for name, (journal, row) in rows.items():
+            for left in ("copy", "copy.torn-1", "copy.seal", "journal.seal"):
                 if os.path.exists(f"{asked.folder}/{left}"):
                     os.remove(f"{asked.folder}/{left}")
+            if "seal" in name:
+                with open(f"{asked.folder}/{journal}.seal", "wb") as it:
+                    it.write(seals[journal])
             shutil.copy(f"{asked.folder}/open", f"{asked.folder}/copy")
             with open(f"{asked.folder}/copy", "rb+") as copy:
                 os.fsync(copy)

@@ -1,6 +1,16 @@
 -- A host that opens over the journal that a file has.
-use Rattle.std.proofs.Common.{◌≡◌, ℕ, List, subst, sym, ap, ◌∙◌, length, drop}
+use Rattle.std.proofs.Common.{◌≡◌, inr, ℕ, List, subst, sym, ap, ◌∙◌, length, drop}
 use Rattle.std.specs.Prelude.{false, IsTrue, Option}
+use Rattle.seat_journal.specs.declared.entry.Entry.{Entry}
+use Rattle.seat_seal.specs.declared.beside.Basis.{Basis}
+use Rattle.seat_seal.specs.declared.beside.Beside.{Beside}
+use Rattle.seat_seal.specs.declared.run.Run.{Run}
+use Rattle.seat_seal.specs.declared.seal.JournalState.TheVariants.{Open}
+use Rattle.seat_desk.specs.AuditDesk.{most_lines}
+use Rattle.seat_restoring.specs.Found.{KeepsSealed}
+use Rattle.seat_restoring.specs.Sealing.{AreRunsOver, HasNoSeal, IsSealedIn}
+use Rattle.seat_restoring.specs.Serving.{KeepsBoth, NamesAll}
+use Rattle.seat_restoring.proofs.Serving.{as_before as unchanged_both}
 use Rattle.desk_lines.specs.declared.desk.Desk.{Desk}
 use Rattle.desk_lines.specs.declared.desk.Standing.TheVariants.{Between}
 use Rattle.ssim_flights.specs.declared.flight.Flight.{Flight as Flown}
@@ -8,10 +18,10 @@ use Rattle.seat_nesting.specs.Nesting.{Ladders}
 use Rattle.seat_recovery.specs.OpenText.{open_text}
 use Rattle.seat_recovery.specs.Recovering.{IsRecovered}
 use Rattle.seat_recovery.specs.declared.rest.Rest.{Rest}
-use Rattle.seat_serving.specs.GoingOn.{goes_aside, IsAside, KeepsJournals, StoodBehind}
+use Rattle.seat_serving.specs.GoingOn.{GoesAside, StoodBehind}
 use Rattle.seat_serving.specs.Served.{IsOnDisk, Served}
 use Rattle.desk_answers.specs.Hosts.{Attended, IsReady}
-use Rattle.desk_talk.specs.Opening.{IsCutTo, IsOpened}
+use Rattle.desk_talk.specs.Opening.{IsCutTo, IsOpened, IsTooLong}
 
 -- it answers, and all its lines are on the disk
 pub ready_host : {D : Type 0} (seen : D → Option (List ℕ)) (leaves : D → List ℕ → Type 0) (unsynced : D → ℕ) (host s : Served D)
@@ -37,24 +47,63 @@ opened {D} flights grid cap today host desk s flown session is day standing line
 
 module _ {D : Type 0} where
   -- what stood behind the lines that it has
-  pub cut_to : (grid : Ladders) (cap : ℕ) (file : List ℕ) (host s : Served D) (rest : Rest) (old new : Option (List ℕ))
-      (leaves : List ℕ → Type 0) (unsynced : ℕ) → host ≡ s → StoodBehind grid cap file false s.journal rest
-      → (IsTrue (goes_aside rest) → IsAside old new leaves unsynced (drop (length (open_text s.journal)) file))
-      → IsCutTo grid cap file host.journal old new leaves unsynced
-  cut_to grid cap file host s rest old new leaves unsynced same behind aside =
-      subst (λ (x : Served D). IsCutTo grid cap file x.journal old new leaves unsynced) (sym same)
+  pub cut_to : {B : Type 0} (seen : B → Option (List ℕ)) (leaves : B → List ℕ → Type 0) (unsynced : B → ℕ) (grid : Ladders) (cap : ℕ)
+      (file : List ℕ) (host s : Served D) (lines : List Entry) (rest : Rest) (old new : B) → host ≡ s → s.journal ≡ lines
+      → StoodBehind grid cap file false lines rest → GoesAside seen leaves unsynced old new rest (drop (length (open_text lines)) file)
+      → IsCutTo seen leaves unsynced grid cap file host.journal old new
+  cut_to {B} seen leaves unsynced grid cap file host s lines rest old new same is behind aside =
+      subst (λ (l : List Entry). IsCutTo seen leaves unsynced grid cap file l old new) (sym (ap (λ (x : Served D). x.journal) same ∙ is))
       (record { rest = rest; behind = behind; aside = aside })
 
   -- and these lines are the longest journal
-  pub recovered_to : (grid : Ladders) (cap : ℕ) (file : List ℕ) (host s : Served D) → host ≡ s
-      → IsRecovered grid cap file s.journal → IsRecovered grid cap file host.journal
-  recovered_to grid cap file host s same is = subst (λ (x : Served D). IsRecovered grid cap file x.journal) (sym same) is
+  pub recovered_to : (grid : Ladders) (cap : ℕ) (file : List ℕ) (host s : Served D) (lines : List Entry) → host ≡ s → s.journal ≡ lines
+      → IsRecovered grid cap file lines → IsRecovered grid cap file host.journal
+  recovered_to grid cap file host s lines same is recovered =
+      subst (IsRecovered grid cap file) (sym (ap (λ (x : Served D). x.journal) same ∙ is)) recovered
 
-  -- of which none is lost
-  pub kept_to : (grid : Ladders) (cap : ℕ) (old : List ℕ → Type 0) (leaves : D → List ℕ → Type 0) (host s : Served D) → host ≡ s
-      → KeepsJournals grid cap old (leaves s.tape) → KeepsJournals grid cap old (leaves host.tape)
-  kept_to grid cap old leaves host s same keeps = subst (λ (x : Served D). KeepsJournals grid cap old (leaves x.tape)) (sym same) keeps
+  -- which begins with what was sealed
+  pub keeps_to : (beside : Beside) (file : List ℕ) (host s : Served D) (lines : List Entry) → host ≡ s → s.journal ≡ lines
+      → KeepsSealed beside file lines → KeepsSealed beside file host.journal
+  keeps_to beside file host s lines same is keeps =
+      subst (KeepsSealed beside file) (sym (ap (λ (x : Served D). x.journal) same ∙ is)) keeps
+
+  -- and is sealed
+  pub sealed_to : (beside : Beside) (basis : Basis) (file : List ℕ) (host s : Served D) (lines : List Entry) (old new : Option (List ℕ))
+      (leaves : List ℕ → Type 0) → host ≡ s → s.journal ≡ lines
+      → IsSealedIn Open beside basis file lines old new leaves → IsSealedIn Open beside basis file host.journal old new leaves
+  sealed_to beside basis file host s lines old new leaves same is sealed =
+      subst (λ (l : List Entry). IsSealedIn Open beside basis file l old new leaves) (sym (ap (λ (x : Served D). x.journal) same ∙ is)) sealed
+
+  pub named_to : (host s : Served D) (lines : List Entry) (seals : List ℕ → Type 0) → host ≡ s → s.journal ≡ lines → s.kept ≡ s.journal
+      → NamesAll lines seals → NamesAll host.kept seals
+  named_to host s lines seals same is kept names =
+      subst (λ (l : List Entry). NamesAll l seals) (sym (ap (λ (x : Served D). x.kept) same ∙ (kept ∙ is))) names
+
+  -- with the runs that are known
+  pub runs_to : (beside : Beside) (file : List ℕ) (host s : Served D) (lines : List Entry) (runs : List Run) → host ≡ s → s.journal ≡ lines
+      → AreRunsOver beside file (length lines) runs → AreRunsOver beside file (length host.journal) runs
+  runs_to beside file host s lines runs same is are =
+      subst (λ (l : List Entry). AreRunsOver beside file (length l) runs) (sym (ap (λ (x : Served D). x.journal) same ∙ is)) are
+
+  -- of what a crash leaves nothing is lost or denied
+  pub kept_to : (grid core : Ladders) (cap most : ℕ) (file : List ℕ) (journals_old seals_old seals_new : List ℕ → Type 0)
+      (leaves : D → List ℕ → Type 0) (host s : Served D) → host ≡ s → core ≡ grid → cap ≡ most
+      → KeepsBoth core cap file journals_old seals_old (leaves s.tape) seals_new
+      → KeepsBoth grid most file journals_old seals_old (leaves host.tape) seals_new
+  kept_to grid core cap most file jo so sn leaves host s same over is keeps =
+      subst (λ (x : Ladders × ℕ × Served D). KeepsBoth x.0 x.1 file jo so (leaves x.2.tape) sn) (λ i. (over i, is i, sym same i)) keeps
+
+-- over the limits that were given
+pub lost_to : (grid core : Ladders) (cap most : ℕ) (file : List ℕ) (journals_old seals_old journals_new seals_new : List ℕ → Type 0)
+    → core ≡ grid → cap ≡ most → KeepsBoth core cap file journals_old seals_old journals_new seals_new
+    → KeepsBoth grid most file journals_old seals_old journals_new seals_new
+lost_to grid core cap most file jo so jn sn over is keeps =
+    subst (λ (x : Ladders × ℕ). KeepsBoth x.0 x.1 file jo so jn sn) (λ i. (over i, is i)) keeps
+
+pub no_entry : (grid : Ladders) (beside : Beside) (basis : Basis) (file : List ℕ) (journal : List Entry)
+    → IsRecovered grid most_lines file journal → HasNoSeal Open beside basis file journal → IsTooLong grid beside basis file
+no_entry grid beside basis file journal recovered none = inr (record { journal = journal; recovered = recovered; no_seal = none })
 
 -- nothing was changed
-pub same_journals : (grid : Ladders) (cap : ℕ) (leaves : List ℕ → Type 0) → KeepsJournals grid cap leaves leaves
-same_journals grid cap leaves = record { each = λ lines j keeps. keeps }
+pub as_before : (grid : Ladders) (cap : ℕ) (file : List ℕ) (journals seals : List ℕ → Type 0) → KeepsBoth grid cap file journals seals journals seals
+as_before grid cap file journals seals = unchanged_both grid cap file journals seals

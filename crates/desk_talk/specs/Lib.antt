@@ -1,3 +1,4 @@
+pub mod Closing
 pub mod Ending
 pub mod Opening
 pub mod Talks

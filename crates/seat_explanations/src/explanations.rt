@@ -435,6 +435,18 @@ const SCRIPTS: &[Explanation] = &[
     },
     Explanation {
         behind: "",
+        code: "-",
+        numbers: NONE,
+        text: "Of a host's FAULT: no line of the desk is at fault.",
+    },
+    Explanation {
+        behind: "-",
+        code: "DEVICE",
+        numbers: NONE,
+        text: "The journal's file failed. Nothing is told behind it, and the host ends.",
+    },
+    Explanation {
+        behind: "",
         code: "B1",
         numbers: &["session", "call of that session"],
         text: "The journal has no line left for a request or a change.\nIt has at most 999,999 lines, with those of --after. Nothing was booked: take fewer requests into one run,\nor begin a new journal, by a run without --after over days on which the old one has no live booking;\nthe bookings of the old one are not known there.",
@@ -558,8 +570,8 @@ const JOURNALS: &[Explanation] = &[
     Explanation {
         behind: "",
         code: "MEMORY",
-        numbers: NONE,
-        text: "Memory was refused. Nothing is wrong with the inputs as far as they were read.",
+        numbers: DESK,
+        text: "Memory was refused. Nothing is wrong with the inputs as far as they were read.\nOf a line of a desk: nothing was booked for it, and the host goes on.",
     },
 ];
 
@@ -693,7 +705,7 @@ const WORDS: &[Explanation] = &[
         behind: "E2",
         code: "journal",
         numbers: NONE,
-        text: "The file of --journal is one of the inputs, other than the journals of --after and --resume, or that of standard output,\nor another run has it, as it may have the journal that is to be sealed or recovered, or its name is - or ends in .seal, .unfinished or .kept-N,\nor what is called as its seal is another file of the command or no regular file, or --no-clobber keeps it: it is there and not empty. Nothing was written. seatdesk -v says which of these it is.",
+        text: "The file of --journal is one of the inputs, other than the journals of --after and --resume, or that of standard output,\nor another run or a host has it, as it may have the journal that is to be served, sealed or recovered, or its name is - or ends in .seal, .unfinished or .kept-N,\nor what is called as its seal is another file of the command or no regular file, or --no-clobber keeps it: it is there and not empty. Nothing was written. seatdesk -v says which of these it is.",
     },
     Explanation {
         behind: "E2",

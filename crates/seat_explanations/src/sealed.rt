@@ -50,7 +50,7 @@ pub(crate) const SEALS: &[Explanation] = &[
         behind: "SEAL",
         code: "journal",
         numbers: NONE,
-        text: "The journal's head and entries are others than those that were sealed: a line was changed, added or taken away,\nor the journal is another than the seal's: a run writes both, and a kept journal has its own beside it.\nOf an open seal the journal does not begin with its lines. Of seatdesk recover it may have fewer lines than were\nsealed, which no crash takes: --cut ends it as it is. Of seatdesk seal: the seal there has a run behind more lines than the journal has, so it was changed.",
+        text: "The journal's head and entries are others than those that were sealed: a line was changed, added or taken away,\nor the journal is another than the seal's: a run writes both, and a kept journal has its own beside it.\nOf an open seal the journal does not begin with its lines. Of seatdesk serve and recover what is found of it does not\nbegin with the lines that were sealed: one is missing or was changed, which no crash does. Of seatdesk seal: the seal there has a run behind more lines than the journal has, so it was changed.",
     },
     Explanation {
         behind: "SEAL",

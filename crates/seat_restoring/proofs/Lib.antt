@@ -4,3 +4,4 @@ pub mod Over
 pub mod Refusing
 pub mod Sealed
 pub mod Hosted
+pub mod Serving

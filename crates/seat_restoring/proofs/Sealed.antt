@@ -1,8 +1,9 @@
 -- The seals of a journal that is ended.
-use Rattle.std.proofs.Common.{◌≡◌, ℕ, ◌++◌, false, List, length, take, ap, sym, subst, ◌∙◌}
+use Rattle.std.proofs.Common.{◌≡◌, ℕ, ◌<◌, ◌++◌, false, List, [], ◌∷◌, length, take, ap, refl, sym, subst, ◌∙◌, arith, append-nil}
 use Rattle.seat_journal.specs.declared.entry.Entry.{Entry}
 use Rattle.seat_rules.specs.Inventory.{Inventory}
 use Rattle.seat_recovery.specs.declared.rest.Rest.{Rest}
+use Rattle.seat_recovery.specs.declared.rest.Rest.TheVariants as rests
 use Rattle.seat_recovery.specs.OpenText.{open_text}
 use Rattle.seat_seal.specs.Imprints.{imprint_of}
 use Rattle.seat_seal.specs.Reading.{two_entries}
@@ -22,11 +23,36 @@ use Rattle.seat_serving.specs.GoingOn.{IsFoundIn, head_for}
 use Rattle.seat_serving.proofs.Recovering.{whole}
 use Rattle.seat_restoring.specs.Sealing.{AreEntries, AreRunsOver, AreSeals, AreUnsealable, IsEntryOver}
 
-pub lines_are : (core : Inventory) (file lines head : List ℕ) (len : ℕ) (rest : Rest) → IsFoundIn core file len rest
+lines_are : (core : Inventory) (file lines head : List ℕ) (len : ℕ) (rest : Rest) → IsFoundIn core file len rest
     → lines ≡ take len file → head ≡ head_for rest → lines ++ head ≡ open_text core.journal
 lines_are core file lines head len rest found is_lines is_head =
     ap (λ (t : List ℕ). t ++ head) is_lines ∙ ap (λ (t : List ℕ). take len file ++ t) is_head
     ∙ whole core.grid core.cap file core.journal len rest found.stands
+
+empty_head : (head : List ℕ) → length head ≡ 0 → head ≡ []
+empty_head [] e = refl
+empty_head (c ∷ head) e = absurd (cc e)
+
+-- the lines are the text, where no head is to be written
+pub text_is_lines : (core : Inventory) (file lines head : List ℕ) (len : ℕ) (rest : Rest) → IsFoundIn core file len rest
+    → lines ≡ take len file → head ≡ head_for rest → length head ≡ 0 → lines ≡ open_text core.journal
+text_is_lines core file lines head len rest found is_lines is_head none =
+    sym (append-nil lines) ∙ ap (λ (t : List ℕ). lines ++ t) (sym (empty_head head none)) ∙ lines_are core file lines head len rest found is_lines is_head
+
+some_head : (core : Inventory) (file : List ℕ) (len : ℕ) (rest : Rest) → IsFoundIn core file len rest → 0 < length (head_for rest)
+    → take len file ≡ []
+some_head core file len rests.NoHead found some = ap (λ (n : ℕ). take n file) found.stands.1
+some_head core file len rests.Whole found some = absurd (omega (arith, some))
+some_head core file len rests.Closed found some = absurd (omega (arith, some))
+some_head core file len rests.Torn found some = absurd (omega (arith, some))
+some_head core file len (rests.Damaged d) found some = absurd (omega (arith, some))
+
+-- and where there was none it is
+pub text_is_head : (core : Inventory) (file head : List ℕ) (len : ℕ) (rest : Rest) → IsFoundIn core file len rest
+    → head ≡ head_for rest → 0 < length head → head ≡ open_text core.journal
+text_is_head core file head len rest found is_head some =
+    let none : take len file ≡ [] = some_head core file len rest found (subst (λ (h : List ℕ). 0 < length h) is_head some) in
+    ap (λ (t : List ℕ). t ++ head) (sym none) ∙ lines_are core file (take len file) head len rest found refl is_head
 
 pub over : (state : JournalState) (beside : Beside) (basis : Basis) (file : List ℕ) (journal : List Entry) (imprint : Imprint) (lines : ℕ)
     (runs : List Run) (entry : Belonging) → imprint ≡ imprint_of (open_text journal) → lines ≡ length journal

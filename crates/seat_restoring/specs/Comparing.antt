@@ -1,13 +1,11 @@
--- What `recover` compares of what stands beside a journal: the set, the limits and the days, and where lines were added to the journal
--- that it begins with those it had. That a closed journal is another than the sealed one is what a recovery is for.
-use Rattle.std.specs.Prelude.{◌≡◌, ℕ, Bool, true, false, not, List, Option, None, Some, IfSome}
+-- What is compared of what stands beside a file that is recovered, ahead of what is found in it: the set, the limits and the days. That its bytes are not
+-- those of the sealed journal is what a recovery is for: what is found of them is compared with the sealed lines.
+use Rattle.std.specs.Prelude.{◌≡◌, ℕ, Bool, true, false, List, Option, None, Some, IfSome, is_some}
 use Rattle.seat_seal.specs.Besides.{IsFaultBeside}
 use Rattle.seat_seal.specs.declared.beside.Basis.{Basis}
 use Rattle.seat_seal.specs.declared.beside.Beside.{Beside}
 use Rattle.seat_seal.specs.declared.comparing.SealFault.{SealFault}
 use Rattle.seat_seal.specs.declared.comparing.SealFault.TheVariants.{Journal}
-use Rattle.seat_seal.specs.declared.seal.JournalState.{JournalState}
-use Rattle.seat_seal.specs.declared.seal.JournalState.TheVariants.{Open, Closed}
 use Rattle.seat_seal.specs.declared.seal.Sealed.{Sealed as Belonging}
 use Rattle.seat_seal.specs.Known.{IsKnown}
 use Rattle.seat_desk.specs.Answering.{HasGroundOf}
@@ -18,19 +16,10 @@ use Rattle.seat_desk.specs.declared.fault.DeskFault.{DeskFault}
 use Rattle.seat_desk.specs.declared.fault.DeskFault.TheVariants.{Seal}
 use Rattle.seat_restoring.specs.Restoring.{AreBytes}
 
-abbrev pub is_open_state : JournalState → Bool
-is_open_state Open = true
-is_open_state Closed = false
-
--- more lines may come to the journal, as the entry says that is compared
-abbrev pub is_open : Option Belonging → Bool
-is_open None = false
-is_open (Some entry) = is_open_state entry.journal.state
-
--- nothing is wrong with what stands there, or that alone that a closed journal is another
+-- nothing is wrong with what stands there, or that alone that the bytes are another journal's, and lines were sealed
 abbrev pub is_passed : Option Belonging → Option SealFault → Bool
 is_passed known None = true
-is_passed known (Some Journal) = not (is_open known)
+is_passed known (Some Journal) = is_some known
 is_passed known (Some fault) = false
 
 -- the first fault of what stands beside a journal of these bytes on this basis is passed

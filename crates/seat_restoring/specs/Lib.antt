@@ -1,4 +1,5 @@
 pub mod Comparing
+pub mod Found
 pub mod Restoring
 pub mod Sealing
-pub mod Shorter
+pub mod Serving

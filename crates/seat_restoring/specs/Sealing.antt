@@ -1,5 +1,5 @@
 -- The seal of a journal that `recover` ends, and the three steps in which both are written. And the seals of one that lines are added to.
-use Rattle.std.specs.Prelude.{◌≡◌, ◌⊎◌, ℕ, Bool, false, List, length, Option}
+use Rattle.std.specs.Prelude.{◌≡◌, ◌⊎◌, ℕ, false, List, length, Option}
 use Rattle.seat_journal.specs.declared.entry.Entry.{Entry}
 use Rattle.seat_journal.specs.Text.{journal_text}
 use Rattle.seat_nesting.specs.Nesting.{Ladders}
@@ -26,7 +26,7 @@ use Rattle.seat_desk.specs.Loading.{Bytes}
 use Rattle.seat_desk.specs.declared.inputs.Inputs.{Inputs}
 use Rattle.seat_restoring.specs.Comparing.{OfBasis}
 use Rattle.seat_restoring.specs.Restoring.{AreBytes}
-use Rattle.seat_restoring.specs.Shorter.{IsWhole}
+use Rattle.seat_restoring.specs.Found.{KeepsSealed}
 
 -- ---- the entries
 
@@ -83,9 +83,9 @@ pub record IsSealedIn (state : JournalState) (beside : Beside) (basis : Basis) (
   pub kept : Only text leaves
 
 -- a crash leaves of the seal what it did, or such a one
-abbrev pub LeavesSeal : JournalState → Beside → Basis → List ℕ → List Entry → (List ℕ → Type 0) → (List ℕ → Type 0) → Type 0
-LeavesSeal state beside basis file journal old new =
-    (c : List ℕ) → new c → old c ⊎ IsSealIn state beside basis file journal c
+pub record LeavesSeal (state : JournalState) (beside : Beside) (basis : Basis) (file : List ℕ) (journal : List Entry)
+    (old new : List ℕ → Type 0) : Type 0 where
+  pub each : (c : List ℕ) → new c → old c ⊎ IsSealIn state beside basis file journal c
 
 -- no seal may have the entry
 pub record HasNoSeal (state : JournalState) (beside : Beside) (basis : Basis) (file : List ℕ) (journal : List Entry) : Type 0 where
@@ -96,9 +96,9 @@ pub record HasNoSeal (state : JournalState) (beside : Beside) (basis : Basis) (f
 -- ---- what is written
 
 -- the seal of the journal alone has its name, and a crash leaves it and nothing else
-pub record IsSealed (said : Bool) (beside : Beside) (basis : Basis) (old new : Option (List ℕ)) (leaves : List ℕ → Type 0) (file : List ℕ)
+pub record IsSealed (beside : Beside) (basis : Basis) (old new : Option (List ℕ)) (leaves : List ℕ → Type 0) (file : List ℕ)
     (journal : List Entry) : Type 0 where
-  pub whole : IsWhole said beside file journal
+  pub keeps : KeepsSealed beside file journal
   pub both : List ℕ
   pub alone : List ℕ
   pub seals : AreSeals beside basis file journal both alone
@@ -144,10 +144,10 @@ FollowIn grid beside basis old journals_old seals_old journals_new seals_new =
 
 -- ---- over the inputs
 
-abbrev pub IsSealedOver : {S L : Type 0} → Bool → Beside → Bytes S → Bytes L → Inputs S L → Option (List ℕ) → Option (List ℕ)
+abbrev pub IsSealedOver : {S L : Type 0} → Beside → Bytes S → Bytes L → Inputs S L → Option (List ℕ) → Option (List ℕ)
     → (List ℕ → Type 0) → List ℕ → List Entry → Type 0
-IsSealedOver said beside set limits inputs old new leaves file journal =
-    OfBasis set limits inputs (λ basis. IsSealed said beside basis old new leaves file journal)
+IsSealedOver beside set limits inputs old new leaves file journal =
+    OfBasis set limits inputs (λ basis. IsSealed beside basis old new leaves file journal)
 
 abbrev pub AreUnsealableOver : {S L : Type 0} → Beside → Bytes S → Bytes L → Inputs S L → List ℕ → List Entry → Type 0
 AreUnsealableOver beside set limits inputs file journal =

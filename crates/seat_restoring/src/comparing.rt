@@ -1,13 +1,17 @@
-//! What stands beside a journal that is to be recovered.
+//! What stands beside a journal that is recovered, ahead of what is found in it and behind that.
 //! It knows seals by their faults and their entries, and no file.
-ghost use Rattle.std.specs.Prelude.{◌≡◌, IfErr, OnOk, Some};
-ghost use Rattle.seat_restoring.specs.Comparing.{Differs, Passes, is_open, is_open_state, is_passed};
+ghost use Rattle.std.specs.Prelude.{◌≡◌, ◌≢◌, IfErr, OnOk, Some};
+ghost use Rattle.seat_serving.specs.GoingOn.{IsFoundIn};
+ghost use Rattle.seat_restoring.specs.Comparing.{Differs, Passes, is_passed};
+ghost use Rattle.seat_restoring.specs.Found.{KeepsSealed, LosesSealed, has_sealed};
 
+use crate::sealing::text_of;
 use seat_desk::DeskFault;
-use seat_seal::{Basis, Beside, JournalState, SealFault, Sealed, fault_beside, known_of};
+use seat_recovery::Recovered;
+use seat_seal::{Basis, Beside, SealFault, Sealed, begins_sealed, fault_beside, known_of};
 
-/// Refuses a journal where what stands beside it is no seal, or one of another set, other limits or other days, or of an open journal that this
-/// one does not begin with. That it is another than a closed one is what a recovery is for.
+/// Refuses a journal where what stands beside it is no seal, or one of another set, other limits or other days. Whether what is found of
+/// its bytes begins with the sealed lines is seen once it is found ([`keeps_sealed`]).
 pub fn passed(seal: &Beside<'_>, basis: &Basis, journal: &[u8]) -> Result<(), DeskFault>
     ensures ok { OnOk result (Passes seal.now basis.now journal.now) }
     ensures fault { IfErr result (Differs seal.now basis.now journal.now) }
@@ -26,26 +30,31 @@ fn is_passed(known: &Option<Sealed>, fault: SealFault) -> bool
     ensures { result ≡ is_passed known.now (Some fault) }
 {
     match fault {
-        SealFault::Journal => !is_open(known),
+        SealFault::Journal => known.is_some(),
         _ => false,
     }
 }
 
-/// Whether more lines may come to the journal, as the entry says that is compared.
-fn is_open(known: &Option<Sealed>) -> bool
-    ensures { result ≡ is_open known.now }
+/// Refuses what was found in a file with these bytes, where it does not begin with the lines that were sealed.
+pub fn keeps_sealed(seal: &Beside<'_>, bytes: &[u8], found: &Recovered) -> Result<(), DeskFault>
+    requires found { IsFoundIn found.now.core bytes.now found.now.len found.now.rest }
+    ensures ok { OnOk result (KeepsSealed seal.now bytes.now found.now.core.journal) }
+    ensures fault { IfErr result (LosesSealed seal.now bytes.now found.now.core.journal) }
+    ensures kind { IfErr result (λ f. (f ≢ DeskFault.Device) × (f ≢ DeskFault.TooLarge)) }
 {
-    match known {
-        Some(entry) => is_open_state(entry.journal.state),
-        None => false,
+    let known = known_of(seal, bytes);
+    if has_sealed(&known, text_of(bytes, found)) {
+        return Ok(());
     }
+    Err(DeskFault::Seal(SealFault::Journal))
 }
 
-fn is_open_state(state: JournalState) -> bool
-    ensures { result ≡ is_open_state state }
+/// Whether the text begins with what was sealed, as the entry says that is compared.
+fn has_sealed(known: &Option<Sealed>, text: &[u8]) -> bool
+    ensures { result ≡ has_sealed known.now text.now }
 {
-    match state {
-        JournalState::Open => true,
-        JournalState::Closed => false,
+    match known {
+        Some(entry) => begins_sealed(&entry.journal, text),
+        None => true,
     }
 }

@@ -9,4 +9,4 @@ mod sealing;
 mod served;
 
 pub use recover::desk_recover;
-pub use served::{seal_closed, seal_open};
+pub use served::{find_sealed, go_on_sealed, seal_closed};

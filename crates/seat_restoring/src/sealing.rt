@@ -9,8 +9,8 @@ ghost use Rattle.seat_restoring.specs.Sealing.{AreRunsOver, AreSeals, AreUnseala
 
 use seat_recovery::Recovered;
 use seat_seal::{
-    Basis, Beside, Imprint, Runs, SealEntry, Sealed, Tally, closed_entry, known_of, open_entry,
-    runs_known,
+    Basis, Beside, Imprint, Runs, SealEntry, Sealed, closed_entry, imprint_of, known_of,
+    open_entry, runs_known,
 };
 use seat_sealing::{SealTexts, may_be_sealed, seal_texts};
 use seat_serving::head_for;
@@ -68,14 +68,23 @@ pub(crate) fn runs_over(seal: &Beside<'_>, bytes: &[u8], lines: u32) -> Runs
 }
 
 /// The imprint of the head and the lines that were found.
-#[tactic(auto, using(crate::proofs::Sealed::lines_are))]
 pub(crate) fn imprint_of_lines(bytes: &[u8], found: &Recovered) -> Imprint
     requires found { IsFoundIn found.now.core bytes.now found.now.len found.now.rest }
     ensures { result ≡ imprint_of (open_text found.now.core.journal) }
 {
-    let (lines, _) = bytes.split_at(found.len);
-    let mut tally = Tally::new();
-    tally.take(lines);
-    tally.take(head_for(found.rest));
-    tally.imprint()
+    imprint_of(text_of(bytes, found))
+}
+
+/// The head and the lines that were found.
+#[tactic(auto, using(crate::proofs::Sealed::text_is_lines, crate::proofs::Sealed::text_is_head))]
+pub(crate) fn text_of<'a>(bytes: &'a [u8], found: &Recovered) -> &'a [u8]
+    requires found { IsFoundIn found.now.core bytes.now found.now.len found.now.rest }
+    ensures { result.now ≡ open_text found.now.core.journal }
+{
+    let head = head_for(found.rest);
+    if head.is_empty() {
+        let (lines, _) = bytes.split_at(found.len);
+        return lines;
+    }
+    head
 }

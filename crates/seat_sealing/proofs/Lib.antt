@@ -1,4 +1,4 @@
 mod Denials
-mod LastLines
+pub mod LastLines
 mod Known
 mod Orders

@@ -2,6 +2,7 @@
 //! It knows seals and a file that is replaced whole, and nothing of the journal's own file.
 ghost use Rattle.std.specs.Prelude.{◌≡◌, List, OnErr, OnOk, true, ℕ};
 ghost use Rattle.airline_base.specs.Noting.{noted};
+ghost use Rattle.seat_disk.specs.Keeping.{KeepsNoMore};
 ghost use Rattle.seat_disk.specs.Leaving.{OldOr, Only, replaced_by};
 ghost use Rattle.seat_seal.specs.declared.seal.JournalState.TheVariants.{Open};
 ghost use Rattle.seat_seal.specs.Imprints.{imprint_of};
@@ -14,7 +15,7 @@ use seat_disk::{Replaced, replace_whole};
 use seat_seal::{Seal, SealEntry, SealText, Sealed, seal_text};
 
 /// Puts the seal of this entry alone in place of what the file has, and syncs it. A crash at any moment leaves what it would have left
-/// before, or that seal, whole. A reader finds the entry in it for the journal that was sealed, and where the entry is of an open one for each journal
+/// before, or that seal, whole, and keeps nothing of what stood there. A reader finds the entry in it for the journal that was sealed, and where the entry is of an open one for each journal
 /// that begins with that one.
 pub fn put_alone<K: Replaced>(seal: &mut K, entry: Sealed) -> Result<(), WriteFault>
     requires rules { is_sealed entry ≡ true }
@@ -24,6 +25,7 @@ pub fn put_alone<K: Replaced>(seal: &mut K, entry: Sealed) -> Result<(), WriteFa
     ensures names { Names (alone_text entry) entry.journal.imprint }
     ensures each { (begun : List ℕ) → entry.journal.state ≡ Open → entry.journal.imprint ≡ imprint_of begun
         → NamesEach (alone_text entry) begun }
+    ensures only { KeepsNoMore (K.kept_may_leave seal.old) (K.kept_may_leave seal.new) }
     ensures counted { OnOk result (K.failure_count seal.new ≡ K.failure_count seal.old) }
     ensures device { OnErr result (K.failure_count seal.new ≡ noted (K.failure_count seal.old)) }
 {

@@ -7,10 +7,12 @@ mod alone;
 mod laws;
 mod older;
 mod replacing;
+mod text;
 mod writing;
 
 pub use alone::put_alone;
 pub use laws::{ends_are_last, no_crash_denies};
 pub use older::{entry_beside, older_entry};
 pub use replacing::{SealTexts, may_be_sealed, replace_sealed, seal_texts};
+pub use text::journal_bytes;
 pub use writing::write_sealed;

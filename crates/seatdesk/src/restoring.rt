@@ -77,7 +77,7 @@ pub fn recover<'a>(
 }
 
 /// The new seal of a journal at this path, which is locked.
-fn seal_out<'a>(
+pub fn seal_out<'a>(
     rt: &'a HostRuntime,
     journal: &'a str,
     path: &str,
@@ -91,7 +91,7 @@ fn seal_out<'a>(
 }
 
 /// What stands beside the journal. There need be nothing.
-fn as_beside(text: &Option<Vec<u8>>) -> Beside<'_> {
+pub fn as_beside(text: &Option<Vec<u8>>) -> Beside<'_> {
     let text = match text {
         Some(text) => Some(text.as_slice()),
         None => None,
@@ -108,7 +108,7 @@ pub fn unopened<'a>(journal: &'a str, fault: OpenFault) -> Refusal<'a>
 {
     match fault {
         OpenFault::NotRegular => Refusal::barred(journal, "Is no regular file"),
-        OpenFault::Taken => Refusal::barred(journal, "Another run has it"),
+        OpenFault::Taken => Refusal::barred(journal, "Another run or host has it"),
         OpenFault::Replaced => Refusal::barred(journal, "Is replaced at each look"),
         OpenFault::Memory => Refusal::from(DeskFault::Memory),
         OpenFault::System(reason) => Refusal::from(DeskFault::Device).at(journal, reason),

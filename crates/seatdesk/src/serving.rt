@@ -1,29 +1,20 @@
-//! `serve` over the real file of a journal, which it locks, and a desk on standard input and standard output.
+//! `serve` over the real file of a journal, which it locks, its seal's, and a desk on standard input and standard output.
 //! It knows which file and stream is which, and nothing of what a desk's line means.
-ghost use Rattle.std.specs.Prelude.{◌≤◌};
 ghost use Rattle.airline_base.specs.Days.{IsCenturyDay};
-ghost use Rattle.ssim_flights.specs.Right.{IsOfCentury};
 ghost use Rattle.seat_desk.specs.Loading.{IsGridOf};
 
 use crate::commands::{day_of_run, days_of, inputs_of};
-use crate::restoring::{tell_kept, unopened};
-use airline_base::{Counted, Day, ReadFault};
-use desk_talk::{DayFault, TalkFault, open_host, serve_desk};
-use seat_desk::{DeskFault, Loaded, MOST_LINES, answer_question, load};
+use crate::restoring::{as_beside, seal_out, tell_kept, unopened};
+use airline_base::{Day, Failures, ReadFault};
+use desk_talk::{DayFault, ServedFault, TalkFault, open_host, serve_sealed};
+use seat_desk::{Based, DeskFault, Loaded, load_based};
 use seat_disk::Tape;
-use seat_files::{
-    Fault, Guard, Input, Output, Refusal, SealFile, opened, standard_input, standard_output, told,
-};
-use seat_journal::{JournalFault, JournalKind};
-use seat_nesting::Grid;
-use seat_open::damage_fault;
-use seat_recovery::{MOST_OPEN_BYTES, Rest};
-use seat_reports::Audit;
-use seat_seal::SealFault;
-use seat_serving::{GoOnFault, ServeFault};
+use seat_files::{Guard, Input, Output, Refusal, SealOut, standard_input, standard_output, told};
+use seat_recovery::MOST_OPEN_BYTES;
+use seat_seal::Beside;
+use seat_serving::ServeFault;
 use seat_tape::{BesideFile, TapeFile, open};
 use seat_words::{Horizon, WordFault};
-use ssim_flights::Flights;
 use std::fs;
 use std::sync::Wait;
 
@@ -35,7 +26,7 @@ pub struct Open<'a> {
     pub desk: &'a str,
 }
 
-/// Goes on with a journal, or begins it, answers a desk up to the end of its input, and ends the journal.
+/// Goes on with a journal beside its seal, or begins it, answers a desk up to the end of its input, and ends and seals the journal.
 pub fn serve<'a, R: Wait>(
     rt: &'a HostRuntime,
     waits: &R,
@@ -55,115 +46,101 @@ pub fn serve<'a, R: Wait>(
     let guard = Guard::new(rt, journal)?;
     guard.pass(&inputs, &[], &[])?;
     guard.pass_output(rt)?;
-    let loaded = match load(rt.alloc(), &mut inputs) {
-        Ok(loaded) => loaded,
+    let based = match load_based(rt.alloc(), &mut inputs, true) {
+        Ok(based) => based,
         Err(fault) => return told(Err(fault), &[&inputs.set, &inputs.limits], &[]),
     };
     let tape = match open(rt, journal) {
         Ok(tape) => tape,
         Err(fault) => return Err(unopened(journal, fault)),
     };
-    agrees_with_seal(rt, over, &days, journal)?;
-    let Loaded { flights, grid, .. } = loaded;
-    serve_over(rt, waits, &flights, grid, today, journal, tape)
-}
-
-/// What stands beside the journal is compared as an audit does it. That the journal is another than the sealed one is no refusal: a
-/// host adds lines.
-fn agrees_with_seal<'a>(
-    rt: &HostRuntime,
-    over: &Horizon<'a>,
-    days: &(Day, u16),
-    journal: &'a str,
-) -> Result<(), Refusal<'a>>
-    requires first { IsOfCentury days.now.0 }
-    requires days { (1 ≤ days.now.1) × (days.now.1 ≤ 366) }
-{
-    let mut journal = opened(rt, journal)?;
-    let seal = SealFile::beside(rt, &journal, false)?;
-    let beside = seal.as_beside();
-    if beside.text.is_none() {
-        return Ok(());
-    }
-    let mut inputs = match inputs_of(rt, over, *days) {
-        Ok(inputs) => inputs,
+    let path = match fs::canonicalize(rt, journal) {
+        Ok(path) => path.into_string(),
+        Err(error) => return Err(Refusal::unopened(journal, &error)),
+    };
+    let mut seals = match seal_out(rt, journal, path.as_str(), &inputs) {
+        Ok(seals) => seals,
         Err(refusal) => return Err(refusal),
     };
-    let mut unheard = Counted::new(Vec::new(rt.alloc()));
-    let outcome = answer_question(
-        rt.alloc(),
-        &Audit,
-        &mut inputs,
-        &mut journal,
-        &beside,
-        &mut unheard,
-    );
-    match told(outcome, &[&inputs.set, &inputs.limits, &journal], &[]) {
-        Ok(()) => Ok(()),
+    let text = match seals.text() {
+        Ok(text) => text,
         Err(refusal) => {
-            if stops(&refusal.fault) {
-                Err(refusal)
-            } else {
-                Ok(())
-            }
+            seals.leave();
+            return Err(refusal);
         }
+    };
+    let mut beside = BesideFile::of(rt, path.as_str());
+    let outcome = serve_over(
+        rt,
+        waits,
+        based,
+        today,
+        journal,
+        &as_beside(&text),
+        tape,
+        &mut beside,
+        &mut seals,
+    );
+    seals.leave();
+    match outcome {
+        Ok(()) => Ok(()),
+        Err(refusal) => Err(refusal.noting_seal(&seals)),
     }
 }
 
-/// Whether a look at the seal ends with this fault: faults of the inputs' texts are told by what comes behind it.
-fn stops(fault: &Fault) -> bool {
-    match fault {
-        Fault::Desk(DeskFault::Seal(SealFault::Journal)) => false,
-        Fault::Desk(DeskFault::Seal(_)) => true,
-        Fault::Desk(DeskFault::Memory) => true,
-        Fault::Desk(DeskFault::Device) => true,
-        Fault::Desk(DeskFault::TooLarge) => true,
-        _ => false,
-    }
-}
-
-/// The same with the inputs read and the journal locked.
+/// The same with the inputs read, the journal locked and what stands beside it read.
 fn serve_over<'a, R: Wait>(
     rt: &'a HostRuntime,
     waits: &R,
-    flights: &Flights,
-    grid: Grid,
+    based: Based,
     today: Day,
     journal: &'a str,
+    seal: &Beside<'_>,
     tape: TapeFile,
+    beside: &mut BesideFile<'_>,
+    seals: &mut SealOut<'a>,
 ) -> Result<(), Refusal<'a>>
-    requires grid { IsGridOf flights.now grid }
+    requires grid { IsGridOf based.loaded.flights based.loaded.grid }
     requires today { IsCenturyDay today }
 {
+    let Based { loaded, basis } = based;
+    let Loaded { flights, grid, .. } = loaded;
     let mut tape = tape;
     let bytes = match tape.read_all(rt.alloc(), MOST_OPEN_BYTES) {
         Ok(bytes) => bytes,
         Err(fault) => return Err(unread(fault, journal, &tape)),
     };
-    let path = match fs::canonicalize(rt, journal) {
-        Ok(path) => path.into_string(),
-        Err(error) => return Err(Refusal::unopened(journal, &error)),
-    };
-    let mut beside = BesideFile::of(rt, path.as_str());
     let opened = open_host(
         waits,
         rt.alloc(),
-        flights,
+        &flights,
         grid,
-        MOST_LINES,
         today,
+        seal,
+        &basis,
         &bytes,
         tape,
-        &mut beside,
+        beside,
+        seals,
     );
-    tell_kept(rt, journal, &beside);
-    let host = match opened {
-        Ok(host) => host,
-        Err(refused) => return Err(stopped(refused, journal, &beside)),
+    drop(bytes);
+    tell_kept(rt, journal, beside);
+    let (host, runs) = match opened {
+        Ok(opened) => opened,
+        Err(refused) => return Err(stopped(refused, journal, beside)),
     };
     let mut input = standard_input(rt);
     let mut out = standard_output(rt);
-    match serve_desk(waits, rt.alloc(), host, &mut input, &mut out) {
+    match serve_sealed(
+        waits,
+        rt.alloc(),
+        host,
+        &basis,
+        runs,
+        &mut input,
+        &mut out,
+        seals,
+    ) {
         Ok(_) => Ok(()),
         Err(refused) => Err(unended(refused, journal, &input, &out)),
     }
@@ -180,56 +157,46 @@ fn unread<'a>(fault: ReadFault, journal: &'a str, tape: &TapeFile) -> Refusal<'a
 
 /// Why nothing goes on from the journal.
 fn stopped<'a>(
-    refused: (GoOnFault, TapeFile),
+    refused: (DeskFault, TapeFile),
     journal: &'a str,
     beside: &BesideFile<'_>,
 ) -> Refusal<'a> {
     let (fault, tape) = refused;
     match fault {
-        GoOnFault::Head => Refusal::from(DeskFault::Journal(JournalFault {
-            line: 1,
-            kind: JournalKind::Head,
-        }))
-        .at(journal, None),
-        GoOnFault::Barred(rest) => barred(rest, journal),
-        GoOnFault::Memory => Refusal::from(DeskFault::Memory),
-        GoOnFault::Beside => beside_failed(journal, beside),
-        GoOnFault::Device => failed(journal, &tape),
+        DeskFault::Memory => Refusal::from(fault),
+        DeskFault::Device if tape.failures() > 0 => failed(journal, &tape),
+        DeskFault::Device if beside.wants_memory() => Refusal::from(DeskFault::Memory),
+        DeskFault::Device if beside.failures() > 0 => Refusal::from(fault).at(
+            journal,
+            beside.reason(),
+        ),
+        // (the seal's file)
+        DeskFault::Device => Refusal::from(fault),
+        _ => Refusal::from(fault).at(journal, None),
     }
 }
 
-/// Why what stands behind the lines of the journal is not cut.
-fn barred<'a>(rest: Rest, journal: &'a str) -> Refusal<'a> {
-    let fault = match rest {
-        Rest::Damaged(damage) => damage_fault(damage),
-        _ => DeskFault::TooLarge,
-    };
-    Refusal::from(fault).at(journal, None)
-}
-
-/// Why nothing is kept beside the journal.
-fn beside_failed<'a>(journal: &'a str, beside: &BesideFile<'_>) -> Refusal<'a> {
-    if beside.wants_memory() {
-        return Refusal::from(DeskFault::Memory);
-    }
-    Refusal::from(DeskFault::Device).at(journal, beside.reason())
-}
-
-/// Why the journal is not ended.
+/// Why the journal is not ended and sealed.
 fn unended<'a>(
-    refused: (DayFault, TapeFile),
+    refused: (ServedFault, TapeFile),
     journal: &'a str,
     input: &Input<'a>,
     out: &Output<'a>,
 ) -> Refusal<'a> {
     let (fault, tape) = refused;
     match fault {
-        DayFault::Talk(TalkFault::Input) => Refusal::unread(input),
-        DayFault::Talk(TalkFault::Output) => Refusal::from(DeskFault::Device).noting_output(out),
-        DayFault::Talk(TalkFault::Journal) => failed(journal, &tape),
-        DayFault::Talk(TalkFault::Memory) => Refusal::from(DeskFault::Memory),
-        DayFault::End(ServeFault::Device) => failed(journal, &tape),
-        DayFault::End(ServeFault::Memory) => Refusal::from(DeskFault::Memory),
+        ServedFault::Day(DayFault::Talk(TalkFault::Input)) => Refusal::unread(input),
+        ServedFault::Day(DayFault::Talk(TalkFault::Output)) => {
+            Refusal::from(DeskFault::Device).noting_output(out)
+        }
+        ServedFault::Day(DayFault::Talk(TalkFault::Journal)) => failed(journal, &tape),
+        ServedFault::Day(DayFault::Talk(TalkFault::Memory)) => Refusal::from(DeskFault::Memory),
+        ServedFault::Day(DayFault::End(ServeFault::Device)) => failed(journal, &tape),
+        ServedFault::Day(DayFault::End(ServeFault::Memory)) => Refusal::from(DeskFault::Memory),
+        ServedFault::Seal(DeskFault::TooLarge) => Refusal::from(DeskFault::TooLarge).at(
+            journal, None,
+        ),
+        ServedFault::Seal(fault) => Refusal::from(fault),
     }
 }
 
