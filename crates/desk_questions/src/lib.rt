@@ -5,5 +5,5 @@
 mod history;
 mod told;
 
-pub use history::HistoryOf;
+pub use history::{HistoryOf, made_under, under};
 pub use told::ToldOf;

@@ -1,7 +1,7 @@
 mod Common
 mod Lacking
 mod Listings
-mod LiveTexts
+pub mod LiveTexts
 mod Making
 mod Passes
 mod Picks

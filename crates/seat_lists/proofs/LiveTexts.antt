@@ -65,7 +65,7 @@ pub locator_put : (alone : Bool) (b : Booking) (old mid new : List ℕ) → alon
 locator_put alone b old mid new e first blank =
     rw e (blank ∙ ap (λ (l : List ℕ). l ++ 32 ∷ []) first ∙ append_assoc old b.locator (32 ∷ []))
 
-leg_at : (flights : List Flown) (place : Place) (flight : Flown) (legs : List DatedLeg) (i : ℕ) (leg : DatedLeg)
+pub leg_at : (flights : List Flown) (place : Place) (flight : Flown) (legs : List DatedLeg) (i : ℕ) (leg : DatedLeg)
     (h : HasPlace flights place) → slice_get flights place.flight ≡ Some flight → legs ≡ flight.legs
     → i < length h.flight.legs → leg ≡ get_or legs i leg → slice_get flight.legs i ≡ Some leg
 leg_at flights place flight legs i leg h at same below is =

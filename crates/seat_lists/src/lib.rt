@@ -11,5 +11,7 @@ mod waiting;
 
 pub use bookings::BookingsOf;
 pub use laws::{passes_go_in_order, waiters_lack_seats};
-pub use picking::{Designator, Wanted, keeps_flight};
-pub use waiting::WaitingOf;
+pub use listing::listed;
+pub use named::status_code;
+pub use picking::{Designator, Wanted, keeps_flight, picked};
+pub use waiting::{WaitingOf, lacked};

@@ -81,7 +81,8 @@ fn segment_of(flight: &Flight, first: &DatedLeg, last: &DatedLeg, booking: &Book
     }
 }
 
-fn status_code(status: Status) -> Code
+/// HK where the seats are held, HL where they wait.
+pub fn status_code(status: Status) -> Code
     ensures { result ≡ status_code status }
 {
     match status {

@@ -121,7 +121,7 @@ fn put_waiter(
 }
 
 /// The seats of a booking beyond those that are left.
-fn lacked(core: &Core, booking: &Booking) -> u16
+pub fn lacked(core: &Core, booking: &Booking) -> u16
     requires { Fits core.now.grid booking.now.place }
     ensures { result ≡ lacked (state_now core.now) booking.now }
 {

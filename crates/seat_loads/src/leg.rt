@@ -104,7 +104,7 @@ pub fn put_share(text: &mut Vec<u8>, held: u64, limit: u64) -> Result<(), AllocE
 }
 
 /// What part of a limit is held, per mille, rounded down; 0 of none.
-fn share(held: u64, limit: u64) -> u64
+pub fn share(held: u64, limit: u64) -> u64
     requires { held ≤ 52_428_000_000 }
     ensures { result ≡ share held limit }
 {

@@ -7,5 +7,7 @@ mod loads;
 mod passengers;
 mod sums;
 
-pub use loads::LoadsOf;
-pub use sums::Sums;
+pub use leg::{held_on, share, top_limit};
+pub use loads::{LoadsOf, is_kept};
+pub use passengers::{Riders, flight_riders};
+pub use sums::{LegSums, Sums, kept_legs, sums_of};

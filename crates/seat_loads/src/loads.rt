@@ -193,7 +193,7 @@ fn put_kept(
 }
 
 /// Whether a leg is asked for.
-pub(crate) fn is_kept(asked: &LoadsOf, dated: &DatedLeg) -> bool
+pub fn is_kept(asked: &LoadsOf, dated: &DatedLeg) -> bool
     ensures { result ≡ is_kept asked.now dated.now }
 {
     keeps_day(asked.day, dated.day) && keeps_pair(asked.pair, dated)

@@ -44,7 +44,7 @@ pub fn riders_of(flights: &Flights, core: &Core, asked: &LoadsOf) -> Riders
 
 /// Those of a flight: none where it is not kept.
 #[tactic(auto, using(seat_questions::proofs::Standings::few_bookings, crate::proofs::Riding::left_riders, crate::proofs::Riding::kept_riders))]
-fn flight_riders(core: &Core, asked: &LoadsOf, index: u32, flight: &Flight) -> Riders
+pub fn flight_riders(core: &Core, asked: &LoadsOf, index: u32, flight: &Flight) -> Riders
     requires capped { core.now.cap ≤ most_lines }
     requires legs { length flight.now.legs ≤ 8 }
     ensures { AreRidersOn asked.now (state_now core.now) index flight.now result }

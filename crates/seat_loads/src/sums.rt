@@ -63,7 +63,7 @@ fn legs_of(flights: &Flights, core: &Core, asked: &LoadsOf) -> LegSums
 
 /// Those of a flight: none where it is not kept.
 #[tactic(auto, using(crate::proofs::Adding::left_flight, crate::proofs::Adding::kept_flight))]
-fn kept_legs(core: &Core, asked: &LoadsOf, index: u32, flight: &Flight) -> LegSums
+pub fn kept_legs(core: &Core, asked: &LoadsOf, index: u32, flight: &Flight) -> LegSums
     requires few { length flight.now.legs ≤ 8 }
     ensures { IsLegSumOfFlight asked.now (state_now core.now) index flight.now result }
 {

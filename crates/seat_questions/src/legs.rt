@@ -191,7 +191,7 @@ fn put_each_held(
 
 /// The seats that wait on a leg in a class.
 #[tactic(auto, using(crate::proofs::Standings::waiting_there, crate::proofs::Standings::few_bookings))]
-fn waiting(core: &Core, flight: u32, leg: u8, class: Class) -> u64
+pub fn waiting(core: &Core, flight: u32, leg: u8, class: Class) -> u64
     requires capped { core.now.cap ≤ most_lines }
     ensures { result ≡ waiting (state_now core.now).bookings flight leg class }
 {

@@ -17,6 +17,6 @@ pub use laws::{
     found_places_are_written, opening_rooms_are_of_no_lines, rows_without_effect_give_nothing,
     written_places_are_found,
 };
-pub use legs::{has_leg, put_class, put_each_room, put_each_wait};
-pub use rooms::{Bars, CityPair, RoomsOf, keeps_day, keeps_pair, put_bars};
+pub use legs::{has_leg, put_class, put_each_room, put_each_wait, waiting};
+pub use rooms::{Bars, CityPair, RoomsOf, is_shown, keeps_day, keeps_pair, put_bars, run_of};
 pub use why::Why;

@@ -193,7 +193,7 @@ fn put_runs(
 }
 
 /// A run of legs as one leg.
-fn run_of(first: &DatedLeg, last: &DatedLeg) -> DatedLeg
+pub fn run_of(first: &DatedLeg, last: &DatedLeg) -> DatedLeg
     ensures { result ≡ run_of first.now last.now }
 {
     DatedLeg {
@@ -225,7 +225,7 @@ fn put_run(
 }
 
 /// Whether a place is kept, and a request finds it.
-fn is_shown(
+pub fn is_shown(
     served: &Served<'_>,
     asked: &RoomsOf,
     flight: &Flight,

@@ -1,0 +1,5 @@
+pub mod Spelling
+pub mod Fields
+pub mod Members
+pub mod Putting
+pub mod Reading

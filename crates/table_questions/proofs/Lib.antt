@@ -1,0 +1,5 @@
+pub mod Tables
+pub mod Placed
+pub mod Summing
+pub mod Days
+pub mod Events

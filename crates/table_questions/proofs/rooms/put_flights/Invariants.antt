@@ -1,0 +1,10 @@
+-- The rows of the flights so far are written.
+use Rattle.std.proofs.Common.{take}
+use Rattle.seat_rules.specs.Inventory.{state_now}
+use Rattle.seat_tables.specs.Rows.{rows_from}
+use Rattle.seat_tables.specs.Sheets.{ArePut}
+use Rattle.table_questions.specs.RoomRows.{room_names, flight_rooms}
+use Rattle.table_questions.proofs.rooms.put_flights.Given as goal
+
+abbrev pub invariant-loop-index : goal.invariant-loop-index
+invariant-loop-index l = ArePut room_names (rows_from (flight_rooms l.served l.asked (state_now l.core)) 0 (take l.index l.flights)) l.initial.sheet l.sheet

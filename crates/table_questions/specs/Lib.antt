@@ -1,0 +1,6 @@
+pub mod Tables
+pub mod LoadRows
+pub mod RoomRows
+pub mod BookingRows
+pub mod SumRows
+pub mod HistoryRows

@@ -1,0 +1,291 @@
+//! The table of a locator's history: what the lines of a journal did for it, row by row.
+//! It knows no other table.
+ghost use Rattle.std.specs.Prelude.{◌≡◌, IfOk, OnOk, map};
+ghost use Rattle.seat_tables.specs.Rows.{IsTable, rows_from};
+ghost use Rattle.seat_tables.specs.Sheets.{ArePut, IsReady};
+ghost use Rattle.desk_questions.specs.History.{under};
+ghost use Rattle.table_questions.specs.HistoryRows.{advice_row, advice_rows, asked_row, asked_rows, board_in, cancelled_by, day_in, designator_in, held_by, history_names, line_rows, listed_by, off_in};
+
+use crate::table::Table;
+use airimp_lines::Segment;
+use airline_base::{Code, Locator};
+use desk_questions::{made_under, under};
+use desk_telling::segment_of;
+use seat_core::Core;
+use seat_journal::{Advice, Command, Entry};
+use seat_rules::{Effect, effect_of};
+use seat_tables::{Cell, Form, Sheet, put_row};
+use ssim_flights::Flights;
+use std::alloc::{AllocError, Global};
+
+/// What the lines of a journal did for a locator.
+#[derive(Clone, Copy)]
+pub struct HistoryTable {
+    pub locator: Locator,
+}
+
+impl Table for HistoryTable {
+    ghost use Rattle.table_questions.specs.HistoryRows.{history_names, history_rows};
+
+    ghost names = { history_names };
+
+    ghost rows = { λ asked flights grid journal. history_rows asked.locator flights grid journal };
+
+    fn written(
+        &self,
+        alloc: Global,
+        form: Form,
+        flights: &Flights,
+        core: &Core,
+    ) -> Result<Vec<u8>, AllocError> {
+        history_table(alloc, form, flights, core.journal(), self.locator)
+    }
+}
+
+#[tactic(auto, using(seat_tables::proofs::Putting::table_of))]
+fn history_table(
+    alloc: Global,
+    form: Form,
+    flights: &Flights,
+    journal: &[Entry],
+    locator: Locator,
+) -> Result<Vec<u8>, AllocError>
+    ensures { IfOk result (λ text. IsTable form history_names
+        (rows_from (line_rows flights.now journal.now locator) 0 journal.now) text.items) }
+{
+    let mut sheet = Sheet::new(alloc, form, &names())?;
+    put_lines(alloc, &mut sheet, flights, journal, locator)?;
+    sheet.into_text()
+}
+
+/// The names of the columns.
+fn names() -> [&'static str; 13]
+    ensures { map (λ n. n.now) result ≡ history_names }
+{
+    [
+        "number",
+        "session",
+        "designator",
+        "class",
+        "day",
+        "board",
+        "off",
+        "code",
+        "seats",
+        "reply",
+        "holds",
+        "waits",
+        "cancels",
+    ]
+}
+
+/// Adds the rows of what each line did.
+fn put_lines(
+    alloc: Global,
+    sheet: &mut Sheet,
+    flights: &Flights,
+    journal: &[Entry],
+    locator: Locator,
+) -> Result<(), AllocError>
+    requires ready { IsReady sheet.old }
+    ensures { OnOk result (ArePut history_names (rows_from (line_rows flights.now journal.now locator) 0 journal.now)
+        sheet.old sheet.new) }
+{
+    for i in 0..journal.len() {
+        put_line(alloc, sheet, flights, journal, locator, &journal[i])?;
+    }
+    Ok(())
+}
+
+/// Adds the rows of what a line did: what it asked, and its advices.
+#[tactic(auto, using(seat_tables::proofs::Putting::put_both))]
+fn put_line(
+    alloc: Global,
+    sheet: &mut Sheet,
+    flights: &Flights,
+    journal: &[Entry],
+    locator: Locator,
+    line: &Entry,
+) -> Result<(), AllocError>
+    requires ready { IsReady sheet.old }
+    ensures { OnOk result (ArePut history_names (line_rows flights.now journal.now locator 0 line.now)
+        sheet.old sheet.new) }
+{
+    put_asked(alloc, sheet, flights, locator, line)?;
+    put_advices(alloc, sheet, flights, journal, locator, line)?;
+    Ok(())
+}
+
+/// Adds the row of what a line asked, if it did so under the locator.
+#[tactic(auto, using(crate::proofs::Tables::row_put, crate::proofs::Events::nothing_asked, crate::proofs::Events::asked_put))]
+fn put_asked(
+    alloc: Global,
+    sheet: &mut Sheet,
+    flights: &Flights,
+    locator: Locator,
+    line: &Entry,
+) -> Result<(), AllocError>
+    requires ready { IsReady sheet.old }
+    ensures { OnOk result (ArePut history_names (asked_rows flights.now line.now (under locator line.now.work))
+        sheet.old sheet.new) }
+{
+    match under(&line.work, locator) {
+        Some(command) => {
+            let row = asked_row(flights, line, &command);
+            put_row(alloc, sheet, &names(), &row)
+        }
+        None => Ok(()),
+    }
+}
+
+/// The row of a request.
+fn asked_row(flights: &Flights, line: &Entry, command: &Command) -> [Cell; 13]
+    ensures { result ≡ asked_row flights.now line.now command.now }
+{
+    let segment = segment_of(flights, command);
+    let effect = effect_of(line.reply);
+    [
+        Cell::Number(u64::from(line.number)),
+        Cell::Number(u64::from(line.session)),
+        designator_in(&segment),
+        Cell::Letter(command.class),
+        day_in(&segment),
+        board_in(&segment),
+        off_in(&segment),
+        Cell::Word(command.code),
+        Cell::Number(u64::from(command.seats)),
+        Cell::Word(line.reply),
+        Cell::Number(u64::from(held_by(effect, command.seats))),
+        Cell::Number(u64::from(listed_by(effect, command.seats))),
+        Cell::Number(u64::from(cancelled_by(effect, command.seats))),
+    ]
+}
+
+fn designator_in(segment: &Option<Segment>) -> Cell
+    ensures { result ≡ designator_in segment.now }
+{
+    match segment {
+        Some(segment) => Cell::Flight(segment.airline, segment.number, segment.suffix),
+        None => Cell::Nothing,
+    }
+}
+
+fn day_in(segment: &Option<Segment>) -> Cell
+    ensures { result ≡ day_in segment.now }
+{
+    match segment {
+        Some(segment) => Cell::Date(segment.day),
+        None => Cell::Nothing,
+    }
+}
+
+fn board_in(segment: &Option<Segment>) -> Cell
+    ensures { result ≡ board_in segment.now }
+{
+    match segment {
+        Some(segment) => Cell::Stop(segment.board),
+        None => Cell::Nothing,
+    }
+}
+
+fn off_in(segment: &Option<Segment>) -> Cell
+    ensures { result ≡ off_in segment.now }
+{
+    match segment {
+        Some(segment) => Cell::Stop(segment.off),
+        None => Cell::Nothing,
+    }
+}
+
+fn held_by(effect: Effect, seats: u16) -> u16
+    ensures { result ≡ held_by effect seats }
+{
+    match effect {
+        Effect::Holds => seats,
+        _ => 0,
+    }
+}
+
+fn listed_by(effect: Effect, seats: u16) -> u16
+    ensures { result ≡ listed_by effect seats }
+{
+    match effect {
+        Effect::Waits => seats,
+        _ => 0,
+    }
+}
+
+fn cancelled_by(effect: Effect, seats: u16) -> u16
+    ensures { result ≡ cancelled_by effect seats }
+{
+    match effect {
+        Effect::Reduces => seats,
+        _ => 0,
+    }
+}
+
+/// Adds the rows of the advices of a line that are to bookings of the locator.
+fn put_advices(
+    alloc: Global,
+    sheet: &mut Sheet,
+    flights: &Flights,
+    journal: &[Entry],
+    locator: Locator,
+    line: &Entry,
+) -> Result<(), AllocError>
+    requires ready { IsReady sheet.old }
+    ensures { OnOk result (ArePut history_names
+        (rows_from (advice_rows flights.now journal.now locator line.now) 0 line.now.advices) sheet.old sheet.new) }
+{
+    let advices = line.advices.as_slice();
+    for i in 0..advices.len() {
+        put_advice(alloc, sheet, flights, journal, locator, line, &advices[i])?;
+    }
+    Ok(())
+}
+
+/// Adds the row of an advice, if it is to a booking of the locator.
+#[tactic(auto, using(crate::proofs::Tables::row_put, crate::proofs::Events::no_advice, crate::proofs::Events::advice_put))]
+fn put_advice(
+    alloc: Global,
+    sheet: &mut Sheet,
+    flights: &Flights,
+    journal: &[Entry],
+    locator: Locator,
+    line: &Entry,
+    advice: &Advice,
+) -> Result<(), AllocError>
+    requires ready { IsReady sheet.old }
+    ensures { OnOk result (ArePut history_names (advice_rows flights.now journal.now locator line.now 0 advice.now)
+        sheet.old sheet.new) }
+{
+    match made_under(journal, locator, advice.number) {
+        Some(command) => {
+            let row = advice_row(flights, line, advice, &command);
+            put_row(alloc, sheet, &names(), &row)
+        }
+        None => Ok(()),
+    }
+}
+
+/// The row of an advice.
+fn advice_row(flights: &Flights, line: &Entry, advice: &Advice, command: &Command) -> [Cell; 13]
+    ensures { result ≡ advice_row flights.now line.now advice.now command.now }
+{
+    let segment = segment_of(flights, command);
+    [
+        Cell::Number(u64::from(line.number)),
+        Cell::Number(u64::from(line.session)),
+        designator_in(&segment),
+        Cell::Letter(command.class),
+        day_in(&segment),
+        board_in(&segment),
+        off_in(&segment),
+        Cell::Word(Code::of(*b"KL")),
+        Cell::Number(u64::from(advice.seats)),
+        Cell::Nothing,
+        Cell::Number(u64::from(advice.seats)),
+        Cell::Number(0),
+        Cell::Number(0),
+    ]
+}

@@ -1,0 +1,23 @@
+//! The answers of questions as tables: the loads, the rooms, the bookings and who waits, row by row.
+//! It knows what a row says, and leaves how one is spelled, and every number, to the crates below.
+#![tactic(auto)]
+
+mod bookings;
+mod by_day;
+mod by_flight;
+mod by_leg;
+mod history;
+mod loads;
+mod rooms;
+mod table;
+mod waiting;
+
+pub use bookings::BookingTable;
+pub use by_day::DaySums;
+pub use by_flight::FlightSums;
+pub use by_leg::LegSums;
+pub use history::HistoryTable;
+pub use loads::LoadTable;
+pub use rooms::RoomTable;
+pub use table::{Table, TableOf};
+pub use waiting::WaitingTable;
