@@ -12,7 +12,7 @@ mod orders;
 mod seal;
 mod text;
 
-pub use audit::Audit;
+pub use audit::{Audit, desk_audit};
 pub use check::desk_check;
 pub use flights::desk_flights;
 pub use ladder::desk_ladder;
