@@ -1,0 +1,118 @@
+-- A host of several desks behind a line.
+use Rattle.std.proofs.Common.{◌≡◌, ℕ, zero, suc, ◌+◌, ◌-◌, ◌<◌, ◌≤◌, List, [], ◌∷◌, ◌++◌, length, take, refl, ap, sym, ◌∙◌, subst, arith, append-nil, length-append}
+use Rattle.std.specs.Prelude.{Option, Some, None, IfSome, All, Result, Ok, Err, OnErr, OnOk}
+use Rattle.std.specs.Prelude.{option_to_list}
+use Rattle.std.proofs.Math.Seq.{take-append_seam}
+use Rattle.std.proofs.lemmas.List.Elements.{All-append}
+use Rattle.desk_calls.specs.declared.call_index.CallIndex.{CallIndex}
+use Rattle.desk_hall.specs.Halls.{Hallful, HasHeardLine, IsHall, IsHeardBy, IsUnheard}
+use Rattle.desk_hall.specs.Planning.{Plans}
+use Rattle.desk_hall.specs.declared.planning.Plan.{Plan}
+use Rattle.desk_hall.specs.declared.turn.Turn.{Turn}
+use Rattle.desk_lines.specs.declared.desk.Desk.{Desk}
+use Rattle.desk_lines.specs.declared.desk.Meaning.{Meaning}
+use Rattle.ssim_flights.specs.declared.flight.Flight.{Flight as Flown}
+use Rattle.seat_desk.specs.Loading.{IsGridOf}
+use Rattle.seat_nesting.specs.Nesting.{Ladders}
+use Rattle.seat_serving.specs.Answering.{behind, AreRight, IsRight}
+use Rattle.seat_serving.specs.Served.{Served}
+use Rattle.seat_serving.specs.declared.asked.Asked.{Asked}
+
+-- what was added is cut off
+pub cut_turn : (old mid new : List Turn) (turn : Turn) → mid ≡ old ++ turn ∷ [] → new ≡ take (length old) mid → new ≡ old
+cut_turn old mid new turn more cut =
+    cut ∙ ap (take (length old)) more ∙ take-append_seam old (turn ∷ [])
+
+-- what is asked for is right, and there is room for it
+pub right_more : (grid : Ladders) (old new : List Asked) (more : Option Asked) → AreRight grid old → IfSome more (IsRight grid)
+    → new ≡ old ++ option_to_list more → AreRight grid new
+right_more grid old new None right one is = subst (AreRight grid) (sym (is ∙ append-nil old)) right
+right_more grid old new (Some a) right one is =
+    subst (AreRight grid) (sym is) (record { each = All-append (IsRight grid) old (a ∷ []) right.each (λ k d lt. only k d lt) })
+  where
+    only : All (IsRight grid) (a ∷ [])
+    only zero d lt = one
+    only (suc k) d lt = absurd (omega (arith, lt))
+
+pub room_more : (lines cap : ℕ) (old new : List Asked) (more : Option Asked) → lines + length old ≤ cap
+    → IfSome more (λ a. lines + length old < cap) → new ≡ old ++ option_to_list more → lines + length new ≤ cap
+room_more lines cap old new None room one is = omega (arith, room, ap length is, length-append old [])
+room_more lines cap old new (Some a) room one is = omega (arith, one, ap length is, length-append old (a ∷ []))
+
+-- ---- the host behind a line
+
+module _ {D : Type 0} where
+  pub heard_by : (old new : Hallful D) (session : ℕ) (line : List ℕ) (desk : Desk) (meaning : Meaning) (plan : Plan)
+      → HasHeardLine old.desks new.desks old.today session line desk meaning
+      → Plans old.flights old.serving.cap session desk (behind old.serving.grid old.serving.journal old.asked) meaning plan
+      → new.asked ≡ old.asked ++ option_to_list plan.asked → new.turns ≡ old.turns ++ plan.turn ∷ []
+      → new.serving ≡ old.serving → new.today ≡ old.today → new.flights ≡ old.flights → IsHeardBy old new session line
+  heard_by old new session line desk meaning plan heard plans asked turns serving today flights = record {
+    desk = desk;
+    meaning = meaning;
+    has_heard = heard;
+    same_host = record { serving_is = serving; today_is = today; flights_are = flights };
+    plan = plan;
+    plans = plans;
+    asked_is = asked;
+    turns_are = turns;
+  }
+
+  pub unheard : (old new : Hallful D) (session : ℕ) (line : List ℕ) (desk : Desk) (meaning : Meaning)
+      → HasHeardLine old.desks new.desks old.today session line desk meaning → new.asked ≡ old.asked → new.turns ≡ old.turns
+      → new.serving ≡ old.serving → new.today ≡ old.today → new.flights ≡ old.flights → IsUnheard old new session line
+  unheard old new session line desk meaning heard asked turns serving today flights = record {
+    desk = desk;
+    meaning = meaning;
+    has_heard = heard;
+    same_host = record { serving_is = serving; today_is = today; flights_are = flights };
+    asked_is = asked;
+    turns_are = turns;
+  }
+
+  pub hall_more : (flights served : List Flown) (serving : Served D) (today : ℕ) (desks now : List Desk) (calls : List CallIndex)
+      (old new : List Asked) (more : Option Asked) → IsHall flights served serving today desks calls old
+      → length now ≡ length desks → IfSome more (IsRight serving.grid)
+      → IfSome more (λ a. length serving.journal + length old < serving.cap) → new ≡ old ++ option_to_list more
+      → IsHall flights served serving today now calls new
+  hall_more flights served serving today desks now calls old new more hall count right room is = record {
+    served_is = hall.served_is;
+    grid_is = hall.grid_is;
+    today_is = hall.today_is;
+    few = omega (arith, count, hall.few);
+    calls_are = hall.calls_are ∙ sym count;
+    right = right_more serving.grid old new more hall.right right is;
+    room = room_more (length serving.journal) serving.cap old new more hall.room room is;
+  }
+
+  pub hall_same : (flights served : List Flown) (serving : Served D) (today : ℕ) (desks now : List Desk) (calls : List CallIndex)
+      (old new : List Asked) → IsHall flights served serving today desks calls old → length now ≡ length desks → new ≡ old
+      → IsHall flights served serving today now calls new
+  hall_same flights served serving today desks now calls old new hall count same =
+      hall_more flights served serving today desks now calls old new None hall count tt tt (same ∙ sym (append-nil old))
+
+  -- whether it was added or not
+  pub hall_either : {A E : Type 0} (P Q : Type 0) (flights served : List Flown) (serving : Served D) (today : ℕ) (desks now : List Desk)
+      (calls : List CallIndex) (old new : List Asked) (more : Option Asked) (result : Result A E)
+      → IsHall flights served serving today desks calls old → length now ≡ length desks → IfSome more (IsRight serving.grid)
+      → IfSome more (λ a. length serving.journal + length old < serving.cap)
+      → OnOk result ((new ≡ old ++ option_to_list more) × P) → OnErr result ((new ≡ old) × Q)
+      → IsHall flights served serving today now calls new
+  hall_either P Q flights served serving today desks now calls old new more (Ok x) hall count right room added same =
+      hall_more flights served serving today desks now calls old new more hall count right room added.0
+  hall_either P Q flights served serving today desks now calls old new more (Err e) hall count right room added same =
+      hall_same flights served serving today desks now calls old new hall count same.0
+
+  pub hall_answered : (flights served : List Flown) (serving behind : Served D) (today : ℕ) (desks : List Desk)
+      (calls : List CallIndex) (old new : List Asked) → IsHall flights served serving today desks calls old
+      → behind.grid ≡ serving.grid → length behind.journal ≤ behind.cap → new ≡ []
+      → IsHall flights served behind today desks calls new
+  hall_answered flights served serving behind today desks calls old new hall grid within none = record {
+    served_is = hall.served_is;
+    grid_is = subst (IsGridOf flights) (sym grid) hall.grid_is;
+    today_is = hall.today_is;
+    few = hall.few;
+    calls_are = hall.calls_are;
+    right = subst (AreRight behind.grid) (sym none) (record { each = λ k d lt. absurd (omega (arith, lt)) });
+    room = omega (arith, within, ap length none);
+  }

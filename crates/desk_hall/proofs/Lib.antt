@@ -1,0 +1,4 @@
+pub mod Groups
+pub mod Halls
+pub mod Planned
+pub mod Told

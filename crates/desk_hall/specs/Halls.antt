@@ -1,0 +1,79 @@
+-- A host of several desks, and what a line of one of them leaves.
+use Rattle.std.specs.Prelude.{◌≡◌, ◌≤◌, ◌-◌, ◌+◌, ℕ, List, [], ◌∷◌, ◌++◌, length, set, slice_get, Some}
+use Rattle.std.specs.Prelude.{option_to_list}
+use Rattle.airline_base.specs.Days.{IsCenturyDay}
+use Rattle.desk_answers.specs.Saying.{HasHeard}
+use Rattle.desk_calls.specs.declared.call_index.CallIndex.{CallIndex}
+use Rattle.desk_lines.specs.declared.desk.Desk.{Desk}
+use Rattle.desk_lines.specs.declared.desk.Meaning.{Meaning}
+use Rattle.desk_hall.specs.Planning.{Plans}
+use Rattle.desk_hall.specs.declared.planning.Plan.{Plan}
+use Rattle.desk_hall.specs.declared.turn.Turn.{Turn}
+use Rattle.ssim_flights.specs.declared.flight.Flight.{Flight as Flown}
+use Rattle.seat_desk.specs.Loading.{IsGridOf}
+use Rattle.seat_serving.specs.Answering.{behind, AreRight}
+use Rattle.seat_serving.specs.Served.{Served}
+use Rattle.seat_serving.specs.declared.asked.Asked.{Asked}
+
+-- what contracts see of it: the first desk is that of session 1. What is asked for is not booked yet, and how each line is answered is
+-- not told yet
+pub record Hallful (D : Type 0) : Type 0 where
+  pub flights : List Flown
+  pub serving : Served D
+  pub today : ℕ
+  pub desks : List Desk
+  pub asked : List Asked
+  pub turns : List Turn
+
+-- the inventory is over the legs of these flights, and has room for what is asked for, which is right
+pub record IsHall {D : Type 0} (flights served : List Flown) (serving : Served D) (today : ℕ) (desks : List Desk)
+    (calls : List CallIndex) (asked : List Asked) : Type 0 where
+  pub served_is : served ≡ flights
+  pub grid_is : IsGridOf flights serving.grid
+  pub today_is : IsCenturyDay today
+  pub few : length desks ≤ 8
+  pub calls_are : length calls ≡ length desks
+  pub right : AreRight serving.grid asked
+  pub room : length serving.journal + length asked ≤ serving.cap
+
+-- all but the inventory and what is asked for is the same
+pub record IsSameHall {D : Type 0} (old new : Hallful D) : Type 0 where
+  pub flights_are : new.flights ≡ old.flights
+  pub today_is : new.today ≡ old.today
+  pub desks_are : new.desks ≡ old.desks
+  pub turns_are : new.turns ≡ old.turns
+  pub grid_is : new.serving.grid ≡ old.serving.grid
+  pub cap_is : new.serving.cap ≡ old.serving.cap
+
+-- a session's desk has heard this line on this day, and it means this
+pub record HasHeardLine (old new : List Desk) (today session : ℕ) (line : List ℕ) (desk : Desk) (meaning : Meaning) : Type 0 where
+  pub was : Desk
+  pub stood : slice_get old (session - 1) ≡ Some was
+  pub heard : HasHeard (record was { today = today }) desk line meaning
+  pub desks_are : new ≡ set old (session - 1) desk
+
+-- nothing is booked by it
+pub record IsSameHost {D : Type 0} (old new : Hallful D) : Type 0 where
+  pub serving_is : new.serving ≡ old.serving
+  pub today_is : new.today ≡ old.today
+  pub flights_are : new.flights ≡ old.flights
+
+-- and what it comes to stands behind what was heard before it
+pub record IsHeardBy {D : Type 0} (old new : Hallful D) (session : ℕ) (line : List ℕ) : Type 0 where
+  pub desk : Desk
+  pub meaning : Meaning
+  pub has_heard : HasHeardLine old.desks new.desks old.today session line desk meaning
+  pub same_host : IsSameHost old new
+  pub plan : Plan
+  pub plans : Plans old.flights old.serving.cap session desk (behind old.serving.grid old.serving.journal old.asked) meaning plan
+  pub asked_is : new.asked ≡ old.asked ++ option_to_list plan.asked
+  pub turns_are : new.turns ≡ old.turns ++ plan.turn ∷ []
+
+-- memory was wanting: the line counts, and nothing comes of it
+pub record IsUnheard {D : Type 0} (old new : Hallful D) (session : ℕ) (line : List ℕ) : Type 0 where
+  pub desk : Desk
+  pub meaning : Meaning
+  pub has_heard : HasHeardLine old.desks new.desks old.today session line desk meaning
+  pub same_host : IsSameHost old new
+  pub asked_is : new.asked ≡ old.asked
+  pub turns_are : new.turns ≡ old.turns

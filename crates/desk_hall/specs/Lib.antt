@@ -1,0 +1,4 @@
+pub mod Booking
+pub mod Halls
+pub mod Planning
+pub mod Telling

@@ -1,0 +1,60 @@
+-- What a desk is told of the lines that were heard, its own and those of others.
+use Rattle.std.specs.Prelude.{◌≡◌, ◌⊎◌, ℕ, ◌==◌, Bool, true, false, List, [], Option, Some, None, slice_get}
+use Rattle.airimp_lines.specs.declared.requests.Request.{Request as Wish}
+use Rattle.desk_answers.specs.FaultLines.{full_line, wrong_call_line}
+use Rattle.desk_answers.specs.Saying.{SaysQuiet}
+use Rattle.desk_calls.specs.Calls.{call_line}
+use Rattle.desk_lines.specs.declared.desk.Desk.{Desk}
+use Rattle.desk_lines.specs.declared.desk.Meaning.{Meaning}
+use Rattle.desk_lines.specs.declared.desk.Wrong.TheVariants as faults
+use Rattle.desk_hall.specs.declared.turn.Turn.{Turn}
+use Rattle.desk_hall.specs.declared.turn.Turn.TheVariants.{Line, Full, Repeated, Quiet}
+use Rattle.desk_telling.specs.Telling.{AreTold, Telling, told_of}
+use Rattle.ssim_flights.specs.declared.flight.Flight.{Flight as Flown}
+use Rattle.seat_journal.specs.declared.entry.Entry.{Entry}
+use Rattle.seat_nesting.specs.Nesting.{Ladders}
+use Rattle.seat_scripts.specs.VeryRequest.{IsVeryRequest}
+
+-- of the line at a place, where there is one
+abbrev pub told_if : List Entry → ℕ → Option Entry → List Telling
+told_if journal session None = []
+told_if journal session (Some e) = told_of journal session e
+
+abbrev pub told_at : List Entry → ℕ → ℕ → List Telling
+told_at journal session place = told_if journal session (slice_get journal place)
+
+-- only who asked is told that the journal is full
+abbrev pub full_to : Bool → ℕ → ℕ → List ℕ
+full_to true asker call = full_line asker call
+full_to false asker call = []
+
+-- a call that is there: its line is told of once more where it is this very request, and else the request is refused
+abbrev pub IsRepeatOf : List Flown → List Entry → ℕ → ℕ → Entry → Wish → List ℕ → Type 0
+IsRepeatOf flights journal asker number line wish text =
+    (IsVeryRequest flights wish line.work × AreTold flights asker (told_of journal asker line) text)
+    ⊎ ((IsVeryRequest flights wish line.work → ⊥) × (text ≡ wrong_call_line faults.Other asker number))
+
+abbrev pub IsRepeat : Option Entry → List Flown → List Entry → ℕ → ℕ → Wish → List ℕ → Type 0
+IsRepeat (Some line) flights journal asker number wish text = IsRepeatOf flights journal asker number line wish text
+IsRepeat None flights journal asker number wish text = text ≡ wrong_call_line faults.Beyond asker number
+
+abbrev pub IsRepeatTo : Bool → List Flown → List Entry → ℕ → ℕ → Wish → List ℕ → Type 0
+IsRepeatTo true flights journal asker number wish text =
+    IsRepeat (call_line asker number journal) flights journal asker number wish text
+IsRepeatTo false flights journal asker number wish text = text ≡ []
+
+-- what books nothing
+abbrev pub IsQuietTo : Bool → List Flown → Ladders → List Entry → ℕ → Desk → Meaning → List ℕ → Type 0
+IsQuietTo true flights grid journal asker desk meaning text =
+    SaysQuiet flights grid asker desk.today desk.lines journal meaning text
+IsQuietTo false flights grid journal asker desk meaning text = text ≡ []
+
+-- a session's desk is told of the line that a request made what concerns it, whoever asked, and of any other line what its own is
+-- answered
+abbrev pub IsTurn : List Flown → Ladders → List Entry → ℕ → Turn → List ℕ → Type 0
+IsTurn flights grid journal session (Line place) text = AreTold flights session (told_at journal session place) text
+IsTurn flights grid journal session (Full asker call) text = text ≡ full_to (asker == session) asker call
+IsTurn flights grid journal session (Repeated asker number wish) text =
+    IsRepeatTo (asker == session) flights journal asker number wish text
+IsTurn flights grid journal session (Quiet asker desk meaning) text =
+    IsQuietTo (asker == session) flights grid journal asker desk meaning text

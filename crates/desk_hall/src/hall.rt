@@ -1,0 +1,303 @@
+//! A host of several desks.
+ghost use Rattle.std.specs.Prelude.{◌≡◌, ◌≤◌, ◌-◌, ◌∷◌, ◌++◌, [], false, length, slice_get, Some, IfErr, IfOk, OnErr, OnOk};
+ghost use Rattle.std.specs.Prelude.{option_to_list};
+ghost use Rattle.airline_base.specs.Days.{IsCenturyDay};
+ghost use Rattle.airline_base.specs.Noting.{noted};
+ghost use Rattle.seat_desk.specs.FlightsDesk.{IsText};
+ghost use Rattle.seat_desk.specs.Loading.{IsGridOf};
+ghost use Rattle.seat_disk.specs.Growing.{KeepsFront};
+ghost use Rattle.seat_recovery.specs.OpenText.{open_text};
+ghost use Rattle.seat_rules.specs.Prefixes.{Begins};
+ghost use Rattle.seat_scripts.specs.RunDesk.{at_any};
+ghost use Rattle.seat_serving.specs.Answering.{behind};
+ghost use Rattle.seat_serving.specs.declared.serving.ServeFault.TheVariants.{Device, Memory as NoMemory};
+ghost use Rattle.desk_answers.specs.Hosts.{IsReady};
+ghost use Rattle.desk_hall.specs.Booking.{IsBehindSome};
+ghost use Rattle.desk_hall.specs.Halls.{HasHeardLine, IsHeardBy, IsSameHall, IsUnheard};
+ghost use Rattle.desk_lines.specs.Lines.{IsRightMeaning};
+ghost use Rattle.desk_hall.specs.Telling.{IsTurn};
+
+use crate::booking::book;
+use crate::planning::{Plan, plan_of};
+use crate::telling::told_of;
+use crate::turn::Turn;
+use airimp_lines::{FlightClass, LineFault, Look, Request, ScriptKind, Segment};
+use airline_base::{Day, Memory};
+use desk_calls::CallIndex;
+use desk_lines::{Desk, Meaning, Standing, Wrong};
+use seat_disk::Tape;
+use seat_journal::Work;
+use seat_serving::{Asked, ServeFault, Serving};
+use ssim_flights::{Flights, Served};
+use std::alloc::Global;
+use std::marker::Model;
+use std::sync::Wait;
+
+/// It hears lines of its desks, books what they ask for, and tells each desk what concerns it. It is never dropped: `into_serving` uses
+/// it up.
+pub struct Hall<'a, D: Tape> {
+    flights: &'a Flights,
+    served: Served<'a>,
+    serving: Serving<D>,
+    today: Day,
+    desks: Vec<Desk>,
+    calls: Vec<CallIndex>,
+    asked: Vec<Asked>,
+    turns: Vec<Turn>,
+}
+
+impl<'a, D: Tape> Model for Hall<'a, D> {
+    ghost use Rattle.desk_hall.specs.Halls.{Hallful, IsHall};
+
+    ghost Value = { Hallful D };
+
+    ghost view = { λ s. record {
+      flights = s.flights.now;
+      serving = s.serving;
+      today = s.today;
+      desks = s.desks.items;
+      asked = s.asked.items;
+      turns = s.turns.items;
+    } };
+
+    ghost invariant = { λ s. IsHall s.flights.now s.served s.serving s.today s.desks.items s.calls.items s.asked.items };
+}
+
+impl<'a, D: Tape> Hall<'a, D> {
+    /// Over flights and an inventory of their legs. The first desk is that of session 1, and so on, each with an index of its calls.
+    pub fn over(
+        flights: &'a Flights,
+        served: Served<'a>,
+        serving: Serving<D>,
+        today: Day,
+        desks: Vec<Desk>,
+        calls: Vec<CallIndex>,
+        asked: Vec<Asked>,
+        turns: Vec<Turn>,
+    ) -> Hall<'a, D>
+        requires served { served ≡ flights.now }
+        requires grid { IsGridOf flights.now serving.grid }
+        requires today { IsCenturyDay today }
+        requires few { length desks.items ≤ 8 }
+        requires calls { length calls.items ≡ length desks.items }
+        requires none { (asked.items ≡ []) × (turns.items ≡ []) }
+        ensures parts { (result.flights ≡ flights.now) × (result.serving ≡ serving) × (result.today ≡ today)
+            × (result.desks ≡ desks.items) }
+        ensures none { (result.asked ≡ []) × (result.turns ≡ []) }
+    {
+        // For the prover alone: only the inventory itself says that its journal is within its limits.
+        let _ = serving.journal();
+        Hall {
+            flights,
+            served,
+            serving,
+            today,
+            desks,
+            calls,
+            asked,
+            turns,
+        }
+    }
+
+    /// The inventory with its file.
+    pub fn serving(&self) -> &Serving<D>
+        ensures { result.now ≡ self.now.serving }
+    {
+        &self.serving
+    }
+
+    /// The inventory with its file; the desks are over.
+    pub fn into_serving(self) -> Serving<D>
+        ensures { result ≡ self.entry.serving }
+    {
+        let Hall {
+            flights: _,
+            served: _,
+            serving,
+            today: _,
+            desks: _,
+            calls: _,
+            asked: _,
+            turns: _,
+        } = self;
+        serving
+    }
+
+    /// Hears a line of a session's desk with its end. What it asks for is booked by `answer`, and told by `told`. Where memory is
+    /// wanting the line counts, and nothing comes of it.
+    #[tactic(auto, using(crate::proofs::Halls::heard_by, crate::proofs::Halls::unheard))]
+    pub fn hear(&mut self, session: u8, line: &[u8]) -> Result<(), Memory>
+        requires session { (1 ≤ session) × (session ≤ length self.old.desks) }
+        ensures heard { OnOk result (IsHeardBy self.old self.new session line.now) }
+        ensures memory { OnErr result (IsUnheard self.old self.new session line.now) }
+    {
+        let Hall {
+            flights,
+            served,
+            serving,
+            today,
+            desks,
+            calls: _,
+            asked,
+            turns,
+        } = self;
+        let (desk, meaning) = hear_at(desks, *today, session, line);
+        let plan = plan_of(
+            flights,
+            served,
+            serving,
+            asked.as_slice(),
+            session,
+            &desk,
+            &meaning,
+        );
+        match add(asked, turns, &plan) {
+            Ok(()) => Ok(()),
+            Err(_) => Err(Memory),
+        }
+    }
+
+    /// Books what the lines that were heard ask for, in their order and in groups: it is on the disk and visible. Where memory is wanting
+    /// or the file fails, what is behind the first that has no line is not booked.
+    #[tactic(auto, using(crate::proofs::Halls::hall_answered))]
+    pub fn answer<R: Wait>(&mut self, rt: &R, alloc: Global) -> Result<(), ServeFault>
+        requires ready { IsReady D.seen D.may_leave D.unsynced self.old.serving }
+        ensures booked { OnOk result (self.new.serving.journal
+            ≡ behind self.old.serving.grid self.old.serving.journal self.old.asked) }
+        ensures none { self.new.asked ≡ [] }
+        ensures ready { OnOk result (IsReady D.seen D.may_leave D.unsynced self.new.serving) }
+        ensures memory { IfErr result (λ f. f ≡ NoMemory → IsReady D.seen D.may_leave D.unsynced self.new.serving
+            × IsBehindSome self.old.serving.grid self.old.serving.journal self.old.asked self.new.serving.journal) }
+        ensures device { IfErr result (λ f. f ≡ Device → (self.new.serving.is_open ≡ false)
+            × (D.failure_count self.new.serving.tape ≡ noted (D.failure_count self.old.serving.tape))) }
+        ensures front { Begins self.old.serving.kept self.new.serving.kept }
+        ensures told { KeepsFront (open_text self.old.serving.kept) (D.may_leave self.new.serving.tape) }
+        ensures same { IsSameHall self.old self.new }
+    {
+        let Hall {
+            flights: _,
+            served: _,
+            serving,
+            today: _,
+            desks: _,
+            calls: _,
+            asked,
+            turns: _,
+        } = self;
+        let booked = book(rt, alloc, serving, asked.as_slice());
+        asked.clear();
+        // For the prover alone: only the inventory itself says that its journal is within its limits.
+        let _ = serving.journal();
+        booked
+    }
+
+    /// What a session's desk is told of the lines that were heard: what its own are answered, and the advices to its bookings of what
+    /// others asked for, all in the order of the lines.
+    pub fn told(&mut self, alloc: Global, session: u8) -> Result<Vec<u8>, Memory>
+        requires session { (1 ≤ session) × (session ≤ length self.old.desks) }
+        ensures told { IfOk result (λ text. IsText (at_any (IsTurn self.old.flights self.old.serving.grid self.old.serving.journal
+            session)) 0 self.old.turns text.items) }
+        ensures same { self.new ≡ self.old }
+    {
+        let Hall {
+            flights,
+            served,
+            serving,
+            today: _,
+            desks: _,
+            calls,
+            asked: _,
+            turns,
+        } = self;
+        let index = &mut calls[usize::from(session) - 1];
+        told_of(
+            alloc,
+            flights,
+            served,
+            serving,
+            index,
+            session,
+            turns.as_slice(),
+        )
+    }
+
+    /// The lines that were heard are told.
+    pub fn end_turns(&mut self)
+        ensures none { self.new.turns ≡ [] }
+        ensures same { (self.new.serving ≡ self.old.serving) × (self.new.desks ≡ self.old.desks)
+            × (self.new.asked ≡ self.old.asked) × (self.new.today ≡ self.old.today) × (self.new.flights ≡ self.old.flights) }
+    {
+        self.turns.clear();
+    }
+}
+
+// A session's desk hears a line on a day.
+fn hear_at(desks: &mut Vec<Desk>, today: Day, session: u8, line: &[u8]) -> (Desk, Meaning)
+    requires today { IsCenturyDay today }
+    requires session { (1 ≤ session) × (session ≤ length desks.old.items) }
+    ensures heard { HasHeardLine desks.old.items desks.new.items today session line.now result.0 result.1 }
+    ensures right { IsRightMeaning result.1 }
+    ensures count { length desks.new.items ≡ length desks.old.items }
+{
+    let mut desk = desk_at(desks.as_slice(), session);
+    desk.today = today;
+    let meaning = desk.hear(line);
+    desks[usize::from(session) - 1] = desk;
+    (desk, meaning)
+}
+
+fn desk_at(desks: &[Desk], session: u8) -> Desk
+    requires { (1 ≤ session) × (session ≤ length desks.now) }
+    ensures { slice_get desks.now (session - 1) ≡ Some result }
+{
+    desks[usize::from(session) - 1]
+}
+
+// Adds how a line is answered, and what it asks for.
+#[tactic(auto, using(crate::proofs::Halls::cut_turn))]
+fn add(asked: &mut Vec<Asked>, turns: &mut Vec<Turn>, plan: &Plan) -> Result<(), Memory>
+    ensures more { OnOk result ((asked.new.items ≡ asked.old.items ++ option_to_list plan.now.asked)
+        × (turns.new.items ≡ turns.old.items ++ plan.now.turn ∷ [])) }
+    ensures same { OnErr result ((asked.new.items ≡ asked.old.items) × (turns.new.items ≡ turns.old.items)) }
+{
+    // For the prover alone: it is told where these types are.
+    let _desk: Option<Desk> = None;
+    let _standing: Option<Standing> = None;
+    let _meaning: Option<Meaning> = None;
+    let _request: Option<Request> = None;
+    let _flight: Option<FlightClass> = None;
+    let _look: Option<Look> = None;
+    let _segment: Option<Segment> = None;
+    let _wrong: Option<Wrong> = None;
+    let _kind: Option<ScriptKind> = None;
+    let _fault: Option<LineFault> = None;
+    let length = turns.len();
+    push(turns, plan.turn)?;
+    if add_asked(asked, plan.asked).is_ok() {
+        return Ok(());
+    }
+    turns.truncate(length);
+    Err(Memory)
+}
+
+fn add_asked(asked: &mut Vec<Asked>, more: Option<Asked>) -> Result<(), Memory>
+    ensures more { OnOk result (asked.new.items ≡ asked.old.items ++ option_to_list more) }
+    ensures same { OnErr result (asked.new.items ≡ asked.old.items) }
+{
+    match more {
+        Some(one) => {
+            // For the prover alone: it is told where this type is.
+            let _work: Work = one.work;
+            push(asked, one)
+        }
+        None => Ok(()),
+    }
+}
+
+fn push<T: Drop>(list: &mut Vec<T>, item: T) -> Result<(), Memory>
+    ensures more { OnOk result (list.new.items ≡ list.old.items ++ item ∷ []) }
+    ensures same { OnErr result (list.new.items ≡ list.old.items) }
+{
+    list.push(item)?;
+    Ok(())
+}

@@ -1,0 +1,13 @@
+//! A host of several desks: what their lines ask for is gathered and booked in groups, and each desk is told what concerns it, in the
+//! order of the lines.
+//! It knows the inventory with its file and the texts of answers, and nothing of threads, of pipes or of who reads a desk's lines.
+#![tactic(auto)]
+
+mod booking;
+mod hall;
+mod planning;
+mod telling;
+mod turn;
+
+pub use hall::Hall;
+pub use turn::Turn;

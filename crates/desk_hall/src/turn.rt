@@ -1,0 +1,16 @@
+//! What a line of a desk comes to.
+use airimp_lines::Request;
+use desk_lines::{Desk, Meaning};
+
+/// How a line is answered. A session's number stands first.
+#[derive(Clone, Copy)]
+pub enum Turn {
+    /// By the line of the journal at this place, counted from 0, which it made.
+    Line(u32),
+    /// By the fault that a full journal has for a call of this number.
+    Full(u8, u32),
+    /// By the line of this call, where that is there and asked for this very request.
+    Repeated(u8, u32, Request),
+    /// By what its meaning asks for, which books nothing; so stood the desk behind it.
+    Quiet(u8, Desk, Meaning),
+}
