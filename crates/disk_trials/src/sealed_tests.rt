@@ -7,7 +7,8 @@ use airline_base::Failures;
 use seat_disk::{Folder, Fuse};
 use seat_seal::{
     Date, JournalState, Run, Runs, Script, Scripts, Seal, SealEntry, Sealed, SealedJournal,
-    digest_of, entry_for, front_of, has_script, imprint_of, lines_behind, read_seal,
+    digest_of, entry_for, front_of, imprint_beside, imprint_of, lines_behind, read_seal,
+    scripts_booked,
 };
 use seat_sealing::{may_be_sealed, older_entry, replace_sealed};
 use std::alloc::{AllocError, Global};
@@ -19,17 +20,17 @@ const OLD: &[u8] = b"SEATJOURNAL 2\n1 1 1 K7M2QP 11.0.0 J NN 2 KK 0\nEND 1\n";
 const NEW: &[u8] =
     b"SEATJOURNAL 2\n1 1 1 R4T8WX 66.0.1 Y NN 1 KK 0\n2 2 1 ABCDEF 11.0.0 J NN 3 KK 0\nEND 2\n";
 
-const HEAD: &[u8] = b"SEATSEAL 2\n";
+const HEAD: &[u8] = b"SEATSEAL 3\n";
 
 // The older journal's seal, and its entry.
 const OF_OLD: &[u8] =
-    b"SEATSEAL 2\nset 6ee0eb490ff832101cf82a3d387c35f29e4230be786978f7acf9e811febf6723\nlimits 8a46fd6fc3d79d419361a7043d0365b6dfeb6b92da9e376450898ff88d9cea00\nfirst 2024-07-01\ndays 31\njournal 1f17ec36ae2eb204de74df9b6e615bee04d4a02b213a24f56ad1d37674f93bad lines 1 bytes 46 closed\nrun behind 0 today 2024-06-19\nscript 1 d618fb157a4b382e92fcd4a830c5fa8adef45a809543c524f7904e38f867dac8\nEND\n";
+    b"SEATSEAL 3\nset 6ee0eb490ff832101cf82a3d387c35f29e4230be786978f7acf9e811febf6723\nlimits 8a46fd6fc3d79d419361a7043d0365b6dfeb6b92da9e376450898ff88d9cea00\nfirst 2024-07-01\ndays 31\njournal 1f17ec36ae2eb204de74df9b6e615bee04d4a02b213a24f56ad1d37674f93bad lines 1 bytes 46 closed\nrun behind 0 today 2024-06-19\nscript 1 d618fb157a4b382e92fcd4a830c5fa8adef45a809543c524f7904e38f867dac8 bytes 6\nEND\n";
 
 const ENTRY_OF_OLD: &[u8] =
-    b"set 6ee0eb490ff832101cf82a3d387c35f29e4230be786978f7acf9e811febf6723\nlimits 8a46fd6fc3d79d419361a7043d0365b6dfeb6b92da9e376450898ff88d9cea00\nfirst 2024-07-01\ndays 31\njournal 1f17ec36ae2eb204de74df9b6e615bee04d4a02b213a24f56ad1d37674f93bad lines 1 bytes 46 closed\nrun behind 0 today 2024-06-19\nscript 1 d618fb157a4b382e92fcd4a830c5fa8adef45a809543c524f7904e38f867dac8\nEND\n";
+    b"set 6ee0eb490ff832101cf82a3d387c35f29e4230be786978f7acf9e811febf6723\nlimits 8a46fd6fc3d79d419361a7043d0365b6dfeb6b92da9e376450898ff88d9cea00\nfirst 2024-07-01\ndays 31\njournal 1f17ec36ae2eb204de74df9b6e615bee04d4a02b213a24f56ad1d37674f93bad lines 1 bytes 46 closed\nrun behind 0 today 2024-06-19\nscript 1 d618fb157a4b382e92fcd4a830c5fa8adef45a809543c524f7904e38f867dac8 bytes 6\nEND\n";
 
 const ENTRY_OF_NEW: &[u8] =
-    b"set 6ee0eb490ff832101cf82a3d387c35f29e4230be786978f7acf9e811febf6723\nlimits 8a46fd6fc3d79d419361a7043d0365b6dfeb6b92da9e376450898ff88d9cea00\nfirst 2024-07-01\ndays 31\njournal 3f65600df3ab236180aba5bfb426671abb6a57b71e08abc5ead200e0514f802d lines 2 bytes 78 closed\nrun behind 0 today 2024-06-20\nscript 1 d78d1a3f3bcf22d7b74f7e559090240cc8d0bc88470a8a23383a8e4f3328bf8a\nEND\n";
+    b"set 6ee0eb490ff832101cf82a3d387c35f29e4230be786978f7acf9e811febf6723\nlimits 8a46fd6fc3d79d419361a7043d0365b6dfeb6b92da9e376450898ff88d9cea00\nfirst 2024-07-01\ndays 31\njournal 3f65600df3ab236180aba5bfb426671abb6a57b71e08abc5ead200e0514f802d lines 2 bytes 78 closed\nrun behind 0 today 2024-06-20\nscript 1 d78d1a3f3bcf22d7b74f7e559090240cc8d0bc88470a8a23383a8e4f3328bf8a bytes 7\nEND\n";
 
 // Of the older journal where nothing is known of it, and of an empty file.
 const OTHER_OF_OLD: &[u8] =
@@ -66,7 +67,7 @@ fn run(behind: u32, day: u8, script: &[u8]) -> Run {
     let mut scripts = Scripts::new();
     scripts.push(Script {
         session: 1,
-        digest: digest_of(script),
+        imprint: imprint_of(script),
     });
     Run {
         behind,
@@ -352,19 +353,26 @@ fn keeps_the_runs_behind_other_numbers(rt: HostRuntime) -> Result<(), Fail> {
     runs.add(run(3, 21, b"grown"));
     assert!(rt; runs.as_slice().len() == 3);
     assert!(rt; lines_behind(runs.as_slice()) == 3);
-    let rows: [(&[u8], bool); 4] = [
+    let booked = scripts_booked(rt.alloc(), None, runs.as_slice())?;
+    let rows: [(&[u8], bool); 8] = [
         (b"monday", true),
         (b"tuesday", false),
         (b"more", true),
         (b"grown", true),
+        // More behind it, a beginning of it, a byte ahead of it, and nothing.
+        (b"monday and more", true),
+        (b"monda", false),
+        (b" monday", false),
+        (b"", false),
     ];
     for (script, wanted) in rows {
-        let is_known = runs
-            .as_slice()
-            .iter()
-            .any(|run| has_script(run, &digest_of(script)));
+        let (imprint, is_known) = imprint_beside(script, booked.as_slice());
         assert!(rt; is_known == wanted);
+        assert!(rt; imprint == imprint_of(script));
     }
+    let ahead = scripts_booked(rt.alloc(), Some(3), runs.as_slice())?;
+    assert!(rt; imprint_beside(b"monday", ahead.as_slice()).1);
+    assert!(rt; !imprint_beside(b"grown", ahead.as_slice()).1);
     Ok(())
 }
 

@@ -721,7 +721,7 @@ const NOTES: &[Explanation] = &[
         behind: "",
         code: "kept",
         numbers: NONE,
-        text: "What the file of --journal had before the run stands under this name from now on. The new journal is not behind it:\na run that is to be goes on from it by --after.",
+        text: "What the file of --journal had before the run stands under this name from now on. The new journal is not behind it:\na run that is to be goes on from it by --after. Where it says no END the journal was left open, as by a host that was killed:\nmake a copy of it under another name, which seatdesk recover then ends, and go on from that.",
     },
     Explanation {
         behind: "asks",
@@ -734,6 +734,12 @@ const NOTES: &[Explanation] = &[
         code: "note",
         numbers: NONE,
         text: "No seal stands beside the journal that the run went on from, as JOURNAL.seal, so nothing says of which set, limits and days\nit is, and which scripts it has already. The run was made all the same. seatdesk seal writes a seal of a journal that is right.",
+    },
+    Explanation {
+        behind: "same",
+        code: "note",
+        numbers: NONE,
+        text: "Two scripts of the run have the very same bytes, as two copies of a file or the file of one desk sent twice: each session booked\nwhat they ask. That may be meant. One file under two names is refused.",
     },
     Explanation {
         behind: "found",
@@ -763,7 +769,7 @@ const NOTES: &[Explanation] = &[
         behind: "seal",
         code: "note",
         numbers: NONE,
-        text: "The seal that stood beside the journal had other bytes than the one that seatdesk seal wrote: it was of another journal, of other\ninputs or of an older version. Nothing of it is left; a copy that is kept elsewhere has so many bytes and this digest.",
+        text: "The seal that stood beside the journal had other bytes than the one that seatdesk seal wrote: it was of another journal, of other\ninputs or of an older version, or of two journals, as a run that was killed leaves it. Nothing of it is left; a copy that is kept elsewhere has so many bytes and this digest.",
     },
     Explanation {
         behind: "",

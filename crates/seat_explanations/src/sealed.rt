@@ -20,7 +20,7 @@ pub(crate) const SEALS: &[Explanation] = &[
         behind: "SEAL",
         code: "form",
         numbers: NONE,
-        text: "JOURNAL.seal is no seal: a byte of it was changed, or it was cut off, or it is another file.\nOne that begins with SEATSEAL 1 is of an older version: seatdesk seal writes it anew, without the scripts.",
+        text: "JOURNAL.seal is no seal: a byte of it was changed, or it was cut off, or it is another file.\nOne that begins with SEATSEAL 1 or 2 is of an older version: seatdesk seal writes it anew, without the scripts.",
     },
     Explanation {
         behind: "SEAL",
@@ -56,7 +56,7 @@ pub(crate) const SEALS: &[Explanation] = &[
         behind: "SEAL",
         code: "again",
         numbers: NONE,
-        text: "A script that is to be booked, or the file of --changes, stands in the journal already: its seal has the digest of the\nvery same bytes, by one of the last 128 runs that wrote it. So the same command given twice books nothing twice,\nunless a --resume of its scripts came between.\n--again books it once more; --resume JOURNAL books what is new of scripts that have grown, and nothing where nothing is.\nOf --resume JOURNAL it is a script of a run ahead of the lines that --behind names: say where that run began.",
+        text: "A script that is to be booked, or the file of --changes, stands in the journal already: it begins with the\nvery bytes that one of the last 128 runs booked which wrote the journal, by the digests of its seal. So the same command given twice\nbooks nothing twice, with more lines behind its scripts too, unless a --resume of its scripts came between.\n--again books it once more; --resume JOURNAL books what is new of scripts that have grown, and nothing where nothing is.\nOf --resume JOURNAL it is a script of a run ahead of the lines that --behind names: say where that run began.",
     },
     Explanation {
         behind: "SEAL",

@@ -1,4 +1,4 @@
-//! Which of a run's files stands in a journal already, by the digests of the journal's seal.
+//! Which of a run's files stands in a journal already, by what the journal's seal says that its runs booked.
 //! It knows files and seals, and nothing of what a script asks.
 ghost use Rattle.std.specs.Prelude.{◌≡◌};
 
@@ -8,13 +8,15 @@ use crate::seal_file::SealFile;
 use crate::streams::{Input, opened};
 use airline_base::read_all;
 use seat_desk::DeskFault;
-use seat_seal::{Digest, Run, Seal, SealEntry, SealFault, digest_of, has_script, read_seal};
+use seat_seal::{
+    Seal, SealEntry, SealFault, changes_booked, imprint_beside, read_seal, scripts_booked,
+};
 
 /// The most bytes of a script or of changes that are read once more.
 const MOST_BYTES: u64 = 16_777_216;
 
 impl<'a> Refusal<'a> {
-    /// Names the script that a run has booked already, or the changes, where it is a regular file. The run is one of the seal that began
+    /// Names the script that begins with what a run has booked, or the changes, where it is a regular file. The run is one of the seal that began
     /// ahead of so many lines.
     pub fn noting_booked(
         self,
@@ -46,14 +48,11 @@ fn booked_name<'a>(
 ) -> Option<&'a str> {
     let seal = read_seal(seal.as_beside().text?)?;
     for script in scripts {
-        if let Some(digest) = digest_again(rt, script) {
-            if has_booked(&seal, lines, Booked::Script, &digest) {
-                return Some(script.name());
-            }
+        if begins_with_one(rt, script, &seal, lines, Booked::Script) {
+            return Some(script.name());
         }
     }
-    let digest = digest_again(rt, changes)?;
-    if has_booked(&seal, lines, Booked::Changes, &digest) {
+    if begins_with_one(rt, changes, &seal, lines, Booked::Changes) {
         return Some(changes.name());
     }
     None
@@ -66,45 +65,53 @@ enum Booked {
     Changes,
 }
 
-fn has_booked(seal: &Seal, lines: u64, what: Booked, digest: &Digest) -> bool {
-    if is_of_entry(&seal.first, lines, what, digest) {
+/// Whether an input begins with what a run booked that the seal has, of either entry.
+fn begins_with_one(
+    rt: &HostRuntime,
+    input: &Input<'_>,
+    seal: &Seal,
+    lines: u64,
+    what: Booked,
+) -> bool {
+    let Some(bytes) = bytes_again(rt, input) else {
+        return false;
+    };
+    if is_of_entry(rt, &bytes, &seal.first, lines, what) {
         return true;
     }
     match &seal.second {
-        Some(second) => is_of_entry(second, lines, what, digest),
+        Some(second) => is_of_entry(rt, &bytes, second, lines, what),
         None => false,
     }
 }
 
-fn is_of_entry(entry: &SealEntry, lines: u64, what: Booked, digest: &Digest) -> bool {
-    match entry {
-        SealEntry::Sealed(sealed) => sealed.runs.as_slice().iter().any(|run| u64::from(run.behind)
-            < lines
-            && is_of_run(run, what, digest)),
-        SealEntry::Other(_) => false,
+fn is_of_entry(
+    rt: &HostRuntime,
+    bytes: &[u8],
+    entry: &SealEntry,
+    lines: u64,
+    what: Booked,
+) -> bool {
+    let SealEntry::Sealed(sealed) = entry else {
+        return false;
+    };
+    let runs = sealed.runs.as_slice();
+    let booked = match what {
+        Booked::Script => scripts_booked(rt.alloc(), Some(lines), runs),
+        Booked::Changes => changes_booked(rt.alloc(), Some(lines), runs),
+    };
+    match booked {
+        Ok(booked) => imprint_beside(bytes, booked.as_slice()).1,
+        Err(_) => false,
     }
 }
 
-fn is_of_run(run: &Run, what: Booked, digest: &Digest) -> bool {
-    match what {
-        Booked::Script => has_script(run, digest),
-        Booked::Changes => match &run.changes {
-            Some(changes) => changes.bytes() == digest.bytes(),
-            None => false,
-        },
-    }
-}
-
-/// The digest of an input that is a regular file, read once more from its name.
-fn digest_again(rt: &HostRuntime, input: &Input<'_>) -> Option<Digest> {
+/// The bytes of an input that is a regular file, read once more from its name.
+fn bytes_again(rt: &HostRuntime, input: &Input<'_>) -> Option<Vec<u8>> {
     match input.metadata() {
         Ok(Some(file)) if file.is_file() => {}
         _ => return None,
     }
     let mut again = opened(rt, input.name()).ok()?;
-    let bytes = read_all(rt.alloc(), &mut again, MOST_BYTES).ok()?;
-    if bytes.is_empty() {
-        return None;
-    }
-    Some(digest_of(&bytes))
+    read_all(rt.alloc(), &mut again, MOST_BYTES).ok()
 }

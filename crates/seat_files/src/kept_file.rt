@@ -13,6 +13,9 @@ pub const KEPT_BEFORE: &str = ".kept-";
 /// How a journal's first line begins, in each version.
 const JOURNAL_HEAD: &[u8] = b"SEATJOURNAL ";
 
+/// How a journal's last line begins.
+const END: &[u8; 4] = b"END ";
+
 /// How many bytes are looked at at once.
 const PIECE: usize = 65536;
 
@@ -29,6 +32,8 @@ pub struct Kept {
 pub enum Content {
     /// A journal with so many lines, its head and its END line left out.
     Journal { lines: u64 },
+    /// The beginning of one, with so many whole lines behind its head, as a host that was killed leaves it.
+    Unended { lines: u64 },
     Other { bytes: u64 },
 }
 
@@ -193,6 +198,7 @@ pub fn content_in(rt: &HostRuntime, file: &mut File) -> io::Result<Content> {
     let mut piece = vec![in rt.alloc(); 0u8; PIECE]?;
     let mut ends: u64 = 0;
     let mut is_journal = false;
+    let mut line = LastLine::new();
     for turn in 0..u64::MAX {
         let n = fill(file, &mut piece)?;
         if turn == 0 {
@@ -202,13 +208,59 @@ pub fn content_in(rt: &HostRuntime, file: &mut File) -> io::Result<Content> {
             break;
         }
         ends = ends.saturating_add(piece[..n].iter().filter(|byte| **byte == b'\n').count() as u64);
+        line.hear(&piece[..n]);
     }
-    if is_journal {
+    if !is_journal {
+        return Ok(Content::Other { bytes });
+    }
+    if line.is_end() {
         return Ok(Content::Journal {
             lines: ends.saturating_sub(2),
         });
     }
-    Ok(Content::Other { bytes })
+    Ok(Content::Unended {
+        lines: ends.saturating_sub(1),
+    })
+}
+
+/// How the last line begins that was heard of a file, and whether it is whole.
+#[derive(Drop)]
+struct LastLine {
+    front: [u8; 4],
+    count: usize,
+    is_whole: bool,
+}
+
+impl LastLine {
+    fn new() -> Self {
+        LastLine {
+            front: [0; 4],
+            count: 0,
+            is_whole: false,
+        }
+    }
+
+    fn hear(&mut self, bytes: &[u8]) {
+        for byte in bytes {
+            self.hear_one(*byte);
+        }
+    }
+
+    fn hear_one(&mut self, byte: u8) {
+        if self.is_whole {
+            self.count = 0;
+        }
+        if self.count < 4 {
+            self.front[self.count] = byte;
+            self.count += 1;
+        }
+        self.is_whole = byte == b'\n';
+    }
+
+    /// Whether it is an END line.
+    fn is_end(&self) -> bool {
+        self.is_whole && self.front == *END
+    }
 }
 
 /// As many bytes as fit, or as there are.

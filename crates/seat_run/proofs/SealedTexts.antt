@@ -1,28 +1,34 @@
 -- A journal, its seal and replies that were written, or not, are those that answer.
-use Rattle.std.proofs.Common.{◌≡◌, ◌⊎◌, ◌+◌, ◌&&◌, inr, ℕ, Bool, true, false, List, Option, Some, None, IfSome, IfErr, OnOk, Result, Ok, Err, length, refl, sym, ◌∙◌, subst, map}
+use Rattle.std.proofs.Common.{◌≡◌, ◌≤◌, ◌⊎◌, ⊎_elim, ◌+◌, ◌&&◌, inr, ℕ, suc, Bool, true, false, List, [], ◌∷◌, Option, Some, None, IfSome, IfErr, OnOk, Result, Ok, Err, length, refl, sym, ap, ◌∙◌, subst, map, arith}
 use Rattle.std.specs.List.{AllByRecursion}
+use Rattle.std.proofs.lemmas.List.{length-map}
 use Rattle.airimp_lines.specs.declared.requests.Request.{Request}
 use Rattle.ssim_flights.specs.declared.flight.Flight.{Flight as Flown}
 use Rattle.seat_nesting.specs.Nesting.{Ladders}
 use Rattle.seat_journal.specs.Text.{IsEntry, journal_text}
 use Rattle.seat_journal.specs.declared.entry.Change.{Change}
 use Rattle.seat_journal.specs.declared.entry.Entry.{Entry}
+use Rattle.seat_seal.specs.Fronts.{front_of}
+use Rattle.seat_seal.specs.Imprints.{imprint_of}
 use Rattle.seat_seal.specs.Known.{AreRunsOf}
 use Rattle.seat_seal.specs.Reading.{two_entries}
 use Rattle.seat_seal.specs.Rules.{is_entry, is_seal, is_sealed}
 use Rattle.seat_seal.specs.declared.beside.Basis.{Basis}
 use Rattle.seat_seal.specs.declared.beside.Beside.{Beside}
+use Rattle.seat_seal.specs.declared.imprint.Imprint.{Imprint}
 use Rattle.seat_seal.specs.declared.run.Run.{Run}
 use Rattle.seat_seal.specs.declared.seal.Sealed.{Sealed as Belonging}
 use Rattle.seat_seal.specs.declared.seal.SealEntry.{SealEntry}
 use Rattle.seat_seal.specs.declared.seal.SealEntry.TheVariants.{Sealed}
 use Rattle.seat_sealing.specs.Steps.{InOrder, alone_text, both_text}
 use Rattle.seat_sealing.specs.Written.{AreInPlace, RepliesFailed, SealingFailed}
+use Rattle.seat_desk.specs.Desk.{IsOfInput}
 use Rattle.seat_desk.specs.Sealing.{basis_of}
 use Rattle.seat_desk.specs.declared.fault.DeskFault.{DeskFault}
 use Rattle.seat_desk.specs.declared.fault.DeskFault.TheVariants.{Device, TooLarge}
 use Rattle.seat_scripts.specs.Against.{OfFour}
 use Rattle.seat_scripts.specs.Asked.{IsAsked, OfThree}
+use Rattle.seat_scripts.specs.Begun.{IsBehindRuns}
 use Rattle.seat_scripts.specs.Going.{lists_over}
 use Rattle.seat_scripts.specs.Requests.{commands_of}
 use Rattle.seat_scripts.specs.Resumed.{IsAhead, IsAskedStill}
@@ -30,8 +36,54 @@ use Rattle.seat_scripts.specs.RunDesk.{IsHistoryOf, IsReplied}
 use Rattle.seat_scripts.proofs.OneTaken.{one_taken}
 use Rattle.seat_scripts.specs.Taken.{WithTaken}
 use Rattle.seat_scripts.specs.SealedRun.{IsEntryOfRun}
-use Rattle.seat_scripts.specs.TextDigests.{AreDigests, IsDigestOf}
+use Rattle.seat_scripts.specs.TextImprints.{AreImprints, IsImprintOf}
 use Rattle.seat_run.specs.SealedDesk.{AreSealed, AreTexts, HasStopped, InputFailed, IsSealedResume, IsSealedRun, IsUnsealable}
+
+-- ---- what is given
+
+zip_count : (texts : List (Option (List ℕ))) (imprints : List (Option Imprint)) → AreImprints texts imprints
+    → length imprints ≡ length texts
+zip_count [] [] are = refl
+zip_count [] (i ∷ imprints) are = absurd are
+zip_count (text ∷ texts) [] are = absurd are
+zip_count (text ∷ texts) (i ∷ imprints) are = ap suc (zip_count texts imprints are.1)
+
+-- there are as many as there are scripts
+pub few_imprints : {C : Type 0} → (f : C → Option (List ℕ)) (inputs : List C) (imprints slice : List (Option Imprint))
+    → AreImprints (map f inputs) imprints → slice ≡ imprints → length inputs ≤ 8 → length slice ≤ 8
+few_imprints f inputs imprints slice are same few =
+    let count : length slice ≡ length inputs = ap length same ∙ (zip_count (map f inputs) imprints are ∙ length-map inputs f) in
+    omega (arith, count, few)
+
+pub same_front : (imprint : Imprint) (text view : List ℕ) → imprint ≡ imprint_of (front_of text) → view ≡ text
+    → imprint ≡ imprint_of (front_of view)
+same_front imprint text view is same = is ∙ ap (λ (l : List ℕ). imprint_of (front_of l)) (sym same)
+
+-- what holds whatever comes
+pub on_ok : (r : Result (Unit {0}) DeskFault) (P : Type 0) → P → OnOk r P
+on_ok (Ok done) P p = p
+on_ok (Err fault) P p = tt
+
+no_input : (fault : DeskFault) → (fault ≡ Device) ⊎ (fault ≡ TooLarge) → IsOfInput fault → ⊥
+no_input fault kind input = ⊎_elim
+    (λ (d : fault ≡ Device). subst IsOfInput d input)
+    (λ (l : fault ≡ TooLarge). subst IsOfInput l input) kind
+
+-- what is written has no fault of an input
+pub never_of_input : (Q : DeskFault → Type 0) (r : Result (Unit {0}) DeskFault)
+    → IfErr r (λ f. (f ≡ Device) ⊎ (f ≡ TooLarge)) → IfErr r (λ f. IsOfInput f → Q f)
+never_of_input Q (Ok done) kind = tt
+never_of_input Q (Err fault) kind = λ input. absurd (no_input fault kind input)
+
+behind_no_runs : (fault : DeskFault) → (fault ≡ Device) ⊎ (fault ≡ TooLarge) → IsBehindRuns fault → ⊥
+behind_no_runs fault kind behind = ⊎_elim
+    (λ (d : fault ≡ Device). subst IsBehindRuns d behind)
+    (λ (l : fault ≡ TooLarge). subst IsBehindRuns l behind) kind
+
+pub never_behind : (P : Type 0) (r : Result (Unit {0}) DeskFault)
+    → IfErr r (λ f. (f ≡ Device) ⊎ (f ≡ TooLarge)) → IfErr r (λ f. IsBehindRuns f → P)
+never_behind P (Ok done) kind = tt
+never_behind P (Err fault) kind = λ behind. absurd (behind_no_runs fault kind behind)
 
 -- ---- what is written
 
@@ -45,11 +97,11 @@ pub keeps_no_rules : (older : SealEntry) (newer : Belonging) (may : Bool) → is
 unfolding is_seal
 keeps_no_rules older newer may first is none = last_false (is_entry older) (is_sealed newer) first (sym is ∙ none)
 
-module _ (basis : Basis) (digests : List (Option (List ℕ))) (changed : Option (List ℕ)) (behind today : ℕ) (earlier : List Run) (lines : List Entry) (said : List ℕ)
+module _ (basis : Basis) (imprints : List (Option Imprint)) (changed : Option Imprint) (behind today : ℕ) (earlier : List Run) (lines : List Entry) (said : List ℕ)
     (text : List ℕ) (newer : Belonging) (is_text : text ≡ journal_text lines)
-    (is_entry_of : IsEntryOfRun basis digests changed behind (length lines) today earlier text newer) where
+    (is_entry_of : IsEntryOfRun basis imprints changed behind (length lines) today earlier text newer) where
   abbrev Told : List ℕ → Belonging → List ℕ → Type 0
-  Told = AreTexts basis digests changed behind today earlier lines said
+  Told = AreTexts basis imprints changed behind today earlier lines said
 
   abbrev are_told : Told text newer said
   are_told = record { journal_is = is_text; entry_is = is_entry_of; replies_are = refl }
@@ -128,16 +180,16 @@ pub record IsBooked (flights : List Flown) (grid : Ladders) (past : List Entry) 
   pub is_replied : IsReplied flights past scripts history receipts replies
 
 -- the texts are told by other names
-pub same_texts : (b basis : Basis) (named digests : List (Option (List ℕ))) (told changed : Option (List ℕ)) (ahead behind today : ℕ)
+pub same_texts : (b basis : Basis) (named imprints : List (Option Imprint)) (told changed : Option Imprint) (ahead behind today : ℕ)
     (before earlier : List Run) (slice lines : List Entry) (text said : List ℕ)
-    → b ≡ basis → named ≡ digests → told ≡ changed → ahead ≡ behind → before ≡ earlier → slice ≡ lines → text ≡ said
+    → b ≡ basis → named ≡ imprints → told ≡ changed → ahead ≡ behind → before ≡ earlier → slice ≡ lines → text ≡ said
     → (journal : List ℕ) (entry : Belonging) (replies : List ℕ)
     → AreTexts b named told ahead today before slice text journal entry replies
-    → AreTexts basis digests changed behind today earlier lines said journal entry replies
-same_texts b basis named digests told changed ahead behind today before earlier slice lines text said zero one two three runs four five journal entry replies are =
-    subst (λ (x : Basis). AreTexts x digests changed behind today earlier lines said journal entry replies) zero
-    (subst (λ (l : List (Option (List ℕ))). AreTexts b l changed behind today earlier lines said journal entry replies) one
-    (subst (λ (l : Option (List ℕ)). AreTexts b named l behind today earlier lines said journal entry replies) two
+    → AreTexts basis imprints changed behind today earlier lines said journal entry replies
+same_texts b basis named imprints told changed ahead behind today before earlier slice lines text said zero one two three runs four five journal entry replies are =
+    subst (λ (x : Basis). AreTexts x imprints changed behind today earlier lines said journal entry replies) zero
+    (subst (λ (l : List (Option Imprint)). AreTexts b l changed behind today earlier lines said journal entry replies) one
+    (subst (λ (l : Option Imprint). AreTexts b named l behind today earlier lines said journal entry replies) two
     (subst (λ (n : ℕ). AreTexts b named told n today earlier lines said journal entry replies) three
     (subst (λ (l : List Run). AreTexts b named told ahead today l lines said journal entry replies) runs
     (subst (λ (l : List Entry). AreTexts b named told ahead today before l said journal entry replies) four
@@ -183,11 +235,11 @@ based_four P Q R basis first days None limits after resumed known give p q = tt
 module _ (set limits after : Option (List ℕ)) (first days today : ℕ) (texts : List (Option (List ℕ))) (changing : Option (List ℕ)) (flights : List Flown) (grid : Ladders) (past : List Entry) (scripts : List (List Request)) (changes : List Change)
     (history : List Entry) (receipts : List (List Entry)) (replies : List ℕ) (booked : IsBooked flights grid past scripts changes history receipts replies)
     (basis : Basis) (known : IfSome set (λ xs. IfSome limits (λ ys. basis ≡ basis_of xs ys first days)))
-    (digests : List (Option (List ℕ))) (are : AreDigests texts digests) (changed : Option (List ℕ)) (is : IsDigestOf changing changed) (behind : ℕ) (earlier : List Run) (beside : Beside) where
+    (imprints : List (Option Imprint)) (are : AreImprints texts imprints) (changed : Option Imprint) (is : IsImprintOf changing changed) (behind : ℕ) (earlier : List Run) (beside : Beside) where
   module _ (asked : OfThree set limits after (λ xs ys zs. IsAsked xs ys first days today zs texts changing flights grid past scripts changes))
       (count : behind ≡ length past) (runs : IfSome after (λ zs. AreRunsOf beside zs earlier)) where
     pub sealed_run : (journal : List ℕ) (entry : Belonging) (said : List ℕ)
-        → AreTexts basis digests changed behind today earlier history replies journal entry said
+        → AreTexts basis imprints changed behind today earlier history replies journal entry said
         → OfThree set limits after (λ xs ys zs. IsSealedRun beside xs ys first days today zs texts changing journal entry said)
     sealed_run journal entry said t =
         based_three (λ xs ys zs. IsAsked xs ys first days today zs texts changing flights grid past scripts changes × AreRunsOf beside zs earlier)
@@ -207,14 +259,14 @@ module _ (set limits after : Option (List ℕ)) (first days today : ℕ) (texts 
             journal_is = t.journal_is;
             is_replied = subst (IsReplied flights past scripts history receipts) (sym t.replies_are) booked.is_replied;
           };
-          digests = digests;
-          are_digests = are;
+          imprints = imprints;
+          are_imprints = are;
           changed = changed;
           is_changed = is;
           earlier = earlier;
           are_earlier = a.1;
-          is_entry = subst (λ (b : Basis). IsEntryOfRun b digests changed (length past) (length history) today earlier journal entry) same
-              (subst (λ (n : ℕ). IsEntryOfRun basis digests changed n (length history) today earlier journal entry) count t.entry_is);
+          is_entry = subst (λ (b : Basis). IsEntryOfRun b imprints changed (length past) (length history) today earlier journal entry) same
+              (subst (λ (n : ℕ). IsEntryOfRun basis imprints changed n (length history) today earlier journal entry) count t.entry_is);
         })
         (with_third (λ xs ys zs. IsAsked xs ys first days today zs texts changing flights grid past scripts changes) (λ zs. AreRunsOf beside zs earlier) set limits after asked runs)
 
@@ -223,7 +275,7 @@ module _ (set limits after : Option (List ℕ)) (first days today : ℕ) (texts 
       (ahead : OfFour set limits after resumed (λ xs ys old zs. WithTaken given beside zs (λ more. IsAhead more old behind)))
       (runs : IfSome resumed (λ zs. AreRunsOf beside zs earlier)) where
     pub sealed_resume : (journal : List ℕ) (entry : Belonging) (said : List ℕ)
-        → AreTexts basis digests changed behind today earlier history replies journal entry said
+        → AreTexts basis imprints changed behind today earlier history replies journal entry said
         → OfFour set limits after resumed
         (λ xs ys old zs. WithTaken given beside zs (λ more. IsSealedResume beside xs ys first days today old more zs texts changing journal entry said))
     sealed_resume journal entry said t =
@@ -248,15 +300,15 @@ module _ (set limits after : Option (List ℕ)) (first days today : ℕ) (texts 
               written_is = t.journal_is;
               is_replied = subst (IsReplied flights past scripts history receipts) (sym t.replies_are) booked.is_replied;
             };
-            digests = digests;
-            are_digests = are;
+            imprints = imprints;
+            are_imprints = are;
             changed = changed;
             is_changed = is;
             earlier = earlier;
             are_earlier = a.1;
-            is_entry = subst (λ (b : Basis). IsEntryOfRun b digests changed (length a.0.here.older + a.0.more) (length history) today earlier journal entry) same
-                (subst (λ (n : ℕ). IsEntryOfRun basis digests changed (length a.0.here.older + n) (length history) today earlier journal entry) (one_taken given beside zs h.more a.0.more h.are_taken a.0.are_taken)
-                (subst (λ (n : ℕ). IsEntryOfRun basis digests changed n (length history) today earlier journal entry) (h.here.each a.0.here.older a.0.here.is_asked.are_ready.is_older.is_text) t.entry_is));
+            is_entry = subst (λ (b : Basis). IsEntryOfRun b imprints changed (length a.0.here.older + a.0.more) (length history) today earlier journal entry) same
+                (subst (λ (n : ℕ). IsEntryOfRun basis imprints changed (length a.0.here.older + n) (length history) today earlier journal entry) (one_taken given beside zs h.more a.0.more h.are_taken a.0.are_taken)
+                (subst (λ (n : ℕ). IsEntryOfRun basis imprints changed n (length history) today earlier journal entry) (h.here.each a.0.here.older a.0.here.is_asked.are_ready.is_older.is_text) t.entry_is));
           };
         })
         (with_fourth (λ xs ys old zs. WithTaken given beside zs (λ more. IsAskedStill xs ys first days today old more zs texts changing flights grid past scripts changes)) (λ zs. AreRunsOf beside zs earlier) set limits after resumed asked runs) ahead

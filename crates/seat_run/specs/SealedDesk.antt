@@ -6,6 +6,7 @@ use Rattle.seat_seal.specs.Known.{AreRunsOf}
 use Rattle.seat_seal.specs.Rules.{is_sealed}
 use Rattle.seat_seal.specs.declared.beside.Basis.{Basis}
 use Rattle.seat_seal.specs.declared.beside.Beside.{Beside}
+use Rattle.seat_seal.specs.declared.imprint.Imprint.{Imprint}
 use Rattle.seat_seal.specs.declared.run.Run.{Run}
 use Rattle.seat_seal.specs.declared.seal.Sealed.{Sealed as Belonging}
 use Rattle.seat_seal.specs.declared.seal.SealEntry.{SealEntry}
@@ -18,17 +19,17 @@ use Rattle.seat_scripts.specs.Resumed.{IsResumed}
 use Rattle.seat_scripts.specs.RunDesk.{IsRun}
 use Rattle.seat_scripts.specs.Taken.{WithTaken}
 use Rattle.seat_scripts.specs.SealedRun.{IsEntryOfRun}
-use Rattle.seat_scripts.specs.TextDigests.{AreDigests, IsDigestOf}
+use Rattle.seat_scripts.specs.TextImprints.{AreImprints, IsImprintOf}
 use Rattle.seat_sealing.specs.Steps.{InOrder, alone_text, both_text}
 use Rattle.seat_sealing.specs.Written.{AreInPlace, AreWritten, RepliesFailed, SealingFailed}
 
 -- ---- the texts
 
 -- the journal of these lines, an entry of it on that basis, and these replies
-pub record AreTexts (basis : Basis) (digests : List (Option (List ℕ))) (changes : Option (List ℕ)) (behind today : ℕ)
+pub record AreTexts (basis : Basis) (imprints : List (Option Imprint)) (changes : Option Imprint) (behind today : ℕ)
     (earlier : List Run) (lines : List Entry) (said journal : List ℕ) (entry : Belonging) (replies : List ℕ) : Type 0 where
   pub journal_is : journal ≡ journal_text lines
-  pub entry_is : IsEntryOfRun basis digests changes behind (length lines) today earlier journal entry
+  pub entry_is : IsEntryOfRun basis imprints changes behind (length lines) today earlier journal entry
   pub replies_are : replies ≡ said
 
 -- ---- what is written
@@ -91,13 +92,13 @@ pub record InputFailed {J K W : Type 0} (failed : Type 0) (journal_old journal_n
 pub record IsSealedRun (beside : Beside) (set limits : List ℕ) (first days today : ℕ) (after : List ℕ) (texts : List (Option (List ℕ)))
     (changing : Option (List ℕ)) (journal : List ℕ) (entry : Belonging) (replies : List ℕ) : Type 0 where
   pub run : IsRun set limits first days today after texts changing journal replies
-  pub digests : List (Option (List ℕ))
-  pub are_digests : AreDigests texts digests
-  pub changed : Option (List ℕ)
-  pub is_changed : IsDigestOf changing changed
+  pub imprints : List (Option Imprint)
+  pub are_imprints : AreImprints texts imprints
+  pub changed : Option Imprint
+  pub is_changed : IsImprintOf changing changed
   pub earlier : List Run
   pub are_earlier : AreRunsOf beside after earlier
-  pub is_entry : IsEntryOfRun (basis_of set limits first days) digests changed (length run.past) (length run.history) today
+  pub is_entry : IsEntryOfRun (basis_of set limits first days) imprints changed (length run.past) (length run.history) today
       earlier journal entry
 
 -- where the bytes of the set, of the limits and of the older journal are known
@@ -113,13 +114,13 @@ pub record IsSealedResume (beside : Beside) (set limits : List ℕ) (first days 
     (texts : List (Option (List ℕ))) (changing : Option (List ℕ)) (journal : List ℕ) (entry : Belonging)
     (replies : List ℕ) : Type 0 where
   pub run : IsResumed set limits first days today after more resumed texts changing journal replies
-  pub digests : List (Option (List ℕ))
-  pub are_digests : AreDigests texts digests
-  pub changed : Option (List ℕ)
-  pub is_changed : IsDigestOf changing changed
+  pub imprints : List (Option Imprint)
+  pub are_imprints : AreImprints texts imprints
+  pub changed : Option Imprint
+  pub is_changed : IsImprintOf changing changed
   pub earlier : List Run
   pub are_earlier : AreRunsOf beside resumed earlier
-  pub is_entry : IsEntryOfRun (basis_of set limits first days) digests changed (length run.is_asked.older + more)
+  pub is_entry : IsEntryOfRun (basis_of set limits first days) imprints changed (length run.is_asked.older + more)
       (length run.history) today earlier journal entry
 
 -- where the bytes of the set, of the limits and of both journals are known, behind the number of lines that is taken

@@ -7,6 +7,7 @@ mod replies;
 mod resume;
 mod run;
 mod sealing;
+mod wording;
 
 pub use resume::desk_resume;
 pub use run::desk_run;

@@ -1,10 +1,9 @@
 -- What the runs that a seal knows have against a run that goes on with scripts, as far as the inputs are known.
-use Rattle.std.proofs.Common.{◌≡◌, ◌+◌, ℕ, Bool, List, Option, Some, None, IfSome, length, sym, ap, ◌∙◌, subst}
+use Rattle.std.proofs.Common.{◌≡◌, ◌+◌, ◌||◌, ℕ, Bool, List, Option, Some, None, IfSome, length, subst}
 use Rattle.seat_rules.specs.Inventory.{Inventory}
 use Rattle.ssim_flights.specs.declared.flight.Flight.{Flight as Flown}
-use Rattle.seat_seal.specs.Known.{AreRunsOf, IsKnown, runs_known}
+use Rattle.seat_seal.specs.Known.{IsKnown, runs_known}
 use Rattle.seat_seal.specs.declared.comparing.SealFault.{SealFault}
-use Rattle.seat_seal.specs.declared.run.Run.{Run}
 use Rattle.seat_seal.specs.declared.seal.Sealed.{Sealed as Belonging}
 use Rattle.seat_desk.specs.Desk.{IsOfInput}
 use Rattle.seat_desk.specs.declared.fault.DeskFault.TheVariants.{Book, NoBehind, Seal, Unasked}
@@ -17,7 +16,8 @@ use Rattle.seat_scripts.specs.Both.{BothAgree}
 use Rattle.seat_scripts.specs.Changes.{IsOfChanges}
 use Rattle.seat_scripts.specs.Resumed.{IsWholeAsked}
 use Rattle.seat_scripts.specs.Taken.{lines_taken}
-use Rattle.seat_scripts.specs.TextDigests.{AreDigests, IsDigestOf}
+use Rattle.seat_scripts.specs.Repeated.{AreRepeated, IsBookedOf, IsOneBooked}
+use Rattle.seat_seal.specs.Booked.{changes_booked, scripts_booked}
 use Rattle.seat_scripts.specs.declared.besides.Besides.{Besides}
 
 -- what is said of the last of four texts
@@ -65,11 +65,12 @@ module _ (set limits after journal : Option (List ℕ)) (first days today : ℕ)
       → OfFour set limits after journal (λ xs ys old zs. AreRead xs ys first days old zs today texts flights older core scripts)
       → (known : Option Belonging) → IfSome journal (λ zs. IsKnown besides.journal zs known)
       → (more : ℕ) → more ≡ lines_taken given known
-      → (digests slice : List (Option (List ℕ))) → AreDigests texts digests → slice ≡ digests
-      → (changed : Option (List ℕ)) → IsDigestOf changing changed
-      → (answer : Option SealFault) → fault_of_runs again given (length older.journal + more) (runs_known known) slice changed ≡ answer
+      → (one changed repeated : Bool) → IsOneBooked (scripts_booked (Some (length older.journal + more)) (runs_known known)) texts one
+      → (lines : Option ℕ) → lines ≡ Some (length older.journal + more)
+      → IsBookedOf (changes_booked lines (runs_known known)) changing changed → repeated ≡ (one || changed)
+      → (answer : Option SealFault) → fault_of_runs again given (length older.journal + more) (runs_known known) repeated ≡ answer
       → OfFour set limits after journal (λ xs ys old zs. IsJudged answer again given besides.journal old zs texts changing)
-  judged flights older core scripts read known is_known more count digests slice are same changed is answer said =
+  judged flights older core scripts read known is_known more count one changed repeated is_one lines counted is_changed both answer said =
       both_four (λ xs ys old zs. AreRead xs ys first days old zs today texts flights older core scripts)
       (λ xs ys old zs. IsKnown besides.journal zs known)
       (λ xs ys old zs. IsJudged answer again given besides.journal old zs texts changing) set limits after journal
@@ -78,12 +79,16 @@ module _ (set limits after journal : Option (List ℕ)) (first days today : ℕ)
         is_known = k;
         older = older.journal;
         is_older = r.is_older.is_replay.is_text;
-        digests = digests;
-        are_digests = are;
-        changes = changed;
-        is_changes = is;
-        answer_is = subst (λ (n : ℕ). fault_of_runs again given (length older.journal + n) (runs_known known) digests changed ≡ answer) count
-            (subst (λ (l : List (Option (List ℕ))). fault_of_runs again given (length older.journal + more) (runs_known known) l changed ≡ answer) same said);
+        repeated = repeated;
+        are_repeated = subst (λ (n : ℕ). AreRepeated (Some (length older.journal + n)) (runs_known known) texts changing repeated) count
+            (record {
+              scripts = one;
+              are_scripts = is_one;
+              changes = changed;
+              are_changes = subst (λ (l : Option ℕ). IsBookedOf (changes_booked l (runs_known known)) changing changed) counted is_changed;
+              answer_is = both;
+            });
+        answer_is = subst (λ (n : ℕ). fault_of_runs again given (length older.journal + n) (runs_known known) repeated ≡ answer) count said;
       }) read (of_last (λ zs. IsKnown besides.journal zs known) set limits after journal is_known)
 
 -- ---- faults that stand behind what they have against it

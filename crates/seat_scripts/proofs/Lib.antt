@@ -30,3 +30,4 @@ mod Again
 mod Very
 pub mod Judged
 mod Sessions
+mod KnownAgain

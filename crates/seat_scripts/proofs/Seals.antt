@@ -1,5 +1,5 @@
 -- What stands beside a journal, as far as the inputs are known, and what is refused behind it.
-use Rattle.std.proofs.Common.{◌≡◌, ◌≢◌, ◌≤◌, ◌<◌, ◌⊎◌, ⊎_elim, inl, inr, ℕ, Bool, true, false, List, Option, Some, None, IfSome, length, subst, sym}
+use Rattle.std.proofs.Common.{◌≡◌, ◌≢◌, ◌≤◌, ◌<◌, ◌||◌, ◌⊎◌, ⊎_elim, inl, inr, ℕ, Bool, true, false, List, Option, Some, None, IfSome, length, subst, sym}
 use Rattle.ssim_flights.specs.declared.flight.Flight.{Flight as Flown}
 use Rattle.seat_seal.specs.Besides.{IsFaultBeside}
 use Rattle.seat_seal.specs.declared.beside.Basis.{Basis}
@@ -21,8 +21,8 @@ use Rattle.seat_scripts.specs.Going.{IsPast}
 use Rattle.seat_scripts.specs.Asked.{IsAsked, IsTooLargeRun}
 use Rattle.seat_seal.specs.Known.{AreRunsOf, IsKnown, runs_known}
 use Rattle.seat_seal.specs.declared.run.Run.{Run}
-use Rattle.seat_scripts.specs.Repeated.{IsRepeatedOf, is_repeated}
-use Rattle.seat_scripts.specs.TextDigests.{AreDigests, IsDigestOf}
+use Rattle.seat_scripts.specs.Repeated.{IsBookedOf, IsOneBooked, IsRepeatedOf}
+use Rattle.seat_seal.specs.Booked.{changes_booked, scripts_booked}
 use Rattle.seat_scripts.specs.RunDesk.{IsRefusedRun}
 use Rattle.seat_scripts.specs.Requests.{IsOfScript}
 use Rattle.seat_scripts.specs.Asked.{HasPast, HasScripts}
@@ -73,20 +73,17 @@ runs_of beside (Some xs) last runs is same = record { known = last; is_known = i
 runs_of beside None last runs is same = tt
 
 -- whether a run that the seal knows names a script, where the journal's bytes are known
-pub repeated_of : (answer : Bool) (beside : Beside) (after : Option (List ℕ)) (texts digests slice : List (Option (List ℕ)))
-    (changing changed : Option (List ℕ)) (last : Option Belonging)
-    → IfSome after (λ zs. IsKnown beside zs last) → AreDigests texts digests → IsDigestOf changing changed → slice ≡ digests
-    → is_repeated last slice changed ≡ answer → IsRepeatedOf answer beside after texts changing
-repeated_of answer beside (Some zs) texts digests slice changing changed last known are is same judged = record {
+pub repeated_of : (answer : Bool) (beside : Beside) (after : Option (List ℕ)) (texts : List (Option (List ℕ)))
+    (changing : Option (List ℕ)) (last : Option Belonging) (one changed : Bool)
+    → IfSome after (λ zs. IsKnown beside zs last) → IsOneBooked (scripts_booked None (runs_known last)) texts one
+    → IsBookedOf (changes_booked None (runs_known last)) changing changed
+    → answer ≡ (one || changed) → IsRepeatedOf answer beside after texts changing
+repeated_of answer beside (Some zs) texts changing last one changed known is_one is_changed judged = record {
   known = last;
   is_known = known;
-  digests = digests;
-  are_digests = are;
-  changes = changed;
-  is_changes = is;
-  answer_is = subst (λ (ds : List (Option (List ℕ))). is_repeated last ds changed ≡ answer) same judged;
+  are_repeated = record { scripts = one; are_scripts = is_one; changes = changed; are_changes = is_changed; answer_is = judged };
 }
-repeated_of answer beside None texts digests slice changing changed last known are is same judged = tt
+repeated_of answer beside None texts changing last one changed known is_one is_changed judged = tt
 
 -- ---- over inputs that are known
 

@@ -1,5 +1,5 @@
 -- Where the runs of a journal began that its seal knows, and what they have against a run that goes on with scripts.
-use Rattle.std.specs.Prelude.{◌≡◌, ◌+◌, ◌&&◌, ℕ, Bool, not, nat_eq, nat_lt, if◌then◌else◌, is_none, List, [], ◌∷◌, length, Option, None, Some}
+use Rattle.std.specs.Prelude.{◌≡◌, ◌+◌, ◌&&◌, ℕ, Bool, not, nat_eq, if◌then◌else◌, is_none, List, [], ◌∷◌, length, Option, None, Some}
 use Rattle.std.specs.List.{list_all, list_any}
 use Rattle.airimp_lines.specs.declared.requests.Request.{Request}
 use Rattle.ssim_flights.specs.declared.flight.Flight.{Flight as Flown}
@@ -19,33 +19,28 @@ use Rattle.seat_desk.specs.declared.fault.DeskFault.TheVariants.{Book, NoBehind,
 use Rattle.seat_desk.specs.declared.inputs.Inputs.{Inputs}
 use Rattle.seat_scripts.specs.Against.{OfFour}
 use Rattle.seat_scripts.specs.Both.{BothAgree}
-use Rattle.seat_scripts.specs.Repeated.{names_again}
+use Rattle.seat_scripts.specs.Repeated.{AreRepeated}
 use Rattle.seat_scripts.specs.Resumed.{IsWholeAsked}
 use Rattle.seat_scripts.specs.Taken.{lines_taken}
-use Rattle.seat_scripts.specs.TextDigests.{AreDigests, IsDigestOf}
 use Rattle.seat_scripts.specs.declared.besides.Besides.{Besides}
 
 -- the run began behind so many lines
 abbrev pub began_at : ℕ → Run → Bool
 began_at lines run = nat_eq lines run.behind
 
--- the run began ahead of so many lines, and has one of the scripts, or the changes
-abbrev pub names_ahead : ℕ → List (Option (List ℕ)) → Option (List ℕ) → Run → Bool
-names_ahead lines digests changes run = nat_lt run.behind lines && names_again digests changes run
-
--- no run began behind so many lines; or that number is not said, and others began elsewhere; or a script is that of a run ahead of
--- these lines, and it is not to be booked again
-abbrev pub fault_among : Bool → Option ℕ → ℕ → List Run → List (Option (List ℕ)) → Option (List ℕ) → Option SealFault
-fault_among again given lines runs digests changes =
+-- no run began behind so many lines; or that number is not said, and others began elsewhere; or a run ahead of these lines booked
+-- what a script begins with, and it is not to be booked again
+abbrev pub fault_among : Bool → Option ℕ → ℕ → List Run → Bool → Option SealFault
+fault_among again given lines runs repeated =
     if not (list_any (began_at lines) runs) then Some Behind
     else if is_none given && not (list_all (began_at lines) runs) then Some Several
-    else if not again && list_any (names_ahead lines digests changes) runs then Some Again
+    else if not again && repeated then Some Again
     else None
 
 -- a seal that knows no run has nothing against it
-abbrev pub fault_of_runs : Bool → Option ℕ → ℕ → List Run → List (Option (List ℕ)) → Option (List ℕ) → Option SealFault
-fault_of_runs again given lines [] digests changes = None
-fault_of_runs again given lines (r ∷ more) digests changes = fault_among again given lines (r ∷ more) digests changes
+abbrev pub fault_of_runs : Bool → Option ℕ → ℕ → List Run → Bool → Option SealFault
+fault_of_runs again given lines [] repeated = None
+fault_of_runs again given lines (r ∷ more) repeated = fault_among again given lines (r ∷ more) repeated
 
 -- what the runs that the seal beside a journal knows have against these scripts and changes, behind the lines of an older one and those
 -- that are taken
@@ -55,11 +50,9 @@ pub record IsJudged (answer : Option SealFault) (again : Bool) (given : Option �
   pub is_known : IsKnown beside journal known
   pub older : List Entry
   pub is_older : IsJournalText after older
-  pub digests : List (Option (List ℕ))
-  pub are_digests : AreDigests texts digests
-  pub changes : Option (List ℕ)
-  pub is_changes : IsDigestOf changing changes
-  pub answer_is : fault_of_runs again given (length older + lines_taken given known) (runs_known known) digests changes ≡ answer
+  pub repeated : Bool
+  pub are_repeated : AreRepeated (Some (length older + lines_taken given known)) (runs_known known) texts changing repeated
+  pub answer_is : fault_of_runs again given (length older + lines_taken given known) (runs_known known) repeated ≡ answer
 
 -- where the bytes of the set, of the limits and of both journals are known
 abbrev pub IsJudgedOf : {S L : Type 0} → Option SealFault → Bool → Beside → Bytes S → Bytes L → Inputs S L → Option (List ℕ)

@@ -8,6 +8,7 @@ pub mod Both
 pub mod Changes
 pub mod First
 pub mod Going
+pub mod KnownAgain
 pub mod Repeated
 pub mod Replying
 pub mod Requests
@@ -17,5 +18,5 @@ pub mod RunDesk
 pub mod SealedRun
 pub mod Segments
 pub mod Taken
-pub mod TextDigests
+pub mod TextImprints
 pub mod VeryRequest

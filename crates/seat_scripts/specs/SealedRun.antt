@@ -5,30 +5,31 @@ use Rattle.seat_seal.specs.Fronts.{front_of}
 use Rattle.seat_seal.specs.Imprints.{imprint_of}
 use Rattle.seat_seal.specs.Runs.{runs_with}
 use Rattle.seat_seal.specs.declared.beside.Basis.{Basis}
+use Rattle.seat_seal.specs.declared.imprint.Imprint.{Imprint}
 use Rattle.seat_seal.specs.declared.run.Run.{Run}
 use Rattle.seat_seal.specs.declared.scripts.Script.{Script}
 use Rattle.seat_seal.specs.declared.seal.JournalState.TheVariants.{Closed}
 use Rattle.seat_seal.specs.declared.seal.Sealed.{Sealed as Belonging}
 
--- a session's script, where its text has a digest
-abbrev pub named : ℕ → Option (List ℕ) → List Script
+-- a session's script, where its text has an imprint
+abbrev pub named : ℕ → Option Imprint → List Script
 named session None = []
-named session (Some digest) = record { session = session; digest = digest } ∷ []
+named session (Some imprint) = record { session = session; imprint = imprint } ∷ []
 
--- the scripts of which these are the digests; the first is that of this session
-abbrev pub named_from : ℕ → List (Option (List ℕ)) → List Script
+-- the scripts of which these are the imprints; the first is that of this session
+abbrev pub named_from : ℕ → List (Option Imprint) → List Script
 named_from session [] = []
-named_from session (digest ∷ more) = named session digest ++ named_from (session + 1) more
+named_from session (imprint ∷ more) = named session imprint ++ named_from (session + 1) more
 
 -- the run behind so many lines, on that day, by these scripts and changes
-pub record IsRun (digests : List (Option (List ℕ))) (changes : Option (List ℕ)) (behind today : ℕ) (run : Run) : Type 0 where
+pub record IsRun (imprints : List (Option Imprint)) (changes : Option Imprint) (behind today : ℕ) (run : Run) : Type 0 where
   pub behind_is : run.behind ≡ behind
   pub today_is : IsDate run.today.year run.today.month run.today.day today
-  pub scripts_are : run.scripts ≡ named_from 1 digests
+  pub scripts_are : run.scripts ≡ named_from 1 imprints
   pub changes_is : run.changes ≡ changes
 
 -- the entry of a journal of this text: of that basis, closed, with so many lines, and with this run behind the earlier ones
-pub record IsEntryOfRun (basis : Basis) (digests : List (Option (List ℕ))) (changes : Option (List ℕ)) (behind lines today : ℕ)
+pub record IsEntryOfRun (basis : Basis) (imprints : List (Option Imprint)) (changes : Option Imprint) (behind lines today : ℕ)
     (earlier : List Run) (text : List ℕ) (entry : Belonging) : Type 0 where
   pub set : entry.set ≡ basis.set
   pub limits : entry.limits ≡ basis.limits
@@ -38,5 +39,5 @@ pub record IsEntryOfRun (basis : Basis) (digests : List (Option (List ℕ))) (ch
   pub lines_are : entry.journal.lines ≡ lines
   pub state : entry.journal.state ≡ Closed
   pub run : Run
-  pub is_run : IsRun digests changes behind today run
+  pub is_run : IsRun imprints changes behind today run
   pub runs_are : entry.runs ≡ runs_with earlier run

@@ -14,18 +14,18 @@ ghost use Rattle.seat_scripts.specs.Beside.{AgreesOf, FailsSealedRun, IsRefusedS
 ghost use Rattle.seat_scripts.specs.Changes.{IsOnLeg};
 ghost use Rattle.seat_scripts.specs.Repeated.{IsRepeatedOf};
 ghost use Rattle.seat_scripts.specs.Requests.{AreRight, HasFailedAmong};
-ghost use Rattle.seat_scripts.specs.TextDigests.{AreDigests, IsDigestOf};
+ghost use Rattle.seat_scripts.specs.TextImprints.{AreImprints, IsImprintOf};
 
 use crate::changes::{ReadChanges, limit_changes};
-use crate::digests::TextDigests;
+use crate::imprints::TextImprints;
 use crate::past::{Known, replayed_beside};
-use crate::repeated::once;
+use crate::repeated::{either, once};
 use crate::scripts::{ReadScripts, Scripts, read_scripts};
 use airline_base::{Day, NotedRead};
 use seat_core::Core;
 use seat_desk::{Based, DeskFault, Inputs, Loaded, load_based};
 use seat_journal::Change;
-use seat_seal::{Basis, Beside, Digest, Runs, runs_known};
+use seat_seal::{Basis, Beside, Imprint, Runs, runs_known};
 use ssim_flights::Flights;
 use std::alloc::Global;
 
@@ -37,8 +37,8 @@ pub struct Asked {
     pub scripts: Scripts,
     pub changes: Vec<Change>,
     pub basis: Basis,
-    pub digests: TextDigests,
-    pub changes_digest: Option<Digest>,
+    pub imprints: TextImprints,
+    pub changes_imprint: Option<Imprint>,
     /// How many lines stand ahead of the scripts.
     pub behind: u32,
     /// What the seal beside the older journal knows of its runs.
@@ -46,8 +46,8 @@ pub struct Asked {
 }
 
 /// Reads a data set, limit rows, an older journal, one to eight scripts and changes of limits. What stands beside the older journal
-/// is compared with the set, the limits and that journal ahead of its own faults. Behind all inputs, scripts or changes of which a run
-/// that its seal knows names one are refused, unless they are to be booked `again`.
+/// is compared with the set, the limits and that journal ahead of its own faults. Behind all inputs, scripts or changes are refused of
+/// which one begins with what a run booked that its seal knows, unless they are to be booked `again`.
 #[tactic(auto, using(crate::proofs::Inputs::asked_of, crate::proofs::Seals::agrees, crate::proofs::Seals::repeated_of, crate::proofs::Seals::runs_of, crate::proofs::Seals::sealed_again, crate::proofs::Seals::sealed_unloaded, crate::proofs::Seals::sealed_unread, crate::proofs::Seals::sealed_refused, crate::proofs::Seals::sealed_unchanged, crate::proofs::Seals::sealed_large_load, crate::proofs::Seals::sealed_large_past, crate::proofs::Seals::sealed_large_script, crate::proofs::Seals::sealed_large_changes, crate::proofs::Seals::sealed_past_fails, crate::proofs::Seals::sealed_script_fails, crate::proofs::Seals::sealed_changes_fail))]
 pub fn read_asked<S: NotedRead, L: NotedRead, A: NotedRead, C: NotedRead, D: NotedRead>(
     alloc: Global,
@@ -75,8 +75,8 @@ pub fn read_asked<S: NotedRead, L: NotedRead, A: NotedRead, C: NotedRead, D: Not
     ensures count { IfOk result (λ a. length a.scripts ≡ length scripts.old) }
     ensures right { IfOk result (λ a. AllByRecursion AreRight a.scripts) }
     ensures legs { IfOk result (λ a. AllByRecursion (IsOnLeg a.flights) a.changes.items) }
-    ensures digests { IfOk result (λ a. AreDigests (map C.remaining scripts.old) a.digests) }
-    ensures changed { IfOk result (λ a. IsDigestOf (D.remaining changes.old) a.changes_digest) }
+    ensures imprints { IfOk result (λ a. AreImprints (map C.remaining scripts.old) a.imprints) }
+    ensures changed { IfOk result (λ a. IsImprintOf (D.remaining changes.old) a.changes_imprint) }
     ensures behind { IfOk result (λ a. a.behind ≡ length a.past.journal) }
     ensures earlier { IfOk result (λ a. IfSome (A.remaining after.old) (λ bytes. AreRunsOf beside.now bytes a.earlier)) }
     ensures fault { IfErr result (λ f. IsOfInput f →
@@ -96,15 +96,23 @@ pub fn read_asked<S: NotedRead, L: NotedRead, A: NotedRead, C: NotedRead, D: Not
     } = loaded;
     drop(rows);
     let Known { past, last } = replayed_beside(alloc, grid, after, beside, &basis)?;
-    let ReadScripts { scripts, digests } = match read_scripts(alloc, scripts, today) {
+    let ReadScripts {
+        scripts,
+        imprints,
+        is_booked,
+    } = match read_scripts(alloc, scripts, today, None, &last) {
         Ok(scripts) => scripts,
         Err(fault) => return Err(fault),
     };
-    let ReadChanges { changes, digest } = match limit_changes(alloc, &flights, changes) {
+    let ReadChanges {
+        changes,
+        imprint,
+        are_booked,
+    } = match limit_changes(alloc, &flights, changes, None, &last) {
         Ok(changes) => changes,
         Err(fault) => return Err(fault),
     };
-    once(again, &last, digests.as_slice(), &digest)?;
+    once(again, either(is_booked, are_booked))?;
     let behind = past.journal().len() as u32;
     Ok(Asked {
         flights,
@@ -112,8 +120,8 @@ pub fn read_asked<S: NotedRead, L: NotedRead, A: NotedRead, C: NotedRead, D: Not
         scripts,
         changes,
         basis,
-        digests,
-        changes_digest: digest,
+        imprints,
+        changes_imprint: imprint,
         behind,
         earlier: runs_known(last),
     })

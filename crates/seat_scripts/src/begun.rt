@@ -1,16 +1,15 @@
 //! Where the runs of a journal began that its seal knows, and what they have against a run that goes on with scripts.
-//! It knows digests and numbers of lines, and nothing of how they come about.
+//! It knows numbers of lines, and no text.
 ghost use Rattle.std.specs.Prelude.{◌≡◌, ◌+◌, ◌≤◌, IfErr, OnOk, None, Some, length};
 ghost use Rattle.std.specs.List.{list_all, list_any};
 ghost use Rattle.seat_desk.specs.AuditDesk.{most_lines};
 ghost use Rattle.seat_seal.specs.Known.{runs_known};
 ghost use Rattle.seat_seal.specs.declared.comparing.SealFault.{SealFault as Fault};
-ghost use Rattle.seat_scripts.specs.Begun.{began_at, fault_among, fault_of_runs, names_ahead};
+ghost use Rattle.seat_scripts.specs.Begun.{began_at, fault_among, fault_of_runs};
 
-use crate::repeated::names_again;
 use seat_core::Core;
 use seat_desk::DeskFault;
-use seat_seal::{Digest, Run, SealFault, Sealed, runs_in};
+use seat_seal::{Run, SealFault, Sealed, runs_in};
 
 /// Refuses scripts and changes that go on behind the lines of an older journal and so many more, where the runs that the journal's seal
 /// knows have something against it.
@@ -20,20 +19,27 @@ pub(crate) fn of_runs(
     older: &Core,
     more: u32,
     known: &Option<Sealed>,
-    digests: &[Option<Digest>],
-    changes: &Option<Digest>,
+    is_repeated: bool,
 ) -> Result<(), DeskFault>
     requires { length older.now.journal ≤ most_lines }
     ensures ok { OnOk result
-        (fault_of_runs again given (length older.now.journal + more) (runs_known known.now) digests.now changes.now ≡ None) }
+        (fault_of_runs again given (length older.now.journal + more) (runs_known known.now) is_repeated ≡ None) }
     ensures fault { IfErr result (λ f. (s : Fault) × (f ≡ DeskFault.Seal s) ×
-        (fault_of_runs again given (length older.now.journal + more) (runs_known known.now) digests.now changes.now ≡ Some s)) }
+        (fault_of_runs again given (length older.now.journal + more) (runs_known known.now) is_repeated ≡ Some s)) }
 {
-    let lines = older.journal().len() as u64 + more as u64;
-    match fault_of_runs(again, given, lines, runs_in(known), digests, changes) {
+    let lines = lines_ahead(older, more);
+    match fault_of_runs(again, given, lines, runs_in(known), is_repeated) {
         Some(fault) => Err(DeskFault::Seal(fault)),
         None => Ok(()),
     }
+}
+
+/// The lines of an older journal and so many more.
+pub(crate) fn lines_ahead(older: &Core, more: u32) -> u64
+    requires { length older.now.journal ≤ most_lines }
+    ensures { result ≡ length older.now.journal + more }
+{
+    older.journal().len() as u64 + more as u64
 }
 
 fn fault_of_runs(
@@ -41,14 +47,13 @@ fn fault_of_runs(
     given: Option<u32>,
     lines: u64,
     runs: &[Run],
-    digests: &[Option<Digest>],
-    changes: &Option<Digest>,
+    is_repeated: bool,
 ) -> Option<SealFault>
-    ensures { result ≡ fault_of_runs again given lines runs.now digests.now changes.now }
+    ensures { result ≡ fault_of_runs again given lines runs.now is_repeated }
 {
     match runs {
         [] => None,
-        [_, ..] => fault_among(again, given, lines, runs, digests, changes),
+        [_, ..] => fault_among(again, given, lines, runs, is_repeated),
     }
 }
 
@@ -57,10 +62,9 @@ fn fault_among(
     given: Option<u32>,
     lines: u64,
     runs: &[Run],
-    digests: &[Option<Digest>],
-    changes: &Option<Digest>,
+    is_repeated: bool,
 ) -> Option<SealFault>
-    ensures { result ≡ fault_among again given lines runs.now digests.now changes.now }
+    ensures { result ≡ fault_among again given lines runs.now is_repeated }
 {
     if !has_begun_at(lines, runs) {
         return Some(SealFault::Behind);
@@ -68,7 +72,7 @@ fn fault_among(
     if given.is_none() && !have_begun_at(lines, runs) {
         return Some(SealFault::Several);
     }
-    if !again && are_named_ahead(lines, digests, changes, runs) {
+    if !again && is_repeated {
         return Some(SealFault::Again);
     }
     None
@@ -92,23 +96,4 @@ fn began_at(lines: u64, run: &Run) -> bool
     ensures { result ≡ began_at lines run.now }
 {
     lines == run.behind as u64
-}
-
-/// Whether a run ahead of these lines has one of the scripts, or the changes.
-fn are_named_ahead(
-    lines: u64,
-    digests: &[Option<Digest>],
-    changes: &Option<Digest>,
-    runs: &[Run],
-) -> bool
-    ensures { result ≡ list_any (names_ahead lines digests.now changes.now) runs.now }
-{
-    runs.iter()
-        .any(|run| names_ahead(lines, digests, changes, run))
-}
-
-fn names_ahead(lines: u64, digests: &[Option<Digest>], changes: &Option<Digest>, run: &Run) -> bool
-    ensures { result ≡ names_ahead lines digests.now changes.now run.now }
-{
-    (run.behind as u64) < lines && names_again(run, digests, changes)
 }

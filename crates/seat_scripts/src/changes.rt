@@ -3,36 +3,44 @@ ghost use Rattle.std.specs.Prelude.{◌≡◌, ◌≢◌, ◌<◌, ◌≤◌, If
 ghost use Rattle.std.specs.List.{AllByRecursion};
 ghost use Rattle.seat_limits.specs.ChangeRows.{IsChangeText};
 ghost use Rattle.seat_desk.specs.Desk.{HasFailed, IsOfInput};
-ghost use Rattle.seat_scripts.specs.TextDigests.{IsDigestOf};
+ghost use Rattle.seat_scripts.specs.Repeated.{IsBookedOf};
+ghost use Rattle.seat_scripts.specs.TextImprints.{IsImprintOf};
+ghost use Rattle.seat_seal.specs.Booked.{changes_booked};
+ghost use Rattle.seat_seal.specs.Known.{runs_known};
 ghost use Rattle.seat_scripts.specs.Changes.{AreChanges, AreServed, IsOfChanges, IsOnLeg, IsUnchanged, change_of, change_refusal, most_change_bytes, wanted_by};
 
-use crate::digests::text_digest;
+use crate::imprints::text_beside;
+use crate::repeated::changes_known;
 use airline_base::NotedRead;
 use seat_desk::{DeskFault, read_input};
 use seat_journal::Change;
 use seat_limits::{ChangeRow, LimitFault, LimitKind, read_changes};
-use seat_seal::Digest;
+use seat_seal::{Imprint, Sealed};
 use ssim_flights::{Flights, Served, Wanted};
 use std::alloc::Global;
 
 /// 16 MiB, the most bytes of changes.
 const MOST_CHANGE_BYTES: u64 = 16_777_216;
 
-/// Changes that are read, and the digest of their rows' bytes, where there are any.
+/// Changes that are read, the imprint of their rows' bytes, where there are any, and whether a run booked their beginning.
 #[derive(Drop)]
 pub struct ReadChanges {
     pub changes: Vec<Change>,
-    pub digest: Option<Digest>,
+    pub imprint: Option<Imprint>,
+    pub are_booked: bool,
 }
 
-/// The changes that the rows ask for, in order.
+/// The changes that the rows ask for, in order, beside what the known runs booked that began ahead of so many lines, or all of them.
 pub fn limit_changes<D: NotedRead>(
     alloc: Global,
     flights: &Flights,
     changes: &mut D,
+    lines: Option<u64>,
+    known: &Option<Sealed>,
 ) -> Result<ReadChanges, DeskFault>
     ensures ok { IfOk result (λ read. IfSome (D.remaining changes.old) (AreChanges flights.now read.changes.items)) }
-    ensures digest { IfOk result (λ read. IsDigestOf (D.remaining changes.old) read.digest) }
+    ensures imprint { IfOk result (λ read. IsImprintOf (D.remaining changes.old) read.imprint) }
+    ensures booked { IfOk result (λ read. IsBookedOf (changes_booked lines (runs_known known.now)) (D.remaining changes.old) read.are_booked) }
     ensures legs { IfOk result (λ read. AllByRecursion (IsOnLeg flights.now) read.changes.items) }
     ensures fault { IfErr result (λ f. IsOfInput f → IfSome (D.remaining changes.old) (IsUnchanged flights.now f)) }
     ensures changes { IfErr result (λ f. IsOfInput f → IsOfChanges f) }
@@ -40,11 +48,14 @@ pub fn limit_changes<D: NotedRead>(
         → IfSome (D.remaining changes.old) (λ bytes. most_change_bytes < length bytes)) }
     ensures device { IfErr result (λ f. f ≡ DeskFault.Device → HasFailed D.failure_count changes.old changes.new) }
 {
+    let booked = changes_known(alloc, lines, known)?;
     let bytes = read_input(alloc, changes, MOST_CHANGE_BYTES)?;
     let made = changes_of(alloc, flights, &bytes)?;
+    let (imprint, are_booked) = text_beside(&bytes, booked.as_slice());
     Ok(ReadChanges {
         changes: made,
-        digest: text_digest(&bytes),
+        imprint,
+        are_booked,
     })
 }
 

@@ -2,6 +2,7 @@
 ghost use Rattle.seat_scripts.specs.Against.{AuditsBehindNoLines, UnaskedIsNotAudited};
 ghost use Rattle.seat_scripts.specs.Audits.{RunsAreAudited, RunsAreAuditedAgainst};
 ghost use Rattle.seat_scripts.specs.First.{RunsFromNoLines};
+ghost use Rattle.seat_scripts.specs.KnownAgain.{ChangesAreKnown, ScriptsAreKnown};
 ghost use Rattle.seat_scripts.specs.Replying.{RepliesAreThoseOfTheRun};
 ghost use Rattle.seat_scripts.specs.Resumed.{ResumedAgainIsTheSame, ResumedIsOfTheWhole, ResumedRunIsTheSame};
 ghost use Rattle.seat_scripts.specs.Resuming.{NothingIsLeft};
@@ -79,4 +80,14 @@ pub fn resumed_run_is_the_same()
 /// No two numbers of lines are taken of a journal with what stands beside it, ahead of its scripts.
 pub fn one_number_is_taken()
     ensures { OneIsTaken }
+{}
+
+/// What a run had is known by the seal of its journal: each of its scripts, itself and with more behind it, where it has a byte.
+pub fn scripts_are_known()
+    ensures { ScriptsAreKnown }
+{}
+
+/// And its changes.
+pub fn changes_are_known()
+    ensures { ChangesAreKnown }
 {}

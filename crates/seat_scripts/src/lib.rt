@@ -11,7 +11,7 @@ mod besides;
 mod by_session;
 mod changes;
 mod commands;
-mod digests;
+mod imprints;
 mod laws;
 mod making;
 mod past;
@@ -31,12 +31,12 @@ pub use asked::{Asked, read_asked};
 pub use besides::Besides;
 pub use by_session::{Wanted, session_replies};
 pub use commands::lists_over;
-pub use digests::TextDigests;
+pub use imprints::TextImprints;
 pub use laws::{
-    audits_behind_no_lines, commands_are_very_requests, nothing_is_left, one_number_is_taken,
-    replies_are_those_of_the_run, requests_are_flown, resumed_again_is_the_same,
-    resumed_is_of_the_whole, resumed_run_is_the_same, runs_are_audited, runs_are_audited_against,
-    runs_from_no_lines, unasked_is_not_audited,
+    audits_behind_no_lines, changes_are_known, commands_are_very_requests, nothing_is_left,
+    one_number_is_taken, replies_are_those_of_the_run, requests_are_flown,
+    resumed_again_is_the_same, resumed_is_of_the_whole, resumed_run_is_the_same, runs_are_audited,
+    runs_are_audited_against, runs_from_no_lines, scripts_are_known, unasked_is_not_audited,
 };
 pub use past::{Past, past_of};
 pub use readable::prove_entries;

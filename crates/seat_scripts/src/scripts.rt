@@ -1,16 +1,20 @@
 //! The scripts of `run`: the requests of each.
-ghost use Rattle.std.specs.Prelude.{◌≡◌, ◌≢◌, ◌+◌, ◌++◌, ◌∷◌, ◌<◌, ◌≤◌, [], IfErr, IfOk, IfSome, OnOk, length, map};
+ghost use Rattle.std.specs.Prelude.{◌≡◌, ◌≢◌, ◌+◌, ◌++◌, ◌∷◌, ◌<◌, ◌≤◌, ◌||◌, [], IfErr, IfOk, IfSome, OnOk, false, length, map};
 ghost use Rattle.std.specs.List.{AllByRecursion};
 ghost use Rattle.airline_base.specs.Days.{IsCenturyDay};
 ghost use Rattle.seat_desk.specs.Desk.{HasFailed, IsOfInput};
-ghost use Rattle.seat_scripts.specs.TextDigests.{AreDigests, AreTakenOn, IsDigestOf};
+ghost use Rattle.seat_scripts.specs.Repeated.{AreFoundOn, IsBookedOf, IsOneBooked};
+ghost use Rattle.seat_scripts.specs.TextImprints.{AreImprints, AreTakenOn, IsImprintOf};
+ghost use Rattle.seat_seal.specs.Booked.{scripts_booked};
+ghost use Rattle.seat_seal.specs.Known.{runs_known};
 ghost use Rattle.seat_scripts.specs.Requests.{AreReadOn, AreRight, AreScripts, HasFailedAmong, IsOfScript, IsRefusedAmong, IsRefusedScript, IsScriptOf, IsTooLargeAmong, most_script_bytes, script_refusal};
 
-use crate::digests::{TextDigests, text_digest};
+use crate::imprints::{TextImprints, text_beside};
+use crate::repeated::scripts_known;
 use airimp_lines::{Requests, ScriptFault, ScriptKind, read_script};
 use airline_base::{Day, Items, NotedRead};
 use seat_desk::{DeskFault, read_input};
-use seat_seal::Digest;
+use seat_seal::{Imprint, Sealed};
 use std::alloc::{AllocError, Global};
 
 /// 16 MiB, the most bytes of a script.
@@ -19,31 +23,40 @@ const MOST_SCRIPT_BYTES: u64 = 16_777_216;
 /// The requests of each script, in the order of the scripts.
 pub type Scripts = Items<Requests>;
 
-/// Scripts that are read, and the digests of their bytes.
+/// Scripts that are read, the imprints of their bytes, and whether one of them begins with what was booked.
 #[derive(Drop)]
 pub struct ReadScripts {
     pub scripts: Scripts,
-    pub digests: TextDigests,
+    pub imprints: TextImprints,
+    pub is_booked: bool,
 }
 
 impl ReadScripts {
     fn none(alloc: Global) -> ReadScripts
         ensures scripts { result.scripts ≡ [] }
-        ensures digests { result.digests ≡ [] }
+        ensures imprints { result.imprints ≡ [] }
+        ensures booked { result.is_booked ≡ false }
     {
         ReadScripts {
             scripts: Scripts::new(alloc),
-            digests: TextDigests::new(alloc),
+            imprints: TextImprints::new(alloc),
+            is_booked: false,
         }
     }
 
     fn add(&mut self, script: ReadScript) -> Result<(), AllocError>
         ensures scripts { OnOk result (self.new.scripts ≡ self.old.scripts ++ script.requests ∷ []) }
-        ensures digests { OnOk result (self.new.digests ≡ self.old.digests ++ script.digest ∷ []) }
+        ensures imprints { OnOk result (self.new.imprints ≡ self.old.imprints ++ script.imprint ∷ []) }
+        ensures booked { OnOk result (self.new.is_booked ≡ (self.old.is_booked || script.is_booked)) }
     {
-        let ReadScript { requests, digest } = script;
+        let ReadScript {
+            requests,
+            imprint,
+            is_booked,
+        } = script;
+        self.is_booked = self.is_booked || is_booked;
         self.scripts.push(requests)?;
-        self.digests.push(digest)
+        self.imprints.push(imprint)
     }
 }
 
@@ -51,20 +64,25 @@ impl ReadScripts {
 #[derive(Drop)]
 struct ReadScript {
     requests: Requests,
-    digest: Option<Digest>,
+    imprint: Option<Imprint>,
+    is_booked: bool,
 }
 
-/// The requests of each script, of at most eight. Each is read and checked before the next is read.
+/// The requests of each script, of at most eight, beside what the known runs booked that began ahead of so many lines, or all of them.
+/// Each is read and checked before the next is read.
 #[tactic(auto, using(crate::proofs::Reading::read_count))]
 pub fn read_scripts<C: NotedRead>(
     alloc: Global,
     scripts: &mut [C],
     today: Day,
+    lines: Option<u64>,
+    known: &Option<Sealed>,
 ) -> Result<ReadScripts, DeskFault>
     requires today { IsCenturyDay today }
     requires few { length scripts.old ≤ 8 }
     ensures ok { IfOk result (λ read. AreScripts today (map C.remaining scripts.old) read.scripts) }
-    ensures digests { IfOk result (λ read. AreDigests (map C.remaining scripts.old) read.digests) }
+    ensures imprints { IfOk result (λ read. AreImprints (map C.remaining scripts.old) read.imprints) }
+    ensures booked { IfOk result (λ read. IsOneBooked (scripts_booked lines (runs_known known.now)) (map C.remaining scripts.old) read.is_booked) }
     ensures count { IfOk result (λ read. length read.scripts ≡ length scripts.old) }
     ensures right { IfOk result (λ read. AllByRecursion AreRight read.scripts) }
     ensures fault { IfErr result (λ f. IsOfInput f → IsRefusedAmong today 1 (map C.remaining scripts.old) f) }
@@ -73,24 +91,27 @@ pub fn read_scripts<C: NotedRead>(
     ensures device { IfErr result (λ f. f ≡ DeskFault.Device
         → HasFailedAmong today (map C.remaining scripts.old) C.failure_count scripts.old scripts.new) }
 {
+    let booked = scripts_known(alloc, lines, known)?;
     let mut read = ReadScripts::none(alloc);
-    read_from(alloc, scripts, 1, today, &mut read)?;
+    read_from(alloc, scripts, 1, today, booked.as_slice(), &mut read)?;
     Ok(read)
 }
 
 /// Reads these scripts, of which the first has this number.
-#[tactic(auto, using(crate::proofs::Reading::read_none, crate::proofs::Reading::read_more, crate::proofs::Reading::taken_none, crate::proofs::Reading::taken_more, crate::proofs::Reading::readable))]
+#[tactic(auto, using(crate::proofs::Reading::read_none, crate::proofs::Reading::read_more, crate::proofs::Reading::taken_none, crate::proofs::Reading::taken_more, crate::proofs::Reading::found_none, crate::proofs::Reading::found_more, crate::proofs::Reading::readable))]
 fn read_from<C: NotedRead>(
     alloc: Global,
     scripts: &mut [C],
     session: u8,
     today: Day,
+    booked: &[Imprint],
     read: &mut ReadScripts,
 ) -> Result<(), DeskFault>
     requires today { IsCenturyDay today }
     requires few { session + length scripts.old ≤ 9 }
     ensures ok { OnOk result (AreReadOn today (map C.remaining scripts.old) read.old.scripts read.new.scripts) }
-    ensures digests { OnOk result (AreTakenOn (map C.remaining scripts.old) read.old.digests read.new.digests) }
+    ensures imprints { OnOk result (AreTakenOn (map C.remaining scripts.old) read.old.imprints read.new.imprints) }
+    ensures booked { OnOk result (AreFoundOn booked.now (map C.remaining scripts.old) read.old.is_booked read.new.is_booked) }
     ensures fault { IfErr result (λ f. IsOfInput f → IsRefusedAmong today session (map C.remaining scripts.old) f) }
     ensures script { IfErr result (λ f. IsOfInput f → IsOfScript f) }
     ensures large { IfErr result (λ f. f ≡ DeskFault.TooLarge → IsTooLargeAmong today (map C.remaining scripts.old)) }
@@ -100,11 +121,11 @@ fn read_from<C: NotedRead>(
     let Some((script, later)) = scripts.split_first_mut() else {
         return Ok(());
     };
-    let one = read_one(alloc, script, session, today)?;
+    let one = read_one(alloc, script, session, today, booked)?;
     if read.add(one).is_err() {
         return Err(DeskFault::Memory);
     }
-    read_from(alloc, later, session + 1, today, read)
+    read_from(alloc, later, session + 1, today, booked, read)
 }
 
 /// The script of a session.
@@ -113,10 +134,12 @@ fn read_one<C: NotedRead>(
     script: &mut C,
     session: u8,
     today: Day,
+    booked: &[Imprint],
 ) -> Result<ReadScript, DeskFault>
     requires today { IsCenturyDay today }
     ensures ok { IfOk result (λ read. IfSome (C.remaining script.old) (IsScriptOf today read.requests)) }
-    ensures digest { IfOk result (λ read. IsDigestOf (C.remaining script.old) read.digest) }
+    ensures imprint { IfOk result (λ read. IsImprintOf (C.remaining script.old) read.imprint) }
+    ensures booked { IfOk result (λ read. IsBookedOf booked.now (C.remaining script.old) read.is_booked) }
     ensures right { IfOk result (λ read. AreRight read.requests) }
     ensures fault { IfErr result (λ f. IsOfInput f
         → IfSome (C.remaining script.old) (IsRefusedScript today session f)) }
@@ -127,9 +150,11 @@ fn read_one<C: NotedRead>(
 {
     let bytes = read_input(alloc, script, MOST_SCRIPT_BYTES)?;
     let requests = requests_of(alloc, &bytes, session, today)?;
+    let (imprint, is_booked) = text_beside(&bytes, booked);
     Ok(ReadScript {
         requests,
-        digest: text_digest(&bytes),
+        imprint,
+        is_booked,
     })
 }
 

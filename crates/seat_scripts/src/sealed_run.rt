@@ -1,12 +1,13 @@
 //! The entry that a seal has of a run's journal.
-//! It knows digests and counts, and no file.
-ghost use Rattle.std.specs.Prelude.{◌≡◌, ◌+◌, ◌++◌, ◌<◌, ◌≤◌, length};
+//! It knows imprints and counts, and no file.
+ghost use Rattle.std.specs.Prelude.{◌≡◌, ◌+◌, ◌++◌, ◌<◌, ◌≤◌, ℕ, List, length};
+ghost use Rattle.seat_seal.specs.Fronts.{front_of};
+ghost use Rattle.seat_seal.specs.Imprints.{imprint_of};
 ghost use Rattle.seat_scripts.specs.SealedRun.{IsEntryOfRun, IsRun, named, named_from};
 
 use airline_base::Day;
 use seat_seal::{
-    Basis, Date, Digest, JournalState, Run, Runs, Script, Scripts, Sealed, SealedJournal, front_of,
-    imprint_of,
+    Basis, Date, Imprint, JournalState, Run, Runs, Script, Scripts, Sealed, SealedJournal,
 };
 
 /// What a run stands on: the set, the limits and the days, its scripts and changes, the count of the lines that it goes on from, and
@@ -15,20 +16,21 @@ use seat_seal::{
 pub struct RunBasis<'a> {
     pub basis: Basis,
     /// Of the scripts, the first that of session 1: none where a script has no byte.
-    pub digests: &'a [Option<Digest>],
-    pub changes: Option<Digest>,
+    pub imprints: &'a [Option<Imprint>],
+    pub changes: Option<Imprint>,
     pub behind: u32,
     pub today: Day,
 }
 
-/// The entry of a journal of this text, with so many lines and this run behind the earlier ones.
-pub fn entry_of_run(run: &RunBasis<'_>, earlier: Runs, lines: u32, text: &[u8]) -> Sealed
-    requires { length run.now.digests.now ≤ 8 }
-    ensures { IsEntryOfRun run.now.basis run.now.digests.now run.now.changes run.now.behind lines run.now.today earlier
-        text.now result }
+/// The entry of a journal with this imprint of its head and entries, with so many lines and this run behind the earlier ones.
+pub fn entry_of_run(run: &RunBasis<'_>, earlier: Runs, lines: u32, imprint: Imprint) -> Sealed
+    requires { length run.now.imprints.now ≤ 8 }
+    ensures entry { (text : List ℕ) → imprint ≡ imprint_of (front_of text)
+        → IsEntryOfRun run.now.basis run.now.imprints.now run.now.changes run.now.behind lines run.now.today earlier text result }
+    ensures imprint { result.journal.imprint ≡ imprint }
 {
     let journal = SealedJournal {
-        imprint: imprint_of(front_of(text)),
+        imprint,
         lines,
         state: JournalState::Closed,
     };
@@ -47,46 +49,46 @@ pub fn entry_of_run(run: &RunBasis<'_>, earlier: Runs, lines: u32, text: &[u8]) 
 }
 
 fn run_of(run: &RunBasis<'_>) -> Run
-    requires { length run.now.digests.now ≤ 8 }
-    ensures { IsRun run.now.digests.now run.now.changes run.now.behind run.now.today result }
+    requires { length run.now.imprints.now ≤ 8 }
+    ensures { IsRun run.now.imprints.now run.now.changes run.now.behind run.now.today result }
 {
     Run {
         behind: run.behind,
         today: Date::of(run.today),
-        scripts: named_scripts(run.digests),
+        scripts: named_scripts(run.imprints),
         changes: run.changes,
     }
 }
 
-fn named_scripts(digests: &[Option<Digest>]) -> Scripts
-    requires { length digests.now ≤ 8 }
-    ensures { result ≡ named_from 1 digests.now }
+fn named_scripts(imprints: &[Option<Imprint>]) -> Scripts
+    requires { length imprints.now ≤ 8 }
+    ensures { result ≡ named_from 1 imprints.now }
 {
     let mut scripts = Scripts::new();
-    add_named(digests, 1, &mut scripts);
+    add_named(imprints, 1, &mut scripts);
     scripts
 }
 
-/// Adds the scripts of which these are the digests, the first that of this session.
+/// Adds the scripts of which these are the imprints, the first that of this session.
 #[tactic(auto, using(crate::proofs::Naming::named_none, crate::proofs::Naming::named_more))]
-fn add_named(digests: &[Option<Digest>], session: u8, scripts: &mut Scripts)
-    requires sessions { session + length digests.now ≤ 9 }
+fn add_named(imprints: &[Option<Imprint>], session: u8, scripts: &mut Scripts)
+    requires sessions { session + length imprints.now ≤ 9 }
     requires room { length scripts.old < session }
-    ensures { scripts.new ≡ scripts.old ++ named_from session digests.now }
+    ensures { scripts.new ≡ scripts.old ++ named_from session imprints.now }
 {
-    let [digest, more @ ..] = digests else {
+    let [imprint, more @ ..] = imprints else {
         return;
     };
-    add_one(*digest, session, scripts);
+    add_one(*imprint, session, scripts);
     add_named(more, session + 1, scripts);
 }
 
-fn add_one(digest: Option<Digest>, session: u8, scripts: &mut Scripts)
+fn add_one(imprint: Option<Imprint>, session: u8, scripts: &mut Scripts)
     requires { length scripts.old < 8 }
-    ensures scripts { scripts.new ≡ scripts.old ++ named session digest }
+    ensures scripts { scripts.new ≡ scripts.old ++ named session imprint }
     ensures count { length scripts.new ≤ length scripts.old + 1 }
 {
-    if let Some(digest) = digest {
-        scripts.push(Script { session, digest });
+    if let Some(imprint) = imprint {
+        scripts.push(Script { session, imprint });
     }
 }

@@ -16,7 +16,7 @@ use Rattle.seat_seal.specs.declared.seal.SealEntry.TheVariants.{Sealed, Other}
 use Rattle.seat_seal.specs.declared.seal.Seal.{Seal}
 use Rattle.seat_seal.specs.Dates.{is_date}
 use Rattle.seat_seal.specs.Digests.{IsDigest}
-use Rattle.seat_seal.specs.Rules.{is_imprint, is_journal, are_rising, is_run, is_sealed, is_entry, is_second, is_seal, IsScript, IsNamed, HasDigests, HasTypes, IsSeal}
+use Rattle.seat_seal.specs.Rules.{is_imprint, is_journal, are_rising, is_script, are_changes, is_run, is_sealed, is_entry, is_second, is_seal, IsScript, IsChanges, IsNamed, HasDigests, HasTypes, IsSeal}
 use Rattle.seat_seal.specs.Text.{newline, most_runs, line, date_text, imprint_text, journal_text, script_text, script_line, changes_text, run_line, run_text, sealed_text, other_text, entry_text, second_text, seal_text}
 use Rattle.seat_seal.specs.Reading.{digest_at, number_at, date_at, imprint_at, journal_at, script_at, line_at, script_line_at, items_in, changes_at, run_at, sealed_at, other_at, entry_at, second_at, seal_at, two_entries}
 use Rattle.seat_seal.proofs.Calendar.{date_again}
@@ -48,22 +48,24 @@ few last (s ∷ more) low h =
     let n = rising_first last s more h in
     omega (arith, n.low, few s.session more n.high n.rising)
 
-script_line_again : (s : Script) (rest : List ℕ) → IsDigest s.digest → s.session ≤ 8
+script_line_again : (s : Script) (rest : List ℕ) → IsDigest s.imprint.digest → s.session ≤ 8 → is_imprint s.imprint ≡ true
     → script_line_at (script_line s ++ rest) ≡ Some (s, rest)
-script_line_again s rest is low = line_again (codes "script ") (script_text s) rest script_at s (script_again s (newline ∷ rest) is low)
+script_line_again s rest is low small =
+    line_again (codes "script ") (script_text s) rest script_at s (script_again s (newline ∷ rest) is low small refl)
 
 scripts_again : (n last : ℕ) (read more : List Script) (rest : List ℕ) → AllByRecursion IsScript more
-    → are_rising last more ≡ true → length more ≤ n → script_line_at rest ≡ None
+    → are_rising last more ≡ true → list_all is_script more ≡ true → length more ≤ n → script_line_at rest ≡ None
     → items_in script_line_at n read (flat_map script_line more ++ rest) ≡ (read ++ more, rest)
 unfolding items_in
-scripts_again zero last read [] rest is rising few none = rw (append-nil read) refl
-scripts_again zero last read (s ∷ more) rest is rising few none = absurd (omega arith)
-scripts_again (suc n) last read [] rest is rising few none = rw (none, append-nil read) refl
-scripts_again (suc n) last read (s ∷ more) rest is rising few none =
+scripts_again zero last read [] rest is rising small few none = rw (append-nil read) refl
+scripts_again zero last read (s ∷ more) rest is rising small few none = absurd (omega arith)
+scripts_again (suc n) last read [] rest is rising small few none = rw (none, append-nil read) refl
+scripts_again (suc n) last read (s ∷ more) rest is rising small few none =
     let next = rising_first last s more rising in
+    let b = both_true (is_script s) (list_all is_script more) small in
     let after = flat_map script_line more ++ rest in
-    let one = script_line_again s after is.0 next.high in
-    let others = scripts_again n s.session (read ++ s ∷ []) more rest is.1 next.rising (omega arith) none in
+    let one = script_line_again s after is.0 next.high b.0 in
+    let others = scripts_again n s.session (read ++ s ∷ []) more rest is.1 next.rising b.1 (omega arith) none in
     rw (append_assoc (script_line s) (flat_map script_line more) rest, one, others, append_assoc read (s ∷ []) more) refl
 
 -- ---- changes
@@ -71,19 +73,19 @@ scripts_again (suc n) last read (s ∷ more) rest is rising few none =
 -- neither a script's line nor that of changes stands there
 record StandsApart (rest : List ℕ) : Type 0 where
   pub script : script_line_at rest ≡ None
-  pub changes : line_at (codes "changes ") digest_at rest ≡ None
+  pub changes : line_at (codes "changes ") imprint_at rest ≡ None
 
-changes_again : (o : Option (List ℕ)) (rest : List ℕ) → IfSome o IsDigest → StandsApart rest
+changes_again : (o : Option Imprint) (rest : List ℕ) → IfSome o IsChanges → are_changes o ≡ true → StandsApart rest
     → changes_at (changes_text o ++ rest) ≡ (o, rest)
 unfolding changes_at
-changes_again None rest is apart = rw apart.changes refl
-changes_again (Some d) rest is apart =
-    rw (line_again (codes "changes ") (encode_lower d) rest digest_at d (digest_again d (newline ∷ rest) is)) refl
+changes_again None rest is small apart = rw apart.changes refl
+changes_again (Some i) rest is small apart =
+    rw (line_again (codes "changes ") (imprint_text i) rest imprint_at i (imprint_again i (newline ∷ rest) is small refl)) refl
 
-no_script : (o : Option (List ℕ)) (rest : List ℕ) → StandsApart rest → script_line_at (changes_text o ++ rest) ≡ None
+no_script : (o : Option Imprint) (rest : List ℕ) → StandsApart rest → script_line_at (changes_text o ++ rest) ≡ None
 unfolding line_at
 no_script None rest apart = apart.script
-no_script (Some d) rest apart = refl
+no_script (Some i) rest apart = refl
 
 -- ---- runs
 
@@ -92,14 +94,18 @@ record KeepsRules (r : Run) : Type 0 where
   pub behind : r.behind ≤ 999_999
   pub today : is_date r.today ≡ true
   pub scripts : are_rising 0 r.scripts ≡ true
+  pub small : list_all is_script r.scripts ≡ true
+  pub changes : are_changes r.changes ≡ true
 
 keeps_rules : (lines : ℕ) (r : Run) → lines ≤ 999_999 → is_run lines r ≡ true → KeepsRules r
 unfolding is_run
 keeps_rules lines r low h =
     let a = both_true _ _ h in
     let b = both_true _ _ a.0 in
-    let behind : r.behind ≤ lines = le_is r.behind lines b.0 in
-    record { behind = omega (arith, low, behind); today = b.1; scripts = a.1 }
+    let c = both_true _ _ b.0 in
+    let d = both_true _ _ c.0 in
+    let behind : r.behind ≤ lines = le_is r.behind lines d.0 in
+    record { behind = omega (arith, low, behind); today = d.1; scripts = c.1; small = b.1; changes = a.1 }
 
 parts_apart : (a n b d rest : List ℕ)
     → (a ++ n ++ line b d) ++ rest ≡ a ++ (n ++ (b ++ (d ++ newline ∷ rest)))
@@ -124,8 +130,8 @@ run_again r rest is k apart =
     let behind = number_again 999_999 r.behind (codes " today " ++ r2) (omega arith) k.behind refl in
     let today = date_again r.today (newline ∷ r3) k.today in
     let few : length r.scripts ≤ 8 = omega (arith, few 0 r.scripts (omega arith) k.scripts) in
-    let scripts = scripts_again 8 0 [] r.scripts r4 is.scripts k.scripts few (no_script r.changes rest apart) in
-    let changes = changes_again r.changes rest is.changes apart in
+    let scripts = scripts_again 8 0 [] r.scripts r4 is.scripts k.scripts k.small few (no_script r.changes rest apart) in
+    let changes = changes_again r.changes rest is.changes k.changes apart in
     rw (run_apart (run_line r.behind r.today) (flat_map script_line r.scripts) (changes_text r.changes) rest, line_apart r.behind r.today r3, behind, today, scripts, changes) refl
 
 -- a run or the end stands there

@@ -105,12 +105,12 @@ journal_again j rest is kept =
 script_apart : (k d rest : List ℕ) → (k ++ blank ∷ d) ++ rest ≡ k ++ (blank ∷ (d ++ rest))
 script_apart k d rest = simp append_assoc
 
-pub script_again : (s : Script) (rest : List ℕ) → IsDigest s.digest → s.session ≤ 8
-    → script_at (script_text s ++ rest) ≡ Some (s, rest)
+pub script_again : (s : Script) (rest : List ℕ) → IsDigest s.imprint.digest → s.session ≤ 8
+    → is_imprint s.imprint ≡ true → Stops is_ascii_digit rest → script_at (script_text s ++ rest) ≡ Some (s, rest)
 unfolding script_at script_text
-script_again s rest is low =
-    let session = number_again 8 s.session (blank ∷ (encode_lower s.digest ++ rest)) (omega arith) low refl in
-    rw (script_apart (decimal s.session) (encode_lower s.digest) rest, session, digest_again s.digest rest is) refl
+script_again s rest is low small h =
+    let session = number_again 8 s.session (blank ∷ (imprint_text s.imprint ++ rest)) (omega arith) low refl in
+    rw (script_apart (decimal s.session) (imprint_text s.imprint) rest, session, imprint_again s.imprint rest is small h) refl
 
 -- ---- lines
 

@@ -8,3 +8,4 @@ pub mod ItemRuns
 pub mod Knowing
 pub mod Newest
 pub mod Fitting
+pub mod Beginnings

@@ -1,13 +1,11 @@
 -- What an entry says beside what is given.
-use Rattle.std.specs.Prelude.{ℕ, Bool, false, not, ◌&&◌, ◌||◌, nat_eq, if◌then◌else◌, List, [], ◌∷◌, take, Option, None, Some}
+use Rattle.std.specs.Prelude.{ℕ, Bool, not, ◌&&◌, nat_eq, if◌then◌else◌, List, take, Option, None, Some}
 use Rattle.airline_base.specs.Bytes.{same_text}
 use Rattle.seat_seal.specs.declared.comparing.Given.{Given}
 use Rattle.seat_seal.specs.declared.comparing.SealFault.{SealFault}
 use Rattle.seat_seal.specs.declared.comparing.SealFault.TheVariants as faults
 use Rattle.seat_seal.specs.declared.date.Date.{Date}
 use Rattle.seat_seal.specs.declared.imprint.Imprint.{Imprint}
-use Rattle.seat_seal.specs.declared.run.Run.{Run}
-use Rattle.seat_seal.specs.declared.scripts.Script.{Script}
 use Rattle.seat_seal.specs.declared.seal.SealedJournal.{SealedJournal}
 use Rattle.seat_seal.specs.declared.seal.Sealed.{Sealed as Belonging}
 use Rattle.seat_seal.specs.declared.seal.SealEntry.{SealEntry}
@@ -52,11 +50,3 @@ second_for (Some e) journal = if is_its_journal e journal then Some e else None
 -- the first entry whose journal it is
 abbrev pub entry_for : Seal → List ℕ → Option SealEntry
 entry_for s journal = if is_its_journal s.first journal then Some s.first else second_for s.second journal
-
-abbrev pub names_script : List Script → List ℕ → Bool
-names_script [] digest = false
-names_script (s ∷ more) digest = same_text s.digest digest || names_script more digest
-
--- a script of this digest was booked by the run
-abbrev pub has_script : Run → List ℕ → Bool
-has_script r digest = names_script r.scripts digest

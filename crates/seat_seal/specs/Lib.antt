@@ -1,4 +1,5 @@
 pub mod Besides
+pub mod Booked
 pub mod Closing
 pub mod Comparing
 pub mod Dates

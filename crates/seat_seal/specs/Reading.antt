@@ -71,8 +71,8 @@ journal_at bytes = do
 unfoldable pub script_at : List ℕ → Field Script
 script_at bytes = do
   session ← number_at 8 bytes
-  digest ← byte_at blank session.1 >>= digest_at
-  Some (record { session = session.0; digest = digest.0 }, digest.1)
+  imprint ← byte_at blank session.1 >>= imprint_at
+  Some (record { session = session.0; imprint = imprint.0 }, imprint.1)
 
 -- ---- lines
 
@@ -99,13 +99,13 @@ items_in at (suc n) read bytes = items_from (items_in at n) read bytes (at bytes
 abbrev pub scripts_at : List ℕ → List Script × List ℕ
 scripts_at bytes = items_in script_line_at 8 [] bytes
 
-abbrev pub changes_from : List ℕ → Field (List ℕ) → Option (List ℕ) × List ℕ
+abbrev pub changes_from : List ℕ → Field Imprint → Option Imprint × List ℕ
 changes_from bytes None = (None, bytes)
-changes_from bytes (Some digest) = (Some digest.0, digest.1)
+changes_from bytes (Some imprint) = (Some imprint.0, imprint.1)
 
 -- the line of changes, where it stands there
-unfoldable pub changes_at : List ℕ → Option (List ℕ) × List ℕ
-changes_at bytes = changes_from bytes (line_at (codes "changes ") digest_at bytes)
+unfoldable pub changes_at : List ℕ → Option Imprint × List ℕ
+changes_at bytes = changes_from bytes (line_at (codes "changes ") imprint_at bytes)
 
 -- ---- runs
 
@@ -177,6 +177,6 @@ second_at first (c ∷ rest) = entry_at (c ∷ rest) >>= (λ second. Some (two_e
 
 unfoldable pub seal_at : List ℕ → Option Seal
 seal_at bytes = do
-  rest ← word_at (codes "SEATSEAL 2\n") bytes
+  rest ← word_at (codes "SEATSEAL 3\n") bytes
   first ← entry_at rest
   second_at first.0 first.1

@@ -25,9 +25,18 @@ abbrev pub are_rising : ℕ → List Script → Bool
 are_rising last [] = true
 are_rising last (s ∷ more) = nat_lt last s.session && nat_le s.session 8 && are_rising s.session more
 
+abbrev pub is_script : Script → Bool
+is_script s = is_imprint s.imprint
+
+abbrev pub are_changes : Option Imprint → Bool
+are_changes None = true
+are_changes (Some imprint) = is_imprint imprint
+
 -- a run of a journal with so many lines: it began behind no more than these, its scripts are of sessions 1 to 8 in order
 unfoldable pub is_run : ℕ → Run → Bool
-is_run lines r = nat_le r.behind lines && is_date r.today && are_rising 0 r.scripts
+is_run lines r =
+    nat_le r.behind lines && is_date r.today && are_rising 0 r.scripts && list_all is_script r.scripts
+    && are_changes r.changes
 
 -- the rules of an entry: 1 to 366 days, and not too many runs
 unfoldable pub is_sealed : Belonging → Bool
@@ -49,11 +58,14 @@ is_seal s = is_entry s.first && is_second s.second
 -- ---- the values of the fields' types
 
 abbrev pub IsScript : Script → Type 0
-IsScript s = IsDigest s.digest
+IsScript s = IsDigest s.imprint.digest
+
+abbrev pub IsChanges : Imprint → Type 0
+IsChanges imprint = IsDigest imprint.digest
 
 pub record IsNamed (r : Run) : Type 0 where
   pub scripts : AllByRecursion IsScript r.scripts
-  pub changes : IfSome r.changes IsDigest
+  pub changes : IfSome r.changes IsChanges
 
 pub record HasDigests (s : Belonging) : Type 0 where
   pub set : IsDigest s.set

@@ -1,4 +1,4 @@
--- The text of a seal, version 2.
+-- The text of a seal, version 3.
 use Rattle.std.specs.Prelude.{ℕ, ◌/◌, ◌%◌, List, [], ◌∷◌, ◌++◌, Option, None, Some, codes, decimal}
 use Rattle.std.specs.List.{flat_map}
 use Rattle.hex.specs.Hex.{encode_lower}
@@ -51,16 +51,16 @@ journal_text j =
     encode_lower j.imprint.digest ++ codes " lines " ++ decimal j.lines ++ codes " bytes " ++ decimal j.imprint.bytes
     ++ state_text j.state
 
--- a session, and its script's digest
+-- a session, and its script's digest and count of bytes
 unfoldable pub script_text : Script → List ℕ
-script_text s = decimal s.session ++ blank ∷ encode_lower s.digest
+script_text s = decimal s.session ++ blank ∷ imprint_text s.imprint
 
 abbrev pub script_line : Script → List ℕ
 script_line s = line (codes "script ") (script_text s)
 
-abbrev pub changes_text : Option (List ℕ) → List ℕ
+abbrev pub changes_text : Option Imprint → List ℕ
 changes_text None = []
-changes_text (Some digest) = line (codes "changes ") (encode_lower digest)
+changes_text (Some imprint) = line (codes "changes ") (imprint_text imprint)
 
 -- behind how many lines a run began, and its day
 unfoldable pub run_line : ℕ → Date → List ℕ
@@ -94,4 +94,4 @@ second_text (Some entry) = entry_text entry
 
 -- the head, and a block for each entry
 unfoldable pub seal_text : Seal → List ℕ
-seal_text s = codes "SEATSEAL 2\n" ++ entry_text s.first ++ second_text s.second
+seal_text s = codes "SEATSEAL 3\n" ++ entry_text s.first ++ second_text s.second

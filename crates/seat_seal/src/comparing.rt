@@ -1,13 +1,12 @@
 //! What a seal says beside what is given.
 ghost use Rattle.std.specs.Prelude.{◌≡◌, option_map};
 ghost use Rattle.airline_base.specs.Bytes.{same_text};
-ghost use Rattle.seat_seal.specs.Comparing.{begins_sealed, same_imprint, same_date, compared, is_its_journal, is_sealed_one, entry_for, has_script};
+ghost use Rattle.seat_seal.specs.Comparing.{begins_sealed, same_imprint, same_date, compared, is_its_journal, is_sealed_one, entry_for};
 
 use crate::date::Date;
 use crate::digest::Digest;
 use crate::front::{beginning, front_for};
 use crate::imprint::{Imprint, imprint_of};
-use crate::run::Run;
 use crate::seal::{Seal, SealEntry, Sealed, SealedJournal};
 use std::fmt;
 
@@ -129,20 +128,6 @@ pub fn begins_sealed(sealed: &SealedJournal, text: &[u8]) -> bool
         &sealed.imprint,
         &imprint_of(beginning(text, sealed.imprint.bytes)),
     )
-}
-
-/// Whether the run booked a script of this digest.
-pub fn has_script(run: &Run, digest: &Digest) -> bool
-    ensures { result ≡ has_script run.now digest.now }
-{
-    let mut rest = run.scripts.as_slice();
-    while let [script, more @ ..] = rest {
-        if same_digest(&script.digest, digest) {
-            return true;
-        }
-        rest = more;
-    }
-    false
 }
 
 pub(crate) fn same_digest(a: &Digest, b: &Digest) -> bool

@@ -133,12 +133,12 @@ fn script_at(bytes: &[u8]) -> Option<(Script, &[u8])>
     let Some((session, rest)) = number_at(bytes, 8) else {
         return None;
     };
-    let Some((digest, rest)) = digest_at(byte_of(b' ', rest)?) else {
+    let Some((imprint, rest)) = imprint_at(byte_of(b' ', rest)?) else {
         return None;
     };
     let script = Script {
         session: session as u8,
-        digest,
+        imprint,
     };
     Some((script, rest))
 }

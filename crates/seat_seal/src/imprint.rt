@@ -4,6 +4,7 @@ ghost use Rattle.seat_seal.specs.Imprints.{imprint_of, HasTaken};
 
 use crate::digest::{Digest, digest_of};
 use sha2::{Digest as Hasher, Sha256};
+use std::alloc::AllocError;
 
 /// The digest of some bytes, and their count.
 #[derive(Clone, Copy, Debug, PartialEq, Eq)]
@@ -47,6 +48,17 @@ impl Tally {
     {
         self.hasher.update(piece);
         self.bytes += piece.len() as u64;
+    }
+
+    /// The imprint of the bytes that it has taken so far. It may take more.
+    pub fn so_far(&self) -> Imprint
+        ensures { (taken : List ℕ) → HasTaken self.now taken → result ≡ imprint_of taken }
+    {
+        let hasher: Result<Sha256, AllocError> = self.hasher.clone();
+        Imprint {
+            digest: Digest::of(hasher.unwrap().finalize()),
+            bytes: self.bytes,
+        }
     }
 
     /// The imprint of all bytes that it has taken.

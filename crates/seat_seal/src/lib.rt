@@ -2,7 +2,9 @@
 //! It knows digests, days and counts, and nothing of a journal's lines, of sessions or of files.
 #![tactic(auto)]
 
+mod beginning;
 mod beside;
+mod booked;
 mod closing;
 mod comparing;
 mod date;
@@ -19,17 +21,17 @@ mod scripts;
 mod seal;
 mod spelling;
 
+pub use beginning::imprint_beside;
 pub use beside::{Basis, Beside, fault_beside};
+pub use booked::{Booked, changes_booked, scripts_booked};
 pub use closing::{closed_entry, open_entry};
-pub use comparing::{
-    Given, SealFault, begins_sealed, compared, entry_for, has_script, is_its_journal,
-};
+pub use comparing::{Given, SealFault, begins_sealed, compared, entry_for, is_its_journal};
 pub use date::Date;
 pub use digest::{Digest, digest_of};
 pub use front::{ahead_of_last, front_of};
 pub use imprint::{Imprint, Tally, imprint_of};
 pub use known::{known_of, runs_in, runs_known};
-pub use laws::{one_is_known, seals_are_unique};
+pub use laws::{grown_texts_are_known, one_is_known, seals_are_unique};
 pub use reading::read_seal;
 pub use rules::{is_entry, is_seal, is_sealed};
 pub use run::{Run, Runs, lines_behind};

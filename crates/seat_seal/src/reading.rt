@@ -6,7 +6,6 @@ ghost use Rattle.seat_seal.specs.Rules.{IsSeal, HasTypes};
 ghost use Rattle.seat_seal.specs.Text.{seal_text};
 ghost use Rattle.seat_seal.specs.Reading.{scripts_at, changes_at, run_at, runs_at, sealed_at, other_at, entry_at, second_at, seal_at};
 
-use crate::digest::Digest;
 use crate::fields::{
     date_at, date_line, digest_line, imprint_line, journal_line, number_at, number_line,
     script_line,
@@ -51,7 +50,7 @@ fn is_text_of(seal: &Seal, bytes: &[u8]) -> bool
 fn seal_at(bytes: &[u8]) -> Option<Seal>
     ensures { result ≡ seal_at bytes.now }
 {
-    let Some((first, rest)) = entry_at(word_of(b"SEATSEAL 2\n", bytes)?) else {
+    let Some((first, rest)) = entry_at(word_of(b"SEATSEAL 3\n", bytes)?) else {
         return None;
     };
     second_at(first, rest)
@@ -190,12 +189,12 @@ fn scripts_at(bytes: &[u8]) -> (Scripts, &[u8])
 }
 
 #[tactic(auto, unfolding(crate::specs::Reading::changes_at))]
-fn changes_at(bytes: &[u8]) -> (Option<Digest>, &[u8])
+fn changes_at(bytes: &[u8]) -> (Option<Imprint>, &[u8])
     ensures changes { result.0 ≡ (changes_at bytes.now).0 }
     ensures rest { result.1.now ≡ (changes_at bytes.now).1 }
 {
-    match digest_line(b"changes ", bytes) {
-        Some((digest, rest)) => (Some(digest), rest),
+    match imprint_line(b"changes ", bytes) {
+        Some((imprint, rest)) => (Some(imprint), rest),
         None => (None, bytes),
     }
 }

@@ -1,7 +1,7 @@
 //! Whether a seal keeps its rules.
 ghost use Rattle.std.specs.Prelude.{◌≡◌};
 ghost use Rattle.std.specs.List.{list_all};
-ghost use Rattle.seat_seal.specs.Rules.{is_imprint, is_journal, are_rising, is_run, is_sealed, is_entry, is_second, is_seal};
+ghost use Rattle.seat_seal.specs.Rules.{is_imprint, is_journal, is_script, are_changes, are_rising, is_run, is_sealed, is_entry, is_second, is_seal};
 
 use crate::imprint::Imprint;
 use crate::run::Run;
@@ -64,7 +64,26 @@ fn are_runs(runs: &[Run], lines: u32) -> bool
 fn is_run(run: &Run, lines: u32) -> bool
     ensures { result ≡ is_run lines run.now }
 {
-    run.behind <= lines && run.today.day().is_some() && are_rising(run.scripts.as_slice())
+    run.behind <= lines
+        && run.today.day().is_some()
+        && are_rising(run.scripts.as_slice())
+        && are_scripts(run.scripts.as_slice())
+        && are_changes(&run.changes)
+}
+
+fn are_scripts(scripts: &[Script]) -> bool
+    ensures { result ≡ list_all is_script scripts.now }
+{
+    scripts.iter().all(|script| is_imprint(&script.imprint))
+}
+
+fn are_changes(changes: &Option<Imprint>) -> bool
+    ensures { result ≡ are_changes changes.now }
+{
+    match changes {
+        Some(imprint) => is_imprint(imprint),
+        None => true,
+    }
 }
 
 fn is_journal(journal: &SealedJournal) -> bool

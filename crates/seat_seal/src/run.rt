@@ -5,12 +5,12 @@ ghost use Rattle.seat_seal.specs.Runs.{is_elsewhere, lines_behind, runs_with};
 ghost use Rattle.seat_seal.specs.Text.{most_runs};
 
 use crate::date::Date;
-use crate::digest::Digest;
+use crate::imprint::Imprint;
 use crate::scripts::Scripts;
 use arrayvec::ArrayVec;
 use std::marker::Model;
 
-/// What a run booked, by digests, and behind how many lines.
+/// What a run booked, by imprints, and behind how many lines.
 #[derive(Drop)]
 pub struct Run {
     /// How many lines stand ahead of its scripts, 0 where none does.
@@ -18,7 +18,7 @@ pub struct Run {
     pub today: Date,
     pub scripts: Scripts,
     /// Of the change rows' bytes, where there are any.
-    pub changes: Option<Digest>,
+    pub changes: Option<Imprint>,
 }
 
 impl Default for Run {

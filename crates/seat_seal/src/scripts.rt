@@ -2,21 +2,25 @@
 ghost use Rattle.std.specs.Prelude.{◌≡◌, ◌<◌, ◌≤◌, ◌++◌, ◌∷◌, [], length};
 
 use crate::digest::Digest;
+use crate::imprint::Imprint;
 use arrayvec::ArrayVec;
 use std::marker::Model;
 
-/// A session's script, by the digest of its bytes.
+/// A session's script, by the imprint of its bytes.
 #[derive(Clone, Copy, Debug, PartialEq, Eq)]
 pub struct Script {
     pub session: u8,
-    pub digest: Digest,
+    pub imprint: Imprint,
 }
 
 impl Default for Script {
     fn default() -> Self {
         Script {
             session: 0,
-            digest: Digest::default(),
+            imprint: Imprint {
+                digest: Digest::default(),
+                bytes: 0,
+            },
         }
     }
 }

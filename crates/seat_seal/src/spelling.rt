@@ -3,8 +3,8 @@ ghost use Rattle.std.specs.Prelude.{◌≡◌, ◌+◌, ◌≤◌, ◌++◌, cod
 ghost use Rattle.std.specs.List.{flat_map, AllByRecursion};
 ghost use Rattle.hex.specs.Hex.{encode_lower};
 ghost use Rattle.seat_seal.specs.Digests.{IsDigest};
-ghost use Rattle.seat_seal.specs.Rules.{HasDigests, HasTypes, IsNamed, IsScript};
-ghost use Rattle.seat_seal.specs.Text.{line, date_text, imprint_text, journal_text, most_runs, run_line, run_text, script_text, script_line, changes_text, sealed_text, other_text, entry_text, second_text, seal_text, state_text};
+ghost use Rattle.seat_seal.specs.Rules.{HasDigests, HasTypes, IsChanges, IsNamed, IsScript};
+ghost use Rattle.seat_seal.specs.Text.{imprint_text, line, date_text, journal_text, most_runs, run_line, run_text, script_text, script_line, changes_text, sealed_text, other_text, entry_text, second_text, seal_text, state_text};
 
 use crate::date::Date;
 use crate::digest::Digest;
@@ -16,24 +16,24 @@ use airline_base::spelling::{put, put_number};
 use arrayvec::ArrayVec;
 use itoa::Buffer;
 
-/// A head line, and two entries of at most 99,900 bytes.
-pub type SealText = ArrayVec<u8, 200000>;
+/// A head line, and two entries of at most 131,000 bytes.
+pub type SealText = ArrayVec<u8, 262144>;
 
 /// The text of a seal.
-pub fn seal_text(seal: &Seal) -> ArrayVec<u8, 200000>
+pub fn seal_text(seal: &Seal) -> ArrayVec<u8, 262144>
     ensures text { result.items ≡ seal_text seal.now }
     ensures first { HasTypes seal.now.first }
     ensures second { IfSome seal.now.second HasTypes }
 {
     let mut text = ArrayVec::new();
-    put(&mut text, b"SEATSEAL 2\n");
+    put(&mut text, b"SEATSEAL 3\n");
     put_entry(&mut text, &seal.first);
     put_second(&mut text, &seal.second);
     text
 }
 
 fn put_second(text: &mut SealText, entry: &Option<SealEntry>)
-    requires room { length text.old.items + 99900 ≤ 200000 }
+    requires room { length text.old.items + 131000 ≤ 262144 }
     ensures text { text.new.items ≡ text.old.items ++ second_text entry.now }
     ensures is { IfSome entry.now HasTypes }
 {
@@ -44,9 +44,9 @@ fn put_second(text: &mut SealText, entry: &Option<SealEntry>)
 }
 
 fn put_entry(text: &mut SealText, entry: &SealEntry)
-    requires room { length text.old.items + 99900 ≤ 200000 }
+    requires room { length text.old.items + 131000 ≤ 262144 }
     ensures text { text.new.items ≡ text.old.items ++ entry_text entry.now }
-    ensures len { length text.new.items ≤ length text.old.items + 99900 }
+    ensures len { length text.new.items ≤ length text.old.items + 131000 }
     ensures is { HasTypes entry.now }
 {
     match entry {
@@ -56,22 +56,19 @@ fn put_entry(text: &mut SealText, entry: &SealEntry)
 }
 
 fn put_other(text: &mut SealText, imprint: &Imprint)
-    requires room { length text.old.items + 99900 ≤ 200000 }
+    requires room { length text.old.items + 131000 ≤ 262144 }
     ensures text { text.new.items ≡ text.old.items ++ other_text imprint.now }
-    ensures len { length text.new.items ≤ length text.old.items + 99900 }
+    ensures len { length text.new.items ≤ length text.old.items + 131000 }
     ensures is { IsDigest imprint.now.digest }
 {
-    put(text, b"other ");
-    put_digest(text, &imprint.digest);
-    put(text, b" bytes ");
-    put_count(text, imprint.bytes);
-    put(text, b"\nEND\n");
+    put_imprint_line(text, b"other ", imprint);
+    put(text, b"END\n");
 }
 
 fn put_sealed(text: &mut SealText, sealed: &Sealed)
-    requires room { length text.old.items + 99900 ≤ 200000 }
+    requires room { length text.old.items + 131000 ≤ 262144 }
     ensures text { text.new.items ≡ text.old.items ++ sealed_text sealed.now }
-    ensures len { length text.new.items ≤ length text.old.items + 99900 }
+    ensures len { length text.new.items ≤ length text.old.items + 131000 }
     ensures is { HasDigests sealed.now }
 {
     put_digest_line(text, b"set ", &sealed.set);
@@ -83,12 +80,12 @@ fn put_sealed(text: &mut SealText, sealed: &Sealed)
     put(text, b"END\n");
 }
 
-// Each run takes at most 776 bytes.
+// Each run takes at most 1,019 bytes.
 fn put_runs(text: &mut SealText, runs: &[Run])
     requires few { length runs.now ≤ most_runs }
-    requires room { length text.old.items + 99328 ≤ 200000 }
+    requires room { length text.old.items + 130432 ≤ 262144 }
     ensures text { text.new.items ≡ text.old.items ++ flat_map run_text runs.now }
-    ensures len { length text.new.items ≤ length text.old.items + 99328 }
+    ensures len { length text.new.items ≤ length text.old.items + 130432 }
     ensures is { AllByRecursion IsNamed runs.now }
 {
     for run in runs {
@@ -97,9 +94,9 @@ fn put_runs(text: &mut SealText, runs: &[Run])
 }
 
 fn put_run(text: &mut SealText, run: &Run)
-    requires room { length text.old.items + 776 ≤ 200000 }
+    requires room { length text.old.items + 1019 ≤ 262144 }
     ensures text { text.new.items ≡ text.old.items ++ run_text run.now }
-    ensures len { length text.new.items ≤ length text.old.items + 776 }
+    ensures len { length text.new.items ≤ length text.old.items + 1019 }
     ensures is { IsNamed run.now }
 {
     put_run_line(text, run.behind, run.today);
@@ -108,7 +105,7 @@ fn put_run(text: &mut SealText, run: &Run)
 }
 
 fn put_run_line(text: &mut SealText, behind: u32, today: Date)
-    requires room { length text.old.items + 39 ≤ 200000 }
+    requires room { length text.old.items + 39 ≤ 262144 }
     ensures text { text.new.items ≡ text.old.items ++ run_line behind today }
     ensures len { length text.new.items ≤ length text.old.items + 39 }
 {
@@ -118,7 +115,7 @@ fn put_run_line(text: &mut SealText, behind: u32, today: Date)
 }
 
 fn put_journal_line(text: &mut SealText, journal: &SealedJournal)
-    requires room { length text.old.items + 160 ≤ 200000 }
+    requires room { length text.old.items + 160 ≤ 262144 }
     ensures text { text.new.items ≡ text.old.items ++ line (codes "journal ") (journal_text journal.now) }
     ensures len { length text.new.items ≤ length text.old.items + 160 }
     ensures is { IsDigest journal.now.imprint.digest }
@@ -134,7 +131,7 @@ fn put_journal_line(text: &mut SealText, journal: &SealedJournal)
 }
 
 fn put_state(text: &mut SealText, state: JournalState)
-    requires room { length text.old.items + 7 ≤ 200000 }
+    requires room { length text.old.items + 7 ≤ 262144 }
     ensures text { text.new.items ≡ text.old.items ++ state_text state }
     ensures len { length text.new.items ≤ length text.old.items + 7 }
 {
@@ -146,9 +143,9 @@ fn put_state(text: &mut SealText, state: JournalState)
 
 fn put_scripts(text: &mut SealText, scripts: &[Script])
     requires few { length scripts.now ≤ 8 }
-    requires room { length text.old.items + 664 ≤ 200000 }
+    requires room { length text.old.items + 880 ≤ 262144 }
     ensures text { text.new.items ≡ text.old.items ++ flat_map script_line scripts.now }
-    ensures len { length text.new.items ≤ length text.old.items + 664 }
+    ensures len { length text.new.items ≤ length text.old.items + 880 }
     ensures is { AllByRecursion IsScript scripts.now }
 {
     for script in scripts {
@@ -157,32 +154,43 @@ fn put_scripts(text: &mut SealText, scripts: &[Script])
 }
 
 fn put_script(text: &mut SealText, script: &Script)
-    requires room { length text.old.items + 83 ≤ 200000 }
+    requires room { length text.old.items + 110 ≤ 262144 }
     ensures text { text.new.items ≡ text.old.items ++ script_line script.now }
-    ensures len { length text.new.items ≤ length text.old.items + 83 }
+    ensures len { length text.new.items ≤ length text.old.items + 110 }
     ensures is { IsScript script.now }
 {
     put(text, b"script ");
     put_number(text, script.session as u32);
-    put(text, b" ");
-    put_digest(text, &script.digest);
-    put(text, b"\n");
+    put_imprint_line(text, b" ", &script.imprint);
 }
 
-fn put_changes(text: &mut SealText, changes: &Option<Digest>)
-    requires room { length text.old.items + 73 ≤ 200000 }
+fn put_changes(text: &mut SealText, changes: &Option<Imprint>)
+    requires room { length text.old.items + 100 ≤ 262144 }
     ensures text { text.new.items ≡ text.old.items ++ changes_text changes.now }
-    ensures len { length text.new.items ≤ length text.old.items + 73 }
-    ensures is { IfSome changes.now IsDigest }
+    ensures len { length text.new.items ≤ length text.old.items + 100 }
+    ensures is { IfSome changes.now IsChanges }
 {
     match changes {
-        Some(digest) => put_digest_line(text, b"changes ", digest),
+        Some(imprint) => put_imprint_line(text, b"changes ", imprint),
         None => {}
     }
 }
 
+fn put_imprint_line(text: &mut SealText, word: &[u8], imprint: &Imprint)
+    requires room { length text.old.items + length word.now + 92 ≤ 262144 }
+    ensures text { text.new.items ≡ text.old.items ++ line word.now (imprint_text imprint.now) }
+    ensures len { length text.new.items ≤ length text.old.items + length word.now + 92 }
+    ensures is { IsDigest imprint.now.digest }
+{
+    put(text, word);
+    put_digest(text, &imprint.digest);
+    put(text, b" bytes ");
+    put_count(text, imprint.bytes);
+    put(text, b"\n");
+}
+
 fn put_digest_line(text: &mut SealText, word: &[u8], digest: &Digest)
-    requires room { length text.old.items + length word.now + 65 ≤ 200000 }
+    requires room { length text.old.items + length word.now + 65 ≤ 262144 }
     ensures text { text.new.items ≡ text.old.items ++ line word.now (encode_lower digest.now) }
     ensures len { length text.new.items ≡ length text.old.items + length word.now + 65 }
     ensures is { IsDigest digest.now }
@@ -193,7 +201,7 @@ fn put_digest_line(text: &mut SealText, word: &[u8], digest: &Digest)
 }
 
 fn put_date_line(text: &mut SealText, word: &[u8], date: Date)
-    requires room { length text.old.items + length word.now + 11 ≤ 200000 }
+    requires room { length text.old.items + length word.now + 11 ≤ 262144 }
     ensures text { text.new.items ≡ text.old.items ++ line word.now (date_text date) }
     ensures len { length text.new.items ≡ length text.old.items + length word.now + 11 }
 {
@@ -203,7 +211,7 @@ fn put_date_line(text: &mut SealText, word: &[u8], date: Date)
 }
 
 fn put_number_line(text: &mut SealText, word: &[u8], number: u32)
-    requires room { length text.old.items + length word.now + 11 ≤ 200000 }
+    requires room { length text.old.items + length word.now + 11 ≤ 262144 }
     ensures text { text.new.items ≡ text.old.items ++ line word.now (decimal number) }
     ensures len { length text.new.items ≤ length text.old.items + length word.now + 11 }
 {
@@ -214,7 +222,7 @@ fn put_number_line(text: &mut SealText, word: &[u8], number: u32)
 
 // 64 hex digits.
 fn put_digest(text: &mut SealText, digest: &Digest)
-    requires room { length text.old.items + 64 ≤ 200000 }
+    requires room { length text.old.items + 64 ≤ 262144 }
     ensures text { text.new.items ≡ text.old.items ++ encode_lower digest.now }
     ensures len { length text.new.items ≡ length text.old.items + 64 }
     ensures is { IsDigest digest.now }
@@ -224,7 +232,7 @@ fn put_digest(text: &mut SealText, digest: &Digest)
 
 // A number of at most twenty digits.
 fn put_count(text: &mut SealText, number: u64)
-    requires room { length text.old.items + 20 ≤ 200000 }
+    requires room { length text.old.items + 20 ≤ 262144 }
     ensures text { text.new.items ≡ text.old.items ++ decimal number }
     ensures len { length text.new.items ≤ length text.old.items + 20 }
 {

@@ -6,6 +6,7 @@ mod commands;
 mod explain;
 mod heard;
 mod locale;
+mod noting;
 mod replaced;
 mod restoring;
 mod selling;

@@ -8,13 +8,14 @@ ghost use Rattle.ssim_flights.specs.Right.{IsOfCentury};
 use crate::commands;
 use crate::commands::{Looked, day_of_run, days_of, inputs_of};
 use crate::heard::Heard;
+use crate::noting::{last_entry, tell_copies, tell_kept, tell_unsealed};
 use crate::sessions::scripts_opened;
 use airline_base::Day;
 use seat_desk::{DeskFault, Inputs, NO_LINES};
 use seat_files::{
-    Content, Guard, Input, JournalFile, KEPT_BEFORE, Kept, NOT_EMPTY, Output, Refusal, SEAL,
-    SealFile, SealOut, Shown, TOO_LONG, files_taken, is_moved, is_one_file, is_same, kept_number,
-    lines_in, of, opened_or, pass_once, standard_output, taken, told,
+    Guard, Input, JournalFile, NOT_EMPTY, Output, Refusal, SealFile, SealOut, TOO_LONG,
+    files_taken, is_moved, is_same, kept_number, lines_in, of, opened_or, pass_once,
+    standard_output, taken, told,
 };
 use seat_run::{desk_resume, desk_run};
 use seat_scripts::{Besides, Wanted, desk_audit_against, desk_replies};
@@ -383,7 +384,7 @@ pub fn run<'a, T: Threads + Wait + Sync>(
     let mut place = locked_out(rt, asking, &texts)?;
     let outcome = sell(rt, threads, asking, given, today, texts, &mut place);
     leave(&place);
-    tell_kept(rt, &place);
+    tell_kept(rt, &place.journal, &place.seal);
     outcome
 }
 
@@ -518,7 +519,8 @@ fn sell<'a, T: Threads + Wait + Sync>(
         Ok(()) => {
             let have_bytes = scripts.iter().any(|script| script.has_bytes());
             out.tell(rt, asking.resume.is_some(), have_bytes);
-            tell_unsealed(rt, asking, &seals.older);
+            tell_compared(rt, asking, given, &seals);
+            tell_copies(rt, &place.seal);
             Ok(())
         }
         Err(refusal) => {
@@ -650,6 +652,16 @@ fn noting_place<'a>(
     Err(refusal.noting_put(asking.journal, behind, from))
 }
 
+/// Says where nothing stood beside the journal that a run went on from. With scripts that have grown the seal would say behind how many
+/// lines they stand; where that was said all the same, nothing was compared with it.
+fn tell_compared(rt: &HostRuntime, asking: &Asking<'_, '_>, given: Option<u32>, seals: &Seals) {
+    match (asking.resume, asking.older.after) {
+        (None, Some(name)) => tell_unsealed(rt, name, &seals.older),
+        (Some(name), None) if given.is_some() => tell_unsealed(rt, name, &seals.journal),
+        _ => {}
+    }
+}
+
 /// Ahead of how many lines a run began that may have booked what is asked: of all, where the scripts go behind the whole journal.
 fn lines_ahead<'a>(
     rt: &HostRuntime,
@@ -667,33 +679,12 @@ fn lines_ahead<'a>(
     lines_of(rt, asking.older.after, after, &mut place.journal).unwrap_or(0)
 }
 
-/// Says on standard error where nothing stands beside the journal that a run went on from, so that it could not be compared. It is no fault.
-fn tell_unsealed(rt: &HostRuntime, asking: &Asking<'_, '_>, seal: &SealFile) {
-    let Some(name) = asking.older.after else {
-        return;
-    };
-    if asking.resume.is_none() && !seal.is_there() {
-        let file = Shown { name };
-        let _ = eprintln!(rt;
-            "seatdesk: note: {file} has no seal beside it, and was not compared with what is given"
-        );
-    }
-}
-
-/// How many lines the new journal went on from, as its seal says, which has its entry last.
+/// How many lines the new journal went on from, as its seal says.
 fn lines_sealed(place: &Place<'_>) -> Option<u32> {
     let Ok(Some(text)) = place.seal.text() else {
         return None;
     };
-    let seal = read_seal(&text)?;
-    let last = match seal.second {
-        Some(second) => second,
-        None => seal.first,
-    };
-    match last {
-        SealEntry::Sealed(entry) => Some(seat_seal::lines_behind(entry.runs.as_slice())),
-        SealEntry::Other(_) => None,
-    }
+    Some(seat_seal::lines_behind(last_entry(&text)?.runs.as_slice()))
 }
 
 /// How many lines a journal has that a run went on from, which may be the one that had the name of the new one.
@@ -743,42 +734,6 @@ fn is_gone_on_from<'a>(after: &Input<'a>, journal: &JournalFile<'a>) -> Result<b
         Some(older) => Ok(is_same(&older, &out)),
         None => Ok(false),
     }
-}
-
-/// Says on standard error under which name OUT's old bytes are kept, and how a run goes on from a journal. A seal that is kept without
-/// a journal is told too.
-fn tell_kept(rt: &HostRuntime, place: &Place<'_>) {
-    if !place.journal.is_put() {
-        return;
-    }
-    let name = place.journal.name();
-    match (place.journal.kept(), place.seal.kept()) {
-        (Some(kept), _) => tell_one(rt, name, "", kept),
-        (None, Some(kept)) => tell_one(rt, name, SEAL, kept),
-        (None, None) => {}
-    }
-}
-
-fn tell_one(rt: &HostRuntime, name: &str, ending: &str, kept: &Kept) {
-    let path = kept.path.as_str();
-    match format!(in rt.alloc(); "{name}{KEPT_BEFORE}{}{ending}", kept.number) {
-        Ok(near) if is_one_file(rt, near.as_str(), path) => tell_content(
-            rt,
-            near.as_str(),
-            kept.content,
-        ),
-        _ => tell_content(rt, path, kept.content),
-    }
-}
-
-fn tell_content(rt: &HostRuntime, path: &str, content: Content) {
-    let path = Shown { name: path };
-    let _ = match content {
-        Content::Journal { lines } => {
-            eprintln!(rt; "seatdesk: kept {path} {lines} lines, to go on from it: --after")
-        }
-        Content::Other { bytes } => eprintln!(rt; "seatdesk: kept {path} {bytes} bytes"),
-    };
 }
 
 /// The refusal of a command that reads scripts behind its other inputs, and more behind those.

@@ -10,7 +10,7 @@ use Rattle.seat_scripts.proofs.SealedBoth.{refused_behind}
 use Rattle.seat_scripts.proofs.Still.{unbooked_still}
 use Rattle.seat_disk.proofs.Keeping.{keeps_none}
 use Rattle.seat_run.specs.SealedDesk.{AreTexts, IsSealedResumeOf}
-use Rattle.seat_run.proofs.SealedTexts.{all_sealed, all_stopped, all_unsealable, same_texts, sealed_resume}
+use Rattle.seat_run.proofs.SealedTexts.{all_sealed, all_stopped, all_unsealable, few_imprints, never_behind, never_of_input, on_ok, same_front, same_texts, sealed_resume}
 use Rattle.seat_run.proofs.resume.desk_resume.Goals as goal
 
 pub returns-clause-ok : goal.returns-clause-ok
@@ -21,9 +21,9 @@ returns-clause-ok g c =
     (map g.C.Read.remaining c.args.scripts.now) (g.D.Read.remaining c.args.changes.now) c.in_ok-asked.asked.flights c.in_ok-asked.asked.past.grid c.in_ok-asked.asked.past.journal c.in_ok-asked.asked.scripts c.in_ok-asked.asked.changes.items
     c.in_ok-settled.field-0.settled.journal c.in_ok-settled.field-0.settled.receipts c.in_ok-settled.field-0.replies.items
     (record { is_history = c.in_ok-settled.ensures.ok; are_entries = c.in_ok-settled.ensures.entries; is_replied = c.in_ok-settled.ensures.replies })
-    c.in_ok-asked.asked.basis c.in_ok-asked.ensures.basis c.in_ok-asked.asked.digests c.in_ok-asked.ensures.digests c.in_ok-asked.asked.changes_digest c.in_ok-asked.ensures.changed c.in_ok-asked.asked.behind c.in_ok-asked.asked.earlier c.args.besides.now.journal (g.R.Read.remaining c.args.resumed.now) c.args.given c.in_ok-asked.ensures.ok c.in_ok-asked.ensures.behind c.in_ok-asked.ensures.earlier journal entry said (same_texts c.in_ok-settled.field-0.basis c.in_ok-asked.asked.basis c.as_slice.result.now c.in_ok-asked.asked.digests c.in_ok-settled.field-0.changes c.in_ok-asked.asked.changes_digest c.in_ok-settled.field-0.behind c.in_ok-asked.asked.behind c.args.today
+    c.in_ok-asked.asked.basis c.in_ok-asked.ensures.basis c.in_ok-asked.asked.imprints c.in_ok-asked.ensures.imprints c.in_ok-asked.asked.changes_imprint c.in_ok-asked.ensures.changed c.in_ok-asked.asked.behind c.in_ok-asked.asked.earlier c.args.besides.now.journal (g.R.Read.remaining c.args.resumed.now) c.args.given c.in_ok-asked.ensures.ok c.in_ok-asked.ensures.behind c.in_ok-asked.ensures.earlier journal entry said (same_texts c.in_ok-settled.field-0.basis c.in_ok-asked.asked.basis c.as_slice.result.now c.in_ok-asked.asked.imprints c.in_ok-settled.field-0.changes c.in_ok-asked.asked.changes_imprint c.in_ok-settled.field-0.behind c.in_ok-asked.asked.behind c.args.today
     c.in_ok-settled.field-0.earlier c.in_ok-asked.asked.earlier c.as_slice-2.result.now c.in_ok-settled.field-0.settled.journal c.deref-2.result.now c.in_ok-settled.field-0.replies.items
-    c.in_ok-settled.ensures.basis (c.as_slice.ensures ∙ c.in_ok-settled.ensures.digests) c.in_ok-settled.ensures.changes c.in_ok-settled.ensures.behind c.in_ok-settled.ensures.earlier c.as_slice-2.ensures c.deref-2.ensures.value journal entry said t))
+    c.in_ok-settled.ensures.basis (c.as_slice.ensures ∙ c.in_ok-settled.ensures.imprints) c.in_ok-settled.ensures.changes c.in_ok-settled.ensures.behind c.in_ok-settled.ensures.earlier c.as_slice-2.ensures c.deref-2.ensures.value journal entry said t))
     (g.J.Replaced.named c.args.journal.now) (g.J.Replaced.named c.put_sealed.new.journal) (g.K.Replaced.named c.args.seal.now) (g.K.Replaced.named c.put_sealed.new.seal)
     (g.J.Replaced.may_leave c.put_sealed.new.journal) (g.K.Replaced.may_leave c.put_sealed.new.seal) (g.W.Write.contents c.args.out.now) (g.W.Write.contents c.put_sealed.new.out)
     c.put_sealed.result c.put_sealed.ensures.ok
@@ -36,9 +36,9 @@ returns-clause-large g c =
     (map g.C.Read.remaining c.args.scripts.now) (g.D.Read.remaining c.args.changes.now) c.in_ok-asked.asked.flights c.in_ok-asked.asked.past.grid c.in_ok-asked.asked.past.journal c.in_ok-asked.asked.scripts c.in_ok-asked.asked.changes.items
     c.in_ok-settled.field-0.settled.journal c.in_ok-settled.field-0.settled.receipts c.in_ok-settled.field-0.replies.items
     (record { is_history = c.in_ok-settled.ensures.ok; are_entries = c.in_ok-settled.ensures.entries; is_replied = c.in_ok-settled.ensures.replies })
-    c.in_ok-asked.asked.basis c.in_ok-asked.ensures.basis c.in_ok-asked.asked.digests c.in_ok-asked.ensures.digests c.in_ok-asked.asked.changes_digest c.in_ok-asked.ensures.changed c.in_ok-asked.asked.behind c.in_ok-asked.asked.earlier c.args.besides.now.journal (g.R.Read.remaining c.args.resumed.now) c.args.given c.in_ok-asked.ensures.ok c.in_ok-asked.ensures.behind c.in_ok-asked.ensures.earlier journal entry said (same_texts c.in_ok-settled.field-0.basis c.in_ok-asked.asked.basis c.as_slice.result.now c.in_ok-asked.asked.digests c.in_ok-settled.field-0.changes c.in_ok-asked.asked.changes_digest c.in_ok-settled.field-0.behind c.in_ok-asked.asked.behind c.args.today
+    c.in_ok-asked.asked.basis c.in_ok-asked.ensures.basis c.in_ok-asked.asked.imprints c.in_ok-asked.ensures.imprints c.in_ok-asked.asked.changes_imprint c.in_ok-asked.ensures.changed c.in_ok-asked.asked.behind c.in_ok-asked.asked.earlier c.args.besides.now.journal (g.R.Read.remaining c.args.resumed.now) c.args.given c.in_ok-asked.ensures.ok c.in_ok-asked.ensures.behind c.in_ok-asked.ensures.earlier journal entry said (same_texts c.in_ok-settled.field-0.basis c.in_ok-asked.asked.basis c.as_slice.result.now c.in_ok-asked.asked.imprints c.in_ok-settled.field-0.changes c.in_ok-asked.asked.changes_imprint c.in_ok-settled.field-0.behind c.in_ok-asked.asked.behind c.args.today
     c.in_ok-settled.field-0.earlier c.in_ok-asked.asked.earlier c.as_slice-2.result.now c.in_ok-settled.field-0.settled.journal c.deref-2.result.now c.in_ok-settled.field-0.replies.items
-    c.in_ok-settled.ensures.basis (c.as_slice.ensures ∙ c.in_ok-settled.ensures.digests) c.in_ok-settled.ensures.changes c.in_ok-settled.ensures.behind c.in_ok-settled.ensures.earlier c.as_slice-2.ensures c.deref-2.ensures.value journal entry said t))
+    c.in_ok-settled.ensures.basis (c.as_slice.ensures ∙ c.in_ok-settled.ensures.imprints) c.in_ok-settled.ensures.changes c.in_ok-settled.ensures.behind c.in_ok-settled.ensures.earlier c.as_slice-2.ensures c.deref-2.ensures.value journal entry said t))
     _ c.put_sealed.result c.put_sealed.ensures.large
 
 pub returns-clause-device : goal.returns-clause-device
@@ -49,9 +49,9 @@ returns-clause-device g c =
     (map g.C.Read.remaining c.args.scripts.now) (g.D.Read.remaining c.args.changes.now) c.in_ok-asked.asked.flights c.in_ok-asked.asked.past.grid c.in_ok-asked.asked.past.journal c.in_ok-asked.asked.scripts c.in_ok-asked.asked.changes.items
     c.in_ok-settled.field-0.settled.journal c.in_ok-settled.field-0.settled.receipts c.in_ok-settled.field-0.replies.items
     (record { is_history = c.in_ok-settled.ensures.ok; are_entries = c.in_ok-settled.ensures.entries; is_replied = c.in_ok-settled.ensures.replies })
-    c.in_ok-asked.asked.basis c.in_ok-asked.ensures.basis c.in_ok-asked.asked.digests c.in_ok-asked.ensures.digests c.in_ok-asked.asked.changes_digest c.in_ok-asked.ensures.changed c.in_ok-asked.asked.behind c.in_ok-asked.asked.earlier c.args.besides.now.journal (g.R.Read.remaining c.args.resumed.now) c.args.given c.in_ok-asked.ensures.ok c.in_ok-asked.ensures.behind c.in_ok-asked.ensures.earlier journal entry said (same_texts c.in_ok-settled.field-0.basis c.in_ok-asked.asked.basis c.as_slice.result.now c.in_ok-asked.asked.digests c.in_ok-settled.field-0.changes c.in_ok-asked.asked.changes_digest c.in_ok-settled.field-0.behind c.in_ok-asked.asked.behind c.args.today
+    c.in_ok-asked.asked.basis c.in_ok-asked.ensures.basis c.in_ok-asked.asked.imprints c.in_ok-asked.ensures.imprints c.in_ok-asked.asked.changes_imprint c.in_ok-asked.ensures.changed c.in_ok-asked.asked.behind c.in_ok-asked.asked.earlier c.args.besides.now.journal (g.R.Read.remaining c.args.resumed.now) c.args.given c.in_ok-asked.ensures.ok c.in_ok-asked.ensures.behind c.in_ok-asked.ensures.earlier journal entry said (same_texts c.in_ok-settled.field-0.basis c.in_ok-asked.asked.basis c.as_slice.result.now c.in_ok-asked.asked.imprints c.in_ok-settled.field-0.changes c.in_ok-asked.asked.changes_imprint c.in_ok-settled.field-0.behind c.in_ok-asked.asked.behind c.args.today
     c.in_ok-settled.field-0.earlier c.in_ok-asked.asked.earlier c.as_slice-2.result.now c.in_ok-settled.field-0.settled.journal c.deref-2.result.now c.in_ok-settled.field-0.replies.items
-    c.in_ok-settled.ensures.basis (c.as_slice.ensures ∙ c.in_ok-settled.ensures.digests) c.in_ok-settled.ensures.changes c.in_ok-settled.ensures.behind c.in_ok-settled.ensures.earlier c.as_slice-2.ensures c.deref-2.ensures.value journal entry said t))
+    c.in_ok-settled.ensures.basis (c.as_slice.ensures ∙ c.in_ok-settled.ensures.imprints) c.in_ok-settled.ensures.changes c.in_ok-settled.ensures.behind c.in_ok-settled.ensures.earlier c.as_slice-2.ensures c.deref-2.ensures.value journal entry said t))
     (FailsSealedResume c.args.besides.now g.S.Read.remaining g.L.Read.remaining c.args.inputs.now c.args.today (g.A.Read.remaining c.args.after.now) (g.R.Read.remaining c.args.resumed.now) (map g.C.Read.remaining c.args.scripts.now)
     (HasFirstLoadFailed g.S.Read.remaining g.S.Failures.failure_count g.L.Failures.failure_count c.args.inputs.now c.read_resumed.new.inputs) (HasFailed g.A.Failures.failure_count c.args.after.now c.read_resumed.new.after)
     (HasFailed g.R.Failures.failure_count c.args.resumed.now c.read_resumed.new.journal)
@@ -90,3 +90,24 @@ returns-in_err-settled-clause-only g c = keeps_none c.args.keeps _ _
 
 pub returns-in_err-settled-clause-only_seal : goal.returns-in_err-settled-clause-only_seal
 returns-in_err-settled-clause-only_seal g c = keeps_none c.args.keeps _ _
+
+pub put_sealed-requires-clause-scripts : goal.put_sealed-requires-clause-scripts
+put_sealed-requires-clause-scripts g c =
+    few_imprints g.C.Read.remaining c.args.scripts.now c.in_ok-asked.asked.imprints c.as_slice.result.now
+    c.in_ok-asked.ensures.imprints (c.as_slice.ensures ∙ c.in_ok-settled.ensures.imprints) c.requires.scripts.1
+
+pub put_sealed-requires-clause-imprint : goal.put_sealed-requires-clause-imprint
+put_sealed-requires-clause-imprint g c =
+    same_front c.in_ok-settled.field-0.imprint c.in_ok-settled.field-0.text.items c.deref.result.now c.in_ok-settled.ensures.imprint c.deref.ensures.value
+
+pub returns-clause-once : goal.returns-clause-once
+returns-clause-once g c = on_ok c.put_sealed.result _ c.in_ok-asked.ensures.once
+
+pub returns-clause-sealed : goal.returns-clause-sealed
+returns-clause-sealed g c = on_ok c.put_sealed.result _ c.in_ok-asked.ensures.sealed
+
+pub returns-clause-fault : goal.returns-clause-fault
+returns-clause-fault g c = never_of_input _ c.put_sealed.result c.put_sealed.ensures.kind
+
+pub returns-clause-judged : goal.returns-clause-judged
+returns-clause-judged g c = never_behind _ c.put_sealed.result c.put_sealed.ensures.kind

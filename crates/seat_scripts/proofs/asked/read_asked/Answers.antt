@@ -1,4 +1,4 @@
-use Rattle.std.proofs.Common.{true, false, map, refl}
+use Rattle.std.proofs.Common.{true, false, map, refl, sym, ◌∙◌}
 use Rattle.std.proofs.lemmas.Result.{err_from_is_err_and}
 use Rattle.seat_scripts.proofs.Inputs.{asked_of}
 use Rattle.seat_scripts.proofs.Seals.{agrees, repeated_of, sealed_again, sealed_changes_fail, sealed_large_changes}
@@ -35,10 +35,10 @@ returns-in_err-once-clause-fault g c =
     (agrees set limits after c.args.inputs.now.first c.args.inputs.now.days loaded.loaded.flights loaded.loaded.grid c.args.beside.now loaded.basis c.in_ok-loaded.ensures.ok (c.in_ok-loaded.ensures.basis refl) c.in_ok-past.ensures.sealed)
     (asked_of set limits after c.args.inputs.now.first c.args.inputs.now.days c.args.today texts changing loaded.loaded.flights loaded.loaded.grid c.in_ok-loaded.ensures.ok known.past.journal c.in_ok-past.ensures.past read.scripts c.in-Ok.ensures.ok
     known.past.grid made.changes.items c.in_ok-past.ensures.grid c.in-Ok-limit_changes.ensures.ok)
-    (repeated_of true c.args.beside.now after texts read.digests c.as_slice.result.now changing made.digest known.last c.in_ok-past.ensures.last c.in-Ok.ensures.digests c.in-Ok-limit_changes.ensures.digest c.as_slice.ensures c.in_err-once.ensures.repeated)
+    (repeated_of true c.args.beside.now after texts changing known.last read.is_booked made.are_booked c.in_ok-past.ensures.last c.in-Ok.ensures.booked c.in-Ok-limit_changes.ensures.booked (sym c.in_err-once.ensures.repeated ∙ c.either.ensures))
     c.in_err-once.ensures.given c.in_err-once.ensures.fault)
 
 pub returns-clause-once : goal.returns-clause-once
 returns-clause-once g c = λ given.
-    repeated_of false c.args.beside.now (g.A.Read.remaining c.args.after.now) (map g.C.Read.remaining c.args.scripts.now) c.in-Ok.scripts.digests c.as_slice.result.now (g.D.Read.remaining c.args.changes.now) c.in-Ok-limit_changes.changes.digest c.in_ok-past.field-0.last
-    c.in_ok-past.ensures.last c.in-Ok.ensures.digests c.in-Ok-limit_changes.ensures.digest c.as_slice.ensures (c.in_ok-once.ensures.ok given)
+    repeated_of false c.args.beside.now (g.A.Read.remaining c.args.after.now) (map g.C.Read.remaining c.args.scripts.now) (g.D.Read.remaining c.args.changes.now) c.in_ok-past.field-0.last
+    c.in-Ok.scripts.is_booked c.in-Ok-limit_changes.changes.are_booked c.in_ok-past.ensures.last c.in-Ok.ensures.booked c.in-Ok-limit_changes.ensures.booked (sym (c.in_ok-once.ensures.ok given) ∙ c.either.ensures)

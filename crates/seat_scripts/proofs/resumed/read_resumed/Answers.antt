@@ -1,4 +1,4 @@
-use Rattle.std.proofs.Common.{None, Some, inl, inr, map, refl}
+use Rattle.std.proofs.Common.{None, Some, ap, inl, inr, map, refl}
 use Rattle.std.proofs.lemmas.Result.{err_from_is_err_and}
 use Rattle.seat_scripts.proofs.OneTaken.{for_each, for_taken, with_taken}
 use Rattle.seat_scripts.proofs.Judged.{judged, never_of_changes, never_of_reading, never_of_seal, refused_by_runs}
@@ -69,7 +69,7 @@ returns-in_err-rest-clause-fault g c =
     (λ xs ys older zs. ForTaken c.args.given c.args.besides.now.journal zs (λ more. IsRefusedResume xs ys first days c.args.today older more zs texts changing fault)) fault c.in_ok-flights.ensures.sealed
     (for_taken (λ more xs ys older zs. IsRefusedResume xs ys first days c.args.today older more zs texts changing fault) set limits after journal c.args.given c.args.besides.now.journal c.in_ok-flights.field-0.more c.in_ok-flights.ensures.more (no_rest_still set limits after journal first days c.args.today c.in_ok-flights.field-0.more texts changing
     c.in_ok-flights.field-0.flights c.in_ok-flights.field-0.older c.in_ok-flights.field-0.core c.in_ok-flights.field-0.scripts c.in_ok-flights.ensures.ok
-    c.in-Ok.changes.changes.items c.in-Ok.ensures.ok c.as_slice-2.result.now c.deref.result.now c.in_ok-flights.field-0.more c.as_slice-2.ensures c.deref.ensures.value refl
+    c.in-Ok.changes.changes.items c.in-Ok.ensures.ok c.as_slice.result.now c.deref.result.now c.in_ok-flights.field-0.more c.as_slice.ensures c.deref.ensures.value refl
     fault c.in_err-rest.ensures.fault input))))
 
 pub returns-clause-ok : goal.returns-clause-ok
@@ -88,8 +88,8 @@ returns-clause-ok g c =
     set limits after journal c.args.given c.args.besides.now.journal more c.in_ok-flights.ensures.more
     (asked_still set limits after journal first days c.args.today more texts changing
     c.in_ok-flights.field-0.flights c.in_ok-flights.field-0.older c.in_ok-flights.field-0.core c.in_ok-flights.field-0.scripts c.in_ok-flights.ensures.ok
-    c.in-Ok.changes.changes.items c.in-Ok.ensures.ok c.as_slice-2.result.now c.deref.result.now more c.in_ok-rest.rest.scripts c.in_ok-rest.rest.changes.items
-    c.as_slice-2.ensures c.deref.ensures.value refl c.in_ok-rest.ensures.ok)
+    c.in-Ok.changes.changes.items c.in-Ok.ensures.ok c.as_slice.result.now c.deref.result.now more c.in_ok-rest.rest.scripts c.in_ok-rest.rest.changes.items
+    c.as_slice.ensures c.deref.ensures.value refl c.in_ok-rest.ensures.ok)
 
 pub returns-clause-behind : goal.returns-clause-behind
 returns-clause-behind g c =
@@ -143,7 +143,8 @@ returns-in_err-of_runs-clause-fault g c =
     (judged set limits after journal first days c.args.today texts changing c.args.given c.args.besides.now c.args.again
     c.in_ok-flights.field-0.flights c.in_ok-flights.field-0.older c.in_ok-flights.field-0.core c.in_ok-flights.field-0.scripts c.in_ok-flights.ensures.ok
     c.in_ok-flights.field-0.known c.in_ok-flights.ensures.known c.in_ok-flights.field-0.more c.in_ok-flights.ensures.taken
-    c.in_ok-flights.field-0.digests c.as_slice.result.now c.in_ok-flights.ensures.digests c.as_slice.ensures c.in-Ok.changes.digest c.in-Ok.ensures.digest
+    c.in_ok-flights.field-0.is_booked c.in-Ok.changes.are_booked c.either-is_repeated.result c.in_ok-flights.ensures.booked
+    (Some c.lines_ahead.result) (ap Some c.lines_ahead.ensures) c.in-Ok.ensures.booked c.either-is_repeated.ensures
     (Some said.0) said.2)
     said.1))
 
@@ -160,7 +161,8 @@ returns-clause-once g c =
     judged set limits after journal first days c.args.today texts changing c.args.given c.args.besides.now c.args.again
     c.in_ok-flights.field-0.flights c.in_ok-flights.field-0.older c.in_ok-flights.field-0.core c.in_ok-flights.field-0.scripts c.in_ok-flights.ensures.ok
     c.in_ok-flights.field-0.known c.in_ok-flights.ensures.known c.in_ok-flights.field-0.more c.in_ok-flights.ensures.taken
-    c.in_ok-flights.field-0.digests c.as_slice.result.now c.in_ok-flights.ensures.digests c.as_slice.ensures c.in-Ok.changes.digest c.in-Ok.ensures.digest
+    c.in_ok-flights.field-0.is_booked c.in-Ok.changes.are_booked c.either-is_repeated.result c.in_ok-flights.ensures.booked
+    (Some c.lines_ahead.result) (ap Some c.lines_ahead.ensures) c.in-Ok.ensures.booked c.either-is_repeated.ensures
     None c.in_ok-of_runs.ensures.ok
 
 pub returns-clause-earlier : goal.returns-clause-earlier
@@ -201,5 +203,6 @@ returns-in_err-rest-clause-judged g c =
     rw (p.1, p.2) (λ behind. judged set limits after journal first days c.args.today texts changing c.args.given c.args.besides.now c.args.again
     c.in_ok-flights.field-0.flights c.in_ok-flights.field-0.older c.in_ok-flights.field-0.core c.in_ok-flights.field-0.scripts c.in_ok-flights.ensures.ok
     c.in_ok-flights.field-0.known c.in_ok-flights.ensures.known c.in_ok-flights.field-0.more c.in_ok-flights.ensures.taken
-    c.in_ok-flights.field-0.digests c.as_slice.result.now c.in_ok-flights.ensures.digests c.as_slice.ensures c.in-Ok.changes.digest c.in-Ok.ensures.digest
+    c.in_ok-flights.field-0.is_booked c.in-Ok.changes.are_booked c.either-is_repeated.result c.in_ok-flights.ensures.booked
+    (Some c.lines_ahead.result) (ap Some c.lines_ahead.ensures) c.in-Ok.ensures.booked c.either-is_repeated.ensures
     None c.in_ok-of_runs.ensures.ok)

@@ -4,4 +4,4 @@ use Rattle.seat_seal.proofs.spelling.put_script.Goals as goal
 
 pub returns-clause-text : goal.returns-clause-text
 unfolding script_text
-returns-clause-text c = rw (c.put-3.ensures.text, c.put_digest.ensures.text, c.put-2.ensures.text, c.put_number.ensures.text, c.put.ensures.text) (simp append_assoc)
+returns-clause-text c = rw (c.put_imprint_line.ensures.text, c.put_number.ensures.text, c.put.ensures.text) (simp append_assoc)

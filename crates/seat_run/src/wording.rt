@@ -1,0 +1,80 @@
+//! The texts of a run: its journal with the imprint of it, and beside these, on another thread, the replies.
+ghost use Rattle.std.specs.Prelude.{◌≡◌, ◌≤◌, IfErr, IfOk, length};
+ghost use Rattle.seat_desk.specs.FlightsDesk.{IsText};
+ghost use Rattle.seat_journal.specs.Text.{journal_text};
+ghost use Rattle.seat_scripts.specs.Answering.{AreAllAnswerable};
+ghost use Rattle.seat_scripts.specs.Going.{behind};
+ghost use Rattle.seat_scripts.specs.RunDesk.{AreSessions};
+ghost use Rattle.seat_seal.specs.Fronts.{front_of};
+ghost use Rattle.seat_seal.specs.Imprints.{imprint_of};
+
+use crate::replies::replies;
+use crate::sealing::journal_bytes;
+use airimp_lines::Requests;
+use seat_desk::DeskFault;
+use seat_host::Receipts;
+use seat_journal::Entry;
+use seat_scripts::Past;
+use seat_seal::{Imprint, front_of, imprint_of};
+use ssim_flights::Flights;
+use std::alloc::{AllocError, Global};
+use std::thread::{Threads, join};
+
+/// The text of a journal, the imprint of its head and entries, and the replies.
+#[derive(Drop)]
+pub(crate) struct Texts {
+    pub text: Vec<u8>,
+    pub imprint: Imprint,
+    pub replies: Vec<u8>,
+}
+
+/// Words the journal and takes its imprint on a thread of their own, where one can be had, and beside them words the replies.
+pub(crate) fn word_beside<X: Threads>(
+    rt: &X,
+    alloc: Global,
+    flights: &Flights,
+    past: &Past,
+    scripts: &[Requests],
+    journal: &[Entry],
+    receipts: &[Receipts],
+) -> Result<Texts, DeskFault>
+    requires few { length receipts.now ≤ 9 }
+    requires lines { AreAllAnswerable flights.now scripts.now journal.now (behind past.now.calls receipts.now) }
+    ensures text { IfOk result (λ t. t.text.items ≡ journal_text journal.now) }
+    ensures imprint { IfOk result (λ t. t.imprint ≡ imprint_of (front_of t.text.items)) }
+    ensures replies { IfOk result (λ t. IsText (AreSessions flights.now scripts.now journal.now) 0
+        (behind past.now.calls receipts.now) t.replies.items) }
+    ensures memory { IfErr result (λ f. f ≡ DeskFault.Memory) }
+{
+    let there = || -> Result<(Vec<u8>, Imprint), DeskFault>
+        ensures text { IfOk result (λ w. w.0.items ≡ journal_text journal.entry.now) }
+        ensures imprint { IfOk result (λ w. w.1 ≡ imprint_of (front_of w.0.items)) }
+        ensures memory { IfErr result (λ f. f ≡ DeskFault.Memory) }
+    { word(alloc, journal) };
+    let here = || -> Result<Vec<u8>, AllocError>
+        requires { (length receipts.now ≤ 9)
+            × AreAllAnswerable flights.now scripts.now journal.now (behind past.now.calls receipts.now) }
+        ensures { IfOk result (λ text. IsText (AreSessions flights.entry.now scripts.entry.now journal.entry.now) 0
+            (behind past.entry.now.calls receipts.entry.now) text.items) }
+    { replies(alloc, flights, past, scripts, journal, receipts) };
+    let (worded, replies) = join(rt, there, here);
+    let (text, imprint) = worded?;
+    match replies {
+        Ok(replies) => Ok(Texts {
+            text,
+            imprint,
+            replies,
+        }),
+        Err(_) => Err(DeskFault::Memory),
+    }
+}
+
+fn word(alloc: Global, journal: &[Entry]) -> Result<(Vec<u8>, Imprint), DeskFault>
+    ensures text { IfOk result (λ w. w.0.items ≡ journal_text journal.now) }
+    ensures imprint { IfOk result (λ w. w.1 ≡ imprint_of (front_of w.0.items)) }
+    ensures memory { IfErr result (λ f. f ≡ DeskFault.Memory) }
+{
+    let text = journal_bytes(alloc, journal)?;
+    let imprint = imprint_of(front_of(&text));
+    Ok((text, imprint))
+}
