@@ -23,7 +23,7 @@ pub fn tell_copies(rt: &HostRuntime, seal: &SealOut) {
     };
     if let Some((one, other)) = copies_in(&text) {
         let _ = eprintln!(rt;
-            "seatdesk: note: sessions {one} and {other} have the same script, and what it asks is booked for each"
+            "seatdesk: note: sessions {one} and {other} have the same script, and each books it"
         );
     }
 }
