@@ -709,6 +709,18 @@ const WORDS: &[Explanation] = &[
     },
     Explanation {
         behind: "E2",
+        code: "by",
+        numbers: NONE,
+        text: "--by of loads is not leg, flight or day.",
+    },
+    Explanation {
+        behind: "E2",
+        code: "form",
+        numbers: NONE,
+        text: "More than one of --csv, --json and --bars is asked for, and an answer has one form; or --bars with --by, and sums have none.",
+    },
+    Explanation {
+        behind: "E2",
         code: "words",
         numbers: NONE,
         text: "A word of the command line is not UTF-8.",

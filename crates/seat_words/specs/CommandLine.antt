@@ -66,19 +66,24 @@ unfoldable pub cover_app : App
 cover_app = horizon_app (codes "cover")
 
 unfoldable pub rooms_app : App
-rooms_app = with_rule (with_rule (with_rule (with_rule (with_rule (horizon_app (codes "rooms"))
+rooms_app = with_rule (with_rule (with_rule (with_rule (with_rule (with_rule (with_rule (horizon_app (codes "rooms"))
     (optional (codes "day")))
     (optional (codes "pair")))
     (flag (codes "bars")))
+    (flag (codes "csv")))
+    (flag (codes "json")))
     (flag (codes "open")))
     (optional_value (codes "journal"))
 
 unfoldable pub loads_app : App
-loads_app = with_rule (with_rule (with_rule (with_rule (with_rule (with_rule (horizon_app (codes "loads"))
+loads_app = with_rule (with_rule (with_rule (with_rule (with_rule (with_rule (with_rule (with_rule (with_rule (horizon_app (codes "loads"))
     (optional (codes "flight")))
     (optional (codes "day")))
     (optional (codes "pair")))
+    (optional (codes "by")))
     (flag (codes "bars")))
+    (flag (codes "csv")))
+    (flag (codes "json")))
     (flag (codes "open")))
     (optional_value (codes "journal"))
 
@@ -101,10 +106,12 @@ serve_app = with_rule (with_rule (with_rule (horizon_app (codes "serve"))
     (required_option (codes "desk"))
 
 unfoldable pub bookings_app : App
-bookings_app = with_rule (with_rule (with_rule (with_rule (with_rule (horizon_app (codes "bookings"))
+bookings_app = with_rule (with_rule (with_rule (with_rule (with_rule (with_rule (with_rule (horizon_app (codes "bookings"))
     (optional_several (codes "locator")))
     (optional (codes "flight")))
     (optional (codes "day")))
+    (flag (codes "csv")))
+    (flag (codes "json")))
     (flag (codes "open")))
     (required_value (codes "journal"))
 
@@ -137,15 +144,19 @@ replies_app = with_rule (with_rule (with_rule (with_rule (with_rule (with_rule (
     (optional_values (codes "scripts"))
 
 unfoldable pub waiting_app : App
-waiting_app = with_rule (with_rule (with_rule (with_rule (horizon_app (codes "waiting"))
+waiting_app = with_rule (with_rule (with_rule (with_rule (with_rule (with_rule (horizon_app (codes "waiting"))
     (optional (codes "flight")))
     (optional (codes "day")))
+    (flag (codes "csv")))
+    (flag (codes "json")))
     (flag (codes "open")))
     (required_value (codes "journal"))
 
 unfoldable pub history_app : App
-history_app = with_rule (with_rule (with_rule (horizon_app (codes "history"))
+history_app = with_rule (with_rule (with_rule (with_rule (with_rule (horizon_app (codes "history"))
     (required_option (codes "locator")))
+    (flag (codes "csv")))
+    (flag (codes "json")))
     (flag (codes "open")))
     (required_value (codes "journal"))
 

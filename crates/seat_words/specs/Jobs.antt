@@ -6,6 +6,7 @@ use Rattle.std.specs.Option.{option_map, option_map_or}
 use Rattle.clap.specs.Words.{Row, Text, all_of, first_of}
 use Rattle.seat_words.specs.declared.job.Horizon.{Horizon}
 use Rattle.seat_words.specs.declared.job.Job.{Job}
+use Rattle.seat_words.specs.declared.job.Shape.{Shape}
 use Rattle.seat_words.specs.declared.job.Job.TheVariants.{Ladder, Check, Flights, Cover, Rooms, Loads, Run, Serve, Bookings, Waiting, History, Audit, Seal, Recover, Replies, Told, Why, Explain}
 
 -- a command that clap found in the words, and what it found of the command's values
@@ -43,6 +44,10 @@ IsOver rows over = (first_of (codes "set") rows ≡ Some over.set.now)
     × (first_of (codes "first") rows ≡ Some over.first.now)
     × (first_of (codes "days") rows ≡ Some over.days.now)
 
+-- the form that is asked for
+abbrev pub IsShaped : List Row → Shape → Type 0
+IsShaped rows shape = (is_flagged (codes "csv") rows ≡ shape.csv) × (is_flagged (codes "json") rows ≡ shape.json)
+
 -- the job is the command that was named, with the values that clap found
 abbrev pub Asks : Job → Line → Type 0
 Asks Ladder line = line.0 ≡ codes "ladder"
@@ -52,19 +57,22 @@ Asks (Flights set first days) line = (line.0 ≡ codes "flights")
     × Has line (codes "first") first.now
     × Has line (codes "days") days.now
 Asks (Cover over) line = (line.0 ≡ codes "cover") × IsOver line.1 over
-Asks (Rooms over day pair bars is_open journal) line = (line.0 ≡ codes "rooms")
+Asks (Rooms over day pair bars shape is_open journal) line = (line.0 ≡ codes "rooms")
     × IsOver line.1 over
     × MayHave line (codes "day") (option_map (λ text. text.now) day)
     × MayHave line (codes "pair") (option_map (λ text. text.now) pair)
     × HasFlag line (codes "bars") bars
+    × IsShaped line.1 shape
     × HasFlag line (codes "open") is_open
     × MayHave line (codes "journal") (option_map (λ text. text.now) journal)
-Asks (Loads over flight day pair bars is_open journal) line = (line.0 ≡ codes "loads")
+Asks (Loads over flight day pair by bars shape is_open journal) line = (line.0 ≡ codes "loads")
     × IsOver line.1 over
     × MayHave line (codes "flight") (option_map (λ text. text.now) flight)
     × MayHave line (codes "day") (option_map (λ text. text.now) day)
     × MayHave line (codes "pair") (option_map (λ text. text.now) pair)
+    × MayHave line (codes "by") (option_map (λ text. text.now) by)
     × HasFlag line (codes "bars") bars
+    × IsShaped line.1 shape
     × HasFlag line (codes "open") is_open
     × MayHave line (codes "journal") (option_map (λ text. text.now) journal)
 Asks (Run over after behind resume today journal changes no_clobber again scripts) line = (line.0 ≡ codes "run")
@@ -83,22 +91,25 @@ Asks (Serve over today journal desk) line = (line.0 ≡ codes "serve")
     × Has line (codes "today") today.now
     × Has line (codes "journal") journal.now
     × Has line (codes "desk") desk.now
-Asks (Bookings over locators flight day is_open journal) line = (line.0 ≡ codes "bookings")
+Asks (Bookings over locators flight day shape is_open journal) line = (line.0 ≡ codes "bookings")
     × IsOver line.1 over
     × HasAny line (codes "locator") locators
     × MayHave line (codes "flight") (option_map (λ text. text.now) flight)
     × MayHave line (codes "day") (option_map (λ text. text.now) day)
+    × IsShaped line.1 shape
     × HasFlag line (codes "open") is_open
     × Has line (codes "journal") journal.now
-Asks (Waiting over flight day is_open journal) line = (line.0 ≡ codes "waiting")
+Asks (Waiting over flight day shape is_open journal) line = (line.0 ≡ codes "waiting")
     × IsOver line.1 over
     × MayHave line (codes "flight") (option_map (λ text. text.now) flight)
     × MayHave line (codes "day") (option_map (λ text. text.now) day)
+    × IsShaped line.1 shape
     × HasFlag line (codes "open") is_open
     × Has line (codes "journal") journal.now
-Asks (History over locator is_open journal) line = (line.0 ≡ codes "history")
+Asks (History over locator shape is_open journal) line = (line.0 ≡ codes "history")
     × IsOver line.1 over
     × Has line (codes "locator") locator.now
+    × IsShaped line.1 shape
     × HasFlag line (codes "open") is_open
     × Has line (codes "journal") journal.now
 Asks (Audit over after behind today sealed is_open journal scripts) line = (line.0 ≡ codes "audit")

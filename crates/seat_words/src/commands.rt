@@ -92,6 +92,12 @@ const PAIR_HELP: &str = "The places between these two stations alone, as LHRJFK"
 
 const BARS_HELP: &str = "Shows the seats held of each limit as a bar, behind each leg";
 
+const CSV_HELP: &str = "Writes the rows as CSV, below a line of the columns' names";
+
+const JSON_HELP: &str = "Writes the rows as JSON, an object a line";
+
+const BY_HELP: &str = "What the loads are summed by: leg, flight or day";
+
 const LEG_DAY_HELP: &str = "The legs that depart on this day alone, as 2024-06-01";
 
 const LEG_PAIR_HELP: &str = "The legs between these two stations alone, as LHRJFK";
@@ -267,6 +273,8 @@ fn rooms_command<'a>(alloc: Global) -> Result<Command<'a>, AllocError>
     let rooms = with_argument(rooms, optional_option(alloc, "day", "DATE", DAY_HELP));
     let rooms = with_argument(rooms, optional_option(alloc, "pair", "PAIR", PAIR_HELP));
     let rooms = with_argument(rooms, flag(alloc, "bars", BARS_HELP));
+    let rooms = with_argument(rooms, flag(alloc, "csv", CSV_HELP));
+    let rooms = with_argument(rooms, flag(alloc, "json", JSON_HELP));
     let rooms = with_argument(rooms, flag(alloc, "open", OPEN_HELP));
     with_argument(
         rooms,
@@ -289,7 +297,10 @@ fn loads_command<'a>(alloc: Global) -> Result<Command<'a>, AllocError>
     );
     let loads = with_argument(loads, optional_option(alloc, "day", "DATE", LEG_DAY_HELP));
     let loads = with_argument(loads, optional_option(alloc, "pair", "PAIR", LEG_PAIR_HELP));
+    let loads = with_argument(loads, optional_option(alloc, "by", "BY", BY_HELP));
     let loads = with_argument(loads, flag(alloc, "bars", BARS_HELP));
+    let loads = with_argument(loads, flag(alloc, "csv", CSV_HELP));
+    let loads = with_argument(loads, flag(alloc, "json", JSON_HELP));
     let loads = with_argument(loads, flag(alloc, "open", OPEN_HELP));
     with_argument(
         loads,
@@ -361,6 +372,8 @@ fn bookings_command<'a>(alloc: Global) -> Result<Command<'a>, AllocError>
         optional_option(alloc, "flight", "FLIGHT", FLIGHT_HELP),
     );
     let bookings = with_argument(bookings, optional_option(alloc, "day", "DATE", DAY_HELP));
+    let bookings = with_argument(bookings, flag(alloc, "csv", CSV_HELP));
+    let bookings = with_argument(bookings, flag(alloc, "json", JSON_HELP));
     let bookings = with_argument(bookings, flag(alloc, "open", OPEN_HELP));
     with_argument(
         bookings,
@@ -382,6 +395,8 @@ fn waiting_command<'a>(alloc: Global) -> Result<Command<'a>, AllocError>
         optional_option(alloc, "flight", "FLIGHT", FLIGHT_HELP),
     );
     let waiting = with_argument(waiting, optional_option(alloc, "day", "DATE", DAY_HELP));
+    let waiting = with_argument(waiting, flag(alloc, "csv", CSV_HELP));
+    let waiting = with_argument(waiting, flag(alloc, "json", JSON_HELP));
     let waiting = with_argument(waiting, flag(alloc, "open", OPEN_HELP));
     with_argument(
         waiting,
@@ -402,6 +417,8 @@ fn history_command<'a>(alloc: Global) -> Result<Command<'a>, AllocError>
         history,
         wanted_option(alloc, "locator", "LOCATOR", HISTORY_LOCATOR_HELP),
     );
+    let history = with_argument(history, flag(alloc, "csv", CSV_HELP));
+    let history = with_argument(history, flag(alloc, "json", JSON_HELP));
     let history = with_argument(history, flag(alloc, "open", OPEN_HELP));
     with_argument(
         history,

@@ -30,6 +30,10 @@ pub enum WordFault {
     BadDesk,
     /// The file of the journal is an input or that of the replies, is another run's, or may not be replaced.
     BadJournal,
+    /// What the loads are summed by is none of those that they may be.
+    BadBy,
+    /// More than one form of the answer is asked for.
+    BadForm,
     /// A word is not UTF-8.
     BadWords,
 }
@@ -56,6 +60,8 @@ impl fmt::Display for WordFault {
             WordFault::BadSession => "E2 session",
             WordFault::BadDesk => "E2 desk",
             WordFault::BadJournal => "E2 journal",
+            WordFault::BadBy => "E2 by",
+            WordFault::BadForm => "E2 form",
             WordFault::BadWords => "E2 words",
         })
     }

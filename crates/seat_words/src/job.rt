@@ -4,7 +4,7 @@ ghost use Rattle.clap.specs.Walk.{texts};
 ghost use Rattle.clap.specs.Words.{FailsBy, all_of, fault_of, first_of, found_of, kind_of, matches_of, rows_of, subcommand_of, subcommand_rows_of, takes};
 ghost use Rattle.clap.specs.declared.error.kind.ErrorKind.TheVariants.{InvalidValue, OutOfMemory};
 ghost use Rattle.seat_words.specs.CommandLine.{seatdesk_app};
-ghost use Rattle.seat_words.specs.Jobs.{Asks, IsOver, has_values, horizon_values, is_answerable, is_complete, is_flagged, is_verbose};
+ghost use Rattle.seat_words.specs.Jobs.{Asks, IsOver, IsShaped, has_values, horizon_values, is_answerable, is_complete, is_flagged, is_verbose};
 
 use super::commands::seatdesk_command;
 use super::several::Several;
@@ -19,6 +19,13 @@ pub struct Horizon<'a> {
     pub limits: &'a str,
     pub first: &'a str,
     pub days: &'a str,
+}
+
+/// In which form an answer is asked for: `[--csv] [--json]`.
+#[derive(Clone, Copy)]
+pub struct Shape {
+    pub csv: bool,
+    pub json: bool,
 }
 
 /// One command of the program, with the values of its options as they were written.
@@ -40,22 +47,26 @@ pub enum Job<'a> {
     Cover {
         over: Horizon<'a>,
     },
-    /// `seatdesk rooms` over a horizon `[--day DATE] [--pair PAIR] [--bars] [--open] [JOURNAL]`
+    /// `seatdesk rooms` over a horizon `[--day DATE] [--pair PAIR] [--bars] [--csv] [--json] [--open] [JOURNAL]`
     Rooms {
         over: Horizon<'a>,
         day: Option<&'a str>,
         pair: Option<&'a str>,
         bars: bool,
+        shape: Shape,
         is_open: bool,
         journal: Option<&'a str>,
     },
-    /// `seatdesk loads` over a horizon `[--flight FLIGHT] [--day DATE] [--pair PAIR] [--bars] [--open] [JOURNAL]`
+    /// `seatdesk loads` over a horizon `[--flight FLIGHT] [--day DATE] [--pair PAIR] [--by BY] [--bars] [--csv] [--json] [--open]
+    /// [JOURNAL]`
     Loads {
         over: Horizon<'a>,
         flight: Option<&'a str>,
         day: Option<&'a str>,
         pair: Option<&'a str>,
+        by: Option<&'a str>,
         bars: bool,
+        shape: Shape,
         is_open: bool,
         journal: Option<&'a str>,
     },
@@ -81,28 +92,31 @@ pub enum Job<'a> {
         journal: &'a str,
         desk: &'a str,
     },
-    /// `seatdesk bookings` over a horizon `[--locator LOCATOR]... [--flight FLIGHT] [--day DATE] [--open] JOURNAL`
+    /// `seatdesk bookings` over a horizon `[--locator LOCATOR]... [--flight FLIGHT] [--day DATE] [--csv] [--json] [--open] JOURNAL`
     Bookings {
         over: Horizon<'a>,
         /// None or more.
         locators: Several<'a>,
         flight: Option<&'a str>,
         day: Option<&'a str>,
+        shape: Shape,
         is_open: bool,
         journal: &'a str,
     },
-    /// `seatdesk waiting` over a horizon `[--flight FLIGHT] [--day DATE] [--open] JOURNAL`
+    /// `seatdesk waiting` over a horizon `[--flight FLIGHT] [--day DATE] [--csv] [--json] [--open] JOURNAL`
     Waiting {
         over: Horizon<'a>,
         flight: Option<&'a str>,
         day: Option<&'a str>,
+        shape: Shape,
         is_open: bool,
         journal: &'a str,
     },
-    /// `seatdesk history` over a horizon `--locator LOCATOR [--open] JOURNAL`
+    /// `seatdesk history` over a horizon `--locator LOCATOR [--csv] [--json] [--open] JOURNAL`
     History {
         over: Horizon<'a>,
         locator: &'a str,
+        shape: Shape,
         is_open: bool,
         journal: &'a str,
     },
@@ -240,6 +254,7 @@ fn job_named<'a>(alloc: Global, name: &str, matches: &ArgMatches<'a>) -> Result<
             day: may_value_of(matches, "day"),
             pair: may_value_of(matches, "pair"),
             bars: flag_of(matches, "bars"),
+            shape: shape_of(matches),
             is_open: flag_of(matches, "open"),
             journal: may_value_of(matches, "journal"),
         },
@@ -248,7 +263,9 @@ fn job_named<'a>(alloc: Global, name: &str, matches: &ArgMatches<'a>) -> Result<
             flight: may_value_of(matches, "flight"),
             day: may_value_of(matches, "day"),
             pair: may_value_of(matches, "pair"),
+            by: may_value_of(matches, "by"),
             bars: flag_of(matches, "bars"),
+            shape: shape_of(matches),
             is_open: flag_of(matches, "open"),
             journal: may_value_of(matches, "journal"),
         },
@@ -275,6 +292,7 @@ fn job_named<'a>(alloc: Global, name: &str, matches: &ArgMatches<'a>) -> Result<
             locators: any_values_of(alloc, matches, "locator")?,
             flight: may_value_of(matches, "flight"),
             day: may_value_of(matches, "day"),
+            shape: shape_of(matches),
             is_open: flag_of(matches, "open"),
             journal: value_of(matches, "journal"),
         },
@@ -282,12 +300,14 @@ fn job_named<'a>(alloc: Global, name: &str, matches: &ArgMatches<'a>) -> Result<
             over: horizon_of(matches),
             flight: may_value_of(matches, "flight"),
             day: may_value_of(matches, "day"),
+            shape: shape_of(matches),
             is_open: flag_of(matches, "open"),
             journal: value_of(matches, "journal"),
         },
         "history" => Job::History {
             over: horizon_of(matches),
             locator: value_of(matches, "locator"),
+            shape: shape_of(matches),
             is_open: flag_of(matches, "open"),
             journal: value_of(matches, "journal"),
         },
@@ -340,6 +360,15 @@ fn job_named<'a>(alloc: Global, name: &str, matches: &ArgMatches<'a>) -> Result<
         _ => unreachable!(),
     };
     Ok(job)
+}
+
+fn shape_of(matches: &ArgMatches<'_>) -> Shape
+    ensures { IsShaped (rows_of (found_of matches.now)) result }
+{
+    Shape {
+        csv: flag_of(matches, "csv"),
+        json: flag_of(matches, "json"),
+    }
 }
 
 fn horizon_of<'a>(matches: &ArgMatches<'a>) -> Horizon<'a>

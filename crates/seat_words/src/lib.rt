@@ -14,7 +14,7 @@ mod several;
 pub use days::{date_word, days_word};
 pub use examples::examples_are_read;
 pub use fault::WordFault;
-pub use job::{CommandLine, Horizon, Job, read_words, wrong_value};
+pub use job::{CommandLine, Horizon, Job, Shape, read_words, wrong_value};
 pub use names::{behind_word, flight_word, line_word, locator_word, pair_word, session_word};
 pub use sessions::{audit_lacks, session_file, sessions_of, sessions_of_run};
 pub use several::Several;

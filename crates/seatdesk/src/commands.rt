@@ -7,16 +7,15 @@ ghost use Rattle.ssim_flights.specs.Right.{IsOfCentury};
 use crate::locale::is_utf_8;
 use crate::replaced::tell_replaced;
 use airline_base::{Day, Locator};
-use desk_questions::{HistoryOf, ToldOf};
+use desk_questions::ToldOf;
 use seat_desk::{DeskFault, Inputs, NO_LINES, Question, answer_question};
 use seat_files::{
     Input, Refusal, SealFile, SealOut, files_taken, is_moved, opened, standard_input,
     standard_output, taken, taken_or, told,
 };
-use seat_lists::{BookingsOf, Designator, WaitingOf, Wanted};
-use seat_loads::LoadsOf;
+use seat_lists::Designator;
 use seat_open::{OpenAudit, OpenQuestion};
-use seat_questions::{Bars, CityPair, Cover, RoomsOf, Why};
+use seat_questions::{Bars, CityPair, Cover, Why};
 use seat_reports::{Audit, desk_check, desk_flights, desk_ladder, desk_seal};
 use seat_words::{
     Horizon, WordFault, date_word, days_word, flight_word, line_word, locator_word, pair_word,
@@ -54,121 +53,6 @@ pub fn flights<'a>(
 pub fn cover<'a>(rt: &HostRuntime, over: &Horizon<'a>) -> Result<(), Refusal<'a>> {
     let days = days_of(over.first, over.days)?;
     answered(rt, over, days, &Cover, None, Looked::PLAIN)
-}
-
-/// The rooms of the places that `--day` and `--pair` keep, with bars where they are asked for. Without a journal they are those
-/// after no line.
-pub fn rooms<'a>(
-    rt: &HostRuntime,
-    over: &Horizon<'a>,
-    day: Option<&str>,
-    pair: Option<&str>,
-    bars: bool,
-    is_open: bool,
-    journal: Option<&'a str>,
-) -> Result<(), Refusal<'a>> {
-    let days = days_of(over.first, over.days)?;
-    let asked = RoomsOf {
-        day: day_asked(day)?,
-        pair: pair_asked(pair)?,
-        bars: bars_asked(rt, bars),
-    };
-    asked_of(rt, over, days, &asked, journal, is_open)
-}
-
-/// How full the legs are that `--flight`, `--day` and `--pair` keep, with bars where they are asked for. Without a journal that is before the first booking.
-pub fn loads<'a>(
-    rt: &HostRuntime,
-    over: &Horizon<'a>,
-    flight: Option<&str>,
-    day: Option<&str>,
-    pair: Option<&str>,
-    bars: bool,
-    is_open: bool,
-    journal: Option<&'a str>,
-) -> Result<(), Refusal<'a>> {
-    let days = days_of(over.first, over.days)?;
-    let asked = LoadsOf {
-        flight: flight_asked(flight)?,
-        day: day_asked(day)?,
-        pair: pair_asked(pair)?,
-        bars: bars_asked(rt, bars),
-    };
-    asked_of(rt, over, days, &asked, journal, is_open)
-}
-
-/// The live bookings of the locators, the flights and the day that are asked for.
-pub fn bookings<'a>(
-    rt: &HostRuntime,
-    over: &Horizon<'a>,
-    locators: &[&str],
-    flight: Option<&str>,
-    day: Option<&str>,
-    is_open: bool,
-    journal: &'a str,
-) -> Result<(), Refusal<'a>> {
-    let days = days_of(over.first, over.days)?;
-    let locators = locators_asked(rt.alloc(), locators)?;
-    let wanted = Wanted {
-        locators: locators.as_slice(),
-        flight: flight_asked(flight)?,
-        day: day_asked(day)?,
-    };
-    asked_of(
-        rt,
-        over,
-        days,
-        &BookingsOf { wanted },
-        Some(journal),
-        is_open,
-    )
-}
-
-/// Who waits, on the flights and the day that are asked for.
-pub fn waiting<'a>(
-    rt: &HostRuntime,
-    over: &Horizon<'a>,
-    flight: Option<&str>,
-    day: Option<&str>,
-    is_open: bool,
-    journal: &'a str,
-) -> Result<(), Refusal<'a>> {
-    let days = days_of(over.first, over.days)?;
-    let wanted = Wanted {
-        locators: &[],
-        flight: flight_asked(flight)?,
-        day: day_asked(day)?,
-    };
-    asked_of(
-        rt,
-        over,
-        days,
-        &WaitingOf { wanted },
-        Some(journal),
-        is_open,
-    )
-}
-
-/// What the lines of a journal did for a locator.
-pub fn history<'a>(
-    rt: &HostRuntime,
-    over: &Horizon<'a>,
-    locator: &str,
-    is_open: bool,
-    journal: &'a str,
-) -> Result<(), Refusal<'a>> {
-    let days = days_of(over.first, over.days)?;
-    let Some(locator) = locator_word(locator) else {
-        return Err(Refusal::from(WordFault::BadLocator));
-    };
-    asked_of(
-        rt,
-        over,
-        days,
-        &HistoryOf { locator },
-        Some(journal),
-        is_open,
-    )
 }
 
 /// What a desk is told of a journal, of its first line or a later one on.
@@ -281,7 +165,7 @@ pub fn seal<'a>(
 }
 
 /// The answer to a question about a journal that may be open.
-fn asked_of<'a, Q: Question>(
+pub fn asked_of<'a, Q: Question>(
     rt: &HostRuntime,
     over: &Horizon<'a>,
     days: (Day, u16),
@@ -427,7 +311,7 @@ fn from_asked(from: Option<&str>) -> Result<u32, WordFault> {
     }
 }
 
-fn locators_asked<'a>(alloc: Global, words: &[&str]) -> Result<Vec<Locator>, Refusal<'a>> {
+pub fn locators_asked<'a>(alloc: Global, words: &[&str]) -> Result<Vec<Locator>, Refusal<'a>> {
     let mut locators = Vec::new(alloc);
     for word in words {
         let Some(locator) = locator_word(word) else {
@@ -440,7 +324,7 @@ fn locators_asked<'a>(alloc: Global, words: &[&str]) -> Result<Vec<Locator>, Ref
     Ok(locators)
 }
 
-fn flight_asked(flight: Option<&str>) -> Result<Option<Designator>, WordFault> {
+pub fn flight_asked(flight: Option<&str>) -> Result<Option<Designator>, WordFault> {
     match flight {
         None => Ok(None),
         Some(word) => match flight_word(word) {
@@ -454,7 +338,7 @@ fn flight_asked(flight: Option<&str>) -> Result<Option<Designator>, WordFault> {
     }
 }
 
-fn day_asked(day: Option<&str>) -> Result<Option<Day>, WordFault> {
+pub fn day_asked(day: Option<&str>) -> Result<Option<Day>, WordFault> {
     match day {
         None => Ok(None),
         Some(word) => match date_word(word) {
@@ -464,7 +348,7 @@ fn day_asked(day: Option<&str>) -> Result<Option<Day>, WordFault> {
     }
 }
 
-fn pair_asked(pair: Option<&str>) -> Result<Option<CityPair>, WordFault> {
+pub fn pair_asked(pair: Option<&str>) -> Result<Option<CityPair>, WordFault> {
     match pair {
         None => Ok(None),
         Some(word) => match pair_word(word) {
@@ -475,7 +359,7 @@ fn pair_asked(pair: Option<&str>) -> Result<Option<CityPair>, WordFault> {
 }
 
 /// Bars, where they are asked for: of blocks where the locale is one of UTF-8.
-fn bars_asked(rt: &HostRuntime, bars: bool) -> Option<Bars> {
+pub fn bars_asked(rt: &HostRuntime, bars: bool) -> Option<Bars> {
     if !bars {
         return None;
     }

@@ -5,6 +5,7 @@
 mod commands;
 mod explain;
 mod heard;
+mod listing;
 mod locale;
 mod noting;
 mod replaced;
@@ -16,6 +17,7 @@ mod undone;
 
 use clap::error::ErrorKind;
 use commands::Looked;
+use listing::Kept;
 use seat_desk::DeskFault;
 use seat_files::Refusal;
 use seat_words::{Job, WordFault, read_words};
@@ -161,42 +163,55 @@ fn carry_out<'a, T: Threads + Wait + Sync>(
             day,
             pair,
             bars,
+            shape,
             is_open,
             journal,
-        } => commands::rooms(rt, over, *day, *pair, *bars, *is_open, *journal)?,
+        } => listing::rooms(rt, over, *day, *pair, *bars, *shape, *is_open, *journal)?,
         Job::Loads {
             over,
             flight,
             day,
             pair,
+            by,
             bars,
+            shape,
             is_open,
             journal,
-        } => commands::loads(rt, over, *flight, *day, *pair, *bars, *is_open, *journal)?,
+        } => {
+            let kept = Kept {
+                flight: *flight,
+                day: *day,
+                pair: *pair,
+            };
+            listing::loads(rt, over, &kept, *by, *bars, *shape, *is_open, *journal)?
+        }
         Job::Bookings {
             over,
             locators,
             flight,
             day,
+            shape,
             is_open,
             journal,
         } => {
             let locators = locators.as_slice();
-            commands::bookings(rt, over, locators, *flight, *day, *is_open, journal)?
+            listing::bookings(rt, over, locators, *flight, *day, *shape, *is_open, journal)?
         }
         Job::Waiting {
             over,
             flight,
             day,
+            shape,
             is_open,
             journal,
-        } => commands::waiting(rt, over, *flight, *day, *is_open, journal)?,
+        } => listing::waiting(rt, over, *flight, *day, *shape, *is_open, journal)?,
         Job::History {
             over,
             locator,
+            shape,
             is_open,
             journal,
-        } => commands::history(rt, over, locator, *is_open, journal)?,
+        } => listing::history(rt, over, locator, *shape, *is_open, journal)?,
         Job::Told {
             over,
             desk,

@@ -1,0 +1,292 @@
+//! The commands whose answer may be a table too, each with its form.
+//! It knows which words name a form, and nothing of what stands in a row.
+ghost use Rattle.std.specs.Prelude.{◌≤◌};
+ghost use Rattle.ssim_flights.specs.Right.{IsOfCentury};
+
+use crate::commands::{
+    asked_of, bars_asked, day_asked, days_of, flight_asked, locators_asked, pair_asked,
+};
+use airline_base::Day;
+use desk_questions::HistoryOf;
+use seat_files::Refusal;
+use seat_lists::{BookingsOf, WaitingOf, Wanted};
+use seat_loads::LoadsOf;
+use seat_questions::RoomsOf;
+use seat_tables::Form;
+use seat_words::{Horizon, Shape, WordFault, locator_word};
+use table_questions::{
+    BookingTable, DaySums, FlightSums, HistoryTable, LegSums, LoadTable, RoomTable, Table, TableOf,
+    WaitingTable,
+};
+
+/// The rooms of the places that `--day` and `--pair` keep, with bars where they are asked for. Without a journal they are those
+/// after no line.
+pub fn rooms<'a>(
+    rt: &HostRuntime,
+    over: &Horizon<'a>,
+    day: Option<&str>,
+    pair: Option<&str>,
+    bars: bool,
+    shape: Shape,
+    is_open: bool,
+    journal: Option<&'a str>,
+) -> Result<(), Refusal<'a>> {
+    let days = days_of(over.first, over.days)?;
+    let rooms = RoomsOf {
+        day: day_asked(day)?,
+        pair: pair_asked(pair)?,
+        bars: bars_asked(rt, bars),
+    };
+    let form = form_asked(shape, bars)?;
+    match form {
+        Some(form) => {
+            let table = RoomTable { rooms };
+            tabled(rt, over, days, &table, form, journal, is_open)
+        }
+        None => asked_of(rt, over, days, &rooms, journal, is_open),
+    }
+}
+
+/// How full the legs are that `--flight`, `--day` and `--pair` keep, with bars where they are asked for, or the sums that `--by` names. Without a journal that is before the first booking.
+pub fn loads<'a>(
+    rt: &HostRuntime,
+    over: &Horizon<'a>,
+    kept: &Kept<'_>,
+    by: Option<&str>,
+    bars: bool,
+    shape: Shape,
+    is_open: bool,
+    journal: Option<&'a str>,
+) -> Result<(), Refusal<'a>> {
+    let days = days_of(over.first, over.days)?;
+    let loads = LoadsOf {
+        flight: flight_asked(kept.flight)?,
+        day: day_asked(kept.day)?,
+        pair: pair_asked(kept.pair)?,
+        bars: bars_asked(rt, bars),
+    };
+    let by = by_asked(by)?;
+    match by {
+        Some(by) => {
+            let form = sums_form(shape, bars)?;
+            summed(rt, over, days, loads, by, form, journal, is_open)
+        }
+        None => {
+            let form = form_asked(shape, bars)?;
+            loaded(rt, over, days, loads, form, journal, is_open)
+        }
+    }
+}
+
+/// Which legs are asked for, as it was written.
+#[derive(Clone, Copy)]
+pub struct Kept<'a> {
+    pub flight: Option<&'a str>,
+    pub day: Option<&'a str>,
+    pub pair: Option<&'a str>,
+}
+
+/// The loads, as text or in a form.
+fn loaded<'a>(
+    rt: &HostRuntime,
+    over: &Horizon<'a>,
+    days: (Day, u16),
+    loads: LoadsOf,
+    form: Option<Form>,
+    journal: Option<&'a str>,
+    is_open: bool,
+) -> Result<(), Refusal<'a>>
+    requires first { IsOfCentury days.0 }
+    requires days { (1 ≤ days.1) × (days.1 ≤ 366) }
+{
+    match form {
+        Some(form) => {
+            let table = LoadTable { loads };
+            tabled(rt, over, days, &table, form, journal, is_open)
+        }
+        None => asked_of(rt, over, days, &loads, journal, is_open),
+    }
+}
+
+/// What loads are summed by.
+#[derive(Clone, Copy)]
+enum By {
+    EachLeg,
+    EachFlight,
+    EachDay,
+}
+
+/// Their sums.
+fn summed<'a>(
+    rt: &HostRuntime,
+    over: &Horizon<'a>,
+    days: (Day, u16),
+    loads: LoadsOf,
+    by: By,
+    form: Form,
+    journal: Option<&'a str>,
+    is_open: bool,
+) -> Result<(), Refusal<'a>>
+    requires first { IsOfCentury days.0 }
+    requires days { (1 ≤ days.1) × (days.1 ≤ 366) }
+{
+    match by {
+        By::EachLeg => {
+            let table = LegSums { loads };
+            tabled(rt, over, days, &table, form, journal, is_open)
+        }
+        By::EachDay => {
+            let table = DaySums { loads };
+            tabled(rt, over, days, &table, form, journal, is_open)
+        }
+        By::EachFlight => {
+            let table = FlightSums { loads };
+            tabled(rt, over, days, &table, form, journal, is_open)
+        }
+    }
+}
+
+/// The live bookings of the locators, the flights and the day that are asked for.
+pub fn bookings<'a>(
+    rt: &HostRuntime,
+    over: &Horizon<'a>,
+    locators: &[&str],
+    flight: Option<&str>,
+    day: Option<&str>,
+    shape: Shape,
+    is_open: bool,
+    journal: &'a str,
+) -> Result<(), Refusal<'a>> {
+    let days = days_of(over.first, over.days)?;
+    let locators = locators_asked(rt.alloc(), locators)?;
+    let wanted = Wanted {
+        locators: locators.as_slice(),
+        flight: flight_asked(flight)?,
+        day: day_asked(day)?,
+    };
+    let journal = Some(journal);
+    let form = form_asked(shape, false)?;
+    match form {
+        Some(form) => {
+            let table = BookingTable { wanted };
+            tabled(rt, over, days, &table, form, journal, is_open)
+        }
+        None => asked_of(rt, over, days, &BookingsOf { wanted }, journal, is_open),
+    }
+}
+
+/// Who waits, on the flights and the day that are asked for.
+pub fn waiting<'a>(
+    rt: &HostRuntime,
+    over: &Horizon<'a>,
+    flight: Option<&str>,
+    day: Option<&str>,
+    shape: Shape,
+    is_open: bool,
+    journal: &'a str,
+) -> Result<(), Refusal<'a>> {
+    let days = days_of(over.first, over.days)?;
+    let wanted = Wanted {
+        locators: &[],
+        flight: flight_asked(flight)?,
+        day: day_asked(day)?,
+    };
+    let journal = Some(journal);
+    let form = form_asked(shape, false)?;
+    match form {
+        Some(form) => {
+            let table = WaitingTable { wanted };
+            tabled(rt, over, days, &table, form, journal, is_open)
+        }
+        None => asked_of(rt, over, days, &WaitingOf { wanted }, journal, is_open),
+    }
+}
+
+/// What the lines of a journal did for a locator.
+pub fn history<'a>(
+    rt: &HostRuntime,
+    over: &Horizon<'a>,
+    locator: &str,
+    shape: Shape,
+    is_open: bool,
+    journal: &'a str,
+) -> Result<(), Refusal<'a>> {
+    let days = days_of(over.first, over.days)?;
+    let Some(locator) = locator_word(locator) else {
+        return Err(Refusal::from(WordFault::BadLocator));
+    };
+    let journal = Some(journal);
+    let form = form_asked(shape, false)?;
+    match form {
+        Some(form) => {
+            let table = HistoryTable { locator };
+            tabled(rt, over, days, &table, form, journal, is_open)
+        }
+        None => asked_of(rt, over, days, &HistoryOf { locator }, journal, is_open),
+    }
+}
+
+/// The answer to a question as a table.
+fn tabled<'a, T: Table>(
+    rt: &HostRuntime,
+    over: &Horizon<'a>,
+    days: (Day, u16),
+    table: &T,
+    form: Form,
+    journal: Option<&'a str>,
+    is_open: bool,
+) -> Result<(), Refusal<'a>>
+    requires first { IsOfCentury days.0 }
+    requires days { (1 ≤ days.1) × (days.1 ≤ 366) }
+{
+    let question = TableOf { asked: table, form };
+    asked_of(rt, over, days, &question, journal, is_open)
+}
+
+/// The one form that is asked for, of bars, CSV and JSON; none where it is the text, with bars or without.
+fn form_asked(shape: Shape, bars: bool) -> Result<Option<Form>, WordFault> {
+    if shape.csv {
+        if shape.json || bars {
+            return Err(WordFault::BadForm);
+        }
+        return Ok(Some(Form::Csv));
+    }
+    if shape.json {
+        if bars {
+            return Err(WordFault::BadForm);
+        }
+        return Ok(Some(Form::Json));
+    }
+    Ok(None)
+}
+
+/// That of sums, which have no bars.
+fn sums_form(shape: Shape, bars: bool) -> Result<Form, WordFault> {
+    if bars {
+        return Err(WordFault::BadForm);
+    }
+    let form = form_asked(shape, bars)?;
+    match form {
+        Some(form) => Ok(form),
+        None => Ok(Form::Text),
+    }
+}
+
+fn by_asked(by: Option<&str>) -> Result<Option<By>, WordFault> {
+    match by {
+        None => Ok(None),
+        Some(word) => match by_word(word) {
+            Some(by) => Ok(Some(by)),
+            None => Err(WordFault::BadBy),
+        },
+    }
+}
+
+fn by_word(word: &str) -> Option<By> {
+    match word {
+        "leg" => Some(By::EachLeg),
+        "flight" => Some(By::EachFlight),
+        "day" => Some(By::EachDay),
+        _ => None,
+    }
+}
