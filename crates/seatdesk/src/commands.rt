@@ -16,12 +16,13 @@ use seat_files::{
 use seat_lists::Designator;
 use seat_open::{OpenAudit, OpenQuestion};
 use seat_questions::{Bars, CityPair, Cover, Why};
-use seat_reports::{Audit, desk_check, desk_flights, desk_ladder, desk_seal};
+use seat_reports::{desk_audit, desk_check, desk_flights, desk_ladder, desk_seal};
 use seat_words::{
     Horizon, WordFault, date_word, days_word, flight_word, line_word, locator_word, pair_word,
     session_word,
 };
 use std::alloc::Global;
+use std::thread::Threads;
 
 pub fn ladder<'a>(rt: &HostRuntime) -> Result<(), Refusal<'a>> {
     let mut input = standard_input(rt);
@@ -109,9 +110,10 @@ impl Looked {
     };
 }
 
-/// The journal alone, without scripts.
-pub fn audit<'a>(
+/// The journal alone, without scripts. A long one takes all processors.
+pub fn audit<'a, R: Threads + Sync>(
     rt: &HostRuntime,
+    threads: &R,
     over: &Horizon<'a>,
     days: (Day, u16),
     journal: &'a str,
@@ -123,7 +125,52 @@ pub fn audit<'a>(
     if looked.is_open {
         return answered(rt, over, days, &OpenAudit, Some(journal), looked);
     }
-    answered(rt, over, days, &Audit, Some(journal), looked)
+    let answer = match audited_once(rt, threads, over, &days, journal, looked) {
+        Ok(answer) => answer,
+        Err(refusal) => return Err(refusal),
+    };
+    let Answer { outcome, is_moved } = answer;
+    if !is_moved {
+        return outcome;
+    }
+    match audited_once(rt, threads, over, &days, journal, looked) {
+        Ok(answer) => answer.outcome,
+        Err(refusal) => Err(refusal),
+    }
+}
+
+fn audited_once<'a, R: Threads + Sync>(
+    rt: &HostRuntime,
+    threads: &R,
+    over: &Horizon<'a>,
+    days: &(Day, u16),
+    journal: &'a str,
+    looked: Looked,
+) -> Result<Answer<'a>, Refusal<'a>>
+    requires first { IsOfCentury days.now.0 }
+    requires days { (1 ≤ days.now.1) × (days.now.1 ≤ 366) }
+{
+    let mut inputs = match inputs_of(rt, over, *days) {
+        Ok(inputs) => inputs,
+        Err(refusal) => return Err(refusal),
+    };
+    let mut journal = taken_or(rt, Some(journal), &NO_LINES)?;
+    let seal = SealFile::beside(rt, &journal, looked.is_sealed)?;
+    let mut out = standard_output(rt);
+    let outcome = desk_audit(
+        threads,
+        rt.alloc(),
+        &mut inputs,
+        &mut journal,
+        &seal.as_beside(),
+        &mut out,
+    );
+    let outcome = told(outcome, &[&inputs.set, &inputs.limits, &journal], &[&out]);
+    let is_moved = match &outcome {
+        Err(refusal) => refusal.is_of_seal() && is_moved(rt, &journal),
+        Ok(()) => false,
+    };
+    Ok(Answer { outcome, is_moved })
 }
 
 /// Writes the seal of a journal that an audit accepts, while the journal is locked. It keeps the runs of a seal that agrees, and tells of a

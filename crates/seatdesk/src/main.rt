@@ -133,7 +133,7 @@ fn carry_out<'a, T: Threads + Wait + Sync>(
                 is_open: *is_open,
             };
             let scripts = scripts.as_slice();
-            selling::audit(rt, over, &older, *today, looked, journal, scripts)?
+            selling::audit(rt, threads, over, &older, *today, looked, journal, scripts)?
         }
         Job::Seal { over, journal } => commands::seal(rt, over, journal)?,
         Job::Recover { over, cut, journal } => restoring::recover(rt, over, *cut, journal)?,

@@ -37,8 +37,9 @@ pub struct Older<'a> {
 }
 
 /// Without a script the journal is looked at alone. Scripts need the day of the run, and it needs scripts, as older lines do.
-pub fn audit<'a>(
+pub fn audit<'a, R: Threads + Sync>(
     rt: &HostRuntime,
+    threads: &R,
     over: &Horizon<'a>,
     older: &Older<'a>,
     today: Option<&str>,
@@ -60,7 +61,7 @@ pub fn audit<'a>(
         return Err(Refusal::from(WordFault::BadScripts));
     }
     let Some(today) = today else {
-        return commands::audit(rt, over, days, journal, looked);
+        return commands::audit(rt, threads, over, days, journal, looked);
     };
     let replayed = Replayed {
         after: older.after,
