@@ -1,5 +1,5 @@
 //! A numbered request: the session's next call is put into the journal, and one that is there is told once more.
-ghost use Rattle.std.specs.Prelude.{◌≡◌, ◌==◌, ◌≤◌, ◌+◌, [], ◌∷◌, false, IfOk, IfErr, OnOk};
+ghost use Rattle.std.specs.Prelude.{◌≡◌, ◌==◌, ◌≤◌, ◌+◌, [], ◌∷◌, false, None, IfOk, IfErr, IsTrue, OnOk};
 ghost use Rattle.airline_base.specs.Noting.{noted};
 ghost use Rattle.airimp_lines.specs.Grammar.{IsRightSegment};
 ghost use Rattle.desk_calls.specs.Calls.{call_line, IsLineIn};
@@ -89,10 +89,21 @@ fn again<D: Tape>(
     ensures { IfOk result (λ text. IsAgain (call_line session number serving.now.journal) flights.now
         serving.now.journal session number wish.now text.items) }
 {
+    if is_beyond(serving, session, number) {
+        return wrong_call_line(alloc, Wrong::Beyond, session, number);
+    }
     match calls.line_of(session, number, serving.journal())? {
         Some(line) => line_again(alloc, flights, serving, session, number, wish, line),
         None => wrong_call_line(alloc, Wrong::Beyond, session, number),
     }
+}
+
+// Whether a session has no call of this number. Then no line is looked at.
+#[tactic(auto, using(desk_calls::proofs::Indexing::no_call_of_zero, desk_calls::proofs::Indexing::no_call_beyond))]
+fn is_beyond<D: Tape>(serving: &Serving<D>, session: u8, number: u32) -> bool
+    ensures { IsTrue result → None ≡ call_line session number serving.now.journal }
+{
+    number == 0 || number > serving.calls_of(session)
 }
 
 // What is said of a call whose line is there.

@@ -2,6 +2,7 @@
 use Rattle.std.proofs.Common.{◌≡◌, ℕ, zero, suc, ◌+◌, ◌-◌, ◌<◌, ◌≤◌, Bool, true, false, ◌==◌, List, [], ◌∷◌, ◌++◌, length, take, drop, get_or, cond, refl, ap, sym, ◌∙◌, subst, arith, append-nil, append_assoc, length-append}
 use Rattle.std.specs.Prelude.{Option, Some, None, slice_get}
 use Rattle.std.proofs.lemmas.List.{length-take-le, take_more}
+use Rattle.std.proofs.lemmas.Option.{slice_get_past}
 use Rattle.std.proofs.Math.Seq.{take-length}
 use Rattle.seat_journal.specs.declared.entry.Entry.{Entry}
 use Rattle.seat_nesting.specs.Nesting.{Ladders}
@@ -128,6 +129,19 @@ call_there session call journal index line is at = sym at ∙ by_whole session c
 pub call_not_there : (session call : ℕ) (journal : List Entry) (index : CallIndex) → IsWhole session journal index
     → line_by index call journal ≡ None → None ≡ call_line session call journal
 call_not_there session call journal index is at = sym at ∙ by_whole session call journal index is
+
+-- no call has the number 0, and none one that is more than the session's calls
+pub no_call_of_zero : (session call : ℕ) (journal : List Entry) → call ≡ 0 → None ≡ call_line session call journal
+no_call_of_zero session zero journal is = refl
+no_call_of_zero session (suc k) journal is = absurd (omega arith)
+
+pub no_call_beyond : (session call : ℕ) (journal : List Entry) → calls_of journal session < call
+    → None ≡ call_line session call journal
+no_call_beyond session zero journal less = refl
+no_call_beyond session (suc k) journal less =
+    let count : calls_of journal session ≡ length (of_session session journal) = calls_own journal session in
+    let past : length (of_session session journal) ≤ k = omega arith in
+    sym (slice_get_past (of_session session journal) k past)
 
 -- a line of the session with this number is that of the call
 pub call_found : (session call : ℕ) (journal : List Entry) (line : Entry) → CallsRun journal → IsLineIn journal line
