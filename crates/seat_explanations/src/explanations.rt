@@ -443,7 +443,7 @@ const SCRIPTS: &[Explanation] = &[
         behind: "-",
         code: "DEVICE",
         numbers: NONE,
-        text: "The journal's file failed. Nothing is told behind it, and the host ends.",
+        text: "A file does not open, or a read or a write failed. seatdesk -v names the file and the system's reason.\nTold to a desk, as FAULT - DEVICE, it is the journal's file: the line may be booked, and the host ends. Ask ?AGAIN when it is there again.",
     },
     Explanation {
         behind: "",
@@ -733,7 +733,7 @@ const NOTES: &[Explanation] = &[
         behind: "",
         code: "kept",
         numbers: NONE,
-        text: "What the file of --journal had before the run stands under this name from now on. The new journal is not behind it:\na run that is to be goes on from it by --after. Where it says no END the journal was left open, as by a host that was killed:\nmake a copy of it under another name, which seatdesk recover then ends, and go on from that.",
+        text: "What the file of --journal had before the run stands under this name from now on. The new journal is not behind it:\na run that is to be goes on from it by --after. Where it says no END the journal was left open, as by a host that was killed:\nmake a copy of it under another name, and of its seal under that name with .seal, which seatdesk recover then ends, and go on from that.\nWithout its seal the copy knows no run, and scripts that were booked are booked once more.",
     },
     Explanation {
         behind: "asks",
