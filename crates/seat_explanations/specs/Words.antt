@@ -1,5 +1,5 @@
 -- The words of a line that is given in pieces, as one word or as several.
-use Rattle.std.specs.Prelude.{ℕ, List, [], ◌∷◌, ◌++◌, ◌==◌, nat_eq, if◌then◌else◌, codes}
+use Rattle.std.specs.Prelude.{ℕ, List, [], ◌∷◌, ◌++◌, ◌==◌, ◌||◌, nat_eq, if◌then◌else◌, codes}
 use Rattle.std.specs.Cmp.Lexicographic.{pointwise}
 use Rattle.std.specs.List.{slice_split}
 
@@ -18,10 +18,11 @@ abbrev pub line_of : List (List ℕ) → List (List ℕ)
 line_of [] = []
 line_of (piece ∷ pieces) = words_of piece ++ line_of pieces
 
--- without the program's name
+-- without the program's name, or the dash ahead of a fault that is of no line
 abbrev pub unnamed : List (List ℕ) → List (List ℕ)
 unnamed [] = []
-unnamed (word ∷ words) = if pointwise nat_eq word (codes "seatdesk:") then words else (word ∷ words)
+unnamed (word ∷ words) =
+    if pointwise nat_eq word (codes "seatdesk:") || pointwise nat_eq word (codes "-") then words else (word ∷ words)
 
 -- of no word the empty text
 abbrev pub first_word : List (List ℕ) → List ℕ

@@ -733,7 +733,7 @@ const NOTES: &[Explanation] = &[
         behind: "",
         code: "kept",
         numbers: NONE,
-        text: "What the file of --journal had before the run stands under this name from now on. The new journal is not behind it:\na run that is to be goes on from it by --after. Where it says no END the journal was left open, as by a host that was killed:\nmake a copy of it under another name, and of its seal under that name with .seal, which seatdesk recover then ends, and go on from that.\nWithout its seal the copy knows no run, and scripts that were booked are booked once more.",
+        text: "What the file of --journal had before the run stands under this name from now on. The new journal is not behind it:\na run that is to be goes on from it by --after. Where it says no END the journal was left open, as by a host that was killed:\nmake a copy of it under another name, and of its seal under that name with .seal, which seatdesk recover then ends, and go on from that.\nWithout its seal the copy knows no run, and scripts that were booked are booked once more; a note says so.",
     },
     Explanation {
         behind: "asks",
@@ -746,6 +746,12 @@ const NOTES: &[Explanation] = &[
         code: "note",
         numbers: NONE,
         text: "No seal stands beside the journal that the run went on from, as JOURNAL.seal, so nothing says of which set, limits and days\nit is, and which scripts it has already. The run was made all the same. seatdesk seal writes a seal of a journal that is right.",
+    },
+    Explanation {
+        behind: "knows",
+        code: "note",
+        numbers: NONE,
+        text: "The seal of the journal names no run, so nothing says which scripts it has: one that was booked is booked once more, and no\nSEAL again comes. That is so of a journal that recover or serve found without its seal, as a copy to which its seal was not copied,\nof one whose seal was of an older version or did not agree with it when seatdesk seal wrote it anew, and of one that a desk alone wrote.\nPut the seal that it had beside it, if there is one, and look with seatdesk history or told whether it has what the scripts ask.",
     },
     Explanation {
         behind: "same",

@@ -15,6 +15,12 @@ use std::alloc::{AllocError, Global};
 /// What stands ahead of a fault in its line.
 const NAME: &str = "seatdesk:";
 
+/// What stands ahead of a fault that is of no line, behind FAULT.
+const DASH: &str = "-";
+
+/// What a number with @ ahead of it counts, whatever the code's own numbers are.
+const CALL: &str = "call of that session";
+
 /// What a line means, or its first word that is no code or number of it.
 pub enum Meaning<'a> {
     Found(String),
@@ -115,7 +121,7 @@ fn without_name<'a, 'b>(line: &'b [&'a str]) -> &'b [&'a str]
     ensures { map (λ word. word.now) result.now ≡ unnamed (map (λ word. word.now) line.now) }
 {
     match line {
-        [first, rest @ ..] if *first == NAME => rest,
+        [first, rest @ ..] if *first == NAME || *first == DASH => rest,
         _ => line,
     }
 }
@@ -160,6 +166,10 @@ fn is_number(word: &str) -> bool {
 fn put_number(text: &mut String, what: &str, number: &str) -> Result<(), AllocError>
     ensures { OnOk result (Begins (string_bytes text.old) (string_bytes text.new)) }
 {
+    let (what, number) = match number.strip_prefix('@') {
+        Some(call) => (CALL, call),
+        None => (what, number),
+    };
     text.push_str(what)?;
     text.push_str(": ")?;
     text.push_str(number)?;

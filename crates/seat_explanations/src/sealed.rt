@@ -8,7 +8,7 @@ pub(crate) const SEALS: &[Explanation] = &[
         behind: "",
         code: "SEAL",
         numbers: NONE,
-        text: "JOURNAL.seal beside the journal says that the journal belongs to something else than is given.\nThe word behind it says what. It is compared ahead of the journal's own lines.\ngrep run JOURNAL.seal shows behind how many lines each run of it began, as run behind 25.",
+        text: "What stands beside the journal, as JOURNAL.seal, is against the command. The word behind SEAL says what it is:\nnone and form are of the seal itself; set, limits, first, days and journal of what the journal belongs to, and are compared ahead of the\njournal's own lines; again, behind and runs of scripts that the journal has already, and come behind the faults of all inputs.\ngrep run JOURNAL.seal shows behind how many lines each run of it began, as run behind 25.",
     },
     Explanation {
         behind: "SEAL",
@@ -20,7 +20,7 @@ pub(crate) const SEALS: &[Explanation] = &[
         behind: "SEAL",
         code: "form",
         numbers: NONE,
-        text: "JOURNAL.seal is no seal: a byte of it was changed, or it was cut off, or it is another file.\nOne that begins with SEATSEAL 1 or 2 is of an older version: seatdesk seal writes it anew, without the scripts.",
+        text: "JOURNAL.seal is no seal: a byte of it was changed, or it was cut off, or it is another file. Put back a copy of it.\nOne that begins with SEATSEAL 1, 2 or 3 is of an older version. seatdesk seal writes it anew, without its runs: scripts that were booked\ncan then be booked once more, and a note says so.",
     },
     Explanation {
         behind: "SEAL",
@@ -56,18 +56,18 @@ pub(crate) const SEALS: &[Explanation] = &[
         behind: "SEAL",
         code: "again",
         numbers: NONE,
-        text: "A script that is to be booked, or the file of --changes, stands in the journal already: it begins with the\nvery bytes that one of the last 128 runs booked which wrote the journal, by the digests of its seal. So the same command given twice\nbooks nothing twice, with more lines behind its scripts too, unless a --resume of its scripts came between.\n--again books it once more; --resume JOURNAL books what is new of scripts that have grown, and nothing where nothing is.\nOf --resume JOURNAL it is a script of a run ahead of the lines that --behind names: say where that run began.",
+        text: "A script that is to be booked, or the file of --changes, stands in the journal already: it begins with the\nvery bytes that one of the last 128 runs booked which wrote the journal, by the digests of its seal. So the same command given twice\nbooks nothing twice, with more lines behind its scripts too, unless a --resume of its scripts came between.\nName the scripts that are new, as those of the day. --resume JOURNAL books what is new of scripts that have grown, and nothing where\nnothing is; --again books all of them once more. Of --resume JOURNAL it is a script of a run ahead of the lines that --behind names: say\nwhere that run began.",
     },
     Explanation {
         behind: "SEAL",
         code: "behind",
         numbers: NONE,
-        text: "--behind N, or the journal of --after, says behind how many lines the scripts of --resume began. The seal of the journal\nhas no run that began behind so many: all would be booked once more. Its lines run behind have the numbers.",
+        text: "--behind N, or the journal of --after, says behind how many lines the scripts of --resume began. The seal of the journal\nhas no run that began behind so many: all would be booked once more. Its lines run behind have the numbers.\nScripts that no run has booked yet, as those of a day's first run, go on by --after JOURNAL, without --resume and --behind.",
     },
     Explanation {
         behind: "SEAL",
         code: "runs",
         numbers: NONE,
-        text: "The seal of the journal of --resume has several runs, which began behind several numbers of lines. Say by --behind N with\nwhich of them the scripts began: N stands in the seal's lines run behind. Behind the first of a day stands what all desks sold that day.",
+        text: "The seal of the journal of --resume has several runs, which began behind several numbers of lines. Say by --behind N with\nwhich of them the scripts began: N stands in the seal's lines run behind. Behind the first of a day stands what all desks sold that day.\nScripts that no run has booked yet, as those of a day's first run, go on by --after JOURNAL, without --resume.",
     },
 ];
