@@ -4,6 +4,7 @@ ghost use Rattle.std.specs.Prelude.{◌≡◌, ◌⊎◌, IfErr, IsTrue};
 ghost use Rattle.seat_files.specs.Refusals.{is_of_file};
 
 use crate::commands::{days_of, inputs_of};
+use crate::noting::{may_have_lines, tell_found_unsealed};
 use airline_base::Failures;
 use seat_desk::{DeskFault, Inputs};
 use seat_files::{
@@ -68,7 +69,12 @@ pub fn recover<'a>(
     seals.leave();
     tell_kept(rt, journal, &beside);
     match outcome {
-        Ok(()) => Ok(()),
+        Ok(()) => {
+            if text.is_none() && may_have_lines(rt, path.as_str()) {
+                tell_found_unsealed(rt, journal);
+            }
+            Ok(())
+        }
         Err(fault) => {
             let refusal = refused(fault, &inputs, journal, &tape, &beside, &out);
             Err(refusal.noting_seal(&seals))
@@ -108,7 +114,7 @@ pub fn unopened<'a>(journal: &'a str, fault: OpenFault) -> Refusal<'a>
 {
     match fault {
         OpenFault::NotRegular => Refusal::barred(journal, "Is no regular file"),
-        OpenFault::Taken => Refusal::barred(journal, "Another run or host has it"),
+        OpenFault::Taken => Refusal::barred(journal, "Another run, seal or host has it"),
         OpenFault::Replaced => Refusal::barred(journal, "Is replaced at each look"),
         OpenFault::Memory => Refusal::from(DeskFault::Memory),
         OpenFault::System(reason) => Refusal::from(DeskFault::Device).at(journal, reason),

@@ -4,6 +4,7 @@ ghost use Rattle.airline_base.specs.Days.{IsCenturyDay};
 ghost use Rattle.seat_desk.specs.Loading.{IsGridOf};
 
 use crate::commands::{day_of_run, days_of, inputs_of};
+use crate::noting::tell_found_unsealed;
 use crate::restoring::{as_beside, seal_out, tell_kept, unopened};
 use airline_base::{Day, Failures, ReadFault};
 use desk_talk::{DayFault, ServedFault, TalkFault, open_host, serve_sealed};
@@ -123,12 +124,16 @@ fn serve_over<'a, R: Wait>(
         beside,
         seals,
     );
+    let is_unsealed = seal.text.is_none() && has_entry(&bytes);
     drop(bytes);
     tell_kept(rt, journal, beside);
     let (host, runs) = match opened {
         Ok(opened) => opened,
         Err(refused) => return Err(stopped(refused, journal, beside)),
     };
+    if is_unsealed {
+        tell_found_unsealed(rt, journal);
+    }
     let mut input = standard_input(rt);
     let mut out = standard_output(rt);
     match serve_sealed(
@@ -143,6 +148,17 @@ fn serve_over<'a, R: Wait>(
     ) {
         Ok(_) => Ok(()),
         Err(refused) => Err(unended(refused, journal, &input, &out)),
+    }
+}
+
+/// Whether a journal's text has an entry, of which each begins with a digit.
+fn has_entry(bytes: &[u8]) -> bool {
+    match bytes.iter().position(|byte| *byte == b'\n') {
+        Some(end) => match &bytes[end..] {
+            [_, first, ..] => first.is_ascii_digit(),
+            _ => false,
+        },
+        None => false,
     }
 }
 
