@@ -20,11 +20,11 @@ const OLD: &[u8] = b"SEATJOURNAL 2\n1 1 1 K7M2QP 11.0.0 J NN 2 KK 0\nEND 1\n";
 const NEW: &[u8] =
     b"SEATJOURNAL 2\n1 1 1 R4T8WX 66.0.1 Y NN 1 KK 0\n2 2 1 ABCDEF 11.0.0 J NN 3 KK 0\nEND 2\n";
 
-const HEAD: &[u8] = b"SEATSEAL 3\n";
+const HEAD: &[u8] = b"SEATSEAL 4\n";
 
 // The older journal's seal, and its entry.
 const OF_OLD: &[u8] =
-    b"SEATSEAL 3\nset 6ee0eb490ff832101cf82a3d387c35f29e4230be786978f7acf9e811febf6723\nlimits 8a46fd6fc3d79d419361a7043d0365b6dfeb6b92da9e376450898ff88d9cea00\nfirst 2024-07-01\ndays 31\njournal 1f17ec36ae2eb204de74df9b6e615bee04d4a02b213a24f56ad1d37674f93bad lines 1 bytes 46 closed\nrun behind 0 today 2024-06-19\nscript 1 d618fb157a4b382e92fcd4a830c5fa8adef45a809543c524f7904e38f867dac8 bytes 6\nEND\n";
+    b"SEATSEAL 4\nset 6ee0eb490ff832101cf82a3d387c35f29e4230be786978f7acf9e811febf6723\nlimits 8a46fd6fc3d79d419361a7043d0365b6dfeb6b92da9e376450898ff88d9cea00\nfirst 2024-07-01\ndays 31\njournal 1f17ec36ae2eb204de74df9b6e615bee04d4a02b213a24f56ad1d37674f93bad lines 1 bytes 46 closed\nrun behind 0 today 2024-06-19\nscript 1 d618fb157a4b382e92fcd4a830c5fa8adef45a809543c524f7904e38f867dac8 bytes 6\nEND\ndigest 16373e29da74688b0a7dea922a9e022517ec843d9ecfcb51208cbbe9e0dcfd5c\n";
 
 const ENTRY_OF_OLD: &[u8] =
     b"set 6ee0eb490ff832101cf82a3d387c35f29e4230be786978f7acf9e811febf6723\nlimits 8a46fd6fc3d79d419361a7043d0365b6dfeb6b92da9e376450898ff88d9cea00\nfirst 2024-07-01\ndays 31\njournal 1f17ec36ae2eb204de74df9b6e615bee04d4a02b213a24f56ad1d37674f93bad lines 1 bytes 46 closed\nrun behind 0 today 2024-06-19\nscript 1 d618fb157a4b382e92fcd4a830c5fa8adef45a809543c524f7904e38f867dac8 bytes 6\nEND\n";
@@ -38,6 +38,19 @@ const OTHER_OF_OLD: &[u8] =
 
 const OTHER_OF_NONE: &[u8] =
     b"other e3b0c44298fc1c149afbf4c8996fb92427ae41e4649b934ca495991b7852b855 bytes 0\nEND\n";
+
+// The last line of the new journal's seal, and that of a seal of both behind each of these entries.
+const DIGEST_OF_NEW: &[u8] =
+    b"digest a0d97da1f14476cd655874b3cf00ab2dd9d0a1d5f694f14e184461503690322c\n";
+
+const DIGEST_OF_BOTH: &[u8] =
+    b"digest 60ade5cf51788103159eab2fd66585e8f7f53075e46f942f30480e5b6569cb37\n";
+
+const DIGEST_BEHIND_OTHER: &[u8] =
+    b"digest e94605d3b0242a24ba53958a653858eee9c96813de3671bdc573b892e48557f9\n";
+
+const DIGEST_BEHIND_NONE: &[u8] =
+    b"digest a2043feccf97ee765190001f905748f197d9f476b5128d0a2cd44ffcda45aad5\n";
 
 fn sealed(text: &[u8], lines: u32, day: u8, script: &[u8]) -> Sealed
     ensures { result.journal.imprint ≡ imprint_of (front_of text.now) }
@@ -109,9 +122,10 @@ fn journal_calls(calls: u64) -> u64 {
 
 struct Row {
     journal: &'static [u8],
-    // The older seal's text, and the first entry of the seal of both.
+    // The older seal's text, and the first entry of the seal of both and its last line.
     seal: &'static [u8],
     entry: &'static [u8],
+    digest: &'static [u8],
 }
 
 // Where the crash comes: behind how many calls, and which of the two renamings it takes back where it may.
@@ -136,8 +150,12 @@ fn seal_left(alloc: Global, row: &Row, crash: Crash) -> Result<Vec<u8>, AllocErr
     let mut text = Vec::from_slice(alloc, HEAD)?;
     if crash.calls < 16 || (crash.calls == 16 && crash.seal_back) {
         text.extend_from_slice(row.entry)?;
+        text.extend_from_slice(ENTRY_OF_NEW)?;
+        text.extend_from_slice(row.digest)?;
+        return Ok(text);
     }
     text.extend_from_slice(ENTRY_OF_NEW)?;
+    text.extend_from_slice(DIGEST_OF_NEW)?;
     Ok(text)
 }
 
@@ -251,6 +269,7 @@ fn leaves_no_journal_that_its_seal_denies(rt: HostRuntime) -> Result<(), Fail> {
             journal: OLD,
             seal: OF_OLD,
             entry: ENTRY_OF_OLD,
+            digest: DIGEST_OF_BOTH,
         },
     )
 }
@@ -264,6 +283,7 @@ fn seals_a_journal_that_had_no_seal(rt: HostRuntime) -> Result<(), Fail> {
             journal: OLD,
             seal: b"",
             entry: OTHER_OF_OLD,
+            digest: DIGEST_BEHIND_OTHER,
         },
     )
 }
@@ -277,6 +297,7 @@ fn seals_an_empty_file(rt: HostRuntime) -> Result<(), Fail> {
             journal: b"",
             seal: b"",
             entry: OTHER_OF_NONE,
+            digest: DIGEST_BEHIND_NONE,
         },
     )
 }

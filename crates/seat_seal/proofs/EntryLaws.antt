@@ -17,8 +17,8 @@ use Rattle.seat_seal.specs.declared.seal.Seal.{Seal}
 use Rattle.seat_seal.specs.Dates.{is_date}
 use Rattle.seat_seal.specs.Digests.{IsDigest}
 use Rattle.seat_seal.specs.Rules.{is_imprint, is_journal, are_rising, is_script, are_changes, is_run, is_sealed, is_entry, is_second, is_seal, IsScript, IsChanges, IsNamed, HasDigests, HasTypes, IsSeal}
-use Rattle.seat_seal.specs.Text.{newline, most_runs, line, date_text, imprint_text, journal_text, script_text, script_line, changes_text, run_line, run_text, sealed_text, other_text, entry_text, second_text, seal_text}
-use Rattle.seat_seal.specs.Reading.{digest_at, number_at, date_at, imprint_at, journal_at, script_at, line_at, script_line_at, items_in, changes_at, run_at, sealed_at, other_at, entry_at, second_at, seal_at, two_entries}
+use Rattle.seat_seal.specs.Text.{newline, most_runs, line, date_text, imprint_text, journal_text, script_text, script_line, changes_text, run_line, run_text, sealed_text, other_text, entry_text, second_text, entries_text, digest_line, seal_text}
+use Rattle.seat_seal.specs.Reading.{digest_at, number_at, date_at, imprint_at, journal_at, script_at, line_at, script_line_at, items_in, changes_at, run_at, sealed_at, other_at, entry_at, second_at, seal_at, one_entry, two_entries}
 use Rattle.seat_seal.proofs.Calendar.{date_again}
 use Rattle.seat_seal.proofs.FieldLaws.{digest_again, number_again, imprint_again, journal_again, script_again, line_again}
 
@@ -231,27 +231,35 @@ entry_again (Other i) rest is rules = rw (other_again i rest is rules) refl
 
 goes_on : (first e : SealEntry) (rest : List ℕ)
     → second_at first (entry_text e ++ rest) ≡ (entry_at (entry_text e ++ rest) >>= (λ second. Some (two_entries first second.0)))
-unfolding sealed_text other_text
+unfolding second_at sealed_text other_text
 goes_on first (Sealed s) rest = refl
 goes_on first (Other i) rest = refl
 
-second_again : (first : SealEntry) (second : Option SealEntry) → IfSome second HasTypes → is_second second ≡ true
-    → second_at first (second_text second) ≡ Some (record { first = first; second = second })
-second_again first None is rules = refl
-second_again first (Some e) is rules =
-    let all : entry_text e ≡ entry_text e ++ [] = sym (append-nil (entry_text e)) in
-    ap (second_at first) all ∙ goes_on first e [] ∙ rw (entry_again e [] is rules) refl
+is_alone : (first : SealEntry) (lines : List ℕ) → second_at first (digest_line lines) ≡ Some (one_entry first)
+unfolding second_at digest_line
+is_alone first lines = refl
+
+second_again : (first : SealEntry) (second : Option SealEntry) (lines : List ℕ) → IfSome second HasTypes → is_second second ≡ true
+    → second_at first (second_text second ++ digest_line lines) ≡ Some (record { first = first; second = second })
+second_again first None lines is rules = is_alone first lines
+second_again first (Some e) lines is rules = goes_on first e (digest_line lines) ∙ rw (entry_again e (digest_line lines) is rules) refl
 
 seal_parts : (s : Seal) → is_seal s ≡ true → (is_entry s.first ≡ true) × (is_second s.second ≡ true)
 unfolding is_seal
 seal_parts s h = both_true (is_entry s.first) (is_second s.second) h
 
+seal_read : (s : Seal) (lines : List ℕ)
+    → entry_at (entry_text s.first ++ (second_text s.second ++ digest_line lines)) ≡ Some (s.first, second_text s.second ++ digest_line lines)
+    → seal_at (entries_text s ++ digest_line lines) ≡ second_at s.first (second_text s.second ++ digest_line lines)
+unfolding seal_at entries_text
+seal_read s lines entry = rw (append_assoc (entry_text s.first) (second_text s.second) (digest_line lines), entry) refl
+
 pub seal_again : (s : Seal) → IsSeal s → seal_at (seal_text s) ≡ Some s
-unfolding seal_at seal_text
+unfolding seal_text
 seal_again s is =
     let rules = seal_parts s is.rules in
-    let entry = entry_again s.first (second_text s.second) is.first rules.0 in
-    rw entry (second_again s.first s.second is.second rules.1)
+    seal_read s (entries_text s) (entry_again s.first (second_text s.second ++ digest_line (entries_text s)) is.first rules.0)
+    ∙ second_again s.first s.second (entries_text s) is.second rules.1
 
 pub one_seal : (a b : Seal) → IsSeal a → IsSeal b → seal_text a ≡ seal_text b → a ≡ b
 one_seal a b p q same = some_is a b (sym (seal_again a p) ∙ ap seal_at same ∙ seal_again b q)

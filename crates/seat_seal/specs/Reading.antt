@@ -170,13 +170,17 @@ one_entry first = record { first = first; second = None }
 abbrev pub two_entries : SealEntry → SealEntry → Seal
 two_entries first second = record { first = first; second = Some second }
 
--- the end of the bytes, or a second entry
-abbrev pub second_at : SealEntry → List ℕ → Option Seal
-second_at first [] = Some (one_entry first)
-second_at first (c ∷ rest) = entry_at (c ∷ rest) >>= (λ second. Some (two_entries first second.0))
+abbrev pub second_from : SealEntry → Option (List ℕ) → Field SealEntry → Option Seal
+second_from first (Some rest) second = Some (one_entry first)
+second_from first None second = second >>= (λ second. Some (two_entries first second.0))
 
+-- the digest's line, or a second entry
+unfoldable pub second_at : SealEntry → List ℕ → Option Seal
+second_at first bytes = second_from first (word_at (codes "digest ") bytes) (entry_at bytes)
+
+-- the digest is not compared here
 unfoldable pub seal_at : List ℕ → Option Seal
 seal_at bytes = do
-  rest ← word_at (codes "SEATSEAL 3\n") bytes
+  rest ← word_at (codes "SEATSEAL 4\n") bytes
   first ← entry_at rest
   second_at first.0 first.1

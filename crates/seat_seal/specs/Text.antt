@@ -1,7 +1,8 @@
--- The text of a seal, version 3.
+-- The text of a seal, version 4.
 use Rattle.std.specs.Prelude.{ℕ, ◌/◌, ◌%◌, List, [], ◌∷◌, ◌++◌, Option, None, Some, codes, decimal}
 use Rattle.std.specs.List.{flat_map}
 use Rattle.hex.specs.Hex.{encode_lower}
+use Rattle.sha2.specs.Sha256.{sha256}
 use Rattle.airline_base.specs.Days.{two_digits}
 use Rattle.seat_seal.specs.declared.date.Date.{Date}
 use Rattle.seat_seal.specs.declared.imprint.Imprint.{Imprint}
@@ -93,5 +94,13 @@ second_text None = []
 second_text (Some entry) = entry_text entry
 
 -- the head, and a block for each entry
+unfoldable pub entries_text : Seal → List ℕ
+entries_text s = codes "SEATSEAL 4\n" ++ entry_text s.first ++ second_text s.second
+
+-- the digest of the lines above it
+unfoldable pub digest_line : List ℕ → List ℕ
+digest_line lines = line (codes "digest ") (encode_lower (sha256 lines))
+
+-- these lines, and behind them their digest
 unfoldable pub seal_text : Seal → List ℕ
-seal_text s = codes "SEATSEAL 3\n" ++ entry_text s.first ++ second_text s.second
+seal_text s = entries_text s ++ digest_line (entries_text s)

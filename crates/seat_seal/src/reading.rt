@@ -20,7 +20,7 @@ use airline_base::fields::{byte_of, word_of};
 
 /// Reads a seal from its text.
 ///
-/// What was read is spelled again, and is a seal where that gives the bytes: a seal has one text.
+/// What was read is spelled again, with the digest of its lines, and is a seal where that gives the bytes: a seal has one text.
 pub fn read_seal(bytes: &[u8]) -> Option<Seal>
     // What is read is a seal, and the bytes are its text.
     ensures found { IfSome result (λ seal. IsSeal seal × (bytes.now ≡ seal_text seal)) }
@@ -50,22 +50,23 @@ fn is_text_of(seal: &Seal, bytes: &[u8]) -> bool
 fn seal_at(bytes: &[u8]) -> Option<Seal>
     ensures { result ≡ seal_at bytes.now }
 {
-    let Some((first, rest)) = entry_at(word_of(b"SEATSEAL 3\n", bytes)?) else {
+    let Some((first, rest)) = entry_at(word_of(b"SEATSEAL 4\n", bytes)?) else {
         return None;
     };
     second_at(first, rest)
 }
 
-// The end of the bytes, or a second entry.
+// The digest's line, or a second entry.
+#[tactic(auto, unfolding(crate::specs::Reading::second_at))]
 fn second_at(first: SealEntry, bytes: &[u8]) -> Option<Seal>
     ensures { result ≡ second_at first bytes.now }
 {
-    match bytes {
-        [] => Some(Seal {
+    match word_of(b"digest ", bytes) {
+        Some(_) => Some(Seal {
             first,
             second: None,
         }),
-        [_, ..] => {
+        None => {
             let Some((second, _rest)) = entry_at(bytes) else {
                 return None;
             };

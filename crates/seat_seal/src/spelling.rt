@@ -4,10 +4,10 @@ ghost use Rattle.std.specs.List.{flat_map, AllByRecursion};
 ghost use Rattle.hex.specs.Hex.{encode_lower};
 ghost use Rattle.seat_seal.specs.Digests.{IsDigest};
 ghost use Rattle.seat_seal.specs.Rules.{HasDigests, HasTypes, IsChanges, IsNamed, IsScript};
-ghost use Rattle.seat_seal.specs.Text.{imprint_text, line, date_text, journal_text, most_runs, run_line, run_text, script_text, script_line, changes_text, sealed_text, other_text, entry_text, second_text, seal_text, state_text};
+ghost use Rattle.seat_seal.specs.Text.{imprint_text, line, date_text, journal_text, most_runs, run_line, run_text, script_text, script_line, changes_text, sealed_text, other_text, entry_text, second_text, entries_text, digest_line, seal_text, state_text};
 
 use crate::date::Date;
-use crate::digest::Digest;
+use crate::digest::{Digest, digest_of};
 use crate::imprint::Imprint;
 use crate::run::Run;
 use crate::scripts::Script;
@@ -16,17 +16,31 @@ use airline_base::spelling::{put, put_number};
 use arrayvec::ArrayVec;
 use itoa::Buffer;
 
-/// A head line, and two entries of at most 131,000 bytes.
+/// A head line, two entries of at most 131,000 bytes, and the line of their digest.
 pub type SealText = ArrayVec<u8, 262144>;
 
 /// The text of a seal.
+#[tactic(auto, unfolding(crate::specs::Text::seal_text, crate::specs::Text::digest_line))]
 pub fn seal_text(seal: &Seal) -> ArrayVec<u8, 262144>
     ensures text { result.items ≡ seal_text seal.now }
     ensures first { HasTypes seal.now.first }
     ensures second { IfSome seal.now.second HasTypes }
 {
+    let mut text = entries_text(seal);
+    let digest = digest_of(text.as_slice());
+    put_digest_line(&mut text, b"digest ", &digest);
+    text
+}
+
+// The lines ahead of the digest's.
+fn entries_text(seal: &Seal) -> ArrayVec<u8, 262144>
+    ensures text { result.items ≡ entries_text seal.now }
+    ensures len { length result.items ≤ 262011 }
+    ensures first { HasTypes seal.now.first }
+    ensures second { IfSome seal.now.second HasTypes }
+{
     let mut text = ArrayVec::new();
-    put(&mut text, b"SEATSEAL 3\n");
+    put(&mut text, b"SEATSEAL 4\n");
     put_entry(&mut text, &seal.first);
     put_second(&mut text, &seal.second);
     text
@@ -35,6 +49,7 @@ pub fn seal_text(seal: &Seal) -> ArrayVec<u8, 262144>
 fn put_second(text: &mut SealText, entry: &Option<SealEntry>)
     requires room { length text.old.items + 131000 ≤ 262144 }
     ensures text { text.new.items ≡ text.old.items ++ second_text entry.now }
+    ensures len { length text.new.items ≤ length text.old.items + 131000 }
     ensures is { IfSome entry.now HasTypes }
 {
     match entry {
