@@ -705,7 +705,7 @@ const WORDS: &[Explanation] = &[
         behind: "E2",
         code: "journal",
         numbers: NONE,
-        text: "The file of --journal is one of the inputs, other than the journals of --after and --resume, or that of standard output,\nor another run or a host has it, as it may have the journal that is to be served, sealed or recovered, or its name is - or ends in .seal, .unfinished or .kept-N,\nor what is called as its seal is another file of the command or no regular file, or --no-clobber keeps it: it is there and not empty. Nothing was written. seatdesk -v says which of these it is.",
+        text: "The file of --journal is one of the inputs, other than the journals of --after and --resume, or that of standard output,\nor another run, seatdesk seal or a host has it, as it may have the journal that is to be served, sealed or recovered, or its name is - or ends in .seal, .unfinished or .kept-N,\nor what is called as its seal is another file of the command or no regular file, or --no-clobber keeps it: it is there and not empty. Nothing was written. seatdesk -v says which of these it is.",
     },
     Explanation {
         behind: "E2",

@@ -1,6 +1,7 @@
 -- What runs have booked, and the texts that begin with it.
 use Rattle.std.specs.Prelude.{ℕ, Bool, true, ◌&&◌, nat_lt, if◌then◌else◌, List, [], ◌∷◌, Option, None, Some, map, take}
 use Rattle.std.specs.List.{flat_map, list_any}
+use Rattle.std.specs.List.Sorted.{IsNonDecreasingBy}
 use Rattle.seat_seal.specs.declared.imprint.Imprint.{Imprint}
 use Rattle.seat_seal.specs.declared.run.Run.{Run}
 use Rattle.seat_seal.specs.declared.scripts.Script.{Script}
@@ -33,6 +34,10 @@ scripts_of lines run = if is_ahead lines run then map imprint_in run.scripts els
 
 abbrev pub changes_of : Option ℕ → Run → List Imprint
 changes_of lines run = if is_ahead lines run then changes_in run.changes else []
+
+-- those of the fewest bytes first
+abbrev pub AreInOrder : List Imprint → Type 0
+AreInOrder booked = IsNonDecreasingBy (λ one. one.bytes) booked
 
 -- the scripts that the runs booked, and the changes, by those ahead of so many lines or by all
 abbrev pub scripts_booked : Option ℕ → List Run → List Imprint

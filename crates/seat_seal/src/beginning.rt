@@ -9,7 +9,6 @@ use crate::imprint::{Imprint, Tally};
 
 /// The imprint of a text, and whether the text begins with one of these that were booked. Where they stand by their counts of bytes,
 /// the least first, each byte of the text is digested once.
-
 pub fn imprint_beside(text: &[u8], booked: &[Imprint]) -> (Imprint, bool)
     ensures imprint { result.0 ≡ imprint_of text.now }
     ensures booked { result.1 ≡ is_booked booked.now text.now }
@@ -61,6 +60,7 @@ impl Beginning {
         requires { IsAt self.old text.now }
         ensures at { IsAt self.new text.now }
         ensures count { self.new.count ≤ count }
+        ensures same { self.old.count ≤ count → self.new ≡ self.old }
     {
         let _text = text;
         if count < self.count {

@@ -2,7 +2,7 @@
 //! It knows runs, and nothing of a text.
 ghost use Rattle.std.specs.Prelude.{◌≡◌, ◌++◌, IfOk, OnOk, map};
 ghost use Rattle.std.specs.List.Sorted.{IsPermutation};
-ghost use Rattle.seat_seal.specs.Booked.{changes_booked, changes_of, imprint_in, is_ahead, scripts_booked, scripts_of};
+ghost use Rattle.seat_seal.specs.Booked.{AreInOrder, changes_booked, changes_of, imprint_in, is_ahead, scripts_booked, scripts_of};
 
 use crate::imprint::Imprint;
 use crate::run::Run;
@@ -15,7 +15,8 @@ pub type Booked = Items<Imprint>;
 
 /// The scripts that the runs booked which began ahead of so many lines, or where no number is given all runs.
 pub fn scripts_booked(alloc: Global, lines: Option<u64>, runs: &[Run]) -> Result<Booked, AllocError>
-    ensures { IfOk result (λ booked. IsPermutation (scripts_booked lines runs.now) booked) }
+    ensures all { IfOk result (λ booked. IsPermutation (scripts_booked lines runs.now) booked) }
+    ensures sorted { IfOk result AreInOrder }
 {
     let mut booked = Vec::new(alloc);
     for run in runs {
@@ -26,7 +27,8 @@ pub fn scripts_booked(alloc: Global, lines: Option<u64>, runs: &[Run]) -> Result
 
 /// The changes that they booked.
 pub fn changes_booked(alloc: Global, lines: Option<u64>, runs: &[Run]) -> Result<Booked, AllocError>
-    ensures { IfOk result (λ booked. IsPermutation (changes_booked lines runs.now) booked) }
+    ensures all { IfOk result (λ booked. IsPermutation (changes_booked lines runs.now) booked) }
+    ensures sorted { IfOk result AreInOrder }
 {
     let mut booked = Vec::new(alloc);
     for run in runs {
@@ -77,7 +79,8 @@ fn is_ahead(lines: Option<u64>, run: &Run) -> bool
 }
 
 fn in_order(booked: Vec<Imprint>) -> Booked
-    ensures { IsPermutation booked.items result }
+    ensures all { IsPermutation booked.items result }
+    ensures sorted { AreInOrder result }
 {
     let mut booked = booked;
     booked.sort_unstable_by_key(|one| one.bytes);

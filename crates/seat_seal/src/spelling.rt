@@ -1,5 +1,5 @@
 //! The text of a seal, each part put behind those before it. It takes no memory.
-ghost use Rattle.std.specs.Prelude.{◌≡◌, ◌+◌, ◌≤◌, ◌++◌, codes, decimal, length, IfSome};
+ghost use Rattle.std.specs.Prelude.{◌≡◌, ◌+◌, ◌≤◌, [], ◌++◌, codes, decimal, length, IfSome};
 ghost use Rattle.std.specs.List.{flat_map, AllByRecursion};
 ghost use Rattle.hex.specs.Hex.{encode_lower};
 ghost use Rattle.seat_seal.specs.Digests.{IsDigest};
@@ -26,24 +26,24 @@ pub fn seal_text(seal: &Seal) -> ArrayVec<u8, 262144>
     ensures first { HasTypes seal.now.first }
     ensures second { IfSome seal.now.second HasTypes }
 {
-    let mut text = entries_text(seal);
+    let mut text = ArrayVec::new();
+    put_entries(&mut text, seal);
     let digest = digest_of(text.as_slice());
     put_digest_line(&mut text, b"digest ", &digest);
     text
 }
 
 // The lines ahead of the digest's.
-fn entries_text(seal: &Seal) -> ArrayVec<u8, 262144>
-    ensures text { result.items ≡ entries_text seal.now }
-    ensures len { length result.items ≤ 262011 }
+fn put_entries(text: &mut SealText, seal: &Seal)
+    requires { text.old.items ≡ [] }
+    ensures text { text.new.items ≡ entries_text seal.now }
+    ensures len { length text.new.items ≤ 262011 }
     ensures first { HasTypes seal.now.first }
     ensures second { IfSome seal.now.second HasTypes }
 {
-    let mut text = ArrayVec::new();
-    put(&mut text, b"SEATSEAL 4\n");
-    put_entry(&mut text, &seal.first);
-    put_second(&mut text, &seal.second);
-    text
+    put(text, b"SEATSEAL 4\n");
+    put_entry(text, &seal.first);
+    put_second(text, &seal.second);
 }
 
 fn put_second(text: &mut SealText, entry: &Option<SealEntry>)
