@@ -151,15 +151,16 @@ fn serve_over<'a, R: Wait>(
     }
 }
 
-/// Whether a journal's text has an entry, of which each begins with a digit.
+/// Whether a journal's text has an entry: its second line begins with a digit, as no END line does.
 fn has_entry(bytes: &[u8]) -> bool {
-    match bytes.iter().position(|byte| *byte == b'\n') {
-        Some(end) => match &bytes[end..] {
-            [_, first, ..] => first.is_ascii_digit(),
-            _ => false,
-        },
-        None => false,
+    let mut begins_line = false;
+    for byte in bytes {
+        if begins_line {
+            return (*byte).is_ascii_digit();
+        }
+        begins_line = *byte == b'\n';
     }
+    false
 }
 
 /// Why the journal is not read.
