@@ -20,6 +20,6 @@ pub use line::{LineRead, read_line};
 pub use look::{FlightClass, Look, read_look};
 pub use reading::read_segment;
 pub use reply::reply_text;
-pub use requests::{Request, Requests};
+pub use requests::{Request, Requests, requests_behind};
 pub use script::read_script;
 pub use segment::Segment;

@@ -1,6 +1,9 @@
 //! The requests of a script.
+ghost use Rattle.std.specs.Prelude.{◌≡◌, IfOk, drop};
+
 use crate::segment::Segment;
 use airline_base::{Items, Locator};
+use std::alloc::{AllocError, Global};
 
 /// A request for seats, in the message of a booking.
 #[derive(Clone, Copy)]
@@ -14,3 +17,16 @@ pub struct Request {
 
 /// A list of requests.
 pub type Requests = Items<Request>;
+
+/// The requests behind the first `done`: what is left of a script of which so many were answered.
+pub fn requests_behind(
+    alloc: Global,
+    requests: &[Request],
+    done: usize,
+) -> Result<Requests, AllocError>
+    ensures { IfOk result (λ rest. rest ≡ drop done requests.now) }
+{
+    let front = done.min(requests.len());
+    let rest = Vec::from_slice(alloc, &requests[front..])?;
+    Ok(Requests::from_vec(rest))
+}
