@@ -95,6 +95,15 @@ pub both_name : (older : SealEntry) (newer : Belonging) → HasTypes older → H
 both_name older newer first second rules =
     record { each = λ journal same. has_newer older newer journal (are_both older newer first second rules) same }
 
+-- where the older one is open, in each journal that begins with it
+pub both_name_each : (older : SealEntry) (newer : Belonging) → HasTypes older → HasDigests newer
+    → is_seal (two_entries older (Sealed newer)) ≡ true → (entry : Belonging) (begun : List ℕ) → older ≡ Sealed entry
+    → entry.journal.state ≡ Open → entry.journal.imprint ≡ imprint_of begun → NamesEach (both_text older newer) begun
+both_name_each older newer first second rules entry begun is is_open same = record {
+  each = λ more. has_older older newer (begun ++ more) (are_both older newer first second rules)
+      (subst (λ (x : SealEntry). is_its_journal x (begun ++ more) ≡ true) (sym is) (begins_so entry.journal begun more is_open same));
+}
+
 pub alone_names : (older : SealEntry) (newer : Belonging) → HasTypes older → HasDigests newer
     → is_seal (two_entries older (Sealed newer)) ≡ true → Names (alone_text newer) newer.journal.imprint
 alone_names older newer first second rules =
