@@ -5,7 +5,7 @@ ghost use Rattle.ssim_records.specs.RightSet.{IsRightSet};
 use airline_base::Day;
 use seat_limits::{LimitRows, build_grid, read_limits};
 use seat_nesting::Grid;
-use ssim_flights::{Flights, expand};
+use ssim_flights::{FlightFault, Flights, expand};
 use ssim_records::{DataSet, read_set};
 use std::alloc::Global;
 
@@ -31,6 +31,21 @@ pub fn three_legs() -> &'static [u8] {
 5 XX~000007E000008"
 }
 
+/// A set of 600 bytes, without legs.
+pub fn no_legs() -> &'static [u8] {
+    b"1AIRLINE STANDARD SCHEDULE DATA SET     1~    001000001
+2LXX          01JUN2430JUN24~       000002
+5 XX~000002E000003"
+}
+
+/// London to New York, on 15 and 16 June 2024.
+pub fn one_leg() -> &'static [u8] {
+    b"1AIRLINE STANDARD SCHEDULE DATA SET     1~    001000001
+2LXX          01JUN2430JUN24~       000002
+3 XX  1230101 15JUN2416JUN24     67 LHR    1000+0100  JFK~     00000003
+5 XX~000003E000004"
+}
+
 fn put_blanks(bytes: &mut Vec<u8>, times: usize) -> Option<()> {
     for _ in 0..times {
         bytes.push(b' ').ok()?;
@@ -39,7 +54,7 @@ fn put_blanks(bytes: &mut Vec<u8>, times: usize) -> Option<()> {
 }
 
 /// Records of 200 bytes: the blanks of a tilde reach up to the last 13.
-fn records(alloc: Global, text: &[u8]) -> Option<Vec<u8>> {
+pub fn records(alloc: Global, text: &[u8]) -> Option<Vec<u8>> {
     let mut bytes = Vec::new(alloc);
     for byte in text {
         if *byte == b'~' {
@@ -68,19 +83,16 @@ fn first_day() -> Option<Day> {
     Day::of(2024, 6, 1)
 }
 
-/// The flights of a data set from 1 June 2024 on.
-fn flights(alloc: Global, text: &[u8]) -> Option<Flights> {
+/// The flights of a data set from 1 June 2024 on, at most so many, or why there are none.
+pub fn expanded(alloc: Global, text: &[u8], most: u32) -> Option<Result<Flights, FlightFault>> {
     let bytes = records(alloc, text)?;
     let set = set_of(alloc, &bytes)?;
     let first = first_day()?;
     let number = first.number();
-    if number < 10_957 || number > 47_481 {
+    if number < 10_957 || number > 47_481 || most < 1 || most > 100_000 {
         return None;
     }
-    match expand(alloc, &set, first, 30, 100) {
-        Ok(flights) => Some(flights),
-        Err(_) => None,
-    }
+    Some(expand(alloc, &set, first, 30, most))
 }
 
 fn rows_of(alloc: Global, limits: &[u8]) -> Option<LimitRows> {
@@ -94,7 +106,9 @@ fn rows_of(alloc: Global, limits: &[u8]) -> Option<LimitRows> {
 }
 
 fn try_grid(alloc: Global, set: &[u8], limits: &[u8]) -> Option<Grid> {
-    let flights = flights(alloc, set)?;
+    let Some(Ok(flights)) = expanded(alloc, set, 100) else {
+        return None;
+    };
     let rows = rows_of(alloc, limits)?;
     match build_grid(alloc, &flights, rows.as_slice()) {
         Ok(grid) => Some(grid),

@@ -1,7 +1,7 @@
 //! Reading and writing over devices that fail, stop early or take little at a time.
-use crate::worked_sets::no_legs;
+use crate::failing::{FailingReader, FailingWriter, Stop};
+use crate::worked_set::{no_legs, records};
 use airline_base::{Counted, Failures, ReadFault, put_all, read_all};
-use failing_devices::{FailingReader, FailingWriter, Stop};
 use std::alloc::Global;
 use std::io::Write;
 use std::process::Abort;
@@ -53,7 +53,7 @@ fn reads_more_than_a_piece(rt: HostRuntime) {
 
 #[test]
 fn reads_a_data_set_of_600_bytes(rt: HostRuntime) -> Result<(), Fail> {
-    let set = no_legs(rt.alloc())?;
+    let set = records(rt.alloc(), no_legs()).ok_or("a set")?;
     let mut input = Counted::new(set.as_slice());
     assert!(rt; read_all(rt.alloc(), &mut input, 599) == Err(ReadFault::TooLarge));
     let mut input = Counted::new(set.as_slice());

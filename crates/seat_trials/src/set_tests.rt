@@ -1,7 +1,5 @@
 //! Data sets that end too early or have a wrong byte, wherever that is, and too many records or flights.
-use crate::worked_sets::{no_legs, one_leg};
-use airline_base::Day;
-use ssim_flights::expand;
+use crate::worked_set::{expanded, no_legs, one_leg, records};
 use ssim_records::{DataSet, SetFault, SetKind, read_set};
 use std::alloc::{AllocError, Global};
 use std::test::Fail;
@@ -23,7 +21,7 @@ fn is_refused(alloc: Global, bytes: &[u8], nth: u32, kind: SetKind) -> bool {
 
 #[test]
 fn cuts_and_wrong_bytes(rt: HostRuntime) -> Result<(), Fail> {
-    let whole = no_legs(rt.alloc())?;
+    let whole = records(rt.alloc(), no_legs()).ok_or("a set")?;
     for n in 0..whole.len() {
         let nth = u32::try_from(n / 200 + 1).unwrap_or(0);
         let want = match n {
@@ -44,7 +42,7 @@ fn cuts_and_wrong_bytes(rt: HostRuntime) -> Result<(), Fail> {
 
 #[test]
 fn records_beyond_the_most(rt: HostRuntime) -> Result<(), Fail> {
-    let whole = no_legs(rt.alloc())?;
+    let whole = records(rt.alloc(), no_legs()).ok_or("a set")?;
     match read(rt.alloc(), &whole, 2) {
         Some(Err(fault)) => assert!(rt; fault.to_string(rt.alloc())?.as_str() == "S14 3"),
         _ => assert!(rt; false, "three records are read where two may be"),
@@ -56,20 +54,12 @@ fn records_beyond_the_most(rt: HostRuntime) -> Result<(), Fail> {
     Ok(())
 }
 
-/// How many flights the set has from 1 June 2024 on, or the text of its fault.
+/// How many flights the set has, or the text of its fault.
 fn flights_of(alloc: Global, most: u32) -> Result<Option<Result<u32, String>>, AllocError> {
-    let bytes = one_leg(alloc)?;
-    let Some(first) = Day::of(2024, 6, 1) else {
+    let Some(found) = expanded(alloc, one_leg(), most) else {
         return Ok(None);
     };
-    let number = first.number();
-    if number < 10_957 || number > 47_481 || most < 1 || most > 100_000 || bytes.len() > 65_536 {
-        return Ok(None);
-    }
-    let Ok(set) = read_set(alloc, &bytes, 999) else {
-        return Ok(None);
-    };
-    Ok(Some(match expand(alloc, &set, first, 30, most) {
+    Ok(Some(match found {
         Ok(flights) => Ok(flights.len()),
         Err(fault) => Err(fault.to_string(alloc)?),
     }))
