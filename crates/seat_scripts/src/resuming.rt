@@ -11,7 +11,7 @@ ghost use Rattle.seat_scripts.specs.RunDesk.{requests_of};
 
 use crate::scripts::Scripts;
 use crate::very_request::is_asked;
-use airimp_lines::{Request, Requests};
+use airimp_lines::{Request, Requests, requests_behind};
 use seat_desk::DeskFault;
 use seat_journal::Entry;
 use ssim_flights::Flights;
@@ -143,16 +143,8 @@ fn left(alloc: Global, scripts: &[Requests], lines: &[Entry]) -> Result<Scripts,
     let mut left = Scripts::new(alloc);
     for place in 0..scripts.len() {
         let done = calls_in(lines, place as u8 + 1);
-        left.push(rest_of(alloc, scripts[place].as_slice(), done as usize)?)?;
+        let rest = requests_behind(alloc, scripts[place].as_slice(), done as usize)?;
+        left.push(rest)?;
     }
     Ok(left)
-}
-
-/// The requests behind so many.
-fn rest_of(alloc: Global, requests: &[Request], done: usize) -> Result<Requests, AllocError>
-    ensures { IfOk result (λ rest. rest ≡ drop done requests.now) }
-{
-    let front = done.min(requests.len());
-    let rest = Vec::from_slice(alloc, &requests[front..])?;
-    Ok(Requests::from_vec(rest))
 }
