@@ -1,7 +1,7 @@
 #!/usr/bin/env python3
 """Writes input for `seatdesk ladder` in which each line has many bookings to look through, the same for the same words.
 
-    benches/hostile.py N held|fresh|confirming [--seed S]
+    benches/hostile.py N held|fresh|confirming|behind [--seed S]
 
 held        one class: 999 bookings of one seat are held and 999 wait. Then cancels of any of them alternate with
             listings of new locators. A cancel of a held one confirms the first that waits.
@@ -9,6 +9,9 @@ fresh       26 classes: one booking holds all 999 seats, and in each class 999 b
             fresh locators find neither room nor a place to wait.
 confirming  the same 26 classes. Then one seat is given back, which confirms the first that waits; its cancel confirms
             the next, and so on, and after each cancel a new locator is listed.
+behind      26 classes, of which the last 25 are full below the first. In each of those 999 wait, and then 499 in the first. Then
+            seats of the first are given back one by one: each confirms from the end of the list, is given back in turn, and a new
+            locator is listed.
 
 Example: benches/hostile.py 900000 held > held.txt && time ./seatdesk ladder < held.txt > replies.txt
 """
@@ -60,12 +63,30 @@ def confirming(chance):
         yield f"{locator(number)} {letter} LL 1"
 
 
+def behind(_):
+    yield "A999/999 " + " ".join(f"{letter}500/999" for letter in CLASSES[1:])
+    yield f"{locator(0)} B NN 500"
+    held = collections.deque(locator(number) for number in range(1, 500))
+    for name in held:
+        yield f"{name} A NN 1"
+    for number in range(999 * 25):
+        yield f"{locator(500 + number)} {CLASSES[number % 25 + 1]} LL 1"
+    queue = collections.deque(locator(40_000 + number) for number in range(499))
+    for name in queue:
+        yield f"{name} A LL 1"
+    for number in itertools.count(50_000):
+        yield f"{held.popleft()} A XX 1"
+        held.append(queue.popleft())
+        queue.append(locator(number))
+        yield f"{queue[-1]} A LL 1"
+
+
 def main(words):
     seed = 1
     if "--seed" in words:
         at = words.index("--seed")
         seed, words = int(words[at + 1]), words[:at] + words[at + 2 :]
-    modes = {"held": held, "fresh": fresh, "confirming": confirming}
+    modes = {"held": held, "fresh": fresh, "confirming": confirming, "behind": behind}
     if len(words) != 2 or words[1] not in modes or not words[0].isdigit():
         print(__doc__, end="", file=sys.stderr)
         return 2
