@@ -1,0 +1,171 @@
+//! Lines that wait for the host, in the order in which they came.
+ghost use Rattle.std.specs.Prelude.{◌≡◌, ◌&&◌, ◌∷◌, ◌++◌, ◌+◌, ◌<◌, [], IfOk, nat_lt, slice_get, if◌then◌else◌, vec_capacity, vec_len};
+ghost use Rattle.desk_pipes.specs.Waiting.{may_say};
+
+use crate::cutting::HeldLine;
+use airline_base::Memory;
+use std::alloc::Global;
+use std::mem;
+use std::sync::{Condvar, Mutex, Wait};
+
+/// The most lines of a desk that are not answered.
+const MOST_OPEN: u32 = 64;
+
+/// The most of all desks, that of the manager with them.
+const MOST_LINES: usize = 576;
+
+/// A line of a session's desk, with its end.
+#[derive(Drop)]
+pub struct Said {
+    pub session: u8,
+    pub line: HeldLine,
+}
+
+/// What lies under the lock.
+#[derive(Drop)]
+struct Waiting {
+    said: Vec<Said>,
+    /// How many lines of each session are not answered.
+    unanswered: [u32; 9],
+    is_over: bool,
+}
+
+impl Waiting {
+    fn may_say(&self, session: u8) -> bool
+        ensures { result ≡ (may_say self.now.is_over (slice_get self.now.unanswered session)
+            && nat_lt (vec_len self.now.said) (vec_capacity self.now.said)) }
+    {
+        may_say(self.is_over, count_of(&self.unanswered, session))
+            && self.said.len() < self.said.capacity()
+    }
+
+    // Whether the line waits: it stands behind all that do.
+    fn add(&mut self, said: Said) -> bool
+        ensures comes { result ≡ (may_say self.old.is_over (slice_get self.old.unanswered said.session)
+            && nat_lt (vec_len self.old.said) (vec_capacity self.old.said)) }
+        ensures lines { self.new.said.items ≡ (if result then self.old.said.items ++ said ∷ [] else self.old.said.items) }
+        ensures over { self.new.is_over ≡ self.old.is_over }
+    {
+        if !self.may_say(said.session) {
+            return false;
+        }
+        if let Some(count) = self.unanswered.get_mut(usize::from(said.session)) {
+            *count = count.saturating_add(1);
+        }
+        self.said.push_reserved(said);
+        true
+    }
+
+    // All that waits, in its order.
+    fn hand_over(&mut self, said: &mut Vec<Said>)
+        ensures all { said.new ≡ self.old.said }
+        ensures none { self.new.said ≡ said.old }
+        ensures same { (self.new.unanswered ≡ self.old.unanswered) × (self.new.is_over ≡ self.old.is_over) }
+    {
+        mem::swap(&mut self.said, said);
+    }
+
+    // These lines are answered.
+    fn answered(&mut self, said: &[Said])
+        ensures same { (self.new.said ≡ self.old.said) × (self.new.is_over ≡ self.old.is_over) }
+    {
+        count_down(&mut self.unanswered, said);
+    }
+}
+
+fn count_down(unanswered: &mut [u32; 9], said: &[Said]) {
+    for one in said {
+        if let Some(count) = unanswered.get_mut(usize::from(one.session)) {
+            *count = count.saturating_sub(1);
+        }
+    }
+}
+
+fn may_say(is_over: bool, unanswered: Option<u32>) -> bool
+    ensures { result ≡ may_say is_over unanswered }
+{
+    match unanswered {
+        Some(count) => !is_over && count < MOST_OPEN,
+        None => false,
+    }
+}
+
+fn count_of(unanswered: &[u32; 9], session: u8) -> Option<u32>
+    ensures { result ≡ slice_get unanswered.now session }
+{
+    unanswered.get(usize::from(session)).copied()
+}
+
+/// Lines wait in it under a lock.
+#[derive(Drop)]
+pub struct Inbox {
+    waiting: Mutex<Waiting>,
+    came: Condvar,
+    answered: Condvar,
+}
+
+impl Inbox {
+    /// Nothing waits.
+    pub fn new(alloc: Global) -> Result<Inbox, Memory> {
+        Ok(Inbox {
+            waiting: Mutex::new(Waiting {
+                said: room_for_lines(alloc)?,
+                unanswered: [0; 9],
+                is_over: false,
+            }),
+            came: Condvar::new(),
+            answered: Condvar::new(),
+        })
+    }
+
+    /// Lets a line wait, once the session has fewer that are not answered than it may. Whether more may come.
+    pub fn say<R: Wait>(&self, rt: &R, said: Said) -> bool {
+        let session = said.session;
+        let guard = self.waiting.lock(rt);
+        let mut waiting = self.answered.wait_while(
+            rt,
+            guard,
+            |waiting| !waiting.may_say(session) && !waiting.is_over,
+        );
+        let comes = waiting.add(said);
+        drop(waiting);
+        self.came.notify_one();
+        comes
+    }
+
+    /// Waits until something was said, and takes all of it, in its order. What `said` had is given up.
+    pub fn take<R: Wait>(&self, rt: &R, said: &mut Vec<Said>) {
+        let guard = self.waiting.lock(rt);
+        let mut waiting = self.came.wait_while(
+            rt,
+            guard,
+            |waiting| waiting.said.is_empty() && !waiting.is_over,
+        );
+        waiting.hand_over(said);
+        drop(waiting);
+    }
+
+    /// These lines are answered: their sessions may say more.
+    pub fn let_more<R: Wait>(&self, rt: &R, said: &[Said]) {
+        let mut waiting = self.waiting.lock(rt);
+        waiting.answered(said);
+        drop(waiting);
+        self.answered.notify_all();
+    }
+
+    /// Nothing more is taken in.
+    pub fn end<R: Wait>(&self, rt: &R) {
+        let mut waiting = self.waiting.lock(rt);
+        waiting.is_over = true;
+        drop(waiting);
+        self.came.notify_one();
+        self.answered.notify_all();
+    }
+}
+
+/// Room for as many lines as may wait.
+pub fn room_for_lines(alloc: Global) -> Result<Vec<Said>, Memory>
+    ensures { IfOk result (λ said. said.items ≡ []) }
+{
+    Ok(Vec::with_capacity(alloc, MOST_LINES)?)
+}

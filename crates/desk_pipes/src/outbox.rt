@@ -1,0 +1,140 @@
+//! What waits for a desk to be read.
+ghost use Rattle.std.specs.Prelude.{◌≡◌, ◌||◌, [], true, false, if◌then◌else◌, OnErr, OnOk};
+ghost use Rattle.desk_pipes.specs.Waiting.{is_full, text_told};
+
+use std::alloc::{AllocError, Global};
+use std::mem;
+use std::sync::{Condvar, Mutex, Wait};
+use std::thread::yield_now;
+
+/// Where so many bytes wait no more are added until a client says hello.
+const MOST_BYTES: usize = 1_048_576;
+
+/// How often the end of the writing is looked for.
+const MOST_LOOKS: u32 = 10_000;
+
+/// What lies under the lock.
+#[derive(Drop)]
+struct Text {
+    bytes: Vec<u8>,
+    /// Whether something was left out.
+    is_lost: bool,
+    /// Whether what was taken is not written yet.
+    is_writing: bool,
+    is_over: bool,
+}
+
+impl Text {
+    // Adds a text behind what waits. Where too much does that is said once, and nothing more is added; so it is where memory is wanting.
+    fn add(&mut self, more: &[u8]) -> Result<(), AllocError>
+        ensures text { OnOk result (self.new.bytes.items
+            ≡ text_told self.old.is_lost (is_full self.old.bytes.items) self.old.bytes.items more.now) }
+        ensures lost { OnOk result (self.new.is_lost ≡ (self.old.is_lost || is_full self.old.bytes.items)) }
+        ensures memory { OnErr result ((self.new.bytes.items ≡ self.old.bytes.items) × (self.new.is_lost ≡ true)) }
+    {
+        if self.is_lost {
+            return Ok(());
+        }
+        self.is_lost = true;
+        if self.bytes.len() >= MOST_BYTES {
+            return self.bytes.extend_from_slice(b"FAULT - LOST\n");
+        }
+        self.bytes.extend_from_slice(more)?;
+        self.is_lost = false;
+        Ok(())
+    }
+
+    // All that waits, in its order.
+    fn hand_over(&mut self, bytes: &mut Vec<u8>)
+        ensures all { bytes.new ≡ self.old.bytes }
+        ensures none { self.new.bytes ≡ bytes.old }
+    {
+        mem::swap(&mut self.bytes, bytes);
+        self.is_writing = true;
+    }
+
+    // A client begins: where something was left out, what waits is of no use to it.
+    fn begin(&mut self)
+        ensures text { self.new.bytes.items ≡ (if self.old.is_lost then [] else self.old.bytes.items) }
+        ensures whole { self.new.is_lost ≡ false }
+    {
+        if self.is_lost {
+            self.bytes.clear();
+        }
+        self.is_lost = false;
+    }
+}
+
+/// A text waits in it under a lock.
+#[derive(Drop)]
+pub struct Outbox {
+    text: Mutex<Text>,
+    came: Condvar,
+}
+
+impl Outbox {
+    pub fn new(alloc: Global) -> Outbox {
+        Outbox {
+            text: Mutex::new(Text {
+                bytes: Vec::new(alloc),
+                is_lost: false,
+                is_writing: false,
+                is_over: false,
+            }),
+            came: Condvar::new(),
+        }
+    }
+
+    /// Lets a text wait. It waits for nobody.
+    pub fn tell<R: Wait>(&self, rt: &R, bytes: &[u8]) {
+        let mut text = self.text.lock(rt);
+        let _ = text.add(bytes);
+        drop(text);
+        self.came.notify_one();
+    }
+
+    /// A client begins.
+    pub fn begin<R: Wait>(&self, rt: &R) {
+        let mut text = self.text.lock(rt);
+        text.begin();
+        drop(text);
+    }
+
+    /// Waits for a text, and takes it. Nothing is taken where all is over.
+    pub fn take<R: Wait>(&self, rt: &R, bytes: &mut Vec<u8>) {
+        let guard = self.text.lock(rt);
+        let mut text = self
+            .came
+            .wait_while(rt, guard, |text| text.bytes.is_empty() && !text.is_over);
+        text.hand_over(bytes);
+        drop(text);
+    }
+
+    /// What was taken is written.
+    pub fn written<R: Wait>(&self, rt: &R) {
+        let mut text = self.text.lock(rt);
+        text.is_writing = false;
+        drop(text);
+    }
+
+    /// Gives the writer some time to write what waits, and no more: a desk that does not read keeps nobody.
+    pub fn settle<R: Wait>(&self, rt: &R) {
+        for _ in 0..MOST_LOOKS {
+            let text = self.text.lock(rt);
+            let is_written = text.bytes.is_empty() && !text.is_writing;
+            drop(text);
+            if is_written {
+                return;
+            }
+            yield_now();
+        }
+    }
+
+    /// Nothing more is told.
+    pub fn end<R: Wait>(&self, rt: &R) {
+        let mut text = self.text.lock(rt);
+        text.is_over = true;
+        drop(text);
+        self.came.notify_one();
+    }
+}
