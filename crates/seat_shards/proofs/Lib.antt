@@ -1,2 +1,5 @@
 pub mod Sums
 pub mod Merged
+pub mod Owning
+pub mod Summing
+pub mod Grounds

@@ -1,2 +1,6 @@
 pub mod Shards
 pub mod Laws
+pub mod Owners
+pub mod Faults
+pub mod Taking
+pub mod Auditing

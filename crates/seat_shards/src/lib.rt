@@ -1,5 +1,12 @@
-//! Journals of hosts that have different flights over the same set and limits.
-//! It knows which flights a journal has lines of, and nothing of how a line is answered.
+//! Journals of hosts that have different flights over the same set and limits, audited one behind the other.
+//! It knows on which flights a journal has lines, and nothing of how a line is answered.
 #![tactic(auto)]
 
+mod auditing;
+mod fault;
 pub mod laws;
+mod owners;
+mod taking;
+
+pub use auditing::desk_shards;
+pub use fault::ShardFault;

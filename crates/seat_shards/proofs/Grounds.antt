@@ -1,0 +1,62 @@
+-- What is refused, or fails, behind a set and limits that are right.
+use Rattle.std.proofs.Common.{◌≡◌, ◌⊎◌, inl, inr, ℕ, List, Option, Some, None, IfSome, map, subst}
+use Rattle.ssim_flights.specs.declared.flight.Flight.{Flight as Flown}
+use Rattle.seat_limits.specs.Authorised.{authorised_grid}
+use Rattle.seat_limits.specs.declared.limit_row.LimitRow.{LimitRow}
+use Rattle.seat_nesting.specs.Nesting.{Ladders}
+use Rattle.seat_desk.specs.Loading.{Bytes, HasFirstLoadFailed, IsGround, IsGroundOf}
+use Rattle.seat_desk.specs.declared.inputs.Inputs.{Inputs}
+use Rattle.seat_desk.specs.declared.fault.DeskFault.TheVariants.{Device, Memory}
+use Rattle.seat_shards.specs.declared.fault.ShardFault.{ShardFault}
+use Rattle.seat_shards.specs.declared.fault.ShardFault.TheVariants.{Desk, Journal, Shared}
+use Rattle.seat_shards.specs.Auditing.{HasFirstFailed, IsFirstFailed, IsRefusedOver, IsRefusedShards, IsRefusedShardsOf}
+use Rattle.seat_shards.specs.Faults.{IsOfJournal, IsOfJournals, IsOfShards}
+use Rattle.seat_shards.specs.Taking.{known, HasFailedAmong, IsFirstRefused}
+
+refused_texts : (set limits : List ℕ) (first days : ℕ) (flights : List Flown) (rows : List LimitRow) (grid : Ladders)
+    (texts : List (List ℕ)) (fault : ShardFault) → IsGround set limits first days flights rows → grid ≡ authorised_grid rows flights
+    → IsOfJournals fault → IsOfShards fault → (IsOfJournal fault → IsFirstRefused grid texts fault)
+    → IsRefusedShards set limits first days texts fault
+refused_texts set limits first days flights rows grid texts (Desk Device) ground is kind of refused = absurd of
+refused_texts set limits first days flights rows grid texts (Desk Memory) ground is kind of refused = absurd of
+refused_texts set limits first days flights rows grid texts (Desk _) ground is kind of refused = absurd kind
+refused_texts set limits first days flights rows grid texts (Journal place fault) ground is kind of refused =
+    let P : Ladders → Type 0 = λ g. IsFirstRefused g texts (Journal place fault) in
+    record { flights = flights; rows = rows; is_ground = ground; refused = subst P is (refused tt) }
+refused_texts set limits first days flights rows grid texts (Shared place number other) ground is kind of refused =
+    let P : Ladders → Type 0 = λ g. IsFirstRefused g texts (Shared place number other) in
+    record { flights = flights; rows = rows; is_ground = ground; refused = subst P is (refused tt) }
+
+pub refused_over_ground : {S L : Type 0} → (set : Bytes S) (limits : Bytes L) (inputs : Inputs S L) (readers : List (Option (List ℕ)))
+    (flights : List Flown) (rows : List LimitRow) (grid : Ladders) (fault : ShardFault) → IsGroundOf set limits inputs flights rows
+    → grid ≡ authorised_grid rows flights → IsOfJournals fault
+    → (IsOfJournal fault → IfSome (known readers) (λ texts. IsFirstRefused grid texts fault)) → IsOfShards fault
+    → IsRefusedShardsOf set limits inputs readers fault
+refused_over_ground set limits inputs readers flights rows grid fault ground is kind refused of =
+    by (set inputs.set) (limits inputs.limits) (known readers) ground refused
+  where
+    by : (x y : Option (List ℕ)) (z : Option (List (List ℕ)))
+        → IfSome x (λ xs. IfSome y (λ ys. IsGround xs ys inputs.first inputs.days flights rows))
+        → (IsOfJournal fault → IfSome z (λ texts. IsFirstRefused grid texts fault))
+        → IfSome x (λ xs. IfSome y (λ ys. IfSome z (λ zs. IsRefusedShards xs ys inputs.first inputs.days zs fault)))
+    by None y z g r = tt
+    by (Some xs) None z g r = tt
+    by (Some xs) (Some ys) None g r = tt
+    by (Some xs) (Some ys) (Some zs) g r = refused_texts xs ys inputs.first inputs.days flights rows grid zs fault g is kind of r
+
+pub failed_over_ground : {S L J : Type 0} → (set : Bytes S) (limits : Bytes L) (of_set : S → ℕ) (of_limits : L → ℕ) (remaining : Bytes J)
+    (of_journal : J → ℕ) (old new : Inputs S L) (olds news : List J) (flights : List Flown) (rows : List LimitRow) (grid : Ladders)
+    → IsGroundOf set limits old flights rows → grid ≡ authorised_grid rows flights
+    → HasFailedAmong grid (map remaining olds) of_journal olds news
+    → HasFirstFailed set limits of_set of_limits remaining of_journal old new olds news
+failed_over_ground set limits of_set of_limits remaining of_journal old new olds news flights rows grid ground is failed =
+    inr (by (set old.set) (limits old.limits) ground)
+  where
+    P : Ladders → Type 0
+    P g = HasFailedAmong g (map remaining olds) of_journal olds news
+
+    by : (x y : Option (List ℕ)) → IfSome x (λ xs. IfSome y (λ ys. IsGround xs ys old.first old.days flights rows))
+        → IfSome x (λ xs. IfSome y (λ ys. IsFirstFailed xs ys old.first old.days remaining of_journal olds news))
+    by None y g = tt
+    by (Some xs) None g = tt
+    by (Some xs) (Some ys) g = record { flights = flights; rows = rows; is_ground = g; failed = subst P is failed }
