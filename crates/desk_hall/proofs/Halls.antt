@@ -1,12 +1,15 @@
 -- A host of several desks behind a line.
 use Rattle.std.proofs.Common.{◌≡◌, ℕ, zero, suc, ◌+◌, ◌-◌, ◌<◌, ◌≤◌, List, [], ◌∷◌, ◌++◌, length, take, refl, ap, sym, ◌∙◌, subst, arith, append-nil, length-append}
-use Rattle.std.specs.Prelude.{Option, Some, None, IfSome, All, Result, Ok, Err, OnErr, OnOk}
+use Rattle.std.specs.Prelude.{Option, Some, None, Bool, IfSome, All, Result, Ok, Err, OnErr, OnOk}
 use Rattle.std.specs.Prelude.{option_to_list}
 use Rattle.std.proofs.Math.Seq.{take-append_seam}
 use Rattle.std.proofs.lemmas.List.Elements.{All-append}
 use Rattle.desk_calls.specs.declared.call_index.CallIndex.{CallIndex}
-use Rattle.desk_hall.specs.Halls.{Hallful, HasHeardLine, IsHall, IsHeardBy, IsUnheard}
-use Rattle.desk_hall.specs.Planning.{Plans}
+use Rattle.desk_hall.specs.Halls.{Hallful, HasHeardLine, IsHall, IsHeardBy, IsOrdered, IsUnheard}
+use Rattle.desk_hall.specs.Planning.{Plans, PlansOrder, day_behind, goes_on}
+use Rattle.desk_hall.specs.Orders.{IsOrder}
+use Rattle.desk_hall.specs.declared.orders.Order.{Order}
+use Rattle.airline_base.specs.Days.{IsCenturyDay}
 use Rattle.desk_hall.specs.declared.planning.Plan.{Plan}
 use Rattle.desk_hall.specs.declared.turn.Turn.{Turn}
 use Rattle.desk_lines.specs.declared.desk.Desk.{Desk}
@@ -80,7 +83,7 @@ module _ {D : Type 0} where
     grid_is = hall.grid_is;
     today_is = hall.today_is;
     few = omega (arith, count, hall.few);
-    calls_are = hall.calls_are ∙ sym count;
+    calls_are = hall.calls_are ∙ ap (λ (n : ℕ). n + 1) (sym count);
     right = right_more serving.grid old new more hall.right right is;
     room = room_more (length serving.journal) serving.cap old new more hall.room room is;
   }
@@ -115,4 +118,40 @@ module _ {D : Type 0} where
     calls_are = hall.calls_are;
     right = subst (AreRight behind.grid) (sym none) (record { each = λ k d lt. absurd (omega (arith, lt)) });
     room = omega (arith, within, ap length none);
+  }
+
+  -- ---- and behind a line of the manager
+
+  pub ordered_by : (old new : Hallful D) (line : List ℕ) (goes : Bool) (order : Order) (plan : Plan)
+      → IsOrder old.flights (record old.manager { today = old.today }) new.manager line order
+      → new.today ≡ day_behind old.today order → goes ≡ goes_on order
+      → PlansOrder old.serving.cap new.manager new.today (behind old.serving.grid old.serving.journal old.asked) order plan
+      → new.asked ≡ old.asked ++ option_to_list plan.asked → new.turns ≡ old.turns ++ plan.turn ∷ []
+      → new.desks ≡ old.desks → new.serving ≡ old.serving → new.flights ≡ old.flights → IsOrdered old new line goes
+  ordered_by old new line goes order plan is day going plans asked turns desks serving flights = record {
+    order = order;
+    is_order = is;
+    day_is = day;
+    goes_is = going;
+    plan = plan;
+    plans = plans;
+    asked_is = asked;
+    turns_are = turns;
+    desks_are = desks;
+    serving_is = serving;
+    flights_are = flights;
+  }
+
+  -- lines are read on another day
+  pub hall_later : (flights served : List Flown) (serving : Served D) (today later : ℕ) (desks : List Desk) (calls : List CallIndex)
+      (asked : List Asked) → IsHall flights served serving today desks calls asked → IsCenturyDay later
+      → IsHall flights served serving later desks calls asked
+  hall_later flights served serving today later desks calls asked hall day = record {
+    served_is = hall.served_is;
+    grid_is = hall.grid_is;
+    today_is = day;
+    few = hall.few;
+    calls_are = hall.calls_are;
+    right = hall.right;
+    room = hall.room;
   }

@@ -1,4 +1,6 @@
 pub mod Groups
 pub mod Halls
+pub mod Ordered
 pub mod Planned
+pub mod Rows
 pub mod Told

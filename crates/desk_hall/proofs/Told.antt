@@ -10,7 +10,10 @@ use Rattle.std.proofs.lemmas.Bool.Decides.{nat_tests}
 use Rattle.desk_answers.proofs.Repeats.{whole_told}
 use Rattle.desk_calls.specs.Calls.{call_line}
 use Rattle.desk_lines.specs.declared.desk.Wrong.TheVariants as faults
-use Rattle.desk_hall.specs.Telling.{IsQuietTo, IsRepeat, IsRepeatOf, IsRepeatTo, IsTurn, full_to, told_at, told_if}
+use Rattle.desk_hall.specs.Telling.{IsQuietTo, IsRepeat, IsRepeatOf, IsRepeatTo, IsStanding, IsTurn, full_to, refused_to, row_fault_line, told_at, told_if}
+use Rattle.desk_hall.specs.declared.orders.RowFault.{RowFault}
+use Rattle.desk_answers.specs.Ready.{IsReadyLine}
+use Rattle.seat_rules.specs.Journal.{calls_of}
 use Rattle.desk_hall.specs.declared.turn.Turn.{Turn}
 use Rattle.seat_desk.specs.FlightsDesk.{IsPut, IsText}
 use Rattle.seat_desk.proofs.Texts.{put_more, text_whole}
@@ -110,4 +113,30 @@ pub quiet_own : (flights : List Flown) (grid : Ladders) (journal : List Entry) (
     → IsQuietTo (asker == session) flights grid journal asker desk meaning text
 quiet_own flights grid journal session asker desk meaning text own is =
     let same : (asker == session) ≡ true = grind (arith, nat_tests) in
+    rw same is
+
+-- ---- to the manager
+
+pub refused_none : (session : ℕ) (fault : RowFault) (number : ℕ) (text : List ℕ) → (session ≡ 0 → ⊥) → text ≡ []
+    → text ≡ refused_to (session == 0) fault number
+refused_none session fault number text other none =
+    let not : (session == 0) ≡ false = grind (arith, nat_tests) in
+    rw not none
+
+pub refused_own : (session : ℕ) (fault : RowFault) (number : ℕ) (text : List ℕ) → session ≡ 0
+    → text ≡ row_fault_line fault session number → text ≡ refused_to (session == 0) fault number
+refused_own session fault number text own is =
+    let same : (session == 0) ≡ true = grind (arith, nat_tests) in
+    rw same (is ∙ ap (λ (n : ℕ). row_fault_line fault n number) own)
+
+pub standing_none : (journal : List Entry) (session day : ℕ) (text : List ℕ) → (session ≡ 0 → ⊥) → text ≡ []
+    → IsStanding (session == 0) journal day text
+standing_none journal session day text other none =
+    let not : (session == 0) ≡ false = grind (arith, nat_tests) in
+    rw not none
+
+pub standing_own : (journal : List Entry) (session day : ℕ) (text : List ℕ) → session ≡ 0
+    → IsReadyLine None 0 (length journal) (calls_of journal 0) day text → IsStanding (session == 0) journal day text
+standing_own journal session day text own is =
+    let same : (session == 0) ≡ true = grind (arith, nat_tests) in
     rw same is

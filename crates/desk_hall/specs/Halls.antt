@@ -1,12 +1,14 @@
 -- A host of several desks, and what a line of one of them leaves.
-use Rattle.std.specs.Prelude.{◌≡◌, ◌≤◌, ◌-◌, ◌+◌, ℕ, List, [], ◌∷◌, ◌++◌, length, set, slice_get, Some}
+use Rattle.std.specs.Prelude.{◌≡◌, ◌≤◌, ◌-◌, ◌+◌, ℕ, Bool, List, [], ◌∷◌, ◌++◌, length, set, slice_get, Some}
 use Rattle.std.specs.Prelude.{option_to_list}
 use Rattle.airline_base.specs.Days.{IsCenturyDay}
 use Rattle.desk_answers.specs.Saying.{HasHeard}
 use Rattle.desk_calls.specs.declared.call_index.CallIndex.{CallIndex}
 use Rattle.desk_lines.specs.declared.desk.Desk.{Desk}
 use Rattle.desk_lines.specs.declared.desk.Meaning.{Meaning}
-use Rattle.desk_hall.specs.Planning.{Plans}
+use Rattle.desk_hall.specs.Orders.{IsOrder}
+use Rattle.desk_hall.specs.Planning.{Plans, PlansOrder, day_behind, goes_on}
+use Rattle.desk_hall.specs.declared.orders.Order.{Order}
 use Rattle.desk_hall.specs.declared.planning.Plan.{Plan}
 use Rattle.desk_hall.specs.declared.turn.Turn.{Turn}
 use Rattle.ssim_flights.specs.declared.flight.Flight.{Flight as Flown}
@@ -15,13 +17,14 @@ use Rattle.seat_serving.specs.Answering.{behind, AreRight}
 use Rattle.seat_serving.specs.Served.{Served}
 use Rattle.seat_serving.specs.declared.asked.Asked.{Asked}
 
--- what contracts see of it: the first desk is that of session 1. What is asked for is not booked yet, and how each line is answered is
+-- what contracts see of it: the first desk is that of session 1, and the manager is session 0. What is asked for is not booked yet, and how each line is answered is
 -- not told yet
 pub record Hallful (D : Type 0) : Type 0 where
   pub flights : List Flown
   pub serving : Served D
   pub today : ℕ
   pub desks : List Desk
+  pub manager : Desk
   pub asked : List Asked
   pub turns : List Turn
 
@@ -32,7 +35,7 @@ pub record IsHall {D : Type 0} (flights served : List Flown) (serving : Served D
   pub grid_is : IsGridOf flights serving.grid
   pub today_is : IsCenturyDay today
   pub few : length desks ≤ 8
-  pub calls_are : length calls ≡ length desks
+  pub calls_are : length calls ≡ length desks + 1
   pub right : AreRight serving.grid asked
   pub room : length serving.journal + length asked ≤ serving.cap
 
@@ -41,6 +44,7 @@ pub record IsSameHall {D : Type 0} (old new : Hallful D) : Type 0 where
   pub flights_are : new.flights ≡ old.flights
   pub today_is : new.today ≡ old.today
   pub desks_are : new.desks ≡ old.desks
+  pub manager_is : new.manager ≡ old.manager
   pub turns_are : new.turns ≡ old.turns
   pub grid_is : new.serving.grid ≡ old.serving.grid
   pub cap_is : new.serving.cap ≡ old.serving.cap
@@ -57,6 +61,28 @@ pub record IsSameHost {D : Type 0} (old new : Hallful D) : Type 0 where
   pub serving_is : new.serving ≡ old.serving
   pub today_is : new.today ≡ old.today
   pub flights_are : new.flights ≡ old.flights
+
+-- the manager's line asks for this, which comes to this behind what was heard before it: lines are read on another day, the host goes on or
+-- not, and nothing is booked by it
+pub record IsOrdered {D : Type 0} (old new : Hallful D) (line : List ℕ) (goes : Bool) : Type 0 where
+  pub order : Order
+  pub is_order : IsOrder old.flights (record old.manager { today = old.today }) new.manager line order
+  pub day_is : new.today ≡ day_behind old.today order
+  pub goes_is : goes ≡ goes_on order
+  pub plan : Plan
+  pub plans : PlansOrder old.serving.cap new.manager new.today (behind old.serving.grid old.serving.journal old.asked) order plan
+  pub asked_is : new.asked ≡ old.asked ++ option_to_list plan.asked
+  pub turns_are : new.turns ≡ old.turns ++ plan.turn ∷ []
+  pub desks_are : new.desks ≡ old.desks
+  pub serving_is : new.serving ≡ old.serving
+  pub flights_are : new.flights ≡ old.flights
+
+-- memory was wanting: nothing comes of it
+pub record IsUnordered {D : Type 0} (old new : Hallful D) : Type 0 where
+  pub asked_is : new.asked ≡ old.asked
+  pub turns_are : new.turns ≡ old.turns
+  pub desks_are : new.desks ≡ old.desks
+  pub same_host : IsSameHost old new
 
 -- and what it comes to stands behind what was heard before it
 pub record IsHeardBy {D : Type 0} (old new : Hallful D) (session : ℕ) (line : List ℕ) : Type 0 where

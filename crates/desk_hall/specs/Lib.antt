@@ -1,4 +1,5 @@
 pub mod Booking
 pub mod Halls
+pub mod Orders
 pub mod Planning
 pub mod Telling

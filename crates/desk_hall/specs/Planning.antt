@@ -1,14 +1,20 @@
 -- What a line comes to behind the lines that are there, and those that are asked for ahead of it.
-use Rattle.std.specs.Prelude.{◌≡◌, ℕ, ◌+◌, ◌==◌, Bool, true, false, nat_le, nat_lt, List, length, Option, Some, None}
+use Rattle.std.specs.Prelude.{◌≡◌, ℕ, ◌+◌, ◌==◌, Bool, true, false, nat_le, nat_lt, if◌then◌else◌, List, length, Option, Some, None}
 use Rattle.airimp_lines.specs.declared.requests.Request.{Request as Wish}
 use Rattle.desk_answers.specs.Saying.{asked_by}
 use Rattle.desk_lines.specs.declared.desk.Desk.{Desk}
 use Rattle.desk_lines.specs.declared.desk.Meaning.{Meaning}
 use Rattle.desk_lines.specs.declared.desk.Meaning.TheVariants.{Request, Call, WrongCall}
 use Rattle.desk_lines.specs.declared.desk.Wrong.TheVariants.{Beyond}
+use Rattle.desk_lines.specs.declared.desk.Meaning.TheVariants.{Nothing}
+use Rattle.desk_hall.specs.declared.orders.Order.{Order}
+use Rattle.desk_hall.specs.declared.orders.Order.TheVariants as orders
 use Rattle.desk_hall.specs.declared.planning.Plan.{Plan}
-use Rattle.desk_hall.specs.declared.turn.Turn.TheVariants.{Line, Full, Repeated, Quiet}
+use Rattle.desk_hall.specs.declared.turn.Turn.TheVariants.{Line, Full, Repeated, Quiet, Refused, Stands}
+use Rattle.seat_journal.specs.declared.entry.Change.{Change}
 use Rattle.seat_journal.specs.declared.entry.Entry.{Entry}
+use Rattle.seat_journal.specs.declared.entry.Work.TheVariants.{Limit}
+use Rattle.seat_serving.specs.declared.asked.Asked.{Asked}
 use Rattle.seat_rules.specs.Journal.{calls_of}
 use Rattle.ssim_flights.specs.declared.flight.Flight.{Flight as Flown}
 
@@ -39,3 +45,32 @@ Plans flights cap session desk past (Call number wish) plan =
     PlansCall (number == calls_of past session + 1) (nat_le number (calls_of past session)) flights cap session desk number past
     wish plan
 Plans flights cap session desk past meaning plan = PlansQuiet session desk meaning plan
+
+-- ---- the manager
+
+-- another limit, which session 0 asks for
+abbrev pub limit_asked : Change → Asked
+limit_asked change = record { session = 0; work = Limit change }
+
+-- where there is room its line is the next, and else the journal is full
+abbrev pub PlansLimit : Bool → List Entry → Change → Plan → Type 0
+PlansLimit true past change plan = (plan.turn ≡ Line (length past)) × (plan.asked ≡ Some (limit_asked change))
+PlansLimit false past change plan = (plan.turn ≡ Full 0 (calls_of past 0 + 1)) × (plan.asked ≡ None)
+
+-- the later of today and the day of an order
+abbrev pub day_behind : ℕ → Order → ℕ
+day_behind today (orders.Day day) = if nat_lt today day then day else today
+day_behind today order = today
+
+-- the manager stands so behind its line, and today is the day that holds then
+abbrev pub PlansOrder : ℕ → Desk → ℕ → List Entry → Order → Plan → Type 0
+PlansOrder cap manager today past (orders.Said meaning) plan = PlansQuiet 0 manager meaning plan
+PlansOrder cap manager today past (orders.Limit change) plan = PlansLimit (nat_lt (length past) cap) past change plan
+PlansOrder cap manager today past (orders.Refused fault) plan = (plan.turn ≡ Refused fault manager.lines) × (plan.asked ≡ None)
+PlansOrder cap manager today past (orders.Day day) plan = (plan.turn ≡ Stands today) × (plan.asked ≡ None)
+PlansOrder cap manager today past orders.Stop plan = PlansQuiet 0 manager Nothing plan
+
+-- all but the end
+abbrev pub goes_on : Order → Bool
+goes_on orders.Stop = false
+goes_on order = true

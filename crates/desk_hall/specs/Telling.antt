@@ -1,14 +1,18 @@
 -- What a desk is told of the lines that were heard, its own and those of others.
-use Rattle.std.specs.Prelude.{◌≡◌, ◌⊎◌, ℕ, ◌==◌, Bool, true, false, List, [], Option, Some, None, slice_get}
+use Rattle.std.specs.Prelude.{◌≡◌, ◌⊎◌, ℕ, ◌==◌, Bool, true, false, List, [], ◌++◌, length, Option, Some, None, slice_get}
 use Rattle.airimp_lines.specs.declared.requests.Request.{Request as Wish}
-use Rattle.desk_answers.specs.FaultLines.{full_line, wrong_call_line}
+use Rattle.desk_answers.specs.FaultLines.{at_line, fault_line, full_line, wrong_call_line}
 use Rattle.desk_answers.specs.Saying.{SaysQuiet}
 use Rattle.desk_calls.specs.Calls.{call_line}
 use Rattle.desk_lines.specs.declared.desk.Desk.{Desk}
 use Rattle.desk_lines.specs.declared.desk.Meaning.{Meaning}
 use Rattle.desk_lines.specs.declared.desk.Wrong.TheVariants as faults
 use Rattle.desk_hall.specs.declared.turn.Turn.{Turn}
-use Rattle.desk_hall.specs.declared.turn.Turn.TheVariants.{Line, Full, Repeated, Quiet}
+use Rattle.desk_answers.specs.Ready.{IsReadyLine}
+use Rattle.desk_hall.specs.Orders.{row_text}
+use Rattle.desk_hall.specs.declared.orders.RowFault.{RowFault}
+use Rattle.desk_hall.specs.declared.turn.Turn.TheVariants.{Line, Full, Repeated, Quiet, Refused, Stands}
+use Rattle.seat_rules.specs.Journal.{calls_of}
 use Rattle.desk_telling.specs.Telling.{AreTold, Telling, told_of}
 use Rattle.ssim_flights.specs.declared.flight.Flight.{Flight as Flown}
 use Rattle.seat_journal.specs.declared.entry.Entry.{Entry}
@@ -49,6 +53,19 @@ IsQuietTo true flights grid journal asker desk meaning text =
     SaysQuiet flights grid asker desk.today desk.lines journal meaning text
 IsQuietTo false flights grid journal asker desk meaning text = text ≡ []
 
+-- only the manager is told of its row's fault: the code, its session and the line
+abbrev pub row_fault_line : RowFault → ℕ → ℕ → List ℕ
+row_fault_line fault session number = fault_line (row_text fault ++ at_line session number)
+
+abbrev pub refused_to : Bool → RowFault → ℕ → List ℕ
+refused_to true fault number = row_fault_line fault 0 number
+refused_to false fault number = []
+
+-- and where it stands
+abbrev pub IsStanding : Bool → List Entry → ℕ → List ℕ → Type 0
+IsStanding true journal day text = IsReadyLine None 0 (length journal) (calls_of journal 0) day text
+IsStanding false journal day text = text ≡ []
+
 -- a session's desk is told of the line that a request made what concerns it, whoever asked, and of any other line what its own is
 -- answered
 abbrev pub IsTurn : List Flown → Ladders → List Entry → ℕ → Turn → List ℕ → Type 0
@@ -58,3 +75,5 @@ IsTurn flights grid journal session (Repeated asker number wish) text =
     IsRepeatTo (asker == session) flights journal asker number wish text
 IsTurn flights grid journal session (Quiet asker desk meaning) text =
     IsQuietTo (asker == session) flights grid journal asker desk meaning text
+IsTurn flights grid journal session (Refused fault number) text = text ≡ refused_to (session == 0) fault number
+IsTurn flights grid journal session (Stands day) text = IsStanding (session == 0) journal day text

@@ -1,5 +1,5 @@
 //! A host of several desks.
-ghost use Rattle.std.specs.Prelude.{◌≡◌, ◌≤◌, ◌-◌, ◌∷◌, ◌++◌, [], false, length, slice_get, Some, IfErr, IfOk, OnErr, OnOk};
+ghost use Rattle.std.specs.Prelude.{◌≡◌, ◌≤◌, ◌-◌, ◌+◌, ◌∷◌, ◌++◌, [], false, length, slice_get, Some, IfErr, IfOk, OnErr, OnOk};
 ghost use Rattle.std.specs.Prelude.{option_to_list};
 ghost use Rattle.airline_base.specs.Days.{IsCenturyDay};
 ghost use Rattle.airline_base.specs.Noting.{noted};
@@ -13,11 +13,13 @@ ghost use Rattle.seat_serving.specs.Answering.{behind};
 ghost use Rattle.seat_serving.specs.declared.serving.ServeFault.TheVariants.{Device, Memory as NoMemory};
 ghost use Rattle.desk_answers.specs.Hosts.{IsReady};
 ghost use Rattle.desk_hall.specs.Booking.{IsBehindSome};
-ghost use Rattle.desk_hall.specs.Halls.{HasHeardLine, IsHeardBy, IsSameHall, IsUnheard};
+ghost use Rattle.desk_hall.specs.Halls.{HasHeardLine, IsHeardBy, IsOrdered, IsSameHall, IsUnheard, IsUnordered};
 ghost use Rattle.desk_lines.specs.Lines.{IsRightMeaning};
 ghost use Rattle.desk_hall.specs.Telling.{IsTurn};
 
 use crate::booking::book;
+use crate::ordering::{day_behind, goes_on, plan_of_order};
+use crate::orders::order_of;
 use crate::planning::{Plan, plan_of};
 use crate::telling::told_of;
 use crate::turn::Turn;
@@ -41,6 +43,7 @@ pub struct Hall<'a, D: Tape> {
     serving: Serving<D>,
     today: Day,
     desks: Vec<Desk>,
+    manager: Desk,
     calls: Vec<CallIndex>,
     asked: Vec<Asked>,
     turns: Vec<Turn>,
@@ -56,6 +59,7 @@ impl<'a, D: Tape> Model for Hall<'a, D> {
       serving = s.serving;
       today = s.today;
       desks = s.desks.items;
+      manager = s.manager;
       asked = s.asked.items;
       turns = s.turns.items;
     } };
@@ -64,13 +68,15 @@ impl<'a, D: Tape> Model for Hall<'a, D> {
 }
 
 impl<'a, D: Tape> Hall<'a, D> {
-    /// Over flights and an inventory of their legs. The first desk is that of session 1, and so on, each with an index of its calls.
+    /// Over flights and an inventory of their legs. The first desk is that of session 1, and so on; the first index of calls is the
+    /// manager's, and each desk has one.
     pub fn over(
         flights: &'a Flights,
         served: Served<'a>,
         serving: Serving<D>,
         today: Day,
         desks: Vec<Desk>,
+        manager: Desk,
         calls: Vec<CallIndex>,
         asked: Vec<Asked>,
         turns: Vec<Turn>,
@@ -79,10 +85,10 @@ impl<'a, D: Tape> Hall<'a, D> {
         requires grid { IsGridOf flights.now serving.grid }
         requires today { IsCenturyDay today }
         requires few { length desks.items ≤ 8 }
-        requires calls { length calls.items ≡ length desks.items }
+        requires calls { length calls.items ≡ length desks.items + 1 }
         requires none { (asked.items ≡ []) × (turns.items ≡ []) }
         ensures parts { (result.flights ≡ flights.now) × (result.serving ≡ serving) × (result.today ≡ today)
-            × (result.desks ≡ desks.items) }
+            × (result.desks ≡ desks.items) × (result.manager ≡ manager) }
         ensures none { (result.asked ≡ []) × (result.turns ≡ []) }
     {
         // For the prover alone: only the inventory itself says that its journal is within its limits.
@@ -93,6 +99,7 @@ impl<'a, D: Tape> Hall<'a, D> {
             serving,
             today,
             desks,
+            manager,
             calls,
             asked,
             turns,
@@ -106,6 +113,26 @@ impl<'a, D: Tape> Hall<'a, D> {
         &self.serving
     }
 
+    /// How many desks there are.
+    pub fn count(&self) -> u8
+        ensures value { result ≡ length self.now.desks }
+        ensures few { result ≤ 8 }
+    {
+        self.desks.len() as u8
+    }
+
+    /// How many lines a session's desk, or the manager, has said.
+    pub fn lines_of(&self, session: u8) -> u32
+        requires session { session ≤ length self.now.desks }
+        ensures manager { session ≡ 0 → result ≡ self.now.manager.lines }
+        ensures desk { 1 ≤ session → (desk : Desk) → slice_get self.now.desks (session - 1) ≡ Some desk → result ≡ desk.lines }
+    {
+        if session == 0 {
+            return self.manager.lines;
+        }
+        desk_at(self.desks.as_slice(), session).lines
+    }
+
     /// The inventory with its file; the desks are over.
     pub fn into_serving(self) -> Serving<D>
         ensures { result ≡ self.entry.serving }
@@ -116,6 +143,7 @@ impl<'a, D: Tape> Hall<'a, D> {
             serving,
             today: _,
             desks: _,
+            manager: _,
             calls: _,
             asked: _,
             turns: _,
@@ -130,6 +158,7 @@ impl<'a, D: Tape> Hall<'a, D> {
         requires session { (1 ≤ session) × (session ≤ length self.old.desks) }
         ensures heard { OnOk result (IsHeardBy self.old self.new session line.now) }
         ensures memory { OnErr result (IsUnheard self.old self.new session line.now) }
+        ensures unbooked { (self.new.serving ≡ self.old.serving) × (length self.new.desks ≡ length self.old.desks) }
     {
         let Hall {
             flights,
@@ -137,6 +166,7 @@ impl<'a, D: Tape> Hall<'a, D> {
             serving,
             today,
             desks,
+            manager: _,
             calls: _,
             asked,
             turns,
@@ -157,6 +187,34 @@ impl<'a, D: Tape> Hall<'a, D> {
         }
     }
 
+    /// Hears a line of the manager with its end: another limit, which `answer` sets, a later day, or the end of it all. Whether the host goes
+    /// on. Where memory is wanting nothing comes of it.
+    #[tactic(auto, using(crate::proofs::Halls::ordered_by))]
+    pub fn hear_manager(&mut self, alloc: Global, line: &[u8]) -> Result<bool, Memory>
+        ensures ordered { IfOk result (IsOrdered self.old self.new line.now) }
+        ensures memory { OnErr result (IsUnordered self.old self.new) }
+        ensures unbooked { (self.new.serving ≡ self.old.serving) × (self.new.desks ≡ self.old.desks) }
+    {
+        let Hall {
+            flights,
+            served,
+            serving,
+            today,
+            desks: _,
+            manager,
+            calls: _,
+            asked,
+            turns,
+        } = self;
+        manager.today = *today;
+        let order = order_of(alloc, served, manager, line)?;
+        let day = day_behind(*today, &order);
+        let plan = plan_of_order(flights, serving, asked.as_slice(), manager, day, order);
+        add(asked, turns, &plan)?;
+        *today = day;
+        Ok(goes_on(&order))
+    }
+
     /// Books what the lines that were heard ask for, in their order and in groups: it is on the disk and visible. Where memory is wanting
     /// or the file fails, what is behind the first that has no line is not booked.
     #[tactic(auto, using(crate::proofs::Halls::hall_answered))]
@@ -172,6 +230,7 @@ impl<'a, D: Tape> Hall<'a, D> {
             × (D.failure_count self.new.serving.tape ≡ noted (D.failure_count self.old.serving.tape))) }
         ensures front { Begins self.old.serving.kept self.new.serving.kept }
         ensures told { KeepsFront (open_text self.old.serving.kept) (D.may_leave self.new.serving.tape) }
+        ensures counted { OnOk result (D.failure_count self.new.serving.tape ≡ D.failure_count self.old.serving.tape) }
         ensures same { IsSameHall self.old self.new }
     {
         let Hall {
@@ -180,6 +239,7 @@ impl<'a, D: Tape> Hall<'a, D> {
             serving,
             today: _,
             desks: _,
+            manager: _,
             calls: _,
             asked,
             turns: _,
@@ -191,10 +251,10 @@ impl<'a, D: Tape> Hall<'a, D> {
         booked
     }
 
-    /// What a session's desk is told of the lines that were heard: what its own are answered, and the advices to its bookings of what
+    /// What a session's desk, or the manager, is told of the lines that were heard: what its own are answered, and the advices to its bookings of what
     /// others asked for, all in the order of the lines.
     pub fn told(&mut self, alloc: Global, session: u8) -> Result<Vec<u8>, Memory>
-        requires session { (1 ≤ session) × (session ≤ length self.old.desks) }
+        requires session { session ≤ length self.old.desks }
         ensures told { IfOk result (λ text. IsText (at_any (IsTurn self.old.flights self.old.serving.grid self.old.serving.journal
             session)) 0 self.old.turns text.items) }
         ensures same { self.new ≡ self.old }
@@ -205,11 +265,12 @@ impl<'a, D: Tape> Hall<'a, D> {
             serving,
             today: _,
             desks: _,
+            manager: _,
             calls,
             asked: _,
             turns,
         } = self;
-        let index = &mut calls[usize::from(session) - 1];
+        let index = &mut calls[usize::from(session)];
         told_of(
             alloc,
             flights,
@@ -225,7 +286,7 @@ impl<'a, D: Tape> Hall<'a, D> {
     pub fn end_turns(&mut self)
         ensures none { self.new.turns ≡ [] }
         ensures same { (self.new.serving ≡ self.old.serving) × (self.new.desks ≡ self.old.desks)
-            × (self.new.asked ≡ self.old.asked) × (self.new.today ≡ self.old.today) × (self.new.flights ≡ self.old.flights) }
+            × (self.new.manager ≡ self.old.manager) × (self.new.asked ≡ self.old.asked) × (self.new.today ≡ self.old.today) × (self.new.flights ≡ self.old.flights) }
     {
         self.turns.clear();
     }

@@ -5,9 +5,12 @@
 
 mod booking;
 mod hall;
+mod ordering;
+mod orders;
 mod planning;
 mod telling;
 mod turn;
 
 pub use hall::Hall;
+pub use orders::{Order, RowFault};
 pub use turn::Turn;

@@ -53,7 +53,7 @@ pub(crate) fn plan_of<D: Tape>(
     }
 }
 
-fn quiet(session: u8, desk: &Desk, meaning: Meaning) -> Plan
+pub(crate) fn quiet(session: u8, desk: &Desk, meaning: Meaning) -> Plan
     ensures { (result.turn ≡ Turn.Quiet session desk.now meaning) × (result.asked ≡ None) }
 {
     Plan {
@@ -133,7 +133,7 @@ fn plan_call<D: Tape>(
 
 // How many calls a session has behind what is asked for.
 #[tactic(auto, using(crate::proofs::Planned::calls_more))]
-fn calls_behind<D: Tape>(serving: &Serving<D>, asked: &[Asked], session: u8) -> u32
+pub(crate) fn calls_behind<D: Tape>(serving: &Serving<D>, asked: &[Asked], session: u8) -> u32
     requires room { length serving.now.journal + length asked.now ≤ serving.now.cap }
     ensures value { result ≡ calls_of (behind serving.now.grid serving.now.journal asked.now) session }
     ensures few { result ≤ 1999998 }

@@ -1,5 +1,7 @@
 //! What a line of a desk comes to.
+use crate::orders::RowFault;
 use airimp_lines::Request;
+use airline_base::Day;
 use desk_lines::{Desk, Meaning};
 
 /// How a line is answered. A session's number stands first.
@@ -13,4 +15,8 @@ pub enum Turn {
     Repeated(u8, u32, Request),
     /// By what its meaning asks for, which books nothing; so stood the desk behind it.
     Quiet(u8, Desk, Meaning),
+    /// By the fault of the manager's row, the line of this number.
+    Refused(RowFault, u32),
+    /// By where the manager stands on this day.
+    Stands(Day),
 }

@@ -1,0 +1,96 @@
+-- Rows of the manager.
+use Rattle.std.proofs.Common.{◌≡◌, ℕ, ◌+◌, ◌≤◌, ◌<◌, ◌==◌, Bool, true, false, List, [], ◌∷◌, length, map, get_or, refl, ap, sym, subst, arith}
+use Rattle.std.specs.Prelude.{Option, Some, None}
+use Rattle.std.specs.List.{AllByRecursion}
+use Rattle.std.specs.Str.Lines.{lines}
+use Rattle.std.proofs.lemmas.Bool.Decides.{nat_tests}
+use Rattle.std.proofs.lemmas.List.{length-map}
+use Rattle.airline_base.specs.declared.place.Place.{Place}
+use Rattle.desk_hall.specs.Orders.{IsLegless, IsRightOrder, IsRowOf}
+use Rattle.desk_hall.specs.declared.orders.Order.TheVariants.{Limit}
+use Rattle.seat_journal.specs.declared.entry.Change.{Change}
+use Rattle.seat_limits.specs.ChangeRows.{IsChangeText, SpellsChanges}
+use Rattle.seat_limits.specs.declared.change_row.ChangeRow.{ChangeRow}
+use Rattle.seat_scripts.specs.Changes.{AreServed, IsOnLeg, change_of, on_leg, on_place, wanted_by}
+use Rattle.ssim_flights.specs.Places.{place_wanted}
+use Rattle.ssim_flights.specs.declared.flight.Flight.{Flight as Flown}
+
+-- ---- legs
+
+record IsSmall (row : ChangeRow) : Type 0 where
+  limit : row.limit ≤ 999
+  wait : row.wait ≤ 999
+
+all_small : (n : ℕ) (texts : List (List ℕ)) (rows : List ChangeRow) → SpellsChanges n texts rows → AllByRecursion IsSmall rows
+all_small n [] [] are = tt
+all_small n [] (row ∷ rows) are = absurd are
+all_small n ([] ∷ texts) rows are = all_small (n + 1) texts rows are
+all_small n ((c ∷ text) ∷ texts) [] are = absurd are
+all_small n ((c ∷ text) ∷ texts) (row ∷ rows) are =
+    (record { limit = are.0.is_entry.limit; wait = are.0.is_entry.wait }, all_small (n + 1) texts rows are.1)
+
+on_one : (flights : List Flown) (row : ChangeRow) (change : Change) (place : Option Place) → IsSmall row
+    → place_wanted flights (wanted_by row) ≡ place → on_place row place ≡ Some change → IsOnLeg flights change
+on_one flights row change None small found is = absurd cc
+on_one flights row change (Some place) small found is = cases_of (place.from == place.to) refl
+  where
+    leg : place.from ≡ place.to → on_leg row place ≡ change → IsOnLeg flights change
+    leg same e = subst (IsOnLeg flights) e (record {
+      wanted = wanted_by row;
+      place = place;
+      serves = found;
+      one_leg = same;
+      flight_is = refl;
+      leg_is = refl;
+      limit_most = small.limit;
+      wait_most = small.wait;
+    })
+
+    cases_of : (t : Bool) → (place.from == place.to) ≡ t → IsOnLeg flights change
+    cases_of true e = let h = rw e at is in leg (grind (arith, nat_tests, e)) (cc h)
+    cases_of false e = let h = rw e at is in absurd (cc h)
+
+-- ---- rows
+
+-- one that a leg serves
+pub row_made : (flights : List Flown) (text : List ℕ) (rows : List ChangeRow) (row : ChangeRow) (change : Change)
+    → IsChangeText text rows → rows ≡ row ∷ [] → change_of flights row ≡ Some change → IsRowOf flights text change
+row_made flights text rows row change are is at = record {
+  rows = rows;
+  are_rows = are;
+  served = rw is (ap (λ (o : Option Change). o ∷ []) at);
+}
+
+pub row_right : (flights : List Flown) (text : List ℕ) (rows : List ChangeRow) (row : ChangeRow) (change : Change)
+    → IsChangeText text rows → rows ≡ row ∷ [] → change_of flights row ≡ Some change → IsRightOrder flights (Limit change)
+row_right flights text rows row change are is at =
+    let small : AllByRecursion IsSmall (row ∷ []) =
+    subst (AllByRecursion IsSmall) is (all_small 1 (lines text) rows are.spelled) in
+    (on_one flights row change (place_wanted flights (wanted_by row)) small.0 refl at, tt)
+
+-- one that none does
+pub row_legless : (flights : List Flown) (text : List ℕ) (rows : List ChangeRow) (row : ChangeRow)
+    → IsChangeText text rows → rows ≡ row ∷ [] → change_of flights row ≡ None → IsLegless flights text
+row_legless flights text rows row are is at = record {
+  rows = rows;
+  some = omega (arith, ap length is);
+  are_rows = are;
+  unserved = λ change served. let there = rw is at served in absurd cc;
+}
+
+-- several are no change
+pub rows_legless : (flights : List Flown) (text : List ℕ) (rows : List ChangeRow) → IsChangeText text rows → 1 < length rows
+    → IsLegless flights text
+rows_legless flights text rows are several = record {
+  rows = rows;
+  some = omega (arith, several);
+  are_rows = are;
+  unserved = λ change served. let same = ap length served in absurd (omega (arith, same, several, length-map rows (change_of flights)));
+}
+
+-- the row is the only one
+pub only_row : (rows : List ChangeRow) (row : ChangeRow) → row ≡ get_or rows 0 row → 0 < length rows → length rows < 2
+    → rows ≡ row ∷ []
+only_row [] row at some few = absurd (omega (arith, some))
+only_row (first ∷ []) row at some few = ap (λ (r : ChangeRow). r ∷ []) (sym at)
+only_row (first ∷ second ∷ rows) row at some few = absurd (omega (arith, few))

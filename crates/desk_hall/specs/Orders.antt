@@ -1,0 +1,140 @@
+-- What a line of the manager asks for.
+use Rattle.std.specs.Prelude.{◌≡◌, ◌≤◌, ◌<◌, ℕ, ◌+◌, ◌==◌, ◌&&◌, ◌||◌, nat_le, Bool, true, false, if◌then◌else◌, List, [], ◌∷◌, length, codes, Option, Some, None, Err, ⊤}
+use Rattle.std.specs.List.{AllByRecursion}
+use Rattle.std.specs.Str.Lines.{lines}
+use Rattle.airline_base.specs.Days.{civil_in, IsCenturyDay}
+use Rattle.airline_base.specs.Fields.{◌>>=◌, two_are, two_value, word_at}
+use Rattle.airline_base.specs.Lines.{line_at}
+use Rattle.desk_answers.specs.Saying.{HasHeard}
+use Rattle.desk_lines.specs.Lines.{is_word, next_number}
+use Rattle.desk_lines.specs.declared.desk.Desk.{Desk}
+use Rattle.desk_lines.specs.declared.desk.Meaning.{Meaning}
+use Rattle.desk_lines.specs.declared.desk.Meaning.TheVariants.{Nothing, Wrong}
+use Rattle.desk_lines.specs.declared.desk.Standing.{Standing}
+use Rattle.desk_lines.specs.declared.desk.Standing.TheVariants.{Silent}
+use Rattle.desk_lines.specs.declared.desk.Wrong.TheVariants as faults
+use Rattle.desk_hall.specs.declared.orders.Order.{Order}
+use Rattle.desk_hall.specs.declared.orders.Order.TheVariants.{Said, Limit, Refused, Day, Stop}
+use Rattle.desk_hall.specs.declared.orders.RowFault.{RowFault}
+use Rattle.desk_hall.specs.declared.orders.RowFault.TheVariants.{Malformed, NoLeg}
+use Rattle.seat_journal.specs.declared.entry.Change.{Change}
+use Rattle.seat_limits.specs.ChangeRows.{IsChangeText, changes_in}
+use Rattle.seat_limits.specs.FaultText.{kind_text}
+use Rattle.seat_limits.specs.declared.change_row.ChangeRow.{ChangeRow}
+use Rattle.seat_limits.specs.declared.limit_fault.LimitFault.{LimitFault}
+use Rattle.seat_limits.specs.declared.limit_fault.LimitKind.{LimitKind}
+use Rattle.seat_scripts.specs.Changes.{AreServed, IsOnLeg}
+use Rattle.ssim_flights.specs.declared.flight.Flight.{Flight as Flown}
+
+-- ---- words
+
+-- ahead of a hello the manager is heard as any desk is, and so is a word to the host wherever it comes
+abbrev pub is_for_desk : Standing → List ℕ → Bool
+is_for_desk Silent line = true
+is_for_desk standing line = is_word line
+
+abbrev pub in_century : Option ℕ → Option ℕ
+in_century None = None
+in_century (Some n) = if nat_le 10957 n && nat_le n 47481 then Some n else None
+
+-- YYYY-MM-DD of the years 2000 to 2099
+unfoldable pub iso_day_at : List ℕ → Option ℕ
+iso_day_at (c ∷ e ∷ y ∷ z ∷ g ∷ m ∷ n ∷ h ∷ t ∷ u ∷ []) =
+    if (c == 50) && (e == 48) && (g == 45) && (h == 45) && (two_are y z && (two_are m n && two_are t u))
+    then in_century (civil_in (2000 + two_value y z) (two_value m n) (two_value t u)) else None
+iso_day_at _ = None
+
+-- `?DAY` and the day
+unfoldable pub day_at : List ℕ → Option ℕ
+day_at text = do
+  rest ← word_at (codes "?DAY ") text
+  iso_day_at rest
+
+-- `?STOP`
+unfoldable pub stop_at : List ℕ → Option Order
+stop_at text = do
+  rest ← word_at (codes "?STOP") text
+  if length rest == 0 then Some Stop else None
+
+abbrev pub day_order : Option ℕ → Order
+day_order None = Said (Wrong faults.Word)
+day_order (Some day) = Day day
+
+abbrev pub stop_order : Option Order → List ℕ → Order
+stop_order (Some order) text = order
+stop_order None text = day_order (day_at text)
+
+-- a word that no desk has may be one of the manager
+abbrev pub own_order : List ℕ → Order
+own_order text = stop_order (stop_at text) text
+
+abbrev pub order_in : List ℕ → Meaning → Order
+order_in text (Wrong faults.Word) = own_order text
+order_in text meaning = Said meaning
+
+-- ---- rows
+
+-- the row asks for this change, on the one leg that serves it
+pub record IsRowOf (flights : List Flown) (text : List ℕ) (change : Change) : Type 0 where
+  pub rows : List ChangeRow
+  pub are_rows : IsChangeText text rows
+  pub served : AreServed flights rows (change ∷ [])
+
+-- it has this fault, its first
+pub record IsMalformed (text : List ℕ) (kind : LimitKind) : Type 0 where
+  pub fault : LimitFault
+  pub first : changes_in 1 (lines text) ≡ Err fault
+  pub kind_is : kind ≡ fault.kind
+
+-- it is a row, and no one leg serves it
+pub record IsLegless (flights : List Flown) (text : List ℕ) : Type 0 where
+  pub rows : List ChangeRow
+  pub some : 0 < length rows
+  pub are_rows : IsChangeText text rows
+  pub unserved : (change : Change) → AreServed flights rows (change ∷ []) → ⊥
+
+-- what a line that is no word asks for
+abbrev pub IsRow : List Flown → List ℕ → Order → Type 0
+IsRow flights text (Said Nothing) = IsChangeText text []
+IsRow flights text (Said (Wrong faults.TooLong)) = 256 < length text
+IsRow flights text (Limit change) = IsRowOf flights text change
+IsRow flights text (Refused (Malformed kind)) = IsMalformed text kind
+IsRow flights text (Refused NoLeg) = IsLegless flights text
+IsRow flights text order = ⊥
+
+-- the code of its fault
+abbrev pub row_text : RowFault → List ℕ
+row_text (Malformed kind) = kind_text kind
+row_text NoLeg = codes "U1"
+
+-- ---- the whole
+
+-- it means something to a desk
+pub record IsSaid (old new : Desk) (line : List ℕ) (order : Order) : Type 0 where
+  pub meaning : Meaning
+  pub has_heard : HasHeard old new line meaning
+  pub order_is : order ≡ order_in (line_at line).0 meaning
+
+-- it counts, and is a row
+pub record IsRead (flights : List Flown) (old new : Desk) (line : List ℕ) (order : Order) : Type 0 where
+  pub counted : new.lines ≡ next_number old.lines
+  pub same_day : new.today ≡ old.today
+  pub same_standing : new.standing ≡ old.standing
+  pub is_row : IsRow flights (line_at line).0 order
+
+abbrev pub IsOrderBy : Bool → List Flown → Desk → Desk → List ℕ → Order → Type 0
+IsOrderBy true flights old new line order = IsSaid old new line order
+IsOrderBy false flights old new line order = IsRead flights old new line order
+
+abbrev pub IsOrder : List Flown → Desk → Desk → List ℕ → Order → Type 0
+IsOrder flights old new line order = IsOrderBy (is_for_desk old.standing line) flights old new line order
+
+-- a change is on a leg of the flights
+abbrev pub IsRightOrder : List Flown → Order → Type 0
+IsRightOrder flights (Limit change) = AllByRecursion (IsOnLeg flights) (change ∷ [])
+IsRightOrder flights order = ⊤
+
+-- a day is of the years 2000 to 2099
+abbrev pub IsOfCentury : Order → Type 0
+IsOfCentury (Day day) = IsCenturyDay day
+IsOfCentury order = ⊤

@@ -1,0 +1,256 @@
+//! What a line of the manager asks for: another limit, a later day, or the end of it all.
+ghost use Rattle.std.specs.Prelude.{◌≡◌, ◌+◌, ◌≤◌, ◌<◌, ◌^◌, List, length, IfOk, IfSome};
+ghost use Rattle.seat_limits.specs.ChangeRows.{IsChangeText};
+ghost use Rattle.seat_scripts.specs.Changes.{change_of, wanted_by};
+ghost use Rattle.airline_base.specs.Days.{IsCenturyDay, civil_in};
+ghost use Rattle.desk_lines.specs.Lines.{is_word};
+ghost use Rattle.desk_hall.specs.Orders.{day_at, in_century, is_for_desk, iso_day_at, order_in, own_order, stop_at, IsOfCentury, IsOrder, IsRightOrder, IsRow};
+ghost use Rattle.ssim_flights.specs.declared.flight.Flight.{Flight as Flown};
+
+use airline_base::fields::{two_are, two_value, word_of};
+use airline_base::lines::cut_line;
+use airline_base::{Day, Memory};
+use desk_lines::{Desk, Meaning, Standing, Wrong};
+use seat_journal::Change;
+use seat_limits::{ChangeRow, LimitKind, read_changes};
+use ssim_flights::{Served, Wanted};
+use std::alloc::Global;
+use std::fmt;
+
+/// The days of the years 2000 to 2099, by their numbers.
+const FIRST_DAY: u32 = 10_957;
+
+const LAST_DAY: u32 = 47_481;
+
+/// The most bytes of a line.
+const MOST_BYTES: usize = 256;
+
+/// Why a row of the manager is refused.
+#[derive(Clone, Copy, Debug, PartialEq, Eq)]
+pub enum RowFault {
+    /// It is no row.
+    Malformed(LimitKind),
+    /// No leg, or more than one, serves it.
+    NoLeg,
+}
+
+impl fmt::Display for RowFault {
+    ghost use Rattle.std.specs.Prelude.{Some};
+    ghost use Rattle.desk_hall.specs.Orders.{row_text};
+
+    ghost output = { λ fault. Some (row_text fault) };
+
+    /// The code, as a run has it.
+    fn fmt<W: fmt::Write>(&self, f: &mut fmt::Formatter<W>) -> fmt::Result {
+        match self {
+            RowFault::Malformed(kind) => kind.fmt(f),
+            RowFault::NoLeg => f.write_str("U1"),
+        }
+    }
+}
+
+/// What a line of the manager asks for.
+#[derive(Clone, Copy)]
+pub enum Order {
+    /// What it asks of any desk, which books nothing.
+    Said(Meaning),
+    /// Another limit.
+    Limit(Change),
+    /// A row that is refused.
+    Refused(RowFault),
+    /// Lines are read on this day from then on, where it is later.
+    Day(Day),
+    /// The end.
+    Stop,
+}
+
+/// What a line of the manager, with its end, asks for. Ahead of a `?HELLO` and of a word to the host the manager is a desk as any other.
+pub(crate) fn order_of(
+    alloc: Global,
+    served: &Served<'_>,
+    manager: &mut Desk,
+    line: &[u8],
+) -> Result<Order, Memory>
+    requires today { IsCenturyDay manager.old.today }
+    ensures means { IfOk result (IsOrder served.now manager.old manager.new line.now) }
+    ensures right { IfOk result (IsRightOrder served.now) }
+    ensures century { IfOk result IsOfCentury }
+{
+    if is_for_desk(manager.standing, line) {
+        let meaning = manager.hear(line);
+        let (text, _) = cut_line(line);
+        return Ok(order_in(text, meaning));
+    }
+    manager.lines = manager.lines.saturating_add(1);
+    let (text, _) = cut_line(line);
+    row_order(alloc, served, text)
+}
+
+fn is_for_desk(standing: Standing, line: &[u8]) -> bool
+    ensures { result ≡ is_for_desk standing line.now }
+{
+    matches!(standing, Standing::Silent) || is_word(line)
+}
+
+fn is_word(line: &[u8]) -> bool
+    ensures { result ≡ is_word line.now }
+{
+    match line {
+        [] => false,
+        [first, ..] => *first == b'?',
+    }
+}
+
+// What is no word of a desk may be one of the manager.
+fn order_in(text: &[u8], meaning: Meaning) -> Order
+    ensures value { result ≡ order_in text.now meaning }
+    ensures right { (flights : List Flown) → IsRightOrder flights result }
+    ensures century { IsOfCentury result }
+{
+    match meaning {
+        Meaning::Wrong(Wrong::Word) => own_order(text),
+        _ => Order::Said(meaning),
+    }
+}
+
+// A word that only the manager has.
+fn own_order(text: &[u8]) -> Order
+    ensures value { result ≡ own_order text.now }
+    ensures right { (flights : List Flown) → IsRightOrder flights result }
+    ensures century { IsOfCentury result }
+{
+    match stop(text) {
+        Some(order) => order,
+        None => match day_named(text) {
+            Some(day) => Order::Day(day),
+            None => Order::Said(Meaning::Wrong(Wrong::Word)),
+        },
+    }
+}
+
+// `?STOP`
+#[tactic(auto, unfolding(crate::specs::Orders::stop_at))]
+fn stop(text: &[u8]) -> Option<Order>
+    ensures value { result ≡ stop_at text.now }
+    ensures right { (flights : List Flown) → IfSome result (IsRightOrder flights) }
+    ensures century { IfSome result IsOfCentury }
+{
+    let Some(rest) = word_of(b"?STOP", text) else {
+        return None;
+    };
+    if !rest.is_empty() {
+        return None;
+    }
+    Some(Order::Stop)
+}
+
+// `?DAY 2024-06-22`
+#[tactic(auto, unfolding(crate::specs::Orders::day_at))]
+fn day_named(text: &[u8]) -> Option<Day>
+    ensures value { result ≡ day_at text.now }
+    ensures century { IfSome result IsCenturyDay }
+{
+    let Some(rest) = word_of(b"?DAY ", text) else {
+        return None;
+    };
+    iso_day(rest)
+}
+
+#[tactic(auto, unfolding(crate::specs::Orders::iso_day_at))]
+fn iso_day(text: &[u8]) -> Option<Day>
+    ensures value { result ≡ iso_day_at text.now }
+    ensures century { IfSome result IsCenturyDay }
+{
+    match text {
+        [b'2', b'0', y, z, b'-', m, n, b'-', t, u]
+            if two_are(*y, *z) && two_are(*m, *n) && two_are(*t, *u) => {
+            in_century(day_of(two_value(*y, *z), two_value(*m, *n), two_value(*t, *u)))
+        }
+        _ => None,
+    }
+}
+
+fn in_century(day: Option<Day>) -> Option<Day>
+    ensures value { result ≡ in_century day }
+    ensures century { IfSome result IsCenturyDay }
+{
+    match day {
+        Some(day) if FIRST_DAY <= day.number() && day.number() <= LAST_DAY => Some(day),
+        _ => None,
+    }
+}
+
+#[tactic(auto, using(airline_base::proofs::DateLaws::civil_is))]
+fn day_of(year: u8, month: u8, day: u8) -> Option<Day>
+    requires { year ≤ 99 }
+    ensures { result ≡ civil_in (2000 + year) month day }
+{
+    Day::of(2000 + u16::from(year), month, day)
+}
+
+// The row of a line, on the one leg that serves it.
+fn row_order(alloc: Global, served: &Served<'_>, text: &[u8]) -> Result<Order, Memory>
+    ensures means { IfOk result (IsRow served.now text.now) }
+    ensures right { IfOk result (IsRightOrder served.now) }
+    ensures century { IfOk result IsOfCentury }
+{
+    if text.len() > MOST_BYTES {
+        return Ok(Order::Said(Meaning::Wrong(Wrong::TooLong)));
+    }
+    match read_changes(alloc, text) {
+        Ok(rows) => rows_order(served, text, rows.as_slice()),
+        Err(fault) => match fault.kind {
+            LimitKind::Memory => Err(Memory),
+            kind => Ok(Order::Refused(RowFault::Malformed(kind))),
+        },
+    }
+}
+
+// The change that the only row asks for. Where there is none the line was empty.
+#[tactic(auto, using(crate::proofs::Rows::row_made, crate::proofs::Rows::row_right, crate::proofs::Rows::row_legless, crate::proofs::Rows::rows_legless))]
+fn rows_order(served: &Served<'_>, text: &[u8], rows: &[ChangeRow]) -> Result<Order, Memory>
+    requires rows { IsChangeText text.now rows.now }
+    requires short { length text.now ≤ 256 }
+    ensures means { IfOk result (IsRow served.now text.now) }
+    ensures right { IfOk result (IsRightOrder served.now) }
+    ensures century { IfOk result IsOfCentury }
+{
+    match rows {
+        [] => Ok(Order::Said(Meaning::Nothing)),
+        [row] => match change_of(served, row) {
+            Some(change) => Ok(Order::Limit(change)),
+            None => Ok(Order::Refused(RowFault::NoLeg)),
+        },
+        _ => Ok(Order::Refused(RowFault::NoLeg)),
+    }
+}
+
+// The change that a row asks for, where exactly one leg serves it.
+fn change_of(served: &Served<'_>, row: &ChangeRow) -> Option<Change>
+    ensures { result ≡ change_of served.now row.now }
+{
+    let place = served.find(&wanted_by(row))?;
+    if place.from != place.to {
+        return None;
+    }
+    Some(Change {
+        flight: place.flight,
+        leg: place.from,
+        class: row.class,
+        limit: row.limit,
+        wait: row.wait,
+    })
+}
+
+fn wanted_by(row: &ChangeRow) -> Wanted
+    ensures { result ≡ wanted_by row.now }
+{
+    Wanted {
+        airline: row.airline,
+        number: row.number,
+        suffix: row.suffix,
+        day: row.day,
+        board: row.board,
+        off: row.off,
+    }
+}
