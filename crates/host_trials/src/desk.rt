@@ -3,6 +3,7 @@ ghost use Rattle.std.specs.Prelude.{◌+◌, ◌≤◌, IsTrue, OnOk, length};
 ghost use Rattle.seat_serving.specs.Answering.{AreRight};
 
 use crate::files::Why;
+use crate::steps::same_line;
 use airline_base::{Class, Place};
 use seat_disk::{Fuse, Tape, TornTape};
 use seat_display::Viewer;
@@ -139,23 +140,16 @@ fn are_right<D: Tape>(serving: &Serving<D>, asked: &[Asked]) -> bool
     asked.iter().all(|request| serving.is_right(request))
 }
 
-/// Whether two lines agree in all that they say.
-pub fn are_same(a: &Entry, b: &Entry) -> bool {
-    a.number == b.number
-        && a.session == b.session
-        && a.call == b.call
-        && a.work == b.work
-        && a.reply == b.reply
-        && a.released == b.released
-        && a.advices.as_slice() == b.advices.as_slice()
-}
-
 /// Whether these are the lines of a journal behind its first `from`.
 pub fn are_behind(lines: &[Entry], from: usize, journal: &[Entry]) -> bool {
     let Some((_, behind)) = journal.split_at_checked(from) else {
         return false;
     };
-    lines.len() <= behind.len() && lines.iter().zip(behind.iter()).all(|(a, b)| are_same(a, b))
+    lines.len() <= behind.len()
+        && lines
+            .iter()
+            .zip(behind.iter())
+            .all(|(a, b)| same_line(a, b))
 }
 
 /// What these lines ask for.

@@ -1,6 +1,7 @@
 //! An open journal of ten lines, worked by hand, and what is found in a file.
+use crate::steps::lines_of;
 use airline_base::Class;
-use seat_journal::{Entries, JournalFault, JournalKind, read_journal};
+use seat_journal::{Entries, JournalFault, JournalKind};
 use seat_nesting::{Grid, Ladder, Step};
 use seat_recovery::{Damage, Recovered, RecoveryFault, Rest, recover};
 use seat_rules::{ReplayFault, ReplayKind};
@@ -160,13 +161,7 @@ pub fn file_of(alloc: Global, len: usize, behind: &[u8]) -> Result<Vec<u8>, Why>
 
 /// The lines of a journal's text.
 pub fn entries(alloc: Global, text: &[u8]) -> Result<Entries, Why> {
-    if text.len() > 1_000_000 {
-        return Err("a short text");
-    }
-    match read_journal(alloc, text) {
-        Ok(entries) => Ok(entries),
-        Err(_) => Err("a journal"),
-    }
+    lines_of(alloc, text).ok_or("a journal")
 }
 
 /// The ten lines.
