@@ -3,4 +3,5 @@ pub mod Demands
 pub mod Index
 pub mod Departures
 pub mod Room
+pub mod Fitting
 pub mod Queue

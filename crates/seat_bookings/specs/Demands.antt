@@ -17,6 +17,10 @@ is_demand_of place class p = is_at place class p.place p.class
 abbrev pub is_booking_of : Place → ℕ → Booking → Bool
 is_booking_of place class b = is_at place class b.place b.class
 
+-- a booking of this place and class with so many seats
+abbrev pub is_party_of : Place → ℕ → ℕ → Booking → Bool
+is_party_of place class seats b = is_booking_of place class b && (b.seats == seats)
+
 -- no two demands are of one place and class
 abbrev pub is_apart : List Demand → Bool
 is_apart [] = true
@@ -61,9 +65,8 @@ pub record IsIndexed (bookings : List Booking) (demands : List Demand) : Type 0 
   pub seats : (place : Place) (class : ℕ) → demand_seats place class demands ≡ seats_for place class bookings
 
 -- there is a number and memory for one booking more, and memory for its demand
-abbrev pub has_spare : ℕ → ℕ → ℕ → ℕ → Bool
-has_spare bookings capacity demands memory =
-    nat_lt bookings (2 ^ 32) && nat_lt bookings capacity && nat_lt demands memory
+abbrev pub has_spare : ℕ → Bool → ℕ → ℕ → Bool
+has_spare bookings spare demands memory = nat_lt bookings (2 ^ 32) && spare && nat_lt demands memory
 
 -- ---- what the demands answer
 

@@ -2,4 +2,5 @@ pub mod Live
 pub mod Numbers
 pub mod Queues
 pub mod Demands
+pub mod Fitting
 pub mod Books

@@ -73,5 +73,5 @@ pub record IsListed (bookings : List Booking) (index : Index) : Type 0 where
   pub found : IfSome index (λ numbers. IsNumbersOf numbers.value bookings)
 
 -- there is memory for one booking more, and for its number in the index
-abbrev pub has_room : ℕ → ℕ → Index → Bool
-has_room bookings capacity index = nat_lt bookings capacity && has_place index
+abbrev pub has_room : Bool → Index → Bool
+has_room bookings index = bookings && has_place index

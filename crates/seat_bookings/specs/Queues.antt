@@ -1,5 +1,5 @@
 -- Waiting lists.
-use Rattle.std.specs.Prelude.{ℕ, Bool, false, ◌==◌, nat_lt, List, [], ◌∷◌, filter, if◌then◌else◌}
+use Rattle.std.specs.Prelude.{ℕ, Bool, false, ◌==◌, nat_le, nat_lt, List, [], ◌∷◌, Option, drop, filter, position, if◌then◌else◌}
 use Rattle.std.specs.List.{list_all}
 use Rattle.seat_nesting.specs.Nesting.{Ladders, Table, room}
 use Rattle.seat_rules.specs.declared.booking.Booking.{Booking}
@@ -13,6 +13,14 @@ pub record Waitlist : Type 0 where
 -- each booking has more seats than the table leaves room for
 abbrev pub none_fits : Ladders → Table → List Booking → Bool
 none_fits grid seats queue = list_all (λ b. nat_lt (room grid seats b.place b.class) b.seats) queue
+
+-- the booking has at most the seats that the table leaves room for
+abbrev pub fits : Ladders → Table → Booking → Bool
+fits grid seats b = nat_le b.seats (room grid seats b.place b.class)
+
+-- how far behind an index the first booking stands that fits
+abbrev pub next_fit : Ladders → Table → List Booking → ℕ → Option ℕ
+next_fit grid seats queue from = position (fits grid seats) (drop from queue)
 
 -- the bookings that wait, in order
 abbrev pub queue_of : List Booking → List Booking

@@ -1,8 +1,10 @@
 //! What waits for each place and class, so that a waiting list can answer without walking its bookings.
-ghost use Rattle.std.specs.Prelude.{◌≡◌, ◌≤◌, ◌<◌, ◌+◌, ◌^◌, ◌++◌, ◌∷◌, [], Some, position, vec_len, vec_capacity};
+ghost use Rattle.std.specs.Prelude.{◌≡◌, ◌≤◌, ◌<◌, ◌+◌, ◌^◌, ◌++◌, ◌∷◌, [], Some, drop, length, position, vec_len, vec_capacity};
+ghost use Rattle.std.specs.List.{list_any};
 ghost use Rattle.seat_nesting.specs.Counting.{limits_of, table_of};
-ghost use Rattle.seat_bookings.specs.Demands.{is_demand_of, joined, least_with, no_demand_fits, demand_seats, demand_smallest, demand_waits, settled, smallest_of};
+ghost use Rattle.seat_bookings.specs.Demands.{is_demand_of, is_party_of, joined, least_with, no_demand_fits, demand_seats, demand_smallest, demand_waits, settled, smallest_of};
 
+use crate::fitting::behind;
 use airline_base::{Class, Place};
 use seat_nesting::Counts;
 use seat_rules::Booking;
@@ -66,14 +68,22 @@ pub fn lessen(demands: &mut Vec<Demand>, place: Place, class: Class, off: u16, l
     settle(demands, place, class, Some(smallest), off);
 }
 
-/// Removes a booking of so many seats, which has left the queue.
-pub fn leave(demands: &mut Vec<Demand>, queue: &[Booking], place: Place, class: Class, seats: u16)
+/// Removes a booking of so many seats, which has left the queue, where it stood at this index.
+pub fn leave(
+    demands: &mut Vec<Demand>,
+    queue: &[Booking],
+    at: usize,
+    place: Place,
+    class: Class,
+    seats: u16,
+)
+    requires within { at ≤ length queue.now }
     requires enough { seats ≤ demand_seats place class demands.old.items }
     requires least { demand_smallest place class demands.old.items
         ≡ least_with seats (smallest_of place class queue.now) }
     ensures { demands.new.items ≡ settled demands.old.items place class (smallest_of place class queue.now) seats }
 {
-    let smallest = smallest_left(demands, queue, place, class, seats);
+    let smallest = smallest_left(demands, queue, at, place, class, seats);
     settle(demands, place, class, smallest, seats);
 }
 
@@ -113,16 +123,19 @@ fn settle(demands: &mut Vec<Demand>, place: Place, class: Class, smallest: Optio
     }
 }
 
-#[tactic(auto, using(crate::proofs::Waitlists::Index::none_least, crate::proofs::Waitlists::Index::other_least, crate::proofs::Waitlists::Index::same_least))]
-// The least seats of a booking once one with so many left: they are looked up only where that was the smallest.
+#[tactic(auto, using(crate::proofs::Waitlists::Index::none_least, crate::proofs::Waitlists::Index::other_least, crate::proofs::Waitlists::Index::same_least, crate::proofs::Waitlists::Departures::least_behind))]
+// The least seats of a booking once one with so many left: all are looked through only where that was the smallest and
+// none behind it is as small.
 fn smallest_left(
     demands: &[Demand],
     queue: &[Booking],
+    at: usize,
     place: Place,
     class: Class,
     seats: u16,
 ) -> Option<u16>
-    requires { demand_smallest place class demands.now ≡ least_with seats (smallest_of place class queue.now) }
+    requires within { at ≤ length queue.now }
+    requires least { demand_smallest place class demands.now ≡ least_with seats (smallest_of place class queue.now) }
     ensures { result ≡ smallest_of place class queue.now }
 {
     let Some(smallest) = smallest_in(demands, place, class) else {
@@ -131,7 +144,24 @@ fn smallest_left(
     if smallest < seats {
         return Some(smallest);
     }
+    if waits_behind(queue, at, place, class, smallest) {
+        return Some(smallest);
+    }
     smallest_of(queue, place, class, smallest)
+}
+
+// Whether a booking of this place and class from an index on has so many seats.
+fn waits_behind(queue: &[Booking], at: usize, place: Place, class: Class, seats: u16) -> bool
+    requires { at ≤ length queue.now }
+    ensures { result ≡ list_any (is_party_of place class seats) (drop at queue.now) }
+{
+    is_party_among(behind(queue, at), place, class, seats)
+}
+
+fn is_party_among(queue: &[Booking], place: Place, class: Class, seats: u16) -> bool
+    ensures { result ≡ list_any (is_party_of place class seats) queue.now }
+{
+    queue.iter().any(|b| b.place == place && b.class == class && b.seats == seats)
 }
 
 // The least seats among the bookings of this place and class, none of which has fewer than `floor`.

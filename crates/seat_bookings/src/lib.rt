@@ -6,8 +6,10 @@ mod applying;
 mod bookings;
 mod books;
 mod demands;
+mod fitting;
 mod live_bookings;
 mod rooms;
+mod row;
 mod waiting_list;
 
 pub use applying::confirm_all;

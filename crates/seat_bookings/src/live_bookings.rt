@@ -1,5 +1,5 @@
 //! The live bookings of a flight, with an index where there are many.
-ghost use Rattle.std.specs.Prelude.{◌≡◌, ◌==◌, ◌≤◌, ◌<◌, ◌++◌, ◌∷◌, [], position, true, vec_len, vec_capacity, OnOk, IfOk, Some, None};
+ghost use Rattle.std.specs.Prelude.{◌≡◌, ◌==◌, ◌≤◌, ◌<◌, ◌++◌, ◌∷◌, [], position, true, OnOk, IfOk, Some, None};
 ghost use Rattle.std.specs.HashMap.{spare};
 ghost use Rattle.seat_rules.specs.Applying.{confirmed_at, IsOrdered};
 ghost use Rattle.seat_rules.specs.Bookings.{is_for};
@@ -9,6 +9,7 @@ ghost use Rattle.seat_bookings.specs.Queues.{first_waits};
 ghost use Rattle.seat_rules.specs.Sequential.{booking_of, reduced};
 
 use crate::bookings::{add, find_booking, find_number, hold, number_waits, take_off};
+use crate::row::Row;
 use airline_base::{Class, Locator, Memory, Place};
 use seat_journal::Command;
 use seat_rules::{Booking, Status};
@@ -35,17 +36,16 @@ type Numbers = HashMap<Key, u32>;
 /// that never had many takes no memory for one.
 #[derive(Drop)]
 pub struct LiveBookings {
-    bookings: Vec<Booking>,
+    bookings: Row,
     index: Option<Box<Numbers>>,
 }
 
 impl Model for LiveBookings {
-    ghost use Rattle.std.specs.Prelude.{vec_len, vec_capacity};
     ghost use Rattle.seat_bookings.specs.Live.{has_room, IsListed, Listed};
 
     ghost Value = { Listed };
 
-    ghost view = { λ l. record { items = l.bookings.items; spare = has_room (vec_len l.bookings) (vec_capacity l.bookings) l.index } };
+    ghost view = { λ l. record { items = l.bookings.items; spare = has_room l.bookings.spare l.index } };
 
     ghost invariant = { λ l. IsListed l.bookings.items l.index };
 }
@@ -55,7 +55,7 @@ impl LiveBookings {
         ensures { result.items ≡ [] }
     {
         LiveBookings {
-            bookings: Vec::new(alloc),
+            bookings: Row::new(alloc),
             index: None,
         }
     }
@@ -72,10 +72,10 @@ impl LiveBookings {
         ensures ordered { IsOrdered self.now.items }
     {
         let Some(numbers) = &self.index else {
-            return find_booking(&self.bookings, command, place);
+            return find_booking(self.bookings.as_slice(), command, place);
         };
         match numbers.get(&key_for(command, place)) {
-            Some(number) => find_number(&self.bookings, *number),
+            Some(number) => find_number(self.bookings.as_slice(), *number),
             None => None,
         }
     }
@@ -85,7 +85,7 @@ impl LiveBookings {
         ensures value { result ≡ first_waits (λ b. b.number == number) self.now.items }
         ensures ordered { IsOrdered self.now.items }
     {
-        number_waits(&self.bookings, number)
+        number_waits(self.bookings.as_slice(), number)
     }
 
     /// Reserves memory for one more booking.
@@ -93,9 +93,9 @@ impl LiveBookings {
         ensures same { self.new.items ≡ self.old.items }
         ensures ok { OnOk result (self.new.spare ≡ true) }
     {
-        self.bookings.reserve(1)?;
-        if self.index.is_none() && self.bookings.len() >= FEW {
-            self.index = Some(index_of(alloc, &self.bookings)?);
+        self.bookings.reserve()?;
+        if self.index.is_none() && self.bookings.as_slice().len() >= FEW {
+            self.index = Some(index_of(alloc, self.bookings.as_slice())?);
         }
         make_room(&mut self.index)
     }
@@ -129,7 +129,7 @@ impl LiveBookings {
 
 // Takes the seats of a command off the booking at an index, and its key out of the index where none are left.
 fn lessen(
-    bookings: &mut Vec<Booking>,
+    bookings: &mut Row,
     index: &mut Option<Box<Numbers>>,
     at: usize,
     command: &Command,
@@ -141,7 +141,7 @@ fn lessen(
         ≡ reduced (is_for command.now.locator place command.now.class) command.now.seats bookings.old.items }
     ensures listed { IsListed bookings.new.items index.new }
 {
-    if bookings[at].seats > command.seats {
+    if bookings.nth(at).seats > command.seats {
         take_off(bookings, at, command, place);
         return;
     }

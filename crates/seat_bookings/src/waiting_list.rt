@@ -5,13 +5,15 @@ ghost use Rattle.seat_nesting.specs.Nesting.{may_wait};
 ghost use Rattle.seat_rules.specs.Applying.{IsOrdered};
 ghost use Rattle.seat_rules.specs.Bookings.{is_for, waiting};
 ghost use Rattle.seat_bookings.specs.Demands.{has_spare, IsIndexed};
-ghost use Rattle.seat_bookings.specs.Queues.{none_fits, without};
+ghost use Rattle.seat_bookings.specs.Queues.{next_fit, none_fits, without};
 ghost use Rattle.seat_rules.specs.Sequential.{booking_of, reduced};
 ghost use Rattle.seat_rules.specs.declared.booking.Status.TheVariants.{Waiting};
 
 use crate::bookings::{add, find_number, take_off};
 use crate::demands::{Demand, are_too_large, join, leave, lessen};
+use crate::fitting::next_fit;
 use crate::rooms::may_wait_at;
+use crate::row::Row;
 use airline_base::{Class, Memory, Place};
 use seat_journal::Command;
 use seat_nesting::Counts;
@@ -25,18 +27,18 @@ const MOST: usize = 1 << 32;
 /// The bookings of a flight that wait, in order of number, and what waits for each place and class.
 #[derive(Drop)]
 pub struct WaitingList {
-    bookings: Vec<Booking>,
+    bookings: Row,
     demands: Vec<Demand>,
 }
 
 impl Model for WaitingList {
-    ghost use Rattle.std.specs.Prelude.{vec_len, vec_capacity};
+    ghost use Rattle.std.specs.Prelude.{length, vec_len, vec_capacity};
     ghost use Rattle.seat_bookings.specs.Queues.{Waitlist};
     ghost use Rattle.seat_bookings.specs.Demands.{has_spare, IsIndexed};
 
     ghost Value = { Waitlist };
 
-    ghost view = { λ l. record { bookings = l.bookings.items; spare = has_spare (vec_len l.bookings) (vec_capacity l.bookings) (vec_len l.demands) (vec_capacity l.demands) } };
+    ghost view = { λ l. record { bookings = l.bookings.items; spare = has_spare (length l.bookings.items) l.bookings.spare (vec_len l.demands) (vec_capacity l.demands) } };
 
     ghost invariant = { λ l. IsIndexed l.bookings.items l.demands.items };
 }
@@ -46,7 +48,7 @@ impl WaitingList {
         ensures { result.bookings ≡ [] }
     {
         WaitingList {
-            bookings: Vec::new(alloc),
+            bookings: Row::new(alloc),
             demands: Vec::new(alloc),
         }
     }
@@ -62,10 +64,10 @@ impl WaitingList {
         ensures same { self.new.bookings ≡ self.old.bookings }
         ensures ok { OnOk result (self.new.spare ≡ true) }
     {
-        if self.bookings.len() >= MOST {
+        if self.bookings.as_slice().len() >= MOST {
             return Err(Memory);
         }
-        self.bookings.reserve(1)?;
+        self.bookings.reserve()?;
         self.demands.reserve(1)?;
         Ok(())
     }
@@ -92,7 +94,7 @@ impl WaitingList {
         ensures { self.new.bookings ≡ reduced (is_for command.now.locator place command.now.class) command.now.seats
             self.old.bookings }
     {
-        match find_number(&self.bookings, number) {
+        match find_number(self.bookings.as_slice(), number) {
             Some(at) => reduce_at(&mut self.bookings, &mut self.demands, at, command, place),
             None => {}
         }
@@ -103,7 +105,7 @@ impl WaitingList {
         requires { IsOrdered self.old.bookings }
         ensures { self.new.bookings ≡ without self.old.bookings number }
     {
-        match find_number(&self.bookings, number) {
+        match find_number(self.bookings.as_slice(), number) {
             Some(at) => take_at(&mut self.bookings, &mut self.demands, at),
             None => {}
         }
@@ -118,6 +120,14 @@ impl WaitingList {
         may_wait_at(counts, &self.demands, place, class, seats)
     }
 
+    /// How far behind an index the first booking stands that has at most the seats that the counters leave room for.
+    pub fn next_fit(&self, counts: &Counts, from: usize) -> Option<usize>
+        requires { from ≤ length self.now.bookings }
+        ensures { result ≡ next_fit (limits_of counts.now) (table_of counts.now) self.now.bookings from }
+    {
+        next_fit(counts, self.bookings.as_slice(), &self.demands, from)
+    }
+
     /// Whether each waiting booking has more seats than the counters leave room for.
     pub fn none_fits(&self, counts: &Counts) -> bool
         ensures { result ≡ none_fits (limits_of counts.now) (table_of counts.now) self.now.bookings }
@@ -128,13 +138,13 @@ impl WaitingList {
 
 // Adds the booking of a command, for which there is room, to its demand.
 fn add_to(
-    bookings: &mut Vec<Booking>,
+    bookings: &mut Row,
     demands: &mut Vec<Demand>,
     number: u32,
     command: &Command,
     place: Place,
 )
-    requires spare { has_spare (vec_len bookings.old) (vec_capacity bookings.old) (vec_len demands.old)
+    requires spare { has_spare (length bookings.old.items) bookings.old.spare (vec_len demands.old)
         (vec_capacity demands.old) ≡ true }
     requires indexed { IsIndexed bookings.old.items demands.old.items }
     ensures added { bookings.new.items ≡ bookings.old.items ++ booking_of number command.now place Waiting ∷ [] }
@@ -146,7 +156,7 @@ fn add_to(
 
 // Takes the seats of a command off its booking, which stands at this index.
 fn reduce_at(
-    bookings: &mut Vec<Booking>,
+    bookings: &mut Row,
     demands: &mut Vec<Demand>,
     at: usize,
     command: &Command,
@@ -158,7 +168,7 @@ fn reduce_at(
         ≡ reduced (is_for command.now.locator place command.now.class) command.now.seats bookings.old.items }
     ensures indexed { IsIndexed bookings.new.items demands.new.items }
 {
-    let seats = bookings[at].seats;
+    let seats = bookings.nth(at).seats;
     if seats <= command.seats {
         take_at(bookings, demands, at);
         return;
@@ -174,12 +184,19 @@ fn reduce_at(
 }
 
 // Takes out the booking at an index, and from its demand.
-fn take_at(bookings: &mut Vec<Booking>, demands: &mut Vec<Demand>, at: usize)
+fn take_at(bookings: &mut Row, demands: &mut Vec<Demand>, at: usize)
     requires within { at < length bookings.old.items }
     requires indexed { IsIndexed bookings.old.items demands.old.items }
     ensures gone { bookings.new.items ≡ remove bookings.old.items at }
     ensures indexed { IsIndexed bookings.new.items demands.new.items }
 {
     let gone = bookings.remove(at);
-    leave(demands, bookings, gone.place, gone.class, gone.seats);
+    leave(
+        demands,
+        bookings.as_slice(),
+        at,
+        gone.place,
+        gone.class,
+        gone.seats,
+    );
 }

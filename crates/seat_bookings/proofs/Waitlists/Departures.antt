@@ -1,17 +1,17 @@
 -- Bookings that leave a waiting list, or lose seats, and their demands.
-use Rattle.std.proofs.Common.{◌≡◌, ◌==◌, ◌&&◌, ℕ, ◌+◌, ◌-◌, ◌<◌, ◌≤◌, Bool, true, false, min, List, [], ◌∷◌, length, get_or, set, remove, position, nat_eq, nat_lt, ◌^◌, Option, Some, None, if◌then◌else◌, arith, refl, sym, subst, ap, ◌∙◌}
+use Rattle.std.proofs.Common.{◌≡◌, ◌==◌, ◌&&◌, ◌||◌, ℕ, suc, zero, ◌+◌, ◌-◌, ◌<◌, ◌≤◌, Bool, true, false, min, List, [], ◌∷◌, length, get_or, drop, set, remove, position, nat_eq, nat_lt, ◌^◌, Option, Some, None, if◌then◌else◌, arith, refl, sym, subst, ap, ◌∙◌}
 use Rattle.seat_bookings.proofs.Common.{AllByRecursion, Place, Booking, Demand, is_waiting, is_for, reduced, is_at, is_demand_of, is_booking_of, is_apart, least_with, smallest_of, seats_for, demand_smallest, demand_seats, IsIndexed}
 use Rattle.std.specs.List.{list_any}
 use Rattle.std.proofs.lemmas.Bool.Decides.{nat_tests}
 use Rattle.std.proofs.lemmas.List.Quantifiers.{position-Some}
 use Rattle.std.specs.Cmp.Lexicographic.{pointwise}
 use Rattle.seat_rules.specs.Bookings.{same_place}
-use Rattle.seat_bookings.specs.Demands.{settled, has_spare}
+use Rattle.seat_bookings.specs.Demands.{settled, has_spare, is_party_of}
 use Rattle.seat_rules.proofs.History.Faults.{nat_same, place_same}
 use Rattle.seat_rules.proofs.Step.Reduced.{reduced_less}
 use Rattle.seat_bookings.specs.Queues.{without}
 use Rattle.seat_bookings.proofs.Waitlists.Queue.{without_found}
-use Rattle.seat_bookings.proofs.Waitlists.Index.{at_itself, at_turned, at_same, at_other, least_lower, least_twice, smallest_set, seats_set, smallest_get, seats_get, seats_few, all_remove, all_set, all_get, none_left, neither, no_seats, no_smallest, apart_rest, gone_at}
+use Rattle.seat_bookings.proofs.Waitlists.Index.{at_itself, at_turned, at_same, at_other, least_lower, least_twice, least_swap, same_least, smallest_set, seats_set, smallest_get, seats_get, seats_few, all_remove, all_set, all_get, none_left, neither, no_seats, no_smallest, apart_rest, gone_at}
 use Rattle.airline_base.proofs.Tests.{both_true}
 
 -- ---- a booking has fewer seats, or is gone
@@ -263,16 +263,47 @@ reduced_indexed xs ps locator place class n i b indexed found is lt =
     (subst P at.1 (subst Q at.2 (lessened xs ps i b n indexed at.0 is (omega (arith, lt)))))
 
 -- one booking more leaves the seats of a demand below the most of its field
-pub seats_spare : (xs : List Booking) (ps : List Demand) (place : Place) (class n len capacity demands memory : ℕ)
-    → IsIndexed xs ps → len ≡ length xs → has_spare len capacity demands memory ≡ true → n < 65536
+pub seats_spare : (xs : List Booking) (ps : List Demand) (place : Place) (class n : ℕ) (room : Bool)
+    (demands memory : ℕ) → IsIndexed xs ps → has_spare (length xs) room demands memory ≡ true → n < 65536
     → demand_seats place class ps + n < 2 ^ 64
-seats_spare xs ps place class n len capacity demands memory indexed is spare few =
-    let h = both_true (nat_lt len (2 ^ 32)) (nat_lt len capacity) (both_true (nat_lt len (2 ^ 32) && nat_lt len capacity) (nat_lt demands memory) spare).0 in
-    let short : len < 2 ^ 32 = grind (arith, nat_tests) in
-    omega (arith, indexed.seats place class, seats_few place class xs indexed.small, is, short, few)
+seats_spare xs ps place class n room demands memory indexed spare few =
+    let h = both_true (nat_lt (length xs) (2 ^ 32)) room (both_true (nat_lt (length xs) (2 ^ 32) && room) (nat_lt demands memory) spare).0 in
+    let short : length xs < 2 ^ 32 = (let e = h.0 in grind (arith, nat_tests)) in
+    omega (arith, indexed.seats place class, seats_few place class xs indexed.small, short, few)
 
 -- the booking of a number
 pub number_gone : (xs : List Booking) (number i : ℕ) → Some i ≡ position (λ (b : Booking). b.number == number) xs
     → without xs number ≡ remove xs i
 number_gone [] number i found = absurd cc
 number_gone (x ∷ xs) number i found = without_found (x ∷ xs) number i x found
+
+-- ---- one that is as small waits still
+any_behind : (test : Booking → Bool) (xs : List Booking) (k : ℕ) → list_any test (drop k xs) ≡ true
+    → list_any test xs ≡ true
+any_behind test xs zero e = e
+any_behind test [] (suc k) e = absurd cc
+any_behind test (x ∷ xs) (suc k) e = either (test x) (list_any test xs) (any_behind test xs k e) where
+  either : (t u : Bool) → u ≡ true → (t || u) ≡ true
+  either true u e = refl
+  either false u e = e
+
+as_small : (q : Place) (c n : ℕ) (xs : List Booking) → list_any (is_party_of q c n) xs ≡ true
+    → smallest_of q c xs ≡ least_with n (smallest_of q c xs)
+as_small q c n [] e = absurd cc
+as_small q c n (x ∷ xs) e = cases (is_booking_of q c x) (x.seats == n) refl refl e (as_small q c n xs) where
+  cases : (t u : Bool) → is_booking_of q c x ≡ t → (x.seats == n) ≡ u
+      → ((t && u) || list_any (is_party_of q c n) xs) ≡ true
+      → (list_any (is_party_of q c n) xs ≡ true → smallest_of q c xs ≡ least_with n (smallest_of q c xs))
+      → smallest_of q c (x ∷ xs) ≡ least_with n (smallest_of q c (x ∷ xs))
+  cases true true f g any rest =
+      let same : x.seats ≡ n = nat_same x.seats n g in
+      rw f (rw same (sym (least_twice n (smallest_of q c xs))))
+  cases true false f g any rest = rw f (ap (least_with x.seats) (rest any) ∙ least_swap x.seats n (smallest_of q c xs))
+  cases false u f g any rest = rw f (rest any)
+
+pub least_behind : (q : Place) (c n m k : ℕ) (xs : List Booking) (t : Bool)
+    → t ≡ list_any (is_party_of q c m) (drop k xs) → t ≡ true → Some m ≡ least_with n (smallest_of q c xs) → n ≤ m
+    → Some m ≡ smallest_of q c xs
+least_behind q c n m k xs t is h least le =
+    let any : list_any (is_party_of q c m) xs ≡ true = any_behind (is_party_of q c m) xs k (sym is ∙ h) in
+    sym (as_small q c m xs any ∙ same_least m n (smallest_of q c xs) least le)

@@ -11,8 +11,7 @@ pub join-requires-clause-few : goal.join-requires-clause-few
 join-requires-clause-few c =
     let command = c.args.command.now in
     let few : command.seats < 65536 = omega arith in
-    let len : vec_len c.args.bookings.now ≡ length c.args.bookings.now.items = omega arith in
-    seats_spare c.args.bookings.now.items c.args.demands.now.items c.args.place command.class command.seats (vec_len c.args.bookings.now) (vec_capacity c.args.bookings.now) (vec_len c.args.demands.now) (vec_capacity c.args.demands.now) c.requires.indexed len c.requires.spare few
+    seats_spare c.args.bookings.now.items c.args.demands.now.items c.args.place command.class command.seats c.args.bookings.now.spare (vec_len c.args.demands.now) (vec_capacity c.args.demands.now) c.requires.indexed c.requires.spare few
 
 pub returns-clause-indexed : goal.returns-clause-indexed
 returns-clause-indexed c =

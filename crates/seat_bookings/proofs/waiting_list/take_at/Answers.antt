@@ -1,8 +1,15 @@
-use Rattle.std.proofs.Common.{◌≡◌, List, remove, ap, subst, sym, ◌∙◌}
+use Rattle.std.proofs.Common.{◌≡◌, ◌≤◌, List, arith, length, remove, ap, subst, sym, ◌∙◌}
+use Rattle.std.proofs.lemmas.List.Edits.{length-remove}
 use Rattle.seat_rules.specs.declared.booking.Booking.{Booking}
 use Rattle.seat_bookings.specs.Demands.{least_with, smallest_of, demand_smallest, settled, IsIndexed}
 use Rattle.seat_bookings.proofs.Waitlists.Departures.{demand_enough, demand_least, left}
 use Rattle.seat_bookings.proofs.waiting_list.take_at.Goals as goal
+
+pub leave-requires-clause-within : goal.leave-requires-clause-within
+leave-requires-clause-within c =
+    let P : List Booking → Type 0 = λ ys. c.args.at ≤ length ys in
+    subst P (sym (c.as_slice.ensures ∙ c.remove-gone.ensures.items))
+    (omega (arith, length-remove c.args.bookings.now.items c.args.at c.requires.within, c.requires.within))
 
 pub leave-requires-clause-enough : goal.leave-requires-clause-enough
 leave-requires-clause-enough c =
@@ -13,14 +20,14 @@ leave-requires-clause-least c =
     let b = c.remove-gone.result in
     let ps = c.args.demands.now.items in
     let P : List Booking → Type 0 = λ ys. demand_smallest b.place b.class ps ≡ least_with b.seats (smallest_of b.place b.class ys) in
-    subst P (sym (c.deref.ensures.value ∙ c.remove-gone.ensures.items)) (demand_least c.args.bookings.now.items ps c.args.at b c.requires.indexed c.requires.within c.remove-gone.ensures.value)
+    subst P (sym (c.as_slice.ensures ∙ c.remove-gone.ensures.items)) (demand_least c.args.bookings.now.items ps c.args.at b c.requires.indexed c.requires.within c.remove-gone.ensures.value)
 
 pub returns-clause-indexed : goal.returns-clause-indexed
 returns-clause-indexed c =
     let b = c.remove-gone.result in
     let xs = c.args.bookings.now.items in
     let ps = c.args.demands.now.items in
-    let same : c.deref.result.now ≡ remove xs c.args.at = c.deref.ensures.value ∙ c.remove-gone.ensures.items in
+    let same : c.as_slice.result.now ≡ remove xs c.args.at = c.as_slice.ensures ∙ c.remove-gone.ensures.items in
     let new : c.leave.new.demands.items ≡ settled ps b.place b.class (smallest_of b.place b.class (remove xs c.args.at)) b.seats =
     c.leave.ensures ∙ ap (λ (ys : List Booking). settled ps b.place b.class (smallest_of b.place b.class ys) b.seats) same in
     let P : List Booking → Type 0 = λ ys. IsIndexed ys c.leave.new.demands.items in

@@ -21,11 +21,11 @@ returns-in-Some-get-clause-value c =
     let P : Listed → Type 0 = λ s. c.find_number.result ≡ position (is_for l p k) s.items in
     let told : Some n ≡ number_of (key_for l p k) i.bookings.items =
     c.in-Some-get.ensures.value
-    ∙ (ap (λ (key : Key). get same_key c.deref-2.result.now key) c.key_for.ensures
-    ∙ (ap (λ (m : Numbers). get same_key m (key_for l p k)) c.deref-2.ensures ∙ listed_at i.bookings.items i.index c.in-Some.numbers (key_for l p k) c.self.invariant c.in-Some.is)) in
+    ∙ (ap (λ (key : Key). get same_key c.deref.result.now key) c.key_for.ensures
+    ∙ (ap (λ (m : Numbers). get same_key m (key_for l p k)) c.deref.ensures ∙ listed_at i.bookings.items i.index c.in-Some.numbers (key_for l p k) c.self.invariant c.in-Some.is)) in
     subst P c.self.view_is
     (c.find_number.ensures
-    ∙ (ap (λ (xs : List Booking). position (λ (b : Booking). b.number == n) xs) c.deref-in-Some-get.ensures.value
+    ∙ (ap (λ (xs : List Booking). position (λ (b : Booking). b.number == n) xs) c.as_slice-in-Some-get.ensures
     ∙ number_leads l p k n i.bookings.items c.self.invariant.live.ordered (sym told)))
 
 pub returns-in-None-clause-value : goal.returns-in-None-clause-value
@@ -37,6 +37,6 @@ returns-in-None-clause-value c =
     let P : Listed → Type 0 = λ s. ◌≡◌ {A = Option ℕ} None (position (is_for l p k) s.items) in
     let told : ◌≡◌ {A = Option ℕ} None (number_of (key_for l p k) i.bookings.items) =
     c.in-None.ensures.value
-    ∙ (ap (λ (key : Key). get same_key c.deref-2.result.now key) c.key_for.ensures
-    ∙ (ap (λ (m : Numbers). get same_key m (key_for l p k)) c.deref-2.ensures ∙ listed_at i.bookings.items i.index c.in-Some.numbers (key_for l p k) c.self.invariant c.in-Some.is)) in
+    ∙ (ap (λ (key : Key). get same_key c.deref.result.now key) c.key_for.ensures
+    ∙ (ap (λ (m : Numbers). get same_key m (key_for l p k)) c.deref.ensures ∙ listed_at i.bookings.items i.index c.in-Some.numbers (key_for l p k) c.self.invariant c.in-Some.is)) in
     subst P c.self.view_is (sym (absent_nowhere (is_for l p k) i.bookings.items (no_number l p k i.bookings.items (sym told))))

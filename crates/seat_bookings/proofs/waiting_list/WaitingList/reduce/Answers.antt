@@ -11,7 +11,7 @@ reduce_at-requires-clause-found c =
     let command = c.args.command.now in
     let xs = c.self.inside.bookings.items in
     let N : Waitlist → Type 0 = λ l. position (λ (b : Booking). b.number == c.args.number) l.bookings ≡ position (is_for command.locator c.args.place command.class) l.bookings in
-    let told : Some c.in-Some.at ≡ position (λ (b : Booking). b.number == c.args.number) xs = rw (← c.deref.ensures.value) c.in-Some.ensures in
+    let told : Some c.in-Some.at ≡ position (λ (b : Booking). b.number == c.args.number) xs = rw (← c.as_slice.ensures) c.in-Some.ensures in
     sym (told ∙ subst N (sym c.self.view_is) c.requires.number)
 
 pub returns-in-None : goal.returns-in-None
@@ -19,6 +19,6 @@ returns-in-None c =
     let command = c.args.command.now in
     let xs = c.self.inside.bookings.items in
     let N : Waitlist → Type 0 = λ l. position (λ (b : Booking). b.number == c.args.number) l.bookings ≡ position (is_for command.locator c.args.place command.class) l.bookings in
-    let told : ◌≡◌ {A = Option ℕ} None (position (λ (b : Booking). b.number == c.args.number) xs) = rw (← c.deref.ensures.value) c.in-None.ensures in
+    let told : ◌≡◌ {A = Option ℕ} None (position (λ (b : Booking). b.number == c.args.number) xs) = rw (← c.as_slice.ensures) c.in-None.ensures in
     let P : Waitlist → Type 0 = λ l. l.bookings ≡ reduced (is_for command.locator c.args.place command.class) command.seats l.bookings in
     subst P c.self.view_is (sym (reduced_none (is_for command.locator c.args.place command.class) command.seats xs (told ∙ subst N (sym c.self.view_is) c.requires.number)))

@@ -8,10 +8,10 @@ pub returns-in-Some : goal.returns-in-Some
 returns-in-Some c =
     let xs = c.self.inside.bookings.items in
     let P : Waitlist → Type 0 = λ l. c.take_at.new.bookings.items ≡ without l.bookings c.args.number in
-    subst P c.self.view_is (c.take_at.ensures.gone ∙ sym (number_gone xs c.args.number c.in-Some.at (rw (← c.deref.ensures.value) c.in-Some.ensures)))
+    subst P c.self.view_is (c.take_at.ensures.gone ∙ sym (number_gone xs c.args.number c.in-Some.at (rw (← c.as_slice.ensures) c.in-Some.ensures)))
 
 pub returns-in-None : goal.returns-in-None
 returns-in-None c =
     let xs = c.self.inside.bookings.items in
     let P : Waitlist → Type 0 = λ l. l.bookings ≡ without l.bookings c.args.number in
-    subst P c.self.view_is (sym (without_none xs c.args.number (rw (← c.deref.ensures.value) c.in-None.ensures)))
+    subst P c.self.view_is (sym (without_none xs c.args.number (rw (← c.as_slice.ensures) c.in-None.ensures)))

@@ -1,0 +1,87 @@
+//! Which waiting booking fits: most are passed over by their class alone.
+ghost use Rattle.std.specs.Prelude.{◌≡◌, ◌≤◌, ◌&&◌, ℕ, drop, length, nat_le, position};
+ghost use Rattle.seat_nesting.specs.Counting.{limits_of, table_of};
+ghost use Rattle.seat_nesting.specs.Nesting.{room};
+ghost use Rattle.seat_bookings.specs.Demands.{IsIndexed};
+ghost use Rattle.seat_bookings.specs.Fitting.{most_of, IsMost, IsMostFor};
+ghost use Rattle.seat_bookings.specs.Queues.{fits, next_fit};
+
+use crate::demands::{Demand, are_too_large};
+use airline_base::Class;
+use seat_nesting::Counts;
+use seat_rules::Booking;
+
+/// How far behind an index the first of these bookings stands that has at most the seats that the counters leave room for.
+#[tactic(auto, using(crate::proofs::Waitlists::Fitting::none_next, crate::proofs::Waitlists::Fitting::most_behind))]
+pub fn next_fit(
+    counts: &Counts,
+    bookings: &[Booking],
+    demands: &[Demand],
+    from: usize,
+) -> Option<usize>
+    requires within { from ≤ length bookings.now }
+    requires indexed { IsIndexed bookings.now demands.now }
+    ensures { result ≡ next_fit (limits_of counts.now) (table_of counts.now) bookings.now from }
+{
+    if are_too_large(counts, demands) {
+        return None;
+    }
+    let most = most_rooms(counts, demands);
+    first_fit(counts, behind(bookings, from), &most)
+}
+
+// By classes from A on, the most room that a demand of the class finds.
+fn most_rooms(counts: &Counts, demands: &[Demand]) -> [u16; 26]
+    ensures { IsMost (limits_of counts.now) (table_of counts.now) result demands.now }
+{
+    let mut most = [0; 26];
+    let mut at = demands.len();
+    while at > 0 {
+        at -= 1;
+        let demand = &demands[at];
+        let room = counts.room(demand.place, demand.class);
+        raise(&mut most, demand.class, room);
+    }
+    most
+}
+
+// Where the first of these bookings stands that has at most the seats that the counters leave room for.
+fn first_fit(counts: &Counts, bookings: &[Booking], most: &[u16; 26]) -> Option<usize>
+    requires { IsMostFor (limits_of counts.now) (table_of counts.now) most.now bookings.now }
+    ensures { result ≡ position (fits (limits_of counts.now) (table_of counts.now)) bookings.now }
+{
+    first_below(counts, bookings, most)
+}
+
+// The same, of those alone that have at most the seats that are noted for their class.
+fn first_below(counts: &Counts, bookings: &[Booking], most: &[u16; 26]) -> Option<usize>
+    ensures { result ≡ position (λ b. nat_le b.seats (most_of most.now b.class)
+        && nat_le b.seats (room (limits_of counts.now) (table_of counts.now) b.place b.class)) bookings.now }
+{
+    bookings.iter().position(|b| b.seats <= most_of(most, b.class)
+        && b.seats <= counts.room(b.place, b.class))
+}
+
+/// The bookings from an index on.
+pub fn behind(bookings: &[Booking], from: usize) -> &[Booking]
+    requires { from ≤ length bookings.now }
+    ensures { result.now ≡ drop from bookings.now }
+{
+    &bookings[from..]
+}
+
+// The most room of a class.
+fn most_of(most: &[u16; 26], class: Class) -> u16
+    ensures { result ≡ most_of most.now class }
+{
+    most[(class.letter() - b'A') as usize]
+}
+
+// Notes a room of a class.
+fn raise(most: &mut [u16; 26], class: Class, room: u16)
+    ensures here { room ≤ most_of most.new class }
+    ensures kept { (other : ℕ) → most_of most.old other ≤ most_of most.new other }
+{
+    let place = (class.letter() - b'A') as usize;
+    most[place] = room.max(most[place]);
+}
