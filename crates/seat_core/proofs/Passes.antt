@@ -1,3 +1,4 @@
 -- The pass over those that wait.
 pub mod Undone
 pub mod Changed
+pub mod Skipped

@@ -1,5 +1,5 @@
 //! The pass over a flight's waiting list, by counters of held seats.
-ghost use Rattle.std.specs.Prelude.{◌≡◌, ◌++◌, ◌∷◌, [], IfOk, IfSome, OnErr, OnOk};
+ghost use Rattle.std.specs.Prelude.{◌≡◌, ◌≤◌, ◌<◌, ◌++◌, ◌∷◌, [], drop, length, IfOk, OnErr, OnOk};
 ghost use Rattle.seat_nesting.specs.Counting.{limits_of, table_of};
 ghost use Rattle.seat_nesting.specs.Nesting.{room};
 ghost use Rattle.seat_core.specs.Answers.{rest_advised};
@@ -13,14 +13,6 @@ use seat_journal::Advice;
 use seat_nesting::Counts;
 use seat_rules::{Booking, give_back};
 use std::alloc::Global;
-
-/// A room that was looked up in the counters as they are.
-#[derive(Clone, Copy)]
-struct Known {
-    place: Place,
-    class: Class,
-    room: u16,
-}
 
 /// The advices of the pass over a waiting list, once so many seats are given back. The counters are left as they were.
 pub fn advices_after(
@@ -66,9 +58,9 @@ pub fn advices_of(
     Ok(told)
 }
 
-/// Takes the seats of each waiting booking that fits, in order, and tells of it. No room is known at the start and after
-/// each confirmation: there the pass ends if none of the list fits any more. In between, bookings of one place and class
-/// that wait one behind the other share one look at the room.
+/// Takes the seats of each waiting booking that fits, in order, and tells of it. Those that don't are passed over: they
+/// don't fit later on either, as a pass only takes seats.
+#[tactic(auto, using(crate::proofs::Passes::Skipped::told_on, crate::proofs::Passes::Skipped::back_on, crate::proofs::Passes::Skipped::ended))]
 fn confirm_each(
     counts: &mut Counts,
     queue: &WaitingList,
@@ -80,63 +72,62 @@ fn confirm_each(
         ≡ advices_by (limits_of counts.old) (table_of counts.old) queue.now.bookings) }
     ensures seats { taken_back (limits_of counts.old) (table_of counts.new) advices.new.items ≡ table_of counts.old }
 {
-    let mut known = None;
-    for booking in queue.as_slice() {
-        if known.is_none() && queue.none_fits(counts) {
-            break;
-        }
-        known = consider(counts, booking, advices, known)?;
+    let most = queue.as_slice().len();
+    let mut at = 0;
+    while at < most {
+        at = confirm_next(counts, queue, advices, at)?;
     }
     Ok(())
 }
 
+/// Takes the seats of the first booking from an index on that fits, and tells of it. Where the pass goes on: behind that
+/// booking, or at the end where none fits.
+#[tactic(auto, using(crate::proofs::Passes::Skipped::told_behind, crate::proofs::Passes::Skipped::none_behind, crate::proofs::Passes::Skipped::found_inside, crate::proofs::Passes::Skipped::back_behind))]
+fn confirm_next(
+    counts: &mut Counts,
+    queue: &WaitingList,
+    advices: &mut Vec<Advice>,
+    from: usize,
+) -> Result<usize, Memory>
+    requires within { from < length queue.now.bookings }
+    ensures limits { limits_of counts.new ≡ limits_of counts.old }
+    ensures back { taken_back (limits_of counts.old) (table_of counts.new) advices.new.items
+        ≡ taken_back (limits_of counts.old) (table_of counts.old) advices.old.items }
+    ensures told { IfOk result (λ to. advices.new.items
+        ++ advices_by (limits_of counts.old) (table_of counts.new) (drop to queue.now.bookings)
+        ≡ advices.old.items ++ advices_by (limits_of counts.old) (table_of counts.old) (drop from queue.now.bookings)) }
+    ensures further { IfOk result (λ to. from < to) }
+    ensures inside { IfOk result (λ to. to ≤ length queue.now.bookings) }
+{
+    let bookings = queue.as_slice();
+    let Some(behind) = queue.next_fit(counts, from) else {
+        return Ok(bookings.len());
+    };
+    let at = from + behind;
+    consider(counts, &bookings[at], advices)?;
+    Ok(at + 1)
+}
+
 /// Takes the seats of one booking, where it waits and fits, and tells of it.
 #[tactic(auto, using(crate::proofs::Passes::Undone::taken_one, crate::proofs::Passes::Undone::told_fits, crate::proofs::Passes::Undone::told_over, crate::proofs::Passes::Undone::told_held))]
-fn consider(
-    counts: &mut Counts,
-    booking: &Booking,
-    advices: &mut Vec<Advice>,
-    known: Option<Known>,
-) -> Result<Option<Known>, Memory>
-    requires known { IfSome known (λ k. k.room ≡ room (limits_of counts.old) (table_of counts.old) k.place k.class) }
+fn consider(counts: &mut Counts, booking: &Booking, advices: &mut Vec<Advice>) -> Result<(), Memory>
     ensures limits { limits_of counts.new ≡ limits_of counts.old }
     ensures advices { OnOk result (advices.new.items ≡ advices.old.items
         ++ told_of (limits_of counts.old) (table_of counts.old) booking.now) }
     ensures seats { OnOk result (table_of counts.new
         ≡ shown_advices (limits_of counts.old) (table_of counts.old)
         (told_of (limits_of counts.old) (table_of counts.old) booking.now)) }
-    ensures known { IfOk result (λ known. IfSome known
-        (λ k. k.room ≡ room (limits_of counts.new) (table_of counts.new) k.place k.class)) }
     ensures same { OnErr result (advices.new.items ≡ advices.old.items × table_of counts.new ≡ table_of counts.old) }
 {
     if !booking.is_waiting() {
-        return Ok(known);
+        return Ok(());
     }
-    let room = look(counts, booking.place, booking.class, known);
-    if booking.seats > room {
-        return Ok(Some(Known {
-            place: booking.place,
-            class: booking.class,
-            room,
-        }));
+    if booking.seats > counts.room(booking.place, booking.class) {
+        return Ok(());
     }
     tell(advices, booking)?;
     counts.take(booking.place, booking.class, booking.seats);
-    Ok(None)
-}
-
-/// The room of a place, as it is known or else looked up.
-#[tactic(auto, using(seat_rules::proofs::History::Faults::place_same))]
-fn look(counts: &Counts, place: Place, class: Class, known: Option<Known>) -> u16
-    requires known { IfSome known (λ k. k.room ≡ room (limits_of counts.now) (table_of counts.now) k.place k.class) }
-    ensures { result ≡ room (limits_of counts.now) (table_of counts.now) place class }
-{
-    if let Some(known) = known {
-        if known.class == class && known.place == place {
-            return known.room;
-        }
-    }
-    counts.room(place, class)
+    Ok(())
 }
 
 /// Gives back the seats of advices, the last first.

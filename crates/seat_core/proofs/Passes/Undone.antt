@@ -10,7 +10,6 @@ use Rattle.seat_nesting.proofs.CountChanges.{fits_each, fits_forwards, held_each
 use Rattle.seat_rules.specs.declared.booking.Booking.{Booking}
 use Rattle.seat_journal.specs.declared.entry.Advice.{Advice}
 use Rattle.seat_rules.specs.Bookings.{is_waiting}
-use Rattle.seat_bookings.specs.Queues.{none_fits}
 use Rattle.seat_rules.specs.Sequential.{advice_of}
 use Rattle.seat_rules.specs.Showing.{given_back, taken_up, shown_advices, taken_back}
 use Rattle.seat_rules.specs.Tables.{advices_by, told_of, with_advice}
@@ -198,27 +197,6 @@ back_next grid base t u told b before shows =
     ∙ (ap (λ (x : Table). taken_back grid x told) (one_back grid t b) ∙ before))
 
 -- ---- booking by booking
-
--- where none fits, nothing is told
-none_told : (grid : Ladders) (t : Table) (queue : List Booking) → none_fits grid t queue ≡ true
-    → advices_by grid t queue ≡ []
-none_told grid t [] h = refl
-none_told grid t (b ∷ bs) h =
-    let parts = both_true (nat_lt (room grid t b.place b.class) b.seats) (none_fits grid t bs) h in
-    let over : nat_le b.seats (room grid t b.place b.class) ≡ false = (let e = parts.0 in grind (arith, nat_tests)) in
-    cases (is_waiting b.status) refl over (none_told grid t bs parts.1)
-  where
-    cases : (w : Bool) → is_waiting b.status ≡ w → nat_le b.seats (room grid t b.place b.class) ≡ false
-        → advices_by grid t bs ≡ [] → advices_by grid t (b ∷ bs) ≡ []
-    cases true e high rest = rw (e, high) rest
-    cases false e high rest = rw e rest
-
--- nor of those that are left
-pub none_left : (grid : Ladders) (t : Table) (queue : List Booking) (k : ℕ) → none_fits grid t queue ≡ true
-    → advices_by grid t (drop k queue) ≡ []
-none_left grid t queue zero h = none_told grid t queue h
-none_left grid t [] (suc k) h = refl
-none_left grid t (b ∷ bs) (suc k) h = none_left grid t bs k (both_true (nat_lt (room grid t b.place b.class) b.seats) (none_fits grid t bs) h).1
 
 one_told : (grid : Ladders) (t : Table) (b : Booking) (rest : List Booking)
     → advices_by grid t (b ∷ rest) ≡ told_of grid t b ++ advices_by grid (shown_advices grid t (told_of grid t b)) rest
