@@ -3,3 +3,4 @@ pub mod Merged
 pub mod Owning
 pub mod Summing
 pub mod Grounds
+pub mod Verdicts

@@ -78,6 +78,11 @@ pub record IsFirstRefused (grid : Ladders) (texts : List (List ℕ)) (fault : Sh
   pub shards : AreShards grid most_lines journals
   pub refused : RefusesBehind grid journals text fault
 
+-- the law: no journals are both accepted and refused
+abbrev pub OneVerdict : Type 0
+OneVerdict = (grid : Ladders) (texts : List (List ℕ)) (totals : Totals) (fault : ShardFault) → AreTotalled grid texts totals
+    → IsFirstRefused grid texts fault → ⊥
+
 -- ---- one behind the other
 
 abbrev pub both_of : Totals → Totals → Totals
