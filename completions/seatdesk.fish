@@ -148,6 +148,7 @@ complete -c seatdesk -n '__fish_seen_subcommand_from audit' -l behind -x -d 'How
 complete -c seatdesk -n '__fish_seen_subcommand_from audit' -l today -x -d 'The day of the run, as 2024-06-01, from 2000 to 2099; it gives the requests their year'
 complete -c seatdesk -n '__fish_seen_subcommand_from audit' -l sealed -d 'Refuses a JOURNAL without a seal beside it'
 complete -c seatdesk -n '__fish_seen_subcommand_from audit' -l open -d 'Takes a JOURNAL that is still open: its whole lines count, and it needs no END line; for a JOURNAL alone, without scripts'
+complete -c seatdesk -n '__fish_seen_subcommand_from audit' -l shards -d 'Takes JOURNAL and the words behind it as journals of hosts that have different flights over this set, and sums them up'
 complete -c seatdesk -n '__fish_seen_subcommand_from audit' -s v -l verbose -d 'Names the file of a fault, and where in it the fault stands, or the system\'s reason'
 complete -c seatdesk -n '__fish_seen_subcommand_from audit' -s h -l help -d 'Print help'
 complete -c seatdesk -n '__fish_seen_subcommand_from audit' -F
@@ -205,6 +206,6 @@ complete -c seatdesk -n '__fish_seen_subcommand_from why' -F
 
 complete -c seatdesk -n '__fish_seen_subcommand_from explain' -s v -l verbose -d 'Names the file of a fault, and where in it the fault stands, or the system\'s reason'
 complete -c seatdesk -n '__fish_seen_subcommand_from explain' -s h -l help -d 'Print help'
-complete -c seatdesk -n '__fish_seen_subcommand_from explain' -a 'A1 A2 A3 A4 A5 A6 A7 A8 A9 B1 C1 DEVICE E1 E2 F1 F2 F3 F4 F5 F6 F7 F8 F9 H1 H2 H3 H4 H5 J1 J2 J3 J4 L1 L2 L3 L4 M1 M2 M3 M4 M5 M6 M7 MEMORY P1 P2 P3 P4 P5 P6 P7 P8 Q1 Q2 Q3 R2 S1 S2 S3 S4 S5 S6 S7 S8 S9 S10 S11 S12 S13 S14 S15 SEAL U1'
+complete -c seatdesk -n '__fish_seen_subcommand_from explain' -a 'A1 A2 A3 A4 A5 A6 A7 A8 A9 B1 C1 DEVICE E1 E2 F1 F2 F3 F4 F5 F6 F7 F8 F9 H1 H2 H3 H4 H5 J1 J2 J3 J4 L1 L2 L3 L4 M1 M2 M3 M4 M5 M6 M7 MEMORY P1 P2 P3 P4 P5 P6 P7 P8 P9 Q1 Q2 Q3 R2 S1 S2 S3 S4 S5 S6 S7 S8 S9 S10 S11 S12 S13 S14 S15 SEAL U1'
 
 complete -c seatdesk -n '__fish_seen_subcommand_from help' -a 'ladder check flights cover rooms loads run serve bookings waiting history audit seal recover replies told why explain'

@@ -1,8 +1,11 @@
 -- What holds of a row of either table holds of the first one that is found; what begins with a text goes on with it.
-use Rattle.std.proofs.Common.{◌≡◌, ℕ, List, [], ◌++◌, Option, Some, None, IfSome, IsTrue, sym, ap, ◌∙◌, append_assoc, append-nil}
+use Rattle.std.proofs.Common.{◌≡◌, ℕ, List, [], ◌∷◌, ◌++◌, Option, Some, None, IfSome, IsTrue, sym, ap, ◌∙◌, append_assoc, append-nil}
 use Rattle.std.specs.Option.{option_or}
+use Rattle.seat_explanations.specs.Meanings.{IsMeaning, IsMeaningOf}
 use Rattle.seat_explanations.specs.Rows.{Begins, TellsOf, is_of, row_text}
+use Rattle.seat_explanations.specs.Words.{first_word, IsPlace, IsUnplaced}
 use Rattle.seat_explanations.specs.declared.explanations.Explanation.{Explanation}
+use Rattle.seat_explanations.specs.declared.meaning.Meaning.{Meaning}
 
 pub either : {X : Type 0} (P : X → Type 0) (a b : Option X) → IfSome a P → IfSome b P → IfSome (option_or a b) P
 either P None b p q = q
@@ -33,3 +36,10 @@ told_further code old new tells goes = record {
   of = tells.of;
   begins = further (row_text tells.row) old new tells.begins goes;
 }
+
+pub is_place : (word number : List ℕ) → word ≡ number ++ 58 ∷ [] → IsPlace word
+is_place word number is = record { number = number; is = is }
+
+pub meaning_of_rest : (line rest : List (List ℕ)) (meaning : Meaning) → IsUnplaced line rest → IsMeaning (first_word rest) meaning
+    → IsMeaningOf line meaning
+meaning_of_rest line rest meaning unplaced is = record { rest = rest; is_unplaced = unplaced; is = is }

@@ -1,5 +1,5 @@
 -- The words of a line that is given in pieces, as one word or as several.
-use Rattle.std.specs.Prelude.{ℕ, List, [], ◌∷◌, ◌++◌, ◌==◌, ◌||◌, nat_eq, if◌then◌else◌, codes}
+use Rattle.std.specs.Prelude.{◌≡◌, ◌⊎◌, ℕ, List, [], ◌∷◌, ◌++◌, ◌==◌, ◌||◌, nat_eq, if◌then◌else◌, codes}
 use Rattle.std.specs.Cmp.Lexicographic.{pointwise}
 use Rattle.std.specs.List.{slice_split}
 
@@ -28,3 +28,12 @@ unnamed (word ∷ words) =
 abbrev pub first_word : List (List ℕ) → List ℕ
 first_word [] = []
 first_word (word ∷ _) = word
+
+-- the word ends with a colon
+pub record IsPlace (word : List ℕ) : Type 0 where
+  pub number : List ℕ
+  pub is : word ≡ number ++ 58 ∷ []
+
+-- the rest is the line, or all of it behind such a word
+pub record IsUnplaced (line rest : List (List ℕ)) : Type 0 where
+  pub either : (rest ≡ line) ⊎ ((place : List ℕ) × IsPlace place × (line ≡ place ∷ rest))

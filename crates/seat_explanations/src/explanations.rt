@@ -625,6 +625,12 @@ const ENTRIES: &[Explanation] = &[
         numbers: &["session", "call of that session"],
         text: "The journal's line of that call is not what the script of the session asks there,\nor one of them has more. The journal may be of other scripts, another first day or another data set.\nWith --after calls go on from those of the older journal, with --behind from those of the lines before.\nWhere the journal does not begin with the older one's lines, the session and the call are those of the\nfirst line that differs, which may be of session 0.\nWith run --resume the script may have more, but must begin with the journal's lines, and so must the file of --changes,\nof which those of session 0 are.",
     },
+    Explanation {
+        behind: "",
+        code: "P9",
+        numbers: &["entry", "journal with a line of its flight"],
+        text: "audit --shards takes journals of hosts that have different flights, and two of these have a line of one flight.\nThe number ahead of the code is the journal's place among the words, and the entry is its first on such a flight.",
+    },
 ];
 
 // Words of the command line.
@@ -640,6 +646,12 @@ const WORDS: &[Explanation] = &[
         code: "days",
         numbers: NONE,
         text: "--days is no number of 1 to 366, in at most three digits.",
+    },
+    Explanation {
+        behind: "E2",
+        code: "shards",
+        numbers: NONE,
+        text: "--shards takes journals as they stand: it is beside none of --after, --behind, --today, --sealed and --open.",
     },
     Explanation {
         behind: "E2",

@@ -3,9 +3,9 @@
 ghost use Rattle.std.specs.Prelude.{◌≡◌, ◌==◌, [], ◌∷◌, ◌++◌, IfOk, IfSome, IsTrue, OnOk, map};
 ghost use Rattle.std.specs.List.{slice_split};
 ghost use Rattle.std.specs.String.{string_bytes};
-ghost use Rattle.seat_explanations.specs.Meanings.{IsMeaning};
+ghost use Rattle.seat_explanations.specs.Meanings.{IsMeaning, IsMeaningOf};
 ghost use Rattle.seat_explanations.specs.Rows.{Begins, is_of, row_text};
-ghost use Rattle.seat_explanations.specs.Words.{filled, first_word, line_of, unnamed, words_of};
+ghost use Rattle.seat_explanations.specs.Words.{filled, first_word, line_of, unnamed, words_of, IsPlace, IsUnplaced};
 
 use crate::answers::answer_row;
 use crate::explanations::{Explanation, row_behind, row_of, row_of_note};
@@ -29,21 +29,21 @@ pub enum Meaning<'a> {
 
 /// What a fault line means: its code, the code or word behind that, and what each number counts; or what a reply, a note or the word that an
 /// answer begins with says.
-/// The line may be one word or several, as it was printed or without the program's name, and in small letters.
+/// The line may be one word or several, as it was printed, without the program's name or the place of a journal, and in small letters.
+#[tactic(auto, using(crate::proofs::Rows::meaning_of_rest))]
 pub fn meaning_of<'a>(
     alloc: Global,
     code: &'a str,
     behind: &[&'a str],
 ) -> Result<Meaning<'a>, AllocError>
-    ensures found { IfOk result
-        (λ meaning. IsMeaning (first_word (unnamed (line_of (code.now ∷ map (λ word. word.now) behind.now)))) meaning) }
+    ensures found { IfOk result (IsMeaningOf (unnamed (line_of (code.now ∷ map (λ word. word.now) behind.now)))) }
 {
     let mut line = Vec::new(alloc);
     put_words(alloc, &mut line, code)?;
     for word in behind {
         put_words(alloc, &mut line, word)?;
     }
-    explained(alloc, without_name(line.as_slice()))
+    explained(alloc, without_place(without_name(line.as_slice())))
 }
 
 #[tactic(auto, using(crate::proofs::Rows::begun, crate::proofs::Rows::itself, crate::proofs::Rows::told_further))]
@@ -123,6 +123,27 @@ fn without_name<'a, 'b>(line: &'b [&'a str]) -> &'b [&'a str]
     match line {
         [first, rest @ ..] if *first == NAME || *first == DASH => rest,
         _ => line,
+    }
+}
+
+/// The line without the place of one of several journals, which stands ahead of its fault.
+fn without_place<'a, 'b>(line: &'b [&'a str]) -> &'b [&'a str]
+    ensures { IsUnplaced (map (λ word. word.now) line.now) (map (λ word. word.now) result.now) }
+{
+    match line {
+        [first, rest @ ..] if is_place(first) => rest,
+        _ => line,
+    }
+}
+
+/// Whether a word is a number and a colon.
+#[tactic(auto, using(crate::proofs::Rows::is_place))]
+fn is_place(word: &str) -> bool
+    ensures { IsTrue result → IsPlace word.now }
+{
+    match word.strip_suffix(':') {
+        Some(digits) => is_number(digits),
+        None => false,
     }
 }
 

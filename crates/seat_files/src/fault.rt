@@ -1,5 +1,6 @@
 //! What the program is refused with: by a command, or for a word of its command line.
 use seat_desk::DeskFault;
+use seat_shards::ShardFault;
 use seat_words::WordFault;
 use std::fmt;
 
@@ -7,6 +8,8 @@ use std::fmt;
 #[derive(Clone, Copy)]
 pub enum Fault {
     Desk(DeskFault),
+    /// A fault of one of several journals.
+    Shards(ShardFault),
     Word(WordFault),
 }
 
@@ -20,6 +23,7 @@ impl fmt::Display for Fault {
     fn fmt<W: fmt::Write>(&self, f: &mut fmt::Formatter<W>) -> fmt::Result {
         match self {
             Fault::Desk(fault) => fault.fmt(f),
+            Fault::Shards(fault) => fault.fmt(f),
             Fault::Word(fault) => fault.fmt(f),
         }
     }
@@ -35,6 +39,7 @@ impl Fault {
     {
         match self {
             Fault::Desk(fault) => fault.status(),
+            Fault::Shards(fault) => fault.status(),
             Fault::Word(_) => 2,
         }
     }

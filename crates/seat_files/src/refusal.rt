@@ -1,6 +1,8 @@
 //! What a command is refused with, and the file that it is refused for.
 ghost use Rattle.std.specs.Prelude.{◌≡◌, IfErr, IsErrAnd, IsOk, IsTrue};
+ghost use Rattle.seat_files.specs.Faults.{exit_status, printed};
 ghost use Rattle.seat_files.specs.Refusals.{is_failure, is_of_seal};
+ghost use Rattle.seat_shards.specs.Faults.{shard_text, status_of_shards};
 
 use crate::fault::Fault;
 use crate::journal_file::{JournalFile, is_link};
@@ -9,6 +11,7 @@ use crate::streams::{Input, Output};
 use airline_base::Failures;
 use seat_desk::DeskFault;
 use seat_seal::SealFault;
+use seat_shards::ShardFault;
 use seat_words::WordFault;
 use std::fmt::Write;
 use std::{fmt, fs, io};
@@ -368,7 +371,13 @@ impl<'a> Refusal<'a> {
             return;
         }
         match self.fault {
-            Fault::Desk(DeskFault::TooLarge) => {
+            Fault::Desk(DeskFault::TooLarge)
+            | Fault::Shards(
+                ShardFault::Journal {
+                    fault: DeskFault::TooLarge,
+                    ..
+                },
+            ) => {
                 let _ = eprintln!(rt; "seatdesk: {file}: Too large");
             }
             Fault::Desk(DeskFault::Device) => self.tell_reason(rt, &file),
@@ -438,15 +447,22 @@ fn is_of_input(fault: &Fault) -> bool {
                 | DeskFault::Device
                 | DeskFault::Memory
         ),
+        Fault::Shards(_) => true,
         Fault::Word(_) => false,
     }
 }
 
 /// Where in its input a fault stands, as its line counts it.
 fn place_of(fault: &Fault) -> Option<(&'static str, u32)> {
-    let Fault::Desk(fault) = fault else {
-        return None;
-    };
+    match fault {
+        Fault::Desk(fault) => place_in(fault),
+        Fault::Shards(ShardFault::Journal { fault, .. }) => place_in(fault),
+        Fault::Shards(ShardFault::Shared { number, .. }) => Some(("entry", *number)),
+        _ => None,
+    }
+}
+
+fn place_in(fault: &DeskFault) -> Option<(&'static str, u32)> {
     match fault {
         DeskFault::Set(fault) => Some(("record", fault.nth)),
         DeskFault::Limit(fault) => Some(("line", fault.line)),
@@ -466,6 +482,19 @@ impl<'a> From<DeskFault> for Refusal<'a> {
         ensures { result.fault ≡ Fault.Desk fault }
     {
         Refusal::of(Fault::Desk(fault))
+    }
+}
+
+impl<'a> From<ShardFault> for Refusal<'a> {
+    /// What is no fault of one of several journals is one of the desk.
+    fn from(fault: ShardFault) -> Refusal<'a>
+        ensures text { printed result.fault ≡ shard_text fault }
+        ensures status { exit_status result.fault ≡ status_of_shards fault }
+    {
+        match fault {
+            ShardFault::Desk(fault) => Refusal::from(fault),
+            _ => Refusal::of(Fault::Shards(fault)),
+        }
     }
 }
 

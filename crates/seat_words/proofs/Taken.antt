@@ -82,7 +82,7 @@ history_line = leaf_line is_complete (built_leaf (with_verbose history_app).top)
 audit_line : Yields is_complete (built_leaf (with_verbose audit_app).top)
 unfolding audit_app horizon_app
 audit_line = leaf_line is_complete (built_leaf (with_verbose audit_app).top)
-    (set_keeps _ refl refl, (set_keeps _ refl refl, (set_keeps _ refl refl, (set_keeps _ refl refl, (set_keeps _ refl refl, (set_keeps _ refl refl, (set_keeps _ refl refl, (flag_keeps _ refl _ refl, (flag_keeps _ refl _ refl, (set_keeps _ refl refl, (append_keeps _ refl refl, (flag_keeps _ refl _ refl, (help_keeps _ refl, tt))))))))))))) (λ rows h. h)
+    (set_keeps _ refl refl, (set_keeps _ refl refl, (set_keeps _ refl refl, (set_keeps _ refl refl, (set_keeps _ refl refl, (set_keeps _ refl refl, (set_keeps _ refl refl, (flag_keeps _ refl _ refl, (flag_keeps _ refl _ refl, (flag_keeps _ refl _ refl, (set_keeps _ refl refl, (append_keeps _ refl refl, (flag_keeps _ refl _ refl, (help_keeps _ refl, tt)))))))))))))) (λ rows h. h)
 
 seal_line : Yields is_complete (built_leaf (with_verbose seal_app).top)
 unfolding seal_app horizon_app

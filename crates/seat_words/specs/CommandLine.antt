@@ -116,12 +116,13 @@ bookings_app = with_rule (with_rule (with_rule (with_rule (with_rule (with_rule 
     (required_value (codes "journal"))
 
 unfoldable pub audit_app : App
-audit_app = with_rule (with_rule (with_rule (with_rule (with_rule (with_rule (with_rule (horizon_app (codes "audit"))
+audit_app = with_rule (with_rule (with_rule (with_rule (with_rule (with_rule (with_rule (with_rule (horizon_app (codes "audit"))
     (optional (codes "after")))
     (optional (codes "behind")))
     (optional (codes "today")))
     (flag (codes "sealed")))
     (flag (codes "open")))
+    (flag (codes "shards")))
     (required_value (codes "journal")))
     (optional_values (codes "scripts"))
 

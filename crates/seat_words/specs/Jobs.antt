@@ -112,13 +112,14 @@ Asks (History over locator shape is_open journal) line = (line.0 ≡ codes "hist
     × IsShaped line.1 shape
     × HasFlag line (codes "open") is_open
     × Has line (codes "journal") journal.now
-Asks (Audit over after behind today sealed is_open journal scripts) line = (line.0 ≡ codes "audit")
+Asks (Audit over after behind today sealed is_open are_shards journal scripts) line = (line.0 ≡ codes "audit")
     × IsOver line.1 over
     × MayHave line (codes "after") (option_map (λ text. text.now) after)
     × MayHave line (codes "behind") (option_map (λ text. text.now) behind)
     × MayHave line (codes "today") (option_map (λ text. text.now) today)
     × HasFlag line (codes "sealed") sealed
     × HasFlag line (codes "open") is_open
+    × HasFlag line (codes "shards") are_shards
     × Has line (codes "journal") journal.now
     × HasAny line (codes "scripts") scripts
 Asks (Seal over journal) line = (line.0 ≡ codes "seal")

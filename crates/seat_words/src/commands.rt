@@ -114,6 +114,9 @@ const OPEN_HELP: &str =
 const OPEN_AUDIT_HELP: &str =
     "Takes a JOURNAL that is still open: its whole lines count, and it needs no END line; for a JOURNAL alone, without scripts";
 
+const SHARDS_HELP: &str =
+    "Takes JOURNAL and the words behind it as journals of hosts that have different flights over this set, and sums them up";
+
 const FLIGHT_HELP: &str = "The flights of this name alone, on all their days, as LZ601";
 
 const HISTORY_LOCATOR_HELP: &str = "The locator: six letters and digits, as W8Y3ZA";
@@ -433,7 +436,7 @@ fn audit_command<'a>(alloc: Global) -> Result<Command<'a>, AllocError>
         alloc,
         "audit",
         "Replays a journal against its schedule and limits, and writes one summary line",
-        "A journal belongs to its set, limits, first day and days. With the scripts audit sees whether they are those: over\nanother first day its lines are not what the scripts ask (P8). Where JOURNAL.seal stands beside JOURNAL, it is compared.\n\nExample: seatdesk audit --set examples/summer.ssim --limits examples/limits.txt --first 2024-07-01 --days 31 examples/journal.txt\n\nAgainst its scripts: seatdesk audit --set examples/summer.ssim --limits examples/limits.txt --first 2024-07-01 --days 31 --today 2024-06-20 examples/journal.txt examples/london.txt examples/lisbon.txt\n\nThe day after: seatdesk audit --set examples/summer.ssim --limits examples/limits.txt --first 2024-07-01 --days 31 --after examples/journal.txt --today 2024-06-21 journal-2.txt examples/london-2.txt",
+        "A journal belongs to its set, limits, first day and days. With the scripts audit sees whether they are those: over\nanother first day its lines are not what the scripts ask (P8). Where JOURNAL.seal stands beside JOURNAL, it is compared.\n\nExample: seatdesk audit --set examples/summer.ssim --limits examples/limits.txt --first 2024-07-01 --days 31 examples/journal.txt\n\nAgainst its scripts: seatdesk audit --set examples/summer.ssim --limits examples/limits.txt --first 2024-07-01 --days 31 --today 2024-06-20 examples/journal.txt examples/london.txt examples/lisbon.txt\n\nThe day after: seatdesk audit --set examples/summer.ssim --limits examples/limits.txt --first 2024-07-01 --days 31 --after examples/journal.txt --today 2024-06-21 journal-2.txt examples/london-2.txt\n\nOf several hosts: seatdesk audit --set examples/summer.ssim --limits examples/limits.txt --first 2024-07-01 --days 31 --shards examples/journal.txt journal-3.txt",
     );
     let audit = with_argument(
         audit,
@@ -443,6 +446,7 @@ fn audit_command<'a>(alloc: Global) -> Result<Command<'a>, AllocError>
     let audit = with_argument(audit, optional_option(alloc, "today", "DATE", TODAY_HELP));
     let audit = with_argument(audit, flag(alloc, "sealed", SEALED_HELP));
     let audit = with_argument(audit, flag(alloc, "open", OPEN_AUDIT_HELP));
+    let audit = with_argument(audit, flag(alloc, "shards", SHARDS_HELP));
     let audit = with_argument(
         audit,
         wanted_value(alloc, "journal", "JOURNAL", JOURNAL_HELP),

@@ -32,6 +32,8 @@ pub enum WordFault {
     BadJournal,
     /// What the loads are summed by is none of those that they may be.
     BadBy,
+    /// Journals of several hosts are audited as they stand: ended, without scripts, older journals and seals.
+    BadShards,
     /// More than one form of the answer is asked for.
     BadForm,
     /// A word is not UTF-8.
@@ -61,6 +63,7 @@ impl fmt::Display for WordFault {
             WordFault::BadDesk => "E2 desk",
             WordFault::BadJournal => "E2 journal",
             WordFault::BadBy => "E2 by",
+            WordFault::BadShards => "E2 shards",
             WordFault::BadForm => "E2 form",
             WordFault::BadWords => "E2 words",
         })

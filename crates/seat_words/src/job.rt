@@ -120,7 +120,7 @@ pub enum Job<'a> {
         is_open: bool,
         journal: &'a str,
     },
-    /// `seatdesk audit` over a horizon `[--after JOURNAL] [--behind N] [--today DATE] [--sealed] [--open] JOURNAL [SCRIPT...]`
+    /// `seatdesk audit` over a horizon `[--after JOURNAL] [--behind N] [--today DATE] [--sealed] [--open] [--shards] JOURNAL [SCRIPT...]`
     Audit {
         over: Horizon<'a>,
         after: Option<&'a str>,
@@ -128,6 +128,8 @@ pub enum Job<'a> {
         today: Option<&'a str>,
         sealed: bool,
         is_open: bool,
+        /// The words behind JOURNAL are journals too.
+        are_shards: bool,
         journal: &'a str,
         /// None or more.
         scripts: Several<'a>,
@@ -318,6 +320,7 @@ fn job_named<'a>(alloc: Global, name: &str, matches: &ArgMatches<'a>) -> Result<
             today: may_value_of(matches, "today"),
             sealed: flag_of(matches, "sealed"),
             is_open: flag_of(matches, "open"),
+            are_shards: flag_of(matches, "shards"),
             journal: value_of(matches, "journal"),
             scripts: any_values_of(alloc, matches, "scripts")?,
         },

@@ -13,6 +13,7 @@ mod restoring;
 mod selling;
 mod serving;
 mod sessions;
+mod shards;
 mod undone;
 
 use clap::error::ErrorKind;
@@ -121,6 +122,7 @@ fn carry_out<'a, T: Threads + Wait + Sync>(
             today,
             sealed,
             is_open,
+            are_shards,
             journal,
             scripts,
         } => {
@@ -132,6 +134,10 @@ fn carry_out<'a, T: Threads + Wait + Sync>(
                 is_sealed: *sealed,
                 is_open: *is_open,
             };
+            if *are_shards {
+                let plain = shards::is_plain(&older, *today, looked);
+                return Ok(shards::audit(rt, threads, over, plain, journal, scripts.as_slice())?);
+            }
             let scripts = scripts.as_slice();
             selling::audit(rt, threads, over, &older, *today, looked, journal, scripts)?
         }

@@ -71,6 +71,10 @@ pub returns-clause-behind : goal.returns-clause-behind
 unfolding seatdesk_app selling_app bare_app named_app ladder_app check_app flights_app cover_app rooms_app loads_app run_app serve_app bookings_app audit_app seal_app recover_app replies_app told_app waiting_app history_app why_app explain_app horizon_app clap_on_literals
 returns-clause-behind c = record { taken = refl; found = refl }
 
+pub returns-clause-shards : goal.returns-clause-shards
+unfolding seatdesk_app selling_app bare_app named_app ladder_app check_app flights_app cover_app rooms_app loads_app run_app serve_app bookings_app audit_app seal_app recover_app replies_app told_app waiting_app history_app why_app explain_app horizon_app clap_on_literals
+returns-clause-shards c = record { taken = refl; found = refl }
+
 pub returns-clause-seal : goal.returns-clause-seal
 unfolding seatdesk_app selling_app bare_app named_app ladder_app check_app flights_app cover_app rooms_app loads_app run_app serve_app bookings_app audit_app seal_app recover_app replies_app told_app waiting_app history_app why_app explain_app horizon_app clap_on_literals
 returns-clause-seal c = record { taken = refl; found = refl }
