@@ -50,7 +50,7 @@ pub(crate) const SEALS: &[Explanation] = &[
         behind: "SEAL",
         code: "journal",
         numbers: NONE,
-        text: "The journal's head and entries are others than those that were sealed: a line was changed, added or taken away,\nor the journal is another than the seal's: a run writes both, and a kept journal has its own beside it.\nOf an open seal the journal does not begin with its lines. Of seatdesk serve and recover what is found of it does not\nbegin with the lines that were sealed: one is missing or was changed, which no crash does. Of seatdesk seal: the seal there has a run behind more lines than the journal has, so it was changed.",
+        text: "The journal's head and entries are others than those that were sealed: a line was changed, added or taken away,\nor all of it, as by > JOURNAL of a shell,\nor the journal is another than the seal's: a run writes both, and a kept journal has its own beside it.\nOf an open seal the journal does not begin with its lines. Of seatdesk serve and recover what is found of it does not\nbegin with the lines that were sealed: one is missing or was changed, which no crash does. Of seatdesk seal: the seal there has a run behind more lines than the journal has, so it was changed.",
     },
     Explanation {
         behind: "SEAL",
@@ -62,12 +62,12 @@ pub(crate) const SEALS: &[Explanation] = &[
         behind: "SEAL",
         code: "behind",
         numbers: NONE,
-        text: "--behind N, or the journal of --after, says behind how many lines the scripts of --resume began. The seal of the journal\nhas no run that began behind so many: all would be booked once more. Its lines run behind have the numbers.\nScripts that no run has booked yet, as those of a day's first run, go on by --after JOURNAL, without --resume and --behind.",
+        text: "--behind N, or the journal of --after, says behind how many lines the scripts of --resume began. The seal of the journal\nhas no run that began behind so many, so nothing says that these scripts are what stands behind them. Its lines run behind have the\nnumbers. Where the seal lost its runs, look with seatdesk history whether the journal has what a script asks.\nScripts that no run has booked yet, as those of a day's first run, go on by --after JOURNAL, without --resume and --behind.",
     },
     Explanation {
         behind: "SEAL",
         code: "runs",
         numbers: NONE,
-        text: "The seal of the journal of --resume has several runs, which began behind several numbers of lines. Say by --behind N with\nwhich of them the scripts began: N stands in the seal's lines run behind. Behind the first of a day stands what all desks sold that day.\nScripts that no run has booked yet, as those of a day's first run, go on by --after JOURNAL, without --resume.",
+        text: "The seal of the journal of --resume has several runs, which began behind several numbers of lines. Say by --behind N with\nwhich of them the scripts began: N stands in the seal's lines run behind. Behind the first of a day stands what all desks sold that day.\nNew lines of a desk of which several scripts stand in the journal are written into a new one. Scripts that no run has booked yet, as those\nof a day's first run, go on by --after JOURNAL, without --resume.",
     },
 ];

@@ -8,21 +8,26 @@ use seat_files::{
 use seat_seal::{Script, Seal, SealEntry, Sealed, read_seal};
 use std::fs;
 
+/// As many runs as a seal names.
+const MOST_RUNS: usize = 128;
+
 /// Says that nothing stands beside a journal, so that it could not be compared, or that what stands there knows no run.
 pub fn tell_unsealed(rt: &HostRuntime, name: &str, seal: &SealFile) {
     let file = Shown { name };
-    match seal.as_beside().text {
-        None => {
-            let _ = eprintln!(rt;
-                "seatdesk: note: {file} has no seal beside it, and was not compared with what is given"
-            );
-        }
-        Some(text) if is_without_runs(text) => {
-            let _ = eprintln!(rt;
-                "seatdesk: note: {file} has a seal that knows no run, so nothing says which scripts it has"
-            );
-        }
-        Some(_) => {}
+    let Some(text) = seal.as_beside().text else {
+        let _ = eprintln!(rt;
+            "seatdesk: note: {file} has no seal beside it, and was not compared with what is given"
+        );
+        return;
+    };
+    if is_without_runs(text) {
+        let _ = eprintln!(rt;
+            "seatdesk: note: {file} has a seal that knows no run, so nothing says which scripts it has"
+        );
+    } else if has_lines_ahead(text) {
+        let _ = eprintln!(rt;
+            "seatdesk: note: {file} has a seal that knows no run of its first lines, so nothing says which scripts they have"
+        );
     }
 }
 
@@ -57,6 +62,28 @@ pub fn has_run(seal: &Seal) -> bool {
         None => false,
     };
     has_second || knows_run(&seal.first)
+}
+
+/// Whether a journal has lines ahead of each run that its seal names, where these are so few that none was forgotten. Of two entries it is
+/// the new journal's.
+fn has_lines_ahead(text: &[u8]) -> bool {
+    match read_seal(text) {
+        Some(seal) => match &seal.second {
+            Some(second) => is_behind_lines(second),
+            None => is_behind_lines(&seal.first),
+        },
+        None => false,
+    }
+}
+
+fn is_behind_lines(entry: &SealEntry) -> bool {
+    match entry {
+        SealEntry::Sealed(entry) => {
+            let runs = entry.runs.as_slice();
+            runs.len() < MOST_RUNS && runs.iter().all(|run| run.behind > 0)
+        }
+        SealEntry::Other(_) => false,
+    }
 }
 
 fn knows_run(entry: &SealEntry) -> bool {
