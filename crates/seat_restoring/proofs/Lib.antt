@@ -5,3 +5,4 @@ pub mod Refusing
 pub mod Sealed
 pub mod Hosted
 pub mod Serving
+pub mod Passing

@@ -17,7 +17,7 @@ use Rattle.seat_seal.specs.declared.seal.JournalState.TheVariants.{Open, Closed}
 use Rattle.seat_seal.specs.Closing.{IsEntryIn}
 use Rattle.seat_seal.specs.declared.seal.Sealed.{Sealed as Belonging}
 use Rattle.seat_seal.specs.declared.seal.SealEntry.TheVariants.{Sealed}
-use Rattle.seat_sealing.specs.Pairs.{Names}
+use Rattle.seat_sealing.specs.Pairs.{Names, NamesEach}
 use Rattle.seat_sealing.specs.Steps.{alone_text, both_text}
 use Rattle.seat_serving.specs.GoingOn.{IsFoundIn, head_for}
 use Rattle.seat_serving.proofs.Recovering.{whole}
@@ -73,15 +73,20 @@ module _ (beside : Beside) (basis : Basis) (file : List ℕ) (journal : List Ent
   }
 
   pub are_seals : (both alone : List ℕ) → both ≡ both_text (Sealed older) newer → alone ≡ alone_text newer
-      → Names (both_text (Sealed older) newer) newer.journal.imprint → Names (alone_text newer) newer.journal.imprint
+      → Names (both_text (Sealed older) newer) newer.journal.imprint
+      → ((entry : Belonging) (begun : List ℕ) → Sealed older ≡ Sealed entry → entry.journal.state ≡ Open
+      → entry.journal.imprint ≡ imprint_of begun → NamesEach (both_text (Sealed older) newer) begun)
+      → Names (alone_text newer) newer.journal.imprint
       → AreSeals beside basis file journal both alone
-  are_seals both alone both_is alone_is first last = record {
+  are_seals both alone both_is alone_is first each last = record {
     older = older;
     newer = newer;
     entries = are_entries;
     both_is = both_is;
     alone_is = alone_is;
     first = names both (both_text (Sealed older) newer) both_is first;
+    each = subst (λ (t : List ℕ). NamesEach t (open_text journal)) (sym both_is)
+        (each older (open_text journal) refl are_entries.is_older.is.state_is are_entries.is_older.is.imprint_is);
     last = names alone (alone_text newer) alone_is last;
   }
     where

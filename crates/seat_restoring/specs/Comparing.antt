@@ -1,6 +1,6 @@
 -- What is compared of what stands beside a file that is recovered, ahead of what is found in it: the set, the limits and the days. That its bytes are not
 -- those of the sealed journal is what a recovery is for: what is found of them is compared with the sealed lines.
-use Rattle.std.specs.Prelude.{◌≡◌, ℕ, Bool, true, false, List, Option, None, Some, IfSome, is_some}
+use Rattle.std.specs.Prelude.{◌≡◌, ◌⊎◌, ℕ, Bool, true, false, List, [], Option, None, Some, IfSome, is_some, option_map}
 use Rattle.seat_seal.specs.Besides.{IsFaultBeside}
 use Rattle.seat_seal.specs.declared.beside.Basis.{Basis}
 use Rattle.seat_seal.specs.declared.beside.Beside.{Beside}
@@ -13,7 +13,11 @@ use Rattle.seat_desk.specs.Loading.{Bytes, IsBehind}
 use Rattle.seat_desk.specs.Sealing.{basis_of}
 use Rattle.seat_desk.specs.declared.inputs.Inputs.{Inputs}
 use Rattle.seat_desk.specs.declared.fault.DeskFault.{DeskFault}
-use Rattle.seat_desk.specs.declared.fault.DeskFault.TheVariants.{Seal}
+use Rattle.seat_desk.specs.declared.fault.DeskFault.TheVariants as desk
+use Rattle.seat_seal.specs.Rules.{IsSeal}
+use Rattle.seat_seal.specs.Text.{seal_text}
+use Rattle.seat_seal.specs.declared.seal.Seal.{Seal}
+use Rattle.seat_seal.specs.declared.seal.SealEntry.TheVariants.{Sealed}
 use Rattle.seat_restoring.specs.Restoring.{AreBytes}
 
 -- nothing is wrong with what stands there, or that alone that the bytes are another journal's, and lines were sealed
@@ -37,7 +41,26 @@ pub record Differs (beside : Beside) (basis : Basis) (file : List ℕ) (fault : 
   pub known : Option Belonging
   pub is_known : IsKnown beside file known
   pub refused : is_passed known (Some first) ≡ false
-  pub is : fault ≡ Seal first
+  pub is : fault ≡ desk.Seal first
+
+-- ---- a seal of one entry
+
+-- the entry of a journal of which more is known than its bytes, and no other
+pub record IsOneEntry (seal : Seal) : Type 0 where
+  pub entry : Belonging
+  pub first : seal.first ≡ Sealed entry
+  pub none : seal.second ≡ None
+
+-- such a seal stands there
+pub record HasOneEntry (beside : Beside) : Type 0 where
+  pub seal : Seal
+  pub is_seal : IsSeal seal
+  pub is_text : option_map (λ text. text.now) beside.text ≡ Some (seal_text seal)
+  pub one : IsOneEntry seal
+
+-- the first fault of what stands there; or of such a seal the one beside a journal without a byte
+abbrev pub IsFaultAhead : Beside → Basis → List ℕ → Option SealFault → Type 0
+IsFaultAhead beside basis file fault = IsFaultBeside beside basis file fault ⊎ (HasOneEntry beside × IsFaultBeside beside basis [] fault)
 
 -- of a file with the bytes that are known
 pub record IsPassed (beside : Beside) (basis : Basis) (old : Option (List ℕ)) : Type 0 where

@@ -1,11 +1,13 @@
 -- The seal of a journal that `recover` ends, and the three steps in which both are written. And the seals of one that lines are added to.
-use Rattle.std.specs.Prelude.{◌≡◌, ◌⊎◌, ℕ, false, List, length, Option}
+use Rattle.std.specs.Prelude.{◌≡◌, ◌⊎◌, ◌+◌, ◌≤◌, ℕ, false, true, List, [], length, Option}
 use Rattle.seat_journal.specs.declared.entry.Entry.{Entry}
 use Rattle.seat_journal.specs.Text.{journal_text}
 use Rattle.seat_nesting.specs.Nesting.{Ladders}
-use Rattle.seat_disk.specs.Leaving.{Only, Within, replaced_by}
+use Rattle.seat_disk.specs.Leaving.{OldOr, Only, OnlyKnown, Within, replaced_by}
+use Rattle.seat_serving.specs.GoingOn.{NoLonger}
+use Rattle.seat_recovery.specs.declared.rest.Rest.{Rest}
 use Rattle.seat_recovery.specs.OpenText.{open_text}
-use Rattle.seat_recovery.specs.Recovering.{IsRecovered}
+use Rattle.seat_recovery.specs.Recovering.{HasTornHead, IsRecovered}
 use Rattle.seat_seal.specs.Closing.{IsEntryIn, runs_within}
 use Rattle.seat_seal.specs.Imprints.{imprint_of}
 use Rattle.seat_seal.specs.Known.{IsKnown, runs_known}
@@ -19,7 +21,7 @@ use Rattle.seat_seal.specs.declared.seal.JournalState.{JournalState}
 use Rattle.seat_seal.specs.declared.seal.JournalState.TheVariants.{Open, Closed}
 use Rattle.seat_seal.specs.declared.seal.Sealed.{Sealed as Belonging}
 use Rattle.seat_seal.specs.declared.seal.SealEntry.TheVariants.{Sealed}
-use Rattle.seat_sealing.specs.Pairs.{Names}
+use Rattle.seat_sealing.specs.Pairs.{Names, NamesEach}
 use Rattle.seat_sealing.specs.Steps.{IsClosing, IsSealing, alone_text, both_text}
 use Rattle.seat_desk.specs.AuditDesk.{most_lines}
 use Rattle.seat_desk.specs.Loading.{Bytes}
@@ -27,6 +29,7 @@ use Rattle.seat_desk.specs.declared.inputs.Inputs.{Inputs}
 use Rattle.seat_restoring.specs.Comparing.{OfBasis}
 use Rattle.seat_restoring.specs.Restoring.{AreBytes}
 use Rattle.seat_restoring.specs.Found.{KeepsSealed}
+use Rattle.seat_restoring.specs.Serving.{StaysNamed, is_headless}
 
 -- ---- the entries
 
@@ -48,7 +51,8 @@ pub record AreEntries (beside : Beside) (basis : Basis) (file : List ℕ) (journ
   pub is_older : IsEntryOver Open beside basis file (imprint_of (open_text journal)) (length journal) older
   pub is_newer : IsEntryOver Closed beside basis file (imprint_of (open_text journal)) (length journal) newer
 
--- the texts of the seal that names both, and of that of the journal alone; a reader finds in each the entry of the journal
+-- the texts of the seal that names both, and of that of the journal alone; a reader finds in each the entry of the journal, and in the first
+-- an entry of each journal that begins with its lines
 pub record AreSeals (beside : Beside) (basis : Basis) (file : List ℕ) (journal : List Entry) (both alone : List ℕ) : Type 0 where
   pub older : Belonging
   pub newer : Belonging
@@ -56,6 +60,7 @@ pub record AreSeals (beside : Beside) (basis : Basis) (file : List ℕ) (journal
   pub both_is : both ≡ both_text (Sealed older) newer
   pub alone_is : alone ≡ alone_text newer
   pub first : Names both (imprint_of (open_text journal))
+  pub each : NamesEach both (open_text journal)
   pub last : Names alone (imprint_of (open_text journal))
 
 -- no seal may have the two entries
@@ -105,11 +110,34 @@ pub record IsSealed (beside : Beside) (basis : Basis) (old new : Option (List �
   pub named : new ≡ replaced_by old alone
   pub kept : Only alone leaves
 
+-- a file with no whole head: the seal is as it was until the file is ended, and then it may be that of the journal alone
+pub record IsHeading (file text alone : List ℕ) (journals_old seals_old journals_new seals_new : List ℕ → Type 0) : Type 0 where
+  pub torn : HasTornHead file
+  pub short : NoLonger (length file + length (journal_text [])) journals_old journals_new
+  pub seal : Within seals_new seals_old ⊎ (Only text journals_new × OldOr alone seals_old seals_new)
+
 -- the seal is about to name both, and a crash leaves no more of the journal's file than before; or a crash leaves that seal and nothing else,
--- while the file is cut and ended; or it leaves the journal, and only then the seal of it alone
-pub record IsStep (both text alone : List ℕ) (journals_old seals_old journals_new seals_new : List ℕ → Type 0) : Type 0 where
+-- while the file is cut and ended; or it leaves the journal, and only then the seal of it alone. No seal names a head that is not there
+pub record IsStep (both text alone file : List ℕ) (journals_old seals_old journals_new seals_new : List ℕ → Type 0) : Type 0 where
   pub step : IsSealing both journals_old seals_old journals_new seals_new
-      ⊎ (Only both seals_new ⊎ IsClosing both text alone journals_new seals_new)
+      ⊎ (Only both seals_new ⊎ (IsClosing both text alone journals_new seals_new
+      ⊎ IsHeading file text alone journals_old seals_old journals_new seals_new))
+
+-- the seal of both is there, and of the file, which has a whole head, a crash leaves what is known of it and nothing else
+pub record IsBehindSync (both : List ℕ) (rest : Rest) (known : Option (List ℕ)) (journals : List ℕ → Type 0) (seal : List ℕ) : Type 0 where
+  pub is : seal ≡ both
+  pub whole : is_headless rest ≡ false
+  pub only : OnlyKnown known journals
+
+-- a crash leaves the seal that stood there, or that of both behind a sync of the file
+pub record SealsBoth (both : List ℕ) (rest : Rest) (known : Option (List ℕ)) (journals seals_old seals_new : List ℕ → Type 0) : Type 0 where
+  pub each : (seal : List ℕ) → seals_new seal → seals_old seal ⊎ IsBehindSync both rest known journals seal
+
+-- that seal is there, and what is known of the file is all that a crash leaves of it; or the file has no whole head, and the seal is as it was
+abbrev pub NamesBoth : List ℕ → Rest → Option (List ℕ) → (List ℕ → Type 0) → (List ℕ → Type 0) → (List ℕ → Type 0) → Type 0
+NamesBoth both rest known journals seals_old seals_new =
+    ((is_headless rest ≡ false) × Only both seals_new × OnlyKnown known journals)
+    ⊎ ((is_headless rest ≡ true) × Within seals_new seals_old)
 
 -- the same of the journal that is recovered of a file
 pub record IsOrdered (grid : Ladders) (beside : Beside) (basis : Basis) (file : List ℕ)
@@ -119,7 +147,7 @@ pub record IsOrdered (grid : Ladders) (beside : Beside) (basis : Basis) (file : 
   pub both : List ℕ
   pub alone : List ℕ
   pub seals : AreSeals beside basis file journal both alone
-  pub step : IsStep both (journal_text journal) alone journals_old seals_old journals_new seals_new
+  pub step : IsStep both (journal_text journal) alone file journals_old seals_old journals_new seals_new
 
 -- a crash leaves no more than it did, or the steps are in order
 abbrev pub Follow : Ladders → Beside → Basis → List ℕ → (List ℕ → Type 0) → (List ℕ → Type 0) → (List ℕ → Type 0)
@@ -141,6 +169,13 @@ abbrev pub FollowIn : Ladders → Beside → Basis → Option (List ℕ) → (Li
 FollowIn grid beside basis old journals_old seals_old journals_new seals_new =
     (Within journals_new journals_old × Within seals_new seals_old)
     ⊎ IsOrderedIn grid beside basis old journals_old seals_old journals_new seals_new
+
+-- whatever a crash leaves of the two files, the seal has the journal's entry, or it is the one that stood there, beside what the file might
+-- be left as, or beside one that had no whole head, to which a head and an END line are written
+pub record StaysNamedIn (old : Option (List ℕ)) (journals_old seals_old journals_new seals_new : List ℕ → Type 0) : Type 0 where
+  pub file : List ℕ
+  pub is_file : AreBytes old file
+  pub stays : StaysNamed (journal_text []) file journals_old seals_old journals_new seals_new
 
 -- ---- over the inputs
 

@@ -1,29 +1,70 @@
 //! What stands beside a journal that is recovered, ahead of what is found in it and behind that.
 //! It knows seals by their faults and their entries, and no file.
-ghost use Rattle.std.specs.Prelude.{◌≡◌, ◌≢◌, IfErr, OnOk, Some};
+ghost use Rattle.std.specs.Prelude.{◌≡◌, ◌≢◌, IfErr, IsTrue, OnOk, Some};
 ghost use Rattle.seat_serving.specs.GoingOn.{IsFoundIn};
-ghost use Rattle.seat_restoring.specs.Comparing.{Differs, Passes, is_passed};
+ghost use Rattle.seat_restoring.specs.Comparing.{Differs, HasOneEntry, IsFaultAhead, IsOneEntry, Passes, is_passed};
 ghost use Rattle.seat_restoring.specs.Found.{KeepsSealed, LosesSealed, has_sealed};
 
 use crate::sealing::text_of;
 use seat_desk::DeskFault;
 use seat_recovery::Recovered;
-use seat_seal::{Basis, Beside, SealFault, Sealed, begins_sealed, fault_beside, known_of};
+use seat_seal::{
+    Basis, Beside, Seal, SealEntry, SealFault, Sealed, begins_sealed, fault_beside, known_of,
+    read_seal,
+};
 
 /// Refuses a journal where what stands beside it is no seal, or one of another set, other limits or other days. Whether what is found of
-/// its bytes begins with the sealed lines is seen once it is found ([`keeps_sealed`]).
+/// its bytes begins with the sealed lines is seen once it is found ([`keeps_sealed`]). The journal's bytes are digested only beside a seal of two
+/// entries, and beside one of a journal of which nothing else is known.
 pub fn passed(seal: &Beside<'_>, basis: &Basis, journal: &[u8]) -> Result<(), DeskFault>
     ensures ok { OnOk result (Passes seal.now basis.now journal.now) }
     ensures fault { IfErr result (Differs seal.now basis.now journal.now) }
 {
     let known = known_of(seal, journal);
-    let Some(first) = fault_beside(seal, basis, journal) else {
+    let Some(first) = fault_ahead(seal, basis, journal) else {
         return Ok(());
     };
     if is_passed(&known, first) {
         return Ok(());
     }
     Err(DeskFault::Seal(first))
+}
+
+/// The first fault of what stands beside a journal; of a seal of one entry, which names what else is known of the journal, that beside a journal
+/// without a byte, in which all but the journal is the same.
+fn fault_ahead(seal: &Beside<'_>, basis: &Basis, journal: &[u8]) -> Option<SealFault>
+    ensures { IsFaultAhead seal.now basis.now journal.now result }
+{
+    if has_one_entry(seal) {
+        return fault_beside(seal, basis, b"");
+    }
+    fault_beside(seal, basis, journal)
+}
+
+/// Whether it is the seal of one entry, by which more is known of the journal than its bytes.
+#[tactic(auto, using(crate::proofs::Passing::has_one))]
+fn has_one_entry(seal: &Beside<'_>) -> bool
+    ensures { IsTrue result → HasOneEntry seal.now }
+{
+    let Some(text) = seal.text else {
+        return false;
+    };
+    match read_seal(text) {
+        Some(read) => is_one_entry(&read),
+        None => false,
+    }
+}
+
+fn is_one_entry(seal: &Seal) -> bool
+    ensures { IsTrue result → IsOneEntry seal.now }
+{
+    match &seal.second {
+        Some(_) => false,
+        None => match &seal.first {
+            SealEntry::Sealed(_) => true,
+            SealEntry::Other(_) => false,
+        },
+    }
 }
 
 fn is_passed(known: &Option<Sealed>, fault: SealFault) -> bool
