@@ -1,0 +1,12 @@
+use Rattle.std.proofs.Common.{rules}
+use Rattle.desk_serving.proofs.Ended.{lost_none}
+use Rattle.desk_serving.proofs.Goes.{goes_from}
+use Rattle.desk_serving.proofs.serving.serve_ended.Goals as goal
+
+pub returns-in-Err-end-clause-told : goal.returns-in-Err-end-clause-told
+returns-in-Err-end-clause-told g c =
+    lost_none g.D.Tape.seen g.D.Tape.may_leave g.D.Tape.unsynced g.D.Failures.failure_count c.args.host.serving
+    c.serve-served.new.hall.serving c.into_serving-serving.result (g.D.Tape.may_leave c.in-Err-end.refused.1)
+    (goes_from g.D.Tape.seen g.D.Tape.may_leave g.D.Tape.unsynced g.D.Failures.failure_count c.args.host.serving
+    c.in-Ok.opened.serving c.serve-served.new.hall.serving c.in-Ok-served.ensures.goes c.in-Ok.ensures.serving)
+    (search rules) c.in-Err-end.ensures.lost

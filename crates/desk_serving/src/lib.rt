@@ -1,0 +1,10 @@
+//! A host that serves several desks: their lines wait in an inbox, what waits is answered as a group, and each desk is told by its outbox,
+//! up to the manager's end; then the journal ends and is sealed.
+//! It knows the host's desks, inbox and outboxes, and nothing of the command line, of what pipes are or of what a line means.
+#![tactic(auto)]
+
+mod group;
+mod opening;
+mod serving;
+
+pub use serving::{HostedFault, serve_desks};

@@ -1,0 +1,166 @@
+//! A host that serves its desks to the manager's end, and then ends and seals its journal.
+ghost use Rattle.std.specs.Prelude.{◌≡◌, IfErr, IfOk, OnOk};
+ghost use Rattle.airline_base.specs.Days.{IsCenturyDay};
+ghost use Rattle.airline_base.specs.Noting.{noted};
+ghost use Rattle.seat_desk.specs.AuditDesk.{most_lines};
+ghost use Rattle.seat_desk.specs.Desk.{HasFailed};
+ghost use Rattle.seat_desk.specs.Loading.{IsGridOf};
+ghost use Rattle.seat_disk.specs.Growing.{KeepsFront};
+ghost use Rattle.seat_disk.specs.Keeping.{KeepsNoMore};
+ghost use Rattle.seat_recovery.specs.OpenText.{open_text};
+ghost use Rattle.seat_rules.specs.Prefixes.{Begins};
+ghost use Rattle.seat_sealing.specs.Pairs.{NoneDenied};
+ghost use Rattle.seat_restoring.specs.Serving.{IsSealedEnd, NamesAll};
+ghost use Rattle.seat_serving.specs.declared.serving.ServeFault.TheVariants.{Device, Memory as NoMemory};
+ghost use Rattle.desk_answers.specs.Hosts.{IsReady};
+ghost use Rattle.desk_serving.specs.Going.{Fails, GoesOn};
+ghost use Rattle.desk_serving.specs.declared.serving.HostedFault.TheVariants.{Day, Seal};
+ghost use Rattle.desk_talk.specs.Closing.{IsEndedUnsealed};
+ghost use Rattle.desk_talk.specs.Ending.{IsEnded, IsLeftOpen};
+
+use crate::group::answer_group;
+use crate::opening::hall_over;
+use desk_answers::OpenHost;
+use desk_hall::Hall;
+use desk_pipes::{Post, room_for_lines};
+use seat_desk::DeskFault;
+use seat_disk::{Replaced, Tape};
+use seat_restoring::seal_closed;
+use seat_seal::{Basis, Runs};
+use seat_serving::{Ended, ServeFault};
+use ssim_flights::Flights;
+use std::alloc::Global;
+use std::sync::Wait;
+
+/// Why a journal is not ended and sealed.
+#[derive(Clone, Copy)]
+pub enum HostedFault {
+    /// The journal is not ended. Its open seal stands.
+    Day(ServeFault),
+    /// The journal is ended, and its closed seal is not there. Its open seal is of it too.
+    Seal(DeskFault),
+}
+
+/// Serves eight desks to the manager's end and ends the journal, while the open seal of the lines that the host began with stands in the file
+/// `seals`. Then the closed seal of all lines takes its place, of this basis and with the `runs` that were known. Whatever a crash leaves
+/// of the two files, the seal has the journal's entry.
+#[tactic(auto, using(desk_talk::proofs::Closed::still_named, desk_talk::proofs::Closed::ended_named, desk_talk::proofs::Closed::ended_told, desk_talk::proofs::Closed::ended_unsealed, desk_talk::proofs::Closed::few_ended, seat_disk::proofs::Keeping::no_more))]
+pub fn serve_desks<R: Wait, D: Tape, K: Replaced>(
+    rt: &R,
+    alloc: Global,
+    flights: &Flights,
+    host: OpenHost<'_, D>,
+    post: &Post,
+    basis: &Basis,
+    runs: Runs,
+    seals: &mut K,
+) -> Result<(Ended, D), (HostedFault, D)>
+    requires grid { IsGridOf flights.now host.serving.grid }
+    requires today { IsCenturyDay host.desk.today }
+    requires ready { IsReady D.seen D.may_leave D.unsynced host.serving }
+    requires cap { host.serving.cap ≡ most_lines }
+    requires named { NamesAll host.serving.kept (K.may_leave seals.old) }
+    ensures ended { IfOk result (λ r. IsEnded host.entry.serving.grid host.entry.serving.cap r.0 (D.seen r.1)
+        (D.may_leave r.1) (D.unsynced r.1)) }
+    ensures front { IfOk result (λ r. Begins host.entry.serving.kept r.0.journal) }
+    ensures sealed { IfOk result (λ r. IsSealedEnd basis.now runs r.0.journal (K.named seals.old) (K.named seals.new)
+        (K.may_leave seals.new)) }
+    ensures accepted { IfOk result (λ r. NoneDenied (D.may_leave r.1) (K.may_leave seals.new)) }
+    ensures agrees { IfErr result (λ f. NoneDenied (D.may_leave f.1) (K.may_leave seals.new)) }
+    ensures only { KeepsNoMore (K.kept_may_leave seals.old) (K.kept_may_leave seals.new) }
+    ensures told { IfErr result (λ f. KeepsFront (open_text host.entry.serving.kept) (D.may_leave f.1)) }
+    ensures open { IfErr result (λ f. f.0 ≡ Day NoMemory → IsLeftOpen host.entry.serving.kept (D.seen f.1)
+        (D.may_leave f.1) (D.unsynced f.1)) }
+    ensures journal { IfErr result (λ f. f.0 ≡ Day Device
+        → D.failure_count f.1 ≡ noted (D.failure_count host.entry.serving.tape)) }
+    ensures unsealed { IfErr result (λ f. (e : ServeFault) → f.0 ≡ Day e → seals.new ≡ seals.old) }
+    ensures over { IfErr result (λ f. (e : DeskFault) → f.0 ≡ Seal e → IsEndedUnsealed host.entry.serving.kept (D.seen f.1)
+        (D.may_leave f.1) (D.unsynced f.1)) }
+    ensures device { IfErr result (λ f. f.0 ≡ Seal DeskFault.Device → HasFailed K.failure_count seals.old seals.new) }
+{
+    let served = match serve_ended(rt, alloc, flights, host, post) {
+        Ok(served) => served,
+        Err(refused) => {
+            let (fault, tape) = refused;
+            tell_fault(rt, post, fault);
+            return Err((HostedFault::Day(fault), tape));
+        }
+    };
+    let (ended, tape) = served;
+    match seal_closed(alloc, basis, runs, &ended.journal, seals) {
+        Ok(()) => Ok((ended, tape)),
+        Err(fault) => Err((HostedFault::Seal(fault), tape)),
+    }
+}
+
+// Says to each desk that the journal's file failed.
+fn tell_fault<R: Wait>(rt: &R, post: &Post, fault: ServeFault) {
+    if let ServeFault::Device = fault {
+        post.tell_each(rt, b"FAULT - DEVICE\n");
+    }
+}
+
+// Serves the desks to the manager's end, and ends the journal. Where the host fails the journal is left open.
+#[tactic(auto, using(crate::proofs::Goes::ready_as, crate::proofs::Goes::goes_from, crate::proofs::Goes::fails_from, crate::proofs::Ended::ended_so, crate::proofs::Ended::ended_front, crate::proofs::Ended::lost_none, crate::proofs::Ended::left_open, crate::proofs::Ended::told_at_once, crate::proofs::Ended::left_at_once))]
+fn serve_ended<R: Wait, D: Tape>(
+    rt: &R,
+    alloc: Global,
+    flights: &Flights,
+    host: OpenHost<'_, D>,
+    post: &Post,
+) -> Result<(Ended, D), (ServeFault, D)>
+    requires grid { IsGridOf flights.now host.serving.grid }
+    requires today { IsCenturyDay host.desk.today }
+    requires ready { IsReady D.seen D.may_leave D.unsynced host.serving }
+    ensures ended { IfOk result (λ r. IsEnded host.entry.serving.grid host.entry.serving.cap r.0 (D.seen r.1)
+        (D.may_leave r.1) (D.unsynced r.1)) }
+    ensures front { IfOk result (λ r. Begins host.entry.serving.kept r.0.journal) }
+    ensures told { IfErr result (λ f. KeepsFront (open_text host.entry.serving.kept) (D.may_leave f.1)) }
+    ensures open { IfErr result (λ f. f.0 ≡ NoMemory → IsLeftOpen host.entry.serving.kept (D.seen f.1)
+        (D.may_leave f.1) (D.unsynced f.1)) }
+    ensures journal { IfErr result (λ f. f.0 ≡ Device
+        → D.failure_count f.1 ≡ noted (D.failure_count host.entry.serving.tape)) }
+{
+    let opened = match hall_over(rt, alloc, flights, host) {
+        Ok(opened) => opened,
+        Err(tape) => return Err((ServeFault::Memory, tape)),
+    };
+    let mut hall = opened;
+    let served = serve(rt, alloc, &mut hall, post);
+    let serving = hall.into_serving();
+    match served {
+        Ok(()) => match serving.end(rt, alloc) {
+            Ok(ended) => Ok(ended),
+            Err(refused) => Err(refused),
+        },
+        Err(fault) => Err((fault, serving.close(rt))),
+    }
+}
+
+// Answers what waits, one group behind the other, up to the manager's end.
+#[tactic(auto, using(crate::proofs::Goes::goes_same, crate::proofs::Goes::goes_further, crate::proofs::Goes::fails_behind, crate::proofs::Goes::fails_ready))]
+fn serve<R: Wait, D: Tape>(
+    rt: &R,
+    alloc: Global,
+    hall: &mut Hall<'_, D>,
+    post: &Post,
+) -> Result<(), ServeFault>
+    requires ready { IsReady D.seen D.may_leave D.unsynced hall.old.serving }
+    ensures goes { OnOk result (GoesOn D.seen D.may_leave D.unsynced D.failure_count hall.old.serving hall.new.serving) }
+    ensures fails { IfErr result (Fails D.seen D.may_leave D.unsynced D.failure_count hall.old.serving hall.new.serving) }
+{
+    let Ok(room) = room_for_lines(alloc) else {
+        return Err(ServeFault::Memory);
+    };
+    let mut said = room;
+    for _ in rt.forever() {
+        said.clear();
+        post.inbox.take(rt, &mut said);
+        match answer_group(rt, alloc, hall, post, said.as_slice()) {
+            Ok(true) => post.inbox.let_more(rt, said.as_slice()),
+            Ok(false) => return Ok(()),
+            Err(fault) => return Err(fault),
+        }
+    }
+    unreachable!()
+}
