@@ -71,9 +71,9 @@ _seatdesk() {
         place='files'
         ;;
     serve)
-        words='--set --limits --first --days --today --journal --desk -v --verbose -h --help'
+        words='--set --limits --first --days --today --journal --desk --manager -v --verbose -h --help'
         files='--set --limits --journal'
-        values='--first --days --today --desk'
+        values='--first --days --today --desk --manager'
         place=''
         ;;
     bookings)

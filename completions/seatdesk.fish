@@ -11,7 +11,7 @@ complete -c seatdesk -n __fish_use_subcommand -a cover -d 'Writes the limits tha
 complete -c seatdesk -n __fish_use_subcommand -a rooms -d 'Writes the seats that are left on each place of a flight, by class'
 complete -c seatdesk -n __fish_use_subcommand -a loads -d 'Writes how full each dated leg is, by class, and what all of them come to'
 complete -c seatdesk -n __fish_use_subcommand -a run -d 'Books the requests of scripts, one session on a thread for each script, and writes the replies'
-complete -c seatdesk -n __fish_use_subcommand -a serve -d 'Stays open for a desk: answers each line of a message once it is on the disk'
+complete -c seatdesk -n __fish_use_subcommand -a serve -d 'Stays open for desks: answers each line of a message once it is on the disk'
 complete -c seatdesk -n __fish_use_subcommand -a bookings -d 'Writes live bookings, of locators or of a flight, in the codes of AIRIMP'
 complete -c seatdesk -n __fish_use_subcommand -a waiting -d 'Writes who waits, in the order in which they would be confirmed, and the seats that they lack'
 complete -c seatdesk -n __fish_use_subcommand -a history -d 'Writes what the lines of a journal did for a locator, each with its reply'
@@ -96,7 +96,8 @@ complete -c seatdesk -n '__fish_seen_subcommand_from serve' -l first -x -d 'The 
 complete -c seatdesk -n '__fish_seen_subcommand_from serve' -l days -x -d 'How many days from the first on, 1 to 366'
 complete -c seatdesk -n '__fish_seen_subcommand_from serve' -l today -x -d 'The day of the host, as 2024-06-01, from 2000 to 2099; it gives the requests their year'
 complete -c seatdesk -n '__fish_seen_subcommand_from serve' -l journal -r -F -d 'The journal to go on from (a file, which is locked); it is made where it is not there'
-complete -c seatdesk -n '__fish_seen_subcommand_from serve' -l desk -x -d 'Where the desk is: - for standard input and standard output, as session 1'
+complete -c seatdesk -n '__fish_seen_subcommand_from serve' -l desk -x -d 'Where a desk is: N=IN:OUT, its session and its two pipes, up to eight times, or - alone, for standard input and standard output as session 1'
+complete -c seatdesk -n '__fish_seen_subcommand_from serve' -l manager -x -d 'The two pipes of the manager, as IN:OUT, whom desks on pipes need'
 complete -c seatdesk -n '__fish_seen_subcommand_from serve' -s v -l verbose -d 'Names the file of a fault, and where in it the fault stands, or the system\'s reason'
 complete -c seatdesk -n '__fish_seen_subcommand_from serve' -s h -l help -d 'Print help'
 

@@ -431,7 +431,7 @@ const SCRIPTS: &[Explanation] = &[
         behind: "",
         code: "H5",
         numbers: DESK,
-        text: "Nobody has said ?HELLO to this host yet. A line ahead of it may be the rest of one that was cut, so nothing is heard.",
+        text: "Nobody has said ?HELLO on this pipe to this host yet. A line ahead of it may be the rest of one that was cut, so nothing is heard.",
     },
     Explanation {
         behind: "",
@@ -444,6 +444,12 @@ const SCRIPTS: &[Explanation] = &[
         code: "DEVICE",
         numbers: NONE,
         text: "A file does not open, or a read or a write failed. seatdesk -v names the file and the system's reason.\nTold to a desk, as FAULT - DEVICE, it is the journal's file: the line may be booked, and the host ends. Ask ?AGAIN when it is there again.",
+    },
+    Explanation {
+        behind: "-",
+        code: "LOST",
+        numbers: NONE,
+        text: "Told to a desk on a pipe that does not read: more than 1 MiB waited for it, and nothing behind that was kept. Its lines were booked all the same.\nSay ?HELLO, and then ?AGAIN with the number of the last line of the journal that was read.",
     },
     Explanation {
         behind: "",
@@ -711,7 +717,7 @@ const WORDS: &[Explanation] = &[
         behind: "E2",
         code: "desk",
         numbers: NONE,
-        text: "--desk of told is no digit of 0 to 8 (a desk has the number of its session, and 0 is the manager of the limits), or --desk of serve is not -, which is standard input and standard output.",
+        text: "--desk of told is no digit of 0 to 8 (a desk has the number of its session, and 0 is the manager of the limits).\nOf serve: --desk is not - alone, which is standard input and standard output, and not N=IN:OUT with a session of 1 to 8 that stands once;\nor what it or --manager names is no pipe (mkfifo makes one); or desks on pipes have no --manager, or - has one.",
     },
     Explanation {
         behind: "E2",

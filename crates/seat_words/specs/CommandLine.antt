@@ -100,10 +100,11 @@ run_app = with_rule (with_rule (with_rule (with_rule (with_rule (with_rule (with
     (optional_values (codes "scripts"))
 
 unfoldable pub serve_app : App
-serve_app = with_rule (with_rule (with_rule (horizon_app (codes "serve"))
+serve_app = with_rule (with_rule (with_rule (with_rule (horizon_app (codes "serve"))
     (required_option (codes "today")))
     (required_option (codes "journal")))
-    (required_option (codes "desk"))
+    (optional_several (codes "desk")))
+    (optional (codes "manager"))
 
 unfoldable pub bookings_app : App
 bookings_app = with_rule (with_rule (with_rule (with_rule (with_rule (with_rule (with_rule (horizon_app (codes "bookings"))

@@ -86,11 +86,12 @@ Asks (Run over after behind resume today journal changes no_clobber again script
     × HasFlag line (codes "no-clobber") no_clobber
     × HasFlag line (codes "again") again
     × HasAny line (codes "scripts") scripts
-Asks (Serve over today journal desk) line = (line.0 ≡ codes "serve")
+Asks (Serve over today journal desks manager) line = (line.0 ≡ codes "serve")
     × IsOver line.1 over
     × Has line (codes "today") today.now
     × Has line (codes "journal") journal.now
-    × Has line (codes "desk") desk.now
+    × HasAny line (codes "desk") desks
+    × MayHave line (codes "manager") (option_map (λ text. text.now) manager)
 Asks (Bookings over locators flight day shape is_open journal) line = (line.0 ≡ codes "bookings")
     × IsOver line.1 over
     × HasAny line (codes "locator") locators
@@ -168,7 +169,7 @@ asked_values = (codes "ladder", [])
     ∷ (codes "rooms", horizon_values)
     ∷ (codes "loads", horizon_values)
     ∷ (codes "run", horizon_values ++ codes "today" ∷ codes "journal" ∷ [])
-    ∷ (codes "serve", horizon_values ++ codes "today" ∷ codes "journal" ∷ codes "desk" ∷ [])
+    ∷ (codes "serve", horizon_values ++ codes "today" ∷ codes "journal" ∷ [])
     ∷ (codes "bookings", horizon_values ++ codes "journal" ∷ [])
     ∷ (codes "waiting", horizon_values ++ codes "journal" ∷ [])
     ∷ (codes "history", horizon_values ++ codes "locator" ∷ codes "journal" ∷ [])

@@ -4,4 +4,5 @@ pub mod Examples
 pub mod FaultText
 pub mod Jobs
 pub mod NameWords
+pub mod PipeWords
 pub mod SessionWords

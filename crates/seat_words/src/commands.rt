@@ -31,7 +31,9 @@ const SERVED_HELP: &str =
     "The journal to go on from (a file, which is locked); it is made where it is not there";
 
 const DESK_PLACE_HELP: &str =
-    "Where the desk is: - for standard input and standard output, as session 1";
+    "Where a desk is: N=IN:OUT, its session and its two pipes, up to eight times, or - alone, for standard input and standard output as session 1";
+
+const MANAGER_HELP: &str = "The two pipes of the manager, as IN:OUT, whom desks on pipes need";
 
 const OUT_HELP: &str =
     "The file that the journal is written to, which may be no input but the journal of --after or --resume";
@@ -343,8 +345,8 @@ fn serve_command<'a>(alloc: Global) -> Result<Command<'a>, AllocError>
     let serve = horizon_command(
         alloc,
         "serve",
-        "Stays open for a desk: answers each line of a message once it is on the disk",
-        "Type the lines of a message, as in a script: the reply to each segment line stands below it. ? LZ601Q27JUL LHRKEF shows the seats\nthat are left in a class. The end of the input, or ?BYE, ends the journal; a host that is killed loses no reply that it gave,\nand goes on from its journal when it is started again.\n\nExample: seatdesk serve --set examples/summer.ssim --limits examples/limits.txt --first 2024-07-01 --days 31 --today 2024-06-20 --journal journal.txt --desk -",
+        "Stays open for desks: answers each line of a message once it is on the disk",
+        "Type the lines of a message, as in a script: the reply to each segment line stands below it. ? LZ601Q27JUL LHRKEF shows the seats\nthat are left in a class. The end of the input, or ?BYE, ends the journal; a host that is killed loses no reply that it gave,\nand goes on from its journal when it is started again.\n\nExample: seatdesk serve --set examples/summer.ssim --limits examples/limits.txt --first 2024-07-01 --days 31 --today 2024-06-20 --journal journal.txt --desk -\n\nTwo desks and a manager on pipes: seatdesk serve --set examples/summer.ssim --limits examples/limits.txt --first 2024-07-01 --days 31 --today 2024-06-20 --journal journal.txt --desk 1=london.in:london.out --desk 2=lisbon.in:lisbon.out --manager m.in:m.out",
     );
     let serve = with_argument(
         serve,
@@ -354,7 +356,14 @@ fn serve_command<'a>(alloc: Global) -> Result<Command<'a>, AllocError>
         serve,
         wanted_option(alloc, "journal", "JOURNAL", SERVED_HELP),
     );
-    with_argument(serve, wanted_option(alloc, "desk", "DESK", DESK_PLACE_HELP))
+    let serve = with_argument(
+        serve,
+        several_option(alloc, "desk", "DESK", DESK_PLACE_HELP),
+    );
+    with_argument(
+        serve,
+        optional_option(alloc, "manager", "PIPES", MANAGER_HELP),
+    )
 }
 
 fn bookings_command<'a>(alloc: Global) -> Result<Command<'a>, AllocError>

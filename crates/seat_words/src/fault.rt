@@ -26,7 +26,7 @@ pub enum WordFault {
     BadBehind,
     /// The session is not one of 0 to 8.
     BadSession,
-    /// The desk is not one of 0 to 8.
+    /// The desk is not one of 0 to 8, or its two pipes are not named as they must be.
     BadDesk,
     /// The file of the journal is an input or that of the replies, is another run's, or may not be replaced.
     BadJournal,

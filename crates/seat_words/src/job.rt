@@ -85,12 +85,14 @@ pub enum Job<'a> {
         /// None or more.
         scripts: Several<'a>,
     },
-    /// `seatdesk serve` over a horizon `--today DATE --journal JOURNAL --desk DESK`
+    /// `seatdesk serve` over a horizon `--today DATE --journal JOURNAL --desk DESK... [--manager PIPES]`
     Serve {
         over: Horizon<'a>,
         today: &'a str,
         journal: &'a str,
-        desk: &'a str,
+        /// None or more.
+        desks: Several<'a>,
+        manager: Option<&'a str>,
     },
     /// `seatdesk bookings` over a horizon `[--locator LOCATOR]... [--flight FLIGHT] [--day DATE] [--csv] [--json] [--open] JOURNAL`
     Bookings {
@@ -287,7 +289,8 @@ fn job_named<'a>(alloc: Global, name: &str, matches: &ArgMatches<'a>) -> Result<
             over: horizon_of(matches),
             today: value_of(matches, "today"),
             journal: value_of(matches, "journal"),
-            desk: value_of(matches, "desk"),
+            desks: any_values_of(alloc, matches, "desk")?,
+            manager: may_value_of(matches, "manager"),
         },
         "bookings" => Job::Bookings {
             over: horizon_of(matches),

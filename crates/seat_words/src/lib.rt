@@ -8,6 +8,7 @@ mod examples;
 mod fault;
 mod job;
 mod names;
+mod pipes;
 mod sessions;
 mod several;
 
@@ -16,5 +17,6 @@ pub use examples::examples_are_read;
 pub use fault::WordFault;
 pub use job::{CommandLine, Horizon, Job, Shape, read_words, wrong_value};
 pub use names::{behind_word, flight_word, line_word, locator_word, pair_word, session_word};
+pub use pipes::pipes_of;
 pub use sessions::{audit_lacks, session_file, sessions_of, sessions_of_run};
 pub use several::Several;

@@ -8,6 +8,7 @@ mod heard;
 mod listing;
 mod locale;
 mod noting;
+mod piping;
 mod replaced;
 mod restoring;
 mod selling;
@@ -48,7 +49,10 @@ fn unread<'a>(error: &io::Error) -> Refusal<'a> {
 }
 
 /// Runs the command that the words name, with threads where it has sessions. An error is one of the words themselves.
-fn start<T: Threads + Wait + Sync>(rt: &HostRuntime, threads: &T) -> io::Result<ExitCode> {
+fn start<T: Threads + Wait + Sync + Copy + Send + 'static>(
+    rt: &HostRuntime,
+    threads: &T,
+) -> io::Result<ExitCode> {
     let given: Vec<String> = std::env::args(rt)?.collect(rt.alloc())?;
     let mut words = Vec::new(rt.alloc());
     for word in &given {
@@ -65,7 +69,7 @@ fn start<T: Threads + Wait + Sync>(rt: &HostRuntime, threads: &T) -> io::Result<
     })
 }
 
-fn carry_out<'a, T: Threads + Wait + Sync>(
+fn carry_out<'a, T: Threads + Wait + Sync + Copy + Send + 'static>(
     rt: &'a HostRuntime,
     threads: &T,
     job: &Job<'a>,
@@ -106,12 +110,14 @@ fn carry_out<'a, T: Threads + Wait + Sync>(
             over,
             today,
             journal,
-            desk,
+            desks,
+            manager,
         } => {
             let asked = Open {
                 today,
                 journal,
-                desk,
+                desks: desks.as_slice(),
+                manager: *manager,
             };
             serving::serve(rt, threads, over, &asked)?
         }

@@ -1,12 +1,14 @@
-//! `serve` over the real file of a journal, which it locks, its seal's, and a desk on standard input and standard output.
+//! `serve` over the real file of a journal, which it locks, its seal's, and a desk on standard input and standard output, or desks on pipes.
 //! It knows which file and stream is which, and nothing of what a desk's line means.
 ghost use Rattle.airline_base.specs.Days.{IsCenturyDay};
 ghost use Rattle.seat_desk.specs.Loading.{IsGridOf};
 
 use crate::commands::{day_of_run, days_of, inputs_of};
 use crate::noting::tell_found_unsealed;
+use crate::piping::{Pipes, desks_named, started};
 use crate::restoring::{as_beside, seal_out, tell_kept, unopened};
 use airline_base::{Day, Failures, ReadFault};
+use desk_serving::{HostedFault, serve_desks};
 use desk_talk::{DayFault, ServedFault, TalkFault, open_host, serve_sealed};
 use seat_desk::{Based, DeskFault, Loaded, load_based};
 use seat_disk::Tape;
@@ -15,30 +17,34 @@ use seat_recovery::MOST_OPEN_BYTES;
 use seat_seal::Beside;
 use seat_serving::ServeFault;
 use seat_tape::{BesideFile, TapeFile, open};
-use seat_words::{Horizon, WordFault};
+use seat_words::Horizon;
 use std::fs;
 use std::sync::Wait;
+use std::thread::Threads;
 
 /// What the words ask for besides the flights and limits.
 #[derive(Clone, Copy)]
-pub struct Open<'a> {
+pub struct Open<'a, 'b> {
     pub today: &'a str,
     pub journal: &'a str,
-    pub desk: &'a str,
+    pub desks: &'b [&'a str],
+    pub manager: Option<&'a str>,
 }
 
-/// Goes on with a journal beside its seal, or begins it, answers a desk up to the end of its input, and ends and seals the journal.
-pub fn serve<'a, R: Wait>(
+/// Goes on with a journal beside its seal, or begins it, answers a desk up to the end of its input, or desks up to the manager's end, and
+/// ends and seals the journal.
+pub fn serve<'a, R: Threads + Wait + Copy + Send + 'static>(
     rt: &'a HostRuntime,
     waits: &R,
     over: &Horizon<'a>,
-    asked: &Open<'a>,
+    asked: &Open<'a, '_>,
 ) -> Result<(), Refusal<'a>> {
     let days = days_of(over.first, over.days)?;
     let today = day_of_run(asked.today)?;
-    if asked.desk != "-" {
-        return Err(Refusal::from(WordFault::BadDesk));
-    }
+    let pipes = match desks_named(rt, asked) {
+        Ok(pipes) => pipes,
+        Err(refusal) => return Err(refusal),
+    };
     let journal = asked.journal;
     let mut inputs = match inputs_of(rt, over, days) {
         Ok(inputs) => inputs,
@@ -77,6 +83,7 @@ pub fn serve<'a, R: Wait>(
         based,
         today,
         journal,
+        pipes,
         &as_beside(&text),
         tape,
         &mut beside,
@@ -90,12 +97,14 @@ pub fn serve<'a, R: Wait>(
 }
 
 /// The same with the inputs read, the journal locked and what stands beside it read.
-fn serve_over<'a, R: Wait>(
+#[tactic(auto, using(desk_serving::proofs::Ended::opened_grid, desk_serving::proofs::Ended::opened_today))]
+fn serve_over<'a, R: Threads + Wait + Copy + Send + 'static>(
     rt: &'a HostRuntime,
     waits: &R,
     based: Based,
     today: Day,
     journal: &'a str,
+    pipes: Option<Pipes>,
     seal: &Beside<'_>,
     tape: TapeFile,
     beside: &mut BesideFile<'_>,
@@ -134,20 +143,41 @@ fn serve_over<'a, R: Wait>(
     if is_unsealed {
         tell_found_unsealed(rt, journal);
     }
-    let mut input = standard_input(rt);
-    let mut out = standard_output(rt);
-    match serve_sealed(
+    let Some(pipes) = pipes else {
+        let mut input = standard_input(rt);
+        let mut out = standard_output(rt);
+        return match serve_sealed(
+            waits,
+            rt.alloc(),
+            host,
+            &basis,
+            runs,
+            &mut input,
+            &mut out,
+            seals,
+        ) {
+            Ok(_) => Ok(()),
+            Err(refused) => Err(untalked(refused, journal, &input, &out)),
+        };
+    };
+    let Ok(post) = started(waits, rt.alloc(), pipes) else {
+        let _ = host.into_serving().close(waits);
+        return Err(Refusal::from(DeskFault::Memory));
+    };
+    let served = serve_desks(
         waits,
         rt.alloc(),
+        &flights,
         host,
+        &post,
         &basis,
         runs,
-        &mut input,
-        &mut out,
         seals,
-    ) {
+    );
+    post.end(waits);
+    match served {
         Ok(_) => Ok(()),
-        Err(refused) => Err(unended(refused, journal, &input, &out)),
+        Err(refused) => Err(unended(refused, journal)),
     }
 }
 
@@ -193,8 +223,21 @@ fn stopped<'a>(
     }
 }
 
-/// Why the journal is not ended and sealed.
-fn unended<'a>(
+/// Why the journal of desks on pipes is not ended and sealed.
+fn unended<'a>(refused: (HostedFault, TapeFile), journal: &'a str) -> Refusal<'a> {
+    let (fault, tape) = refused;
+    match fault {
+        HostedFault::Day(ServeFault::Device) => failed(journal, &tape),
+        HostedFault::Day(ServeFault::Memory) => Refusal::from(DeskFault::Memory),
+        HostedFault::Seal(DeskFault::TooLarge) => Refusal::from(DeskFault::TooLarge).at(
+            journal, None,
+        ),
+        HostedFault::Seal(fault) => Refusal::from(fault),
+    }
+}
+
+/// Why the journal of a desk on standard input is not ended and sealed.
+fn untalked<'a>(
     refused: (ServedFault, TapeFile),
     journal: &'a str,
     input: &Input<'a>,

@@ -7,4 +7,5 @@ unfolding serve_app
 returns c =
     let today = argued _ _ c.horizon_command-serve.result c.with_argument-serve.result c.wanted_option.result c.horizon_command-serve.ensures c.wanted_option.ensures c.with_argument-serve.ensures in
     let journal = argued _ _ c.with_argument-serve.result c.with_argument-serve-2.result c.wanted_option-2.result today c.wanted_option-2.ensures c.with_argument-serve-2.ensures in
-    argued _ _ c.with_argument-serve-2.result c.with_argument.result c.wanted_option-3.result journal c.wanted_option-3.ensures c.with_argument.ensures
+    let desk = argued _ _ c.with_argument-serve-2.result c.with_argument-serve-3.result c.several_option.result journal c.several_option.ensures c.with_argument-serve-3.ensures in
+    argued _ _ c.with_argument-serve-3.result c.with_argument.result c.optional_option.result desk c.optional_option.ensures c.with_argument.ensures

@@ -1,6 +1,6 @@
 use Rattle.std.proofs.Common.{rules}
 use Rattle.seat_words.proofs.job.job_named.Goals as goal
-use Rattle.seat_words.proofs.job.job_named.Goals.{in-ladder, in-check, in-flights, in-cover, in-rooms, in-loads, in-run+in_ok-any_values_of-in-run, in-serve, in-bookings+in_ok-any_values_of-in-bookings, in-waiting, in-history, in-audit+in_ok-any_values_of-in-audit, in-seal, in-recover, in-replies+in_ok-any_values_of-in-replies, in-told, in-why, in-explain+in_ok-any_values_of-in-explain}
+use Rattle.seat_words.proofs.job.job_named.Goals.{in-ladder, in-check, in-flights, in-cover, in-rooms, in-loads, in-run+in_ok-any_values_of-in-run, in-serve+in_ok-any_values_of-in-serve, in-bookings+in_ok-any_values_of-in-bookings, in-waiting, in-history, in-audit+in_ok-any_values_of-in-audit, in-seal, in-recover, in-replies+in_ok-any_values_of-in-replies, in-told, in-why, in-explain+in_ok-any_values_of-in-explain}
 
 pub returns : goal.returns
 returns c = elim c.match-name.branch [
@@ -11,7 +11,7 @@ returns c = elim c.match-name.branch [
   | in-rooms w ↦ search rules
   | in-loads w ↦ search rules
   | in-run+in_ok-any_values_of-in-run w ↦ search rules
-  | in-serve w ↦ search rules
+  | in-serve+in_ok-any_values_of-in-serve w ↦ search rules
   | in-bookings+in_ok-any_values_of-in-bookings w ↦ search rules
   | in-waiting w ↦ search rules
   | in-history w ↦ search rules
