@@ -80,7 +80,7 @@ fn is_behind_lines(entry: &SealEntry) -> bool {
     match entry {
         SealEntry::Sealed(entry) => {
             let runs = entry.runs.as_slice();
-            runs.len() < MOST_RUNS && runs.iter().all(|run| run.behind > 0)
+            !runs.is_empty() && runs.len() < MOST_RUNS && runs.iter().all(|run| run.behind > 0)
         }
         SealEntry::Other(_) => false,
     }
