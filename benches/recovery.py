@@ -10,6 +10,7 @@ turn with the others; a recovery is of a new copy each time, which is on the dis
 system) and peak memory of its runs, and how many times as much that is as `audit`'s.
 """
 import argparse
+import hashlib
 import os
 import shutil
 import subprocess
@@ -50,7 +51,8 @@ def seals_of(program, folder):
     subprocess.run([program, "seal", *OVER, "journal"], check=True, cwd=folder, stdin=subprocess.DEVNULL, stdout=subprocess.DEVNULL)
     with open(f"{folder}/journal.seal", "rb") as it:
         closed = it.read()
-    return {"journal": closed, "copy": closed.replace(b" closed\n", b" open\n")}
+    lines = closed[: closed.index(b"digest ")].replace(b" closed\n", b" open\n")
+    return {"journal": closed, "copy": lines + b"digest %s\n" % hashlib.sha256(lines).hexdigest().encode()}
 
 
 def main():
