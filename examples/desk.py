@@ -3,15 +3,18 @@
 cut off: it numbers these lines, writes down what each was answered, and when it is started again goes on behind the last answer that it has.
 
     examples/desk.py IN OUT SCRIPT ANSWERS
+    examples/desk.py --by COMMAND SCRIPT ANSWERS
 
-ANSWERS is made where it is not there. Its first line has the number of the first call; then comes each answer, in the order of the script.
+COMMAND is a way to pipes that are elsewhere, as 'ssh london@host' with relay.py at its other end. ANSWERS is made where it is not there. Its first line has the number of the first call; then comes each answer, in the order of the script.
 """
 import fcntl
 import os
 import random
 import re
 import select
+import shlex
 import string
+import subprocess
 import sys
 
 SECONDS = 10  # of silence, behind which a host may be another
@@ -20,8 +23,13 @@ SEGMENT = re.compile(r"[A-Z0-9]{2}\d{1,4}[A-Z]?[A-Z]\d\d[A-Z]{3} [A-Z]{6} [A-Z]{
 
 class Desk:
     def __init__(self, into, out):
+        self.rest = b""
+        if into == "--by":
+            self.way = subprocess.Popen(shlex.split(out), stdin=subprocess.PIPE, stdout=subprocess.PIPE)
+            self.into, self.out = self.way.stdin.fileno(), self.way.stdout.fileno()
+            return
         # opened for reading and for writing, a pipe waits for nobody; the lock keeps a second client away
-        self.into, self.out, self.rest = os.open(into, os.O_RDWR), os.open(out, os.O_RDWR), b""
+        self.into, self.out = os.open(into, os.O_RDWR), os.open(out, os.O_RDWR)
         fcntl.flock(self.into, fcntl.LOCK_EX)
 
     def send(self, text):
@@ -33,7 +41,10 @@ class Desk:
         while b"\n" not in self.rest:
             if not select.select([self.out], [], [], SECONDS)[0]:
                 return None
-            self.rest += os.read(self.out, 65536)
+            data = os.read(self.out, 65536)
+            if not data:
+                sys.exit("the way to the desk has ended: start the client again")
+            self.rest += data
         line, self.rest = self.rest.split(b"\n", 1)
         return line.decode()
 
@@ -45,6 +56,8 @@ class Desk:
             for line in iter(self.line, None):
                 if line.startswith(f"READY {word} "):
                     return line.split(" ")
+                if line.endswith("!"):
+                    break  # a host has started: another may have heard the word
 
     def answer(self, number):
         """What the line of this number is answered, or nothing where the host may have gone. An advice (KL) answers no line."""
@@ -52,9 +65,17 @@ class Desk:
             if re.fullmatch(rf"FAULT (.* @{number}|(B1|H1|MEMORY) .*)", line) or re.match(r"\d+ \d+ ", line) and not re.search(r" KL\d+$", line):
                 return line
             print(line)
-            if line.startswith("FAULT"):
+            if line.startswith("FAULT") or line.endswith("!"):
                 return None
         return None
+
+
+def whole_lines(answers):
+    """The lines of the memory; one that a kill or a loss of power left without its end is none, and goes."""
+    with open(answers, "rb+") as it:
+        *lines, rest = it.read().split(b"\n")
+        it.truncate(it.tell() - len(rest))
+    return [line.decode() for line in lines]
 
 
 def main(into, out, script, answers):
@@ -62,11 +83,12 @@ def main(into, out, script, answers):
         lines = it.read().splitlines()
     desk = Desk(into, out)
     calls = int(desk.hello()[4])
-    if not os.path.exists(answers):
+    if not os.path.exists(answers) or not whole_lines(answers):
         with open(answers, "w", encoding="ascii") as it:
             it.write(f"{calls + 1}\n")
-    with open(answers, encoding="ascii") as it:
-        first, *known = it.read().splitlines()
+            it.flush()
+            os.fsync(it.fileno())
+    first, *known = whole_lines(answers)
     number, at = int(first), 0
     with open(answers, "a", encoding="ascii") as kept:
         while at < len(lines):
@@ -82,9 +104,7 @@ def main(into, out, script, answers):
                 if said is None:
                     desk.hello()
                     number, at = int(first), 0
-                    kept.flush()
-                    with open(answers, encoding="ascii") as it:
-                        known = it.read().splitlines()[1:]
+                    known = whole_lines(answers)[1:]
                     continue
                 kept.write(said + "\n")
                 kept.flush()

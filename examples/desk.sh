@@ -1,0 +1,69 @@
+#!/usr/bin/env bash
+# A client of a desk of 'seatdesk serve' in plain shell, beside desk.py: it books the segment lines of a script, each once, wherever it or the host is cut off.
+#
+#   examples/desk.sh IN OUT SCRIPT ANSWERS
+#
+# ANSWERS is made where it is not there. Its first line has the number of the first call; then comes each answer, in the order of the script.
+set -u
+[ "$#" = 4 ] || { sed -n '2,7s/^# \{0,1\}//p' "$0" >&2; exit 2; }
+script=$3 answers=$4 seconds=10
+segment='^[A-Z0-9]{2}[0-9]{1,4}[A-Z]?[A-Z][0-9]{2}[A-Z]{3} [A-Z]{6} [A-Z]{2}[0-9]{1,3}$'
+# opened for reading and for writing, a pipe waits for nobody; the lock keeps a second client away
+exec 3<>"$1" 4<>"$2"
+flock 3
+
+# Says hello until the host answers with this client's own word; what stands ahead of that is for another client. calls: how many the desk has.
+hello() {
+    local line word
+    while :; do
+        word=$(tr -dc '[:upper:]' </dev/urandom | head -c 6)
+        printf '!\n?HELLO %s\n' "$word" >&3
+        while IFS= read -r -t "$seconds" -u 4 line; do
+            # (a line that ends with ! is of a host that has started: another may have heard the word)
+            [[ $line != *! ]] || break
+            [[ $line == "READY $word "* ]] || continue
+            read -r _ _ _ _ calls _ <<<"$line"
+            return
+        done
+    done
+}
+
+# answer NUMBER: the answer to the line of that number is said; it fails where the host may have gone. An advice (KL) answers no line.
+answer() {
+    while IFS= read -r -t "$seconds" -u 4 said; do
+        [[ $said =~ ^FAULT\ (.*\ @$1|(B1|H1|MEMORY)\ .*)$ ]] && return 0
+        [[ $said =~ ^[0-9]+\ [0-9]+\  && ! $said =~ \ KL[0-9]+$ ]] && return 0
+        printf '%s\n' "$said"
+        [[ $said != FAULT* && $said != *! ]] || return 1
+    done
+    return 1
+}
+
+# The messages of the script, behind the answers that there are; it fails where it must begin again.
+book() {
+    local line number said at=1 known
+    mapfile -t known <"$answers"
+    number=${known[0]}
+    while IFS= read -r line || [ -n "$line" ]; do
+        if [[ ! $line =~ $segment ]]; then
+            # (a line of a message that is answered by nothing; a client that comes back sends its message's head again)
+            printf '%s\n' "$line" >&3
+            continue
+        fi
+        if [ "$at" -lt "${#known[@]}" ]; then
+            said=${known[at]} at=$((at + 1))
+        else
+            printf '@%s %s\n' "$number" "$line" >&3
+            answer "$number" || return 1
+            printf '%s\n' "$said" >>"$answers" && sync "$answers" || exit 1
+        fi
+        printf '%s\n' "$said"
+        [[ $said == FAULT* ]] || number=$((number + 1))
+    done <"$script"
+}
+
+hello
+# (a line that a kill or a loss of power left without its end is none)
+[ ! -s "$answers" ] || [ -z "$(tail -c 1 "$answers")" ] || sed -i '$d' "$answers"
+[ -s "$answers" ] || { printf '%s\n' "$((calls + 1))" >"$answers" && sync "$answers"; } || exit
+until book; do hello; done
