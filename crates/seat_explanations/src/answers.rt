@@ -231,7 +231,7 @@ const DESKS: &[Explanation] = &[
         behind: "",
         code: "FAULT",
         numbers: NONE,
-        text: "A line of the desk is refused, and nothing was booked for it, but where - DEVICE or - MEMORY stands behind FAULT: then it may be\nbooked, and ?AGAIN tells. Behind it stands the code, which seatdesk explain takes by itself, and the number of the line,\nor @ and that of the call that the line had.",
+        text: "A line of the desk is refused, and nothing was booked for it, but where - stands behind FAULT: then the journal's file failed (- DEVICE), or\nanswers were left out (- LOST), and lines may be booked; ?AGAIN tells. Else there stands behind it the code, which seatdesk explain takes by itself, and the number of the line,\nor @ and that of the call that the line had.",
     },
 ];
 

@@ -553,7 +553,7 @@ const JOURNALS: &[Explanation] = &[
         behind: "",
         code: "J3",
         numbers: LINE,
-        text: "The line is a wrong END line, stands behind it, or should be the END line and is missing.\nThe journal may have been cut off, or be one that is still open: audit --open says whether its whole lines are right, and recover ends it.\nWith --after it may be the older journal, which is read first.",
+        text: "The line is a wrong END line, stands behind it, or should be the END line and is missing.\nThe journal may have been cut off, or be one that is still open: audit --open says whether its whole lines are right, and recover ends it.\nWhere something else stands behind the lines or the END line, as by 2>> JOURNAL of a shell, recover --cut takes it away and keeps it beside the journal.\nWith --after it may be the older journal, which is read first.",
     },
     Explanation {
         behind: "",
@@ -751,7 +751,7 @@ const NOTES: &[Explanation] = &[
         behind: "",
         code: "kept",
         numbers: NONE,
-        text: "What the file of --journal had before the run stands under this name from now on. The new journal is not behind it:\na run that is to be goes on from it by --after. Of several kept-1 is the oldest. A name that ends with .seal is that of a seal alone, which\nbelongs beside the journal that it is of. Where it says no END the journal was left open, as by a host that was killed:\nmake a copy of it under another name, and of its seal under that name with .seal, which seatdesk recover then ends, and go on from that.\nWithout its seal the copy knows no run, and scripts that were booked are booked once more; a note says so.",
+        text: "What the file of --journal had before the run stands under this name from now on. The new journal is not behind it:\nseats that it sold are sold once more there, and no audit of either says so. Where the run was to go on from it, give the run's scripts again,\nwith --after and this name, ahead of any other run: they are booked behind it, and the desks take these replies in place of the first, which they may\nnot be. What the first run made is kept then, too, and nothing goes on from that. Of several kept-1 is the oldest. A name that ends with .seal is that of a seal alone, which\nbelongs beside the journal that it is of. Where it says no END the journal was left open, as by a host that was killed:\nmake a copy of it under another name, and of its seal under that name with .seal, which seatdesk recover then ends, and go on from that.\nWithout its seal the copy knows no run, and scripts that were booked are booked once more; a note says so.",
     },
     Explanation {
         behind: "asks",
@@ -769,7 +769,7 @@ const NOTES: &[Explanation] = &[
         behind: "knows",
         code: "note",
         numbers: NONE,
-        text: "The seal of the journal names no run, or none of its first lines, so nothing says which scripts these have: one that was booked is\nbooked once more, and no SEAL again comes. That is so of a journal that recover or serve found without its seal, as a copy to which its seal was not copied,\nof one whose seal was of an older version or did not agree with it when seatdesk seal wrote it anew, and of one that a desk alone wrote.\nAn older seal is put back only ahead of a run: below run this one is made, and an older seal would forget it. seatdesk history and told\nsay whether the journal has what a script asks.",
+        text: "The seal of the journal names no run, or none of its first lines, so nothing says which scripts these have: one that was booked is\nbooked once more, and no SEAL again comes. That is so of a journal that recover or serve found without its seal, as a copy to which its seal was not copied,\nof one whose seal was of an older version or did not agree with it when seatdesk seal wrote it anew, of one that a desk alone wrote, and of one that more than 128\nruns wrote, of which a seal names the last.\nAn older seal is put back only ahead of a run: below run this one is made, and an older seal would forget it. seatdesk history and told\nsay whether the journal has what a script asks.",
     },
     Explanation {
         behind: "same",
@@ -793,7 +793,7 @@ const NOTES: &[Explanation] = &[
         behind: "replies",
         code: "note",
         numbers: NONE,
-        text: "The journal of the run is in its place, and its replies did not all go out. The run is not to be made again:\nseatdesk replies writes them, with the options of the run and those that the note has.",
+        text: "The journal of the run is in its place, and its replies did not all go out. The run is not to be made again:\nseatdesk replies writes them, with the options of the run and those that the note has,\nuntil the next run writes the journal. Behind that it takes the scripts of all runs since the journal's line that --behind names, those of one session in one file,\nin their order, with an empty line between two of them.",
     },
     Explanation {
         behind: "cut",

@@ -8,9 +8,6 @@ use seat_files::{
 use seat_seal::{Script, Seal, SealEntry, Sealed, read_seal};
 use std::fs;
 
-/// As many runs as a seal names.
-const MOST_RUNS: usize = 128;
-
 /// Says that nothing stands beside a journal, so that it could not be compared, or that what stands there knows no run.
 pub fn tell_unsealed(rt: &HostRuntime, name: &str, seal: &SealFile) {
     let file = Shown { name };
@@ -64,8 +61,8 @@ pub fn has_run(seal: &Seal) -> bool {
     has_second || knows_run(&seal.first)
 }
 
-/// Whether a journal has lines ahead of each run that its seal names, where these are so few that none was forgotten. Of two entries it is
-/// the new journal's.
+/// Whether a journal has lines ahead of each run that its seal names, those of runs that were forgotten too. Of two entries it is the new
+/// journal's.
 fn has_lines_ahead(text: &[u8]) -> bool {
     match read_seal(text) {
         Some(seal) => match &seal.second {
@@ -80,7 +77,7 @@ fn is_behind_lines(entry: &SealEntry) -> bool {
     match entry {
         SealEntry::Sealed(entry) => {
             let runs = entry.runs.as_slice();
-            !runs.is_empty() && runs.len() < MOST_RUNS && runs.iter().all(|run| run.behind > 0)
+            !runs.is_empty() && runs.iter().all(|run| run.behind > 0)
         }
         SealEntry::Other(_) => false,
     }
