@@ -16,35 +16,54 @@ import shlex
 import string
 import subprocess
 import sys
+import time
 
 SECONDS = 10  # of silence, behind which a host may be another
 SEGMENT = re.compile(r"[A-Z0-9]{2}\d{1,4}[A-Z]?[A-Z]\d\d[A-Z]{3} [A-Z]{6} [A-Z]{2}\d{1,3}")
 
 
+def opened(path, way):
+    """A pipe that is open for reading and for writing waits for nobody. One of another user may be open to us one way alone."""
+    try:
+        return os.open(path, os.O_RDWR)
+    except PermissionError:
+        return os.open(path, way)
+
+
 class Desk:
     def __init__(self, into, out):
-        self.rest = b""
+        self.way, self.rest = None, b""
         if into == "--by":
             self.way = subprocess.Popen(shlex.split(out), stdin=subprocess.PIPE, stdout=subprocess.PIPE)
             self.into, self.out = self.way.stdin.fileno(), self.way.stdout.fileno()
             return
-        # opened for reading and for writing, a pipe waits for nobody; the lock keeps a second client away
-        self.into, self.out = os.open(into, os.O_RDWR), os.open(out, os.O_RDWR)
-        fcntl.flock(self.into, fcntl.LOCK_EX)
+        self.into, self.out = opened(into, os.O_WRONLY), opened(out, os.O_RDONLY)
+        # a record lock keeps a second client away (the other kind is the host's)
+        fcntl.lockf(self.into, fcntl.LOCK_EX)
+
+    def gone(self):
+        """No host has the pipes open."""
+        if self.way:
+            sys.exit("the way to the desk has ended: start the client again")
+        time.sleep(1)
 
     def send(self, text):
         data = text.encode()
         while data:
-            data = data[os.write(self.into, data) :]
+            try:
+                data = data[os.write(self.into, data) :]
+            except BrokenPipeError:
+                self.gone()
 
     def line(self):
         while b"\n" not in self.rest:
             if not select.select([self.out], [], [], SECONDS)[0]:
                 return None
-            data = os.read(self.out, 65536)
-            if not data:
-                sys.exit("the way to the desk has ended: start the client again")
-            self.rest += data
+            more = os.read(self.out, 65536)
+            if not more:
+                self.gone()
+                return None
+            self.rest += more
         line, self.rest = self.rest.split(b"\n", 1)
         return line.decode()
 

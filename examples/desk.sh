@@ -8,9 +8,12 @@ set -u
 [ "$#" = 4 ] || { sed -n '2,7s/^# \{0,1\}//p' "$0" >&2; exit 2; }
 script=$3 answers=$4 seconds=10
 segment='^[A-Z0-9]{2}[0-9]{1,4}[A-Z]?[A-Z][0-9]{2}[A-Z]{3} [A-Z]{6} [A-Z]{2}[0-9]{1,3}$'
-# opened for reading and for writing, a pipe waits for nobody; the lock keeps a second client away
-exec 3<>"$1" 4<>"$2"
-flock 3
+# opened for reading and for writing, a pipe waits for nobody; one of another user may be open to us one way alone
+if [ -r "$1" ]; then exec 3<>"$1"; else exec 3>"$1"; fi
+if [ -w "$2" ]; then exec 4<>"$2"; else exec 4<"$2"; fi
+# (the pipes' locks are the host's: a second client with the same memory waits here)
+exec 5>>"$answers"
+flock 5
 
 # Says hello until the host answers with this client's own word; what stands ahead of that is for another client. calls: how many the desk has.
 hello() {
@@ -64,6 +67,6 @@ book() {
 
 hello
 # (a line that a kill or a loss of power left without its end is none)
-[ ! -s "$answers" ] || [ -z "$(tail -c 1 "$answers")" ] || sed -i '$d' "$answers"
+truncate -s "$(head -n "$(wc -l <"$answers")" "$answers" | wc -c)" "$answers"
 [ -s "$answers" ] || { printf '%s\n' "$((calls + 1))" >"$answers" && sync "$answers"; } || exit
 until book; do hello; done

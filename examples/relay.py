@@ -16,11 +16,19 @@ import select
 import sys
 
 
-def main(into, out):
-    # opened for reading and for writing, a pipe waits for nobody; the lock keeps a second client away
-    into, out = os.open(into, os.O_RDWR), os.open(out, os.O_RDWR)
+def opened(path, way):
+    """A pipe that is open for reading and for writing waits for nobody. One of another user may be open to us one way alone."""
     try:
-        fcntl.flock(into, fcntl.LOCK_EX | fcntl.LOCK_NB)
+        return os.open(path, os.O_RDWR)
+    except PermissionError:
+        return os.open(path, way)
+
+
+def main(into, out):
+    into, out = opened(into, os.O_WRONLY), opened(out, os.O_RDONLY)
+    try:
+        # a record lock keeps a second client away (the other kind is the host's)
+        fcntl.lockf(into, fcntl.LOCK_EX | fcntl.LOCK_NB)
     except BlockingIOError:
         sys.exit("relay.py: another client has the desk")
     ways = {0: into, out: 1}

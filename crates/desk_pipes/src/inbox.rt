@@ -19,6 +19,8 @@ const MOST_LINES: usize = 576;
 pub struct Said {
     pub session: u8,
     pub line: HeldLine,
+    /// Whether it was said ahead of the host's start, as far as that is known.
+    pub is_earlier: bool,
 }
 
 /// What lies under the lock.

@@ -1,16 +1,20 @@
-//! The pipes of several desks: lines that wait for the host, in the order in which they came, and texts that wait for each desk to be read.
-//! It knows bytes, lines, locks and threads, and nothing of what a line means or of how it is answered.
+//! The pipes of several desks: which files they are, lines that wait for the host, in the order in which they came, and texts that wait for each desk to be read.
+//! It knows files, bytes, lines, locks and threads, and nothing of what a line means or of how it is answered.
 #![tactic(auto)]
 
 mod cutting;
 mod inbox;
 pub mod laws;
+mod mark;
 mod outbox;
+mod pipe_file;
 mod post;
 mod threads;
 
 pub use cutting::HeldLine;
 pub use inbox::{Inbox, Said, room_for_lines};
+pub use mark::Mark;
 pub use outbox::Outbox;
+pub use pipe_file::{PipeFault, PipeId, Role, Unopened, fault_of, open_pipe};
 pub use post::Post;
-pub use threads::{read_desk, start_desk, write_desk};
+pub use threads::{mark_pipe, read_desk, start_desk, write_desk};

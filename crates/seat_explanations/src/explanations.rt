@@ -717,7 +717,7 @@ const WORDS: &[Explanation] = &[
         behind: "E2",
         code: "desk",
         numbers: NONE,
-        text: "--desk of told is no digit of 0 to 8 (a desk has the number of its session, and 0 is the manager of the limits).\nOf serve: --desk is not - alone, which is standard input and standard output, and not N=IN:OUT with a session of 1 to 8 that stands once;\nor what it or --manager names is no pipe (mkfifo makes one); or desks on pipes have no --manager, or - has one.",
+        text: "--desk of told is no digit of 0 to 8 (a desk has the number of its session, and 0 is the manager of the limits).\nOf serve: --desk is not - alone, which is standard input and standard output, and not N=IN:OUT with a session of 1 to 8 that stands once;\nor what it or --manager names is no named pipe (mkfifo -m 620 makes one to read a desk's lines from, and mkfifo -m 640 one to answer on),\nor one that is named twice, that another host has, or that others may write to or read; or desks on pipes have no --manager, or - has one. seatdesk -v names the pipe.",
     },
     Explanation {
         behind: "E2",

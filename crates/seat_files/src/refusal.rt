@@ -131,6 +131,16 @@ impl<'a> Refusal<'a> {
         refusal
     }
 
+    /// A file that may not be a pipe of a desk, and why.
+    pub fn unfit(file: &'a str, why: &'static str) -> Refusal<'a>
+        ensures { result.fault ≡ Fault.Word WordFault.BadDesk }
+    {
+        let mut refusal = Refusal::from(WordFault::BadDesk);
+        refusal.file = Some(file);
+        refusal.why = Some(why);
+        refusal
+    }
+
     /// Whether it is known why a file may not be what it is named for.
     pub fn is_barred(&self) -> bool {
         self.why.is_some()

@@ -3,19 +3,24 @@
 
 use crate::serving::Open;
 use airline_base::Memory;
-use desk_pipes::{Post, start_desk};
+use desk_pipes::{Mark, PipeId, Post, Role, Unopened, mark_pipe, open_pipe, start_desk};
 use seat_desk::DeskFault;
 use seat_files::Refusal;
 use seat_words::{WordFault, pipes_of, session_file, sessions_of};
 use std::alloc::Global;
-use std::fs::{File, OpenFile, OpenOptions};
+use std::fs::File;
+use std::io;
+use std::random::RandomSource;
 use std::sync::{Arc, Wait};
 use std::thread::Threads;
 
 /// As many desks as a host has.
 const MOST_DESKS: u8 = 8;
 
-/// The two pipes of a session's desk.
+/// The session of the manager.
+const MANAGER: u8 = 0;
+
+/// The two pipes of a session's desk, each locked as long as it is open.
 #[derive(Drop)]
 struct Pair {
     session: u8,
@@ -23,10 +28,12 @@ struct Pair {
     out: File,
 }
 
-/// The pipes of all desks and of the manager.
+/// The pipes of all desks and of the manager, the first, and the mark of this host, which goes to what the manager is read from.
 #[derive(Drop)]
 pub struct Pipes {
     pairs: Vec<Pair>,
+    mark: Mark,
+    marked: File,
 }
 
 /// The pipes that the words name, open, or none for a desk on standard input and standard output.
@@ -47,13 +54,31 @@ pub fn desks_named<'a>(
         return Err(Refusal::from(WordFault::BadDesk));
     }
     let mut pairs = Vec::new(rt.alloc());
-    add_pair(rt, &mut pairs, 0, manager)?;
+    let mut taken = Vec::new(rt.alloc());
+    add_pair(rt, &mut pairs, &mut taken, MANAGER, manager)?;
     for place in 0..count {
         if let Some(word) = session_file(asked.desks, place + 1) {
-            add_pair(rt, &mut pairs, place as u8 + 1, word)?;
+            add_pair(rt, &mut pairs, &mut taken, place as u8 + 1, word)?;
         }
     }
-    Ok(Some(Pipes { pairs }))
+    let marked = match pairs.first() {
+        Some(office) => of_pipe(manager, office.input.try_clone())?,
+        None => return Err(Refusal::from(WordFault::BadDesk)),
+    };
+    let mut drawn = [0; 8];
+    of_pipe(manager, rt.fill_bytes(&mut drawn))?;
+    Ok(Some(Pipes {
+        pairs,
+        mark: Mark::of(drawn),
+        marked,
+    }))
+}
+
+fn of_pipe<'a, T>(word: &'a str, answer: io::Result<T>) -> Result<T, Refusal<'a>> {
+    match answer {
+        Ok(it) => Ok(it),
+        Err(error) => Err(Refusal::unopened(word, &error)),
+    }
 }
 
 fn is_standard(desks: &[&str]) -> bool {
@@ -66,14 +91,15 @@ fn is_standard(desks: &[&str]) -> bool {
 fn add_pair<'a>(
     rt: &HostRuntime,
     pairs: &mut Vec<Pair>,
+    taken: &mut Vec<PipeId>,
     session: u8,
     word: &'a str,
 ) -> Result<(), Refusal<'a>> {
     let Some((input, out)) = pipes_of(word) else {
         return Err(Refusal::from(WordFault::BadDesk));
     };
-    let input = opened_pipe(rt, input)?;
-    let out = opened_pipe(rt, out)?;
+    let input = opened(rt, input, Role::Input, taken)?;
+    let out = opened(rt, out, Role::Output, taken)?;
     let pair = Pair {
         session,
         input,
@@ -85,18 +111,17 @@ fn add_pair<'a>(
     Ok(())
 }
 
-/// Opens a pipe for reading and for writing, so that nobody waits for another to open it. A plain file or a folder is none.
-fn opened_pipe<'a>(rt: &HostRuntime, path: &'a str) -> Result<File, Refusal<'a>> {
-    let mut how = OpenOptions::new();
-    how.read(true);
-    how.write(true);
-    let file = match how.open(rt, path) {
-        Ok(file) => file,
-        Err(error) => return Err(Refusal::unopened(path, &error)),
-    };
-    match file.metadata() {
-        Ok(data) if !data.is_file() && !data.is_dir() => Ok(file),
-        _ => Err(Refusal::from(WordFault::BadDesk)),
+/// A pipe of the host's own, or why it may be none.
+fn opened<'a>(
+    rt: &HostRuntime,
+    path: &'a str,
+    role: Role,
+    taken: &mut Vec<PipeId>,
+) -> Result<File, Refusal<'a>> {
+    match open_pipe(rt, path, role, taken) {
+        Ok(file) => Ok(file),
+        Err(Unopened::Unfit(fault)) => Err(Refusal::unfit(path, fault.why())),
+        Err(Unopened::Failed(error)) => Err(Refusal::unopened(path, &error)),
     }
 }
 
@@ -106,15 +131,21 @@ pub fn started<R: Threads + Wait + Copy + Send + 'static>(
     alloc: Global,
     pipes: Pipes,
 ) -> Result<Arc<Post, Global>, Memory> {
-    let Pipes { pairs } = pipes;
+    let Pipes {
+        pairs,
+        mark,
+        marked,
+    } = pipes;
     let post = Arc::new(alloc, Post::new(alloc, MOST_DESKS)?)?;
+    mark_pipe(threads, mark, marked)?;
     for pair in pairs {
         let Pair {
             session,
             input,
             out,
         } = pair;
-        start_desk(threads, alloc, &post, session, input, out)?;
+        let ahead = if session == MANAGER { Some(mark) } else { None };
+        start_desk(threads, alloc, &post, session, ahead, input, out)?;
     }
     Ok(post)
 }
