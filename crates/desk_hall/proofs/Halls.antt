@@ -122,13 +122,13 @@ module _ {D : Type 0} where
 
   -- ---- and behind a line of the manager
 
-  pub ordered_by : (old new : Hallful D) (line : List ℕ) (goes : Bool) (order : Order) (plan : Plan)
-      → IsOrder old.flights (record old.manager { today = old.today }) new.manager line order
+  pub ordered_by : (is_earlier : Bool) (old new : Hallful D) (line : List ℕ) (goes : Bool) (order : Order) (plan : Plan)
+      → IsOrder is_earlier old.flights (record old.manager { today = old.today }) new.manager line order
       → new.today ≡ day_behind old.today order → goes ≡ goes_on order
       → PlansOrder old.serving.cap new.manager new.today (behind old.serving.grid old.serving.journal old.asked) order plan
       → new.asked ≡ old.asked ++ option_to_list plan.asked → new.turns ≡ old.turns ++ plan.turn ∷ []
-      → new.desks ≡ old.desks → new.serving ≡ old.serving → new.flights ≡ old.flights → IsOrdered old new line goes
-  ordered_by old new line goes order plan is day going plans asked turns desks serving flights = record {
+      → new.desks ≡ old.desks → new.serving ≡ old.serving → new.flights ≡ old.flights → IsOrdered is_earlier old new line goes
+  ordered_by is_earlier old new line goes order plan is day going plans asked turns desks serving flights = record {
     order = order;
     is_order = is;
     day_is = day;

@@ -4,3 +4,4 @@ pub mod Ordered
 pub mod Planned
 pub mod Rows
 pub mod Told
+pub mod ToldRows

@@ -1,11 +1,14 @@
 -- What another limit comes to behind the lines that are asked for.
-use Rattle.std.proofs.Common.{◌≡◌, ℕ, zero, suc, ◌+◌, ◌<◌, ◌≤◌, ◌==◌, Bool, true, false, nat_lt, List, [], ◌∷◌, length, refl, ap, sym, ◌∙◌, subst, arith}
+use Rattle.std.proofs.Common.{◌≡◌, ℕ, zero, suc, ◌+◌, ◌<◌, ◌≤◌, ◌==◌, Bool, true, false, nat_le, nat_lt, List, [], ◌∷◌, length, refl, ap, sym, ◌∙◌, subst, arith}
 use Rattle.std.specs.Prelude.{All, Some, None}
 use Rattle.std.specs.List.{AllByRecursion}
 use Rattle.std.proofs.lemmas.Bool.Decides.{nat_tests}
-use Rattle.desk_hall.specs.Planning.{PlansLimit, limit_asked}
+use Rattle.desk_lines.specs.declared.desk.Desk.{Desk}
+use Rattle.desk_lines.specs.declared.desk.Meaning.TheVariants.{WrongCall}
+use Rattle.desk_lines.specs.declared.desk.Wrong.TheVariants.{Beyond}
+use Rattle.desk_hall.specs.Planning.{PlansLimit, PlansLimitCall, PlansQuiet, limit_asked}
 use Rattle.desk_hall.specs.declared.planning.Plan.{Plan}
-use Rattle.desk_hall.specs.declared.turn.Turn.TheVariants.{Line, Full}
+use Rattle.desk_hall.specs.declared.turn.Turn.TheVariants.{Line, Full, RepeatedRow}
 use Rattle.desk_hall.proofs.Groups.{behind_length}
 use Rattle.seat_desk.specs.Loading.{IsGridOf}
 use Rattle.seat_journal.specs.declared.entry.Change.{Change}
@@ -44,3 +47,28 @@ module _ (grid : Ladders) (cap : ℕ) (past : List Entry) (asked : List Asked) (
       let count : length Past ≡ length past + length asked = behind_length grid past asked in
       let full : nat_lt (length Past) cap ≡ false = grind (arith, nat_tests) in
       rw full (turn ∙ ap (λ (n : ℕ). Full 0 (n + 1)) are, is)
+
+  -- ---- numbered rows
+
+  pub limit_next : (manager : Desk) (number calls : ℕ) (plan : Plan) → number ≡ calls + 1 → calls ≡ calls_of Past 0
+      → PlansLimit (nat_lt (length Past) cap) Past change plan
+      → PlansLimitCall (number == calls_of Past 0 + 1) (nat_le number (calls_of Past 0)) cap manager number Past change plan
+  limit_next manager number calls plan is are plans =
+      let here : (number == calls_of Past 0 + 1) ≡ true = grind (arith, nat_tests) in
+      rw here plans
+
+  pub limit_there : (manager : Desk) (number calls : ℕ) (plan : Plan) → number ≤ calls → calls ≡ calls_of Past 0
+      → plan.turn ≡ RepeatedRow number change → plan.asked ≡ None
+      → PlansLimitCall (number == calls_of Past 0 + 1) (nat_le number (calls_of Past 0)) cap manager number Past change plan
+  limit_there manager number calls plan low are turn is =
+      let other : (number == calls_of Past 0 + 1) ≡ false = grind (arith, nat_tests) in
+      let there : nat_le number (calls_of Past 0) ≡ true = grind (arith, nat_tests) in
+      rw (other, there) (turn, is)
+
+  pub limit_beyond : (manager : Desk) (number calls : ℕ) (plan : Plan) → (number ≡ calls + 1 → ⊥) → calls < number
+      → calls ≡ calls_of Past 0 → PlansQuiet 0 manager (WrongCall number Beyond) plan
+      → PlansLimitCall (number == calls_of Past 0 + 1) (nat_le number (calls_of Past 0)) cap manager number Past change plan
+  limit_beyond manager number calls plan not far are plans =
+      let other : (number == calls_of Past 0 + 1) ≡ false = grind (arith, nat_tests) in
+      let beyond : nat_le number (calls_of Past 0) ≡ false = grind (arith, nat_tests) in
+      rw (other, beyond) plans

@@ -1,13 +1,17 @@
 -- Rows of the manager.
-use Rattle.std.proofs.Common.{◌≡◌, ℕ, ◌+◌, ◌≤◌, ◌<◌, ◌==◌, Bool, true, false, List, [], ◌∷◌, length, map, get_or, refl, ap, sym, subst, arith}
+use Rattle.std.proofs.Common.{◌≡◌, ℕ, ◌+◌, ◌≤◌, ◌<◌, ◌==◌, Bool, true, false, nat_lt, List, [], ◌∷◌, length, map, get_or, refl, ap, sym, subst, arith}
 use Rattle.std.specs.Prelude.{Option, Some, None}
 use Rattle.std.specs.List.{AllByRecursion}
 use Rattle.std.specs.Str.Lines.{lines}
 use Rattle.std.proofs.lemmas.Bool.Decides.{nat_tests}
 use Rattle.std.proofs.lemmas.List.{length-map}
 use Rattle.airline_base.specs.declared.place.Place.{Place}
-use Rattle.desk_hall.specs.Orders.{IsLegless, IsRightOrder, IsRowOf}
-use Rattle.desk_hall.specs.declared.orders.Order.TheVariants.{Limit}
+use Rattle.desk_hall.specs.Orders.{IsCallBy, IsCalled, IsLegless, IsNumbered, IsRightOrder, IsRow, IsRowOf, numbered_order}
+use Rattle.desk_hall.specs.declared.orders.Order.{Order}
+use Rattle.desk_hall.specs.declared.orders.Order.TheVariants.{Limit, Said}
+use Rattle.desk_lines.specs.Calls.{call_at}
+use Rattle.desk_lines.specs.declared.desk.Meaning.TheVariants.{Wrong}
+use Rattle.desk_lines.specs.declared.desk.Wrong.TheVariants as faults
 use Rattle.seat_journal.specs.declared.entry.Change.{Change}
 use Rattle.seat_limits.specs.ChangeRows.{IsChangeText, SpellsChanges}
 use Rattle.seat_limits.specs.declared.change_row.ChangeRow.{ChangeRow}
@@ -94,3 +98,27 @@ pub only_row : (rows : List ChangeRow) (row : ChangeRow) → row ≡ get_or rows
 only_row [] row at some few = absurd (omega (arith, some))
 only_row (first ∷ []) row at some few = ap (λ (r : ChangeRow). r ∷ []) (sym at)
 only_row (first ∷ second ∷ rows) row at some few = absurd (omega (arith, few))
+
+-- ---- numbered rows
+
+pub numbered : (flights : List Flown) (call : ℕ) (row : List ℕ) (plain order : Order) → IsRow flights row plain
+    → order ≡ numbered_order call plain → IsNumbered flights call row order
+numbered flights call row plain order is_row is = record { plain = plain; is_row = is_row; order_is = is }
+
+pub called : (flights : List Flown) (text row : List ℕ) (call : ℕ) (order : Order) → length text ≤ 256
+    → Some (call, row) ≡ call_at text → IsNumbered flights call row order → IsCallBy (nat_lt 256 (length text)) flights text order
+called flights text row call order short at is =
+    let few : nat_lt 256 (length text) ≡ false = grind (arith, nat_tests) in
+    rw few (subst (λ (o : Option (ℕ × List ℕ)). IsCalled flights o order) at is)
+
+pub uncalled : (flights : List Flown) (text : List ℕ) (order : Order) → length text ≤ 256 → None ≡ call_at text
+    → order ≡ Said (Wrong faults.Word) → IsCallBy (nat_lt 256 (length text)) flights text order
+uncalled flights text order short at is =
+    let few : nat_lt 256 (length text) ≡ false = grind (arith, nat_tests) in
+    rw few (subst (λ (o : Option (ℕ × List ℕ)). IsCalled flights o order) at is)
+
+pub too_long : (flights : List Flown) (text : List ℕ) (order : Order) → 256 < length text → order ≡ Said (Wrong faults.TooLong)
+    → IsCallBy (nat_lt 256 (length text)) flights text order
+too_long flights text order long is =
+    let many : nat_lt 256 (length text) ≡ true = grind (arith, nat_tests) in
+    rw many is

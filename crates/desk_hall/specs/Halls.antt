@@ -62,11 +62,11 @@ pub record IsSameHost {D : Type 0} (old new : Hallful D) : Type 0 where
   pub today_is : new.today ≡ old.today
   pub flights_are : new.flights ≡ old.flights
 
--- the manager's line asks for this, which comes to this behind what was heard before it: lines are read on another day, the host goes on or
+-- the manager's line, which was said ahead of the host's start or behind it, asks for this, which comes to this behind what was heard before it: lines are read on another day, the host goes on or
 -- not, and nothing is booked by it
-pub record IsOrdered {D : Type 0} (old new : Hallful D) (line : List ℕ) (goes : Bool) : Type 0 where
+pub record IsOrdered {D : Type 0} (is_earlier : Bool) (old new : Hallful D) (line : List ℕ) (goes : Bool) : Type 0 where
   pub order : Order
-  pub is_order : IsOrder old.flights (record old.manager { today = old.today }) new.manager line order
+  pub is_order : IsOrder is_earlier old.flights (record old.manager { today = old.today }) new.manager line order
   pub day_is : new.today ≡ day_behind old.today order
   pub goes_is : goes ≡ goes_on order
   pub plan : Plan

@@ -1,20 +1,21 @@
 -- What a line of the manager asks for.
-use Rattle.std.specs.Prelude.{◌≡◌, ◌≤◌, ◌<◌, ℕ, ◌+◌, ◌==◌, ◌&&◌, ◌||◌, nat_le, Bool, true, false, if◌then◌else◌, List, [], ◌∷◌, length, codes, Option, Some, None, Err, ⊤}
+use Rattle.std.specs.Prelude.{◌≡◌, ◌≤◌, ◌<◌, ℕ, ◌+◌, ◌==◌, ◌&&◌, ◌||◌, nat_le, nat_lt, Bool, true, false, if◌then◌else◌, List, [], ◌∷◌, length, codes, Option, Some, None, Err, ⊤}
 use Rattle.std.specs.List.{AllByRecursion}
 use Rattle.std.specs.Str.Lines.{lines}
 use Rattle.airline_base.specs.Days.{civil_in, IsCenturyDay}
 use Rattle.airline_base.specs.Fields.{◌>>=◌, two_are, two_value, word_at}
 use Rattle.airline_base.specs.Lines.{line_at}
 use Rattle.desk_answers.specs.Saying.{HasHeard}
-use Rattle.desk_lines.specs.Lines.{is_word, next_number}
+use Rattle.desk_lines.specs.Calls.{call_at}
+use Rattle.desk_lines.specs.Lines.{is_numbered, is_word, next_number}
 use Rattle.desk_lines.specs.declared.desk.Desk.{Desk}
 use Rattle.desk_lines.specs.declared.desk.Meaning.{Meaning}
-use Rattle.desk_lines.specs.declared.desk.Meaning.TheVariants.{Nothing, Wrong}
+use Rattle.desk_lines.specs.declared.desk.Meaning.TheVariants.{Nothing, Wrong, WrongCall}
 use Rattle.desk_lines.specs.declared.desk.Standing.{Standing}
 use Rattle.desk_lines.specs.declared.desk.Standing.TheVariants.{Silent}
 use Rattle.desk_lines.specs.declared.desk.Wrong.TheVariants as faults
 use Rattle.desk_hall.specs.declared.orders.Order.{Order}
-use Rattle.desk_hall.specs.declared.orders.Order.TheVariants.{Said, Limit, Refused, Day, Stop}
+use Rattle.desk_hall.specs.declared.orders.Order.TheVariants.{Said, Limit, LimitCall, Refused, RefusedCall, Day, Stop}
 use Rattle.desk_hall.specs.declared.orders.RowFault.{RowFault}
 use Rattle.desk_hall.specs.declared.orders.RowFault.TheVariants.{Malformed, NoLeg}
 use Rattle.seat_journal.specs.declared.entry.Change.{Change}
@@ -50,11 +51,16 @@ day_at text = do
   rest ← word_at (codes "?DAY ") text
   iso_day_at rest
 
+-- an end that was said ahead of the host's start is none
+abbrev pub stopped : Bool → Order
+stopped true = Said (Wrong faults.NoHello)
+stopped false = Stop
+
 -- `?STOP`
-unfoldable pub stop_at : List ℕ → Option Order
-stop_at text = do
+unfoldable pub stop_at : Bool → List ℕ → Option Order
+stop_at is_earlier text = do
   rest ← word_at (codes "?STOP") text
-  if length rest == 0 then Some Stop else None
+  if length rest == 0 then Some (stopped is_earlier) else None
 
 abbrev pub day_order : Option ℕ → Order
 day_order None = Said (Wrong faults.Word)
@@ -65,12 +71,12 @@ stop_order (Some order) text = order
 stop_order None text = day_order (day_at text)
 
 -- a word that no desk has may be one of the manager
-abbrev pub own_order : List ℕ → Order
-own_order text = stop_order (stop_at text) text
+abbrev pub own_order : Bool → List ℕ → Order
+own_order is_earlier text = stop_order (stop_at is_earlier text) text
 
-abbrev pub order_in : List ℕ → Meaning → Order
-order_in text (Wrong faults.Word) = own_order text
-order_in text meaning = Said meaning
+abbrev pub order_in : Bool → List ℕ → Meaning → Order
+order_in is_earlier text (Wrong faults.Word) = own_order is_earlier text
+order_in is_earlier text meaning = Said meaning
 
 -- ---- rows
 
@@ -102,6 +108,40 @@ IsRow flights text (Refused (Malformed kind)) = IsMalformed text kind
 IsRow flights text (Refused NoLeg) = IsLegless flights text
 IsRow flights text order = ⊥
 
+-- ---- numbered rows
+
+-- only a row has a number
+abbrev pub numbered_meaning : ℕ → Meaning → Meaning
+numbered_meaning call Nothing = WrongCall call faults.Word
+numbered_meaning call meaning = meaning
+
+-- the same as the call of this number
+abbrev pub numbered_order : ℕ → Order → Order
+numbered_order call (Said meaning) = Said (numbered_meaning call meaning)
+numbered_order call (Limit change) = LimitCall call change
+numbered_order call (Refused fault) = RefusedCall call fault
+numbered_order call order = order
+
+-- the row behind the number asks for this
+pub record IsNumbered (flights : List Flown) (call : ℕ) (row : List ℕ) (order : Order) : Type 0 where
+  pub plain : Order
+  pub is_row : IsRow flights row plain
+  pub order_is : order ≡ numbered_order call plain
+
+abbrev pub IsCalled : List Flown → Option (ℕ × List ℕ) → Order → Type 0
+IsCalled flights None order = order ≡ Said (Wrong faults.Word)
+IsCalled flights (Some (call, row)) order = IsNumbered flights call row order
+
+-- a line that is not too long
+abbrev pub IsCallBy : Bool → List Flown → List ℕ → Order → Type 0
+IsCallBy true flights text order = order ≡ Said (Wrong faults.TooLong)
+IsCallBy false flights text order = IsCalled flights (call_at text) order
+
+-- what a line that is no word asks for, with a number or without one
+abbrev pub IsUnnamed : Bool → List Flown → List ℕ → Order → Type 0
+IsUnnamed true flights text order = IsCallBy (nat_lt 256 (length text)) flights text order
+IsUnnamed false flights text order = IsRow flights text order
+
 -- the code of its fault
 abbrev pub row_text : RowFault → List ℕ
 row_text (Malformed kind) = kind_text kind
@@ -110,28 +150,31 @@ row_text NoLeg = codes "U1"
 -- ---- the whole
 
 -- it means something to a desk
-pub record IsSaid (old new : Desk) (line : List ℕ) (order : Order) : Type 0 where
+pub record IsSaid (is_earlier : Bool) (old new : Desk) (line : List ℕ) (order : Order) : Type 0 where
   pub meaning : Meaning
   pub has_heard : HasHeard old new line meaning
-  pub order_is : order ≡ order_in (line_at line).0 meaning
+  pub order_is : order ≡ order_in is_earlier (line_at line).0 meaning
 
 -- it counts, and is a row
 pub record IsRead (flights : List Flown) (old new : Desk) (line : List ℕ) (order : Order) : Type 0 where
   pub counted : new.lines ≡ next_number old.lines
   pub same_day : new.today ≡ old.today
   pub same_standing : new.standing ≡ old.standing
-  pub is_row : IsRow flights (line_at line).0 order
+  pub is_row : IsUnnamed (is_numbered (line_at line).0) flights (line_at line).0 order
 
-abbrev pub IsOrderBy : Bool → List Flown → Desk → Desk → List ℕ → Order → Type 0
-IsOrderBy true flights old new line order = IsSaid old new line order
-IsOrderBy false flights old new line order = IsRead flights old new line order
+abbrev pub IsOrderBy : Bool → Bool → List Flown → Desk → Desk → List ℕ → Order → Type 0
+IsOrderBy true is_earlier flights old new line order = IsSaid is_earlier old new line order
+IsOrderBy false is_earlier flights old new line order = IsRead flights old new line order
 
-abbrev pub IsOrder : List Flown → Desk → Desk → List ℕ → Order → Type 0
-IsOrder flights old new line order = IsOrderBy (is_for_desk old.standing line) flights old new line order
+-- and whether it was said ahead of the host's start
+abbrev pub IsOrder : Bool → List Flown → Desk → Desk → List ℕ → Order → Type 0
+IsOrder is_earlier flights old new line order =
+    IsOrderBy (is_for_desk old.standing line) is_earlier flights old new line order
 
 -- a change is on a leg of the flights
 abbrev pub IsRightOrder : List Flown → Order → Type 0
 IsRightOrder flights (Limit change) = AllByRecursion (IsOnLeg flights) (change ∷ [])
+IsRightOrder flights (LimitCall call change) = AllByRecursion (IsOnLeg flights) (change ∷ [])
 IsRightOrder flights order = ⊤
 
 -- a day is of the years 2000 to 2099

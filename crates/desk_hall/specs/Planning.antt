@@ -10,7 +10,7 @@ use Rattle.desk_lines.specs.declared.desk.Meaning.TheVariants.{Nothing}
 use Rattle.desk_hall.specs.declared.orders.Order.{Order}
 use Rattle.desk_hall.specs.declared.orders.Order.TheVariants as orders
 use Rattle.desk_hall.specs.declared.planning.Plan.{Plan}
-use Rattle.desk_hall.specs.declared.turn.Turn.TheVariants.{Line, Full, Repeated, Quiet, Refused, Stands}
+use Rattle.desk_hall.specs.declared.turn.Turn.TheVariants.{Line, Full, Repeated, RepeatedRow, Quiet, Refused, RefusedCall, Stands}
 use Rattle.seat_journal.specs.declared.entry.Change.{Change}
 use Rattle.seat_journal.specs.declared.entry.Entry.{Entry}
 use Rattle.seat_journal.specs.declared.entry.Work.TheVariants.{Limit}
@@ -57,6 +57,14 @@ abbrev pub PlansLimit : Bool → List Entry → Change → Plan → Type 0
 PlansLimit true past change plan = (plan.turn ≡ Line (length past)) × (plan.asked ≡ Some (limit_asked change))
 PlansLimit false past change plan = (plan.turn ≡ Full 0 (calls_of past 0 + 1)) × (plan.asked ≡ None)
 
+-- the next call is asked for; one that is there is told once more; one beyond the next is refused
+abbrev pub PlansLimitCall : Bool → Bool → ℕ → Desk → ℕ → List Entry → Change → Plan → Type 0
+PlansLimitCall true there cap manager number past change plan = PlansLimit (nat_lt (length past) cap) past change plan
+PlansLimitCall false true cap manager number past change plan =
+    (plan.turn ≡ RepeatedRow number change) × (plan.asked ≡ None)
+PlansLimitCall false false cap manager number past change plan =
+    PlansQuiet 0 manager (WrongCall number Beyond) plan
+
 -- the later of today and the day of an order
 abbrev pub day_behind : ℕ → Order → ℕ
 day_behind today (orders.Day day) = if nat_lt today day then day else today
@@ -66,7 +74,11 @@ day_behind today order = today
 abbrev pub PlansOrder : ℕ → Desk → ℕ → List Entry → Order → Plan → Type 0
 PlansOrder cap manager today past (orders.Said meaning) plan = PlansQuiet 0 manager meaning plan
 PlansOrder cap manager today past (orders.Limit change) plan = PlansLimit (nat_lt (length past) cap) past change plan
+PlansOrder cap manager today past (orders.LimitCall number change) plan =
+    PlansLimitCall (number == calls_of past 0 + 1) (nat_le number (calls_of past 0)) cap manager number past change plan
 PlansOrder cap manager today past (orders.Refused fault) plan = (plan.turn ≡ Refused fault manager.lines) × (plan.asked ≡ None)
+PlansOrder cap manager today past (orders.RefusedCall number fault) plan =
+    (plan.turn ≡ RefusedCall fault number) × (plan.asked ≡ None)
 PlansOrder cap manager today past (orders.Day day) plan = (plan.turn ≡ Stands today) × (plan.asked ≡ None)
 PlansOrder cap manager today past orders.Stop plan = PlansQuiet 0 manager Nothing plan
 

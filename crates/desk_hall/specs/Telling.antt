@@ -1,5 +1,5 @@
 -- What a desk is told of the lines that were heard, its own and those of others.
-use Rattle.std.specs.Prelude.{◌≡◌, ◌⊎◌, ℕ, ◌==◌, Bool, true, false, List, [], ◌++◌, length, Option, Some, None, slice_get}
+use Rattle.std.specs.Prelude.{◌≡◌, ◌⊎◌, ℕ, ◌==◌, Bool, true, false, List, [], ◌++◌, codes, decimal, length, Option, Some, None, slice_get}
 use Rattle.airimp_lines.specs.declared.requests.Request.{Request as Wish}
 use Rattle.desk_answers.specs.FaultLines.{at_line, fault_line, full_line, wrong_call_line}
 use Rattle.desk_answers.specs.Saying.{SaysQuiet}
@@ -11,11 +11,13 @@ use Rattle.desk_hall.specs.declared.turn.Turn.{Turn}
 use Rattle.desk_answers.specs.Ready.{IsReadyLine}
 use Rattle.desk_hall.specs.Orders.{row_text}
 use Rattle.desk_hall.specs.declared.orders.RowFault.{RowFault}
-use Rattle.desk_hall.specs.declared.turn.Turn.TheVariants.{Line, Full, Repeated, Quiet, Refused, Stands}
+use Rattle.desk_hall.specs.declared.turn.Turn.TheVariants.{Line, Full, Repeated, RepeatedRow, Quiet, Refused, RefusedCall, Stands}
 use Rattle.seat_rules.specs.Journal.{calls_of}
 use Rattle.desk_telling.specs.Telling.{AreTold, Telling, told_of}
 use Rattle.ssim_flights.specs.declared.flight.Flight.{Flight as Flown}
+use Rattle.seat_journal.specs.declared.entry.Change.{Change}
 use Rattle.seat_journal.specs.declared.entry.Entry.{Entry}
+use Rattle.seat_journal.specs.declared.entry.Work.TheVariants.{Limit}
 use Rattle.seat_nesting.specs.Nesting.{Ladders}
 use Rattle.seat_scripts.specs.VeryRequest.{IsVeryRequest}
 
@@ -47,6 +49,21 @@ IsRepeatTo true flights journal asker number wish text =
     IsRepeat (call_line asker number journal) flights journal asker number wish text
 IsRepeatTo false flights journal asker number wish text = text ≡ []
 
+-- the same of the manager's row
+abbrev pub IsRowRepeatOf : List Flown → List Entry → ℕ → Entry → Change → List ℕ → Type 0
+IsRowRepeatOf flights journal number line change text =
+    ((Limit change ≡ line.work) × AreTold flights 0 (told_of journal 0 line) text)
+    ⊎ ((Limit change ≡ line.work → ⊥) × (text ≡ wrong_call_line faults.Other 0 number))
+
+abbrev pub IsRowRepeat : Option Entry → List Flown → List Entry → ℕ → Change → List ℕ → Type 0
+IsRowRepeat (Some line) flights journal number change text = IsRowRepeatOf flights journal number line change text
+IsRowRepeat None flights journal number change text = text ≡ wrong_call_line faults.Beyond 0 number
+
+abbrev pub IsRowRepeatTo : Bool → List Flown → List Entry → ℕ → Change → List ℕ → Type 0
+IsRowRepeatTo true flights journal number change text =
+    IsRowRepeat (call_line 0 number journal) flights journal number change text
+IsRowRepeatTo false flights journal number change text = text ≡ []
+
 -- what books nothing
 abbrev pub IsQuietTo : Bool → List Flown → Ladders → List Entry → ℕ → Desk → Meaning → List ℕ → Type 0
 IsQuietTo true flights grid journal asker desk meaning text =
@@ -61,6 +78,14 @@ abbrev pub refused_to : Bool → RowFault → ℕ → List ℕ
 refused_to true fault number = row_fault_line fault 0 number
 refused_to false fault number = []
 
+-- of a row that has the number of a call: @ and the number in place of the line
+abbrev pub row_call_line : RowFault → ℕ → ℕ → List ℕ
+row_call_line fault session call = fault_line (row_text fault ++ codes " " ++ decimal session ++ codes " @" ++ decimal call)
+
+abbrev pub refused_call_to : Bool → RowFault → ℕ → List ℕ
+refused_call_to true fault call = row_call_line fault 0 call
+refused_call_to false fault call = []
+
 -- and where it stands
 abbrev pub IsStanding : Bool → List Entry → ℕ → List ℕ → Type 0
 IsStanding true journal day text = IsReadyLine None 0 (length journal) (calls_of journal 0) day text
@@ -73,7 +98,10 @@ IsTurn flights grid journal session (Line place) text = AreTold flights session 
 IsTurn flights grid journal session (Full asker call) text = text ≡ full_to (asker == session) asker call
 IsTurn flights grid journal session (Repeated asker number wish) text =
     IsRepeatTo (asker == session) flights journal asker number wish text
+IsTurn flights grid journal session (RepeatedRow number change) text =
+    IsRowRepeatTo (session == 0) flights journal number change text
 IsTurn flights grid journal session (Quiet asker desk meaning) text =
     IsQuietTo (asker == session) flights grid journal asker desk meaning text
 IsTurn flights grid journal session (Refused fault number) text = text ≡ refused_to (session == 0) fault number
+IsTurn flights grid journal session (RefusedCall fault call) text = text ≡ refused_call_to (session == 0) fault call
 IsTurn flights grid journal session (Stands day) text = IsStanding (session == 0) journal day text

@@ -28,7 +28,7 @@ use airline_base::{Day, Memory};
 use desk_calls::CallIndex;
 use desk_lines::{Desk, Meaning, Standing, Wrong};
 use seat_disk::Tape;
-use seat_journal::Work;
+use seat_journal::{Change, Work};
 use seat_serving::{Asked, ServeFault, Serving};
 use ssim_flights::{Flights, Served};
 use std::alloc::Global;
@@ -187,11 +187,16 @@ impl<'a, D: Tape> Hall<'a, D> {
         }
     }
 
-    /// Hears a line of the manager with its end: another limit, which `answer` sets, a later day, or the end of it all. Whether the host goes
-    /// on. Where memory is wanting nothing comes of it.
+    /// Hears a line of the manager with its end: another limit, which `answer` sets, a later day, or the end of it all, but where it was said
+    /// ahead of the host's start. Whether the host goes on. Where memory is wanting nothing comes of it.
     #[tactic(auto, using(crate::proofs::Halls::ordered_by))]
-    pub fn hear_manager(&mut self, alloc: Global, line: &[u8]) -> Result<bool, Memory>
-        ensures ordered { IfOk result (IsOrdered self.old self.new line.now) }
+    pub fn hear_manager(
+        &mut self,
+        alloc: Global,
+        line: &[u8],
+        is_earlier: bool,
+    ) -> Result<bool, Memory>
+        ensures ordered { IfOk result (IsOrdered is_earlier self.old self.new line.now) }
         ensures memory { OnErr result (IsUnordered self.old self.new) }
         ensures unbooked { (self.new.serving ≡ self.old.serving) × (self.new.desks ≡ self.old.desks) }
     {
@@ -207,7 +212,7 @@ impl<'a, D: Tape> Hall<'a, D> {
             turns,
         } = self;
         manager.today = *today;
-        let order = order_of(alloc, served, manager, line)?;
+        let order = order_of(alloc, served, manager, line, is_earlier)?;
         let day = day_behind(*today, &order);
         let plan = plan_of_order(flights, serving, asked.as_slice(), manager, day, order);
         add(asked, turns, &plan)?;
@@ -332,6 +337,7 @@ fn add(asked: &mut Vec<Asked>, turns: &mut Vec<Turn>, plan: &Plan) -> Result<(),
     let _wrong: Option<Wrong> = None;
     let _kind: Option<ScriptKind> = None;
     let _fault: Option<LineFault> = None;
+    let _change: Option<Change> = None;
     let length = turns.len();
     push(turns, plan.turn)?;
     if add_asked(asked, plan.asked).is_ok() {

@@ -1,17 +1,18 @@
 //! What a line of the manager comes to behind the lines of the journal, and behind those that are asked for.
-ghost use Rattle.std.specs.Prelude.{◌≡◌, ◌≤◌, ◌<◌, ◌+◌, None, length, IfSome, nat_lt};
+ghost use Rattle.std.specs.Prelude.{◌≡◌, ◌==◌, ◌≤◌, ◌<◌, ◌+◌, None, length, IfSome, nat_le, nat_lt};
 ghost use Rattle.airline_base.specs.Days.{IsCenturyDay};
 ghost use Rattle.desk_hall.specs.Orders.{IsOfCentury, IsRightOrder};
-ghost use Rattle.desk_hall.specs.Planning.{PlansLimit, PlansOrder, day_behind, goes_on, limit_asked};
+ghost use Rattle.desk_hall.specs.Planning.{PlansLimit, PlansLimitCall, PlansOrder, day_behind, goes_on, limit_asked};
 ghost use Rattle.desk_hall.specs.declared.orders.Order.TheVariants as orders;
 ghost use Rattle.seat_desk.specs.Loading.{IsGridOf};
+ghost use Rattle.seat_rules.specs.Journal.{calls_of};
 ghost use Rattle.seat_serving.specs.Answering.{behind, IsRight};
 
 use crate::orders::Order;
 use crate::planning::{Plan, calls_behind, quiet};
 use crate::turn::Turn;
 use airline_base::Day;
-use desk_lines::{Desk, Meaning};
+use desk_lines::{Desk, Meaning, Wrong};
 use seat_disk::Tape;
 use seat_journal::{Change, Work};
 use seat_serving::{Asked, Serving};
@@ -37,7 +38,11 @@ pub(crate) fn plan_of_order<D: Tape>(
     match order {
         Order::Said(meaning) => quiet(0, manager, meaning),
         Order::Limit(change) => plan_limit(flights, serving, asked, change),
+        Order::LimitCall(number, change) => {
+            plan_limit_call(flights, serving, asked, manager, number, change)
+        }
         Order::Refused(fault) => unasked(Turn::Refused(fault, manager.lines)),
+        Order::RefusedCall(number, fault) => unasked(Turn::RefusedCall(fault, number)),
         Order::Day(_) => unasked(Turn::Stands(today)),
         Order::Stop => quiet(0, manager, Meaning::Nothing),
     }
@@ -73,6 +78,35 @@ fn plan_limit<D: Tape>(
         };
     }
     unasked(Turn::Full(0, calls_behind(serving, asked, 0) + 1))
+}
+
+// A numbered one is set where its number is that of the manager's next call.
+#[tactic(auto, using(crate::proofs::Ordered::limit_next, crate::proofs::Ordered::limit_there, crate::proofs::Ordered::limit_beyond))]
+fn plan_limit_call<D: Tape>(
+    flights: &Flights,
+    serving: &Serving<D>,
+    asked: &[Asked],
+    manager: &Desk,
+    number: u32,
+    change: Change,
+) -> Plan
+    requires grid { IsGridOf flights.now serving.now.grid }
+    requires right { IsRightOrder flights.now (orders.Limit change) }
+    requires room { length serving.now.journal + length asked.now ≤ serving.now.cap }
+    ensures right { IfSome result.asked (IsRight serving.now.grid) }
+    ensures room { IfSome result.asked (λ a. length serving.now.journal + length asked.now < serving.now.cap) }
+    ensures plans { PlansLimitCall (number == calls_of (behind serving.now.grid serving.now.journal asked.now) 0 + 1)
+        (nat_le number (calls_of (behind serving.now.grid serving.now.journal asked.now) 0)) serving.now.cap manager.now number
+        (behind serving.now.grid serving.now.journal asked.now) change result }
+{
+    let calls = calls_behind(serving, asked, 0);
+    if number == calls + 1 {
+        return plan_limit(flights, serving, asked, change);
+    }
+    if number <= calls {
+        return unasked(Turn::RepeatedRow(number, change));
+    }
+    quiet(0, manager, Meaning::WrongCall(number, Wrong::Beyond))
 }
 
 fn limit_asked(change: Change) -> Asked

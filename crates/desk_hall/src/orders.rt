@@ -1,13 +1,15 @@
 //! What a line of the manager asks for: another limit, a later day, or the end of it all.
-ghost use Rattle.std.specs.Prelude.{◌≡◌, ◌+◌, ◌≤◌, ◌<◌, ◌^◌, List, length, IfOk, IfSome};
+ghost use Rattle.std.specs.Prelude.{◌≡◌, ◌+◌, ◌≤◌, ◌<◌, ◌^◌, List, length, nat_lt, option_map, IfOk, IfSome};
 ghost use Rattle.seat_limits.specs.ChangeRows.{IsChangeText};
 ghost use Rattle.seat_scripts.specs.Changes.{change_of, wanted_by};
 ghost use Rattle.airline_base.specs.Days.{IsCenturyDay, civil_in};
-ghost use Rattle.desk_lines.specs.Lines.{is_word};
-ghost use Rattle.desk_hall.specs.Orders.{day_at, in_century, is_for_desk, iso_day_at, order_in, own_order, stop_at, IsOfCentury, IsOrder, IsRightOrder, IsRow};
+ghost use Rattle.desk_lines.specs.Calls.{call_at};
+ghost use Rattle.desk_lines.specs.Lines.{is_numbered, is_word};
+ghost use Rattle.desk_lines.specs.Words.{count_at};
+ghost use Rattle.desk_hall.specs.Orders.{day_at, in_century, is_for_desk, iso_day_at, numbered_meaning, order_in, own_order, stop_at, IsCallBy, IsNumbered, IsOfCentury, IsOrder, IsRightOrder, IsRow, IsUnnamed};
 ghost use Rattle.ssim_flights.specs.declared.flight.Flight.{Flight as Flown};
 
-use airline_base::fields::{two_are, two_value, word_of};
+use airline_base::fields::{byte_of, digits_of, two_are, two_value, value_of, word_of};
 use airline_base::lines::cut_line;
 use airline_base::{Day, Memory};
 use desk_lines::{Desk, Meaning, Standing, Wrong};
@@ -24,6 +26,9 @@ const LAST_DAY: u32 = 47_481;
 
 /// The most bytes of a line.
 const MOST_BYTES: usize = 256;
+
+/// The most digits of the number of a call.
+const MOST_DIGITS: usize = 6;
 
 /// Why a row of the manager is refused.
 #[derive(Clone, Copy, Debug, PartialEq, Eq)]
@@ -56,8 +61,12 @@ pub enum Order {
     Said(Meaning),
     /// Another limit.
     Limit(Change),
+    /// Another limit, as the call of this number.
+    LimitCall(u32, Change),
     /// A row that is refused.
     Refused(RowFault),
+    /// A row that is refused and has the number of this call.
+    RefusedCall(u32, RowFault),
     /// Lines are read on this day from then on, where it is later.
     Day(Day),
     /// The end.
@@ -65,25 +74,27 @@ pub enum Order {
 }
 
 /// What a line of the manager, with its end, asks for. Ahead of a `?HELLO` and of a word to the host the manager is a desk as any other.
+/// What was said ahead of the host's start ends nothing.
 pub(crate) fn order_of(
     alloc: Global,
     served: &Served<'_>,
     manager: &mut Desk,
     line: &[u8],
+    is_earlier: bool,
 ) -> Result<Order, Memory>
     requires today { IsCenturyDay manager.old.today }
-    ensures means { IfOk result (IsOrder served.now manager.old manager.new line.now) }
+    ensures means { IfOk result (IsOrder is_earlier served.now manager.old manager.new line.now) }
     ensures right { IfOk result (IsRightOrder served.now) }
     ensures century { IfOk result IsOfCentury }
 {
     if is_for_desk(manager.standing, line) {
         let meaning = manager.hear(line);
         let (text, _) = cut_line(line);
-        return Ok(order_in(text, meaning));
+        return Ok(order_in(is_earlier, text, meaning));
     }
     manager.lines = manager.lines.saturating_add(1);
     let (text, _) = cut_line(line);
-    row_order(alloc, served, text)
+    unnamed_order(alloc, served, text)
 }
 
 fn is_for_desk(standing: Standing, line: &[u8]) -> bool
@@ -102,24 +113,24 @@ fn is_word(line: &[u8]) -> bool
 }
 
 // What is no word of a desk may be one of the manager.
-fn order_in(text: &[u8], meaning: Meaning) -> Order
-    ensures value { result ≡ order_in text.now meaning }
+fn order_in(is_earlier: bool, text: &[u8], meaning: Meaning) -> Order
+    ensures value { result ≡ order_in is_earlier text.now meaning }
     ensures right { (flights : List Flown) → IsRightOrder flights result }
     ensures century { IsOfCentury result }
 {
     match meaning {
-        Meaning::Wrong(Wrong::Word) => own_order(text),
+        Meaning::Wrong(Wrong::Word) => own_order(is_earlier, text),
         _ => Order::Said(meaning),
     }
 }
 
 // A word that only the manager has.
-fn own_order(text: &[u8]) -> Order
-    ensures value { result ≡ own_order text.now }
+fn own_order(is_earlier: bool, text: &[u8]) -> Order
+    ensures value { result ≡ own_order is_earlier text.now }
     ensures right { (flights : List Flown) → IsRightOrder flights result }
     ensures century { IsOfCentury result }
 {
-    match stop(text) {
+    match stop(is_earlier, text) {
         Some(order) => order,
         None => match day_named(text) {
             Some(day) => Order::Day(day),
@@ -130,8 +141,8 @@ fn own_order(text: &[u8]) -> Order
 
 // `?STOP`
 #[tactic(auto, unfolding(crate::specs::Orders::stop_at))]
-fn stop(text: &[u8]) -> Option<Order>
-    ensures value { result ≡ stop_at text.now }
+fn stop(is_earlier: bool, text: &[u8]) -> Option<Order>
+    ensures value { result ≡ stop_at is_earlier text.now }
     ensures right { (flights : List Flown) → IfSome result (IsRightOrder flights) }
     ensures century { IfSome result IsOfCentury }
 {
@@ -140,6 +151,9 @@ fn stop(text: &[u8]) -> Option<Order>
     };
     if !rest.is_empty() {
         return None;
+    }
+    if is_earlier {
+        return Some(Order::Said(Meaning::Wrong(Wrong::NoHello)));
     }
     Some(Order::Stop)
 }
@@ -186,6 +200,97 @@ fn day_of(year: u8, month: u8, day: u8) -> Option<Day>
     ensures { result ≡ civil_in (2000 + year) month day }
 {
     Day::of(2000 + u16::from(year), month, day)
+}
+
+// What a line that is no word asks for: a row does, with the number of a call or without one.
+fn unnamed_order(alloc: Global, served: &Served<'_>, text: &[u8]) -> Result<Order, Memory>
+    ensures means { IfOk result (IsUnnamed (is_numbered text.now) served.now text.now) }
+    ensures right { IfOk result (IsRightOrder served.now) }
+    ensures century { IfOk result IsOfCentury }
+{
+    if is_numbered(text) {
+        return call_order(alloc, served, text);
+    }
+    row_order(alloc, served, text)
+}
+
+fn is_numbered(text: &[u8]) -> bool
+    ensures { result ≡ is_numbered text.now }
+{
+    match text {
+        [] => false,
+        [first, ..] => *first == b'@',
+    }
+}
+
+// The row behind the number of a call.
+#[tactic(auto, using(crate::proofs::Rows::called, crate::proofs::Rows::uncalled, crate::proofs::Rows::too_long))]
+fn call_order(alloc: Global, served: &Served<'_>, text: &[u8]) -> Result<Order, Memory>
+    ensures means { IfOk result (IsCallBy (nat_lt 256 (length text.now)) served.now text.now) }
+    ensures right { IfOk result (IsRightOrder served.now) }
+    ensures century { IfOk result IsOfCentury }
+{
+    if text.len() > MOST_BYTES {
+        return Ok(Order::Said(Meaning::Wrong(Wrong::TooLong)));
+    }
+    let Some((call, row)) = call_of(text) else {
+        return Ok(Order::Said(Meaning::Wrong(Wrong::Word)));
+    };
+    numbered_row(alloc, served, call, row)
+}
+
+// What the row asks for, as the call of this number.
+#[tactic(auto, using(crate::proofs::Rows::numbered))]
+fn numbered_row(alloc: Global, served: &Served<'_>, call: u32, row: &[u8]) -> Result<Order, Memory>
+    ensures means { IfOk result (IsNumbered served.now call row.now) }
+    ensures right { IfOk result (IsRightOrder served.now) }
+    ensures century { IfOk result IsOfCentury }
+{
+    let plain = row_order(alloc, served, row)?;
+    match plain {
+        Order::Said(meaning) => Ok(Order::Said(numbered_meaning(call, meaning))),
+        Order::Limit(change) => Ok(Order::LimitCall(call, change)),
+        Order::Refused(fault) => Ok(Order::RefusedCall(call, fault)),
+        _ => Ok(plain),
+    }
+}
+
+// `@17 `, and the row behind it.
+#[tactic(auto, unfolding(desk_lines::specs::Calls::call_at))]
+fn call_of(text: &[u8]) -> Option<(u32, &[u8])>
+    ensures { option_map (λ x. (x.0, x.1.now)) result ≡ call_at text.now }
+{
+    let Some(rest) = byte_of(b'@', text) else {
+        return None;
+    };
+    let Some((call, rest)) = count_of(rest) else {
+        return None;
+    };
+    let Some(row) = byte_of(b' ', rest) else {
+        return None;
+    };
+    Some((call, row))
+}
+
+#[tactic(auto, unfolding(desk_lines::specs::Words::count_at))]
+fn count_of(bytes: &[u8]) -> Option<(u32, &[u8])>
+    ensures { option_map (λ x. (x.0, x.1.now)) result ≡ count_at bytes.now }
+{
+    let (digits, rest) = digits_of(bytes);
+    if digits.is_empty() || digits.len() > MOST_DIGITS {
+        return None;
+    }
+    Some((value_of(digits), rest))
+}
+
+// Only a row has a number.
+fn numbered_meaning(call: u32, meaning: Meaning) -> Meaning
+    ensures { result ≡ numbered_meaning call meaning }
+{
+    match meaning {
+        Meaning::Nothing => Meaning::WrongCall(call, Wrong::Word),
+        _ => meaning,
+    }
 }
 
 // The row of a line, on the one leg that serves it.

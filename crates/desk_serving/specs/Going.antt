@@ -28,9 +28,9 @@ pub record Fails {D : Type 0} (seen : D → Option (List ℕ)) (leaves : D → L
   pub device : fault ≡ Device → failures new.tape ≡ noted (failures old.tape)
 
 -- the manager's line, or that of a session's desk, is heard
-abbrev pub IsHeardAs : {D : Type 0} → Bool → Hallful D → Hallful D → ℕ → List ℕ → Bool → Type 0
-IsHeardAs true old new session line goes = IsOrdered old new line goes
-IsHeardAs false old new session line goes = IsHeardBy old new session line × (goes ≡ true)
+abbrev pub IsHeardAs : {D : Type 0} → Bool → Bool → Hallful D → Hallful D → ℕ → List ℕ → Bool → Type 0
+IsHeardAs true is_earlier old new session line goes = IsOrdered is_earlier old new line goes
+IsHeardAs false is_earlier old new session line goes = IsHeardBy old new session line × (goes ≡ true)
 
 -- a word to the host that is no look: it begins with ? and no blank
 abbrev pub is_apart : List ℕ → Bool

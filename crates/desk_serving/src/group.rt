@@ -112,7 +112,7 @@ fn hear_one<R: Wait, D: Tape>(
     if session > hall.count() {
         return Ok(true);
     }
-    if let Ok(goes_on) = hear(alloc, hall, session, one.line.as_slice()) {
+    if let Ok(goes_on) = hear(alloc, hall, session, one.line.as_slice(), one.is_earlier) {
         return Ok(goes_on);
     }
     let text = memory_line(session, hall.lines_of(session));
@@ -131,14 +131,15 @@ fn hear<D: Tape>(
     hall: &mut Hall<'_, D>,
     session: u8,
     line: &[u8],
+    is_earlier: bool,
 ) -> Result<bool, Memory>
     requires session { session ≤ length hall.old.desks }
-    ensures heard { IfOk result (IsHeardAs (session == 0) hall.old hall.new session line.now) }
+    ensures heard { IfOk result (IsHeardAs (session == 0) is_earlier hall.old hall.new session line.now) }
     ensures same { hall.new.serving ≡ hall.old.serving }
     ensures count { length hall.new.desks ≡ length hall.old.desks }
 {
     if session == 0 {
-        return hall.hear_manager(alloc, line);
+        return hall.hear_manager(alloc, line, is_earlier);
     }
     hall.hear(session, line)?;
     Ok(true)

@@ -413,7 +413,7 @@ const SCRIPTS: &[Explanation] = &[
         behind: "",
         code: "H2",
         numbers: DESK,
-        text: "A line of the desk begins with ? or @, and is neither a word to the host nor a numbered segment line. The words are:\n? LZ601Q27JUL LHRKEF, which looks at a class, ? 27JUL LHRKEF, which looks at each flight of that day, ?AGAIN 25, which asks\nfor what concerns the session behind line 25 once more, ?HELLO K7M2QP, with which a client begins, and ?BYE, with which\nthe desk goes. A numbered line is @17 LZ601Q27JUL LHRKEF NN2: only a segment line of a message has a number.",
+        text: "A line of the desk begins with ? or @, and is neither a word to the host nor a numbered segment line. The words are:\n? LZ601Q27JUL LHRKEF, which looks at a class, ? 27JUL LHRKEF, which looks at each flight of that day, ?AGAIN 25, which asks\nfor what concerns the session behind line 25 once more, ?HELLO K7M2QP, with which a client begins, and ?BYE, with which\nthe desk goes. A numbered line is @17 LZ601Q27JUL LHRKEF NN2: only a segment line of a message has a number, and of the manager's lines a row.",
     },
     Explanation {
         behind: "",
@@ -431,7 +431,7 @@ const SCRIPTS: &[Explanation] = &[
         behind: "",
         code: "H5",
         numbers: DESK,
-        text: "Nobody has said ?HELLO on this pipe to this host yet. A line ahead of it may be the rest of one that was cut, so nothing is heard.",
+        text: "Nobody has said ?HELLO on this pipe to this host yet. A line ahead of it may be the rest of one that was cut, so nothing is heard.\nOf ?STOP: it was said ahead of this host's start, perhaps to the one before it. Say it again.",
     },
     Explanation {
         behind: "",
