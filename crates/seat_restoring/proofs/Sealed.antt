@@ -1,10 +1,15 @@
 -- The seals of a journal that is ended.
-use Rattle.std.proofs.Common.{◌≡◌, ℕ, ◌<◌, ◌++◌, false, List, [], ◌∷◌, length, take, ap, refl, sym, subst, ◌∙◌, arith, append-nil}
+use Rattle.std.proofs.Common.{◌≡◌, ℕ, ◌<◌, ◌++◌, Bool, true, false, nat_lt, List, [], ◌∷◌, length, take, ap, refl, sym, subst, ◌∙◌, arith, append-nil}
+use Rattle.std.specs.Prelude.{◌&&◌}
+use Rattle.std.proofs.Math.Bool.{or-false}
+use Rattle.std.proofs.lemmas.Bool.Decides.{nat_tests}
 use Rattle.seat_journal.specs.declared.entry.Entry.{Entry}
 use Rattle.seat_rules.specs.Inventory.{Inventory}
 use Rattle.seat_recovery.specs.declared.rest.Rest.{Rest}
 use Rattle.seat_recovery.specs.declared.rest.Rest.TheVariants as rests
 use Rattle.seat_recovery.specs.OpenText.{open_text}
+use Rattle.seat_seal.specs.Booked.{begins_with, is_booked}
+use Rattle.seat_seal.specs.Comparing.{same_imprint}
 use Rattle.seat_seal.specs.Imprints.{imprint_of}
 use Rattle.seat_seal.specs.Reading.{two_entries}
 use Rattle.seat_seal.specs.Rules.{is_seal}
@@ -53,6 +58,13 @@ pub text_is_head : (core : Inventory) (file head : List ℕ) (len : ℕ) (rest :
 text_is_head core file head len rest found is_head some =
     let none : take len file ≡ [] = some_head core file len rest found (subst (λ (h : List ℕ). 0 < length h) is_head some) in
     ap (λ (t : List ℕ). t ++ head) (sym none) ∙ lines_are core file (take len file) head len rest found refl is_head
+
+-- a text begins with what was sealed, of which there is a byte, where it does so with the one imprint
+pub begins_by : (i : Imprint) (text : List ℕ) (r : Bool) → (i.bytes ≡ 0 → ⊥) → r ≡ is_booked (i ∷ []) text
+    → r ≡ same_imprint i (imprint_of (take i.bytes text))
+begins_by i text r some is =
+    let lt : nat_lt 0 i.bytes ≡ true = grind (arith, nat_tests, some) in
+    is ∙ or-false (begins_with text i) ∙ ap (λ (b : Bool). b && same_imprint i (imprint_of (take i.bytes text))) lt
 
 pub over : (state : JournalState) (beside : Beside) (basis : Basis) (file : List ℕ) (journal : List Entry) (imprint : Imprint) (lines : ℕ)
     (runs : List Run) (entry : Belonging) → imprint ≡ imprint_of (open_text journal) → lines ≡ length journal

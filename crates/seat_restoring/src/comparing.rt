@@ -1,6 +1,9 @@
 //! What stands beside a journal that is recovered, ahead of what is found in it and behind that.
 //! It knows seals by their faults and their entries, and no file.
-ghost use Rattle.std.specs.Prelude.{◌≡◌, ◌≢◌, IfErr, IsTrue, OnOk, Some};
+ghost use Rattle.std.specs.Prelude.{◌≡◌, ◌≢◌, IfErr, IfOk, IsTrue, OnOk, Some};
+ghost use Rattle.seat_recovery.specs.OpenText.{open_text};
+ghost use Rattle.seat_seal.specs.Comparing.{begins_sealed};
+ghost use Rattle.seat_seal.specs.Imprints.{imprint_of};
 ghost use Rattle.seat_serving.specs.GoingOn.{IsFoundIn};
 ghost use Rattle.seat_restoring.specs.Comparing.{Differs, HasOneEntry, IsFaultAhead, IsOneEntry, Passes, is_passed};
 ghost use Rattle.seat_restoring.specs.Found.{KeepsSealed, LosesSealed, has_sealed};
@@ -9,8 +12,8 @@ use crate::sealing::text_of;
 use seat_desk::DeskFault;
 use seat_recovery::Recovered;
 use seat_seal::{
-    Basis, Beside, Seal, SealEntry, SealFault, Sealed, begins_sealed, fault_beside, known_of,
-    read_seal,
+    Basis, Beside, Imprint, Seal, SealEntry, SealFault, Sealed, SealedJournal, begins_sealed,
+    fault_beside, imprint_beside, imprint_of, known_of, read_seal,
 };
 
 /// Refuses a journal where what stands beside it is no seal, or one of another set, other limits or other days. Whether what is found of
@@ -88,6 +91,49 @@ pub fn keeps_sealed(seal: &Beside<'_>, bytes: &[u8], found: &Recovered) -> Resul
         return Ok(());
     }
     Err(DeskFault::Seal(SealFault::Journal))
+}
+
+/// The same, and the imprint of the head and the lines that were found, of which each byte is digested once.
+pub fn sealed_imprint(
+    seal: &Beside<'_>,
+    bytes: &[u8],
+    found: &Recovered,
+) -> Result<Imprint, DeskFault>
+    requires found { IsFoundIn found.now.core bytes.now found.now.len found.now.rest }
+    ensures ok { OnOk result (KeepsSealed seal.now bytes.now found.now.core.journal) }
+    ensures imprint { IfOk result (λ i. i ≡ imprint_of (open_text found.now.core.journal)) }
+    ensures fault { IfErr result (LosesSealed seal.now bytes.now found.now.core.journal) }
+    ensures kind { IfErr result (λ f. (f ≢ DeskFault.Device) × (f ≢ DeskFault.TooLarge)) }
+{
+    let entry = known_of(seal, bytes);
+    let (imprint, has_sealed) = imprint_and_sealed(&entry, text_of(bytes, found));
+    if has_sealed {
+        return Ok(imprint);
+    }
+    Err(DeskFault::Seal(SealFault::Journal))
+}
+
+/// The imprint of the text, and whether it begins with what was sealed.
+fn imprint_and_sealed(known: &Option<Sealed>, text: &[u8]) -> (Imprint, bool)
+    ensures imprint { result.0 ≡ imprint_of text.now }
+    ensures sealed { result.1 ≡ has_sealed known.now text.now }
+{
+    match known {
+        Some(entry) => imprint_behind(&entry.journal, text),
+        None => (imprint_of(text), true),
+    }
+}
+
+/// The same, of what was sealed. Only where that has no byte is it digested by itself.
+#[tactic(auto, using(crate::proofs::Sealed::begins_by))]
+fn imprint_behind(sealed: &SealedJournal, text: &[u8]) -> (Imprint, bool)
+    ensures imprint { result.0 ≡ imprint_of text.now }
+    ensures sealed { result.1 ≡ begins_sealed sealed.now text.now }
+{
+    if sealed.imprint.bytes == 0 {
+        return (imprint_of(text), begins_sealed(sealed, text));
+    }
+    imprint_beside(text, &[sealed.imprint])
 }
 
 /// Whether the text begins with what was sealed, as the entry says that is compared.

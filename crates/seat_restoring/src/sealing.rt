@@ -15,23 +15,24 @@ use seat_seal::{
 use seat_sealing::{SealTexts, may_be_sealed, seal_texts};
 use seat_serving::head_for;
 
-/// The texts of the seals that are written as a file with these bytes is ended, unless no seal may have their entries.
+/// The texts of the seals that are written as a file with these bytes is ended, by the imprint of the head and the lines that were
+/// found, unless no seal may have their entries.
 pub fn seals_of(
     seal: &Beside<'_>,
     basis: &Basis,
     bytes: &[u8],
     found: &Recovered,
+    imprint: &Imprint,
 ) -> Option<SealTexts>
-    requires found { IsFoundIn found.now.core bytes.now found.now.len found.now.rest }
+    requires imprint { imprint.now ≡ imprint_of (open_text found.now.core.journal) }
     ensures seals { IfSome result (λ t. AreSeals seal.now basis.now bytes.now found.now.core.journal t.both.items t.alone.items) }
     ensures none { IfNone result (AreUnsealable seal.now basis.now bytes.now found.now.core.journal) }
 {
-    let imprint = imprint_of_lines(bytes, found);
     let lines = count_of(found);
     let runs = runs_over(seal, bytes, lines);
-    let newer = closed_over(basis, &imprint, lines, runs);
+    let newer = closed_over(basis, imprint, lines, runs);
     let more = runs_over(seal, bytes, lines);
-    let begun = open_over(basis, &imprint, lines, more);
+    let begun = open_over(basis, imprint, lines, more);
     let older = SealEntry::Sealed(begun);
     if !may_be_sealed(&older, &newer) {
         return None;
