@@ -7,6 +7,16 @@ use Rattle.clap.specs.Words.{Row, Text, all_of, first_of}
 use Rattle.seat_words.specs.declared.job.Horizon.{Horizon}
 use Rattle.seat_words.specs.declared.job.Job.{Job}
 use Rattle.seat_words.specs.declared.job.Shape.{Shape}
+use Rattle.seat_words.specs.declared.job.RoomsJob.{RoomsJob}
+use Rattle.seat_words.specs.declared.job.LoadsJob.{LoadsJob}
+use Rattle.seat_words.specs.declared.job.RunJob.{RunJob}
+use Rattle.seat_words.specs.declared.job.ServeJob.{ServeJob}
+use Rattle.seat_words.specs.declared.job.BookingsJob.{BookingsJob}
+use Rattle.seat_words.specs.declared.job.WaitingJob.{WaitingJob}
+use Rattle.seat_words.specs.declared.job.HistoryJob.{HistoryJob}
+use Rattle.seat_words.specs.declared.job.AuditJob.{AuditJob}
+use Rattle.seat_words.specs.declared.job.RepliesJob.{RepliesJob}
+use Rattle.seat_words.specs.declared.job.ToldJob.{ToldJob}
 use Rattle.seat_words.specs.declared.job.Job.TheVariants.{Ladder, Check, Flights, Cover, Rooms, Loads, Run, Serve, Bookings, Waiting, History, Audit, Seal, Recover, Replies, Told, Why, Explain}
 
 -- a command that clap found in the words, and what it found of the command's values
@@ -14,23 +24,23 @@ abbrev pub Line : Type 0
 Line = Text × List Row
 
 -- clap found this value of an option, or by its place
-abbrev pub Has : Line → Text → Text → Type 0
-Has line id text = first_of id line.1 ≡ Some text
+abbrev pub Has : List Row → Text → Text → Type 0
+Has rows id text = first_of id rows ≡ Some text
 
 -- clap found this value of an option, or none where there is none
-abbrev pub MayHave : Line → Text → Option Text → Type 0
-MayHave line id text = first_of id line.1 ≡ text
+abbrev pub MayHave : List Row → Text → Option Text → Type 0
+MayHave rows id text = first_of id rows ≡ text
 
 -- clap found these values, by their place or of an option, or none where there is none
-abbrev pub HasAny : Line → Text → List Text → Type 0
-HasAny line id texts = unwrap_or (all_of id line.1) [] ≡ texts
+abbrev pub HasAny : List Row → Text → List Text → Type 0
+HasAny rows id texts = unwrap_or (all_of id rows) [] ≡ texts
 
 -- the flag is among the words
 abbrev pub is_flagged : Text → List Row → Bool
 is_flagged id rows = option_map_or (λ text. bytes_eq text (codes "true")) (first_of id rows) false
 
-abbrev pub HasFlag : Line → Text → Bool → Type 0
-HasFlag line id is_there = is_flagged id line.1 ≡ is_there
+abbrev pub HasFlag : List Row → Text → Bool → Type 0
+HasFlag rows id is_there = is_flagged id rows ≡ is_there
 
 -- -v is among the words ahead of the command, or behind it
 abbrev pub is_verbose : List Row → Option Line → Bool
@@ -48,111 +58,132 @@ IsOver rows over = (first_of (codes "set") rows ≡ Some over.set.now)
 abbrev pub IsShaped : List Row → Shape → Type 0
 IsShaped rows shape = (is_flagged (codes "csv") rows ≡ shape.csv) × (is_flagged (codes "json") rows ≡ shape.json)
 
+-- what each of the longer commands asks for
+abbrev pub IsRooms : List Row → RoomsJob → Type 0
+IsRooms rows asked = IsOver rows asked.over
+    × MayHave rows (codes "day") (option_map (λ text. text.now) asked.day)
+    × MayHave rows (codes "pair") (option_map (λ text. text.now) asked.pair)
+    × HasFlag rows (codes "bars") asked.bars
+    × IsShaped rows asked.shape
+    × HasFlag rows (codes "open") asked.is_open
+    × MayHave rows (codes "journal") (option_map (λ text. text.now) asked.journal)
+
+abbrev pub IsLoads : List Row → LoadsJob → Type 0
+IsLoads rows asked = IsOver rows asked.over
+    × MayHave rows (codes "flight") (option_map (λ text. text.now) asked.flight)
+    × MayHave rows (codes "day") (option_map (λ text. text.now) asked.day)
+    × MayHave rows (codes "pair") (option_map (λ text. text.now) asked.pair)
+    × MayHave rows (codes "by") (option_map (λ text. text.now) asked.by)
+    × HasFlag rows (codes "bars") asked.bars
+    × IsShaped rows asked.shape
+    × HasFlag rows (codes "open") asked.is_open
+    × MayHave rows (codes "journal") (option_map (λ text. text.now) asked.journal)
+
+abbrev pub IsRun : List Row → RunJob → Type 0
+IsRun rows asked = IsOver rows asked.over
+    × MayHave rows (codes "after") (option_map (λ text. text.now) asked.after)
+    × MayHave rows (codes "behind") (option_map (λ text. text.now) asked.behind)
+    × MayHave rows (codes "resume") (option_map (λ text. text.now) asked.resume)
+    × Has rows (codes "today") asked.today.now
+    × Has rows (codes "journal") asked.journal.now
+    × MayHave rows (codes "changes") (option_map (λ text. text.now) asked.changes)
+    × HasFlag rows (codes "no-clobber") asked.no_clobber
+    × HasFlag rows (codes "again") asked.again
+    × HasAny rows (codes "scripts") asked.scripts
+
+abbrev pub IsServe : List Row → ServeJob → Type 0
+IsServe rows asked = IsOver rows asked.over
+    × Has rows (codes "today") asked.today.now
+    × Has rows (codes "journal") asked.journal.now
+    × HasAny rows (codes "desk") asked.desks
+    × MayHave rows (codes "manager") (option_map (λ text. text.now) asked.manager)
+
+abbrev pub IsBookings : List Row → BookingsJob → Type 0
+IsBookings rows asked = IsOver rows asked.over
+    × HasAny rows (codes "locator") asked.locators
+    × MayHave rows (codes "flight") (option_map (λ text. text.now) asked.flight)
+    × MayHave rows (codes "day") (option_map (λ text. text.now) asked.day)
+    × IsShaped rows asked.shape
+    × HasFlag rows (codes "open") asked.is_open
+    × Has rows (codes "journal") asked.journal.now
+
+abbrev pub IsWaiting : List Row → WaitingJob → Type 0
+IsWaiting rows asked = IsOver rows asked.over
+    × MayHave rows (codes "flight") (option_map (λ text. text.now) asked.flight)
+    × MayHave rows (codes "day") (option_map (λ text. text.now) asked.day)
+    × IsShaped rows asked.shape
+    × HasFlag rows (codes "open") asked.is_open
+    × Has rows (codes "journal") asked.journal.now
+
+abbrev pub IsHistory : List Row → HistoryJob → Type 0
+IsHistory rows asked = IsOver rows asked.over
+    × Has rows (codes "locator") asked.locator.now
+    × IsShaped rows asked.shape
+    × HasFlag rows (codes "open") asked.is_open
+    × Has rows (codes "journal") asked.journal.now
+
+abbrev pub IsAudit : List Row → AuditJob → Type 0
+IsAudit rows asked = IsOver rows asked.over
+    × MayHave rows (codes "after") (option_map (λ text. text.now) asked.after)
+    × MayHave rows (codes "behind") (option_map (λ text. text.now) asked.behind)
+    × MayHave rows (codes "today") (option_map (λ text. text.now) asked.today)
+    × HasFlag rows (codes "sealed") asked.sealed
+    × HasFlag rows (codes "open") asked.is_open
+    × HasFlag rows (codes "shards") asked.are_shards
+    × Has rows (codes "journal") asked.journal.now
+    × HasAny rows (codes "scripts") asked.scripts
+
+abbrev pub IsReplies : List Row → RepliesJob → Type 0
+IsReplies rows asked = IsOver rows asked.over
+    × MayHave rows (codes "after") (option_map (λ text. text.now) asked.after)
+    × MayHave rows (codes "behind") (option_map (λ text. text.now) asked.behind)
+    × Has rows (codes "today") asked.today.now
+    × MayHave rows (codes "session") (option_map (λ text. text.now) asked.session)
+    × MayHave rows (codes "from") (option_map (λ text. text.now) asked.from)
+    × Has rows (codes "journal") asked.journal.now
+    × HasAny rows (codes "scripts") asked.scripts
+
+abbrev pub IsTold : List Row → ToldJob → Type 0
+IsTold rows asked = IsOver rows asked.over
+    × Has rows (codes "desk") asked.desk.now
+    × MayHave rows (codes "from") (option_map (λ text. text.now) asked.from)
+    × HasFlag rows (codes "open") asked.is_open
+    × Has rows (codes "journal") asked.journal.now
+
 -- the job is the command that was named, with the values that clap found
 abbrev pub Asks : Job → Line → Type 0
 Asks Ladder line = line.0 ≡ codes "ladder"
-Asks (Check set) line = (line.0 ≡ codes "check") × Has line (codes "set") set.now
+Asks (Check set) line = (line.0 ≡ codes "check") × Has line.1 (codes "set") set.now
 Asks (Flights set first days) line = (line.0 ≡ codes "flights")
-    × Has line (codes "set") set.now
-    × Has line (codes "first") first.now
-    × Has line (codes "days") days.now
+    × Has line.1 (codes "set") set.now
+    × Has line.1 (codes "first") first.now
+    × Has line.1 (codes "days") days.now
 Asks (Cover over) line = (line.0 ≡ codes "cover") × IsOver line.1 over
-Asks (Rooms over day pair bars shape is_open journal) line = (line.0 ≡ codes "rooms")
-    × IsOver line.1 over
-    × MayHave line (codes "day") (option_map (λ text. text.now) day)
-    × MayHave line (codes "pair") (option_map (λ text. text.now) pair)
-    × HasFlag line (codes "bars") bars
-    × IsShaped line.1 shape
-    × HasFlag line (codes "open") is_open
-    × MayHave line (codes "journal") (option_map (λ text. text.now) journal)
-Asks (Loads over flight day pair by bars shape is_open journal) line = (line.0 ≡ codes "loads")
-    × IsOver line.1 over
-    × MayHave line (codes "flight") (option_map (λ text. text.now) flight)
-    × MayHave line (codes "day") (option_map (λ text. text.now) day)
-    × MayHave line (codes "pair") (option_map (λ text. text.now) pair)
-    × MayHave line (codes "by") (option_map (λ text. text.now) by)
-    × HasFlag line (codes "bars") bars
-    × IsShaped line.1 shape
-    × HasFlag line (codes "open") is_open
-    × MayHave line (codes "journal") (option_map (λ text. text.now) journal)
-Asks (Run over after behind resume today journal changes no_clobber again scripts) line = (line.0 ≡ codes "run")
-    × IsOver line.1 over
-    × MayHave line (codes "after") (option_map (λ text. text.now) after)
-    × MayHave line (codes "behind") (option_map (λ text. text.now) behind)
-    × MayHave line (codes "resume") (option_map (λ text. text.now) resume)
-    × Has line (codes "today") today.now
-    × Has line (codes "journal") journal.now
-    × MayHave line (codes "changes") (option_map (λ text. text.now) changes)
-    × HasFlag line (codes "no-clobber") no_clobber
-    × HasFlag line (codes "again") again
-    × HasAny line (codes "scripts") scripts
-Asks (Serve over today journal desks manager) line = (line.0 ≡ codes "serve")
-    × IsOver line.1 over
-    × Has line (codes "today") today.now
-    × Has line (codes "journal") journal.now
-    × HasAny line (codes "desk") desks
-    × MayHave line (codes "manager") (option_map (λ text. text.now) manager)
-Asks (Bookings over locators flight day shape is_open journal) line = (line.0 ≡ codes "bookings")
-    × IsOver line.1 over
-    × HasAny line (codes "locator") locators
-    × MayHave line (codes "flight") (option_map (λ text. text.now) flight)
-    × MayHave line (codes "day") (option_map (λ text. text.now) day)
-    × IsShaped line.1 shape
-    × HasFlag line (codes "open") is_open
-    × Has line (codes "journal") journal.now
-Asks (Waiting over flight day shape is_open journal) line = (line.0 ≡ codes "waiting")
-    × IsOver line.1 over
-    × MayHave line (codes "flight") (option_map (λ text. text.now) flight)
-    × MayHave line (codes "day") (option_map (λ text. text.now) day)
-    × IsShaped line.1 shape
-    × HasFlag line (codes "open") is_open
-    × Has line (codes "journal") journal.now
-Asks (History over locator shape is_open journal) line = (line.0 ≡ codes "history")
-    × IsOver line.1 over
-    × Has line (codes "locator") locator.now
-    × IsShaped line.1 shape
-    × HasFlag line (codes "open") is_open
-    × Has line (codes "journal") journal.now
-Asks (Audit over after behind today sealed is_open are_shards journal scripts) line = (line.0 ≡ codes "audit")
-    × IsOver line.1 over
-    × MayHave line (codes "after") (option_map (λ text. text.now) after)
-    × MayHave line (codes "behind") (option_map (λ text. text.now) behind)
-    × MayHave line (codes "today") (option_map (λ text. text.now) today)
-    × HasFlag line (codes "sealed") sealed
-    × HasFlag line (codes "open") is_open
-    × HasFlag line (codes "shards") are_shards
-    × Has line (codes "journal") journal.now
-    × HasAny line (codes "scripts") scripts
+Asks (Rooms asked) line = (line.0 ≡ codes "rooms") × IsRooms line.1 asked
+Asks (Loads asked) line = (line.0 ≡ codes "loads") × IsLoads line.1 asked
+Asks (Run asked) line = (line.0 ≡ codes "run") × IsRun line.1 asked
+Asks (Serve asked) line = (line.0 ≡ codes "serve") × IsServe line.1 asked
+Asks (Bookings asked) line = (line.0 ≡ codes "bookings") × IsBookings line.1 asked
+Asks (Waiting asked) line = (line.0 ≡ codes "waiting") × IsWaiting line.1 asked
+Asks (History asked) line = (line.0 ≡ codes "history") × IsHistory line.1 asked
+Asks (Audit asked) line = (line.0 ≡ codes "audit") × IsAudit line.1 asked
 Asks (Seal over journal) line = (line.0 ≡ codes "seal")
     × IsOver line.1 over
-    × Has line (codes "journal") journal.now
+    × Has line.1 (codes "journal") journal.now
 Asks (Recover over cut journal) line = (line.0 ≡ codes "recover")
     × IsOver line.1 over
-    × HasFlag line (codes "cut") cut
-    × Has line (codes "journal") journal.now
-Asks (Replies over after behind today session from journal scripts) line = (line.0 ≡ codes "replies")
-    × IsOver line.1 over
-    × MayHave line (codes "after") (option_map (λ text. text.now) after)
-    × MayHave line (codes "behind") (option_map (λ text. text.now) behind)
-    × Has line (codes "today") today.now
-    × MayHave line (codes "session") (option_map (λ text. text.now) session)
-    × MayHave line (codes "from") (option_map (λ text. text.now) from)
-    × Has line (codes "journal") journal.now
-    × HasAny line (codes "scripts") scripts
-Asks (Told over desk from is_open journal) line = (line.0 ≡ codes "told")
-    × IsOver line.1 over
-    × Has line (codes "desk") desk.now
-    × MayHave line (codes "from") (option_map (λ text. text.now) from)
-    × HasFlag line (codes "open") is_open
-    × Has line (codes "journal") journal.now
+    × HasFlag line.1 (codes "cut") cut
+    × Has line.1 (codes "journal") journal.now
+Asks (Replies asked) line = (line.0 ≡ codes "replies") × IsReplies line.1 asked
+Asks (Told asked) line = (line.0 ≡ codes "told") × IsTold line.1 asked
 Asks (Why over line_word is_open journal) line = (line.0 ≡ codes "why")
     × IsOver line.1 over
-    × Has line (codes "line") line_word.now
-    × HasFlag line (codes "open") is_open
-    × Has line (codes "journal") journal.now
+    × Has line.1 (codes "line") line_word.now
+    × HasFlag line.1 (codes "open") is_open
+    × Has line.1 (codes "journal") journal.now
 Asks (Explain code numbers) line = (line.0 ≡ codes "explain")
-    × Has line (codes "code") code.now
-    × HasAny line (codes "numbers") numbers
+    × Has line.1 (codes "code") code.now
+    × HasAny line.1 (codes "numbers") numbers
 
 -- ---- what the reading itself needs
 

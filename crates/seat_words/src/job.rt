@@ -1,10 +1,10 @@
 //! What the command line asks for.
-ghost use Rattle.std.specs.Prelude.{◌≡◌, [], IfOk, IfErr, IsSomeAnd, Some, is_some, option_map, true, unwrap_or};
+ghost use Rattle.std.specs.Prelude.{◌≡◌, [], IfOk, IfErr, IsSomeAnd, Some, codes, is_some, option_map, true, unwrap_or};
 ghost use Rattle.clap.specs.Walk.{texts};
 ghost use Rattle.clap.specs.Words.{FailsBy, all_of, fault_of, first_of, found_of, kind_of, matches_of, rows_of, subcommand_of, subcommand_rows_of, takes};
 ghost use Rattle.clap.specs.declared.error.kind.ErrorKind.TheVariants.{InvalidValue, OutOfMemory};
 ghost use Rattle.seat_words.specs.CommandLine.{seatdesk_app};
-ghost use Rattle.seat_words.specs.Jobs.{Asks, IsOver, IsShaped, has_values, horizon_values, is_answerable, is_complete, is_flagged, is_verbose};
+ghost use Rattle.seat_words.specs.Jobs.{Asks, IsAudit, IsBookings, IsHistory, IsLoads, IsOver, IsReplies, IsRooms, IsRun, IsServe, IsShaped, IsTold, IsWaiting, has_values, horizon_values, is_answerable, is_complete, is_flagged, is_verbose};
 
 use super::commands::seatdesk_command;
 use super::several::Several;
@@ -48,94 +48,23 @@ pub enum Job<'a> {
         over: Horizon<'a>,
     },
     /// `seatdesk rooms` over a horizon `[--day DATE] [--pair PAIR] [--bars] [--csv] [--json] [--open] [JOURNAL]`
-    Rooms {
-        over: Horizon<'a>,
-        day: Option<&'a str>,
-        pair: Option<&'a str>,
-        bars: bool,
-        shape: Shape,
-        is_open: bool,
-        journal: Option<&'a str>,
-    },
+    Rooms(RoomsJob<'a>),
     /// `seatdesk loads` over a horizon `[--flight FLIGHT] [--day DATE] [--pair PAIR] [--by BY] [--bars] [--csv] [--json] [--open]
     /// [JOURNAL]`
-    Loads {
-        over: Horizon<'a>,
-        flight: Option<&'a str>,
-        day: Option<&'a str>,
-        pair: Option<&'a str>,
-        by: Option<&'a str>,
-        bars: bool,
-        shape: Shape,
-        is_open: bool,
-        journal: Option<&'a str>,
-    },
+    Loads(LoadsJob<'a>),
     /// `seatdesk run` over a horizon `[--after JOURNAL] [--behind N] [--resume JOURNAL] --today DATE --journal OUT [--changes FILE]
     /// [--no-clobber] [--again] [SCRIPT...]`
-    Run {
-        over: Horizon<'a>,
-        after: Option<&'a str>,
-        behind: Option<&'a str>,
-        resume: Option<&'a str>,
-        today: &'a str,
-        journal: &'a str,
-        changes: Option<&'a str>,
-        no_clobber: bool,
-        again: bool,
-        /// None or more.
-        scripts: Several<'a>,
-    },
+    Run(RunJob<'a>),
     /// `seatdesk serve` over a horizon `--today DATE --journal JOURNAL --desk DESK... [--manager PIPES]`
-    Serve {
-        over: Horizon<'a>,
-        today: &'a str,
-        journal: &'a str,
-        /// None or more.
-        desks: Several<'a>,
-        manager: Option<&'a str>,
-    },
+    Serve(ServeJob<'a>),
     /// `seatdesk bookings` over a horizon `[--locator LOCATOR]... [--flight FLIGHT] [--day DATE] [--csv] [--json] [--open] JOURNAL`
-    Bookings {
-        over: Horizon<'a>,
-        /// None or more.
-        locators: Several<'a>,
-        flight: Option<&'a str>,
-        day: Option<&'a str>,
-        shape: Shape,
-        is_open: bool,
-        journal: &'a str,
-    },
+    Bookings(BookingsJob<'a>),
     /// `seatdesk waiting` over a horizon `[--flight FLIGHT] [--day DATE] [--csv] [--json] [--open] JOURNAL`
-    Waiting {
-        over: Horizon<'a>,
-        flight: Option<&'a str>,
-        day: Option<&'a str>,
-        shape: Shape,
-        is_open: bool,
-        journal: &'a str,
-    },
+    Waiting(WaitingJob<'a>),
     /// `seatdesk history` over a horizon `--locator LOCATOR [--csv] [--json] [--open] JOURNAL`
-    History {
-        over: Horizon<'a>,
-        locator: &'a str,
-        shape: Shape,
-        is_open: bool,
-        journal: &'a str,
-    },
+    History(HistoryJob<'a>),
     /// `seatdesk audit` over a horizon `[--after JOURNAL] [--behind N] [--today DATE] [--sealed] [--open] [--shards] JOURNAL [SCRIPT...]`
-    Audit {
-        over: Horizon<'a>,
-        after: Option<&'a str>,
-        behind: Option<&'a str>,
-        today: Option<&'a str>,
-        sealed: bool,
-        is_open: bool,
-        /// The words behind JOURNAL are journals too.
-        are_shards: bool,
-        journal: &'a str,
-        /// None or more.
-        scripts: Several<'a>,
-    },
+    Audit(AuditJob<'a>),
     /// `seatdesk seal` over a horizon `JOURNAL`
     Seal {
         over: Horizon<'a>,
@@ -148,25 +77,9 @@ pub enum Job<'a> {
         journal: &'a str,
     },
     /// `seatdesk replies` over a horizon `[--after JOURNAL] [--behind N] --today DATE [--session N] [--from LINE] JOURNAL [SCRIPT...]`
-    Replies {
-        over: Horizon<'a>,
-        after: Option<&'a str>,
-        behind: Option<&'a str>,
-        today: &'a str,
-        session: Option<&'a str>,
-        from: Option<&'a str>,
-        journal: &'a str,
-        /// None or more.
-        scripts: Several<'a>,
-    },
+    Replies(RepliesJob<'a>),
     /// `seatdesk told` over a horizon `--desk N [--from LINE] [--open] JOURNAL`
-    Told {
-        over: Horizon<'a>,
-        desk: &'a str,
-        from: Option<&'a str>,
-        is_open: bool,
-        journal: &'a str,
-    },
+    Told(ToldJob<'a>),
     /// `seatdesk why` over a horizon `--line N [--open] JOURNAL`
     Why {
         over: Horizon<'a>,
@@ -180,6 +93,135 @@ pub enum Job<'a> {
         /// None or more.
         numbers: Several<'a>,
     },
+}
+
+/// What `seatdesk rooms` asks for.
+#[derive(Clone, Copy)]
+pub struct RoomsJob<'a> {
+    pub over: Horizon<'a>,
+    pub day: Option<&'a str>,
+    pub pair: Option<&'a str>,
+    pub bars: bool,
+    pub shape: Shape,
+    pub is_open: bool,
+    pub journal: Option<&'a str>,
+}
+
+/// What `seatdesk loads` asks for.
+#[derive(Clone, Copy)]
+pub struct LoadsJob<'a> {
+    pub over: Horizon<'a>,
+    pub flight: Option<&'a str>,
+    pub day: Option<&'a str>,
+    pub pair: Option<&'a str>,
+    pub by: Option<&'a str>,
+    pub bars: bool,
+    pub shape: Shape,
+    pub is_open: bool,
+    pub journal: Option<&'a str>,
+}
+
+/// What `seatdesk run` asks for.
+#[derive(Drop)]
+pub struct RunJob<'a> {
+    pub over: Horizon<'a>,
+    pub after: Option<&'a str>,
+    pub behind: Option<&'a str>,
+    /// The journal that has what the scripts begin with.
+    pub resume: Option<&'a str>,
+    pub today: &'a str,
+    pub journal: &'a str,
+    pub changes: Option<&'a str>,
+    pub no_clobber: bool,
+    /// Books what a run that the journal's seal knows has booked.
+    pub again: bool,
+    /// None or more.
+    pub scripts: Several<'a>,
+}
+
+/// What `seatdesk serve` asks for.
+#[derive(Drop)]
+pub struct ServeJob<'a> {
+    pub over: Horizon<'a>,
+    pub today: &'a str,
+    pub journal: &'a str,
+    /// None or more.
+    pub desks: Several<'a>,
+    pub manager: Option<&'a str>,
+}
+
+/// What `seatdesk bookings` asks for.
+#[derive(Drop)]
+pub struct BookingsJob<'a> {
+    pub over: Horizon<'a>,
+    /// None or more.
+    pub locators: Several<'a>,
+    pub flight: Option<&'a str>,
+    pub day: Option<&'a str>,
+    pub shape: Shape,
+    pub is_open: bool,
+    pub journal: &'a str,
+}
+
+/// What `seatdesk waiting` asks for.
+#[derive(Clone, Copy)]
+pub struct WaitingJob<'a> {
+    pub over: Horizon<'a>,
+    pub flight: Option<&'a str>,
+    pub day: Option<&'a str>,
+    pub shape: Shape,
+    pub is_open: bool,
+    pub journal: &'a str,
+}
+
+/// What `seatdesk history` asks for.
+#[derive(Clone, Copy)]
+pub struct HistoryJob<'a> {
+    pub over: Horizon<'a>,
+    pub locator: &'a str,
+    pub shape: Shape,
+    pub is_open: bool,
+    pub journal: &'a str,
+}
+
+/// What `seatdesk audit` asks for.
+#[derive(Drop)]
+pub struct AuditJob<'a> {
+    pub over: Horizon<'a>,
+    pub after: Option<&'a str>,
+    pub behind: Option<&'a str>,
+    pub today: Option<&'a str>,
+    pub sealed: bool,
+    pub is_open: bool,
+    /// The words behind JOURNAL are journals too.
+    pub are_shards: bool,
+    pub journal: &'a str,
+    /// None or more.
+    pub scripts: Several<'a>,
+}
+
+/// What `seatdesk replies` asks for.
+#[derive(Drop)]
+pub struct RepliesJob<'a> {
+    pub over: Horizon<'a>,
+    pub after: Option<&'a str>,
+    pub behind: Option<&'a str>,
+    pub today: &'a str,
+    pub session: Option<&'a str>,
+    pub from: Option<&'a str>,
+    pub journal: &'a str,
+    /// None or more.
+    pub scripts: Several<'a>,
+}
+
+/// What `seatdesk told` asks for.
+#[derive(Clone, Copy)]
+pub struct ToldJob<'a> {
+    pub over: Horizon<'a>,
+    pub desk: &'a str,
+    pub from: Option<&'a str>,
+    pub is_open: bool,
+    pub journal: &'a str,
 }
 
 /// A command line: the command that it names, and whether `-v` or `--verbose` stands ahead of it or behind it.
@@ -240,132 +282,204 @@ fn job_named<'a>(alloc: Global, name: &str, matches: &ArgMatches<'a>) -> Result<
     requires { is_complete (name.now, rows_of (found_of matches.now)) ≡ true }
     ensures { IfOk result (λ job. Asks job (name.now, rows_of (found_of matches.now))) }
 {
-    let job = match name {
-        "ladder" => Job::Ladder,
-        "check" => Job::Check {
+    match name {
+        "ladder" => Ok(Job::Ladder),
+        "check" => Ok(Job::Check {
             set: value_of(matches, "set"),
-        },
-        "flights" => Job::Flights {
+        }),
+        "flights" => Ok(Job::Flights {
             set: value_of(matches, "set"),
             first: value_of(matches, "first"),
             days: value_of(matches, "days"),
-        },
-        "cover" => Job::Cover {
+        }),
+        "cover" => Ok(Job::Cover {
             over: horizon_of(matches),
-        },
-        "rooms" => Job::Rooms {
-            over: horizon_of(matches),
-            day: may_value_of(matches, "day"),
-            pair: may_value_of(matches, "pair"),
-            bars: flag_of(matches, "bars"),
-            shape: shape_of(matches),
-            is_open: flag_of(matches, "open"),
-            journal: may_value_of(matches, "journal"),
-        },
-        "loads" => Job::Loads {
-            over: horizon_of(matches),
-            flight: may_value_of(matches, "flight"),
-            day: may_value_of(matches, "day"),
-            pair: may_value_of(matches, "pair"),
-            by: may_value_of(matches, "by"),
-            bars: flag_of(matches, "bars"),
-            shape: shape_of(matches),
-            is_open: flag_of(matches, "open"),
-            journal: may_value_of(matches, "journal"),
-        },
-        "run" => Job::Run {
-            over: horizon_of(matches),
-            after: may_value_of(matches, "after"),
-            behind: may_value_of(matches, "behind"),
-            resume: may_value_of(matches, "resume"),
-            today: value_of(matches, "today"),
-            journal: value_of(matches, "journal"),
-            changes: may_value_of(matches, "changes"),
-            no_clobber: flag_of(matches, "no-clobber"),
-            again: flag_of(matches, "again"),
-            scripts: any_values_of(alloc, matches, "scripts")?,
-        },
-        "serve" => Job::Serve {
-            over: horizon_of(matches),
-            today: value_of(matches, "today"),
-            journal: value_of(matches, "journal"),
-            desks: any_values_of(alloc, matches, "desk")?,
-            manager: may_value_of(matches, "manager"),
-        },
-        "bookings" => Job::Bookings {
-            over: horizon_of(matches),
-            locators: any_values_of(alloc, matches, "locator")?,
-            flight: may_value_of(matches, "flight"),
-            day: may_value_of(matches, "day"),
-            shape: shape_of(matches),
-            is_open: flag_of(matches, "open"),
-            journal: value_of(matches, "journal"),
-        },
-        "waiting" => Job::Waiting {
-            over: horizon_of(matches),
-            flight: may_value_of(matches, "flight"),
-            day: may_value_of(matches, "day"),
-            shape: shape_of(matches),
-            is_open: flag_of(matches, "open"),
-            journal: value_of(matches, "journal"),
-        },
-        "history" => Job::History {
-            over: horizon_of(matches),
-            locator: value_of(matches, "locator"),
-            shape: shape_of(matches),
-            is_open: flag_of(matches, "open"),
-            journal: value_of(matches, "journal"),
-        },
-        "audit" => Job::Audit {
-            over: horizon_of(matches),
-            after: may_value_of(matches, "after"),
-            behind: may_value_of(matches, "behind"),
-            today: may_value_of(matches, "today"),
-            sealed: flag_of(matches, "sealed"),
-            is_open: flag_of(matches, "open"),
-            are_shards: flag_of(matches, "shards"),
-            journal: value_of(matches, "journal"),
-            scripts: any_values_of(alloc, matches, "scripts")?,
-        },
-        "seal" => Job::Seal {
+        }),
+        "rooms" => Ok(Job::Rooms(rooms_asked(matches))),
+        "loads" => Ok(Job::Loads(loads_asked(matches))),
+        "run" => Ok(Job::Run(run_asked(alloc, matches)?)),
+        "serve" => Ok(Job::Serve(serve_asked(alloc, matches)?)),
+        "bookings" => Ok(Job::Bookings(bookings_asked(alloc, matches)?)),
+        "waiting" => Ok(Job::Waiting(waiting_asked(matches))),
+        "history" => Ok(Job::History(history_asked(matches))),
+        "audit" => Ok(Job::Audit(audit_asked(alloc, matches)?)),
+        "seal" => Ok(Job::Seal {
             over: horizon_of(matches),
             journal: value_of(matches, "journal"),
-        },
-        "recover" => Job::Recover {
+        }),
+        "recover" => Ok(Job::Recover {
             over: horizon_of(matches),
             cut: flag_of(matches, "cut"),
             journal: value_of(matches, "journal"),
-        },
-        "replies" => Job::Replies {
-            over: horizon_of(matches),
-            after: may_value_of(matches, "after"),
-            behind: may_value_of(matches, "behind"),
-            today: value_of(matches, "today"),
-            session: may_value_of(matches, "session"),
-            from: may_value_of(matches, "from"),
-            journal: value_of(matches, "journal"),
-            scripts: any_values_of(alloc, matches, "scripts")?,
-        },
-        "told" => Job::Told {
-            over: horizon_of(matches),
-            desk: value_of(matches, "desk"),
-            from: may_value_of(matches, "from"),
-            is_open: flag_of(matches, "open"),
-            journal: value_of(matches, "journal"),
-        },
-        "why" => Job::Why {
+        }),
+        "replies" => Ok(Job::Replies(replies_asked(alloc, matches)?)),
+        "told" => Ok(Job::Told(told_asked(matches))),
+        "why" => Ok(Job::Why {
             over: horizon_of(matches),
             line: value_of(matches, "line"),
             is_open: flag_of(matches, "open"),
             journal: value_of(matches, "journal"),
-        },
-        "explain" => Job::Explain {
+        }),
+        "explain" => Ok(Job::Explain {
             code: value_of(matches, "code"),
             numbers: any_values_of(alloc, matches, "numbers")?,
-        },
+        }),
         _ => unreachable!(),
-    };
-    Ok(job)
+    }
+}
+
+fn rooms_asked<'a>(matches: &ArgMatches<'a>) -> RoomsJob<'a>
+    requires { is_complete (codes "rooms", rows_of (found_of matches.now)) ≡ true }
+    ensures { IsRooms (rows_of (found_of matches.now)) result }
+{
+    RoomsJob {
+        over: horizon_of(matches),
+        day: may_value_of(matches, "day"),
+        pair: may_value_of(matches, "pair"),
+        bars: flag_of(matches, "bars"),
+        shape: shape_of(matches),
+        is_open: flag_of(matches, "open"),
+        journal: may_value_of(matches, "journal"),
+    }
+}
+
+fn loads_asked<'a>(matches: &ArgMatches<'a>) -> LoadsJob<'a>
+    requires { is_complete (codes "loads", rows_of (found_of matches.now)) ≡ true }
+    ensures { IsLoads (rows_of (found_of matches.now)) result }
+{
+    LoadsJob {
+        over: horizon_of(matches),
+        flight: may_value_of(matches, "flight"),
+        day: may_value_of(matches, "day"),
+        pair: may_value_of(matches, "pair"),
+        by: may_value_of(matches, "by"),
+        bars: flag_of(matches, "bars"),
+        shape: shape_of(matches),
+        is_open: flag_of(matches, "open"),
+        journal: may_value_of(matches, "journal"),
+    }
+}
+
+fn run_asked<'a>(alloc: Global, matches: &ArgMatches<'a>) -> Result<RunJob<'a>, AllocError>
+    requires { is_complete (codes "run", rows_of (found_of matches.now)) ≡ true }
+    ensures { IfOk result (IsRun (rows_of (found_of matches.now))) }
+{
+    Ok(RunJob {
+        over: horizon_of(matches),
+        after: may_value_of(matches, "after"),
+        behind: may_value_of(matches, "behind"),
+        resume: may_value_of(matches, "resume"),
+        today: value_of(matches, "today"),
+        journal: value_of(matches, "journal"),
+        changes: may_value_of(matches, "changes"),
+        no_clobber: flag_of(matches, "no-clobber"),
+        again: flag_of(matches, "again"),
+        scripts: any_values_of(alloc, matches, "scripts")?,
+    })
+}
+
+fn serve_asked<'a>(alloc: Global, matches: &ArgMatches<'a>) -> Result<ServeJob<'a>, AllocError>
+    requires { is_complete (codes "serve", rows_of (found_of matches.now)) ≡ true }
+    ensures { IfOk result (IsServe (rows_of (found_of matches.now))) }
+{
+    Ok(ServeJob {
+        over: horizon_of(matches),
+        today: value_of(matches, "today"),
+        journal: value_of(matches, "journal"),
+        desks: any_values_of(alloc, matches, "desk")?,
+        manager: may_value_of(matches, "manager"),
+    })
+}
+
+fn bookings_asked<'a>(
+    alloc: Global,
+    matches: &ArgMatches<'a>,
+) -> Result<BookingsJob<'a>, AllocError>
+    requires { is_complete (codes "bookings", rows_of (found_of matches.now)) ≡ true }
+    ensures { IfOk result (IsBookings (rows_of (found_of matches.now))) }
+{
+    Ok(BookingsJob {
+        over: horizon_of(matches),
+        locators: any_values_of(alloc, matches, "locator")?,
+        flight: may_value_of(matches, "flight"),
+        day: may_value_of(matches, "day"),
+        shape: shape_of(matches),
+        is_open: flag_of(matches, "open"),
+        journal: value_of(matches, "journal"),
+    })
+}
+
+fn waiting_asked<'a>(matches: &ArgMatches<'a>) -> WaitingJob<'a>
+    requires { is_complete (codes "waiting", rows_of (found_of matches.now)) ≡ true }
+    ensures { IsWaiting (rows_of (found_of matches.now)) result }
+{
+    WaitingJob {
+        over: horizon_of(matches),
+        flight: may_value_of(matches, "flight"),
+        day: may_value_of(matches, "day"),
+        shape: shape_of(matches),
+        is_open: flag_of(matches, "open"),
+        journal: value_of(matches, "journal"),
+    }
+}
+
+fn history_asked<'a>(matches: &ArgMatches<'a>) -> HistoryJob<'a>
+    requires { is_complete (codes "history", rows_of (found_of matches.now)) ≡ true }
+    ensures { IsHistory (rows_of (found_of matches.now)) result }
+{
+    HistoryJob {
+        over: horizon_of(matches),
+        locator: value_of(matches, "locator"),
+        shape: shape_of(matches),
+        is_open: flag_of(matches, "open"),
+        journal: value_of(matches, "journal"),
+    }
+}
+
+fn audit_asked<'a>(alloc: Global, matches: &ArgMatches<'a>) -> Result<AuditJob<'a>, AllocError>
+    requires { is_complete (codes "audit", rows_of (found_of matches.now)) ≡ true }
+    ensures { IfOk result (IsAudit (rows_of (found_of matches.now))) }
+{
+    Ok(AuditJob {
+        over: horizon_of(matches),
+        after: may_value_of(matches, "after"),
+        behind: may_value_of(matches, "behind"),
+        today: may_value_of(matches, "today"),
+        sealed: flag_of(matches, "sealed"),
+        is_open: flag_of(matches, "open"),
+        are_shards: flag_of(matches, "shards"),
+        journal: value_of(matches, "journal"),
+        scripts: any_values_of(alloc, matches, "scripts")?,
+    })
+}
+
+fn replies_asked<'a>(alloc: Global, matches: &ArgMatches<'a>) -> Result<RepliesJob<'a>, AllocError>
+    requires { is_complete (codes "replies", rows_of (found_of matches.now)) ≡ true }
+    ensures { IfOk result (IsReplies (rows_of (found_of matches.now))) }
+{
+    Ok(RepliesJob {
+        over: horizon_of(matches),
+        after: may_value_of(matches, "after"),
+        behind: may_value_of(matches, "behind"),
+        today: value_of(matches, "today"),
+        session: may_value_of(matches, "session"),
+        from: may_value_of(matches, "from"),
+        journal: value_of(matches, "journal"),
+        scripts: any_values_of(alloc, matches, "scripts")?,
+    })
+}
+
+fn told_asked<'a>(matches: &ArgMatches<'a>) -> ToldJob<'a>
+    requires { is_complete (codes "told", rows_of (found_of matches.now)) ≡ true }
+    ensures { IsTold (rows_of (found_of matches.now)) result }
+{
+    ToldJob {
+        over: horizon_of(matches),
+        desk: value_of(matches, "desk"),
+        from: may_value_of(matches, "from"),
+        is_open: flag_of(matches, "open"),
+        journal: value_of(matches, "journal"),
+    }
 }
 
 fn shape_of(matches: &ArgMatches<'_>) -> Shape

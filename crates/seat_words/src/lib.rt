@@ -15,7 +15,10 @@ mod several;
 pub use days::{date_word, days_word};
 pub use examples::examples_are_read;
 pub use fault::WordFault;
-pub use job::{CommandLine, Horizon, Job, Shape, read_words, wrong_value};
+pub use job::{
+    AuditJob, BookingsJob, CommandLine, HistoryJob, Horizon, Job, LoadsJob, RepliesJob, RoomsJob,
+    RunJob, ServeJob, Shape, ToldJob, WaitingJob, read_words, wrong_value,
+};
 pub use names::{behind_word, flight_word, line_word, locator_word, pair_word, session_word};
 pub use pipes::pipes_of;
 pub use sessions::{audit_lacks, session_file, sessions_of, sessions_of_run};

@@ -18,8 +18,8 @@ use seat_open::{OpenAudit, OpenQuestion};
 use seat_questions::{Bars, CityPair, Cover, Why};
 use seat_reports::{desk_audit, desk_check, desk_flights, desk_ladder, desk_seal};
 use seat_words::{
-    Horizon, WordFault, date_word, days_word, flight_word, line_word, locator_word, pair_word,
-    session_word,
+    Horizon, ToldJob, WordFault, date_word, days_word, flight_word, line_word, locator_word,
+    pair_word, session_word,
 };
 use std::alloc::Global;
 use std::thread::Threads;
@@ -57,26 +57,21 @@ pub fn cover<'a>(rt: &HostRuntime, over: &Horizon<'a>) -> Result<(), Refusal<'a>
 }
 
 /// What a desk is told of a journal, of its first line or a later one on.
-pub fn told_of<'a>(
-    rt: &HostRuntime,
-    over: &Horizon<'a>,
-    desk: &str,
-    from: Option<&str>,
-    is_open: bool,
-    journal: &'a str,
-) -> Result<(), Refusal<'a>> {
+pub fn told_of<'a>(rt: &HostRuntime, asked: &ToldJob<'a>) -> Result<(), Refusal<'a>> {
+    let over = &asked.over;
     let days = days_of(over.first, over.days)?;
-    let Some(desk) = session_word(desk) else {
+    let Some(desk) = session_word(asked.desk) else {
         return Err(Refusal::from(WordFault::BadDesk));
     };
-    let from = from_asked(from)?;
+    let from = from_asked(asked.from)?;
+    let question = ToldOf { desk, from };
     asked_of(
         rt,
         over,
         days,
-        &ToldOf { desk, from },
-        Some(journal),
-        is_open,
+        &question,
+        Some(asked.journal),
+        asked.is_open,
     )
 }
 

@@ -13,7 +13,10 @@ use seat_lists::{BookingsOf, WaitingOf, Wanted};
 use seat_loads::LoadsOf;
 use seat_questions::RoomsOf;
 use seat_tables::Form;
-use seat_words::{Horizon, Shape, WordFault, locator_word};
+use seat_words::{
+    BookingsJob, HistoryJob, Horizon, LoadsJob, RoomsJob, Shape, WaitingJob, WordFault,
+    locator_word,
+};
 use table_questions::{
     BookingTable, DaySums, FlightSums, HistoryTable, LegSums, LoadTable, RoomTable, Table, TableOf,
     WaitingTable,
@@ -21,69 +24,54 @@ use table_questions::{
 
 /// The rooms of the places that `--day` and `--pair` keep, with bars where they are asked for. Without a journal they are those
 /// after no line.
-pub fn rooms<'a>(
-    rt: &HostRuntime,
-    over: &Horizon<'a>,
-    day: Option<&str>,
-    pair: Option<&str>,
-    bars: bool,
-    shape: Shape,
-    is_open: bool,
-    journal: Option<&'a str>,
-) -> Result<(), Refusal<'a>> {
+pub fn rooms<'a>(rt: &HostRuntime, asked: &RoomsJob<'a>) -> Result<(), Refusal<'a>> {
+    let over = &asked.over;
     let days = days_of(over.first, over.days)?;
     let rooms = RoomsOf {
-        day: day_asked(day)?,
-        pair: pair_asked(pair)?,
-        bars: bars_asked(rt, bars),
+        day: day_asked(asked.day)?,
+        pair: pair_asked(asked.pair)?,
+        bars: bars_asked(rt, asked.bars),
     };
-    let form = form_asked(shape, bars)?;
+    let form = form_asked(asked.shape, asked.bars)?;
     match form {
         Some(form) => {
             let table = RoomTable { rooms };
-            tabled(rt, over, days, &table, form, journal, is_open)
+            tabled(rt, over, days, &table, form, asked.journal, asked.is_open)
         }
-        None => asked_of(rt, over, days, &rooms, journal, is_open),
+        None => asked_of(rt, over, days, &rooms, asked.journal, asked.is_open),
     }
 }
 
 /// How full the legs are that `--flight`, `--day` and `--pair` keep, with bars where they are asked for, or the sums that `--by` names. Without a journal that is before the first booking.
-pub fn loads<'a>(
-    rt: &HostRuntime,
-    over: &Horizon<'a>,
-    kept: &Kept<'_>,
-    by: Option<&str>,
-    bars: bool,
-    shape: Shape,
-    is_open: bool,
-    journal: Option<&'a str>,
-) -> Result<(), Refusal<'a>> {
+pub fn loads<'a>(rt: &HostRuntime, asked: &LoadsJob<'a>) -> Result<(), Refusal<'a>> {
+    let over = &asked.over;
     let days = days_of(over.first, over.days)?;
     let loads = LoadsOf {
-        flight: flight_asked(kept.flight)?,
-        day: day_asked(kept.day)?,
-        pair: pair_asked(kept.pair)?,
-        bars: bars_asked(rt, bars),
+        flight: flight_asked(asked.flight)?,
+        day: day_asked(asked.day)?,
+        pair: pair_asked(asked.pair)?,
+        bars: bars_asked(rt, asked.bars),
     };
-    let by = by_asked(by)?;
+    let by = by_asked(asked.by)?;
     match by {
         Some(by) => {
-            let form = sums_form(shape, bars)?;
-            summed(rt, over, days, loads, by, form, journal, is_open)
+            let form = sums_form(asked.shape, asked.bars)?;
+            summed(
+                rt,
+                over,
+                days,
+                loads,
+                by,
+                form,
+                asked.journal,
+                asked.is_open,
+            )
         }
         None => {
-            let form = form_asked(shape, bars)?;
-            loaded(rt, over, days, loads, form, journal, is_open)
+            let form = form_asked(asked.shape, asked.bars)?;
+            loaded(rt, over, days, loads, form, asked.journal, asked.is_open)
         }
     }
-}
-
-/// Which legs are asked for, as it was written.
-#[derive(Clone, Copy)]
-pub struct Kept<'a> {
-    pub flight: Option<&'a str>,
-    pub day: Option<&'a str>,
-    pub pair: Option<&'a str>,
 }
 
 /// The loads, as text or in a form.
@@ -147,82 +135,82 @@ fn summed<'a>(
 }
 
 /// The live bookings of the locators, the flights and the day that are asked for.
-pub fn bookings<'a>(
-    rt: &HostRuntime,
-    over: &Horizon<'a>,
-    locators: &[&str],
-    flight: Option<&str>,
-    day: Option<&str>,
-    shape: Shape,
-    is_open: bool,
-    journal: &'a str,
-) -> Result<(), Refusal<'a>> {
+pub fn bookings<'a>(rt: &HostRuntime, asked: &BookingsJob<'a>) -> Result<(), Refusal<'a>> {
+    let over = &asked.over;
     let days = days_of(over.first, over.days)?;
-    let locators = locators_asked(rt.alloc(), locators)?;
+    let locators = locators_asked(rt.alloc(), asked.locators.as_slice())?;
     let wanted = Wanted {
         locators: locators.as_slice(),
-        flight: flight_asked(flight)?,
-        day: day_asked(day)?,
+        flight: flight_asked(asked.flight)?,
+        day: day_asked(asked.day)?,
     };
-    let journal = Some(journal);
-    let form = form_asked(shape, false)?;
+    let journal = Some(asked.journal);
+    let form = form_asked(asked.shape, false)?;
     match form {
         Some(form) => {
             let table = BookingTable { wanted };
-            tabled(rt, over, days, &table, form, journal, is_open)
+            tabled(rt, over, days, &table, form, journal, asked.is_open)
         }
-        None => asked_of(rt, over, days, &BookingsOf { wanted }, journal, is_open),
+        None => asked_of(
+            rt,
+            over,
+            days,
+            &BookingsOf { wanted },
+            journal,
+            asked.is_open,
+        ),
     }
 }
 
 /// Who waits, on the flights and the day that are asked for.
-pub fn waiting<'a>(
-    rt: &HostRuntime,
-    over: &Horizon<'a>,
-    flight: Option<&str>,
-    day: Option<&str>,
-    shape: Shape,
-    is_open: bool,
-    journal: &'a str,
-) -> Result<(), Refusal<'a>> {
+pub fn waiting<'a>(rt: &HostRuntime, asked: &WaitingJob<'a>) -> Result<(), Refusal<'a>> {
+    let over = &asked.over;
     let days = days_of(over.first, over.days)?;
     let wanted = Wanted {
         locators: &[],
-        flight: flight_asked(flight)?,
-        day: day_asked(day)?,
+        flight: flight_asked(asked.flight)?,
+        day: day_asked(asked.day)?,
     };
-    let journal = Some(journal);
-    let form = form_asked(shape, false)?;
+    let journal = Some(asked.journal);
+    let form = form_asked(asked.shape, false)?;
     match form {
         Some(form) => {
             let table = WaitingTable { wanted };
-            tabled(rt, over, days, &table, form, journal, is_open)
+            tabled(rt, over, days, &table, form, journal, asked.is_open)
         }
-        None => asked_of(rt, over, days, &WaitingOf { wanted }, journal, is_open),
+        None => asked_of(
+            rt,
+            over,
+            days,
+            &WaitingOf { wanted },
+            journal,
+            asked.is_open,
+        ),
     }
 }
 
 /// What the lines of a journal did for a locator.
-pub fn history<'a>(
-    rt: &HostRuntime,
-    over: &Horizon<'a>,
-    locator: &str,
-    shape: Shape,
-    is_open: bool,
-    journal: &'a str,
-) -> Result<(), Refusal<'a>> {
+pub fn history<'a>(rt: &HostRuntime, asked: &HistoryJob<'a>) -> Result<(), Refusal<'a>> {
+    let over = &asked.over;
     let days = days_of(over.first, over.days)?;
-    let Some(locator) = locator_word(locator) else {
+    let Some(locator) = locator_word(asked.locator) else {
         return Err(Refusal::from(WordFault::BadLocator));
     };
-    let journal = Some(journal);
-    let form = form_asked(shape, false)?;
+    let journal = Some(asked.journal);
+    let form = form_asked(asked.shape, false)?;
     match form {
         Some(form) => {
             let table = HistoryTable { locator };
-            tabled(rt, over, days, &table, form, journal, is_open)
+            tabled(rt, over, days, &table, form, journal, asked.is_open)
         }
-        None => asked_of(rt, over, days, &HistoryOf { locator }, journal, is_open),
+        None => asked_of(
+            rt,
+            over,
+            days,
+            &HistoryOf { locator },
+            journal,
+            asked.is_open,
+        ),
     }
 }
 

@@ -10,7 +10,9 @@ mod locale;
 mod noting;
 mod piping;
 mod replaced;
+mod replaying;
 mod restoring;
+mod seals;
 mod selling;
 mod serving;
 mod sessions;
@@ -18,13 +20,9 @@ mod shards;
 mod undone;
 
 use clap::error::ErrorKind;
-use commands::Looked;
-use listing::Kept;
 use seat_desk::DeskFault;
 use seat_files::Refusal;
-use seat_words::{Job, WordFault, read_words};
-use selling::{Asking, Older, Part};
-use serving::Open;
+use seat_words::{AuditJob, Job, WordFault, read_words};
 use std::io;
 use std::io::IsTerminal;
 use std::process::ExitCode;
@@ -69,177 +67,56 @@ fn start<T: Threads + Wait + Sync + Copy + Send + 'static>(
     })
 }
 
+/// Does what the command line asks for.
 fn carry_out<'a, T: Threads + Wait + Sync + Copy + Send + 'static>(
     rt: &'a HostRuntime,
     threads: &T,
     job: &Job<'a>,
 ) -> Result<(), Undone<'a>> {
     match job {
-        Job::Ladder => commands::ladder(rt)?,
-        Job::Check { set } => commands::check(rt, set)?,
-        Job::Flights { set, first, days } => commands::flights(rt, set, first, days)?,
-        Job::Cover { over } => commands::cover(rt, over)?,
-        Job::Run {
-            over,
-            after,
-            behind,
-            resume,
-            today,
-            journal,
-            changes,
-            no_clobber,
-            again,
-            scripts,
-        } => {
-            let asking = Asking {
-                older: Older {
-                    after: *after,
-                    behind: *behind,
-                },
-                resume: *resume,
-                today,
-                journal,
-                changes: *changes,
-                no_clobber: *no_clobber,
-                again: *again,
-                scripts: scripts.as_slice(),
-            };
-            selling::run(rt, threads, over, &asking)?
-        }
-        Job::Serve {
-            over,
-            today,
-            journal,
-            desks,
-            manager,
-        } => {
-            let asked = Open {
-                today,
-                journal,
-                desks: desks.as_slice(),
-                manager: *manager,
-            };
-            serving::serve(rt, threads, over, &asked)?
-        }
-        Job::Audit {
-            over,
-            after,
-            behind,
-            today,
-            sealed,
-            is_open,
-            are_shards,
-            journal,
-            scripts,
-        } => {
-            let older = Older {
-                after: *after,
-                behind: *behind,
-            };
-            let looked = Looked {
-                is_sealed: *sealed,
-                is_open: *is_open,
-            };
-            if *are_shards {
-                let plain = shards::is_plain(&older, *today, looked);
-                return Ok(shards::audit(rt, threads, over, plain, journal, scripts.as_slice())?);
-            }
-            let scripts = scripts.as_slice();
-            selling::audit(rt, threads, over, &older, *today, looked, journal, scripts)?
-        }
-        Job::Seal { over, journal } => commands::seal(rt, over, journal)?,
-        Job::Recover { over, cut, journal } => restoring::recover(rt, over, *cut, journal)?,
-        Job::Replies {
-            over,
-            after,
-            behind,
-            today,
-            session,
-            from,
-            journal,
-            scripts,
-        } => {
-            let older = Older {
-                after: *after,
-                behind: *behind,
-            };
-            let part = Part {
-                session: *session,
-                from: *from,
-            };
-            let scripts = scripts.as_slice();
-            selling::replies(rt, over, &older, today, &part, journal, scripts)?
-        }
-        Job::Rooms {
-            over,
-            day,
-            pair,
-            bars,
-            shape,
-            is_open,
-            journal,
-        } => listing::rooms(rt, over, *day, *pair, *bars, *shape, *is_open, *journal)?,
-        Job::Loads {
-            over,
-            flight,
-            day,
-            pair,
-            by,
-            bars,
-            shape,
-            is_open,
-            journal,
-        } => {
-            let kept = Kept {
-                flight: *flight,
-                day: *day,
-                pair: *pair,
-            };
-            listing::loads(rt, over, &kept, *by, *bars, *shape, *is_open, *journal)?
-        }
-        Job::Bookings {
-            over,
-            locators,
-            flight,
-            day,
-            shape,
-            is_open,
-            journal,
-        } => {
-            let locators = locators.as_slice();
-            listing::bookings(rt, over, locators, *flight, *day, *shape, *is_open, journal)?
-        }
-        Job::Waiting {
-            over,
-            flight,
-            day,
-            shape,
-            is_open,
-            journal,
-        } => listing::waiting(rt, over, *flight, *day, *shape, *is_open, journal)?,
-        Job::History {
-            over,
-            locator,
-            shape,
-            is_open,
-            journal,
-        } => listing::history(rt, over, locator, *shape, *is_open, journal)?,
-        Job::Told {
-            over,
-            desk,
-            from,
-            is_open,
-            journal,
-        } => commands::told_of(rt, over, desk, *from, *is_open, journal)?,
+        Job::Ladder => done(commands::ladder(rt)),
+        Job::Check { set } => done(commands::check(rt, set)),
+        Job::Flights { set, first, days } => done(commands::flights(rt, set, first, days)),
+        Job::Cover { over } => done(commands::cover(rt, over)),
+        Job::Rooms(asked) => done(listing::rooms(rt, asked)),
+        Job::Loads(asked) => done(listing::loads(rt, asked)),
+        Job::Run(asked) => done(selling::run(rt, threads, asked)),
+        Job::Serve(asked) => done(serving::serve(rt, threads, asked)),
+        Job::Bookings(asked) => done(listing::bookings(rt, asked)),
+        Job::Waiting(asked) => done(listing::waiting(rt, asked)),
+        Job::History(asked) => done(listing::history(rt, asked)),
+        Job::Audit(asked) => done(audited(rt, threads, asked)),
+        Job::Seal { over, journal } => done(commands::seal(rt, over, journal)),
+        Job::Recover { over, cut, journal } => done(restoring::recover(rt, over, *cut, journal)),
+        Job::Replies(asked) => done(replaying::replies(rt, asked)),
+        Job::Told(asked) => done(commands::told_of(rt, asked)),
         Job::Why {
             over,
             line,
             is_open,
             journal,
-        } => commands::why(rt, over, line, *is_open, journal)?,
-        Job::Explain { code, numbers } => explain::explain(rt, code, numbers.as_slice())?,
+        } => done(commands::why(rt, over, line, *is_open, journal)),
+        Job::Explain { code, numbers } => explain::explain(rt, code, numbers.as_slice()),
     }
-    Ok(())
+}
+
+fn done<'a>(outcome: Result<(), Refusal<'a>>) -> Result<(), Undone<'a>> {
+    match outcome {
+        Ok(()) => Ok(()),
+        Err(refusal) => Err(Undone::Refused(refusal)),
+    }
+}
+
+/// The journals of hosts that have different flights, or one journal, with the scripts of its run or alone.
+fn audited<'a, T: Threads + Sync>(
+    rt: &HostRuntime,
+    threads: &T,
+    asked: &AuditJob<'a>,
+) -> Result<(), Refusal<'a>> {
+    if asked.are_shards {
+        return shards::audit(rt, threads, asked);
+    }
+    replaying::audit(rt, threads, asked)
 }
 
 /// The status of a command that was refused: its fault is one line on standard error, with one more where the words ask for it, or where

@@ -1,7 +1,8 @@
 //! `recover` over the real file of a journal, which it locks.
 //! It knows which file is which, and nothing of what stands in a journal.
-ghost use Rattle.std.specs.Prelude.{◌≡◌, ◌⊎◌, IfErr, IsTrue};
+ghost use Rattle.std.specs.Prelude.{◌≡◌, ◌⊎◌, ◌≤◌, IfErr, IsTrue};
 ghost use Rattle.seat_files.specs.Refusals.{is_of_file};
+ghost use Rattle.ssim_flights.specs.Right.{IsOfCentury};
 
 use crate::commands::{days_of, inputs_of};
 use crate::noting::{may_have_lines, tell_found_unsealed};
@@ -32,9 +33,7 @@ pub fn recover<'a>(
         Ok(inputs) => inputs,
         Err(refusal) => return Err(refusal),
     };
-    let guard = Guard::new(rt, journal)?;
-    guard.pass(&inputs, &[], &[])?;
-    guard.pass_output(rt)?;
+    pass_guard(rt, &inputs, journal)?;
     let path = match fs::canonicalize(rt, journal) {
         Ok(path) => path.into_string(),
         Err(error) => return Err(Refusal::unopened(journal, &error)),
@@ -43,7 +42,33 @@ pub fn recover<'a>(
         Ok(tape) => tape,
         Err(fault) => return Err(unopened(journal, fault)),
     };
-    let mut seals = match seal_out(rt, journal, path.as_str(), &inputs) {
+    recover_locked(rt, &mut inputs, is_said, journal, path.as_str(), &mut tape)
+}
+
+/// The journal is none of the inputs, nor the file of the answer.
+fn pass_guard<'a>(
+    rt: &HostRuntime,
+    inputs: &Inputs<Input<'a>, Input<'a>>,
+    journal: &'a str,
+) -> Result<(), Refusal<'a>> {
+    let guard = Guard::new(rt, journal)?;
+    guard.pass(inputs, &[], &[])?;
+    guard.pass_output(rt)
+}
+
+/// The same with the journal locked, which has this path.
+fn recover_locked<'a>(
+    rt: &'a HostRuntime,
+    inputs: &mut Inputs<Input<'a>, Input<'a>>,
+    is_said: bool,
+    journal: &'a str,
+    path: &str,
+    tape: &mut TapeFile,
+) -> Result<(), Refusal<'a>>
+    requires first { IsOfCentury inputs.old.first }
+    requires days { (1 ≤ inputs.old.days) × (inputs.old.days ≤ 366) }
+{
+    let mut seals = match seal_out(rt, journal, path, inputs) {
         Ok(seals) => seals,
         Err(refusal) => return Err(refusal),
     };
@@ -54,14 +79,14 @@ pub fn recover<'a>(
             return Err(refusal);
         }
     };
-    let mut beside = BesideFile::of(rt, path.as_str());
+    let mut beside = BesideFile::of(rt, path);
     let mut out = standard_output(rt);
     let outcome = desk_recover(
         rt.alloc(),
-        &mut inputs,
+        inputs,
         &as_beside(&text),
         is_said,
-        &mut tape,
+        tape,
         &mut beside,
         &mut seals,
         &mut out,
@@ -70,13 +95,13 @@ pub fn recover<'a>(
     tell_kept(rt, journal, &beside);
     match outcome {
         Ok(()) => {
-            if text.is_none() && may_have_lines(rt, path.as_str()) {
+            if text.is_none() && may_have_lines(rt, path) {
                 tell_found_unsealed(rt, journal);
             }
             Ok(())
         }
         Err(fault) => {
-            let refusal = refused(fault, &inputs, journal, &tape, &beside, &out);
+            let refusal = refused(fault, inputs, journal, tape, &beside, &out);
             Err(refusal.noting_seal(&seals))
         }
     }

@@ -17,7 +17,7 @@ use seat_recovery::MOST_OPEN_BYTES;
 use seat_seal::Beside;
 use seat_serving::ServeFault;
 use seat_tape::{BesideFile, TapeFile, open};
-use seat_words::Horizon;
+use seat_words::ServeJob;
 use std::fs;
 use std::sync::Wait;
 use std::thread::Threads;
@@ -36,12 +36,18 @@ pub struct Open<'a, 'b> {
 pub fn serve<'a, R: Threads + Wait + Copy + Send + 'static>(
     rt: &'a HostRuntime,
     waits: &R,
-    over: &Horizon<'a>,
-    asked: &Open<'a, '_>,
+    job: &ServeJob<'a>,
 ) -> Result<(), Refusal<'a>> {
+    let over = &job.over;
+    let asked = Open {
+        today: job.today,
+        journal: job.journal,
+        desks: job.desks.as_slice(),
+        manager: job.manager,
+    };
     let days = days_of(over.first, over.days)?;
     let today = day_of_run(asked.today)?;
-    let pipes = match desks_named(rt, asked) {
+    let pipes = match desks_named(rt, &asked) {
         Ok(pipes) => pipes,
         Err(refusal) => return Err(refusal),
     };

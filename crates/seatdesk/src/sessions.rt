@@ -2,7 +2,7 @@
 ghost use Rattle.std.specs.Prelude.{◌≡◌, IfOk, length};
 
 use seat_desk::DeskFault;
-use seat_files::{Input, Refusal, opened};
+use seat_files::{Input, Output, Refusal, opened};
 use seat_words::session_file;
 
 /// The script of each session, open. A session without a word has an empty one.
@@ -27,5 +27,23 @@ fn script_opened<'a>(rt: &HostRuntime, path: Option<&'a str>) -> Result<Input<'a
     match path {
         Some(path) => opened(rt, path),
         None => Ok(Input::of_text(b"")),
+    }
+}
+
+/// The refusal of a command that reads scripts behind its other inputs, and more behind those.
+pub fn behind<'a>(
+    outcome: Result<(), Refusal<'a>>,
+    scripts: &[Input<'a>],
+    more: &[&Input<'a>],
+    outputs: &[&Output<'a>],
+) -> Result<(), Refusal<'a>> {
+    match outcome {
+        Ok(()) => Ok(()),
+        Err(refusal) => Err(
+            refusal
+                .noting_each(scripts)
+                .noting_all(more)
+                .noting_outputs(outputs),
+        ),
     }
 }

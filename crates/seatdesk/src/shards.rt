@@ -1,40 +1,28 @@
 //! `audit --shards`: the journals of hosts that have different flights over one set and its limits.
 //! It knows which words name them, and nothing of what is in them.
-use crate::commands::{Looked, days_of, inputs_of};
-use crate::selling::Older;
+use crate::commands::{days_of, inputs_of};
 use seat_desk::DeskFault;
 use seat_files::{Input, Refusal, standard_output, taken};
 use seat_shards::desk_shards;
-use seat_words::{Horizon, WordFault};
+use seat_words::{AuditJob, WordFault};
 use std::thread::Threads;
 
-/// Whether the words ask for the journals as they stand: ended ones, without scripts, older journals and seals.
-pub fn is_plain(older: &Older<'_>, today: Option<&str>, looked: Looked) -> bool {
-    older.after.is_none()
-        && older.behind.is_none()
-        && today.is_none()
-        && !looked.is_sealed
-        && !looked.is_open
-}
-
-/// Audits the journals of these words.
+/// Audits the journals that are named.
 pub fn audit<'a, R: Threads + Sync>(
     rt: &HostRuntime,
     threads: &R,
-    over: &Horizon<'a>,
-    is_plain: bool,
-    first: &'a str,
-    others: &[&'a str],
+    asked: &AuditJob<'a>,
 ) -> Result<(), Refusal<'a>> {
+    let over = &asked.over;
     let days = days_of(over.first, over.days)?;
-    if !is_plain {
+    if !is_plain(asked) {
         return Err(Refusal::from(WordFault::BadShards));
     }
     let mut inputs = match inputs_of(rt, over, days) {
         Ok(inputs) => inputs,
         Err(refusal) => return Err(refusal),
     };
-    let mut journals = opened_all(rt, first, others)?;
+    let mut journals = opened_all(rt, asked.journal, asked.scripts.as_slice())?;
     let mut out = standard_output(rt);
     let outcome = desk_shards(
         threads,
@@ -52,6 +40,15 @@ pub fn audit<'a, R: Threads + Sync>(
                 .noting_outputs(&[&out]),
         ),
     }
+}
+
+/// Whether the words ask for the journals as they stand: ended ones, without scripts, older journals and seals.
+fn is_plain(asked: &AuditJob<'_>) -> bool {
+    asked.after.is_none()
+        && asked.behind.is_none()
+        && asked.today.is_none()
+        && !asked.sealed
+        && !asked.is_open
 }
 
 /// The files of all these words, open.
