@@ -1,5 +1,5 @@
 -- What a line comes to behind the lines that are asked for.
-use Rattle.std.proofs.Common.{◌≡◌, ℕ, zero, suc, ◌+◌, ◌-◌, ◌<◌, ◌≤◌, ◌==◌, Bool, true, false, cond, nat_le, nat_lt, List, [], ◌∷◌, ◌++◌, length, refl, ap, sym, ◌∙◌, subst, arith, append-nil, append_assoc, length-append}
+use Rattle.std.proofs.Common.{◌≡◌, ℕ, ◌+◌, ◌<◌, ◌≤◌, ◌==◌, Bool, true, false, cond, nat_le, nat_lt, List, [], ◌∷◌, ◌++◌, length, ap, sym, ◌∙◌, arith, append-nil, append_assoc, length-append}
 use Rattle.std.specs.Prelude.{count_by, filter, Some, None}
 use Rattle.std.proofs.lemmas.Bool.Decides.{nat_tests}
 use Rattle.std.proofs.lemmas.List.Sums.{length-filter}
@@ -10,7 +10,7 @@ use Rattle.desk_lines.specs.declared.desk.Meaning.TheVariants.{WrongCall}
 use Rattle.desk_lines.specs.declared.desk.Wrong.TheVariants.{Beyond}
 use Rattle.desk_hall.specs.Planning.{PlansCall, PlansQuiet, PlansRequest}
 use Rattle.desk_hall.specs.declared.planning.Plan.{Plan}
-use Rattle.desk_hall.specs.declared.turn.Turn.TheVariants.{Line, Full, Repeated, Quiet}
+use Rattle.desk_hall.specs.declared.turn.Turn.TheVariants.{Line, Full, Repeated}
 use Rattle.desk_hall.proofs.Groups.{behind_length}
 use Rattle.ssim_flights.specs.declared.flight.Flight.{Flight as Flown}
 use Rattle.seat_journal.specs.declared.entry.Entry.{Entry}

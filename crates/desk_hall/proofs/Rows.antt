@@ -1,5 +1,5 @@
 -- Rows of the manager.
-use Rattle.std.proofs.Common.{◌≡◌, ℕ, ◌+◌, ◌≤◌, ◌<◌, ◌==◌, Bool, true, false, nat_lt, List, [], ◌∷◌, length, map, get_or, refl, ap, sym, subst, arith}
+use Rattle.std.proofs.Common.{◌≡◌, ℕ, ◌+◌, ◌≤◌, ◌<◌, ◌==◌, Bool, true, false, nat_lt, List, [], ◌∷◌, length, get_or, refl, ap, sym, subst, arith}
 use Rattle.std.specs.Prelude.{Option, Some, None}
 use Rattle.std.specs.List.{AllByRecursion}
 use Rattle.std.specs.Str.Lines.{lines}
@@ -15,7 +15,7 @@ use Rattle.desk_lines.specs.declared.desk.Wrong.TheVariants as faults
 use Rattle.seat_journal.specs.declared.entry.Change.{Change}
 use Rattle.seat_limits.specs.ChangeRows.{IsChangeText, SpellsChanges}
 use Rattle.seat_limits.specs.declared.change_row.ChangeRow.{ChangeRow}
-use Rattle.seat_scripts.specs.Changes.{AreServed, IsOnLeg, change_of, on_leg, on_place, wanted_by}
+use Rattle.seat_scripts.specs.Changes.{IsOnLeg, change_of, on_leg, on_place, wanted_by}
 use Rattle.ssim_flights.specs.Places.{place_wanted}
 use Rattle.ssim_flights.specs.declared.flight.Flight.{Flight as Flown}
 

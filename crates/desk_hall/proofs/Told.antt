@@ -1,5 +1,5 @@
 -- What is told of one line.
-use Rattle.std.proofs.Common.{◌≡◌, ◌⊎◌, inl, inr, ℕ, ◌+◌, ◌<◌, ◌≤◌, ◌==◌, true, false, arith, List, [], ◌++◌, length, take, get_or, refl, ap, sym, ◌∙◌, subst}
+use Rattle.std.proofs.Common.{◌≡◌, inl, inr, ℕ, ◌+◌, ◌<◌, ◌≤◌, ◌==◌, true, false, arith, List, [], ◌++◌, length, take, get_or, refl, ap, sym, ◌∙◌, subst}
 use Rattle.std.specs.Prelude.{Option, Some, None, slice_get}
 use Rattle.airimp_lines.specs.declared.requests.Request.{Request}
 use Rattle.desk_answers.specs.FaultLines.{full_line, wrong_call_line}

@@ -1,5 +1,5 @@
 -- Requests that are booked in groups, one behind the other.
-use Rattle.std.specs.Prelude.{◌≡◌, ℕ, Option, List, ◌++◌, take}
+use Rattle.std.specs.Prelude.{◌≡◌, ℕ, Option, List, ◌++◌}
 use Rattle.seat_nesting.specs.Nesting.{Ladders}
 use Rattle.seat_journal.specs.declared.entry.Entry.{Entry}
 use Rattle.seat_rules.specs.Prefixes.{Begins}

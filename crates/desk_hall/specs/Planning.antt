@@ -1,5 +1,5 @@
 -- What a line comes to behind the lines that are there, and those that are asked for ahead of it.
-use Rattle.std.specs.Prelude.{◌≡◌, ℕ, ◌+◌, ◌==◌, Bool, true, false, nat_le, nat_lt, if◌then◌else◌, List, length, Option, Some, None}
+use Rattle.std.specs.Prelude.{◌≡◌, ℕ, ◌+◌, ◌==◌, Bool, true, false, nat_le, nat_lt, if◌then◌else◌, List, length, Some, None}
 use Rattle.airimp_lines.specs.declared.requests.Request.{Request as Wish}
 use Rattle.desk_answers.specs.Saying.{asked_by}
 use Rattle.desk_lines.specs.declared.desk.Desk.{Desk}

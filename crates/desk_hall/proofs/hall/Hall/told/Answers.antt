@@ -1,4 +1,4 @@
-use Rattle.std.proofs.Common.{List, ℕ, subst}
+use Rattle.std.proofs.Common.{List, subst}
 use Rattle.std.specs.Prelude.{IfOk}
 use Rattle.desk_hall.specs.Halls.{Hallful}
 use Rattle.desk_hall.specs.Telling.{IsTurn}
