@@ -50,7 +50,7 @@ pub(crate) const SEALS: &[Explanation] = &[
         behind: "SEAL",
         code: "journal",
         numbers: NONE,
-        text: "The journal's head and entries are others than those that were sealed: a line was changed, added or taken away,\nor all of it, as by > or 2>> JOURNAL of a shell,\nor the journal is another than the seal's: a run writes both, and a kept journal has its own beside it.\nOf an open seal the journal does not begin with its lines. Of seatdesk serve and recover what is found of it does not\nbegin with the lines that were sealed: one is missing or was changed, which no crash does. Where an older copy of the\nseal was put back behind a host or a run, take it away again. Of seatdesk seal: the seal there has a run behind more lines than the journal has, so it was changed.",
+        text: "The journal's head and entries are others than those that were sealed: a line was changed, added or taken away,\nor all of it, as by > or 2>> JOURNAL of a shell,\nor the journal is another than the seal's: a run writes both, and a kept journal has its own beside it.\nOf an open seal the journal does not begin with its lines. Of seatdesk serve and recover what is found of it does not\nbegin with the lines that were sealed, one of which is missing or was changed, or has more than a closed seal: no crash does that. Where an older\ncopy of the seal was put back behind a host or a run, take it away again; seatdesk seal, or the host, then writes one without runs. Of seatdesk seal: the seal there has a run behind more lines than the journal has, so it was changed.",
     },
     Explanation {
         behind: "SEAL",

@@ -6,13 +6,13 @@ ghost use Rattle.seat_seal.specs.Comparing.{begins_sealed};
 ghost use Rattle.seat_seal.specs.Imprints.{imprint_of};
 ghost use Rattle.seat_serving.specs.GoingOn.{IsFoundIn};
 ghost use Rattle.seat_restoring.specs.Comparing.{Differs, HasOneEntry, IsFaultAhead, IsOneEntry, Passes, is_passed};
-ghost use Rattle.seat_restoring.specs.Found.{KeepsSealed, LosesSealed, has_sealed};
+ghost use Rattle.seat_restoring.specs.Found.{KeepsSealed, LosesSealed, has_sealed, is_no_longer};
 
 use crate::sealing::text_of;
 use seat_desk::DeskFault;
 use seat_recovery::Recovered;
 use seat_seal::{
-    Basis, Beside, Imprint, Seal, SealEntry, SealFault, Sealed, SealedJournal, begins_sealed,
+    Basis, Beside, Imprint, JournalState, Seal, SealEntry, SealFault, Sealed, SealedJournal, begins_sealed,
     fault_beside, imprint_beside, imprint_of, known_of, read_seal,
 };
 
@@ -79,7 +79,7 @@ fn is_passed(known: &Option<Sealed>, fault: SealFault) -> bool
     }
 }
 
-/// Refuses what was found in a file with these bytes, where it does not begin with the lines that were sealed.
+/// Refuses what was found in a file with these bytes, where it does not begin with the lines that were sealed, or has more than a whole journal had.
 pub fn keeps_sealed(seal: &Beside<'_>, bytes: &[u8], found: &Recovered) -> Result<(), DeskFault>
     requires found { IsFoundIn found.now.core bytes.now found.now.len found.now.rest }
     ensures ok { OnOk result (KeepsSealed seal.now bytes.now found.now.core.journal) }
@@ -113,18 +113,21 @@ pub fn sealed_imprint(
     Err(DeskFault::Seal(SealFault::Journal))
 }
 
-/// The imprint of the text, and whether it begins with what was sealed.
+/// The imprint of the text, and whether it has what was sealed.
 fn imprint_and_sealed(known: &Option<Sealed>, text: &[u8]) -> (Imprint, bool)
     ensures imprint { result.0 ≡ imprint_of text.now }
     ensures sealed { result.1 ≡ has_sealed known.now text.now }
 {
     match known {
-        Some(entry) => imprint_behind(&entry.journal, text),
+        Some(entry) => {
+            let (imprint, begins) = imprint_behind(&entry.journal, text);
+            (imprint, begins && is_no_longer(&entry.journal, text))
+        }
         None => (imprint_of(text), true),
     }
 }
 
-/// The same, of what was sealed. Only where that has no byte is it digested by itself.
+/// The imprint of the text, and whether it begins with what was sealed. Only where that has no byte is it digested by itself.
 #[tactic(auto, using(crate::proofs::Sealed::begins_by))]
 fn imprint_behind(sealed: &SealedJournal, text: &[u8]) -> (Imprint, bool)
     ensures imprint { result.0 ≡ imprint_of text.now }
@@ -136,12 +139,25 @@ fn imprint_behind(sealed: &SealedJournal, text: &[u8]) -> (Imprint, bool)
     imprint_beside(text, &[sealed.imprint])
 }
 
-/// Whether the text begins with what was sealed, as the entry says that is compared.
+/// Whether the text begins with what was sealed, and where that is a whole journal is that, as the entry says that is compared.
 fn has_sealed(known: &Option<Sealed>, text: &[u8]) -> bool
     ensures { result ≡ has_sealed known.now text.now }
 {
     match known {
-        Some(entry) => begins_sealed(&entry.journal, text),
+        Some(entry) => {
+            begins_sealed(&entry.journal, text) && is_no_longer(&entry.journal, text)
+        }
         None => true,
+    }
+}
+
+/// Whether the text is no longer than the sealed one, unless more lines may have come since. No crash leaves the seal of a whole journal beside one
+/// to which lines were added: an open seal is there ahead of them.
+fn is_no_longer(sealed: &SealedJournal, text: &[u8]) -> bool
+    ensures { result ≡ is_no_longer sealed.now.state sealed.now.imprint.bytes text.now }
+{
+    match sealed.state {
+        JournalState::Open => true,
+        JournalState::Closed => text.len() as u64 == sealed.imprint.bytes,
     }
 }
