@@ -5,6 +5,7 @@
 mod answers;
 mod explanations;
 mod meaning;
+mod notes;
 mod replies;
 mod sealed;
 
