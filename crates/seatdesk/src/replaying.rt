@@ -110,23 +110,35 @@ fn audited_once<'a>(
     requires days { (1 ≤ days.now.1) × (days.now.1 ≤ 366) }
     requires today { IsCenturyDay replayed.now.today }
 {
-    let mut files = match files_opened(rt, over, days, replayed, false) {
+    let files = match files_opened(rt, over, days, replayed, false) {
         Ok(files) => files,
         Err(refusal) => return Err(refusal),
     };
     let seals = seals_of(rt, &files.after, &files.journal, replayed.is_sealed)?;
     let mut out = standard_output(rt);
+    let Files {
+        mut inputs,
+        mut after,
+        mut journal,
+        mut scripts,
+    } = files;
     let outcome = desk_audit_against(
         rt.alloc(),
-        &mut files.inputs,
-        &mut files.after,
+        &mut inputs,
+        &mut after,
         replayed.given,
-        &mut files.journal,
+        &mut journal,
         &seals.as_besides(),
-        files.scripts.as_mut_slice(),
+        scripts.as_mut_slice(),
         replayed.today,
         &mut out,
     );
+    let files = Files {
+        inputs,
+        after,
+        journal,
+        scripts,
+    };
     Ok(attempt_of(rt, &files, outcome, &out))
 }
 
@@ -260,23 +272,35 @@ fn replied_once<'a>(
     requires days { (1 ≤ days.now.1) × (days.now.1 ≤ 366) }
     requires today { IsCenturyDay replayed.now.today }
 {
-    let mut files = match files_opened(rt, over, days, replayed, true) {
+    let files = match files_opened(rt, over, days, replayed, true) {
         Ok(files) => files,
         Err(refusal) => return Err(refusal),
     };
     let seals = seals_of(rt, &files.after, &files.journal, replayed.is_sealed)?;
     let mut out = standard_output(rt);
+    let Files {
+        mut inputs,
+        mut after,
+        mut journal,
+        mut scripts,
+    } = files;
     let outcome = desk_replies(
         rt.alloc(),
-        &mut files.inputs,
-        &mut files.after,
+        &mut inputs,
+        &mut after,
         replayed.given,
-        &mut files.journal,
+        &mut journal,
         &seals.as_besides(),
-        files.scripts.as_mut_slice(),
+        scripts.as_mut_slice(),
         replayed.today,
         wanted,
         &mut out,
     );
+    let files = Files {
+        inputs,
+        after,
+        journal,
+        scripts,
+    };
     Ok(attempt_of(rt, &files, outcome, &out))
 }

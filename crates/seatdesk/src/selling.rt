@@ -49,7 +49,13 @@ pub fn run<'a, T: Threads + Wait + Sync>(
         Err(refusal) => return Err(refusal),
     };
     let mut past = past_opened(rt, asking)?;
-    let mut texts = texts_opened(rt, asking, inputs, sessions)?;
+    let scripts = scripts_opened(rt, asking.scripts.as_slice(), sessions)?;
+    let changes = opened_or(rt, asking.changes, b"")?;
+    let mut texts = Texts {
+        inputs,
+        scripts,
+        changes,
+    };
     run_over(rt, threads, asking, given, today, &mut texts, &mut past)
 }
 
@@ -114,25 +120,6 @@ fn past_opened<'a>(rt: &HostRuntime, asking: &RunJob<'a>) -> Result<Past<'a>, Re
     let after = opened_or(rt, asking.after, &NO_LINES)?;
     let resumed = opened_or(rt, asking.resume, &NO_LINES)?;
     Ok(Past { after, resumed })
-}
-
-fn texts_opened<'a>(
-    rt: &HostRuntime,
-    asking: &RunJob<'a>,
-    inputs: Inputs<Input<'a>, Input<'a>>,
-    sessions: usize,
-) -> Result<Texts<'a>, Refusal<'a>>
-    ensures first { IfOk result (λ texts. texts.inputs.first ≡ inputs.first) }
-    ensures days { IfOk result (λ texts. texts.inputs.days ≡ inputs.days) }
-    ensures scripts { IfOk result (λ texts. length texts.scripts.items ≡ sessions) }
-{
-    let scripts = scripts_opened(rt, asking.scripts.as_slice(), sessions)?;
-    let changes = opened_or(rt, asking.changes, b"")?;
-    Ok(Texts {
-        inputs,
-        scripts,
-        changes,
-    })
 }
 
 /// Whether the older journal is the very file whose scripts have grown: there would be no line of theirs.
