@@ -5,7 +5,9 @@ cut off: it numbers these lines, writes down what each was answered, and when it
     examples/desk.py IN OUT SCRIPT ANSWERS
     examples/desk.py --by COMMAND SCRIPT ANSWERS
 
-COMMAND is a way to pipes that are elsewhere, as 'ssh london@host' with relay.py at its other end. ANSWERS is made where it is not there. Its first line has the number of the first call; then comes each answer, in the order of the script.
+COMMAND is a way to pipes that are elsewhere, as 'ssh london@host' with relay.py at its other end. ANSWERS, the memory, is made where it is not there. Its first
+line has the number of the first call; then comes each answer, in the order of the script. A script may grow at its end, as long as nothing else was booked
+for the desk since: then its calls have other numbers, and the client ends with an error. New lines behind those of another script are a new script, with a memory of its own.
 """
 import fcntl
 import os
@@ -78,6 +80,14 @@ class Desk:
                 if line.endswith("!"):
                     break  # a host has started: another may have heard the word
 
+    def advices(self):
+        """What came behind the last answer: its own advices, which are told with it."""
+        self.send("?HELLO BEHIND\n")
+        for line in iter(self.line, None):
+            if line.startswith("READY BEHIND "):
+                return
+            print(line)
+
     def answer(self, number):
         """What the line of this number is answered, or nothing where the host may have gone. An advice (KL) answers no line."""
         for line in iter(self.line, None):
@@ -97,19 +107,28 @@ def whole_lines(answers):
     return [line.decode() for line in lines]
 
 
+def pass_memory(memory, calls):
+    """Ends where the desk has other calls than the memory knows. One line may be booked whose answer never came; more are another script's."""
+    first, *known = memory
+    number = int(first) + sum(not said.startswith("FAULT") for said in known)
+    if calls - number not in (-1, 0):
+        sys.exit(f"the desk has {calls} calls, and ANSWERS knows those up to {number - 1}: something else was booked for it")
+
+
 def main(into, out, script, answers):
     with open(script, encoding="ascii") as it:
         lines = it.read().splitlines()
-    desk = Desk(into, out)
-    calls = int(desk.hello()[4])
-    if not os.path.exists(answers) or not whole_lines(answers):
-        with open(answers, "w", encoding="ascii") as it:
-            it.write(f"{calls + 1}\n")
-            it.flush()
-            os.fsync(it.fileno())
-    first, *known = whole_lines(answers)
-    number, at = int(first), 0
     with open(answers, "a", encoding="ascii") as kept:
+        fcntl.flock(kept, fcntl.LOCK_EX)  # (a second client with the same memory waits)
+        desk = Desk(into, out)
+        calls = int(desk.hello()[4])
+        if not whole_lines(answers):
+            kept.write(f"{calls + 1}\n")
+            kept.flush()
+            os.fsync(kept.fileno())
+        pass_memory(whole_lines(answers), calls)
+        first, *known = whole_lines(answers)
+        number, at = int(first), 0
         while at < len(lines):
             if not SEGMENT.fullmatch(lines[at]):
                 # (a line of a message that is answered by nothing; a client that comes back sends its message's head again)
@@ -125,12 +144,15 @@ def main(into, out, script, answers):
                     number, at = int(first), 0
                     known = whole_lines(answers)[1:]
                     continue
+                if re.match("FAULT H[34] ", said):
+                    sys.exit(f"{said}: call {number} of the desk is another line's")
                 kept.write(said + "\n")
                 kept.flush()
                 os.fsync(kept.fileno())
             print(said)
             number += not said.startswith("FAULT")
             at += 1
+        desk.advices()
 
 
 if __name__ == "__main__":

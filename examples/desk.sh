@@ -3,10 +3,11 @@
 #
 #   examples/desk.sh IN OUT SCRIPT ANSWERS
 #
-# ANSWERS is made where it is not there. Its first line has the number of the first call; then comes each answer, in the order of the script.
+# ANSWERS, the memory, is made where it is not there. Its first line has the number of the first call; then comes each answer, in the order of the script. A
+# script may grow at its end, as long as nothing else was booked for the desk since: new lines behind those of another script are a new script, with a memory of its own.
 set -u
-[ "$#" = 4 ] || { sed -n '2,7s/^# \{0,1\}//p' "$0" >&2; exit 2; }
-script=$3 answers=$4 seconds=10
+[ "$#" = 4 ] || { sed -n '2,8s/^# \{0,1\}//p' "$0" >&2; exit 2; }
+script=$3 answers=$4 seconds=10 letters=ABCDEFGHIJKLMNOPQRSTUVWXYZ
 segment='^[A-Z0-9]{2}[0-9]{1,4}[A-Z]?[A-Z][0-9]{2}[A-Z]{3} [A-Z]{6} [A-Z]{2}[0-9]{1,3}$'
 # opened for reading and for writing, a pipe waits for nobody; one of another user may be open to us one way alone
 if [ -r "$1" ]; then exec 3<>"$1"; else exec 3>"$1"; fi
@@ -15,12 +16,20 @@ if [ -w "$2" ]; then exec 4<>"$2"; else exec 4<"$2"; fi
 exec 5>>"$answers"
 flock 5
 
+# A host that was killed has no pipe open: what is written then is not read, and no reason to end.
+trap '' PIPE
+say() {
+    # shellcheck disable=SC2059 # (the first word is the form)
+    printf "$@" 2>/dev/null >&3
+}
+
 # Says hello until the host answers with this client's own word; what stands ahead of that is for another client. calls: how many the desk has.
 hello() {
     local line word
     while :; do
-        word=$(tr -dc '[:upper:]' </dev/urandom | head -c 6)
-        printf '!\n?HELLO %s\n' "$word" >&3
+        word=
+        for _ in {1..6}; do word+=${letters:RANDOM%26:1}; done
+        say '!\n?HELLO %s\n' "$word" || { sleep 1; continue; }
         while IFS= read -r -t "$seconds" -u 4 line; do
             # (a line that ends with ! is of a host that has started: another may have heard the word)
             [[ $line != *! ]] || break
@@ -50,14 +59,18 @@ book() {
     while IFS= read -r line || [ -n "$line" ]; do
         if [[ ! $line =~ $segment ]]; then
             # (a line of a message that is answered by nothing; a client that comes back sends its message's head again)
-            printf '%s\n' "$line" >&3
+            say '%s\n' "$line" || return 1
             continue
         fi
         if [ "$at" -lt "${#known[@]}" ]; then
             said=${known[at]} at=$((at + 1))
         else
-            printf '@%s %s\n' "$number" "$line" >&3
+            say '@%s %s\n' "$number" "$line" || return 1
             answer "$number" || return 1
+            if [[ $said == FAULT\ H[34]\ * ]]; then
+                echo "$said: call $number of the desk is another line's" >&2
+                exit 1
+            fi
             printf '%s\n' "$said" >>"$answers" && sync "$answers" || exit 1
         fi
         printf '%s\n' "$said"
@@ -69,4 +82,15 @@ hello
 # (a line that a kill or a loss of power left without its end is none)
 truncate -s "$(head -n "$(wc -l <"$answers")" "$answers" | wc -c)" "$answers"
 [ -s "$answers" ] || { printf '%s\n' "$((calls + 1))" >"$answers" && sync "$answers"; } || exit
+mapfile -t known <"$answers"
+faults=$(grep -c '^FAULT' "$answers")
+behind=$((calls + 1 - known[0] - (${#known[@]} - 1 - faults)))
+# (one line may be booked whose answer never came; more are another script's)
+if [ "$behind" -ne 0 ] && [ "$behind" -ne 1 ]; then
+    echo "the desk has $calls calls, and not those that ANSWERS knows: something else was booked for it" >&2
+    exit 1
+fi
 until book; do hello; done
+# what came behind the last answer: its own advices, which are told with it
+say '?HELLO BEHIND\n'
+while IFS= read -r -t "$seconds" -u 4 line && [[ $line != "READY BEHIND "* ]]; do printf '%s\n' "$line"; done

@@ -548,13 +548,13 @@ const JOURNALS: &[Explanation] = &[
         behind: "",
         code: "J2",
         numbers: LINE,
-        text: "The line of the journal is no entry. Lines count from 1, with the head.\nWith --after it may be the older journal, which is read first.",
+        text: "The line of the journal is no entry. Lines count from 1, with the head.\nLines that another program wrote between the entries, as by 2>> JOURNAL while a host served, are to be taken out.\nWith --after it may be the older journal, which is read first.",
     },
     Explanation {
         behind: "",
         code: "J3",
         numbers: LINE,
-        text: "The line is a wrong END line, stands behind it, or should be the END line and is missing.\nThe journal may have been cut off, or be one that is still open: audit --open says whether its whole lines are right, and recover ends it.\nWhere something else stands behind the lines or the END line, as by 2>> JOURNAL of a shell, recover --cut takes it away and keeps it beside the journal.\nWith --after it may be the older journal, which is read first.",
+        text: "The line is a wrong END line, stands behind it, or should be the END line and is missing.\nThe journal may have been cut off, or be one that is still open: audit --open says whether its whole lines are right, and recover ends it.\nWhere its end was lost in another way, as by a copy that broke off, put back a whole copy: recover takes what is there for all that there was.\nWhere something else stands behind the lines or the END line, as by 2>> JOURNAL of a shell, recover --cut takes it away and keeps it beside the journal.\nWith --after it may be the older journal, which is read first.",
     },
     Explanation {
         behind: "",

@@ -8,7 +8,7 @@ pub(crate) const NOTES: &[Explanation] = &[
         behind: "",
         code: "kept",
         numbers: NONE,
-        text: "What the file of --journal had before the run stands under this name from now on. The new journal is not behind it:\nseats that it sold are sold once more there, and no audit of either says so. Where the run was to go on from it, give the run's scripts again,\nwith --after and this name, ahead of any other run: they are booked behind it, and the desks take these replies in place of the first, which they may\nnot be. What the first run made is kept then, too, and nothing goes on from that. Of several kept-1 is the oldest. A name that ends with .seal is that of a seal alone, which\nbelongs beside the journal that it is of. Where it says no END the journal was left open, as by a host that was killed:\nmake a copy of it under another name, and of its seal under that name with .seal, which seatdesk recover then ends, and go on from that.\nWithout its seal the copy knows no run, and scripts that were booked are booked once more; a note says so.",
+        text: "What the file of --journal had before the run stands under this name from now on. The new journal is not behind it:\nseats that it sold are sold once more there, and no audit of either says so. Where the run was to go on from it, give the run's scripts again,\nwith --after and this name, ahead of any other run and of any host: they are booked behind it, and the desks are to hear these replies, which may be others.\nWhat was booked in between, by a run or a host, is to be booked again behind it in the same way, or it is in no journal that goes on: seatdesk told --desk N\nsays what each desk was told. What the first run made is kept then, too, and nothing goes on from that. Of several kept-1 is the oldest. A name that ends with .seal is that of a seal alone, which\nbelongs beside the journal that it is of. Where it says no END the journal was left open, as by a host that was killed:\nmake a copy of it under another name, and of its seal under that name with .seal, which seatdesk recover then ends, and go on from that.\nWithout its seal the copy knows no run, and scripts that were booked are booked once more; a note says so.",
     },
     Explanation {
         behind: "asks",
@@ -50,7 +50,7 @@ pub(crate) const NOTES: &[Explanation] = &[
         behind: "replies",
         code: "note",
         numbers: NONE,
-        text: "The journal of the run is in its place, and its replies did not all go out. The run is not to be made again:\nseatdesk replies writes them, with the options of the run and those that the note has,\nuntil the next run writes the journal. Behind that it takes the scripts of all runs since the journal's line that --behind names, those of one session in one file,\nin their order, with an empty line between two of them.",
+        text: "The journal of the run is in its place, and its replies did not all go out. The run is not to be made again:\nseatdesk replies writes them, with the set, the limits, the days, --today and the scripts of the run, and the words that the note has,\nuntil the next run writes the journal. Behind that it takes the scripts of all runs since the journal's line that --behind names, those of one session in one file,\nin their order, with an empty line between two of them.",
     },
     Explanation {
         behind: "cut",
