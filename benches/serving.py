@@ -9,6 +9,7 @@ a ninth client, one in flight, while eight desks book; how long a host takes fro
 Each reply is read and counted by the clients; replies a second are over the time from the first line sent to the last reply read.
 """
 import argparse
+import atexit
 import os
 import random
 import select
@@ -19,6 +20,7 @@ import tempfile
 import time
 
 ROOT = os.path.dirname(os.path.dirname(os.path.abspath(__file__)))
+MOST = 900_000  # lines of all desks: a journal has room for 999,999
 OVER = "--set season --limits limits --first 2024-03-01 --days 200".split()
 
 
@@ -103,7 +105,7 @@ def sell(sellers, seconds, also=None):
     poll = select.poll()
     for out in outs:
         poll.register(out, select.POLLIN)
-    while time.monotonic() < began + seconds:
+    while time.monotonic() < began + seconds and any(seller.at < len(seller.lines) for seller in sellers):
         for seller in sellers:
             seller.go_on()
         for out, _ in poll.poll(1000):
@@ -146,6 +148,7 @@ class Host:
             [program, "serve", *OVER, "--today", "2024-05-01", "--journal", f"{folder}/{journal}", *words, "--manager", f"{self.folder}/0.in:{self.folder}/0.out"],
             cwd=inputs, stdin=subprocess.DEVNULL,
         )
+        atexit.register(self.it.kill)
         self.clients = [Client(self.folder, desk) for desk in range(desks + 1)]
 
     def started(self):
@@ -165,7 +168,7 @@ def table(program, inputs, folder, asked):
     for desks, window in ((1, 1), (1, 32), (8, 1), (8, 32)):
         host = Host(program, inputs, folder, f"journal-{desks}-{window}", desks)
         host.started()
-        sellers = [Seller(client, requests(f"{inputs}/season", 400_000, client.desk), window) for client in host.clients[1:]]
+        sellers = [Seller(client, requests(f"{inputs}/season", MOST // desks, client.desk), window) for client in host.clients[1:]]
         looks = Looker(host.clients[0], b"? XX1Y10JUN %s\n" % first_pair(inputs)) if desks == 8 else None
         rate, waited = sell(sellers, asked.seconds, looks)
         print(f"| {desks} desk{'s' * (desks > 1)}, {window} line{'s' * (window > 1)} in flight | {rate:,.0f} | {percentile(waited, 0.5):.2f} ms | {percentile(waited, 0.99):.2f} ms |")
