@@ -12,8 +12,8 @@ use crate::sealing::text_of;
 use seat_desk::DeskFault;
 use seat_recovery::Recovered;
 use seat_seal::{
-    Basis, Beside, Imprint, JournalState, Seal, SealEntry, SealFault, Sealed, SealedJournal, begins_sealed,
-    fault_beside, imprint_beside, imprint_of, known_of, read_seal,
+    Basis, Beside, Imprint, JournalState, Seal, SealEntry, SealFault, Sealed, SealedJournal,
+    begins_sealed, fault_beside, imprint_beside, imprint_of, known_of, read_seal,
 };
 
 /// Refuses a journal where what stands beside it is no seal, or one of another set, other limits or other days. Whether what is found of
@@ -144,9 +144,7 @@ fn has_sealed(known: &Option<Sealed>, text: &[u8]) -> bool
     ensures { result ≡ has_sealed known.now text.now }
 {
     match known {
-        Some(entry) => {
-            begins_sealed(&entry.journal, text) && is_no_longer(&entry.journal, text)
-        }
+        Some(entry) => { begins_sealed(&entry.journal, text) && is_no_longer(&entry.journal, text) }
         None => true,
     }
 }
