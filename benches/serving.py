@@ -19,9 +19,10 @@ import sys
 import tempfile
 import time
 
+from recovery import OVER, write_inputs
+
 ROOT = os.path.dirname(os.path.dirname(os.path.abspath(__file__)))
 MOST = 900_000  # lines of all desks: a journal has room for 999,999
-OVER = "--set season --limits limits --first 2024-03-01 --days 200".split()
 
 
 class Client:
@@ -209,10 +210,7 @@ def main():
     words.add_argument("--lines", type=int, default=900_000)
     asked = words.parse_args()
     program, inputs = os.path.abspath(asked.program), os.path.abspath(asked.folder)
-    os.makedirs(inputs, exist_ok=True)
-    with open(f"{inputs}/season", "w", encoding="ascii") as out:
-        subprocess.run([sys.executable, f"{ROOT}/benches/season.py", str(asked.flights)], check=True, stdout=out)
-    subprocess.run([sys.executable, f"{ROOT}/benches/journal.py", "season", str(asked.flights), str(asked.lines), "limits", "journal"], check=True, cwd=inputs)
+    write_inputs(inputs, asked.flights, asked.lines)
     memory = tempfile.mkdtemp(dir="/dev/shm")
     for folder in (inputs, memory):
         table(program, inputs, folder, asked)
