@@ -15,6 +15,17 @@ abbrev pub fault_of_others : Role → ℕ → Option PipeFault
 fault_of_others Input mode = if bit_and mode 0o002 == 0 then None else Some OthersWrite
 fault_of_others Output mode = if bit_and mode 0o004 == 0 then None else Some OthersRead
 
+-- its group may read it and not write to it, or write to it and not read it
+abbrev pub is_to_read : ℕ → Bool
+is_to_read mode = bit_and mode 0o060 == 0o040
+
+abbrev pub is_to_write : ℕ → Bool
+is_to_write mode = bit_and mode 0o060 == 0o020
+
+-- the modes of a desk's two pipes tell that they are swapped: the one that the host reads is to be read by the desk, and the other to be written to
+abbrev pub are_swapped : ℕ → ℕ → Bool
+are_swapped input out = is_to_read input && is_to_write out
+
 -- the same device, and the same number there
 abbrev pub is_one : PipeId → PipeId → Bool
 is_one pipe other = (pipe.device == other.device) && (pipe.number == other.number)

@@ -15,6 +15,8 @@ pub use cutting::HeldLine;
 pub use inbox::{Inbox, Said, room_for_lines};
 pub use mark::Mark;
 pub use outbox::Outbox;
-pub use pipe_file::{PipeFault, PipeId, Role, Unopened, fault_of, open_pipe};
+pub use pipe_file::{
+    PipeFault, PipeId, Role, Unopened, are_swapped, fault_of, open_pipe, pass_pair,
+};
 pub use post::Post;
 pub use threads::{mark_pipe, read_desk, start_desk, write_desk};

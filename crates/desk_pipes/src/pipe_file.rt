@@ -1,7 +1,7 @@
 //! The files of pipes: which may be one of a desk, and that each has one host, and one role in it.
 //! It knows what the system says of a file, and nothing of what goes over it.
 ghost use Rattle.std.specs.Prelude.{◌≡◌, false, IfOk, OnErr, OnOk};
-ghost use Rattle.desk_pipes.specs.Files.{fault_of, fault_of_others, is_among, is_one, is_pipe, IsOneMore};
+ghost use Rattle.desk_pipes.specs.Files.{are_swapped, fault_of, fault_of_others, is_among, is_one, is_pipe, IsOneMore};
 
 use std::fs::{File, OpenOptions, TryLockError};
 use std::os::unix::fs::MetadataExt;
@@ -16,6 +16,13 @@ const PIPE: u32 = 0o010_000;
 const OTHERS_WRITE: u32 = 0o002;
 
 const OTHERS_READ: u32 = 0o004;
+
+/// The bits of the group, that by which it may read, and that by which it may write.
+const GROUP: u32 = 0o060;
+
+const GROUP_READS: u32 = 0o040;
+
+const GROUP_WRITES: u32 = 0o020;
 
 /// What a pipe is to its desk.
 #[derive(Clone, Copy, Debug, PartialEq, Eq)]
@@ -41,6 +48,8 @@ pub enum PipeFault {
     Twice,
     /// Another host has it.
     Taken,
+    /// It is what the desk is told by, and the other is what the desk writes to.
+    Swapped,
 }
 
 impl PipeFault {
@@ -53,6 +62,7 @@ impl PipeFault {
             PipeFault::OthersRead => "Others may read it",
             PipeFault::Twice => "Is named twice",
             PipeFault::Taken => "Another host has it",
+            PipeFault::Swapped => "Is swapped with the pipe behind it",
         }
     }
 }
@@ -92,6 +102,29 @@ pub fn open_pipe(
         Ok(()) => Ok(file),
         Err(_) => Err(Unopened::Failed(io::ErrorKind::OutOfMemory.into())),
     }
+}
+
+/// Refuses two pipes of a desk, the one that is read and the one that is written, whose modes tell that they are swapped.
+pub fn pass_pair(input: &File, out: &File) -> Result<(), Unopened> {
+    if are_swapped(mode_of(input)?, mode_of(out)?) {
+        return Err(Unopened::Unfit(PipeFault::Swapped));
+    }
+    Ok(())
+}
+
+fn mode_of(file: &File) -> Result<u32, Unopened> {
+    match file.metadata() {
+        Ok(there) => Ok(there.mode()),
+        Err(error) => Err(Unopened::Failed(error)),
+    }
+}
+
+/// Whether these modes tell that a desk's two pipes are swapped: its group may read the one that the host reads, and not write to it, and
+/// may write to the other and not read it.
+pub fn are_swapped(input: u32, out: u32) -> bool
+    ensures { result ≡ are_swapped input out }
+{
+    input & GROUP == GROUP_READS && out & GROUP == GROUP_WRITES
 }
 
 // What is no pipe is not opened.
