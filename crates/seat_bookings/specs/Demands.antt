@@ -1,10 +1,11 @@
 -- The demands of a waiting list: what waits for each place and class, kept beside the bookings.
-use Rattle.std.specs.Prelude.{◌≡◌, ℕ, ◌==◌, ◌&&◌, ◌+◌, ◌-◌, ◌<◌, ◌^◌, nat_lt, min, Bool, true, false, List, [], ◌∷◌, Option, Some, None, if◌then◌else◌}
-use Rattle.std.specs.List.{AllByRecursion, list_any, list_all}
+use Rattle.std.specs.Prelude.{◌≡◌, ℕ, ◌==◌, ◌&&◌, ◌+◌, ◌-◌, ◌<◌, ◌≤◌, ◌^◌, nat_le, nat_lt, min, Bool, true, false, List, [], ◌∷◌, Option, Some, None, if◌then◌else◌}
+use Rattle.std.specs.List.{AllByRecursion, list_any}
 use Rattle.airline_base.specs.declared.place.Place.{Place}
 use Rattle.seat_nesting.specs.Nesting.{Ladders, Table, room, covers}
 use Rattle.seat_rules.specs.declared.booking.Booking.{Booking}
 use Rattle.seat_bookings.specs.declared.demands.Demand.{Demand}
+use Rattle.seat_rules.specs.Applying.{IsOrdered}
 use Rattle.seat_rules.specs.Bookings.{same_place, is_waiting}
 
 -- q and c are this place and class
@@ -39,6 +40,11 @@ smallest_of place class (b ∷ bs) =
     (if is_booking_of place class b then least_with b.seats (smallest_of place class bs)
     else smallest_of place class bs)
 
+-- the number of the first booking
+abbrev pub next_of : Place → ℕ → List Booking → Option ℕ
+next_of place class [] = None
+next_of place class (b ∷ bs) = (if is_booking_of place class b then Some b.number else next_of place class bs)
+
 -- all their seats
 abbrev pub seats_for : Place → ℕ → List Booking → ℕ
 seats_for place class [] = 0
@@ -52,15 +58,27 @@ demand_smallest place class [] = None
 demand_smallest place class (p ∷ ps) =
     (if is_demand_of place class p then Some p.smallest else demand_smallest place class ps)
 
+abbrev pub demand_first : Place → ℕ → List Demand → Option ℕ
+demand_first place class [] = None
+demand_first place class (p ∷ ps) =
+    (if is_demand_of place class p then Some p.first else demand_first place class ps)
+
 abbrev pub demand_seats : Place → ℕ → List Demand → ℕ
 demand_seats place class [] = 0
 demand_seats place class (p ∷ ps) = (if is_demand_of place class p then p.seats else demand_seats place class ps)
 
--- the bookings all wait, and for each place and class there is one demand, with their least seats and the sum of their seats, or none where no booking is
+-- a number is noted, and n is not below it
+abbrev pub IsReached : Option ℕ → ℕ → Type 0
+IsReached None n = ⊥
+IsReached (Some m) n = m ≤ n
+
+-- the bookings stand in order of number and all wait, and for each place and class there is one demand, with a number that none of them is below, their least seats and the sum of their seats, or none where no booking is
 pub record IsIndexed (bookings : List Booking) (demands : List Demand) : Type 0 where
+  pub ordered : IsOrdered bookings
   pub waits : AllByRecursion (λ b. is_waiting b.status ≡ true) bookings
   pub small : AllByRecursion (λ b. b.seats < 65536) bookings
   pub apart : is_apart demands ≡ true
+  pub begins : AllByRecursion (λ b. IsReached (demand_first b.place b.class demands) b.number) bookings
   pub smallest : (place : Place) (class : ℕ) → demand_smallest place class demands ≡ smallest_of place class bookings
   pub seats : (place : Place) (class : ℕ) → demand_seats place class demands ≡ seats_for place class bookings
 
@@ -79,25 +97,46 @@ abbrev pub waits_of : List Demand → Table
 waits_of [] flight leg class = 0
 waits_of (p ∷ ps) flight leg class = demand_waits flight leg class p + waits_of ps flight leg class
 
--- each demand's smallest is above the room on its place in its class
-abbrev pub no_demand_fits : Ladders → Table → List Demand → Bool
-no_demand_fits grid seats demands = list_all (λ p. nat_lt (room grid seats p.place p.class) p.smallest) demands
+-- the least of a number and that at which a demand begins, where so many seats are left for its smallest
+abbrev pub first_with : Demand → ℕ → Option ℕ → Option ℕ
+first_with p left other = (if nat_le p.smallest left then least_with p.first other else other)
+
+-- the least number at which a demand begins whose smallest is at most the room on its place in its class
+abbrev pub first_fitting : Ladders → Table → List Demand → Option ℕ
+first_fitting grid seats [] = None
+first_fitting grid seats (p ∷ ps) = first_with p (room grid seats p.place p.class) (first_fitting grid seats ps)
 
 -- ---- changes
 
--- a booking of n seats more
-abbrev pub joined : List Demand → Place → ℕ → ℕ → List Demand
-joined [] place class n = record { place = place; class = class; smallest = n; seats = n } ∷ []
-joined (p ∷ ps) place class n =
-    (if is_demand_of place class p then record p { smallest = min n p.smallest; seats = p.seats + n } ∷ ps else p
-    ∷ joined ps place class n)
+-- a booking of this number and n seats more
+abbrev pub joined : List Demand → Place → ℕ → ℕ → ℕ → List Demand
+joined [] place class number n =
+    record { place = place; class = class; first = number; smallest = n; seats = n } ∷ []
+joined (p ∷ ps) place class number n =
+    (if is_demand_of place class p then record p {
+      first = min number p.first;
+      smallest = min n p.smallest;
+      seats = p.seats + n;
+    } ∷ ps else p ∷ joined ps place class number n)
 
--- the demand has n seats fewer, and this smallest; it goes where there is none
-abbrev pub with_smallest : Demand → Option ℕ → ℕ → List Demand → List Demand
-with_smallest p None n ps = ps
-with_smallest p (Some m) n ps = record p { smallest = m; seats = p.seats - n } ∷ ps
+-- where a demand begins from now on: where it did, or at the next of its bookings
+abbrev pub begun : ℕ → Option ℕ → ℕ
+begun first None = first
+begun first (Some next) = next
 
-abbrev pub settled : List Demand → Place → ℕ → Option ℕ → ℕ → List Demand
-settled [] place class smallest n = []
-settled (p ∷ ps) place class smallest n =
-    (if is_demand_of place class p then with_smallest p smallest n ps else p ∷ settled ps place class smallest n)
+-- the next of its bookings, where the one of this number, at which it began, has left
+abbrev pub next_first : Option ℕ → ℕ → Option ℕ → Option ℕ
+next_first None number next = None
+next_first (Some first) number next = (if first == number then next else None)
+
+-- the demand has n seats fewer, this smallest, and begins there; it goes where there is no smallest
+abbrev pub with_smallest : Demand → Option ℕ → Option ℕ → ℕ → List Demand → List Demand
+with_smallest p None next n ps = ps
+with_smallest p (Some m) next n ps =
+    record p { first = begun p.first next; smallest = m; seats = p.seats - n } ∷ ps
+
+abbrev pub settled : List Demand → Place → ℕ → Option ℕ → Option ℕ → ℕ → List Demand
+settled [] place class smallest next n = []
+settled (p ∷ ps) place class smallest next n =
+    (if is_demand_of place class p then with_smallest p smallest next n ps
+    else p ∷ settled ps place class smallest next n)

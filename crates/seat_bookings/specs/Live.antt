@@ -1,7 +1,6 @@
 -- The list of a flight's live bookings, and the index by which one is found.
-use Rattle.std.specs.Prelude.{◌≡◌, ℕ, ◌&&◌, ◌==◌, Bool, true, false, nat_eq, nat_lt, List, [], ◌∷◌, Option, Some, None, IfSome, if◌then◌else◌}
+use Rattle.std.specs.Prelude.{◌≡◌, ℕ, ◌&&◌, ◌==◌, Bool, true, nat_eq, nat_lt, List, [], ◌∷◌, Option, Some, None, IfSome, if◌then◌else◌}
 use Rattle.std.specs.Global.{Box}
-use Rattle.std.specs.List.{AllByRecursion}
 use Rattle.std.specs.HashMap.{HashMap, get, spare}
 use Rattle.std.specs.Cmp.Lexicographic.{pointwise}
 use Rattle.std.specs.declared.hash.FoldHasher.{FoldHasher}
@@ -9,7 +8,7 @@ use Rattle.std.specs.declared.hash.BuildHasherDefault.{BuildHasherDefault}
 use Rattle.airline_base.specs.declared.place.Place.{Place}
 use Rattle.seat_rules.specs.declared.booking.Booking.{Booking}
 use Rattle.seat_bookings.specs.declared.live_bookings.Key.{Key}
-use Rattle.seat_rules.specs.Bookings.{is_for, IsApart}
+use Rattle.seat_rules.specs.Bookings.{IsApart}
 use Rattle.seat_rules.specs.Applying.{IsOrdered}
 
 -- what a list of live bookings shows: its bookings in order of number, and whether there is memory for one more

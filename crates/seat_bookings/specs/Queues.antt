@@ -1,6 +1,5 @@
 -- Waiting lists.
-use Rattle.std.specs.Prelude.{ℕ, Bool, false, ◌==◌, nat_le, nat_lt, List, [], ◌∷◌, Option, drop, filter, position, if◌then◌else◌}
-use Rattle.std.specs.List.{list_all}
+use Rattle.std.specs.Prelude.{ℕ, Bool, false, ◌==◌, nat_le, List, [], ◌∷◌, Option, drop, filter, position, if◌then◌else◌}
 use Rattle.seat_nesting.specs.Nesting.{Ladders, Table, room}
 use Rattle.seat_rules.specs.declared.booking.Booking.{Booking}
 use Rattle.seat_rules.specs.Bookings.{is_waiting}
@@ -9,10 +8,6 @@ use Rattle.seat_rules.specs.Bookings.{is_waiting}
 pub record Waitlist : Type 0 where
   pub bookings : List Booking
   pub spare : Bool
-
--- each booking has more seats than the table leaves room for
-abbrev pub none_fits : Ladders → Table → List Booking → Bool
-none_fits grid seats queue = list_all (λ b. nat_lt (room grid seats b.place b.class) b.seats) queue
 
 -- the booking has at most the seats that the table leaves room for
 abbrev pub fits : Ladders → Table → Booking → Bool

@@ -1,19 +1,19 @@
 //! What waits for each place and class, so that a waiting list can answer without walking its bookings.
-ghost use Rattle.std.specs.Prelude.{◌≡◌, ◌≤◌, ◌<◌, ◌+◌, ◌^◌, ◌++◌, ◌∷◌, [], Some, drop, length, position, vec_len, vec_capacity};
+ghost use Rattle.std.specs.Prelude.{◌≡◌, ◌≤◌, ◌<◌, ◌+◌, ◌^◌, ◌++◌, ◌∷◌, [], None, Some, drop, length, position, vec_len, vec_capacity};
 ghost use Rattle.std.specs.List.{list_any};
-ghost use Rattle.seat_nesting.specs.Counting.{limits_of, table_of};
-ghost use Rattle.seat_bookings.specs.Demands.{is_demand_of, is_party_of, joined, least_with, no_demand_fits, demand_seats, demand_smallest, demand_waits, settled, smallest_of};
+ghost use Rattle.seat_bookings.specs.Demands.{begun, is_demand_of, is_party_of, joined, least_with, demand_first, demand_seats, demand_smallest, demand_waits, next_first, next_of, settled, smallest_of};
 
 use crate::fitting::behind;
 use airline_base::{Class, Place};
-use seat_nesting::Counts;
 use seat_rules::Booking;
 
-/// The bookings that wait for one place in one class: the seats of the smallest, and of all together.
+/// The bookings that wait for one place in one class: a number that none of them is below, the seats of the smallest, and of
+/// all together.
 #[derive(Clone, Copy)]
 pub struct Demand {
     pub place: Place,
     pub class: Class,
+    pub first: u32,
     pub smallest: u16,
     pub seats: u64,
 }
@@ -32,29 +32,21 @@ impl Demand {
     }
 }
 
-/// Whether the smallest booking of each demand has more seats than the counters leave room for.
-pub fn are_too_large(counts: &Counts, demands: &[Demand]) -> bool
-    ensures { result ≡ no_demand_fits (limits_of counts.now) (table_of counts.now) demands.now }
-{
-    demands
-        .iter()
-        .all(|p| counts.room(p.place, p.class) < p.smallest)
-}
-
-/// Adds a waiting booking of so many seats.
+/// Adds a waiting booking of this number and so many seats.
 #[tactic(auto, using(crate::proofs::Waitlists::Demands::seats_found, crate::proofs::Waitlists::Demands::joined_found, crate::proofs::Waitlists::Demands::joined_none))]
-pub fn join(demands: &mut Vec<Demand>, place: Place, class: Class, seats: u16)
+pub fn join(demands: &mut Vec<Demand>, number: u32, place: Place, class: Class, seats: u16)
     requires spare { vec_len demands.old < vec_capacity demands.old }
     requires few { demand_seats place class demands.old.items + seats < 2 ^ 64 }
-    ensures { demands.new.items ≡ joined demands.old.items place class seats }
+    ensures { demands.new.items ≡ joined demands.old.items place class number seats }
 {
     match find_demand(demands, place, class) {
         Some(at) => {
             let demand = &mut demands[at];
+            demand.first = number.min(demand.first);
             demand.smallest = seats.min(demand.smallest);
             demand.seats += u64::from(seats);
         }
-        None => open(demands, place, class, seats),
+        None => open(demands, number, place, class, seats),
     }
 }
 
@@ -62,39 +54,38 @@ pub fn join(demands: &mut Vec<Demand>, place: Place, class: Class, seats: u16)
 pub fn lessen(demands: &mut Vec<Demand>, place: Place, class: Class, off: u16, left: u16)
     requires { off ≤ demand_seats place class demands.old.items }
     ensures { demands.new.items ≡ settled demands.old.items place class
-        (least_with left (demand_smallest place class demands.old.items)) off }
+        (least_with left (demand_smallest place class demands.old.items)) None off }
 {
     let smallest = least(left, smallest_in(demands, place, class));
-    settle(demands, place, class, Some(smallest), off);
+    settle(demands, place, class, Some(smallest), None, off);
 }
 
-/// Removes a booking of so many seats, which has left the queue, where it stood at this index.
-pub fn leave(
-    demands: &mut Vec<Demand>,
-    queue: &[Booking],
-    at: usize,
-    place: Place,
-    class: Class,
-    seats: u16,
-)
+/// Removes a booking of this number and so many seats, which has left the queue, where it stood at this index.
+pub fn leave(demands: &mut Vec<Demand>, queue: &[Booking], at: usize, gone: Booking)
     requires within { at ≤ length queue.now }
-    requires enough { seats ≤ demand_seats place class demands.old.items }
-    requires least { demand_smallest place class demands.old.items
-        ≡ least_with seats (smallest_of place class queue.now) }
-    ensures { demands.new.items ≡ settled demands.old.items place class (smallest_of place class queue.now) seats }
+    requires enough { gone.seats ≤ demand_seats gone.place gone.class demands.old.items }
+    requires least { demand_smallest gone.place gone.class demands.old.items
+        ≡ least_with gone.seats (smallest_of gone.place gone.class queue.now) }
+    ensures { demands.new.items ≡ settled demands.old.items gone.place gone.class
+        (smallest_of gone.place gone.class queue.now)
+        (next_first (demand_first gone.place gone.class demands.old.items) gone.number
+        (next_of gone.place gone.class (drop at queue.now))) gone.seats }
 {
-    let smallest = smallest_left(demands, queue, at, place, class, seats);
-    settle(demands, place, class, smallest, seats);
+    let (place, class) = (gone.place, gone.class);
+    let smallest = smallest_left(demands, queue, at, place, class, gone.seats);
+    let next = next_left(demands, queue, at, place, class, gone.number);
+    settle(demands, place, class, smallest, next, gone.seats);
 }
 
-fn open(demands: &mut Vec<Demand>, place: Place, class: Class, seats: u16)
+fn open(demands: &mut Vec<Demand>, number: u32, place: Place, class: Class, seats: u16)
     requires { vec_len demands.old < vec_capacity demands.old }
     ensures { demands.new.items ≡ demands.old.items
-        ++ record { place = place; class = class; smallest = seats; seats = seats } ∷ [] }
+        ++ record { place = place; class = class; first = number; smallest = seats; seats = seats } ∷ [] }
 {
     let pushed = demands.push(Demand {
         place,
         class,
+        first: number,
         smallest: seats,
         seats: u64::from(seats),
     });
@@ -103,10 +94,18 @@ fn open(demands: &mut Vec<Demand>, place: Place, class: Class, seats: u16)
 }
 
 #[tactic(auto, using(crate::proofs::Waitlists::Demands::seats_found, crate::proofs::Waitlists::Demands::settled_found, crate::proofs::Waitlists::Demands::settled_gone, crate::proofs::Waitlists::Demands::settled_none))]
-// Takes seats off the demand, which has this smallest from now on, and goes where there is none.
-fn settle(demands: &mut Vec<Demand>, place: Place, class: Class, smallest: Option<u16>, off: u16)
+// Takes seats off the demand, which has this smallest from now on and begins at `next`, where that is told, and goes where
+// there is no smallest.
+fn settle(
+    demands: &mut Vec<Demand>,
+    place: Place,
+    class: Class,
+    smallest: Option<u16>,
+    next: Option<u32>,
+    off: u16,
+)
     requires { off ≤ demand_seats place class demands.old.items }
-    ensures { demands.new.items ≡ settled demands.old.items place class smallest off }
+    ensures { demands.new.items ≡ settled demands.old.items place class smallest next off }
 {
     let Some(at) = find_demand(demands, place, class) else {
         return;
@@ -114,6 +113,7 @@ fn settle(demands: &mut Vec<Demand>, place: Place, class: Class, smallest: Optio
     match smallest {
         Some(smallest) => {
             let demand = &mut demands[at];
+            demand.first = begun(demand.first, next);
             demand.smallest = smallest;
             demand.seats -= u64::from(off);
         }
@@ -121,6 +121,61 @@ fn settle(demands: &mut Vec<Demand>, place: Place, class: Class, smallest: Optio
             demands.remove(at);
         }
     }
+}
+
+fn begun(first: u32, next: Option<u32>) -> u32
+    ensures { result ≡ begun first next }
+{
+    match next {
+        Some(next) => next,
+        None => first,
+    }
+}
+
+// Where the demand begins once the booking of this number has left, which stood at an index: at the next one behind it,
+// where it was the first.
+fn next_left(
+    demands: &[Demand],
+    queue: &[Booking],
+    at: usize,
+    place: Place,
+    class: Class,
+    number: u32,
+) -> Option<u32>
+    requires { at ≤ length queue.now }
+    ensures { result ≡ next_first (demand_first place class demands.now) number (next_of place class (drop at queue.now)) }
+{
+    let Some(first) = first_in(demands, place, class) else {
+        return None;
+    };
+    if first == number {
+        return next_of(behind(queue, at), place, class);
+    }
+    None
+}
+
+// The number of the first booking of this place and class.
+fn next_of(queue: &[Booking], place: Place, class: Class) -> Option<u32>
+    ensures { result ≡ next_of place class queue.now }
+{
+    for booking in queue {
+        if booking.place == place && booking.class == class {
+            return Some(booking.number);
+        }
+    }
+    None
+}
+
+// The number at which the demand of this place and class begins.
+fn first_in(demands: &[Demand], place: Place, class: Class) -> Option<u32>
+    ensures { result ≡ demand_first place class demands.now }
+{
+    for demand in demands {
+        if demand.place == place && demand.class == class {
+            return Some(demand.first);
+        }
+    }
+    None
 }
 
 #[tactic(auto, using(crate::proofs::Waitlists::Index::none_least, crate::proofs::Waitlists::Index::other_least, crate::proofs::Waitlists::Index::same_least, crate::proofs::Waitlists::Departures::least_behind))]

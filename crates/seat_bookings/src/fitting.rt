@@ -1,18 +1,19 @@
-//! Which waiting booking fits: most are passed over by their class alone.
-ghost use Rattle.std.specs.Prelude.{◌≡◌, ◌≤◌, ◌&&◌, ℕ, drop, length, nat_le, position};
+//! Which waiting booking fits: most are passed over by their number or their class alone.
+ghost use Rattle.std.specs.Prelude.{◌≡◌, ◌≤◌, ◌&&◌, ℕ, Some, drop, length, nat_le, position};
 ghost use Rattle.seat_nesting.specs.Counting.{limits_of, table_of};
 ghost use Rattle.seat_nesting.specs.Nesting.{room};
-ghost use Rattle.seat_bookings.specs.Demands.{IsIndexed};
+ghost use Rattle.seat_bookings.specs.Demands.{first_fitting, first_with, least_with, IsIndexed};
 ghost use Rattle.seat_bookings.specs.Fitting.{most_of, IsMost, IsMostFor};
 ghost use Rattle.seat_bookings.specs.Queues.{fits, next_fit};
 
-use crate::demands::{Demand, are_too_large};
+use crate::bookings::reach;
+use crate::demands::Demand;
 use airline_base::Class;
 use seat_nesting::Counts;
 use seat_rules::Booking;
 
 /// How far behind an index the first of these bookings stands that has at most the seats that the counters leave room for.
-#[tactic(auto, using(crate::proofs::Waitlists::Fitting::none_next, crate::proofs::Waitlists::Fitting::most_behind))]
+#[tactic(auto, using(crate::proofs::Waitlists::Fitting::none_next, crate::proofs::Waitlists::Fitting::most_behind, crate::proofs::Waitlists::Reaching::reach_within))]
 pub fn next_fit(
     counts: &Counts,
     bookings: &[Booking],
@@ -23,26 +24,62 @@ pub fn next_fit(
     requires indexed { IsIndexed bookings.now demands.now }
     ensures { result ≡ next_fit (limits_of counts.now) (table_of counts.now) bookings.now from }
 {
-    if are_too_large(counts, demands) {
+    let mut most = [0; 26];
+    let Some(first) = first_fitting(counts, demands, &mut most) else {
         return None;
+    };
+    let start = from.max(reach(bookings, first));
+    match fit_from(counts, bookings, &most, start) {
+        Some(at) => Some(start - from + at),
+        None => None,
     }
-    let most = most_rooms(counts, demands);
-    first_fit(counts, behind(bookings, from), &most)
 }
 
-// By classes from A on, the most room that a demand of the class finds.
-fn most_rooms(counts: &Counts, demands: &[Demand]) -> [u16; 26]
-    ensures { IsMost (limits_of counts.now) (table_of counts.now) result demands.now }
+// The least number at which a demand begins that finds room for its smallest booking. Notes by classes from A on the most
+// room that a demand of the class finds.
+fn first_fitting(counts: &Counts, demands: &[Demand], most: &mut [u16; 26]) -> Option<u32>
+    ensures first { result ≡ first_fitting (limits_of counts.now) (table_of counts.now) demands.now }
+    ensures most { IsMost (limits_of counts.now) (table_of counts.now) most.new demands.now }
 {
-    let mut most = [0; 26];
+    let mut first = None;
     let mut at = demands.len();
     while at > 0 {
         at -= 1;
         let demand = &demands[at];
         let room = counts.room(demand.place, demand.class);
-        raise(&mut most, demand.class, room);
+        raise(most, demand.class, room);
+        first = sooner(demand, room, first);
     }
-    most
+    first
+}
+
+// The least of a number and that at which a demand begins, where so many seats are left for its smallest booking.
+fn sooner(demand: &Demand, left: u16, other: Option<u32>) -> Option<u32>
+    ensures { result ≡ first_with demand.now left other }
+{
+    if demand.smallest > left {
+        return other;
+    }
+    Some(lower(demand.first, other))
+}
+
+fn lower(number: u32, other: Option<u32>) -> u32
+    ensures { Some result ≡ least_with number other }
+{
+    match other {
+        Some(other) => number.min(other),
+        None => number,
+    }
+}
+
+// How far behind an index the first of these bookings stands that fits, where those that do have no more seats than are
+// noted for their class.
+fn fit_from(counts: &Counts, bookings: &[Booking], most: &[u16; 26], start: usize) -> Option<usize>
+    requires within { start ≤ length bookings.now }
+    requires most { IsMostFor (limits_of counts.now) (table_of counts.now) most.now (drop start bookings.now) }
+    ensures { result ≡ next_fit (limits_of counts.now) (table_of counts.now) bookings.now start }
+{
+    first_fit(counts, behind(bookings, start), most)
 }
 
 // Where the first of these bookings stands that has at most the seats that the counters leave room for.

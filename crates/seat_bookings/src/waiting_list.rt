@@ -5,12 +5,12 @@ ghost use Rattle.seat_nesting.specs.Nesting.{may_wait};
 ghost use Rattle.seat_rules.specs.Applying.{IsOrdered};
 ghost use Rattle.seat_rules.specs.Bookings.{is_for, waiting};
 ghost use Rattle.seat_bookings.specs.Demands.{has_spare, IsIndexed};
-ghost use Rattle.seat_bookings.specs.Queues.{next_fit, none_fits, without};
+ghost use Rattle.seat_bookings.specs.Queues.{next_fit, without};
 ghost use Rattle.seat_rules.specs.Sequential.{booking_of, reduced};
 ghost use Rattle.seat_rules.specs.declared.booking.Status.TheVariants.{Waiting};
 
 use crate::bookings::{add, find_number, take_off};
-use crate::demands::{Demand, are_too_large, join, leave, lessen};
+use crate::demands::{Demand, join, leave, lessen};
 use crate::fitting::next_fit;
 use crate::rooms::may_wait_at;
 use crate::row::Row;
@@ -72,9 +72,10 @@ impl WaitingList {
         Ok(())
     }
 
-    /// Adds the booking of a command.
+    /// Adds the booking of a command, whose number is above theirs.
     pub fn add(&mut self, number: u32, command: &Command, place: Place)
-        requires { self.old.spare ≡ true }
+        requires spare { self.old.spare ≡ true }
+        requires ordered { IsOrdered (self.old.bookings ++ booking_of number command.now place Waiting ∷ []) }
         ensures { self.new.bookings ≡ self.old.bookings ++ booking_of number command.now place Waiting ∷ [] }
     {
         add_to(
@@ -88,8 +89,7 @@ impl WaitingList {
 
     /// Takes the seats of a command off its booking, which has this number, where there is one.
     pub fn reduce(&mut self, number: u32, command: &Command, place: Place)
-        requires ordered { IsOrdered self.old.bookings }
-        requires number { position (λ b. b.number == number) self.old.bookings
+        requires { position (λ b. b.number == number) self.old.bookings
             ≡ position (is_for command.now.locator place command.now.class) self.old.bookings }
         ensures { self.new.bookings ≡ reduced (is_for command.now.locator place command.now.class) command.now.seats
             self.old.bookings }
@@ -102,7 +102,6 @@ impl WaitingList {
 
     /// Takes out the booking of this number, where there is one.
     pub fn take_out(&mut self, number: u32)
-        requires { IsOrdered self.old.bookings }
         ensures { self.new.bookings ≡ without self.old.bookings number }
     {
         match find_number(self.bookings.as_slice(), number) {
@@ -127,13 +126,6 @@ impl WaitingList {
     {
         next_fit(counts, self.bookings.as_slice(), &self.demands, from)
     }
-
-    /// Whether each waiting booking has more seats than the counters leave room for.
-    pub fn none_fits(&self, counts: &Counts) -> bool
-        ensures { result ≡ none_fits (limits_of counts.now) (table_of counts.now) self.now.bookings }
-    {
-        are_too_large(counts, &self.demands)
-    }
 }
 
 // Adds the booking of a command, for which there is room, to its demand.
@@ -146,11 +138,12 @@ fn add_to(
 )
     requires spare { has_spare (length bookings.old.items) bookings.old.spare (vec_len demands.old)
         (vec_capacity demands.old) ≡ true }
+    requires ordered { IsOrdered (bookings.old.items ++ booking_of number command.now place Waiting ∷ []) }
     requires indexed { IsIndexed bookings.old.items demands.old.items }
     ensures added { bookings.new.items ≡ bookings.old.items ++ booking_of number command.now place Waiting ∷ [] }
     ensures indexed { IsIndexed bookings.new.items demands.new.items }
 {
-    join(demands, place, command.class, command.seats);
+    join(demands, number, place, command.class, command.seats);
     add(bookings, number, command, place, Status::Waiting);
 }
 
@@ -191,12 +184,5 @@ fn take_at(bookings: &mut Row, demands: &mut Vec<Demand>, at: usize)
     ensures indexed { IsIndexed bookings.new.items demands.new.items }
 {
     let gone = bookings.remove(at);
-    leave(
-        demands,
-        bookings.as_slice(),
-        at,
-        gone.place,
-        gone.class,
-        gone.seats,
-    );
+    leave(demands, bookings.as_slice(), at, gone);
 }

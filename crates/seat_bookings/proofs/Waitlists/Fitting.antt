@@ -1,18 +1,23 @@
 -- Which waiting booking fits, and what passes over most of them.
-use Rattle.std.proofs.Common.{◌≡◌, ◌&&◌, ℕ, zero, suc, ◌+◌, ◌<◌, ◌≤◌, Bool, true, false, min, nat_le, nat_lt, not, List, [], ◌∷◌, length, get_or, drop, position, Option, Some, None, cond, arith, refl, ap, sym, subst, ◌∙◌}
+use Rattle.std.proofs.Common.{◌≡◌, ◌&&◌, ℕ, zero, suc, ◌+◌, ◌<◌, ◌≤◌, Bool, true, false, min, max, ◌-◌, nat_le, nat_lt, List, [], ◌∷◌, length, get_or, drop, position, Option, Some, None, cond, arith, refl, ap, sym, subst, ◌∙◌}
 use Rattle.seat_bookings.proofs.Common.{AllByRecursion, Place, Booking, Demand, is_demand_of, is_booking_of, least_with, smallest_of, demand_smallest, IsIndexed}
-use Rattle.std.specs.List.{position_or_len}
+use Rattle.std.specs.List.{position_or_len, prefix_len}
 use Rattle.std.proofs.lemmas.Bool.Decides.{nat_tests}
 use Rattle.seat_nesting.specs.Nesting.{Ladders, Table, room}
 use Rattle.seat_nesting.proofs.Rooms.{drop_first}
 use Rattle.seat_rules.proofs.Passes.Quiet.{all_map}
-use Rattle.seat_bookings.specs.Demands.{no_demand_fits}
+use Rattle.seat_bookings.specs.Demands.{demand_first, first_fitting, first_with, IsReached}
 use Rattle.seat_bookings.specs.Fitting.{most_of, IsMost, IsMostFor}
-use Rattle.seat_bookings.specs.Queues.{fits, next_fit, none_fits}
+use Rattle.seat_bookings.specs.Queues.{fits, next_fit}
 use Rattle.seat_bookings.proofs.Live.Order.{absent_nowhere}
-use Rattle.seat_bookings.proofs.Waitlists.Index.{at_itself, at_same}
-use Rattle.seat_bookings.proofs.Waitlists.Room.{none_fits_told}
-use Rattle.airline_base.proofs.Tests.{both_true}
+use Rattle.seat_bookings.proofs.Waitlists.Index.{at_itself, at_same, least_each, reached_as, reached_least, reached_more, some_same}
+use Rattle.seat_bookings.proofs.Waitlists.Reaching.{further, reach_further}
+
+-- what holds of each by two things that hold of each
+all_both : (P Q R : Booking → Type 0) (xs : List Booking) → ((b : Booking) → P b → Q b → R b)
+    → AllByRecursion P xs → AllByRecursion Q xs → AllByRecursion R xs
+all_both P Q R [] f a b = tt
+all_both P Q R (x ∷ xs) f a b = (f x a.0 b.0, all_both P Q R xs f a.1 b.1)
 
 -- ---- behind an index
 pub all_drop : (P : Booking → Type 0) (xs : List Booking) (k : ℕ) → AllByRecursion P xs → AllByRecursion P (drop k xs)
@@ -20,20 +25,116 @@ all_drop P xs zero a = a
 all_drop P [] (suc k) a = a
 all_drop P (x ∷ xs) (suc k) a = all_drop P xs k a.1
 
--- where none fits
-none_each : (grid : Ladders) (t : Table) (xs : List Booking) → none_fits grid t xs ≡ true
-    → AllByRecursion (λ b. fits grid t b ≡ false) xs
-none_each grid t [] h = tt
-none_each grid t (b ∷ bs) h =
-    let parts = both_true (nat_lt (room grid t b.place b.class) b.seats) (none_fits grid t bs) h in
-    let over : nat_le b.seats (room grid t b.place b.class) ≡ false = (let e = parts.0 in grind (arith, nat_tests)) in
-    (over, none_each grid t bs parts.1)
+-- ---- where the demands that fit begin
+reached_either : (u : Bool) (o p : Option ℕ) (n : ℕ) → (u ≡ true → IsReached o n) → (u ≡ false → IsReached p n)
+    → IsReached (cond u o p) n
+reached_either true o p n f g = f refl
+reached_either false o p n f g = g refl
 
+-- a booking of a demand that fits is not before them
+fit_first : (grid : Ladders) (t : Table) (q : Place) (c m seats n : ℕ) (ps : List Demand)
+    → demand_smallest q c ps ≡ Some m → m ≤ seats → seats ≤ room grid t q c → IsReached (demand_first q c ps) n
+    → IsReached (first_fitting grid t ps) n
+fit_first grid t q c m seats n [] e le fit low = absurd cc
+fit_first grid t q c m seats n (p ∷ ps) e le fit low =
+    cases (is_demand_of q c p) refl e low (λ f l. fit_first grid t q c m seats n ps f le fit l)
+  where
+    cases : (u : Bool) → is_demand_of q c p ≡ u → cond u (Some p.smallest) (demand_smallest q c ps) ≡ Some m
+        → IsReached (cond u (Some p.first) (demand_first q c ps)) n
+        → (demand_smallest q c ps ≡ Some m → IsReached (demand_first q c ps) n → IsReached (first_fitting grid t ps) n)
+        → IsReached (first_fitting grid t (p ∷ ps)) n
+    cases true f g l rest =
+        let h = at_same q p.place c p.class f in
+        let P : Place → Type 0 = λ y. seats ≤ room grid t y c in
+        let Q : ℕ → Type 0 = λ j. seats ≤ room grid t p.place j in
+        let here : seats ≤ room grid t p.place p.class = subst Q (sym h.1) (subst P (sym h.0) fit) in
+        let small : p.smallest ≡ m = some_same p.smallest m g in
+        let enough : p.smallest ≤ room grid t p.place p.class = omega (arith, small, le, here) in
+        let yes : nat_le p.smallest (room grid t p.place p.class) ≡ true = grind (arith, nat_tests) in
+        reached_either (nat_le p.smallest (room grid t p.place p.class)) (least_with p.first (first_fitting grid t ps)) (first_fitting grid t ps) n
+        (λ e. reached_least p.first (first_fitting grid t ps) n l) (λ e. let no : true ≡ false = sym yes ∙ e in absurd cc)
+    cases false f g l rest =
+        reached_either (nat_le p.smallest (room grid t p.place p.class)) (least_with p.first (first_fitting grid t ps)) (first_fitting grid t ps) n
+        (λ e. reached_more p.first (first_fitting grid t ps) n (rest g l)) (λ e. rest g l)
+
+fits_from : (grid : Ladders) (t : Table) (xs : List Booking) (ps : List Demand) → IsIndexed xs ps
+    → AllByRecursion (λ b. fits grid t b ≡ true → IsReached (first_fitting grid t ps) b.number) xs
+fits_from grid t xs ps i =
+    all_both (λ b. IsReached (smallest_of b.place b.class xs) b.seats) (λ b. IsReached (demand_first b.place b.class ps) b.number)
+    (λ b. fits grid t b ≡ true → IsReached (first_fitting grid t ps) b.number) xs
+    (λ b s l e. one b (smallest_of b.place b.class xs) refl s l e) (least_each xs) i.begins
+  where
+    one : (b : Booking) (o : Option ℕ) → smallest_of b.place b.class xs ≡ o → IsReached o b.seats
+        → IsReached (demand_first b.place b.class ps) b.number → fits grid t b ≡ true
+        → IsReached (first_fitting grid t ps) b.number
+    one b None f s l e = absurd s
+    one b (Some m) f s l e =
+        let small : m ≤ b.seats = s in
+        let le : b.seats ≤ room grid t b.place b.class = grind (arith, nat_tests) in
+        fit_first grid t b.place b.class m b.seats b.number ps (i.smallest b.place b.class ∙ f) small le l
+
+-- where no demand fits
 pub none_next : (grid : Ladders) (t : Table) (xs : List Booking) (ps : List Demand) (from : ℕ) → IsIndexed xs ps
-    → no_demand_fits grid t ps ≡ true → None ≡ next_fit grid t xs from
-none_next grid t xs ps from i h =
-    let none : none_fits grid t xs ≡ true = sym (none_fits_told grid t xs ps i) ∙ h in
-    sym (absent_nowhere (fits grid t) (drop from xs) (all_drop (λ b. fits grid t b ≡ false) xs from (none_each grid t xs none)))
+    → None ≡ first_fitting grid t ps → None ≡ next_fit grid t xs from
+none_next grid t xs ps from i none =
+    sym (absent_nowhere (fits grid t) (drop from xs)
+    (all_drop (λ b. fits grid t b ≡ false) xs from
+    (all_map (λ b. fits grid t b ≡ true → IsReached (first_fitting grid t ps) b.number) (λ b. fits grid t b ≡ false) xs
+    (λ b h. over b (fits grid t b) refl h) (fits_from grid t xs ps i))))
+  where
+    over : (b : Booking) (u : Bool) → fits grid t b ≡ u
+        → (fits grid t b ≡ true → IsReached (first_fitting grid t ps) b.number) → fits grid t b ≡ false
+    over b true e h = absurd (reached_as None (first_fitting grid t ps) b.number none (h e))
+    over b false e h = e
+
+-- those before the first of them do not fit
+over_below : (grid : Ladders) (t : Table) (xs : List Booking) (ps : List Demand) (first : ℕ) → IsIndexed xs ps
+    → Some first ≡ first_fitting grid t ps
+    → AllByRecursion (λ b. nat_lt b.number first ≡ true → fits grid t b ≡ false) xs
+over_below grid t xs ps first i some =
+    all_map (λ b. fits grid t b ≡ true → IsReached (first_fitting grid t ps) b.number)
+    (λ b. nat_lt b.number first ≡ true → fits grid t b ≡ false) xs
+    (λ b h low. over b (fits grid t b) refl h low) (fits_from grid t xs ps i)
+  where
+    over : (b : Booking) (u : Bool) → fits grid t b ≡ u
+        → (fits grid t b ≡ true → IsReached (first_fitting grid t ps) b.number) → nat_lt b.number first ≡ true
+        → fits grid t b ≡ false
+    over b true e h low =
+        let le : first ≤ b.number = reached_as (Some first) (first_fitting grid t ps) b.number some (h e) in
+        let lt : b.number < first = grind (arith, nat_tests) in
+        absurd (omega (arith, le, lt))
+    over b false e h low = e
+
+next_from : (grid : Ladders) (t : Table) (xs : List Booking) (ps : List Demand) (from first reached start : ℕ)
+    → IsIndexed xs ps → Some first ≡ first_fitting grid t ps → from ≤ length xs
+    → reached ≡ prefix_len (λ (b : Booking). nat_lt b.number first) xs → start ≡ max from reached
+    → next_fit grid t xs from ≡ further (start - from) (next_fit grid t xs start)
+next_from grid t xs ps from first reached start i some within is at =
+    reach_further (λ (b : Booking). nat_lt b.number first) (fits grid t) xs from reached start within is at (over_below grid t xs ps first i some)
+
+pub next_further : (grid : Ladders) (t : Table) (xs : List Booking) (ps : List Demand) (from first reached start k n : ℕ)
+    → IsIndexed xs ps → Some first ≡ first_fitting grid t ps → from ≤ length xs
+    → reached ≡ prefix_len (λ (b : Booking). nat_lt b.number first) xs → start ≡ max from reached
+    → Some k ≡ next_fit grid t xs start → n ≡ start - from + k → Some n ≡ next_fit grid t xs from
+next_further grid t xs ps from first reached start k n i some within is at found told =
+    ap Some told ∙ (ap (further (start - from)) found ∙ sym (next_from grid t xs ps from first reached start i some within is at))
+
+pub next_nowhere : (grid : Ladders) (t : Table) (xs : List Booking) (ps : List Demand) (from first reached start : ℕ)
+    → IsIndexed xs ps → Some first ≡ first_fitting grid t ps → from ≤ length xs
+    → reached ≡ prefix_len (λ (b : Booking). nat_lt b.number first) xs → start ≡ max from reached
+    → None ≡ next_fit grid t xs start → None ≡ next_fit grid t xs from
+next_nowhere grid t xs ps from first reached start i some within is at none =
+    ap (further (start - from)) none ∙ sym (next_from grid t xs ps from first reached start i some within is at)
+
+-- the next demand
+pub first_next : (grid : Ladders) (t : Table) (ps : List Demand) (i j : ℕ) (p : Demand) (left : ℕ) (old new : Option ℕ)
+    → old ≡ first_fitting grid t (drop j ps) → j ≡ i + 1 → i < length ps → p ≡ get_or ps i p
+    → left ≡ room grid t p.place p.class → new ≡ first_with p left old → new ≡ first_fitting grid t (drop i ps)
+first_next grid t ps i j p left old new so next lt is finds gives =
+    gives
+    ∙ (ap (λ (n : ℕ). first_with p n old) finds
+    ∙ (ap (first_with p (room grid t p.place p.class)) so
+    ∙ ap (first_fitting grid t) (sym (drop_first ps i j p next lt is))))
 
 -- ---- the most room of a class
 pub most_none : (grid : Ladders) (t : Table) (most : List ℕ) (ps : List Demand) (n : ℕ) → length ps ≤ n

@@ -4,10 +4,11 @@ use Rattle.seat_bookings.proofs.Common.{AllByRecursion, Place, Booking, Demand, 
 use Rattle.std.specs.List.{list_any}
 use Rattle.std.proofs.lemmas.Bool.Decides.{nat_tests}
 use Rattle.std.proofs.lemmas.List.{set-get_or}
+use Rattle.seat_rules.specs.Applying.{IsOrdered}
 use Rattle.seat_rules.specs.Bookings.{same_place}
-use Rattle.seat_bookings.specs.Demands.{joined}
+use Rattle.seat_bookings.specs.Demands.{joined, demand_first, IsReached}
 use Rattle.seat_rules.proofs.History.Faults.{nat_same, place_same, same_nat}
-use Rattle.seat_rules.proofs.Passes.Quiet.{all_push}
+use Rattle.seat_rules.proofs.Passes.Quiet.{all_push, all_map}
 use Rattle.airline_base.proofs.Tests.{both_true}
 
 -- ---- places and classes
@@ -62,6 +63,23 @@ other_least m n (Some k) e lt = ap Some (omega (arith, lt, some_same m (min n k)
 pub same_least : (m n : ℕ) (o : Option ℕ) → Some m ≡ least_with n o → n ≤ m → least_with m o ≡ Some m
 same_least m n None e le = refl
 same_least m n (Some k) e le = ap Some (omega (arith, le, some_same m (min n k) e))
+
+-- ---- a number that is noted and not above another
+pub reached_as : (o p : Option ℕ) (n : ℕ) → o ≡ p → IsReached p n → IsReached o n
+reached_as o p n e h =
+    let P : Option ℕ → Type 0 = λ q. IsReached q n in
+    subst P (sym e) h
+
+pub reached_least : (m : ℕ) (o : Option ℕ) (n : ℕ) → m ≤ n → IsReached (least_with m o) n
+reached_least m None n le = le
+reached_least m (Some k) n le = let least : min m k ≤ n = omega (arith, le) in least
+
+pub reached_more : (m : ℕ) (o : Option ℕ) (n : ℕ) → IsReached o n → IsReached (least_with m o) n
+reached_more m None n h = absurd h
+reached_more m (Some k) n h =
+    let le : k ≤ n = h in
+    let least : min m k ≤ n = omega (arith, le) in
+    least
 
 -- ---- one booking more, wherever it stands
 abbrev pub with_least : Place → ℕ → Booking → Option ℕ → Option ℕ
@@ -162,6 +180,23 @@ none_left q c (b ∷ bs) e = cases (is_booking_of q c b) refl e (none_left q c b
   cases true f g rest = some b.seats (smallest_of q c bs) (rw f at g)
   cases false f g rest = rw f (rest (rw f at g))
 
+-- each has at least the least seats of its place and class
+least_behind : (q : Place) (c n : ℕ) (x : Booking) (xs : List Booking) → IsReached (smallest_of q c xs) n
+    → IsReached (smallest_of q c (x ∷ xs)) n
+least_behind q c n x xs h = cases (is_booking_of q c x) refl where
+  cases : (t : Bool) → is_booking_of q c x ≡ t → IsReached (smallest_of q c (x ∷ xs)) n
+  cases true e = rw e (reached_more x.seats (smallest_of q c xs) n h)
+  cases false e = rw e h
+
+pub least_each : (xs : List Booking) → AllByRecursion (λ b. IsReached (smallest_of b.place b.class xs) b.seats) xs
+least_each [] = tt
+least_each (x ∷ xs) =
+    let here : IsReached (smallest_of x.place x.class (x ∷ xs)) x.seats = rw (at_itself x.place x.class) (reached_least x.seats (smallest_of x.place x.class xs) x.seats (omega arith)) in (
+      here,
+      all_map (λ b. IsReached (smallest_of b.place b.class xs) b.seats) (λ b. IsReached (smallest_of b.place b.class (x ∷ xs)) b.seats) xs
+          (λ b h. least_behind b.place b.class b.seats x xs h) (least_each xs),
+    )
+
 -- ---- the demands, place by place
 pub neither : (t u : Bool) → (t || u) ≡ false → (t ≡ false) × (u ≡ false)
 neither true u e = absurd cc
@@ -200,111 +235,163 @@ gone_at place class p ps e f =
     subst Q h.1 (subst P h.0 f)
 
 -- ---- a booking joins
-pub joined_smallest : (place : Place) (class n : ℕ) (q : Place) (c : ℕ) (ps : List Demand)
-    → is_at place class q c ≡ false → demand_smallest q c (joined ps place class n) ≡ demand_smallest q c ps
-joined_smallest place class n q c [] other = rw (at_turned q place c class ∙ other) refl
-joined_smallest place class n q c (p ∷ ps) other = cases (is_demand_of place class p) (is_demand_of q c p) refl refl (joined_smallest place class n q c ps other) where
+pub joined_smallest : (place : Place) (class k n : ℕ) (q : Place) (c : ℕ) (ps : List Demand)
+    → is_at place class q c ≡ false → demand_smallest q c (joined ps place class k n) ≡ demand_smallest q c ps
+joined_smallest place class k n q c [] other = rw (at_turned q place c class ∙ other) refl
+joined_smallest place class k n q c (p ∷ ps) other = cases (is_demand_of place class p) (is_demand_of q c p) refl refl (joined_smallest place class k n q c ps other) where
   cases : (t u : Bool) → is_demand_of place class p ≡ t → is_demand_of q c p ≡ u
-      → demand_smallest q c (joined ps place class n) ≡ demand_smallest q c ps
-      → demand_smallest q c (joined (p ∷ ps) place class n) ≡ demand_smallest q c (p ∷ ps)
+      → demand_smallest q c (joined ps place class k n) ≡ demand_smallest q c ps
+      → demand_smallest q c (joined (p ∷ ps) place class k n) ≡ demand_smallest q c (p ∷ ps)
   cases true u e f rest = let away = at_other place q p.place class c p.class other e in rw e (rw away refl)
   cases false true e f rest = rw (e, f) refl
   cases false false e f rest = rw (e, f) rest
 
-pub joined_seats : (place : Place) (class n : ℕ) (q : Place) (c : ℕ) (ps : List Demand) → is_at place class q c ≡ false
-    → demand_seats q c (joined ps place class n) ≡ demand_seats q c ps
-joined_seats place class n q c [] other = rw (at_turned q place c class ∙ other) refl
-joined_seats place class n q c (p ∷ ps) other = cases (is_demand_of place class p) (is_demand_of q c p) refl refl (joined_seats place class n q c ps other) where
+pub joined_seats : (place : Place) (class k n : ℕ) (q : Place) (c : ℕ) (ps : List Demand) → is_at place class q c ≡ false
+    → demand_seats q c (joined ps place class k n) ≡ demand_seats q c ps
+joined_seats place class k n q c [] other = rw (at_turned q place c class ∙ other) refl
+joined_seats place class k n q c (p ∷ ps) other = cases (is_demand_of place class p) (is_demand_of q c p) refl refl (joined_seats place class k n q c ps other) where
   cases : (t u : Bool) → is_demand_of place class p ≡ t → is_demand_of q c p ≡ u
-      → demand_seats q c (joined ps place class n) ≡ demand_seats q c ps
-      → demand_seats q c (joined (p ∷ ps) place class n) ≡ demand_seats q c (p ∷ ps)
+      → demand_seats q c (joined ps place class k n) ≡ demand_seats q c ps
+      → demand_seats q c (joined (p ∷ ps) place class k n) ≡ demand_seats q c (p ∷ ps)
   cases true u e f rest = let away = at_other place q p.place class c p.class other e in rw e (rw away refl)
   cases false true e f rest = rw (e, f) refl
   cases false false e f rest = rw (e, f) rest
 
-pub joined_smallest_here : (place : Place) (class n : ℕ) (ps : List Demand)
-    → demand_smallest place class (joined ps place class n) ≡ least_with n (demand_smallest place class ps)
-joined_smallest_here place class n [] = rw (at_itself place class) refl
-joined_smallest_here place class n (p ∷ ps) = cases (is_demand_of place class p) refl (joined_smallest_here place class n ps) where
+pub joined_smallest_here : (place : Place) (class k n : ℕ) (ps : List Demand)
+    → demand_smallest place class (joined ps place class k n) ≡ least_with n (demand_smallest place class ps)
+joined_smallest_here place class k n [] = rw (at_itself place class) refl
+joined_smallest_here place class k n (p ∷ ps) = cases (is_demand_of place class p) refl (joined_smallest_here place class k n ps) where
   cases : (t : Bool) → is_demand_of place class p ≡ t
-      → demand_smallest place class (joined ps place class n) ≡ least_with n (demand_smallest place class ps)
-      → demand_smallest place class (joined (p ∷ ps) place class n)
+      → demand_smallest place class (joined ps place class k n) ≡ least_with n (demand_smallest place class ps)
+      → demand_smallest place class (joined (p ∷ ps) place class k n)
       ≡ least_with n (demand_smallest place class (p ∷ ps))
   cases true e rest = rw e (rw e refl)
   cases false e rest = rw e (rw e rest)
 
-pub joined_seats_here : (place : Place) (class n : ℕ) (ps : List Demand)
-    → demand_seats place class (joined ps place class n) ≡ n + demand_seats place class ps
-joined_seats_here place class n [] = rw (at_itself place class) (omega arith)
-joined_seats_here place class n (p ∷ ps) = cases (is_demand_of place class p) refl (joined_seats_here place class n ps) where
+pub joined_seats_here : (place : Place) (class k n : ℕ) (ps : List Demand)
+    → demand_seats place class (joined ps place class k n) ≡ n + demand_seats place class ps
+joined_seats_here place class k n [] = rw (at_itself place class) (omega arith)
+joined_seats_here place class k n (p ∷ ps) = cases (is_demand_of place class p) refl (joined_seats_here place class k n ps) where
   cases : (t : Bool) → is_demand_of place class p ≡ t
-      → demand_seats place class (joined ps place class n) ≡ n + demand_seats place class ps
-      → demand_seats place class (joined (p ∷ ps) place class n) ≡ n + demand_seats place class (p ∷ ps)
+      → demand_seats place class (joined ps place class k n) ≡ n + demand_seats place class ps
+      → demand_seats place class (joined (p ∷ ps) place class k n) ≡ n + demand_seats place class (p ∷ ps)
   cases true e rest = rw e (rw e (omega arith))
   cases false e rest = rw e (rw e rest)
 
-pub joined_other : (ps : List Demand) (place : Place) (class n : ℕ) (q : Place) (c : ℕ) → is_at place class q c ≡ false
-    → list_any (is_demand_of q c) ps ≡ false → list_any (is_demand_of q c) (joined ps place class n) ≡ false
-joined_other [] place class n q c other e = rw (at_turned q place c class ∙ other) refl
-joined_other (p ∷ ps) place class n q c other e =
+pub joined_begins : (place : Place) (class k n : ℕ) (q : Place) (c : ℕ) (ps : List Demand)
+    → is_at place class q c ≡ false → demand_first q c (joined ps place class k n) ≡ demand_first q c ps
+joined_begins place class k n q c [] other = rw (at_turned q place c class ∙ other) refl
+joined_begins place class k n q c (p ∷ ps) other = cases (is_demand_of place class p) (is_demand_of q c p) refl refl (joined_begins place class k n q c ps other) where
+  cases : (t u : Bool) → is_demand_of place class p ≡ t → is_demand_of q c p ≡ u
+      → demand_first q c (joined ps place class k n) ≡ demand_first q c ps
+      → demand_first q c (joined (p ∷ ps) place class k n) ≡ demand_first q c (p ∷ ps)
+  cases true u e f rest = let away = at_other place q p.place class c p.class other e in rw e (rw away refl)
+  cases false true e f rest = rw (e, f) refl
+  cases false false e f rest = rw (e, f) rest
+
+pub joined_begins_here : (place : Place) (class k n : ℕ) (ps : List Demand)
+    → demand_first place class (joined ps place class k n) ≡ least_with k (demand_first place class ps)
+joined_begins_here place class k n [] = rw (at_itself place class) refl
+joined_begins_here place class k n (p ∷ ps) = cases (is_demand_of place class p) refl (joined_begins_here place class k n ps) where
+  cases : (t : Bool) → is_demand_of place class p ≡ t
+      → demand_first place class (joined ps place class k n) ≡ least_with k (demand_first place class ps)
+      → demand_first place class (joined (p ∷ ps) place class k n)
+      ≡ least_with k (demand_first place class (p ∷ ps))
+  cases true e rest = rw e (rw e refl)
+  cases false e rest = rw e (rw e rest)
+
+pub joined_other : (ps : List Demand) (place : Place) (class k n : ℕ) (q : Place) (c : ℕ) → is_at place class q c ≡ false
+    → list_any (is_demand_of q c) ps ≡ false → list_any (is_demand_of q c) (joined ps place class k n) ≡ false
+joined_other [] place class k n q c other e = rw (at_turned q place c class ∙ other) refl
+joined_other (p ∷ ps) place class k n q c other e =
     let h = neither (is_demand_of q c p) (list_any (is_demand_of q c) ps) e in
-    cases (is_demand_of place class p) refl h.0 h.1 (joined_other ps place class n q c other h.1)
+    cases (is_demand_of place class p) refl h.0 h.1 (joined_other ps place class k n q c other h.1)
   where
     cases : (t : Bool) → is_demand_of place class p ≡ t → is_demand_of q c p ≡ false
         → list_any (is_demand_of q c) ps ≡ false
-        → list_any (is_demand_of q c) (joined ps place class n) ≡ false
-        → list_any (is_demand_of q c) (joined (p ∷ ps) place class n) ≡ false
+        → list_any (is_demand_of q c) (joined ps place class k n) ≡ false
+        → list_any (is_demand_of q c) (joined (p ∷ ps) place class k n) ≡ false
     cases true e f g rest = rw e (rw (f, g) refl)
     cases false e f g rest = rw e (rw (f, rest) refl)
 
-pub joined_apart : (ps : List Demand) (place : Place) (class n : ℕ) → is_apart ps ≡ true
-    → is_apart (joined ps place class n) ≡ true
-joined_apart [] place class n e = refl
-joined_apart (p ∷ ps) place class n e = cases (is_demand_of place class p) refl (joined_apart ps place class n (apart_rest p ps e).1) where
-  cases : (t : Bool) → is_demand_of place class p ≡ t → is_apart (joined ps place class n) ≡ true
-      → is_apart (joined (p ∷ ps) place class n) ≡ true
+pub joined_apart : (ps : List Demand) (place : Place) (class k n : ℕ) → is_apart ps ≡ true
+    → is_apart (joined ps place class k n) ≡ true
+joined_apart [] place class k n e = refl
+joined_apart (p ∷ ps) place class k n e = cases (is_demand_of place class p) refl (joined_apart ps place class k n (apart_rest p ps e).1) where
+  cases : (t : Bool) → is_demand_of place class p ≡ t → is_apart (joined ps place class k n) ≡ true
+      → is_apart (joined (p ∷ ps) place class k n) ≡ true
   cases true f rest = rw f e
   cases false f rest =
-      let none = joined_other ps place class n p.place p.class f (apart_rest p ps e).0 in
+      let none = joined_other ps place class k n p.place p.class f (apart_rest p ps e).0 in
       rw f (rw none rest)
 
-pub added : (xs : List Booking) (ps : List Demand) (b : Booking) → IsIndexed xs ps → is_waiting b.status ≡ true
-    → b.seats < 65536 → IsIndexed (xs ++ b ∷ []) (joined ps b.place b.class b.seats)
-added xs ps b i waits few = record {
+pub added : (xs : List Booking) (ps : List Demand) (b : Booking) → IsIndexed xs ps → IsOrdered (xs ++ b ∷ [])
+    → is_waiting b.status ≡ true → b.seats < 65536
+    → IsIndexed (xs ++ b ∷ []) (joined ps b.place b.class b.number b.seats)
+added xs ps b i ordered waits few = record {
+  ordered = ordered;
   waits = all_push (λ x. is_waiting x.status ≡ true) xs b i.waits waits;
   small = all_push (λ x. x.seats < 65536) xs b i.small few;
-  apart = joined_apart ps b.place b.class b.seats i.apart;
+  begins =
+      all_push (λ x. IsReached (demand_first x.place x.class (joined ps b.place b.class b.number b.seats)) x.number) xs b
+      (all_map (λ x. IsReached (demand_first x.place x.class ps) x.number)
+      (λ x. IsReached (demand_first x.place x.class (joined ps b.place b.class b.number b.seats)) x.number) xs
+      (λ x h. begins_at x (is_at b.place b.class x.place x.class) refl h) i.begins) here;
+  apart = joined_apart ps b.place b.class b.number b.seats i.apart;
   smallest = λ q c. smallest_cases q c (is_at b.place b.class q c) refl;
   seats = λ q c. seats_cases q c (is_at b.place b.class q c) refl;
 } where
+  here : IsReached (demand_first b.place b.class (joined ps b.place b.class b.number b.seats)) b.number
+  here =
+      reached_as (demand_first b.place b.class (joined ps b.place b.class b.number b.seats)) (least_with b.number (demand_first b.place b.class ps)) b.number
+      (joined_begins_here b.place b.class b.number b.seats ps)
+      (reached_least b.number (demand_first b.place b.class ps) b.number (omega arith))
+
+  begins_at : (x : Booking) (t : Bool) → is_at b.place b.class x.place x.class ≡ t
+      → IsReached (demand_first x.place x.class ps) x.number
+      → IsReached (demand_first x.place x.class (joined ps b.place b.class b.number b.seats)) x.number
+  begins_at x true e h =
+      let at = at_same b.place x.place b.class x.class e in
+      let R : Place → ℕ → Type 0 = λ y j. IsReached (demand_first y j ps) x.number → IsReached (demand_first y j (joined ps b.place b.class b.number b.seats)) x.number in
+      let same : R b.place b.class =
+      λ g. reached_as (demand_first b.place b.class (joined ps b.place b.class b.number b.seats)) (least_with b.number (demand_first b.place b.class ps)) x.number
+      (joined_begins_here b.place b.class b.number b.seats ps)
+      (reached_more b.number (demand_first b.place b.class ps) x.number g) in
+      let S : Place → Type 0 = λ y. R y b.class in
+      let T : ℕ → Type 0 = λ j. R x.place j in
+      subst T (sym at.1) (subst S (sym at.0) same) h
+  begins_at x false e h =
+      reached_as (demand_first x.place x.class (joined ps b.place b.class b.number b.seats)) (demand_first x.place x.class ps) x.number
+      (joined_begins b.place b.class b.number b.seats x.place x.class ps e) h
+
   smallest_cases : (q : Place) (c : ℕ) (t : Bool) → is_at b.place b.class q c ≡ t
-      → demand_smallest q c (joined ps b.place b.class b.seats) ≡ smallest_of q c (xs ++ b ∷ [])
+      → demand_smallest q c (joined ps b.place b.class b.number b.seats) ≡ smallest_of q c (xs ++ b ∷ [])
   smallest_cases q c true e =
       let h = at_same b.place q b.class c e in
-      let P : Place → ℕ → Type 0 = λ y j. demand_smallest y j (joined ps b.place b.class b.seats) ≡ smallest_of y j (xs ++ b ∷ []) in
+      let P : Place → ℕ → Type 0 = λ y j. demand_smallest y j (joined ps b.place b.class b.number b.seats) ≡ smallest_of y j (xs ++ b ∷ []) in
       let here : P b.place b.class =
-      joined_smallest_here b.place b.class b.seats ps
+      joined_smallest_here b.place b.class b.number b.seats ps
       ∙ (ap (least_with b.seats) (i.smallest b.place b.class)
       ∙ sym (smallest_push b.place b.class xs b ∙ rw (at_itself b.place b.class) refl)) in
       let Q : Place → Type 0 = λ y. P y b.class in
       let R : ℕ → Type 0 = λ j. P q j in
       subst R (sym h.1) (subst Q (sym h.0) here)
   smallest_cases q c false e =
-      joined_smallest b.place b.class b.seats q c ps e
+      joined_smallest b.place b.class b.number b.seats q c ps e
       ∙ (i.smallest q c ∙ sym (smallest_push q c xs b ∙ rw (at_turned q b.place c b.class ∙ e) refl))
 
   seats_cases : (q : Place) (c : ℕ) (t : Bool) → is_at b.place b.class q c ≡ t
-      → demand_seats q c (joined ps b.place b.class b.seats) ≡ seats_for q c (xs ++ b ∷ [])
+      → demand_seats q c (joined ps b.place b.class b.number b.seats) ≡ seats_for q c (xs ++ b ∷ [])
   seats_cases q c true e =
       let h = at_same b.place q b.class c e in
-      let P : Place → ℕ → Type 0 = λ y j. demand_seats y j (joined ps b.place b.class b.seats) ≡ seats_for y j (xs ++ b ∷ []) in
+      let P : Place → ℕ → Type 0 = λ y j. demand_seats y j (joined ps b.place b.class b.number b.seats) ≡ seats_for y j (xs ++ b ∷ []) in
       let here : P b.place b.class =
-      joined_seats_here b.place b.class b.seats ps
+      joined_seats_here b.place b.class b.number b.seats ps
       ∙ (ap (λ n. b.seats + n) (i.seats b.place b.class)
       ∙ sym (seats_push b.place b.class xs b ∙ rw (at_itself b.place b.class) refl)) in
       let Q : Place → Type 0 = λ y. P y b.class in
       let R : ℕ → Type 0 = λ j. P q j in
       subst R (sym h.1) (subst Q (sym h.0) here)
   seats_cases q c false e =
-      joined_seats b.place b.class b.seats q c ps e
+      joined_seats b.place b.class b.number b.seats q c ps e
       ∙ (i.seats q c ∙ sym (seats_push q c xs b ∙ rw (at_turned q b.place c b.class ∙ e) refl))

@@ -1,5 +1,5 @@
 -- Waiting lists, booking by booking.
-use Rattle.std.proofs.Common.{◌≡◌, ◌==◌, ℕ, zero, suc, ◌+◌, ◌<◌, Bool, true, false, nat_le, List, [], ◌∷◌, ◌++◌, length, get_or, remove, position, Some, None, arith, refl, ap, sym, ◌∙◌}
+use Rattle.std.proofs.Common.{◌≡◌, ◌==◌, ℕ, zero, suc, ◌<◌, Bool, true, false, nat_le, List, [], ◌∷◌, ◌++◌, length, get_or, remove, position, Some, None, arith, refl, ap, sym, subst, ◌∙◌}
 use Rattle.seat_bookings.proofs.Common.{AllByRecursion, Place, Booking, is_waiting, reduced, confirmed_at, queue_of}
 use Rattle.std.proofs.lemmas.List.{append-nil}
 use Rattle.std.proofs.lemmas.List.Quantifiers.{position-Some}
@@ -10,9 +10,10 @@ use Rattle.seat_rules.specs.declared.booking.Status.TheVariants.{Held, Waiting}
 use Rattle.seat_rules.specs.declared.effect.Effect.TheVariants.{Waits}
 use Rattle.seat_rules.specs.Bookings.{waits_on, waiting}
 use Rattle.seat_rules.specs.Sequential.{booking_of}
-use Rattle.seat_rules.specs.Applying.{suffices, Spare}
+use Rattle.seat_rules.specs.Applying.{suffices, IsOrdered, Spare}
+use Rattle.seat_bookings.specs.Live.{AreLive}
 use Rattle.seat_bookings.specs.Queues.{first_waits, without}
-use Rattle.seat_rules.proofs.Filters.{sum_kept}
+use Rattle.seat_rules.proofs.Filters.{ordered_pass, sum_kept}
 use Rattle.seat_rules.proofs.Step.Reduced.{IsFirst}
 use Rattle.seat_rules.proofs.Step.Effect.{absent}
 
@@ -67,6 +68,13 @@ without_none xs number e = without_absent number xs (absent (λ (b : Booking). b
 pub queue_waits : (xs : List Booking) (n : ℕ) (c : Command) (p : Place)
     → queue_of (xs ++ booking_of n c p Waiting ∷ []) ≡ queue_of xs ++ booking_of n c p Waiting ∷ []
 queue_waits xs n c p = filter-append _ xs (booking_of n c p Waiting ∷ [])
+
+-- whose number is above theirs
+pub queue_rises : (xs queue : List Booking) (n : ℕ) (c : Command) (p : Place) → queue ≡ queue_of xs
+    → AreLive (xs ++ booking_of n c p Waiting ∷ []) → IsOrdered (queue ++ booking_of n c p Waiting ∷ [])
+queue_rises xs queue n c p is live =
+    let P : List Booking → Type 0 = λ ys. IsOrdered (ys ++ booking_of n c p Waiting ∷ []) in
+    subst P (sym is) (subst IsOrdered (queue_waits xs n c p) (ordered_pass _ (xs ++ booking_of n c p Waiting ∷ []) live.ordered))
 
 pub queue_holds : (xs : List Booking) (n : ℕ) (c : Command) (p : Place)
     → queue_of (xs ++ booking_of n c p Held ∷ []) ≡ queue_of xs

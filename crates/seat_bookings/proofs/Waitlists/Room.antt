@@ -1,14 +1,12 @@
 -- What the demands answer is what the bookings answer.
-use Rattle.std.proofs.Common.{◌≡◌, ◌==◌, ◌&&◌, ℕ, ◌+◌, Bool, true, false, min, nat_lt, List, [], ◌∷◌, Option, Some, None, if◌then◌else◌, arith, refl, sym, subst, ap, ◌∙◌}
+use Rattle.std.proofs.Common.{◌≡◌, ◌==◌, ◌&&◌, ℕ, ◌+◌, Bool, true, false, List, [], ◌∷◌, Option, Some, None, if◌then◌else◌, arith, refl, sym, subst, ap, ◌∙◌}
 use Rattle.seat_bookings.proofs.Common.{AllByRecursion, Place, Booking, Demand, is_waiting, is_at, is_demand_of, is_booking_of, is_apart, least_with, smallest_of, seats_for, demand_smallest, demand_seats, IsIndexed}
-use Rattle.std.proofs.lemmas.Bool.Decides.{nat_tests}
 use Rattle.std.proofs.lemmas.List.Sums.{sum_by-cons}
-use Rattle.seat_nesting.specs.Nesting.{Ladders, Table, room, may_wait, covers}
+use Rattle.seat_nesting.specs.Nesting.{Ladders, may_wait, covers}
 use Rattle.seat_rules.specs.declared.booking.Status.{Status}
 use Rattle.seat_rules.specs.declared.booking.Status.TheVariants.{Held, Waiting}
 use Rattle.seat_rules.specs.Bookings.{waits_on, waiting}
-use Rattle.seat_bookings.specs.Queues.{none_fits}
-use Rattle.seat_bookings.specs.Demands.{waits_of, no_demand_fits}
+use Rattle.seat_bookings.specs.Demands.{waits_of}
 use Rattle.seat_rules.proofs.Flight.View.{may_wait_same}
 use Rattle.seat_bookings.proofs.Waitlists.Index.{at_itself, at_turned, at_same, at_other, apart_rest, no_seats, no_smallest}
 
@@ -106,9 +104,6 @@ rest_tells xs p ps t = record {
       let skip : demand_seats y j (p ∷ ps) ≡ demand_seats y j ps = rw away refl in
       sym skip ∙ (t.seats y j ∙ sym (seats_kept p.place p.class y j xs e))
 
-first_smallest : (p : Demand) (ps : List Demand) → demand_smallest p.place p.class (p ∷ ps) ≡ Some p.smallest
-first_smallest p ps = rw (at_itself p.place p.class) refl
-
 first_seats : (p : Demand) (ps : List Demand) → demand_seats p.place p.class (p ∷ ps) ≡ p.seats
 first_seats p ps = rw (at_itself p.place p.class) refl
 
@@ -180,66 +175,3 @@ pub may_wait_told : (grid : Ladders) (xs : List Booking) (ps : List Demand) (p :
     → may_wait grid (waits_of ps) p class n ≡ may_wait grid (waiting xs) p class n
 may_wait_told grid xs ps p class n i =
     may_wait_same grid (waits_of ps) (waiting xs) p class n (λ l. waits_told p.flight l class ps xs i.waits (tells xs ps i))
-
--- ---- whether one fits
-abbrev over : ℕ → Option ℕ → Bool
-over r None = true
-over r (Some m) = nat_lt r m
-
-lt_min : (r m n : ℕ) → nat_lt r (min m n) ≡ nat_lt r m && nat_lt r n
-lt_min r m n = grind (arith, nat_tests)
-
-over_least : (r n : ℕ) (o : Option ℕ) → over r (least_with n o) ≡ nat_lt r n && over r o
-over_least r n None = both_true (nat_lt r n) where
-  both_true : (t : Bool) → t ≡ t && true
-  both_true true = refl
-  both_true false = refl
-over_least r n (Some m) = lt_min r n m
-
-and_assoc : (t u v : Bool) → t && (u && v) ≡ (t && u) && v
-and_assoc true u v = refl
-and_assoc false u v = refl
-
-and_swap : (t u v : Bool) → t && (u && v) ≡ u && (t && v)
-and_swap true true v = refl
-and_swap true false v = refl
-and_swap false true v = refl
-and_swap false false v = refl
-
-fits_parts : (grid : Ladders) (t : Table) (q : Place) (c : ℕ) (xs : List Booking)
-    → none_fits grid t xs ≡ over (room grid t q c) (smallest_of q c xs) && none_fits grid t (others q c xs)
-fits_parts grid t q c [] = refl
-fits_parts grid t q c (b ∷ bs) = cases (is_booking_of q c b) refl (fits_parts grid t q c bs) where
-  same : is_booking_of q c b ≡ true → nat_lt (room grid t b.place b.class) b.seats ≡ nat_lt (room grid t q c) b.seats
-  same e =
-      let h = at_same q b.place c b.class e in
-      ap (λ (y : Place). nat_lt (room grid t y b.class) b.seats) h.0 ∙ ap (λ (j : ℕ). nat_lt (room grid t q j) b.seats) h.1
-
-  cases : (u : Bool) → is_booking_of q c b ≡ u
-      → none_fits grid t bs ≡ over (room grid t q c) (smallest_of q c bs) && none_fits grid t (others q c bs)
-      → none_fits grid t (b ∷ bs) ≡ over (room grid t q c) (smallest_of q c (b ∷ bs))
-      && none_fits grid t (others q c (b ∷ bs))
-  cases true e rest =
-      rw e
-      (ap (λ (v : Bool). nat_lt (room grid t b.place b.class) b.seats && v) rest
-      ∙ (ap (λ (v : Bool). v && (over (room grid t q c) (smallest_of q c bs) && none_fits grid t (others q c bs))) (same e)
-      ∙ (and_assoc (nat_lt (room grid t q c) b.seats) (over (room grid t q c) (smallest_of q c bs)) (none_fits grid t (others q c bs))
-      ∙ ap (λ (v : Bool). v && none_fits grid t (others q c bs)) (sym (over_least (room grid t q c) b.seats (smallest_of q c bs))))))
-  cases false e rest =
-      rw e
-      (ap (λ (v : Bool). nat_lt (room grid t b.place b.class) b.seats && v) rest
-      ∙ and_swap (nat_lt (room grid t b.place b.class) b.seats) (over (room grid t q c) (smallest_of q c bs)) (none_fits grid t (others q c bs)))
-
-fits_told : (grid : Ladders) (t : Table) (ps : List Demand) (xs : List Booking) → Tells xs ps
-    → no_demand_fits grid t ps ≡ none_fits grid t xs
-fits_told grid t [] xs h = sym (ap (none_fits grid t) (none_told xs h.smallest))
-fits_told grid t (p ∷ ps) xs h =
-    let rest = fits_told grid t ps (others p.place p.class xs) (rest_tells xs p ps h) in
-    let own : Some p.smallest ≡ smallest_of p.place p.class xs = sym (first_smallest p ps) ∙ h.smallest p.place p.class in
-    ap (λ (v : Bool). nat_lt (room grid t p.place p.class) p.smallest && v) rest
-    ∙ (ap (λ (o : Option ℕ). over (room grid t p.place p.class) o && none_fits grid t (others p.place p.class xs)) own
-    ∙ sym (fits_parts grid t p.place p.class xs))
-
-pub none_fits_told : (grid : Ladders) (t : Table) (xs : List Booking) (ps : List Demand) → IsIndexed xs ps
-    → no_demand_fits grid t ps ≡ none_fits grid t xs
-none_fits_told grid t xs ps i = fits_told grid t ps xs (tells xs ps i)

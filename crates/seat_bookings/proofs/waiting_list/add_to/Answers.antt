@@ -1,4 +1,4 @@
-use Rattle.std.proofs.Common.{◌≡◌, ◌<◌, ◌++◌, ◌∷◌, [], List, length, vec_len, vec_capacity, arith, refl, subst, sym}
+use Rattle.std.proofs.Common.{◌<◌, ◌++◌, ◌∷◌, [], List, vec_len, vec_capacity, arith, refl, subst, sym}
 use Rattle.seat_rules.specs.declared.booking.Booking.{Booking}
 use Rattle.seat_rules.specs.declared.booking.Status.TheVariants.{Waiting}
 use Rattle.seat_rules.specs.Sequential.{booking_of}
@@ -20,4 +20,4 @@ returns-clause-indexed c =
     let b : Booking = booking_of c.args.number command c.args.place Waiting in
     let xs = c.args.bookings.now.items in
     let P : List Booking → Type 0 = λ ys. IsIndexed ys c.join.new.demands.items in
-    subst P (sym c.add.ensures) (subst (IsIndexed (xs ++ b ∷ [])) (sym c.join.ensures) (added xs c.args.demands.now.items b c.requires.indexed refl few))
+    subst P (sym c.add.ensures) (subst (IsIndexed (xs ++ b ∷ [])) (sym c.join.ensures) (added xs c.args.demands.now.items b c.requires.indexed c.requires.ordered refl few))

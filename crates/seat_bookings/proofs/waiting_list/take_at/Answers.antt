@@ -1,7 +1,8 @@
-use Rattle.std.proofs.Common.{◌≡◌, ◌≤◌, List, arith, length, remove, ap, subst, sym, ◌∙◌}
+use Rattle.std.proofs.Common.{◌≡◌, ◌≤◌, List, arith, drop, length, remove, ap, subst, sym, ◌∙◌}
 use Rattle.std.proofs.lemmas.List.Edits.{length-remove}
 use Rattle.seat_rules.specs.declared.booking.Booking.{Booking}
-use Rattle.seat_bookings.specs.Demands.{least_with, smallest_of, demand_smallest, settled, IsIndexed}
+use Rattle.seat_bookings.specs.declared.demands.Demand.{Demand}
+use Rattle.seat_bookings.specs.Demands.{least_with, smallest_of, demand_first, demand_smallest, next_first, next_of, settled, IsIndexed}
 use Rattle.seat_bookings.proofs.Waitlists.Departures.{demand_enough, demand_least, left}
 use Rattle.seat_bookings.proofs.waiting_list.take_at.Goals as goal
 
@@ -24,12 +25,14 @@ leave-requires-clause-least c =
 
 pub returns-clause-indexed : goal.returns-clause-indexed
 returns-clause-indexed c =
-    let b = c.remove-gone.result in
-    let xs = c.args.bookings.now.items in
+    let b : Booking = c.remove-gone.result in
+    let xs : List Booking = c.args.bookings.now.items in
     let ps = c.args.demands.now.items in
     let same : c.as_slice.result.now ≡ remove xs c.args.at = c.as_slice.ensures ∙ c.remove-gone.ensures.items in
-    let new : c.leave.new.demands.items ≡ settled ps b.place b.class (smallest_of b.place b.class (remove xs c.args.at)) b.seats =
-    c.leave.ensures ∙ ap (λ (ys : List Booking). settled ps b.place b.class (smallest_of b.place b.class ys) b.seats) same in
+    let after : List Booking → List Demand =
+    λ ys. settled ps b.place b.class (smallest_of b.place b.class ys)
+    (next_first (demand_first b.place b.class ps) b.number (next_of b.place b.class (drop c.args.at ys))) b.seats in
+    let new : c.leave.new.demands.items ≡ after (remove xs c.args.at) = c.leave.ensures ∙ ap after same in
     let P : List Booking → Type 0 = λ ys. IsIndexed ys c.leave.new.demands.items in
     subst P (sym c.remove-gone.ensures.items)
     (subst (IsIndexed (remove xs c.args.at)) (sym new) (left xs ps c.args.at b c.requires.indexed c.requires.within c.remove-gone.ensures.value))

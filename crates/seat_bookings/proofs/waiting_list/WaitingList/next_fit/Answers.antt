@@ -1,4 +1,4 @@
-use Rattle.std.proofs.Common.{◌≡◌, ◌≤◌, length, subst, sym}
+use Rattle.std.proofs.Common.{◌≡◌, subst}
 use Rattle.seat_nesting.specs.Counting.{limits_of, table_of}
 use Rattle.seat_bookings.specs.Queues.{next_fit, Waitlist}
 use Rattle.seat_bookings.proofs.waiting_list.WaitingList.next_fit.Goals as goal

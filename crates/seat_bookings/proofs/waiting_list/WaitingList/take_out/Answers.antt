@@ -1,8 +1,12 @@
 use Rattle.std.proofs.Common.{◌≡◌, subst, sym, ◌∙◌}
+use Rattle.seat_rules.specs.Applying.{IsOrdered}
 use Rattle.seat_bookings.specs.Queues.{without, Waitlist}
 use Rattle.seat_bookings.proofs.Waitlists.Departures.{number_gone}
 use Rattle.seat_bookings.proofs.Waitlists.Queue.{without_none}
 use Rattle.seat_bookings.proofs.waiting_list.WaitingList.take_out.Goals as goal
+
+pub find_number-requires : goal.find_number-requires
+find_number-requires c = subst IsOrdered (sym c.as_slice.ensures) c.self.invariant.ordered
 
 pub returns-in-Some : goal.returns-in-Some
 returns-in-Some c =
