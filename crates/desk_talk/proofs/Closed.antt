@@ -1,6 +1,6 @@
 -- The seal of a journal behind the talk with a desk.
 use Rattle.std.proofs.Common.{◌≡◌, ◌⊎◌, inl, inr, ℕ, ◌≤◌, arith, List, ◌++◌, length, ap, sym, subst, ◌∙◌, append_assoc}
-use Rattle.std.specs.Prelude.{Option}
+use Rattle.std.specs.Prelude.{IfSome, Option}
 use Rattle.seat_nesting.specs.Nesting.{Ladders}
 use Rattle.seat_journal.specs.declared.entry.Entry.{Entry}
 use Rattle.seat_journal.specs.Text.{end_text, journal_text}
@@ -16,8 +16,11 @@ use Rattle.seat_seal.specs.declared.run.Run.{Run}
 use Rattle.seat_desk.specs.AuditDesk.{most_lines}
 use Rattle.seat_restoring.specs.Serving.{IsNoEnd, NamesAll, NamesToo}
 use Rattle.seat_restoring.proofs.Serving.{has_front, names_front}
-use Rattle.desk_talk.specs.Closing.{HasNoEnd, IsEndedUnsealed}
-use Rattle.desk_talk.specs.Ending.{IsEnded}
+use Rattle.seat_desk.specs.declared.fault.DeskFault.{DeskFault}
+use Rattle.seat_desk.specs.declared.fault.DeskFault.TheVariants.{TooLarge}
+use Rattle.desk_answers.specs.Hosts.{Attended}
+use Rattle.desk_talk.specs.Closing.{IsEndedUnsealed, IsTalkUnsealed}
+use Rattle.desk_talk.specs.Ending.{IsEnded, IsTalkTo}
 
 -- an ended journal begins with the lines that it began with
 ended_front : (kept lines : List Entry) → Begins kept lines → HasFront (open_text kept) (journal_text lines)
@@ -63,10 +66,19 @@ ended_unsealed kept grid cap ended seen leaves unsynced begins is = record {
   synced = is.synced;
 }
 
+-- and the talk was over
+pub talk_unsealed : {D : Type 0} (old : Attended D) (basis : Basis) (runs : List Run) (fault : DeskFault) (input out_old out_new : Option (List ℕ))
+    (grid : Ladders) (cap : ℕ) (ended : Ended) (seen : Option (List ℕ)) (leaves : List ℕ → Type 0)
+    (unsynced : ℕ) → Begins old.serving.kept ended.journal → IsEnded grid cap ended seen leaves unsynced
+    → IfSome input (IsTalkTo old out_old out_new ended.journal) → (fault ≡ TooLarge → IsNoEnd basis runs ended.journal)
+    → IsTalkUnsealed old basis runs fault input out_old out_new seen leaves unsynced
+unfolding ended_unsealed
+talk_unsealed {D} old basis runs fault input out_old out_new grid cap ended seen leaves unsynced begins is talk_over no_end = record {
+  over = ended_unsealed old.serving.kept grid cap ended seen leaves unsynced begins is;
+  talk = talk_over;
+  large = no_end;
+}
+
 pub few_ended : (grid : Ladders) (cap : ℕ) (ended : Ended) (seen : Option (List ℕ)) (leaves : List ℕ → Type 0) (unsynced : ℕ)
     → IsEnded grid cap ended seen leaves unsynced → cap ≡ most_lines → length ended.journal ≤ most_lines
 few_ended grid cap ended seen leaves unsynced is most = omega (arith, is.headline.capped, most)
-
-pub has_no_end : (basis : Basis) (runs : List Run) (kept : List Entry) (ended : Ended) → Begins kept ended.journal
-    → IsNoEnd basis runs ended.journal → HasNoEnd basis runs kept
-has_no_end basis runs kept ended begins none = record { journal = ended.journal; front = begins; no_end = none }

@@ -15,7 +15,7 @@ use Rattle.seat_serving.specs.Served.{Served}
 use Rattle.seat_serving.specs.declared.serving.ending.Ended.{Ended}
 use Rattle.desk_answers.specs.Hosts.{Attended, IsReady}
 use Rattle.desk_talk.specs.Ending.{IsEnded, IsLeftOpen, IsTalkedOut, IsTalkTo, IsUntoldIn}
-use Rattle.desk_talk.specs.Talks.{EndsUntold, IsSameHost, IsTalk}
+use Rattle.desk_talk.specs.Talks.{EndsUntold, IsBroken, IsSameHost, IsTalk}
 use Rattle.desk_talk.specs.declared.serving.DayFault.{DayFault}
 use Rattle.desk_talk.specs.declared.serving.DayFault.TheVariants.{Talk, End}
 use Rattle.desk_talk.specs.declared.talk_fault.TalkFault.{TalkFault}
@@ -71,6 +71,14 @@ module _ {D : Type 0} where
     untold = untold;
     tape_is = is ∙ ap (λ (x : Served D). x.tape) same;
   }
+
+  -- what was written of a talk that was broken off
+  pub broken_left : (leaves : D → List ℕ → Type 0) (old new : Attended D) (s : Served D) (tape : D) (fault other : TalkFault) (input a b : Option (List ℕ))
+      → s ≡ new.serving → tape ≡ s.tape → fault ≡ other → IfSome input (IsBroken old fault (leaves new.serving.tape) a b)
+      → IfSome input (IsBroken old other (leaves tape) a b)
+  broken_left leaves old new s tape fault other input a b same is fault_is broken =
+      subst (λ (x : TalkFault). IfSome input (IsBroken old x (leaves tape) a b)) fault_is
+      (subst (λ (x : D). IfSome input (IsBroken old fault (leaves x) a b)) (sym (is ∙ ap (λ (x : Served D). x.tape) same)) broken)
 
   module _ (seen : D → Option (List ℕ)) (leaves : D → List ℕ → Type 0) (unsynced : D → ℕ) where
     -- no END line was written

@@ -1,3 +1,4 @@
+pub mod Broken
 pub mod Closed
 pub mod Ended
 pub mod Holding

@@ -7,6 +7,9 @@ use Rattle.seat_disk.specs.Leaving.{Only}
 use Rattle.seat_seal.specs.declared.beside.Basis.{Basis}
 use Rattle.seat_seal.specs.declared.run.Run.{Run}
 use Rattle.seat_desk.specs.declared.fault.DeskFault.{DeskFault}
+use Rattle.seat_desk.specs.declared.fault.DeskFault.TheVariants.{TooLarge}
+use Rattle.desk_answers.specs.Hosts.{Attended}
+use Rattle.desk_talk.specs.Ending.{IsTalkTo}
 use Rattle.seat_restoring.specs.Serving.{IsNoEnd}
 use Rattle.desk_talk.specs.declared.serving.DayFault.{DayFault}
 use Rattle.desk_talk.specs.declared.closing.ServedFault.{ServedFault}
@@ -30,8 +33,9 @@ pub record IsEndedUnsealed (kept : List Entry) (seen : Option (List ℕ)) (leave
   pub disk : Only (journal_text journal) leaves
   pub synced : unsynced ≡ 0
 
--- no seal may have the entry of the journal that it is then
-pub record HasNoEnd (basis : Basis) (runs : List Run) (kept : List Entry) : Type 0 where
-  pub journal : List Entry
-  pub front : Begins kept journal
-  pub no_end : IsNoEnd basis runs journal
+-- the talk was over, and it is so ended to the journal of its last line; and where the seal is too large, no seal may have that journal's entry
+pub record IsTalkUnsealed {D : Type 0} (old : Attended D) (basis : Basis) (runs : List Run) (fault : DeskFault) (input out_old out_new : Option (List ℕ))
+    (seen : Option (List ℕ)) (leaves : List ℕ → Type 0) (unsynced : ℕ) : Type 0 where
+  pub over : IsEndedUnsealed old.serving.kept seen leaves unsynced
+  pub talk : IfSome input (IsTalkTo old out_old out_new over.journal)
+  pub large : fault ≡ TooLarge → IsNoEnd basis runs over.journal

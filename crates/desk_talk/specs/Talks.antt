@@ -1,7 +1,10 @@
 -- What a desk is told that talks with an open host, byte by byte of what it writes.
-use Rattle.std.specs.Prelude.{◌≡◌, ◌⊎◌, ℕ, Bool, true, false, Option, None, List, [], ◌∷◌, ◌++◌, length, take}
+use Rattle.std.specs.Prelude.{◌≡◌, ◌⊎◌, ℕ, Bool, true, false, Option, None, List, [], ◌∷◌, ◌++◌, codes, length, take}
 use Rattle.std.specs.Io.KnownBytes.{Appends, Consumes, IsAtEnd}
 use Rattle.airline_base.specs.Lines.{is_line_feed}
+use Rattle.airline_base.specs.Noting.{TookFront}
+use Rattle.seat_disk.specs.Growing.{KeepsFront}
+use Rattle.seat_recovery.specs.OpenText.{open_text}
 use Rattle.seat_rules.specs.Journal.{calls_of}
 use Rattle.seat_rules.specs.Prefixes.{Begins}
 use Rattle.desk_answers.specs.FaultLines.{memory_line}
@@ -9,6 +12,8 @@ use Rattle.desk_answers.specs.Hosts.{Attended, IsReady}
 use Rattle.desk_answers.specs.Saying.{IsAnswered, IsCounted, IsUntold}
 use Rattle.desk_answers.specs.declared.heard.Heard.{Heard}
 use Rattle.desk_answers.specs.Ready.{IsReadyLine}
+use Rattle.desk_talk.specs.declared.talk_fault.TalkFault.{TalkFault}
+use Rattle.desk_talk.specs.declared.talk_fault.TalkFault.TheVariants.{Input, Journal, Memory as NoMemory, Output}
 
 -- ---- a line
 
@@ -126,3 +131,97 @@ pub record IsTalk {D : Type 0} (old new : Attended D) (out_old out_new : Option 
   pub told : List ℕ
   pub talked : Talked old [] input new after stays told
   pub written : Appends out_old out_new (ready ++ told)
+
+-- ---- talks that are broken off
+
+-- whatever a crash leaves now begins with all lines of the host as it was then
+pub record IsSafe {D : Type 0} (host : Attended D) (leaves : List ℕ → Type 0) : Type 0 where
+  pub kept_is : host.serving.kept ≡ host.serving.journal
+  pub front : KeepsFront (open_text host.serving.kept) leaves
+
+-- the first bytes of a text
+pub record IsFirstOf (text last : List ℕ) : Type 0 where
+  pub count : ℕ
+  pub is : last ≡ take count text
+
+-- what a desk is told where the journal's file failed
+abbrev pub no_journal_line : List ℕ
+no_journal_line = codes "FAULT - DEVICE\n"
+
+-- the first bytes of what this host tells of a line, whose own line, where it asks for seats, is on the disk too
+pub record IsHalfTold {D : Type 0} (old : Attended D) (line : List ℕ) (leaves : List ℕ → Type 0) (last : List ℕ) : Type 0 where
+  pub new : Attended D
+  pub stays : Bool
+  pub text : List ℕ
+  pub told : IsTold old new line stays text
+  pub cut : IsFirstOf text last
+  pub safe : IsSafe new leaves
+
+-- the last that is written: nothing where the desk's reader failed, or memory was wanting behind a booking; where its writer failed the first bytes
+-- of what it is told of this line, and where the journal's file failed those of the line that says so
+abbrev pub IsLast : {D : Type 0} → Attended D → List ℕ → TalkFault → (List ℕ → Type 0) → List ℕ → Type 0
+IsLast old line Input leaves last = last ≡ []
+IsLast old line NoMemory leaves last = last ≡ []
+IsLast old line Output leaves last = IsHalfTold old line leaves last
+IsLast old line Journal leaves last = IsFirstOf no_journal_line last
+
+-- this was written of a line with which a talk is broken off, and no more
+pub record BreaksAt {D : Type 0} (old : Attended D) (line : List ℕ) (fault : TalkFault) (leaves : List ℕ → Type 0)
+    (out_old out_new : Option (List ℕ)) : Type 0 where
+  pub safe : IsSafe old leaves
+  pub last : List ℕ
+  pub is_last : IsLast old line fault leaves last
+  pub written : Appends out_old out_new last
+
+-- the byte behind those that were heard ends this line, of which those were held
+pub record EndsLine (bytes heard between line : List ℕ) : Type 0 where
+  pub byte : ℕ
+  pub is_end : IsEnd byte
+  pub begins : Begins (heard ++ byte ∷ []) bytes
+  pub is : line ≡ held (between ++ byte ∷ [])
+
+-- where the reader fails it is at no line
+abbrev pub IsAtLine : TalkFault → List ℕ → List ℕ → List ℕ → List ℕ → Type 0
+IsAtLine Input bytes heard between line = Begins heard bytes
+IsAtLine fault bytes heard between line = EndsLine bytes heard between line
+
+-- behind the first of these bytes, each of whose lines was told of, the talk is broken off at a line: nothing but what they were told and the last
+-- was written, and all lines that were told of are on the disk
+pub record BreaksOff {D : Type 0} (old : Attended D) (before : List ℕ) (fault : TalkFault) (leaves : List ℕ → Type 0)
+    (out_old out_new : Option (List ℕ)) (bytes : List ℕ) : Type 0 where
+  pub heard : List ℕ
+  pub mid : Attended D
+  pub between : List ℕ
+  pub told : List ℕ
+  pub talked : Talked old before heard mid between true told
+  pub safe : IsSafe mid leaves
+  pub line : List ℕ
+  pub at_line : IsAtLine fault bytes heard between line
+  pub last : List ℕ
+  pub is_last : IsLast mid line fault leaves last
+  pub written : Appends out_old out_new (told ++ last)
+
+-- the writer failed as the desk was told where it stands
+pub record IsHalfReady {D : Type 0} (old : Attended D) (fault : TalkFault) (leaves : List ℕ → Type 0) (out_old out_new : Option (List ℕ)) : Type 0 where
+  pub output : fault ≡ Output
+  pub safe : IsSafe old leaves
+  pub ready : List ℕ
+  pub is_ready : IsReadyLine None old.session (length old.serving.journal) (calls_of old.serving.journal old.session)
+      old.desk.today ready
+  pub begun : TookFront out_old out_new ready
+
+-- the desk was told where it stands, and behind that the talk is broken off
+pub record BreaksBehind {D : Type 0} (old : Attended D) (fault : TalkFault) (leaves : List ℕ → Type 0) (out_old out_new : Option (List ℕ))
+    (input : List ℕ) : Type 0 where
+  pub ready : List ℕ
+  pub is_ready : IsReadyLine None old.session (length old.serving.journal) (calls_of old.serving.journal old.session)
+      old.desk.today ready
+  pub out_mid : Option (List ℕ)
+  pub put : Appends out_old out_mid ready
+  pub breaks : BreaksOff old [] fault leaves out_mid out_new input
+
+-- what was written of a talk that is broken off is a front of a talk, and behind it that the journal's file failed, where it did; and no line that
+-- was told of is missing in what a crash leaves
+abbrev pub IsBroken : {D : Type 0} → Attended D → TalkFault → (List ℕ → Type 0) → Option (List ℕ) → Option (List ℕ) → List ℕ → Type 0
+IsBroken old fault leaves out_old out_new input =
+    IsHalfReady old fault leaves out_old out_new ⊎ BreaksBehind old fault leaves out_old out_new input

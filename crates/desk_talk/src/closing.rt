@@ -10,12 +10,14 @@ ghost use Rattle.seat_rules.specs.Prefixes.{Begins};
 ghost use Rattle.seat_sealing.specs.Pairs.{NoneDenied};
 ghost use Rattle.seat_restoring.specs.Serving.{IsSealedEnd, NamesAll};
 ghost use Rattle.desk_answers.specs.Hosts.{IsReady};
-ghost use Rattle.desk_talk.specs.Closing.{HasNoEnd, IfDay, IfSeal, IsEndedUnsealed};
+ghost use Rattle.desk_talk.specs.Closing.{IfDay, IfSeal, IsTalkUnsealed};
 ghost use Rattle.desk_talk.specs.Ending.{is_of_journal, IsEnded, IsLeftOpen, IsTalkedOut, IsTalkTo, IsUntoldIn};
 ghost use Rattle.desk_talk.specs.declared.serving.DayFault.TheVariants.{Talk, End};
+ghost use Rattle.desk_talk.specs.Talks.{IsBroken};
 ghost use Rattle.desk_talk.specs.declared.talk_fault.TalkFault.TheVariants.{Input, Memory as NoMemory, Output};
 
 use crate::serving::{DayFault, serve_desk};
+use crate::talk_fault::TalkFault;
 use airline_base::{NotedRead, NotedWrite};
 use desk_answers::OpenHost;
 use seat_desk::DeskFault;
@@ -38,7 +40,7 @@ pub enum ServedFault {
 /// Talks with a desk to its end and ends the journal, as [`serve_desk`] does, while the open seal of the lines that the host began with stands in the
 /// file `seals`. Then the closed seal of all lines takes its place, of this basis and with the `runs` that were known. Whatever a crash
 /// leaves of the two files, the seal has the journal's entry.
-#[tactic(auto, using(crate::proofs::Closed::still_named, crate::proofs::Closed::ended_named, crate::proofs::Closed::ended_told, crate::proofs::Closed::ended_unsealed, crate::proofs::Closed::few_ended, crate::proofs::Closed::has_no_end, seat_disk::proofs::Keeping::no_more))]
+#[tactic(auto, using(crate::proofs::Closed::still_named, crate::proofs::Closed::ended_named, crate::proofs::Closed::ended_told, crate::proofs::Closed::few_ended, seat_disk::proofs::Keeping::no_more))]
 pub fn serve_sealed<R: Wait, I: NotedRead, W: NotedWrite, D: Tape, K: Replaced>(
     rt: &R,
     alloc: Global,
@@ -65,6 +67,8 @@ pub fn serve_sealed<R: Wait, I: NotedRead, W: NotedWrite, D: Tape, K: Replaced>(
     ensures told { IfErr result (λ f. KeepsFront (open_text host.entry.serving.kept) (D.may_leave f.1)) }
     ensures talked { IfErr result (λ f. IfDay f.0 (λ d. (e : ServeFault) → d ≡ End e → IfSome (I.remaining input.old)
         (IsTalkedOut host.entry (W.contents out.old) (W.contents out.new)))) }
+    ensures broken { IfErr result (λ f. IfDay f.0 (λ d. (t : TalkFault) → d ≡ Talk t → IfSome (I.remaining input.old)
+        (IsBroken host.entry t (D.may_leave f.1) (W.contents out.old) (W.contents out.new)))) }
     ensures open { IfErr result (λ f. IfDay f.0 (λ d. is_of_journal d ≡ false → IsLeftOpen host.entry.serving.kept (D.seen f.1)
         (D.may_leave f.1) (D.unsynced f.1))) }
     ensures journal { IfErr result (λ f. IfDay f.0 (λ d. IsTrue (is_of_journal d)
@@ -73,10 +77,9 @@ pub fn serve_sealed<R: Wait, I: NotedRead, W: NotedWrite, D: Tape, K: Replaced>(
     ensures input { IfErr result (λ f. IfDay f.0 (λ d. d ≡ Talk Input → I.failure_count input.new ≡ noted (I.failure_count input.old))) }
     ensures output { IfErr result (λ f. IfDay f.0 (λ d. d ≡ Talk Output → W.failure_count out.new ≡ noted (W.failure_count out.old))) }
     ensures unsealed { IfErr result (λ f. IfDay f.0 (λ d. seals.new ≡ seals.old)) }
-    ensures over { IfErr result (λ f. IfSeal f.0 (λ e. IsEndedUnsealed host.entry.serving.kept (D.seen f.1)
-        (D.may_leave f.1) (D.unsynced f.1))) }
+    ensures over { IfErr result (λ f. IfSeal f.0 (λ e. IsTalkUnsealed host.entry basis.now runs e (I.remaining input.old)
+        (W.contents out.old) (W.contents out.new) (D.seen f.1) (D.may_leave f.1) (D.unsynced f.1))) }
     ensures untouched { IfErr result (λ f. IfSeal f.0 (λ e. e ≢ DeskFault.Device → seals.new ≡ seals.old)) }
-    ensures large { IfErr result (λ f. IfSeal f.0 (λ e. e ≡ DeskFault.TooLarge → HasNoEnd basis.now runs host.entry.serving.kept)) }
     ensures device { IfErr result (λ f. IfSeal f.0 (λ e. e ≡ DeskFault.Device → HasFailed K.failure_count seals.old seals.new)) }
 {
     let served = match serve_desk(rt, alloc, host, input, out) {

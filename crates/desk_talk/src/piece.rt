@@ -1,13 +1,13 @@
 //! The bytes of a desk: each is held until its line ends, and the line is then answered.
 ghost use Rattle.std.specs.Prelude.{◌≡◌, ◌∷◌, ◌++◌, [], true, IfErr, IfOk, OnErr};
 ghost use Rattle.std.specs.Io.KnownBytes.{Appends};
-ghost use Rattle.airline_base.specs.Noting.{noted};
+ghost use Rattle.airline_base.specs.Noting.{noted, TookFront};
 ghost use Rattle.seat_disk.specs.Growing.{KeepsFront};
 ghost use Rattle.seat_recovery.specs.OpenText.{open_text};
 ghost use Rattle.seat_rules.specs.Prefixes.{Begins};
 ghost use Rattle.desk_answers.specs.FaultLines.{memory_line};
 ghost use Rattle.desk_answers.specs.Hosts.{IsReady};
-ghost use Rattle.desk_talk.specs.Talks.{held, EndsUntold, TalksOn, TellsOf};
+ghost use Rattle.desk_talk.specs.Talks.{held, no_journal_line, BreaksAt, BreaksOff, EndsUntold, IsEnd, TalksOn, TellsOf};
 ghost use Rattle.desk_talk.specs.declared.talk_fault.TalkFault.TheVariants.{Input, Journal, Memory as NoMemory, Output};
 
 use crate::talk_fault::TalkFault;
@@ -35,6 +35,8 @@ pub(crate) fn hear_piece<R: Wait, W: NotedWrite, D: Tape>(
     ensures talks { IfOk result (λ stays. TalksOn D.seen D.may_leave D.unsynced D.failure_count host.old line.old.items
         piece.now host.new line.new.items stays (W.contents out.old) (W.contents out.new) (W.failure_count out.old)
         (W.failure_count out.new)) }
+    ensures broken { IfErr result (λ f. BreaksOff host.old line.old.items f (D.may_leave host.new.serving.tape)
+        (W.contents out.old) (W.contents out.new) piece.now) }
     ensures output { IfErr result (λ f. f ≡ Output → W.failure_count out.new ≡ noted (W.failure_count out.old)) }
     ensures journal { IfErr result (λ f. f ≡ Journal → D.failure_count host.new.serving.tape
         ≡ noted (D.failure_count host.old.serving.tape)) }
@@ -53,7 +55,7 @@ pub(crate) fn hear_piece<R: Wait, W: NotedWrite, D: Tape>(
 }
 
 // Holds a byte of a line, and answers the line where it ends it.
-#[tactic(auto, using(crate::proofs::Talking::byte_held, crate::proofs::Talking::line_ended))]
+#[tactic(auto, using(crate::proofs::Talking::byte_held, crate::proofs::Talking::line_ended, crate::proofs::Broken::breaks_held))]
 fn hear_byte<R: Wait, W: NotedWrite, D: Tape>(
     rt: &R,
     alloc: Global,
@@ -66,6 +68,8 @@ fn hear_byte<R: Wait, W: NotedWrite, D: Tape>(
     ensures talks { IfOk result (λ stays. TalksOn D.seen D.may_leave D.unsynced D.failure_count host.old line.old.items
         (byte ∷ []) host.new line.new.items stays (W.contents out.old) (W.contents out.new) (W.failure_count out.old)
         (W.failure_count out.new)) }
+    ensures broken { IfErr result (λ f. IsEnd byte × BreaksAt host.old (held (line.old.items ++ byte ∷ [])) f
+        (D.may_leave host.new.serving.tape) (W.contents out.old) (W.contents out.new)) }
     ensures output { IfErr result (λ f. f ≡ Output → W.failure_count out.new ≡ noted (W.failure_count out.old)) }
     ensures journal { IfErr result (λ f. f ≡ Journal → D.failure_count host.new.serving.tape
         ≡ noted (D.failure_count host.old.serving.tape)) }
@@ -95,7 +99,7 @@ fn hold(line: &mut HeldLine, byte: u8)
 }
 
 // Answers a line. Whether the desk stays.
-#[tactic(auto, using(crate::proofs::Talking::ends_untold))]
+#[tactic(auto, using(crate::proofs::Talking::ends_untold, crate::proofs::Broken::breaks_silent, crate::proofs::Broken::breaks_journal))]
 fn tell<R: Wait, W: NotedWrite, D: Tape>(
     rt: &R,
     alloc: Global,
@@ -106,6 +110,8 @@ fn tell<R: Wait, W: NotedWrite, D: Tape>(
     requires ready { IsReady D.seen D.may_leave D.unsynced host.old.serving }
     ensures tells { IfOk result (λ stays. TellsOf D.seen D.may_leave D.unsynced D.failure_count host.old line.now host.new
         stays (W.contents out.old) (W.contents out.new) (W.failure_count out.old) (W.failure_count out.new)) }
+    ensures broken { IfErr result (λ f. BreaksAt host.old line.now f (D.may_leave host.new.serving.tape)
+        (W.contents out.old) (W.contents out.new)) }
     ensures output { IfErr result (λ f. f ≡ Output → W.failure_count out.new ≡ noted (W.failure_count out.old)) }
     ensures journal { IfErr result (λ f. f ≡ Journal → D.failure_count host.new.serving.tape
         ≡ noted (D.failure_count host.old.serving.tape)) }
@@ -135,6 +141,7 @@ fn tell_wanting<W: NotedWrite, D: Tape>(
     ensures ok { IfOk result (λ stays. (stays ≡ true) × Appends (W.contents out.old) (W.contents out.new)
         (memory_line host.now.session host.now.desk.lines) × (W.failure_count out.new ≡ W.failure_count out.old)) }
     ensures output { IfErr result (λ f. (f ≡ Output) × (W.failure_count out.new ≡ noted (W.failure_count out.old))) }
+    ensures begun { OnErr result (TookFront (W.contents out.old) (W.contents out.new) (memory_line host.now.session host.now.desk.lines)) }
 {
     let line = memory_line(host.session(), host.heard());
     match put_all(out, line.as_slice()) {
@@ -144,9 +151,13 @@ fn tell_wanting<W: NotedWrite, D: Tape>(
 }
 
 // Says that the journal's file failed. Where that cannot be said either, it is the journal all the same.
+#[tactic(auto, using(crate::proofs::Broken::took_all))]
 fn no_journal<W: NotedWrite>(out: &mut W) -> TalkFault
-    ensures { result ≡ Journal }
+    ensures value { result ≡ Journal }
+    ensures says { TookFront (W.contents out.old) (W.contents out.new) no_journal_line }
 {
-    let _ = put_all(out, b"FAULT - DEVICE\n");
-    TalkFault::Journal
+    match put_all(out, b"FAULT - DEVICE\n") {
+        Ok(()) => TalkFault::Journal,
+        Err(_) => TalkFault::Journal,
+    }
 }

@@ -7,6 +7,7 @@ ghost use Rattle.seat_rules.specs.Prefixes.{Begins};
 ghost use Rattle.desk_answers.specs.Hosts.{IsReady};
 ghost use Rattle.desk_talk.specs.Ending.{is_of_journal, IsEnded, IsLeftOpen, IsTalkedOut, IsTalkTo, IsUntoldIn};
 ghost use Rattle.desk_talk.specs.declared.serving.DayFault.TheVariants.{Talk, End};
+ghost use Rattle.desk_talk.specs.Talks.{IsBroken};
 ghost use Rattle.desk_talk.specs.declared.talk_fault.TalkFault.TheVariants.{Input, Memory as NoMemory, Output};
 
 use crate::talk_fault::TalkFault;
@@ -45,6 +46,8 @@ pub fn serve_desk<R: Wait, I: NotedRead, W: NotedWrite, D: Tape>(
     ensures front { IfOk result (λ r. Begins host.entry.serving.kept r.0.journal) }
     ensures talked { IfErr result (λ f. (e : ServeFault) → f.0 ≡ End e → IfSome (I.remaining input.old)
         (IsTalkedOut host.entry (W.contents out.old) (W.contents out.new))) }
+    ensures broken { IfErr result (λ f. (t : TalkFault) → f.0 ≡ Talk t → IfSome (I.remaining input.old)
+        (IsBroken host.entry t (D.may_leave f.1) (W.contents out.old) (W.contents out.new))) }
     ensures told { IfErr result (λ f. KeepsFront (open_text host.entry.serving.kept) (D.may_leave f.1)) }
     ensures open { IfErr result (λ f. is_of_journal f.0 ≡ false → IsLeftOpen host.entry.serving.kept (D.seen f.1)
         (D.may_leave f.1) (D.unsynced f.1)) }

@@ -7,7 +7,7 @@ ghost use Rattle.desk_answers.specs.Hosts.{IsReady};
 ghost use Rattle.desk_answers.specs.Ready.{IsReadyLine};
 ghost use Rattle.seat_rules.specs.Journal.{calls_of};
 ghost use Rattle.seat_rules.specs.Prefixes.{Begins};
-ghost use Rattle.desk_talk.specs.Talks.{EndsUntold, IsSameHost, IsTalk, Turns};
+ghost use Rattle.desk_talk.specs.Talks.{BreaksOff, EndsUntold, IsBroken, IsSameHost, IsTalk, Turns};
 ghost use Rattle.desk_talk.specs.declared.talk_fault.TalkFault.TheVariants.{Input, Journal, Memory as NoMemory, Output};
 
 use crate::piece::{HeldLine, hear_piece};
@@ -24,7 +24,7 @@ const PIECE: usize = 4096;
 
 /// Tells a desk where it stands, and answers each of its lines before it hears the next, up to the end of what it writes, or to
 /// the line with which it goes. Where the talk is broken off, and not by the journal's file, the host is ready all the same.
-#[tactic(auto, using(crate::proofs::Talking::begins_all))]
+#[tactic(auto, using(crate::proofs::Talking::begins_all, crate::proofs::Broken::half_ready))]
 pub fn talk<R: Wait, I: NotedRead, W: NotedWrite, D: Tape>(
     rt: &R,
     alloc: Global,
@@ -38,6 +38,9 @@ pub fn talk<R: Wait, I: NotedRead, W: NotedWrite, D: Tape>(
     ensures ready { OnOk result (IsReady D.seen D.may_leave D.unsynced host.new.serving) }
     ensures same { OnOk result (IsSameHost host.old host.new) }
     ensures counted { OnOk result (D.failure_count host.new.serving.tape ≡ D.failure_count host.old.serving.tape) }
+    // What was written is a front of a talk, and of no line that a crash takes.
+    ensures broken { IfErr result (λ f. IfSome (I.remaining input.old) (IsBroken host.old f (D.may_leave host.new.serving.tape)
+        (W.contents out.old) (W.contents out.new))) }
     ensures front { Begins host.old.serving.kept host.new.serving.kept }
     ensures told { KeepsFront (open_text host.old.serving.kept) (D.may_leave host.new.serving.tape) }
     ensures still { IfErr result (λ f. (f ≡ Journal → ⊥) → IsReady D.seen D.may_leave D.unsynced host.new.serving) }
@@ -77,6 +80,8 @@ fn turn<R: Wait, I: NotedRead, W: NotedWrite, D: Tape>(
         host.new line.new.items more (I.remaining input.old) (I.remaining input.new) (W.contents out.old)
         (W.contents out.new) (W.failure_count out.old) (W.failure_count out.new)) }
     ensures counted { OnOk result (I.failure_count input.new ≡ I.failure_count input.old) }
+    ensures broken { IfErr result (λ f. IfSome (I.remaining input.old)
+        (BreaksOff host.old line.old.items f (D.may_leave host.new.serving.tape) (W.contents out.old) (W.contents out.new))) }
     ensures told { OnErr result (KeepsFront (open_text host.old.serving.kept) (D.may_leave host.new.serving.tape)) }
     ensures front { OnErr result (Begins host.old.serving.kept host.new.serving.kept) }
     ensures still { IfErr result (λ f. (f ≡ Journal → ⊥) → IsReady D.seen D.may_leave D.unsynced host.new.serving) }

@@ -1,5 +1,7 @@
 use Rattle.std.proofs.Common.{arith, refl, take, true}
+use Rattle.std.proofs.lemmas.Result.{err_from_is_err_and}
 use Rattle.desk_talk.proofs.Talking.{front_before, on_err_any, talks_left, talks_more, told_before}
+use Rattle.desk_talk.proofs.Broken.{breaks_piece}
 use Rattle.desk_talk.proofs.piece.hear_piece.Goals as goal
 
 pub returns-in_err-hear_byte-clause-told : goal.returns-in_err-hear_byte-clause-told
@@ -11,6 +13,12 @@ pub returns-in_err-hear_byte-clause-front : goal.returns-in_err-hear_byte-clause
 returns-in_err-hear_byte-clause-front g c =
     on_err_any _ _ (front_before g.D.Tape.seen g.D.Tape.may_leave g.D.Tape.unsynced g.D.Failures.failure_count c.args.host.now c.loop-byte.host c.args.line.now.items c.loop-byte.line.items
     (take c.loop-byte.byte-index c.args.piece.now) c.hear_byte.new.host.serving.kept true _ _ _ _ c.loop-byte.invariant c.in_err-hear_byte.ensures.front)
+
+pub returns-in_err-hear_byte-clause-broken : goal.returns-in_err-hear_byte-clause-broken
+returns-in_err-hear_byte-clause-broken g c =
+    let p = err_from_is_err_and c.from_residual.result c.from_residual.ensures.1 in
+    rw (p.1, p.2) (breaks_piece g.D.Tape.seen g.D.Tape.may_leave g.D.Tape.unsynced g.D.Failures.failure_count c.args.host.now c.loop-byte.host c.args.line.now.items c.loop-byte.line.items
+    c.args.piece.now c.loop-byte.byte-index _ _ (g.D.Tape.may_leave c.hear_byte.new.host.serving.tape) _ _ _ _ _ c.loop-byte.invariant (omega (arith, c.loop-byte-test.true)) refl c.in_err-hear_byte.ensures.broken)
 
 pub returns-then-not-branch-clause-talks : goal.returns-then-not-branch-clause-talks
 returns-then-not-branch-clause-talks g c =

@@ -2,6 +2,8 @@ use Rattle.std.proofs.Common.{List, ℕ, inl, refl, rules, subst}
 use Rattle.std.specs.Io.KnownBytes.{Appends}
 use Rattle.desk_answers.specs.FaultLines.{memory_line}
 use Rattle.desk_talk.proofs.Talking.{same_host, wanting_told}
+use Rattle.airline_base.specs.Noting.{TookFront}
+use Rattle.desk_talk.proofs.Broken.{breaks_told, breaks_wanting}
 use Rattle.desk_talk.proofs.piece.tell.Goals as goal
 
 pub returns-in-Err-Memory-clause-tells : goal.returns-in-Err-Memory-clause-tells
@@ -21,3 +23,17 @@ returns-in-Ok-put_all-clause-tells g c = record {
   counted = c.in-Ok-put_all.ensures.counted;
   tape_counted = c.in-Ok.ensures.counted;
 }
+
+pub returns-in-Err-Memory-clause-broken : goal.returns-in-Err-Memory-clause-broken
+returns-in-Err-Memory-clause-broken g c =
+    breaks_wanting g.D.Tape.seen g.D.Tape.may_leave g.D.Tape.unsynced c.args.host.now c.hear.new.self c.args.line.now
+    (memory_line c.hear.new.self.session c.hear.new.self.desk.lines) (g.W.Write.contents c.args.out.now) (g.W.Write.contents c.tell_wanting.new.out)
+    c.tell_wanting.result _ c.requires.ready c.hear.ensures.told (search rules) c.tell_wanting.ensures.output c.tell_wanting.ensures.begun refl
+    (same_host c.args.host.now c.hear.new.self c.hear.ensures.same) c.hear.ensures.counts (search rules)
+
+pub returns-clause-broken : goal.returns-clause-broken
+returns-clause-broken g c =
+    breaks_told g.D.Tape.seen g.D.Tape.may_leave g.D.Tape.unsynced c.args.host.now c.hear.new.self c.args.line.now c.in-Ok.heard.text.items c.in-Ok.heard.stays
+    (g.W.Write.contents c.args.out.now) (g.W.Write.contents c.put_all.new.out) c.requires.ready c.in-Ok.ensures.told c.in-Ok.ensures.ready
+    (inl (record { same_host = same_host c.args.host.now c.hear.new.self c.in-Ok.ensures.same; heard = c.in-Ok.heard; answered = c.in-Ok.ensures.answered; stays_is = refl; says = refl }))
+    (subst (λ (t : List ℕ). TookFront (g.W.Write.contents c.args.out.now) (g.W.Write.contents c.put_all.new.out) t) c.as_slice.ensures.value c.in-Err.ensures.front)

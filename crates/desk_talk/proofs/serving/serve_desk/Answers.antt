@@ -1,6 +1,6 @@
 use Rattle.std.proofs.Common.{rules}
 use Rattle.desk_talk.specs.declared.talk_fault.TalkFault.TheVariants.{Memory as NoMemory}
-use Rattle.desk_talk.proofs.Ended.{kept_on, talk_fault_is, talk_to, talked_out, untold_in}
+use Rattle.desk_talk.proofs.Ended.{broken_left, kept_on, talk_fault_is, talk_to, talked_out, untold_in}
 use Rattle.desk_talk.proofs.serving.serve_desk.Goals as goal
 
 pub returns-in-Ok-end-clause-talk : goal.returns-in-Ok-end-clause-talk
@@ -22,3 +22,9 @@ pub returns-in-Err-clause-memory : goal.returns-in-Err-clause-memory
 returns-in-Err-clause-memory g c = λ is.
     untold_in c.talk-talked.new.host c.into_serving-serving.result c.close.result (search rules) c.close.ensures.tape
     (c.in-Err.ensures.memory (talk_fault_is c.in-Err.fault NoMemory is))
+
+pub returns-in-Err-clause-broken : goal.returns-in-Err-clause-broken
+returns-in-Err-clause-broken g c = λ t is.
+    broken_left g.D.Tape.may_leave c.args.host c.talk-talked.new.host c.into_serving-serving.result c.close.result c.in-Err.fault t (g.I.Read.remaining c.args.input.now)
+    (g.W.Write.contents c.args.out.now) (g.W.Write.contents c.talk-talked.new.out) (search rules) c.close.ensures.tape
+    (talk_fault_is c.in-Err.fault t is) c.in-Err.ensures.broken

@@ -1,6 +1,8 @@
 use Rattle.std.proofs.Common.{◌≡◌, List, ℕ, [], refl, rules, subst, true, ◌∙◌}
 use Rattle.std.specs.Io.KnownBytes.{Appends}
+use Rattle.std.proofs.lemmas.Result.{err_from_is_err_and}
 use Rattle.desk_talk.proofs.Talking.{behind_all, front_before, grown_behind, reads_none, reads_on, talk_is, told_before}
+use Rattle.desk_talk.proofs.Broken.{talk_broken}
 use Rattle.desk_talk.proofs.talks.talk.Goals as goal
 
 pub loop-init : goal.loop-init
@@ -16,6 +18,14 @@ pub returns-in_err-turn-clause-front : goal.returns-in_err-turn-clause-front
 returns-in_err-turn-clause-front g c =
     front_before g.D.Tape.seen g.D.Tape.may_leave g.D.Tape.unsynced g.D.Failures.failure_count c.args.host.now c.loop.host c.new-line.result.items c.loop.line.items
     c.loop.invariant.0.bytes c.turn.new.host.serving.kept true _ _ _ _ c.loop.invariant.0.talks c.in_err-turn.ensures.front
+
+pub returns-in_err-turn-clause-broken : goal.returns-in_err-turn-clause-broken
+returns-in_err-turn-clause-broken g c =
+    let put : Appends (g.W.Write.contents c.args.out.now) (g.W.Write.contents c.put_all.new.out) c.ready_of-ready.result.items = subst (λ (t : List ℕ). Appends (g.W.Write.contents c.args.out.now) (g.W.Write.contents c.put_all.new.out) t) c.as_slice.ensures.value c.in-Ok.ensures.ok in
+    let empty : c.new-line.result.items ≡ [] = search rules in
+    let p = err_from_is_err_and c.from_residual.result c.from_residual.ensures.1 in
+    rw (p.1, p.2) (talk_broken g.D.Tape.seen g.D.Tape.may_leave g.D.Tape.unsynced g.D.Failures.failure_count c.args.host.now c.loop.host c.loop.line.items c.new-line.result.items
+    c.ready_of-ready.result.items _ (g.D.Tape.may_leave c.turn.new.host.serving.tape) _ _ (g.W.Write.contents c.args.out.now) _ _ _ _ _ c.ready_of-ready.ensures put empty c.loop.invariant.0 c.in_err-turn.ensures.broken)
 
 pub returns-then-not-branch-clause-talk : goal.returns-then-not-branch-clause-talk
 returns-then-not-branch-clause-talk g c =

@@ -1,0 +1,12 @@
+use Rattle.std.proofs.Common.{rules}
+use Rattle.desk_talk.proofs.Broken.{breaks_read, breaks_unread}
+use Rattle.desk_talk.proofs.talks.turn.Goals as goal
+
+pub returns-in-Ok-clause-broken : goal.returns-in-Ok-clause-broken
+returns-in-Ok-clause-broken g c =
+    breaks_read c.args.host.now c.args.line.now.items _ c.hear_piece.result (g.D.Tape.may_leave c.hear_piece.new.host.serving.tape)
+    (g.I.Read.remaining c.args.input.now) (g.I.Read.remaining c.read_noted.new.self) _ _ (search rules) c.hear_piece.ensures.broken
+
+pub returns-in-Err-clause-broken : goal.returns-in-Err-clause-broken
+returns-in-Err-clause-broken g c =
+    breaks_unread g.D.Tape.seen g.D.Tape.may_leave g.D.Tape.unsynced g.D.Failures.failure_count c.args.host.now c.args.line.now.items _ _ c.requires.ready
