@@ -1,0 +1,24 @@
+//! The laws of feeds, as the contracts of functions that do nothing.
+//! It knows the definitions alone.
+ghost use Rattle.desk_feed.specs.Laws.{AFeedIsItsJournal, LivedAgainBooksNothing, OwnFeedIsNoStranger, RightLinesAreAsked};
+
+/// The lines of the journal are those of the sequential inventory asked for the feed's right lines one by one.
+pub fn right_lines_are_asked()
+    ensures { RightLinesAreAsked }
+{}
+
+/// However often a feed was sent from a place that the journal had come to, wherever it was broken off, and whatever of the journal
+/// was left then, at last sent to its end it leaves the journal of the feed in one piece.
+pub fn a_feed_is_its_journal()
+    ensures { AFeedIsItsJournal }
+{}
+
+/// Where the journal has the lines of all that is sent nothing is booked.
+pub fn lived_again_books_nothing()
+    ensures { LivedAgainBooksNothing }
+{}
+
+/// A feed is no stranger to its own journal.
+pub fn own_feed_is_no_stranger()
+    ensures { OwnFeedIsNoStranger }
+{}
