@@ -98,6 +98,8 @@ complete -c seatdesk -n '__fish_seen_subcommand_from serve' -l today -x -d 'The 
 complete -c seatdesk -n '__fish_seen_subcommand_from serve' -l journal -r -F -d 'The journal to go on from (a file, which is locked); it is made where it is not there'
 complete -c seatdesk -n '__fish_seen_subcommand_from serve' -l desk -x -d 'Where a desk is: N=IN:OUT, its session and its two pipes, up to eight times, or - alone, for standard input and standard output as session 1'
 complete -c seatdesk -n '__fish_seen_subcommand_from serve' -l manager -x -d 'The two pipes of the manager, as IN:OUT, whom desks on pipes need'
+complete -c seatdesk -n '__fish_seen_subcommand_from serve' -l status -r -F -d 'The file that says how the host of desks on pipes is doing: lines, groups, desks, seats sold. It is rewritten whole'
+complete -c seatdesk -n '__fish_seen_subcommand_from serve' -l every -x -d 'How often that is said, 1 to 3600 seconds; 60 where nothing is said'
 complete -c seatdesk -n '__fish_seen_subcommand_from serve' -s v -l verbose -d 'Names the file of a fault, and where in it the fault stands, or the system\'s reason'
 complete -c seatdesk -n '__fish_seen_subcommand_from serve' -s h -l help -d 'Print help'
 

@@ -223,6 +223,12 @@ const DESKS: &[Explanation] = &[
     },
     Explanation {
         behind: "",
+        code: "STATUS",
+        numbers: NONE,
+        text: "What a host of desks on pipes says of itself while it runs. lines: those of its journal. groups: how often lines were added\nsince it began. each: how many lines such a group had, to a tenth. desks: those that it is open to.\nsold: the seats that are held.",
+    },
+    Explanation {
+        behind: "",
         code: "LOOK",
         numbers: NONE,
         text: "The answer to a line that begins with ?, which books nothing: how many lines the journal has, the flight, its day,\nthe stations, and the seats that are left behind those lines.",

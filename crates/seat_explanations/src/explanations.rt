@@ -718,13 +718,19 @@ const WORDS: &[Explanation] = &[
         behind: "E2",
         code: "desk",
         numbers: NONE,
-        text: "--desk of told is no digit of 0 to 8 (a desk has the number of its session, and 0 is the manager of the limits).\nOf serve: --desk is not - alone, which is standard input and standard output, and not N=IN:OUT with a session of 1 to 8 that stands once;\nor what it or --manager names is no named pipe (mkfifo -m 620 makes one to read a desk's lines from, and mkfifo -m 640 one to answer on),\nor one that is named twice, that another host has, or that others may write to or read; or desks on pipes have no --manager, or - has one. seatdesk -v names the pipe.",
+        text: "--desk of told is no digit of 0 to 8 (a desk has the number of its session, and 0 is the manager of the limits).\nOf serve: --desk is not - alone, which is standard input and standard output, and not N=IN:OUT with a session of 1 to 8 that stands once;\nor what it or --manager names is no named pipe (mkfifo -m 620 makes one to read a desk's lines from, and mkfifo -m 640 one to answer on),\nor one that is named twice, that another host has, or that others may write to or read; or their modes tell that IN and OUT are swapped;\nor desks on pipes have no --manager, or - has one. seatdesk -v says which of these it is.",
+    },
+    Explanation {
+        behind: "E2",
+        code: "status",
+        numbers: NONE,
+        text: "--every of serve is no number of 1 to 3600, or the file of --status is an input, the journal, where standard output or standard error goes,\nor no regular file, or its name is one that no journal may have; or there is a desk on standard input, which has neither of the two. seatdesk -v says which of these it is.",
     },
     Explanation {
         behind: "E2",
         code: "journal",
         numbers: NONE,
-        text: "The file of --journal is one of the inputs, other than the journals of --after and --resume, or that of standard output,\nor another run, seatdesk seal or a host has it, as it may have the journal that is to be served, sealed or recovered, or its name is - or ends in .seal, .unfinished or .kept-N,\nor what is called as its seal is another file of the command or no regular file, or --no-clobber keeps it: it is there and not empty. Nothing was written. seatdesk -v says which of these it is.",
+        text: "The file of --journal is one of the inputs, other than the journals of --after and --resume, or that of standard output or of standard error (where nothing is said of it, since that would stand in the journal),\nor another run, seatdesk seal or a host has it, as it may have the journal that is to be served, sealed or recovered, or its name is - or ends in .seal, .unfinished or .kept-N,\nor what is called as its seal is another file of the command or no regular file, or --no-clobber keeps it: it is there and not empty. Nothing was written. seatdesk -v says which of these it is.",
     },
     Explanation {
         behind: "E2",

@@ -11,6 +11,12 @@ pub(crate) const NOTES: &[Explanation] = &[
         text: "What the file of --journal had before the run stands under this name from now on. The new journal is not behind it:\nseats that it sold are sold once more there, and no audit of either says so. Where the run was to go on from it, give the run's scripts again,\nwith --after and this name, ahead of any other run and of any host: they are booked behind it, and the desks are to hear these replies, which may be others.\nWhat was booked in between, by a run or a host, is to be booked again behind it in the same way, or it is in no journal that goes on: seatdesk told --desk N\nsays what each desk was told. What the first run made is kept then, too, and nothing goes on from that. Of several kept-1 is the oldest. A name that ends with .seal is that of a seal alone, which\nbelongs beside the journal that it is of. Where it says no END the journal was left open, as by a host that was killed:\nmake a copy of it under another name, and of its seal under that name with .seal, which seatdesk recover then ends, and go on from that.\nWithout its seal the copy knows no run, and scripts that were booked are booked once more; a note says so.",
     },
     Explanation {
+        behind: "status",
+        code: "note",
+        numbers: NONE,
+        text: "A host could not write its status to the file of --status, for the system's reason that the note has. The host goes on, and tries again\neach time; the note comes again where it could be written in between.",
+    },
+    Explanation {
         behind: "asks",
         code: "note",
         numbers: NONE,

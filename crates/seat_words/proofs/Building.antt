@@ -51,6 +51,14 @@ valued r one many e has = subst (IsReadAs (record r { action = Some Append })) (
   local = has.local;
 })
 
+-- an argument behind whose first value each word is one of its values
+pub trailed : (r : Rule) (one more : Arg) → more ≡ record one { trailing_var_arg = true } → IsReadAs r one
+    → IsReadAs (record r { trailing_var_arg = true }) more
+trailed r one more e has = subst (IsReadAs (record r { trailing_var_arg = true })) (sym e) (record {
+  rule = ap (λ (x : Rule). record x { trailing_var_arg = true }) has.rule;
+  local = has.local;
+})
+
 pub alike : (a : App) (old new : Command) → IsReadAlike old new → IsBuiltAs a old → IsBuiltAs a new
 alike a old new same was = record {
   app = same.app ∙ was.app;

@@ -38,6 +38,10 @@ optional_value id = record (new_rule id) { value_names = 1 }
 abbrev pub optional_values : Text → Rule
 optional_values id = record (optional_value id) { action = Some Append }
 
+-- the same, where what stands behind the first of them is one of them too, whatever it begins with
+abbrev pub trailing_values : Text → Rule
+trailing_values id = record (optional_values id) { trailing_var_arg = true }
+
 -- with the option -v, which stands ahead of a command or behind it
 abbrev pub with_verbose : App → App
 with_verbose a = with_rule a (lettered_flag (codes "verbose") 118)
@@ -100,11 +104,13 @@ run_app = with_rule (with_rule (with_rule (with_rule (with_rule (with_rule (with
     (optional_values (codes "scripts"))
 
 unfoldable pub serve_app : App
-serve_app = with_rule (with_rule (with_rule (with_rule (horizon_app (codes "serve"))
+serve_app = with_rule (with_rule (with_rule (with_rule (with_rule (with_rule (horizon_app (codes "serve"))
     (required_option (codes "today")))
     (required_option (codes "journal")))
     (optional_several (codes "desk")))
-    (optional (codes "manager"))
+    (optional (codes "manager")))
+    (optional (codes "status")))
+    (optional (codes "every"))
 
 unfoldable pub bookings_app : App
 bookings_app = with_rule (with_rule (with_rule (with_rule (with_rule (with_rule (with_rule (horizon_app (codes "bookings"))
@@ -178,7 +184,7 @@ why_app = with_rule (with_rule (with_rule (horizon_app (codes "why"))
 unfoldable pub explain_app : App
 explain_app = with_rule (with_rule (new_app (codes "explain"))
     (required_value (codes "code")))
-    (optional_values (codes "numbers"))
+    (trailing_values (codes "numbers"))
 
 -- the program before its options and commands
 unfoldable pub named_app : App

@@ -1,4 +1,4 @@
--- Words that name a day, or a number of days.
+-- Words that name a day, a number of days, or one of seconds.
 use Rattle.std.specs.Prelude.{◌≡◌, ℕ, ◌+◌, ◌/◌, ◌%◌, ◌≤◌, ◌==◌, ◌&&◌, if◌then◌else◌, true, List, [], ◌∷◌, ◌++◌, length, Option, None, codes}
 use Rattle.std.specs.Char.{is_ascii_digit}
 use Rattle.std.specs.List.{list_all}
@@ -28,6 +28,14 @@ pub record IsDaysWord (word : List ℕ) (n : ℕ) : Type 0 where
   pub value : digits_value 10 word ≡ n
   pub least : 1 ≤ n
   pub most : n ≤ 366
+
+-- the word is n in one to four digits, from 1 to 3600: the seconds of an hour
+pub record IsEveryWord (word : List ℕ) (n : ℕ) : Type 0 where
+  pub digits : list_all is_ascii_digit word ≡ true
+  pub short : length word ≤ 4
+  pub value : digits_value 10 word ≡ n
+  pub least : 1 ≤ n
+  pub most : n ≤ 3600
 
 -- ---- its reading
 

@@ -97,6 +97,8 @@ IsServe rows asked = IsOver rows asked.over
     × Has rows (codes "journal") asked.journal.now
     × HasAny rows (codes "desk") asked.desks
     × MayHave rows (codes "manager") (option_map (λ text. text.now) asked.manager)
+    × MayHave rows (codes "status") (option_map (λ text. text.now) asked.status)
+    × MayHave rows (codes "every") (option_map (λ text. text.now) asked.every)
 
 abbrev pub IsBookings : List Row → BookingsJob → Type 0
 IsBookings rows asked = IsOver rows asked.over

@@ -1,7 +1,7 @@
 //! The commands, as clap reads them and as their help shows them.
 ghost use Rattle.std.specs.Prelude.{IfOk, IsOkAnd, codes};
 ghost use Rattle.clap.specs.Words.{AddsArg, App, new_app};
-ghost use Rattle.seat_words.specs.CommandLine.{IsBuiltAs, IsReadAlike, IsReadAs, audit_app, bare_app, bookings_app, check_app, cover_app, explain_app, flag, flights_app, history_app, horizon_app, ladder_app, lettered_flag, loads_app, named_app, optional, optional_several, optional_value, optional_values, recover_app, replies_app, required_option, required_value, rooms_app, run_app, seal_app, seatdesk_app, selling_app, serve_app, told_app, waiting_app, why_app, with_command, with_verbose};
+ghost use Rattle.seat_words.specs.CommandLine.{IsBuiltAs, IsReadAlike, IsReadAs, audit_app, bare_app, bookings_app, check_app, cover_app, explain_app, flag, flights_app, history_app, horizon_app, ladder_app, lettered_flag, loads_app, named_app, optional, optional_several, optional_value, optional_values, trailing_values, recover_app, replies_app, required_option, required_value, rooms_app, run_app, seal_app, seatdesk_app, selling_app, serve_app, told_app, waiting_app, why_app, with_command, with_verbose};
 
 use clap::{Arg, ArgAction, Command};
 use std::alloc::{AllocError, Global};
@@ -34,6 +34,11 @@ const DESK_PLACE_HELP: &str =
     "Where a desk is: N=IN:OUT, its session and its two pipes, up to eight times, or - alone, for standard input and standard output as session 1";
 
 const MANAGER_HELP: &str = "The two pipes of the manager, as IN:OUT, whom desks on pipes need";
+
+const STATUS_HELP: &str =
+    "The file that says how the host of desks on pipes is doing: lines, groups, desks, seats sold. It is rewritten whole";
+
+const EVERY_HELP: &str = "How often that is said, 1 to 3600 seconds; 60 where nothing is said";
 
 const OUT_HELP: &str =
     "The file that the journal is written to, which may be no input but the journal of --after or --resume";
@@ -360,9 +365,14 @@ fn serve_command<'a>(alloc: Global) -> Result<Command<'a>, AllocError>
         serve,
         several_option(alloc, "desk", "DESK", DESK_PLACE_HELP),
     );
-    with_argument(
+    let serve = with_argument(
         serve,
         optional_option(alloc, "manager", "PIPES", MANAGER_HELP),
+    );
+    let serve = with_argument(serve, optional_option(alloc, "status", "FILE", STATUS_HELP));
+    with_argument(
+        serve,
+        optional_option(alloc, "every", "SECONDS", EVERY_HELP),
     )
 }
 
@@ -571,7 +581,7 @@ fn explain_command<'a>(alloc: Global) -> Result<Command<'a>, AllocError>
     let explain = with_argument(Ok(explain), wanted_value(alloc, "code", "CODE", CODE_HELP));
     with_argument(
         explain,
-        optional_values(alloc, "numbers", "NUMBER", NUMBERS_HELP),
+        trailing_values(alloc, "numbers", "NUMBER", NUMBERS_HELP),
     )
 }
 
@@ -675,6 +685,13 @@ fn optional_values<'a>(alloc: Global, id: &'a str, value: &'a str, help: &'a str
     ensures { IsReadAs (optional_values id.entry.now) result }
 {
     optional_value(alloc, id, value, help).action(ArgAction::Append)
+}
+
+// The same, where all behind its first word are words of it, as those of a note that has an option in it.
+fn trailing_values<'a>(alloc: Global, id: &'a str, value: &'a str, help: &'a str) -> Arg<'a>
+    ensures { IsReadAs (trailing_values id.entry.now) result }
+{
+    optional_values(alloc, id, value, help).trailing_var_arg(true)
 }
 
 // An option without a value.

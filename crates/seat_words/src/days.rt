@@ -1,7 +1,7 @@
-//! Words that name a day, or a number of days.
+//! Words that name a day, a number of days, or one of seconds.
 ghost use Rattle.std.specs.Prelude.{◌≡◌, ◌+◌, ◌≤◌, ℕ, IfSome, Some};
 ghost use Rattle.airline_base.specs.Days.{civil_in};
-ghost use Rattle.seat_words.specs.DayWords.{IsDateWord, IsDaysWord, date_word_in};
+ghost use Rattle.seat_words.specs.DayWords.{IsDateWord, IsDaysWord, IsEveryWord, date_word_in};
 
 use airline_base::Day;
 use airline_base::fields::{are_digits, two_are, two_value, value_of};
@@ -29,6 +29,22 @@ pub fn days_word(word: &str) -> Option<u16>
         return None;
     }
     Some(days as u16)
+}
+
+/// The number of seconds that the word names: one to four digits, of value 1 to 3600.
+pub fn every_word(word: &str) -> Option<u16>
+    ensures value { IfSome result (IsEveryWord word.now) }
+    ensures only { (n : ℕ) → IsEveryWord word.now n → result ≡ Some n }
+{
+    let digits = word.as_bytes();
+    if digits.len() > 4 || !are_digits(digits) {
+        return None;
+    }
+    let seconds = value_of(digits);
+    if seconds < 1 || seconds > 3600 {
+        return None;
+    }
+    Some(seconds as u16)
 }
 
 #[tactic(auto, unfolding(crate::specs::DayWords::date_word_in))]

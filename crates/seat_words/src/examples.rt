@@ -218,6 +218,9 @@ pub fn examples_are_read()
         ((codes "code", codes "seatdesk:" ∷ [])
         ∷ (codes "numbers", codes "Q2" ∷ codes "A5" ∷ codes "1" ∷ codes "2" ∷ [])
         ∷ (codes "verbose", codes "false" ∷ []) ∷ []) }
+    ensures noted { IsReadTo (codes "seatdesk explain kept day.txt --after") (codes "explain")
+        ((codes "code", codes "kept" ∷ []) ∷ (codes "numbers", codes "day.txt" ∷ codes "--after" ∷ [])
+        ∷ (codes "verbose", codes "false" ∷ []) ∷ []) }
     ensures verbose { IsReadTo (codes "seatdesk check -v examples/summer.ssim") (codes "check")
         ((codes "verbose", codes "true" ∷ []) ∷ (codes "set", codes "examples/summer.ssim" ∷ []) ∷ []) }
 {}

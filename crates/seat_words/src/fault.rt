@@ -28,6 +28,8 @@ pub enum WordFault {
     BadSession,
     /// The desk is not one of 0 to 8, or its two pipes are not named as they must be.
     BadDesk,
+    /// How often the status is said is not 1 to 3600 seconds, or its file is none that a host may rewrite, or there are no desks on pipes.
+    BadStatus,
     /// The file of the journal is an input or that of the replies, is another run's, or may not be replaced.
     BadJournal,
     /// What the loads are summed by is none of those that they may be.
@@ -61,6 +63,7 @@ impl fmt::Display for WordFault {
             WordFault::BadBehind => "E2 behind",
             WordFault::BadSession => "E2 session",
             WordFault::BadDesk => "E2 desk",
+            WordFault::BadStatus => "E2 status",
             WordFault::BadJournal => "E2 journal",
             WordFault::BadBy => "E2 by",
             WordFault::BadShards => "E2 shards",

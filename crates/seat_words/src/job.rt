@@ -55,7 +55,8 @@ pub enum Job<'a> {
     /// `seatdesk run` over a horizon `[--after JOURNAL] [--behind N] [--resume JOURNAL] --today DATE --journal OUT [--changes FILE]
     /// [--no-clobber] [--again] [SCRIPT...]`
     Run(RunJob<'a>),
-    /// `seatdesk serve` over a horizon `--today DATE --journal JOURNAL --desk DESK... [--manager PIPES]`
+    /// `seatdesk serve` over a horizon `--today DATE --journal JOURNAL --desk DESK... [--manager PIPES] [--status FILE]
+    /// [--every SECONDS]`
     Serve(ServeJob<'a>),
     /// `seatdesk bookings` over a horizon `[--locator LOCATOR]... [--flight FLIGHT] [--day DATE] [--csv] [--json] [--open] JOURNAL`
     Bookings(BookingsJob<'a>),
@@ -148,6 +149,8 @@ pub struct ServeJob<'a> {
     /// None or more.
     pub desks: Several<'a>,
     pub manager: Option<&'a str>,
+    pub status: Option<&'a str>,
+    pub every: Option<&'a str>,
 }
 
 /// What `seatdesk bookings` asks for.
@@ -388,6 +391,8 @@ fn serve_asked<'a>(alloc: Global, matches: &ArgMatches<'a>) -> Result<ServeJob<'
         journal: value_of(matches, "journal"),
         desks: any_values_of(alloc, matches, "desk")?,
         manager: may_value_of(matches, "manager"),
+        status: may_value_of(matches, "status"),
+        every: may_value_of(matches, "every"),
     })
 }
 

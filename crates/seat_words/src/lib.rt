@@ -12,7 +12,7 @@ mod pipes;
 mod sessions;
 mod several;
 
-pub use days::{date_word, days_word};
+pub use days::{date_word, days_word, every_word};
 pub use examples::examples_are_read;
 pub use fault::WordFault;
 pub use job::{
@@ -21,5 +21,5 @@ pub use job::{
 };
 pub use names::{behind_word, flight_word, line_word, locator_word, pair_word, session_word};
 pub use pipes::pipes_of;
-pub use sessions::{audit_lacks, session_file, sessions_of, sessions_of_run};
+pub use sessions::{audit_lacks, has_number, session_file, sessions_of, sessions_of_run};
 pub use several::Several;

@@ -1,5 +1,5 @@
 //! Words that name the scripts of sessions, as `lisbon.txt`, or `3=lisbon.txt` where a session keeps its number.
-ghost use Rattle.std.specs.Prelude.{◌≡◌, ◌≤◌, IfSome, option_map, slice_get};
+ghost use Rattle.std.specs.Prelude.{◌≡◌, ◌≤◌, IfSome, is_some, option_map, slice_get};
 ghost use Rattle.std.specs.List.{AllByRecursion, list_all};
 ghost use Rattle.std.specs.Option.{option_map_or};
 ghost use Rattle.clap.specs.Walk.{texts};
@@ -163,6 +163,13 @@ fn highest(words: &[&str]) -> u8
         rest = more;
     }
     most
+}
+
+/// Whether a word begins with digits and `=`.
+pub fn has_number(word: &str) -> bool
+    ensures { result ≡ is_some (numbered word.now) }
+{
+    numbered(word).is_some()
 }
 
 /// The number of a word, 0 where it has none.

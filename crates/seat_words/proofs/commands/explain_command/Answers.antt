@@ -7,4 +7,4 @@ pub returns : goal.returns
 unfolding explain_app
 returns c =
     let code = argued _ _ (Ok c.named_command-explain.result) c.with_argument-explain.result c.wanted_value.result c.named_command-explain.ensures c.wanted_value.ensures c.with_argument-explain.ensures in
-    argued _ _ c.with_argument-explain.result c.with_argument.result c.optional_values.result code c.optional_values.ensures c.with_argument.ensures
+    argued _ _ c.with_argument-explain.result c.with_argument.result c.trailing_values.result code c.trailing_values.ensures c.with_argument.ensures

@@ -103,6 +103,10 @@ pub returns-clause-pasted : goal.returns-clause-pasted
 unfolding seatdesk_app selling_app bare_app named_app ladder_app check_app flights_app cover_app rooms_app loads_app run_app serve_app bookings_app audit_app seal_app recover_app replies_app told_app waiting_app history_app why_app explain_app horizon_app clap_on_literals
 returns-clause-pasted c = record { taken = refl; found = refl }
 
+pub returns-clause-noted : goal.returns-clause-noted
+unfolding seatdesk_app selling_app bare_app named_app ladder_app check_app flights_app cover_app rooms_app loads_app run_app serve_app bookings_app audit_app seal_app recover_app replies_app told_app waiting_app history_app why_app explain_app horizon_app clap_on_literals
+returns-clause-noted c = record { taken = refl; found = refl }
+
 pub returns-clause-verbose : goal.returns-clause-verbose
 unfolding seatdesk_app selling_app bare_app named_app ladder_app check_app flights_app cover_app rooms_app loads_app run_app serve_app bookings_app audit_app seal_app recover_app replies_app told_app waiting_app history_app why_app explain_app horizon_app clap_on_literals
 returns-clause-verbose c = record { taken = refl; found = refl }
