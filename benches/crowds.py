@@ -9,12 +9,14 @@ each class of a leg. The shapes (all, where none is named):
     held        one class: 999 held, 999 waiting, cancels and listings in turn (`hostile.py`)
     confirming  26 classes with 999 waiting each, cancels that each confirm the first that waits (`hostile.py`)
     behind      the same, but each cancel confirms from the last class of the list, as the others have no room (`hostile.py`)
+    grouped     26 classes one after the other, and cancels that each confirm from the middle of the list (`hostile.py`)
+    stuck       as behind, after a party for which there is never room in the class that is confirmed (`hostile.py`)
     front       155,844 parties wait on six legs, and are cancelled from the first to the last (`run`)
     middle      the same, cancelled in mixed order (`run`)
     limits      13,000 are listed on a leg, and a limit is moved up and down before them (`run --changes`)
     rows        16 MiB of limit rows of one flight number (`audit` of no line)
 
-`held` has 900,000 lines, `confirming` and `behind` 60,000, and `limits` 60,000 rows of changes; --lines says another number for these.
+`held` has 900,000 lines, `confirming`, `behind`, `grouped` and `stuck` 60,000, and `limits` 60,000 rows of changes; --lines says another number for these.
 With several programs a row is taken by all of them in turn. It says the median processor time (user and system) of N runs (3) of each
 program, the peak memory of one more, and how many times as long as the last program the first one takes. A run whose status is not 0 ends it
 all, and so does a row for which two programs write different bytes.
@@ -122,6 +124,8 @@ SHAPES = {
     "held": (by_ladder("held"), 900_000),
     "confirming": (by_ladder("confirming"), 60_000),
     "behind": (by_ladder("behind"), 60_000),
+    "grouped": (by_ladder("grouped"), 60_000),
+    "stuck": (by_ladder("stuck"), 60_000),
     "front": (front, 0),
     "middle": (middle, 0),
     "limits": (limits, 60_000),

@@ -1,7 +1,7 @@
 #!/usr/bin/env python3
 """Writes input for `seatdesk ladder` in which each line has many bookings to look through, the same for the same words.
 
-    benches/hostile.py N held|fresh|confirming|behind [--seed S]
+    benches/hostile.py N held|fresh|confirming|behind|grouped|stuck [--seed S]
 
 held        one class: 999 bookings of one seat are held and 999 wait. Then cancels of any of them alternate with
             listings of new locators. A cancel of a held one confirms the first that waits.
@@ -12,6 +12,10 @@ confirming  the same 26 classes. Then one seat is given back, which confirms the
 behind      26 classes, of which the last 25 are full below the first. In each of those 999 wait, and then 499 in the first. Then
             seats of the first are given back one by one: each confirms from the end of the list, is given back in turn, and a new
             locator is listed.
+grouped     26 classes, one after the other, with 499 parties of two waiting in each but M, in which 999 parties of one wait. Then
+            seats of M are given back one by one: each confirms from the middle of the list, is given back in turn, and a new
+            locator is listed.
+stuck       as behind, but a party of two, for which there is never room, waits in the first class before all others.
 
 Example: benches/hostile.py 900000 held > held.txt && time ./seatdesk ladder < held.txt > replies.txt
 """
@@ -63,22 +67,56 @@ def confirming(chance):
         yield f"{locator(number)} {letter} LL 1"
 
 
-def behind(_):
+def in_turn(letter, held, queue, number):
+    """Seats of a class are given back one by one: each confirms the first of those in the queue, and a new locator is listed."""
+    for fresh in itertools.count(number):
+        yield f"{held.popleft()} {letter} XX 1"
+        held.append(queue.popleft())
+        queue.append(locator(fresh))
+        yield f"{queue[-1]} {letter} LL 1"
+
+
+def full_below(party):
+    """Those that wait in the last 25 classes, behind a party in the first where there is one, and then in the first."""
     yield "A999/999 " + " ".join(f"{letter}500/999" for letter in CLASSES[1:])
     yield f"{locator(0)} B NN 500"
     held = collections.deque(locator(number) for number in range(1, 500))
     for name in held:
         yield f"{name} A NN 1"
+    if party:
+        yield f"{locator(39_000)} A LL {party}"
     for number in range(999 * 25):
         yield f"{locator(500 + number)} {CLASSES[number % 25 + 1]} LL 1"
     queue = collections.deque(locator(40_000 + number) for number in range(499))
     for name in queue:
         yield f"{name} A LL 1"
-    for number in itertools.count(50_000):
-        yield f"{held.popleft()} A XX 1"
-        held.append(queue.popleft())
-        queue.append(locator(number))
-        yield f"{queue[-1]} A LL 1"
+    yield from in_turn("A", held, queue, 50_000)
+
+
+def behind(_):
+    yield from full_below(0)
+
+
+def stuck(_):
+    yield from full_below(2)
+
+
+def grouped(_):
+    yield " ".join(f"{letter}999/999" for letter in CLASSES)
+    yield f"{locator(0)} A NN 500"
+    held = collections.deque(locator(number) for number in range(1, 500))
+    for name in held:
+        yield f"{name} M NN 1"
+    queue = collections.deque()
+    numbers = itertools.count(1_000)
+    for letter in CLASSES:
+        seats = 1 if letter == "M" else 2
+        for _ in range(999 // seats):
+            name = locator(next(numbers))
+            yield f"{name} {letter} LL {seats}"
+            if letter == "M":
+                queue.append(name)
+    yield from in_turn("M", held, queue, 60_000)
 
 
 def main(words):
@@ -86,7 +124,7 @@ def main(words):
     if "--seed" in words:
         at = words.index("--seed")
         seed, words = int(words[at + 1]), words[:at] + words[at + 2 :]
-    modes = {"held": held, "fresh": fresh, "confirming": confirming, "behind": behind}
+    modes = {"held": held, "fresh": fresh, "confirming": confirming, "behind": behind, "grouped": grouped, "stuck": stuck}
     if len(words) != 2 or words[1] not in modes or not words[0].isdigit():
         print(__doc__, end="", file=sys.stderr)
         return 2
