@@ -21,7 +21,8 @@ pub use laws::{loaded_ladders_differ, loaded_replays_keep_limits};
 pub use loading::{Based, Loaded, MOST_LIMIT_BYTES, limit_rows, load, load_based};
 pub use question::Question;
 pub use replaying::{
-    MOST_JOURNAL_BYTES, MOST_LINES, NO_LINES, audit_line, no_lines, replayed, totalled,
+    MOST_JOURNAL_BYTES, MOST_LINES, NO_LINES, audit_line, no_lines, replayed, replayed_in_parts,
+    totalled,
 };
 pub use schedule::{MOST_SET_BYTES, data_set, scheduled};
 pub use sealing::agreed;
