@@ -65,7 +65,7 @@ complete -c seatdesk -n '__fish_seen_subcommand_from loads' -l days -x -d 'How m
 complete -c seatdesk -n '__fish_seen_subcommand_from loads' -l flight -x -d 'The flights of this name alone, on all their days, as LZ601'
 complete -c seatdesk -n '__fish_seen_subcommand_from loads' -l day -x -d 'The legs that depart on this day alone, as 2024-06-01'
 complete -c seatdesk -n '__fish_seen_subcommand_from loads' -l pair -x -d 'The legs between these two stations alone, as LHRJFK'
-complete -c seatdesk -n '__fish_seen_subcommand_from loads' -l by -x -d 'What the loads are summed by: leg, flight or day'
+complete -c seatdesk -n '__fish_seen_subcommand_from loads' -l by -x -d 'What the loads are summed by: leg, flight, day, pair or class'
 complete -c seatdesk -n '__fish_seen_subcommand_from loads' -l bars -d 'Shows the seats held of each limit as a bar, behind each leg'
 complete -c seatdesk -n '__fish_seen_subcommand_from loads' -l csv -d 'Writes the rows as CSV, below a line of the columns\' names'
 complete -c seatdesk -n '__fish_seen_subcommand_from loads' -l json -d 'Writes the rows as JSON, an object a line'

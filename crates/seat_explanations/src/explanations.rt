@@ -736,7 +736,7 @@ const WORDS: &[Explanation] = &[
         behind: "E2",
         code: "by",
         numbers: NONE,
-        text: "--by of loads is not leg, flight or day.",
+        text: "--by of loads is not leg, flight, day, pair or class.",
     },
     Explanation {
         behind: "E2",

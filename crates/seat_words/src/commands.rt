@@ -103,7 +103,7 @@ const CSV_HELP: &str = "Writes the rows as CSV, below a line of the columns' nam
 
 const JSON_HELP: &str = "Writes the rows as JSON, an object a line";
 
-const BY_HELP: &str = "What the loads are summed by: leg, flight or day";
+const BY_HELP: &str = "What the loads are summed by: leg, flight, day, pair or class";
 
 const LEG_DAY_HELP: &str = "The legs that depart on this day alone, as 2024-06-01";
 

@@ -18,8 +18,8 @@ use seat_words::{
     locator_word,
 };
 use table_questions::{
-    BookingTable, DaySums, FlightSums, HistoryTable, LegSums, LoadTable, RoomTable, Table, TableOf,
-    WaitingTable,
+    BookingTable, ClassSums, DaySums, FlightSums, HistoryTable, LegSums, LoadTable, PairSums,
+    RoomTable, Table, TableOf, WaitingTable,
 };
 
 /// The rooms of the places that `--day` and `--pair` keep, with bars where they are asked for. Without a journal they are those
@@ -102,6 +102,8 @@ enum By {
     EachLeg,
     EachFlight,
     EachDay,
+    EachPair,
+    EachClass,
 }
 
 /// Their sums.
@@ -129,6 +131,14 @@ fn summed<'a>(
         }
         By::EachFlight => {
             let table = FlightSums { loads };
+            tabled(rt, over, days, &table, form, journal, is_open)
+        }
+        By::EachPair => {
+            let table = PairSums { loads };
+            tabled(rt, over, days, &table, form, journal, is_open)
+        }
+        By::EachClass => {
+            let table = ClassSums { loads };
             tabled(rt, over, days, &table, form, journal, is_open)
         }
     }
@@ -275,6 +285,8 @@ fn by_word(word: &str) -> Option<By> {
         "leg" => Some(By::EachLeg),
         "flight" => Some(By::EachFlight),
         "day" => Some(By::EachDay),
+        "pair" => Some(By::EachPair),
+        "class" => Some(By::EachClass),
         _ => None,
     }
 }

@@ -16,7 +16,7 @@ use Rattle.seat_tables.specs.declared.cell.Cell.{Cell}
 use Rattle.seat_tables.specs.declared.sheet.Sheet.{Sheet}
 use Rattle.seat_tables.proofs.Putting.{put_both}
 use Rattle.table_questions.proofs.Tables.{rows_kept, rows_left}
-use Rattle.table_questions.specs.SumRows.{day_cells, day_count, day_names, day_row, days_from, earliest, earliest_of, latest, latest_of, on_day, rows_of_days, sums_of_day}
+use Rattle.table_questions.specs.SumRows.{day_cells, day_count, day_names, day_row, days_from, earliest, earliest_of, latest, latest_of, on_day, rows_of_each, sums_of_day}
 
 -- ---- the row of a day
 
@@ -50,36 +50,36 @@ day_kept asked other s flights day sums keep old new same are is e put =
 
 -- ---- the rows of days
 
-rows_more : (rows : ℕ → List (List Cell)) (n day : ℕ) → rows_of_days rows (n + 1) day ≡ rows_of_days rows n day ++ rows (day + n)
+rows_more : (rows : ℕ → List (List Cell)) (n day : ℕ) → rows_of_each rows (n + 1) day ≡ rows_of_each rows n day ++ rows (day + n)
 rows_more rows zero day =
     let e : day + 0 ≡ day = omega arith in
     append-nil (rows day) ∙ ap rows (sym e)
 rows_more rows (suc n) day =
     let e : day + suc n ≡ day + 1 + n = omega arith in
     let longer : suc n + 1 ≡ suc (n + 1) = omega arith in
-    ap (λ (k : ℕ). rows_of_days rows k day) longer
+    ap (λ (k : ℕ). rows_of_each rows k day) longer
     ∙ ap (λ (l : List (List Cell)). rows day ++ l) (rows_more rows n (day + 1))
-    ∙ sym (append_assoc (rows day) (rows_of_days rows n (day + 1)) (rows (day + 1 + n)))
-    ∙ ap (λ (k : ℕ). (rows day ++ rows_of_days rows n (day + 1)) ++ rows k) (sym e)
+    ∙ sym (append_assoc (rows day) (rows_of_each rows n (day + 1)) (rows (day + 1 + n)))
+    ∙ ap (λ (k : ℕ). (rows day ++ rows_of_each rows n (day + 1)) ++ rows k) (sym e)
 
 pub day_more : (names : List (List ℕ)) (rows : ℕ → List (List Cell)) (n day : ℕ) (old mid new : Sheet)
-    → ArePut names (rows_of_days rows n day) old mid → ArePut names (rows (day + n)) mid new
-    → ArePut names (rows_of_days rows (n + 1) day) old new
+    → ArePut names (rows_of_each rows n day) old mid → ArePut names (rows (day + n)) mid new
+    → ArePut names (rows_of_each rows (n + 1) day) old new
 day_more names rows n day old mid new so_far one =
     subst (λ (l : List (List Cell)). ArePut names l old new) (sym (rows_more rows n day))
-    (put_both names (rows_of_days rows n day) (rows (day + n)) old mid new so_far one)
+    (put_both names (rows_of_each rows n day) (rows (day + n)) old mid new so_far one)
 
 -- those of all days
 pub days_whole : (rows : ℕ → List (List Cell)) (i count first last : ℕ) (flights : List Flown) (old new : Sheet)
-    → ArePut day_names (rows_of_days rows i first) old new → i ≤ count → count ≤ i → count ≡ last + 1 - first
+    → ArePut day_names (rows_of_each rows i first) old new → i ≤ count → count ≤ i → count ≡ last + 1 - first
     → last ≡ latest_of 0 flights → first ≡ days_from flights
-    → ArePut day_names (rows_of_days rows (day_count flights) (days_from flights)) old new
+    → ArePut day_names (rows_of_each rows (day_count flights) (days_from flights)) old new
 days_whole rows i count first last flights old new put within over counted is_last is_first =
     let all : i ≡ count = omega (arith, within, over) in
     let so_many : i ≡ day_count flights =
     all ∙ counted ∙ ap (λ (n : ℕ). n + 1 - first) is_last ∙ ap (λ (n : ℕ). latest_of 0 flights + 1 - n) is_first in
-    subst (λ (n : ℕ). ArePut day_names (rows_of_days rows n (days_from flights)) old new) so_many
-    (subst (λ (d : ℕ). ArePut day_names (rows_of_days rows i d) old new) is_first put)
+    subst (λ (n : ℕ). ArePut day_names (rows_of_each rows n (days_from flights)) old new) so_many
+    (subst (λ (d : ℕ). ArePut day_names (rows_of_each rows i d) old new) is_first put)
 
 -- ---- the earliest and the latest
 

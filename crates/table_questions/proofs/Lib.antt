@@ -3,3 +3,5 @@ pub mod Placed
 pub mod Summing
 pub mod Days
 pub mod Events
+pub mod Pairs
+pub mod Classes

@@ -8,7 +8,7 @@ ghost use Rattle.seat_loads.specs.Sums.{AreFewLegs};
 ghost use Rattle.seat_questions.specs.Rooms.{keeps_day};
 ghost use Rattle.seat_tables.specs.Rows.{IsTable};
 ghost use Rattle.seat_tables.specs.Sheets.{ArePut, IsReady};
-ghost use Rattle.table_questions.specs.SumRows.{day_cells, day_count, day_names, day_sums, days_from, earliest, earliest_of, latest, latest_of, on_day, rows_of_days, sums_of_day};
+ghost use Rattle.table_questions.specs.SumRows.{day_cells, day_count, day_names, day_sums, days_from, earliest, earliest_of, latest, latest_of, on_day, rows_of_each, sums_of_day};
 
 use crate::table::Table;
 use airline_base::Day;

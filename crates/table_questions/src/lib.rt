@@ -3,9 +3,11 @@
 #![tactic(auto)]
 
 mod bookings;
+mod by_class;
 mod by_day;
 mod by_flight;
 mod by_leg;
+mod by_pair;
 mod history;
 mod loads;
 mod rooms;
@@ -13,9 +15,11 @@ mod table;
 mod waiting;
 
 pub use bookings::BookingTable;
+pub use by_class::ClassSums;
 pub use by_day::DaySums;
 pub use by_flight::FlightSums;
 pub use by_leg::LegSums;
+pub use by_pair::PairSums;
 pub use history::HistoryTable;
 pub use loads::LoadTable;
 pub use rooms::RoomTable;
