@@ -1,4 +1,4 @@
-//! What the file of a journal may not be: one of the inputs, or the file that the replies go to.
+//! What the file of a journal may not be: one of the inputs, or a file that the replies or what is said of faults go to.
 ghost use Rattle.std.specs.Prelude.{IfErr, IsTrue};
 ghost use Rattle.seat_files.specs.Refusals.{is_failure, is_of_file};
 
@@ -6,7 +6,7 @@ use crate::journal_file::{UNFINISHED, is_same};
 use crate::kept_file::KEPT_BEFORE;
 use crate::refusal::Refusal;
 use crate::seal_file::SEAL;
-use crate::streams::{Input, STANDARD, STANDARD_OUTPUT};
+use crate::streams::{Input, STANDARD, STANDARD_ERROR, STANDARD_OUTPUT};
 use seat_desk::{DeskFault, Inputs};
 use std::fs::Metadata;
 use std::{fs, io};
@@ -62,8 +62,8 @@ impl<'a> Guard<'a> {
         Ok(())
     }
 
-    /// Refuses the file that standard output goes to, since the replies would be written over the journal. Where that can't be
-    /// looked at, it may be this file.
+    /// Refuses the file that standard output goes to, since the replies would be written over the journal, and that of standard error, whose
+    /// notes would stand among its lines. Where the first can't be looked at, it may be this file.
     pub fn pass_output(&self, rt: &HostRuntime) -> Result<(), Refusal<'a>>
         ensures refused { IfErr result (λ refusal. IsTrue (is_of_file refusal.fault)) }
     {
@@ -71,7 +71,7 @@ impl<'a> Guard<'a> {
             return Ok(());
         };
         match fs::metadata(rt, STANDARD_OUTPUT) {
-            Ok(file) if !is_same(&file, there) => Ok(()),
+            Ok(file) if !is_same(&file, there) => pass_error(rt, self.path, there),
             _ => Err(Refusal::barred(self.path, "Is where standard output goes")),
         }
     }
@@ -107,6 +107,19 @@ impl<'a> Guard<'a> {
             Some(file) => Ok(is_same(&file, there)),
             None => Ok(false),
         }
+    }
+}
+
+/// Refuses the file that standard error goes to, and says nothing of it there, since that would be written to this very file. Where nothing
+/// is open on it nothing goes there.
+pub fn pass_error<'b>(rt: &HostRuntime, path: &'b str, there: &Metadata) -> Result<(), Refusal<'b>>
+    ensures refused { IfErr result (λ refusal. IsTrue (is_of_file refusal.fault)) }
+{
+    match fs::metadata(rt, STANDARD_ERROR) {
+        Ok(file) if is_same(&file, there) => {
+            Err(Refusal::barred(path, "Is where standard error goes").silenced())
+        }
+        _ => Ok(()),
     }
 }
 

@@ -12,6 +12,7 @@ mod once;
 mod refusal;
 mod seal_file;
 mod seal_out;
+mod status_file;
 mod streams;
 
 pub use fault::Fault;
@@ -22,6 +23,7 @@ pub use once::pass_once;
 pub use refusal::{Refusal, Shown, told};
 pub use seal_file::{SEAL, SealFile, is_moved};
 pub use seal_out::SealOut;
+pub use status_file::StatusFile;
 pub use streams::{
     Input, Output, opened, opened_or, standard_input, standard_output, taken, taken_or,
 };

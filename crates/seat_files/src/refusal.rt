@@ -34,7 +34,7 @@ pub struct Refusal<'a> {
     why: Option<&'static str>,
     /// The file begins with a byte order mark.
     has_mark: bool,
-    /// Whoever read standard output has gone away, and is told nothing.
+    /// Whoever read standard output has gone away, or standard error goes to the file itself, and nothing is told.
     is_unheard: bool,
     /// The journal of a run whose replies failed.
     put: Option<Put<'a>>,
@@ -138,6 +138,25 @@ impl<'a> Refusal<'a> {
         let mut refusal = Refusal::from(WordFault::BadDesk);
         refusal.file = Some(file);
         refusal.why = Some(why);
+        refusal
+    }
+
+    /// What may not be said as the status of a host is, and why.
+    pub fn unsaid(word: &'a str, why: &'static str) -> Refusal<'a>
+        ensures { result.fault ≡ Fault.Word WordFault.BadStatus }
+    {
+        let mut refusal = Refusal::from(WordFault::BadStatus);
+        refusal.file = Some(word);
+        refusal.why = Some(why);
+        refusal
+    }
+
+    /// The same, for the same reason, of what may not be a journal's either.
+    pub fn as_unsaid(self) -> Refusal<'a>
+        ensures { result.fault ≡ Fault.Word WordFault.BadStatus }
+    {
+        let mut refusal = self;
+        refusal.fault = Fault::Word(WordFault::BadStatus);
         refusal
     }
 
@@ -333,6 +352,15 @@ impl<'a> Refusal<'a> {
         }
     }
 
+    /// The same, which nobody is told of.
+    pub fn silenced(self) -> Refusal<'a>
+        ensures { result.fault ≡ self.entry.fault }
+    {
+        let mut refusal = self;
+        refusal.is_unheard = true;
+        refusal
+    }
+
     /// Nobody is told of a failure of standard output whose reader has gone away.
     fn hushed(self) -> Refusal<'a>
         ensures { result.fault ≡ self.entry.fault }
@@ -353,7 +381,7 @@ impl<'a> Refusal<'a> {
         refusal
     }
 
-    /// Whether whoever read standard output has gone away. Nothing is said of that.
+    /// Whether nothing is said of it: whoever read standard output has gone away, or standard error goes to the file that it is of.
     pub fn is_unheard(&self) -> bool {
         self.is_unheard
     }
