@@ -3,6 +3,7 @@
 //! It knows the host's desks, inbox and outboxes, and nothing of the command line, of what pipes are or of what a line means.
 #![tactic(auto)]
 
+mod counting;
 mod group;
 mod opening;
 mod serving;

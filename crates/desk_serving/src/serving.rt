@@ -18,11 +18,12 @@ ghost use Rattle.desk_serving.specs.declared.serving.HostedFault.TheVariants.{Da
 ghost use Rattle.desk_talk.specs.Closing.{IsEndedUnsealed};
 ghost use Rattle.desk_talk.specs.Ending.{IsEnded, IsLeftOpen};
 
-use crate::group::answer_group;
+use crate::counting::{answer_counted, begun};
 use crate::opening::hall_over;
 use desk_answers::OpenHost;
 use desk_hall::Hall;
 use desk_pipes::{Post, room_for_lines};
+use desk_status::Board;
 use seat_desk::DeskFault;
 use seat_disk::{Replaced, Tape};
 use seat_restoring::seal_closed;
@@ -43,7 +44,7 @@ pub enum HostedFault {
 
 /// Serves eight desks to the manager's end and ends the journal, while the open seal of the lines that the host began with stands in the file
 /// `seals`. Then the closed seal of all lines takes its place, of this basis and with the `runs` that were known. Whatever a crash leaves
-/// of the two files, the seal has the journal's entry.
+/// of the two files, the seal has the journal's entry. What the host has come to stands on the board behind each group.
 #[tactic(auto, using(desk_talk::proofs::Closed::still_named, desk_talk::proofs::Closed::ended_named, desk_talk::proofs::Closed::ended_told, desk_talk::proofs::Closed::ended_unsealed, desk_talk::proofs::Closed::few_ended, seat_disk::proofs::Keeping::no_more))]
 pub fn serve_desks<R: Wait, D: Tape, K: Replaced>(
     rt: &R,
@@ -51,6 +52,7 @@ pub fn serve_desks<R: Wait, D: Tape, K: Replaced>(
     flights: &Flights,
     host: OpenHost<'_, D>,
     post: &Post,
+    board: &Board,
     basis: &Basis,
     runs: Runs,
     seals: &mut K,
@@ -78,7 +80,7 @@ pub fn serve_desks<R: Wait, D: Tape, K: Replaced>(
         (D.may_leave f.1) (D.unsynced f.1)) }
     ensures device { IfErr result (λ f. f.0 ≡ Seal DeskFault.Device → HasFailed K.failure_count seals.old seals.new) }
 {
-    let served = match serve_ended(rt, alloc, flights, host, post) {
+    let served = match serve_ended(rt, alloc, flights, host, post, board) {
         Ok(served) => served,
         Err(refused) => {
             let (fault, tape) = refused;
@@ -108,6 +110,7 @@ fn serve_ended<R: Wait, D: Tape>(
     flights: &Flights,
     host: OpenHost<'_, D>,
     post: &Post,
+    board: &Board,
 ) -> Result<(Ended, D), (ServeFault, D)>
     requires grid { IsGridOf flights.now host.serving.grid }
     requires today { IsCenturyDay host.desk.today }
@@ -126,7 +129,7 @@ fn serve_ended<R: Wait, D: Tape>(
         Err(tape) => return Err((ServeFault::Memory, tape)),
     };
     let mut hall = opened;
-    let served = serve(rt, alloc, &mut hall, post);
+    let served = serve(rt, alloc, &mut hall, post, board);
     let serving = hall.into_serving();
     match served {
         Ok(()) => match serving.end(rt, alloc) {
@@ -144,6 +147,7 @@ fn serve<R: Wait, D: Tape>(
     alloc: Global,
     hall: &mut Hall<'_, D>,
     post: &Post,
+    board: &Board,
 ) -> Result<(), ServeFault>
     requires ready { IsReady D.seen D.may_leave D.unsynced hall.old.serving }
     ensures goes { OnOk result (GoesOn D.seen D.may_leave D.unsynced D.failure_count hall.old.serving hall.new.serving) }
@@ -153,10 +157,12 @@ fn serve<R: Wait, D: Tape>(
         return Err(ServeFault::Memory);
     };
     let mut said = room;
+    let mut tally = begun(hall, board);
+    board.show(rt, tally);
     for _ in rt.forever() {
         said.clear();
         post.inbox.take(rt, &mut said);
-        match answer_group(rt, alloc, hall, post, said.as_slice()) {
+        match answer_counted(rt, alloc, hall, post, said.as_slice(), board, &mut tally) {
             Ok(true) => post.inbox.let_more(rt, said.as_slice()),
             Ok(false) => return Ok(()),
             Err(fault) => return Err(fault),

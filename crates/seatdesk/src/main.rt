@@ -17,6 +17,7 @@ mod selling;
 mod serving;
 mod sessions;
 mod shards;
+mod stating;
 mod undone;
 
 use clap::error::ErrorKind;
@@ -28,6 +29,7 @@ use std::io::IsTerminal;
 use std::process::ExitCode;
 use std::sync::Wait;
 use std::thread::Threads;
+use std::time::Clock;
 use undone::Undone;
 
 fn main(rt: HostRuntime) -> ExitCode {
@@ -47,7 +49,7 @@ fn unread<'a>(error: &io::Error) -> Refusal<'a> {
 }
 
 /// Runs the command that the words name, with threads where it has sessions. An error is one of the words themselves.
-fn start<T: Threads + Wait + Sync + Copy + Send + 'static>(
+fn start<T: Threads + Wait + Clock + Sync + Copy + Send + 'static>(
     rt: &HostRuntime,
     threads: &T,
 ) -> io::Result<ExitCode> {
@@ -68,7 +70,7 @@ fn start<T: Threads + Wait + Sync + Copy + Send + 'static>(
 }
 
 /// Does what the command line asks for.
-fn carry_out<'a, T: Threads + Wait + Sync + Copy + Send + 'static>(
+fn carry_out<'a, T: Threads + Wait + Clock + Sync + Copy + Send + 'static>(
     rt: &'a HostRuntime,
     threads: &T,
     job: &Job<'a>,

@@ -7,12 +7,15 @@ use crate::commands::{day_of_run, days_of, inputs_of};
 use crate::noting::tell_found_unsealed;
 use crate::piping::{Pipes, desks_named, started};
 use crate::restoring::{as_beside, seal_out, tell_kept, unopened};
+use crate::stating::Status;
 use airline_base::{Day, Failures, ReadFault};
 use desk_serving::{HostedFault, serve_desks};
 use desk_talk::{DayFault, ServedFault, TalkFault, open_host, serve_sealed};
-use seat_desk::{Based, DeskFault, Loaded, load_based};
+use seat_desk::{Based, DeskFault, Inputs, Loaded, load_based};
 use seat_disk::Tape;
-use seat_files::{Guard, Input, Output, Refusal, SealOut, standard_input, standard_output, told};
+use seat_files::{
+    Guard, Input, Output, Refusal, SealOut, StatusFile, standard_input, standard_output, told,
+};
 use seat_recovery::MOST_OPEN_BYTES;
 use seat_seal::Beside;
 use seat_serving::ServeFault;
@@ -21,6 +24,7 @@ use seat_words::ServeJob;
 use std::fs;
 use std::sync::Wait;
 use std::thread::Threads;
+use std::time::Clock;
 
 /// What the words ask for besides the flights and limits.
 #[derive(Clone, Copy)]
@@ -29,11 +33,13 @@ pub struct Open<'a, 'b> {
     pub journal: &'a str,
     pub desks: &'b [&'a str],
     pub manager: Option<&'a str>,
+    pub status: Option<&'a str>,
+    pub every: Option<&'a str>,
 }
 
 /// Goes on with a journal beside its seal, or begins it, answers a desk up to the end of its input, or desks up to the manager's end, and
 /// ends and seals the journal.
-pub fn serve<'a, R: Threads + Wait + Copy + Send + 'static>(
+pub fn serve<'a, R: Threads + Wait + Clock + Copy + Send + 'static>(
     rt: &'a HostRuntime,
     waits: &R,
     job: &ServeJob<'a>,
@@ -44,10 +50,12 @@ pub fn serve<'a, R: Threads + Wait + Copy + Send + 'static>(
         journal: job.journal,
         desks: job.desks.as_slice(),
         manager: job.manager,
+        status: job.status,
+        every: job.every,
     };
     let days = days_of(over.first, over.days)?;
     let today = day_of_run(asked.today)?;
-    let pipes = match desks_named(rt, &asked) {
+    let mut pipes = match desks_named(rt, &asked) {
         Ok(pipes) => pipes,
         Err(refusal) => return Err(refusal),
     };
@@ -67,6 +75,7 @@ pub fn serve<'a, R: Threads + Wait + Copy + Send + 'static>(
         Ok(tape) => tape,
         Err(fault) => return Err(unopened(journal, fault)),
     };
+    place_status(rt, &asked, &inputs, &mut pipes)?;
     let path = match fs::canonicalize(rt, journal) {
         Ok(path) => path.into_string(),
         Err(error) => return Err(Refusal::unopened(journal, &error)),
@@ -102,9 +111,27 @@ pub fn serve<'a, R: Threads + Wait + Copy + Send + 'static>(
     }
 }
 
+/// Where desks on pipes say their host's status. Its file may not be the journal, which is there.
+fn place_status<'a>(
+    rt: &HostRuntime,
+    asked: &Open<'a, '_>,
+    inputs: &Inputs<Input<'a>, Input<'a>>,
+    pipes: &mut Option<Pipes>,
+) -> Result<(), Refusal<'a>> {
+    let Some(pipes) = pipes else {
+        return Ok(());
+    };
+    let file = match asked.status {
+        Some(path) => Some(StatusFile::of(rt, path, inputs, asked.journal)?),
+        None => None,
+    };
+    pipes.status = Status::of(rt, file);
+    Ok(())
+}
+
 /// The same with the inputs read, the journal locked and what stands beside it read.
 #[tactic(auto, using(desk_serving::proofs::Ended::opened_grid, desk_serving::proofs::Ended::opened_today))]
-fn serve_over<'a, R: Threads + Wait + Copy + Send + 'static>(
+fn serve_over<'a, R: Threads + Wait + Clock + Copy + Send + 'static>(
     rt: &'a HostRuntime,
     waits: &R,
     based: Based,
@@ -166,7 +193,7 @@ fn serve_over<'a, R: Threads + Wait + Copy + Send + 'static>(
             Err(refused) => Err(untalked(refused, journal, &input, &out)),
         };
     };
-    let Ok(post) = started(waits, rt.alloc(), pipes) else {
+    let Ok(shared) = started(waits, rt.alloc(), pipes) else {
         let _ = host.into_serving().close(waits);
         return Err(Refusal::from(DeskFault::Memory));
     };
@@ -175,12 +202,14 @@ fn serve_over<'a, R: Threads + Wait + Copy + Send + 'static>(
         rt.alloc(),
         &flights,
         host,
-        &post,
+        &shared.post,
+        &shared.board,
         &basis,
         runs,
         seals,
     );
-    post.end(waits);
+    shared.post.end(waits);
+    shared.board.end(waits);
     match served {
         Ok(_) => Ok(()),
         Err(refused) => Err(unended(refused, journal)),
