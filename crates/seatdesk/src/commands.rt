@@ -10,7 +10,7 @@ use airline_base::{Day, Locator};
 use desk_questions::ToldOf;
 use seat_desk::{DeskFault, Inputs, NO_LINES, Question, answer_question};
 use seat_files::{
-    Input, Refusal, SealFile, SealOut, files_taken, is_moved, opened, standard_input,
+    Input, Output, Refusal, SealFile, SealOut, files_taken, is_moved, opened, standard_input,
     standard_output, taken, taken_or, told,
 };
 use seat_lists::Designator;
@@ -61,7 +61,7 @@ pub fn told_of<'a>(rt: &HostRuntime, asked: &ToldJob<'a>) -> Result<(), Refusal<
     let over = &asked.over;
     let days = days_of(over.first, over.days)?;
     let Some(desk) = session_word(asked.desk) else {
-        return Err(Refusal::from(WordFault::BadDesk));
+        return Err(Refusal::unfit(asked.desk, "Is no session of 0 to 8"));
     };
     let from = from_asked(asked.from)?;
     let question = ToldOf { desk, from };
@@ -145,12 +145,15 @@ fn audited_once<'a, R: Threads + Sync>(
     requires first { IsOfCentury days.now.0 }
     requires days { (1 ≤ days.now.1) × (days.now.1 ≤ 366) }
 {
-    let mut inputs = match inputs_of(rt, over, *days) {
-        Ok(inputs) => inputs,
+    let texts = match texts_opened(rt, over, days, Some(journal), looked.is_sealed) {
+        Ok(texts) => texts,
         Err(refusal) => return Err(refusal),
     };
-    let mut journal = taken_or(rt, Some(journal), &NO_LINES)?;
-    let seal = SealFile::beside(rt, &journal, looked.is_sealed)?;
+    let Texts {
+        mut inputs,
+        mut journal,
+        seal,
+    } = texts;
     let mut out = standard_output(rt);
     let outcome = desk_audit(
         threads,
@@ -160,12 +163,59 @@ fn audited_once<'a, R: Threads + Sync>(
         &seal.as_beside(),
         &mut out,
     );
-    let outcome = told(outcome, &[&inputs.set, &inputs.limits, &journal], &[&out]);
-    let is_moved = match &outcome {
-        Err(refusal) => refusal.is_of_seal() && is_moved(rt, &journal),
-        Ok(()) => false,
+    Ok(answer_of(rt, &inputs, &journal, outcome, &out, false))
+}
+
+/// What a question reads, open: a journal, or one without lines, with what stands beside it.
+#[derive(Drop)]
+struct Texts<'a> {
+    inputs: Inputs<Input<'a>, Input<'a>>,
+    journal: Input<'a>,
+    seal: SealFile,
+}
+
+fn texts_opened<'a>(
+    rt: &HostRuntime,
+    over: &Horizon<'a>,
+    days: &(Day, u16),
+    journal: Option<&'a str>,
+    is_sealed: bool,
+) -> Result<Texts<'a>, Refusal<'a>>
+    ensures first { IfOk result (λ texts. texts.inputs.first ≡ days.now.0) }
+    ensures days { IfOk result (λ texts. texts.inputs.days ≡ days.now.1) }
+{
+    let inputs = match inputs_of(rt, over, *days) {
+        Ok(inputs) => inputs,
+        Err(refusal) => return Err(refusal),
     };
-    Ok(Answer { outcome, is_moved })
+    let journal = taken_or(rt, journal, &NO_LINES)?;
+    let seal = SealFile::beside(rt, &journal, is_sealed)?;
+    Ok(Texts {
+        inputs,
+        journal,
+        seal,
+    })
+}
+
+/// What a question came to over these. A seal that denies an open journal, or one that was replaced since it was opened, may be another's.
+fn answer_of<'a>(
+    rt: &HostRuntime,
+    inputs: &Inputs<Input<'a>, Input<'a>>,
+    journal: &Input<'a>,
+    outcome: Result<(), DeskFault>,
+    out: &Output<'a>,
+    is_open: bool,
+) -> Answer<'a> {
+    match told(outcome, &[&inputs.set, &inputs.limits, journal], &[out]) {
+        Ok(()) => Answer {
+            outcome: Ok(()),
+            is_moved: false,
+        },
+        Err(refusal) => Answer {
+            is_moved: refusal.is_of_seal() && (is_open || is_moved(rt, journal)),
+            outcome: Err(refusal),
+        },
+    }
 }
 
 /// Writes the seal of a journal that an audit accepts, while the journal is locked. It keeps the runs of a seal that agrees, and tells of a
@@ -274,12 +324,15 @@ fn answered_once<'a, Q: Question>(
     requires first { IsOfCentury days.now.0 }
     requires days { (1 ≤ days.now.1) × (days.now.1 ≤ 366) }
 {
-    let mut inputs = match inputs_of(rt, over, *days) {
-        Ok(inputs) => inputs,
+    let texts = match texts_opened(rt, over, days, journal, looked.is_sealed) {
+        Ok(texts) => texts,
         Err(refusal) => return Err(refusal),
     };
-    let mut journal = taken_or(rt, journal, &NO_LINES)?;
-    let seal = SealFile::beside(rt, &journal, looked.is_sealed)?;
+    let Texts {
+        mut inputs,
+        mut journal,
+        seal,
+    } = texts;
     let mut out = standard_output(rt);
     let outcome = answer_question(
         rt.alloc(),
@@ -289,12 +342,7 @@ fn answered_once<'a, Q: Question>(
         &seal.as_beside(),
         &mut out,
     );
-    let outcome = told(outcome, &[&inputs.set, &inputs.limits, &journal], &[&out]);
-    let is_moved = match &outcome {
-        Err(refusal) => refusal.is_of_seal() && (looked.is_open || is_moved(rt, &journal)),
-        Ok(()) => false,
-    };
-    Ok(Answer { outcome, is_moved })
+    Ok(answer_of(rt, &inputs, &journal, outcome, &out, looked.is_open))
 }
 
 /// The data set and the limit rows, open, and the dates.

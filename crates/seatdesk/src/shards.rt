@@ -1,9 +1,12 @@
 //! `audit --shards`: the journals of hosts that have different flights over one set and its limits.
 //! It knows which words name them, and nothing of what is in them.
+ghost use Rattle.std.specs.Prelude.{◌≡◌, IfOk};
+
 use crate::commands::{days_of, inputs_of};
-use seat_desk::DeskFault;
-use seat_files::{Input, Refusal, standard_output, taken};
-use seat_shards::desk_shards;
+use airline_base::Day;
+use seat_desk::{DeskFault, Inputs};
+use seat_files::{Input, Output, Refusal, standard_output, taken};
+use seat_shards::{ShardFault, desk_shards};
 use seat_words::{AuditJob, WordFault};
 use std::thread::Threads;
 
@@ -18,11 +21,14 @@ pub fn audit<'a, R: Threads + Sync>(
     if !is_plain(asked) {
         return Err(Refusal::from(WordFault::BadShards));
     }
-    let mut inputs = match inputs_of(rt, over, days) {
-        Ok(inputs) => inputs,
+    let shards = match shards_opened(rt, asked, days) {
+        Ok(shards) => shards,
         Err(refusal) => return Err(refusal),
     };
-    let mut journals = opened_all(rt, asked.journal, asked.scripts.as_slice())?;
+    let Shards {
+        mut inputs,
+        mut journals,
+    } = shards;
     let mut out = standard_output(rt);
     let outcome = desk_shards(
         threads,
@@ -31,13 +37,46 @@ pub fn audit<'a, R: Threads + Sync>(
         journals.as_mut_slice(),
         &mut out,
     );
+    noted(outcome, &inputs, journals.as_slice(), &[&out])
+}
+
+/// The inputs and the journals, open.
+#[derive(Drop)]
+struct Shards<'a> {
+    inputs: Inputs<Input<'a>, Input<'a>>,
+    journals: Vec<Input<'a>>,
+}
+
+fn shards_opened<'a>(
+    rt: &HostRuntime,
+    asked: &AuditJob<'a>,
+    days: (Day, u16),
+) -> Result<Shards<'a>, Refusal<'a>>
+    ensures first { IfOk result (λ shards. shards.inputs.first ≡ days.0) }
+    ensures days { IfOk result (λ shards. shards.inputs.days ≡ days.1) }
+{
+    let inputs = match inputs_of(rt, &asked.over, days) {
+        Ok(inputs) => inputs,
+        Err(refusal) => return Err(refusal),
+    };
+    let journals = journals_opened(rt, asked.journal, asked.scripts.as_slice())?;
+    Ok(Shards { inputs, journals })
+}
+
+/// What the audit came to, of the file that it is of.
+fn noted<'a>(
+    outcome: Result<(), ShardFault>,
+    inputs: &Inputs<Input<'a>, Input<'a>>,
+    journals: &[Input<'a>],
+    outs: &[&Output<'a>],
+) -> Result<(), Refusal<'a>> {
     match outcome {
         Ok(()) => Ok(()),
         Err(fault) => Err(
             Refusal::from(fault)
                 .noting_all(&[&inputs.set, &inputs.limits])
-                .noting_each(journals.as_slice())
-                .noting_outputs(&[&out]),
+                .noting_each(journals)
+                .noting_outputs(outs),
         ),
     }
 }
@@ -52,7 +91,7 @@ fn is_plain(asked: &AuditJob<'_>) -> bool {
 }
 
 /// The files of all these words, open.
-fn opened_all<'a>(
+fn journals_opened<'a>(
     rt: &HostRuntime,
     first: &'a str,
     others: &[&'a str],
