@@ -2,7 +2,7 @@
 ghost use Rattle.std.specs.Prelude.{◌≡◌, ◌≤◌, ◌&&◌, ℕ, Some, drop, length, nat_le, position};
 ghost use Rattle.seat_nesting.specs.Counting.{limits_of, table_of};
 ghost use Rattle.seat_nesting.specs.Nesting.{room};
-ghost use Rattle.seat_bookings.specs.Demands.{first_fitting, first_with, least_with, IsIndexed};
+ghost use Rattle.seat_bookings.specs.Demands.{first_fitting, first_with, least_with, start_of, IsIndexed};
 ghost use Rattle.seat_bookings.specs.Fitting.{most_of, IsMost, IsMostFor};
 ghost use Rattle.seat_bookings.specs.Queues.{fits, next_fit};
 
@@ -60,7 +60,17 @@ fn sooner(demand: &Demand, left: u16, other: Option<u32>) -> Option<u32>
     if demand.smallest > left {
         return other;
     }
-    Some(lower(demand.first, other))
+    Some(lower(start_of(demand, left), other))
+}
+
+// Where the bookings of a demand begin that have at most so many seats, which are at least its least.
+fn start_of(demand: &Demand, left: u16) -> u32
+    ensures { result ≡ start_of demand.now left }
+{
+    if demand.smallest < left {
+        return demand.first;
+    }
+    demand.near
 }
 
 fn lower(number: u32, other: Option<u32>) -> u32

@@ -161,13 +161,15 @@ fn reduce_at(
         ≡ reduced (is_for command.now.locator place command.now.class) command.now.seats bookings.old.items }
     ensures indexed { IsIndexed bookings.new.items demands.new.items }
 {
-    let seats = bookings.nth(at).seats;
+    let booking = *bookings.nth(at);
+    let seats = booking.seats;
     if seats <= command.seats {
         take_at(bookings, demands, at);
         return;
     }
     lessen(
         demands,
+        booking.number,
         place,
         command.class,
         command.seats,

@@ -2,7 +2,7 @@
 use Rattle.std.proofs.Common.{◌≡◌, ℕ, zero, suc, ◌+◌, ◌-◌, ◌<◌, Bool, true, false, min, List, [], ◌∷◌, ◌++◌, length, get_or, set, remove, position, find, Option, Some, None, cond, arith, refl, ap, sym, ◌∙◌}
 use Rattle.seat_bookings.proofs.Common.{AllByRecursion, Place, Demand, is_demand_of, demand_seats}
 use Rattle.std.proofs.lemmas.List.Quantifiers.{position-Some}
-use Rattle.seat_bookings.specs.Demands.{begun, joined, settled}
+use Rattle.seat_bookings.specs.Demands.{begun, joined, nearer, settled}
 use Rattle.seat_rules.proofs.Step.Found.{find_none}
 
 -- the demand at i is the first of the place and class
@@ -17,6 +17,7 @@ joined_first : (place : Place) (class k n : ℕ) (ps : List Demand) (i : ℕ) (d
     → joined ps place class k n ≡ set ps i
     (record (get_or ps i d) {
       first = min k (get_or ps i d).first;
+      near = nearer k n (get_or ps i d);
       smallest = min n (get_or ps i d).smallest;
       seats = (get_or ps i d).seats + n;
     })
@@ -27,27 +28,28 @@ joined_first place class k n (p ∷ ps) (suc i) d first =
     let other : is_demand_of place class p ≡ false = first.2 zero (omega arith) in
     rw (other, rest) refl
 
-settled_first : (place : Place) (class m : ℕ) (next : Option ℕ) (n : ℕ) (ps : List Demand) (i : ℕ) (d : Demand)
+settled_first : (place : Place) (class m : ℕ) (next close : Option ℕ) (n : ℕ) (ps : List Demand) (i : ℕ) (d : Demand)
     → IsFirst place class ps i d
-    → settled ps place class (Some m) next n
+    → settled ps place class (Some m) next close n
     ≡ set ps i (record (get_or ps i d) {
       first = begun (get_or ps i d).first next;
+      near = begun (get_or ps i d).near close;
       smallest = m;
       seats = (get_or ps i d).seats - n;
     })
-settled_first place class m next n [] i d first = absurd (omega (arith, first.0))
-settled_first place class m next n (p ∷ ps) zero d first = rw (first.1) refl
-settled_first place class m next n (p ∷ ps) (suc i) d first =
-    let rest = settled_first place class m next n ps i d (behind place class p ps i d first) in
+settled_first place class m next close n [] i d first = absurd (omega (arith, first.0))
+settled_first place class m next close n (p ∷ ps) zero d first = rw (first.1) refl
+settled_first place class m next close n (p ∷ ps) (suc i) d first =
+    let rest = settled_first place class m next close n ps i d (behind place class p ps i d first) in
     let other : is_demand_of place class p ≡ false = first.2 zero (omega arith) in
     rw (other, rest) refl
 
-dropped_first : (place : Place) (class : ℕ) (next : Option ℕ) (n : ℕ) (ps : List Demand) (i : ℕ) (d : Demand) → IsFirst place class ps i d
-    → settled ps place class None next n ≡ remove ps i
-dropped_first place class next n [] i d first = absurd (omega (arith, first.0))
-dropped_first place class next n (p ∷ ps) zero d first = rw (first.1) refl
-dropped_first place class next n (p ∷ ps) (suc i) d first =
-    let rest = dropped_first place class next n ps i d (behind place class p ps i d first) in
+dropped_first : (place : Place) (class : ℕ) (next close : Option ℕ) (n : ℕ) (ps : List Demand) (i : ℕ) (d : Demand) → IsFirst place class ps i d
+    → settled ps place class None next close n ≡ remove ps i
+dropped_first place class next close n [] i d first = absurd (omega (arith, first.0))
+dropped_first place class next close n (p ∷ ps) zero d first = rw (first.1) refl
+dropped_first place class next close n (p ∷ ps) (suc i) d first =
+    let rest = dropped_first place class next close n ps i d (behind place class p ps i d first) in
     let other : is_demand_of place class p ≡ false = first.2 zero (omega arith) in
     rw (other, rest) refl
 
@@ -73,14 +75,14 @@ absent place class (p ∷ ps) e = cases (is_demand_of place class p) refl e (abs
 
 joined_absent : (place : Place) (class k n : ℕ) (ps : List Demand)
     → AllByRecursion (λ p. is_demand_of place class p ≡ false) ps
-    → joined ps place class k n ≡ ps ++ record { place = place; class = class; first = k; smallest = n; seats = n } ∷ []
+    → joined ps place class k n ≡ ps ++ record { place = place; class = class; first = k; near = k; smallest = n; seats = n } ∷ []
 joined_absent place class k n [] a = refl
 joined_absent place class k n (p ∷ ps) a = rw (a.0, joined_absent place class k n ps a.1) refl
 
-settled_absent : (place : Place) (class n : ℕ) (o next : Option ℕ) (ps : List Demand)
-    → AllByRecursion (λ p. is_demand_of place class p ≡ false) ps → settled ps place class o next n ≡ ps
-settled_absent place class n o next [] a = refl
-settled_absent place class n o next (p ∷ ps) a = rw (a.0, settled_absent place class n o next ps a.1) refl
+settled_absent : (place : Place) (class n : ℕ) (o next close : Option ℕ) (ps : List Demand)
+    → AllByRecursion (λ p. is_demand_of place class p ≡ false) ps → settled ps place class o next close n ≡ ps
+settled_absent place class n o next close [] a = refl
+settled_absent place class n o next close (p ∷ ps) a = rw (a.0, settled_absent place class n o next close ps a.1) refl
 
 -- as the search for a demand answers
 pub seats_found : (ps : List Demand) (place : Place) (class i : ℕ) (p : Demand)
@@ -88,29 +90,37 @@ pub seats_found : (ps : List Demand) (place : Place) (class i : ℕ) (p : Demand
 seats_found ps place class i p found is =
     seats_first place class ps i p (position-Some (is_demand_of place class) ps i p (sym found)) ∙ ap (λ (x : Demand). x.seats) (sym is)
 
-pub joined_found : (ps : List Demand) (place : Place) (class k n i : ℕ) (p : Demand)
-    → Some i ≡ position (is_demand_of place class) ps → p ≡ get_or ps i p
-    → joined ps place class k n ≡ set ps i (record p { first = min k p.first; smallest = min n p.smallest; seats = p.seats + n })
-joined_found ps place class k n i p found is =
+pub joined_found : (ps : List Demand) (place : Place) (class k n i h : ℕ) (p : Demand)
+    → Some i ≡ position (is_demand_of place class) ps → p ≡ get_or ps i p → h ≡ nearer k n p
+    → joined ps place class k n ≡ set ps i (record p {
+      first = min k p.first;
+      near = h;
+      smallest = min n p.smallest;
+      seats = p.seats + n;
+    })
+joined_found ps place class k n i h p found is nears =
     joined_first place class k n ps i p (position-Some (is_demand_of place class) ps i p (sym found))
-    ∙ ap (λ (x : Demand). set ps i (record x { first = min k x.first; smallest = min n x.smallest; seats = x.seats + n })) (sym is)
+    ∙ (ap (λ (x : Demand). set ps i (record x { first = min k x.first; near = nearer k n x; smallest = min n x.smallest; seats = x.seats + n })) (sym is)
+    ∙ ap (λ (m : ℕ). set ps i (record p { first = min k p.first; near = m; smallest = min n p.smallest; seats = p.seats + n })) (sym nears))
 
 pub joined_none : (ps : List Demand) (place : Place) (class k n : ℕ) → None ≡ position (is_demand_of place class) ps
-    → joined ps place class k n ≡ ps ++ record { place = place; class = class; first = k; smallest = n; seats = n } ∷ []
+    → joined ps place class k n ≡ ps ++ record { place = place; class = class; first = k; near = k; smallest = n; seats = n } ∷ []
 joined_none ps place class k n e = joined_absent place class k n ps (absent place class ps (find_none (is_demand_of place class) ps (sym e)))
 
-pub settled_found : (ps : List Demand) (place : Place) (class m : ℕ) (next : Option ℕ) (n i f : ℕ) (p : Demand)
-    → Some i ≡ position (is_demand_of place class) ps → p ≡ get_or ps i p → f ≡ begun p.first next
-    → settled ps place class (Some m) next n ≡ set ps i (record p { first = f; smallest = m; seats = p.seats - n })
-settled_found ps place class m next n i f p found is begins =
-    settled_first place class m next n ps i p (position-Some (is_demand_of place class) ps i p (sym found))
-    ∙ (ap (λ (x : Demand). set ps i (record x { first = begun x.first next; smallest = m; seats = x.seats - n })) (sym is)
-    ∙ ap (λ (k : ℕ). set ps i (record p { first = k; smallest = m; seats = p.seats - n })) (sym begins))
+pub settled_found : (ps : List Demand) (place : Place) (class m : ℕ) (next close : Option ℕ) (n i f h : ℕ) (p : Demand)
+    → Some i ≡ position (is_demand_of place class) ps → p ≡ get_or ps i p → f ≡ begun p.first next → h ≡ begun p.near close
+    → settled ps place class (Some m) next close n
+    ≡ set ps i (record p { first = f; near = h; smallest = m; seats = p.seats - n })
+settled_found ps place class m next close n i f h p found is begins nears =
+    settled_first place class m next close n ps i p (position-Some (is_demand_of place class) ps i p (sym found))
+    ∙ (ap (λ (x : Demand). set ps i (record x { first = begun x.first next; near = begun x.near close; smallest = m; seats = x.seats - n })) (sym is)
+    ∙ (ap (λ (k : ℕ). set ps i (record p { first = k; near = begun p.near close; smallest = m; seats = p.seats - n })) (sym begins)
+    ∙ ap (λ (k : ℕ). set ps i (record p { first = f; near = k; smallest = m; seats = p.seats - n })) (sym nears)))
 
-pub settled_gone : (ps : List Demand) (place : Place) (class : ℕ) (next : Option ℕ) (n i : ℕ) (d : Demand)
-    → Some i ≡ position (is_demand_of place class) ps → settled ps place class None next n ≡ remove ps i
-settled_gone ps place class next n i d found = dropped_first place class next n ps i d (position-Some (is_demand_of place class) ps i d (sym found))
+pub settled_gone : (ps : List Demand) (place : Place) (class : ℕ) (next close : Option ℕ) (n i : ℕ) (d : Demand)
+    → Some i ≡ position (is_demand_of place class) ps → settled ps place class None next close n ≡ remove ps i
+settled_gone ps place class next close n i d found = dropped_first place class next close n ps i d (position-Some (is_demand_of place class) ps i d (sym found))
 
-pub settled_none : (ps : List Demand) (place : Place) (class n : ℕ) (o next : Option ℕ)
-    → None ≡ position (is_demand_of place class) ps → settled ps place class o next n ≡ ps
-settled_none ps place class n o next e = settled_absent place class n o next ps (absent place class ps (find_none (is_demand_of place class) ps (sym e)))
+pub settled_none : (ps : List Demand) (place : Place) (class n : ℕ) (o next close : Option ℕ)
+    → None ≡ position (is_demand_of place class) ps → settled ps place class o next close n ≡ ps
+settled_none ps place class n o next close e = settled_absent place class n o next close ps (absent place class ps (find_none (is_demand_of place class) ps (sym e)))

@@ -6,18 +6,12 @@ use Rattle.std.proofs.lemmas.Bool.Decides.{nat_tests}
 use Rattle.seat_nesting.specs.Nesting.{Ladders, Table, room}
 use Rattle.seat_nesting.proofs.Rooms.{drop_first}
 use Rattle.seat_rules.proofs.Passes.Quiet.{all_map}
-use Rattle.seat_bookings.specs.Demands.{demand_first, first_fitting, first_with, IsReached}
+use Rattle.seat_bookings.specs.Demands.{demand_first, demand_near, first_fitting, first_with, start_of, IsReached}
 use Rattle.seat_bookings.specs.Fitting.{most_of, IsMost, IsMostFor}
 use Rattle.seat_bookings.specs.Queues.{fits, next_fit}
 use Rattle.seat_bookings.proofs.Live.Order.{absent_nowhere}
-use Rattle.seat_bookings.proofs.Waitlists.Index.{at_itself, at_same, least_each, reached_as, reached_least, reached_more, some_same}
+use Rattle.seat_bookings.proofs.Waitlists.Index.{all_both, at_itself, at_same, least_each, reached_as, reached_least, reached_more, some_same}
 use Rattle.seat_bookings.proofs.Waitlists.Reaching.{further, reach_further}
-
--- what holds of each by two things that hold of each
-all_both : (P Q R : Booking → Type 0) (xs : List Booking) → ((b : Booking) → P b → Q b → R b)
-    → AllByRecursion P xs → AllByRecursion Q xs → AllByRecursion R xs
-all_both P Q R [] f a b = tt
-all_both P Q R (x ∷ xs) f a b = (f x a.0 b.0, all_both P Q R xs f a.1 b.1)
 
 -- ---- behind an index
 pub all_drop : (P : Booking → Type 0) (xs : List Booking) (k : ℕ) → AllByRecursion P xs → AllByRecursion P (drop k xs)
@@ -34,44 +28,64 @@ reached_either false o p n f g = g refl
 -- a booking of a demand that fits is not before them
 fit_first : (grid : Ladders) (t : Table) (q : Place) (c m seats n : ℕ) (ps : List Demand)
     → demand_smallest q c ps ≡ Some m → m ≤ seats → seats ≤ room grid t q c → IsReached (demand_first q c ps) n
-    → IsReached (first_fitting grid t ps) n
-fit_first grid t q c m seats n [] e le fit low = absurd cc
-fit_first grid t q c m seats n (p ∷ ps) e le fit low =
-    cases (is_demand_of q c p) refl e low (λ f l. fit_first grid t q c m seats n ps f le fit l)
+    → (m ≡ seats → IsReached (demand_near q c ps) n) → IsReached (first_fitting grid t ps) n
+fit_first grid t q c m seats n [] e le fit low near = absurd cc
+fit_first grid t q c m seats n (p ∷ ps) e le fit low near =
+    cases (is_demand_of q c p) refl e low near (λ f l h. fit_first grid t q c m seats n ps f le fit l h)
   where
     cases : (u : Bool) → is_demand_of q c p ≡ u → cond u (Some p.smallest) (demand_smallest q c ps) ≡ Some m
         → IsReached (cond u (Some p.first) (demand_first q c ps)) n
-        → (demand_smallest q c ps ≡ Some m → IsReached (demand_first q c ps) n → IsReached (first_fitting grid t ps) n)
+        → (m ≡ seats → IsReached (cond u (Some p.near) (demand_near q c ps)) n)
+        → (demand_smallest q c ps ≡ Some m → IsReached (demand_first q c ps) n
+        → (m ≡ seats → IsReached (demand_near q c ps) n) → IsReached (first_fitting grid t ps) n)
         → IsReached (first_fitting grid t (p ∷ ps)) n
-    cases true f g l rest =
-        let h = at_same q p.place c p.class f in
+    cases true f g l h rest =
+        let at = at_same q p.place c p.class f in
         let P : Place → Type 0 = λ y. seats ≤ room grid t y c in
         let Q : ℕ → Type 0 = λ j. seats ≤ room grid t p.place j in
-        let here : seats ≤ room grid t p.place p.class = subst Q (sym h.1) (subst P (sym h.0) fit) in
+        let here : seats ≤ room grid t p.place p.class = subst Q (sym at.1) (subst P (sym at.0) fit) in
         let small : p.smallest ≡ m = some_same p.smallest m g in
         let enough : p.smallest ≤ room grid t p.place p.class = omega (arith, small, le, here) in
         let yes : nat_le p.smallest (room grid t p.place p.class) ≡ true = grind (arith, nat_tests) in
-        reached_either (nat_le p.smallest (room grid t p.place p.class)) (least_with p.first (first_fitting grid t ps)) (first_fitting grid t ps) n
-        (λ e. reached_least p.first (first_fitting grid t ps) n l) (λ e. let no : true ≡ false = sym yes ∙ e in absurd cc)
-    cases false f g l rest =
-        reached_either (nat_le p.smallest (room grid t p.place p.class)) (least_with p.first (first_fitting grid t ps)) (first_fitting grid t ps) n
-        (λ e. reached_more p.first (first_fitting grid t ps) n (rest g l)) (λ e. rest g l)
+        reached_either (nat_le p.smallest (room grid t p.place p.class))
+        (least_with (start_of p (room grid t p.place p.class)) (first_fitting grid t ps)) (first_fitting grid t ps) n
+        (λ e. reached_least (start_of p (room grid t p.place p.class)) (first_fitting grid t ps) n
+        (start_at (room grid t p.place p.class) small here (nat_le (room grid t p.place p.class) p.smallest) refl))
+        (λ e. let no : true ≡ false = sym yes ∙ e in absurd cc)
+      where
+        start_at : (left : ℕ) → p.smallest ≡ m → seats ≤ left → (u : Bool) → nat_le left p.smallest ≡ u
+            → cond u p.near p.first ≤ n
+        start_at left small fits true k =
+            let most : left ≤ p.smallest = grind (arith, nat_tests) in
+            let same : m ≡ seats = omega (arith, most, small, fits, le) in
+            h same
+        start_at left small fits false k = l
+    cases false f g l h rest =
+        reached_either (nat_le p.smallest (room grid t p.place p.class))
+        (least_with (start_of p (room grid t p.place p.class)) (first_fitting grid t ps)) (first_fitting grid t ps) n
+        (λ e. reached_more (start_of p (room grid t p.place p.class)) (first_fitting grid t ps) n (rest g l h)) (λ e. rest g l h)
 
 fits_from : (grid : Ladders) (t : Table) (xs : List Booking) (ps : List Demand) → IsIndexed xs ps
     → AllByRecursion (λ b. fits grid t b ≡ true → IsReached (first_fitting grid t ps) b.number) xs
 fits_from grid t xs ps i =
-    all_both (λ b. IsReached (smallest_of b.place b.class xs) b.seats) (λ b. IsReached (demand_first b.place b.class ps) b.number)
+    all_both (λ b. IsReached (smallest_of b.place b.class xs) b.seats × IsReached (demand_first b.place b.class ps) b.number)
+    (λ b. demand_smallest b.place b.class ps ≡ Some b.seats → IsReached (demand_near b.place b.class ps) b.number)
     (λ b. fits grid t b ≡ true → IsReached (first_fitting grid t ps) b.number) xs
-    (λ b s l e. one b (smallest_of b.place b.class xs) refl s l e) (least_each xs) i.begins
+    (λ b s h e. one b (smallest_of b.place b.class xs) refl s.0 s.1 h e)
+    (all_both (λ b. IsReached (smallest_of b.place b.class xs) b.seats) (λ b. IsReached (demand_first b.place b.class ps) b.number)
+    (λ b. IsReached (smallest_of b.place b.class xs) b.seats × IsReached (demand_first b.place b.class ps) b.number) xs
+    (λ b s l. (s, l)) (least_each xs) i.begins) i.nears
   where
     one : (b : Booking) (o : Option ℕ) → smallest_of b.place b.class xs ≡ o → IsReached o b.seats
-        → IsReached (demand_first b.place b.class ps) b.number → fits grid t b ≡ true
-        → IsReached (first_fitting grid t ps) b.number
-    one b None f s l e = absurd s
-    one b (Some m) f s l e =
+        → IsReached (demand_first b.place b.class ps) b.number
+        → (demand_smallest b.place b.class ps ≡ Some b.seats → IsReached (demand_near b.place b.class ps) b.number)
+        → fits grid t b ≡ true → IsReached (first_fitting grid t ps) b.number
+    one b None f s l h e = absurd s
+    one b (Some m) f s l h e =
         let small : m ≤ b.seats = s in
         let le : b.seats ≤ room grid t b.place b.class = grind (arith, nat_tests) in
-        fit_first grid t b.place b.class m b.seats b.number ps (i.smallest b.place b.class ∙ f) small le l
+        let there : demand_smallest b.place b.class ps ≡ Some m = i.smallest b.place b.class ∙ f in
+        fit_first grid t b.place b.class m b.seats b.number ps there small le l (λ same. h (there ∙ ap Some same))
 
 -- where no demand fits
 pub none_next : (grid : Ladders) (t : Table) (xs : List Booking) (ps : List Demand) (from : ℕ) → IsIndexed xs ps

@@ -1,12 +1,12 @@
 -- The demands of a waiting list stay what its bookings are.
-use Rattle.std.proofs.Common.{◌≡◌, ◌==◌, ◌||◌, ℕ, zero, suc, ◌+◌, ◌*◌, ◌<◌, ◌≤◌, Bool, true, false, min, List, [], ◌∷◌, ◌++◌, length, get_or, set, remove, Option, Some, None, if◌then◌else◌, arith, refl, sym, subst, ap, ◌∙◌}
+use Rattle.std.proofs.Common.{◌≡◌, ◌==◌, ◌||◌, ℕ, zero, suc, ◌+◌, ◌*◌, ◌<◌, ◌≤◌, Bool, true, false, min, cond, nat_lt, List, [], ◌∷◌, ◌++◌, length, get_or, set, remove, Option, Some, None, if◌then◌else◌, arith, refl, sym, subst, ap, ◌∙◌}
 use Rattle.seat_bookings.proofs.Common.{AllByRecursion, Place, Booking, Demand, is_waiting, is_at, is_demand_of, is_booking_of, is_apart, least_with, smallest_of, seats_for, demand_smallest, demand_seats, IsIndexed}
 use Rattle.std.specs.List.{list_any}
 use Rattle.std.proofs.lemmas.Bool.Decides.{nat_tests}
 use Rattle.std.proofs.lemmas.List.{set-get_or}
 use Rattle.seat_rules.specs.Applying.{IsOrdered}
 use Rattle.seat_rules.specs.Bookings.{same_place}
-use Rattle.seat_bookings.specs.Demands.{joined, demand_first, IsReached}
+use Rattle.seat_bookings.specs.Demands.{joined, demand_first, demand_near, IsReached}
 use Rattle.seat_rules.proofs.History.Faults.{nat_same, place_same, same_nat}
 use Rattle.seat_rules.proofs.Passes.Quiet.{all_push, all_map}
 use Rattle.airline_base.proofs.Tests.{both_true}
@@ -63,6 +63,12 @@ other_least m n (Some k) e lt = ap Some (omega (arith, lt, some_same m (min n k)
 pub same_least : (m n : ℕ) (o : Option ℕ) → Some m ≡ least_with n o → n ≤ m → least_with m o ≡ Some m
 same_least m n None e le = refl
 same_least m n (Some k) e le = ap Some (omega (arith, le, some_same m (min n k) e))
+
+-- what holds of each by two things that hold of each
+pub all_both : (P Q R : Booking → Type 0) (xs : List Booking) → ((b : Booking) → P b → Q b → R b)
+    → AllByRecursion P xs → AllByRecursion Q xs → AllByRecursion R xs
+all_both P Q R [] f a b = tt
+all_both P Q R (x ∷ xs) f a b = (f x a.0 b.0, all_both P Q R xs f a.1 b.1)
 
 -- ---- a number that is noted and not above another
 pub reached_as : (o p : Option ℕ) (n : ℕ) → o ≡ p → IsReached p n → IsReached o n
@@ -300,6 +306,68 @@ joined_begins_here place class k n (p ∷ ps) = cases (is_demand_of place class 
   cases true e rest = rw e (rw e refl)
   cases false e rest = rw e (rw e rest)
 
+pub joined_nears : (place : Place) (class k n : ℕ) (q : Place) (c : ℕ) (ps : List Demand)
+    → is_at place class q c ≡ false → demand_near q c (joined ps place class k n) ≡ demand_near q c ps
+joined_nears place class k n q c [] other = rw (at_turned q place c class ∙ other) refl
+joined_nears place class k n q c (p ∷ ps) other = cases (is_demand_of place class p) (is_demand_of q c p) refl refl (joined_nears place class k n q c ps other) where
+  cases : (t u : Bool) → is_demand_of place class p ≡ t → is_demand_of q c p ≡ u
+      → demand_near q c (joined ps place class k n) ≡ demand_near q c ps
+      → demand_near q c (joined (p ∷ ps) place class k n) ≡ demand_near q c (p ∷ ps)
+  cases true u e f rest = let away = at_other place q p.place class c p.class other e in rw e (rw away refl)
+  cases false true e f rest = rw (e, f) refl
+  cases false false e f rest = rw (e, f) rest
+
+-- where the smallest of a demand begin, of which these are told, once a booking of number k has n seats
+abbrev near_with : ℕ → ℕ → Option ℕ → Option ℕ → Option ℕ
+near_with k n None near = Some k
+near_with k n (Some s) None = Some k
+near_with k n (Some s) (Some m) = Some (if nat_lt n s then k else min k m)
+
+joined_nears_here : (place : Place) (class k n : ℕ) (ps : List Demand)
+    → demand_near place class (joined ps place class k n)
+    ≡ near_with k n (demand_smallest place class ps) (demand_near place class ps)
+joined_nears_here place class k n [] = rw (at_itself place class) refl
+joined_nears_here place class k n (p ∷ ps) = cases (is_demand_of place class p) refl (joined_nears_here place class k n ps) where
+  cases : (t : Bool) → is_demand_of place class p ≡ t
+      → demand_near place class (joined ps place class k n)
+      ≡ near_with k n (demand_smallest place class ps) (demand_near place class ps)
+      → demand_near place class (joined (p ∷ ps) place class k n)
+      ≡ near_with k n (demand_smallest place class (p ∷ ps)) (demand_near place class (p ∷ ps))
+  cases true e rest = rw e (rw e refl)
+  cases false e rest = rw e (rw e rest)
+
+near_own : (k n : ℕ) (o p : Option ℕ) → IsReached (near_with k n o p) k
+near_own k n None p = let le : k ≤ k = omega arith in le
+near_own k n (Some s) None = let le : k ≤ k = omega arith in le
+near_own k n (Some s) (Some m) = either (nat_lt n s) where
+  either : (t : Bool) → IsReached (Some (cond t k (min k m))) k
+  either true = let le : k ≤ k = omega arith in le
+  either false = let le : min k m ≤ k = omega arith in le
+
+near_other : (k n : ℕ) (o p : Option ℕ) (seats number : ℕ) → (o ≡ Some seats → IsReached p number) → IsReached o seats
+    → least_with n o ≡ Some seats → IsReached (near_with k n o p) number
+near_other k n None p seats number h le e = absurd le
+near_other k n (Some s) p seats number h le e = cases (nat_lt n s) refl p h where
+  least : min n s ≡ seats
+  least = some_same (min n s) seats e
+
+  most : s ≤ seats
+  most = le
+
+  cases : (t : Bool) → nat_lt n s ≡ t → (p : Option ℕ) → (Some s ≡ Some seats → IsReached p number)
+      → IsReached (near_with k n (Some s) p) number
+  cases true f p h = let lt : n < s = grind (arith, nat_tests) in absurd (omega (arith, lt, least, most))
+  cases false f None h =
+      let ge : s ≤ n = grind (arith, nat_tests) in
+      let same : s ≡ seats = omega (arith, ge, least, most) in
+      absurd (h (ap Some same))
+  cases false f (Some m) h =
+      let ge : s ≤ n = grind (arith, nat_tests) in
+      let same : s ≡ seats = omega (arith, ge, least, most) in
+      let low : m ≤ number = h (ap Some same) in
+      let least_of : min k m ≤ number = omega (arith, low) in
+      reached_as (Some (if nat_lt n s then k else min k m)) (Some (min k m)) number (rw f refl) least_of
+
 pub joined_other : (ps : List Demand) (place : Place) (class k n : ℕ) (q : Place) (c : ℕ) → is_at place class q c ≡ false
     → list_any (is_demand_of q c) ps ≡ false → list_any (is_demand_of q c) (joined ps place class k n) ≡ false
 joined_other [] place class k n q c other e = rw (at_turned q place c class ∙ other) refl
@@ -337,6 +405,14 @@ added xs ps b i ordered waits few = record {
       (all_map (λ x. IsReached (demand_first x.place x.class ps) x.number)
       (λ x. IsReached (demand_first x.place x.class (joined ps b.place b.class b.number b.seats)) x.number) xs
       (λ x h. begins_at x (is_at b.place b.class x.place x.class) refl h) i.begins) here;
+  nears =
+      all_push (λ x. demand_smallest x.place x.class (joined ps b.place b.class b.number b.seats) ≡ Some x.seats
+      → IsReached (demand_near x.place x.class (joined ps b.place b.class b.number b.seats)) x.number) xs b
+      (all_both (λ x. demand_smallest x.place x.class ps ≡ Some x.seats → IsReached (demand_near x.place x.class ps) x.number)
+      (λ x. IsReached (smallest_of x.place x.class xs) x.seats)
+      (λ x. demand_smallest x.place x.class (joined ps b.place b.class b.number b.seats) ≡ Some x.seats
+      → IsReached (demand_near x.place x.class (joined ps b.place b.class b.number b.seats)) x.number) xs
+      (λ x h s e. nears_at x (is_at b.place b.class x.place x.class) refl h s e) i.nears (least_each xs)) (λ e. near_here);
   apart = joined_apart ps b.place b.class b.number b.seats i.apart;
   smallest = λ q c. smallest_cases q c (is_at b.place b.class q c) refl;
   seats = λ q c. seats_cases q c (is_at b.place b.class q c) refl;
@@ -363,6 +439,39 @@ added xs ps b i ordered waits few = record {
   begins_at x false e h =
       reached_as (demand_first x.place x.class (joined ps b.place b.class b.number b.seats)) (demand_first x.place x.class ps) x.number
       (joined_begins b.place b.class b.number b.seats x.place x.class ps e) h
+
+  near_here : IsReached (demand_near b.place b.class (joined ps b.place b.class b.number b.seats)) b.number
+  near_here =
+      reached_as (demand_near b.place b.class (joined ps b.place b.class b.number b.seats))
+      (near_with b.number b.seats (demand_smallest b.place b.class ps) (demand_near b.place b.class ps)) b.number
+      (joined_nears_here b.place b.class b.number b.seats ps)
+      (near_own b.number b.seats (demand_smallest b.place b.class ps) (demand_near b.place b.class ps))
+
+  nears_at : (x : Booking) (t : Bool) → is_at b.place b.class x.place x.class ≡ t
+      → (demand_smallest x.place x.class ps ≡ Some x.seats → IsReached (demand_near x.place x.class ps) x.number)
+      → IsReached (smallest_of x.place x.class xs) x.seats
+      → demand_smallest x.place x.class (joined ps b.place b.class b.number b.seats) ≡ Some x.seats
+      → IsReached (demand_near x.place x.class (joined ps b.place b.class b.number b.seats)) x.number
+  nears_at x true e h s t =
+      let at = at_same b.place x.place b.class x.class e in
+      let R : Place → ℕ → Type 0 = λ y j. (demand_smallest y j ps ≡ Some x.seats → IsReached (demand_near y j ps) x.number)
+      → IsReached (smallest_of y j xs) x.seats
+      → demand_smallest y j (joined ps b.place b.class b.number b.seats) ≡ Some x.seats
+      → IsReached (demand_near y j (joined ps b.place b.class b.number b.seats)) x.number in
+      let same : R b.place b.class =
+      λ g l f. reached_as (demand_near b.place b.class (joined ps b.place b.class b.number b.seats))
+      (near_with b.number b.seats (demand_smallest b.place b.class ps) (demand_near b.place b.class ps)) x.number
+      (joined_nears_here b.place b.class b.number b.seats ps)
+      (near_other b.number b.seats (demand_smallest b.place b.class ps) (demand_near b.place b.class ps) x.seats x.number g
+      (reached_as (demand_smallest b.place b.class ps) (smallest_of b.place b.class xs) x.seats (i.smallest b.place b.class) l)
+      (sym (joined_smallest_here b.place b.class b.number b.seats ps) ∙ f)) in
+      let S : Place → Type 0 = λ y. R y b.class in
+      let T : ℕ → Type 0 = λ j. R x.place j in
+      subst T (sym at.1) (subst S (sym at.0) same) h s t
+  nears_at x false e h s t =
+      reached_as (demand_near x.place x.class (joined ps b.place b.class b.number b.seats)) (demand_near x.place x.class ps) x.number
+      (joined_nears b.place b.class b.number b.seats x.place x.class ps e)
+      (h (sym (joined_smallest b.place b.class b.number b.seats x.place x.class ps e) ∙ t))
 
   smallest_cases : (q : Place) (c : ℕ) (t : Bool) → is_at b.place b.class q c ≡ t
       → demand_smallest q c (joined ps b.place b.class b.number b.seats) ≡ smallest_of q c (xs ++ b ∷ [])

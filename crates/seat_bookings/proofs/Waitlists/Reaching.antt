@@ -71,6 +71,10 @@ reach_further low test xs from reached start within is at over = cases (nat_le r
       (λ k d lt. All-from_recursion (λ (b : Booking). low b ≡ true → test b ≡ false) xs over k d (omega (arith, same, is, lt, prefix_len-le-length low xs))
       (prefix_len_passes low xs k d (omega (arith, same, is, lt))))
 
+pub reach_inside : (low : Booking → Bool) (xs : List Booking) (reached : ℕ) → reached ≡ prefix_len low xs
+    → reached ≤ length xs
+reach_inside low xs reached is = omega (arith, is, prefix_len-le-length low xs)
+
 pub reach_within : (low : Booking → Bool) (xs : List Booking) (from reached start : ℕ) → from ≤ length xs
     → reached ≡ prefix_len low xs → start ≡ max from reached → start ≤ length xs
 reach_within low xs from reached start within is at = omega (arith, within, is, at, prefix_len-le-length low xs)

@@ -11,17 +11,17 @@ pub returns-then-seats-command-clause-reduced : goal.returns-then-seats-command-
 returns-then-seats-command-clause-reduced c =
     let command = c.args.command.now in
     c.take_at.ensures.gone
-    ∙ sym (reduced_gone (is_for command.locator c.args.place command.class) command.seats c.args.bookings.now.items c.args.at c.nth.result.now c.requires.found c.nth.ensures c.if-seats-command.true)
+    ∙ sym (reduced_gone (is_for command.locator c.args.place command.class) command.seats c.args.bookings.now.items c.args.at c.nth-booking.result.now c.requires.found c.nth-booking.ensures c.if-seats-command.true)
 
 pub lessen-requires : goal.lessen-requires
 lessen-requires c =
     let command = c.args.command.now in
-    reduced_enough c.args.bookings.now.items c.args.demands.now.items command.locator c.args.place command.class command.seats c.args.at c.nth.result.now c.requires.indexed c.requires.found c.nth.ensures c.if-seats-command.false
+    reduced_enough c.args.bookings.now.items c.args.demands.now.items command.locator c.args.place command.class command.seats c.args.at c.nth-booking.result.now c.requires.indexed c.requires.found c.nth-booking.ensures c.if-seats-command.false
 
 pub returns-clause-indexed : goal.returns-clause-indexed
 returns-clause-indexed c =
     let command = c.args.command.now in
     let xs = c.args.bookings.now.items in
-    let after = reduced_indexed xs c.args.demands.now.items command.locator c.args.place command.class command.seats c.args.at c.nth.result.now c.requires.indexed c.requires.found c.nth.ensures c.if-seats-command.false in
+    let after = reduced_indexed xs c.args.demands.now.items command.locator c.args.place command.class command.seats c.args.at c.nth-booking.result.now c.requires.indexed c.requires.found c.nth-booking.ensures c.if-seats-command.false in
     let P : List Booking → Type 0 = λ ys. IsIndexed ys c.lessen.new.demands.items in
     subst P (sym c.take_off.ensures) (subst (IsIndexed (reduced (is_for command.locator c.args.place command.class) command.seats xs)) (sym c.lessen.ensures) after)

@@ -1,9 +1,10 @@
 use Rattle.std.proofs.Common.{◌≡◌, ◌≤◌, List, arith, drop, length, remove, ap, subst, sym, ◌∙◌}
 use Rattle.std.proofs.lemmas.List.Edits.{length-remove}
 use Rattle.seat_rules.specs.declared.booking.Booking.{Booking}
+use Rattle.seat_rules.specs.Applying.{IsOrdered}
 use Rattle.seat_bookings.specs.declared.demands.Demand.{Demand}
-use Rattle.seat_bookings.specs.Demands.{least_with, smallest_of, demand_first, demand_smallest, next_first, next_of, settled, IsIndexed}
-use Rattle.seat_bookings.proofs.Waitlists.Departures.{demand_enough, demand_least, left}
+use Rattle.seat_bookings.specs.Demands.{least_with, smallest_of, demand_first, demand_smallest, near_left, next_first, next_of, settled, IsIndexed}
+use Rattle.seat_bookings.proofs.Waitlists.Departures.{demand_enough, demand_least, left, ordered_gone}
 use Rattle.seat_bookings.proofs.waiting_list.take_at.Goals as goal
 
 pub leave-requires-clause-within : goal.leave-requires-clause-within
@@ -11,6 +12,10 @@ leave-requires-clause-within c =
     let P : List Booking → Type 0 = λ ys. c.args.at ≤ length ys in
     subst P (sym (c.as_slice.ensures ∙ c.remove-gone.ensures.items))
     (omega (arith, length-remove c.args.bookings.now.items c.args.at c.requires.within, c.requires.within))
+
+pub leave-requires-clause-ordered : goal.leave-requires-clause-ordered
+leave-requires-clause-ordered c =
+    subst IsOrdered (sym (c.as_slice.ensures ∙ c.remove-gone.ensures.items)) (ordered_gone c.args.bookings.now.items c.args.at c.requires.indexed.ordered)
 
 pub leave-requires-clause-enough : goal.leave-requires-clause-enough
 leave-requires-clause-enough c =
@@ -31,7 +36,8 @@ returns-clause-indexed c =
     let same : c.as_slice.result.now ≡ remove xs c.args.at = c.as_slice.ensures ∙ c.remove-gone.ensures.items in
     let after : List Booking → List Demand =
     λ ys. settled ps b.place b.class (smallest_of b.place b.class ys)
-    (next_first (demand_first b.place b.class ps) b.number (next_of b.place b.class (drop c.args.at ys))) b.seats in
+    (next_first (demand_first b.place b.class ps) b.number (next_of b.place b.class (drop c.args.at ys)))
+    (near_left b.place b.class (smallest_of b.place b.class ys) ps ys) b.seats in
     let new : c.leave.new.demands.items ≡ after (remove xs c.args.at) = c.leave.ensures ∙ ap after same in
     let P : List Booking → Type 0 = λ ys. IsIndexed ys c.leave.new.demands.items in
     subst P (sym c.remove-gone.ensures.items)
