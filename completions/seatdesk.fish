@@ -94,7 +94,7 @@ complete -c seatdesk -n '__fish_seen_subcommand_from serve' -l set -r -F -d 'The
 complete -c seatdesk -n '__fish_seen_subcommand_from serve' -l limits -r -F -d 'The booking limits of the legs, in seats from 0 to 999 (a file)'
 complete -c seatdesk -n '__fish_seen_subcommand_from serve' -l first -x -d 'The first day of departure, as 2024-06-01, from 2000 to 2099'
 complete -c seatdesk -n '__fish_seen_subcommand_from serve' -l days -x -d 'How many days from the first on, 1 to 366'
-complete -c seatdesk -n '__fish_seen_subcommand_from serve' -l today -x -d 'The day of the host, as 2024-06-01, from 2000 to 2099; it gives the requests their year'
+complete -c seatdesk -n '__fish_seen_subcommand_from serve' -l today -x -d 'The day of the host, as 2024-06-01, from 2000 to 2099, never earlier than before; it gives the requests their year, and may be left out beside a seal that has one'
 complete -c seatdesk -n '__fish_seen_subcommand_from serve' -l journal -r -F -d 'The journal to go on from (a file, which is locked); it is made where it is not there'
 complete -c seatdesk -n '__fish_seen_subcommand_from serve' -l desk -x -d 'Where a desk is: N=IN:OUT, its session and its two pipes, up to eight times, or - alone, for standard input and standard output as session 1'
 complete -c seatdesk -n '__fish_seen_subcommand_from serve' -l manager -x -d 'The two pipes of the manager, as IN:OUT, whom desks on pipes need'

@@ -113,6 +113,14 @@ impl<'a, D: Tape> Hall<'a, D> {
         &self.serving
     }
 
+    /// The day on which lines are read.
+    pub fn today(&self) -> Day
+        ensures value { result ≡ self.now.today }
+        ensures century { IsCenturyDay result }
+    {
+        self.today
+    }
+
     /// How many desks there are.
     pub fn count(&self) -> u8
         ensures value { result ≡ length self.now.desks }

@@ -10,6 +10,7 @@ ghost use Rattle.seat_disk.specs.Keeping.{KeepsNoMore};
 ghost use Rattle.seat_recovery.specs.OpenText.{open_text};
 ghost use Rattle.seat_rules.specs.Prefixes.{Begins};
 ghost use Rattle.seat_sealing.specs.Pairs.{NoneDenied};
+ghost use Rattle.seat_restoring.specs.Dating.{AreOfEra};
 ghost use Rattle.seat_restoring.specs.Serving.{IsSealedEnd, NamesAll};
 ghost use Rattle.seat_serving.specs.declared.serving.ServeFault.TheVariants.{Device, Memory as NoMemory};
 ghost use Rattle.desk_answers.specs.Hosts.{IsReady};
@@ -27,7 +28,7 @@ use desk_status::Board;
 use seat_desk::DeskFault;
 use seat_disk::{Replaced, Tape};
 use seat_restoring::seal_closed;
-use seat_seal::{Basis, Runs};
+use seat_seal::{Basis, Sealed};
 use seat_serving::{Ended, ServeFault};
 use ssim_flights::Flights;
 use std::alloc::Global;
@@ -43,8 +44,8 @@ pub enum HostedFault {
 }
 
 /// Serves eight desks to the manager's end and ends the journal, while the open seal of the lines that the host began with stands in the file
-/// `seals`. Then the closed seal of all lines takes its place, of this basis and with the `runs` that were known. Whatever a crash leaves
-/// of the two files, the seal has the journal's entry. What the host has come to stands on the board behind each group.
+/// `seals`. Then the closed seal of all lines takes its place, of this basis, and with the era and the runs of the one that was `begun` with. Whatever a crash leaves
+/// of the two files, the seal has the journal's entry, and is of that era. What the host has come to stands on the board behind each group.
 #[tactic(auto, using(desk_talk::proofs::Closed::still_named, desk_talk::proofs::Closed::ended_named, desk_talk::proofs::Closed::ended_told, desk_talk::proofs::Closed::ended_unsealed, desk_talk::proofs::Closed::few_ended, seat_disk::proofs::Keeping::no_more))]
 pub fn serve_desks<R: Wait, D: Tape, K: Replaced>(
     rt: &R,
@@ -54,7 +55,7 @@ pub fn serve_desks<R: Wait, D: Tape, K: Replaced>(
     post: &Post,
     board: &Board,
     basis: &Basis,
-    runs: Runs,
+    begun: Sealed,
     seals: &mut K,
 ) -> Result<(Ended, D), (HostedFault, D)>
     requires grid { IsGridOf flights.now host.serving.grid }
@@ -62,11 +63,13 @@ pub fn serve_desks<R: Wait, D: Tape, K: Replaced>(
     requires ready { IsReady D.seen D.may_leave D.unsynced host.serving }
     requires cap { host.serving.cap ≡ most_lines }
     requires named { NamesAll host.serving.kept (K.may_leave seals.old) }
+    requires dated { AreOfEra begun.era (K.may_leave seals.old) }
     ensures ended { IfOk result (λ r. IsEnded host.entry.serving.grid host.entry.serving.cap r.0 (D.seen r.1)
         (D.may_leave r.1) (D.unsynced r.1)) }
     ensures front { IfOk result (λ r. Begins host.entry.serving.kept r.0.journal) }
-    ensures sealed { IfOk result (λ r. IsSealedEnd basis.now runs r.0.journal (K.named seals.old) (K.named seals.new)
+    ensures sealed { IfOk result (λ r. IsSealedEnd basis.now begun.runs r.0.journal (K.named seals.old) (K.named seals.new)
         (K.may_leave seals.new)) }
+    ensures dated { AreOfEra begun.era (K.may_leave seals.new) }
     ensures accepted { IfOk result (λ r. NoneDenied (D.may_leave r.1) (K.may_leave seals.new)) }
     ensures agrees { IfErr result (λ f. NoneDenied (D.may_leave f.1) (K.may_leave seals.new)) }
     ensures only { KeepsNoMore (K.kept_may_leave seals.old) (K.kept_may_leave seals.new) }
@@ -89,7 +92,7 @@ pub fn serve_desks<R: Wait, D: Tape, K: Replaced>(
         }
     };
     let (ended, tape) = served;
-    match seal_closed(alloc, basis, runs, &ended.journal, seals) {
+    match seal_closed(alloc, basis, begun, &ended.journal, seals) {
         Ok(()) => Ok((ended, tape)),
         Err(fault) => Err((HostedFault::Seal(fault), tape)),
     }

@@ -4,9 +4,12 @@ use Rattle.std.specs.Prelude.{false, IsTrue, Option}
 use Rattle.seat_journal.specs.declared.entry.Entry.{Entry}
 use Rattle.seat_seal.specs.declared.beside.Basis.{Basis}
 use Rattle.seat_seal.specs.declared.beside.Beside.{Beside}
+use Rattle.seat_seal.specs.declared.era.Era.{Era}
 use Rattle.seat_seal.specs.declared.run.Run.{Run}
+use Rattle.seat_seal.specs.declared.seal.Sealed.{Sealed as Belonging}
 use Rattle.seat_seal.specs.declared.seal.JournalState.TheVariants.{Open}
 use Rattle.seat_desk.specs.AuditDesk.{most_lines}
+use Rattle.seat_restoring.specs.Dating.{AreOfEra, IsEraOver, Stands}
 use Rattle.seat_restoring.specs.Found.{KeepsSealed}
 use Rattle.seat_restoring.specs.Sealing.{AreRunsOver, HasNoSeal, IsSealedIn}
 use Rattle.seat_restoring.specs.Serving.{KeepsBoth, NamesAll}
@@ -79,6 +82,12 @@ module _ {D : Type 0} where
   named_to host s lines seals same is kept names =
       subst (λ (l : List Entry). NamesAll l seals) (sym (ap (λ (x : Served D). x.kept) same ∙ (kept ∙ is))) names
 
+  -- by the seal of this entry
+  pub stands_to : (entry : Belonging) (host s : Served D) (lines : List Entry) (seals : List ℕ → Type 0) → host ≡ s → s.journal ≡ lines
+      → s.kept ≡ s.journal → Stands entry lines seals → Stands entry host.kept seals
+  stands_to entry host s lines seals same is kept stands =
+      subst (λ (l : List Entry). Stands entry l seals) (sym (ap (λ (x : Served D). x.kept) same ∙ (kept ∙ is))) stands
+
   -- with the runs that are known
   pub runs_to : (beside : Beside) (file : List ℕ) (host s : Served D) (lines : List Entry) (runs : List Run) → host ≡ s → s.journal ≡ lines
       → AreRunsOver beside file (length lines) runs → AreRunsOver beside file (length host.journal) runs
@@ -92,6 +101,14 @@ module _ {D : Type 0} where
       → KeepsBoth grid most file journals_old seals_old (leaves host.tape) seals_new
   kept_to grid core cap most file jo so sn leaves host s same over is keeps =
       subst (λ (x : Ladders × ℕ × Served D). KeepsBoth x.0 x.1 file jo so (leaves x.2.tape) sn) (λ i. (over i, is i, sym same i)) keeps
+
+-- whose era is that on this day
+pub era_to : (beside : Beside) (file : List ℕ) (day : ℕ) (era : Era) (entry : Belonging) → entry.era ≡ era → IsEraOver beside file day era
+    → IsEraOver beside file day entry.era
+era_to beside file day era entry is over = subst (IsEraOver beside file day) (sym is) over
+
+pub dated_to : (era : Era) (entry : Belonging) (seals : List ℕ → Type 0) → entry.era ≡ era → AreOfEra era seals → AreOfEra entry.era seals
+dated_to era entry seals is are = subst (λ (e : Era). AreOfEra e seals) (sym is) are
 
 -- over the limits that were given
 pub lost_to : (grid core : Ladders) (cap most : ℕ) (file : List ℕ) (journals_old seals_old journals_new seals_new : List ℕ → Type 0)

@@ -8,6 +8,7 @@ ghost use Rattle.seat_disk.specs.Keeping.{KeepsNoMore};
 ghost use Rattle.seat_recovery.specs.OpenText.{open_text};
 ghost use Rattle.seat_rules.specs.Prefixes.{Begins};
 ghost use Rattle.seat_sealing.specs.Pairs.{NoneDenied};
+ghost use Rattle.seat_restoring.specs.Dating.{AreOfEra};
 ghost use Rattle.seat_restoring.specs.Serving.{IsSealedEnd, NamesAll};
 ghost use Rattle.desk_answers.specs.Hosts.{IsReady};
 ghost use Rattle.desk_talk.specs.Closing.{IfDay, IfSeal, IsTalkUnsealed};
@@ -23,7 +24,7 @@ use desk_answers::OpenHost;
 use seat_desk::DeskFault;
 use seat_disk::{Replaced, Tape};
 use seat_restoring::seal_closed;
-use seat_seal::{Basis, Runs};
+use seat_seal::{Basis, Sealed};
 use seat_serving::{Ended, ServeFault};
 use std::alloc::Global;
 use std::sync::Wait;
@@ -38,15 +39,15 @@ pub enum ServedFault {
 }
 
 /// Talks with a desk to its end and ends the journal, as [`serve_desk`] does, while the open seal of the lines that the host began with stands in the
-/// file `seals`. Then the closed seal of all lines takes its place, of this basis and with the `runs` that were known. Whatever a crash
-/// leaves of the two files, the seal has the journal's entry.
+/// file `seals`. Then the closed seal of all lines takes its place, of this basis, and with the era and the runs of the one that was `begun` with. Whatever a crash
+/// leaves of the two files, the seal has the journal's entry, and is of that era.
 #[tactic(auto, using(crate::proofs::Closed::still_named, crate::proofs::Closed::ended_named, crate::proofs::Closed::ended_told, crate::proofs::Closed::few_ended, seat_disk::proofs::Keeping::no_more))]
 pub fn serve_sealed<R: Wait, I: NotedRead, W: NotedWrite, D: Tape, K: Replaced>(
     rt: &R,
     alloc: Global,
     host: OpenHost<'_, D>,
     basis: &Basis,
-    runs: Runs,
+    begun: Sealed,
     input: &mut I,
     out: &mut W,
     seals: &mut K,
@@ -54,13 +55,15 @@ pub fn serve_sealed<R: Wait, I: NotedRead, W: NotedWrite, D: Tape, K: Replaced>(
     requires ready { IsReady D.seen D.may_leave D.unsynced host.serving }
     requires cap { host.serving.cap ≡ most_lines }
     requires named { NamesAll host.serving.kept (K.may_leave seals.old) }
+    requires dated { AreOfEra begun.era (K.may_leave seals.old) }
     ensures talk { IfOk result (λ r. IfSome (I.remaining input.old)
         (IsTalkTo host.entry (W.contents out.old) (W.contents out.new) r.0.journal)) }
     ensures ended { IfOk result (λ r. IsEnded host.entry.serving.grid host.entry.serving.cap r.0 (D.seen r.1)
         (D.may_leave r.1) (D.unsynced r.1)) }
     ensures front { IfOk result (λ r. Begins host.entry.serving.kept r.0.journal) }
-    ensures sealed { IfOk result (λ r. IsSealedEnd basis.now runs r.0.journal (K.named seals.old) (K.named seals.new)
+    ensures sealed { IfOk result (λ r. IsSealedEnd basis.now begun.runs r.0.journal (K.named seals.old) (K.named seals.new)
         (K.may_leave seals.new)) }
+    ensures dated { AreOfEra begun.era (K.may_leave seals.new) }
     ensures accepted { IfOk result (λ r. NoneDenied (D.may_leave r.1) (K.may_leave seals.new)) }
     ensures agrees { IfErr result (λ f. NoneDenied (D.may_leave f.1) (K.may_leave seals.new)) }
     ensures only { KeepsNoMore (K.kept_may_leave seals.old) (K.kept_may_leave seals.new) }
@@ -77,7 +80,7 @@ pub fn serve_sealed<R: Wait, I: NotedRead, W: NotedWrite, D: Tape, K: Replaced>(
     ensures input { IfErr result (λ f. IfDay f.0 (λ d. d ≡ Talk Input → I.failure_count input.new ≡ noted (I.failure_count input.old))) }
     ensures output { IfErr result (λ f. IfDay f.0 (λ d. d ≡ Talk Output → W.failure_count out.new ≡ noted (W.failure_count out.old))) }
     ensures unsealed { IfErr result (λ f. IfDay f.0 (λ d. seals.new ≡ seals.old)) }
-    ensures over { IfErr result (λ f. IfSeal f.0 (λ e. IsTalkUnsealed host.entry basis.now runs e (I.remaining input.old)
+    ensures over { IfErr result (λ f. IfSeal f.0 (λ e. IsTalkUnsealed host.entry basis.now begun.runs e (I.remaining input.old)
         (W.contents out.old) (W.contents out.new) (D.seen f.1) (D.may_leave f.1) (D.unsynced f.1))) }
     ensures untouched { IfErr result (λ f. IfSeal f.0 (λ e. e ≢ DeskFault.Device → seals.new ≡ seals.old)) }
     ensures device { IfErr result (λ f. IfSeal f.0 (λ e. e ≡ DeskFault.Device → HasFailed K.failure_count seals.old seals.new)) }
@@ -90,7 +93,7 @@ pub fn serve_sealed<R: Wait, I: NotedRead, W: NotedWrite, D: Tape, K: Replaced>(
         }
     };
     let (ended, tape) = served;
-    match seal_closed(alloc, basis, runs, &ended.journal, seals) {
+    match seal_closed(alloc, basis, begun, &ended.journal, seals) {
         Ok(()) => Ok((ended, tape)),
         Err(fault) => Err((ServedFault::Seal(fault), tape)),
     }

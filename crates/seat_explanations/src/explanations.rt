@@ -664,7 +664,7 @@ const WORDS: &[Explanation] = &[
         behind: "E2",
         code: "today",
         numbers: NONE,
-        text: "--today is no day of the years 2000 to 2099, as 2024-06-01, or it is missing:\naudit needs it where scripts are named.",
+        text: "--today is no day of the years 2000 to 2099, as 2024-06-01, or it is missing:\naudit needs it where scripts are named, and serve where the seal beside JOURNAL has no day.\nOr it is earlier than the day of that seal: a host never goes back to an earlier day.\nLeave --today out, and the day of the seal holds.",
     },
     Explanation {
         behind: "E2",

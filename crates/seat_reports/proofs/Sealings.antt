@@ -14,6 +14,7 @@ use Rattle.seat_seal.specs.declared.beside.Basis.{Basis}
 use Rattle.seat_seal.specs.declared.beside.Beside.{Beside}
 use Rattle.seat_seal.specs.declared.run.Run.{Run}
 use Rattle.seat_seal.specs.declared.comparing.SealFault.TheVariants.{Journal}
+use Rattle.seat_seal.specs.declared.era.Era.{Era}
 use Rattle.seat_seal.specs.declared.imprint.Imprint.{Imprint}
 use Rattle.seat_seal.specs.declared.seal.Sealed.{Sealed as Belonging}
 use Rattle.seat_seal.specs.declared.seal.SealEntry.TheVariants.{Sealed}
@@ -36,12 +37,12 @@ if_known P B Q R (Some xs) (Some ys) None step p b q = tt
 if_known P B Q R (Some xs) None journal step p b q = tt
 if_known P B Q R None limits journal step p b q = tt
 
-module _ (first days : ℕ) (flights : List Flown) (rows : List LimitRow) (grid : Ladders) (core : Inventory) (runs : List Run) (entry : Belonging) (beside : Beside)
+module _ (first days : ℕ) (flights : List Flown) (rows : List LimitRow) (grid : Ladders) (core : Inventory) (runs : List Run) (era : Era) (entry : Belonging) (beside : Beside)
     (same : grid ≡ authorised_grid rows flights) where
   of_bytes : (bytes : List ℕ) (basis : Basis) (xs ys : List ℕ) → length bytes ≤ most_journal_bytes
       → IsReplayOf grid bytes core
-      → AreKept beside basis bytes runs
-      → IsEntryOf basis (imprint_of (front_of bytes)) (length core.journal) runs entry
+      → AreKept beside basis bytes runs era
+      → IsEntryOf basis era (imprint_of (front_of bytes)) (length core.journal) runs entry
       → IsGround xs ys first days flights rows → basis ≡ basis_of xs ys first days
       → IsOwnEntry beside xs ys first days bytes entry
   of_bytes bytes basis xs ys within replay kept is_entry ground based = record {
@@ -52,8 +53,9 @@ module _ (first days : ℕ) (flights : List Flown) (rows : List LimitRow) (grid 
     core = core;
     is_replay = subst (λ (g : Ladders). IsReplayOf g bytes core) same replay;
     runs = runs;
-    are_kept = subst (λ (b : Basis). AreKept beside b bytes runs) based kept;
-    is_entry = subst (λ (b : Basis). IsEntryOf b (imprint_of (front_of bytes)) (length core.journal) runs entry) based is_entry;
+    era = era;
+    are_kept = subst (λ (b : Basis). AreKept beside b bytes runs era) based kept;
+    is_entry = subst (λ (b : Basis). IsEntryOf b era (imprint_of (front_of bytes)) (length core.journal) runs entry) based is_entry;
   }
 
   pub own_entry : (set limits journal : Option (List ℕ)) (bytes slice other front : List ℕ) (imprint : Imprint) (lines : ℕ)
@@ -62,14 +64,14 @@ module _ (first days : ℕ) (flights : List Flown) (rows : List LimitRow) (grid 
       → IfSome set (λ xs. IfSome limits (λ ys. basis ≡ basis_of xs ys first days))
       → IfSome journal (λ zs. bytes ≡ zs) → length bytes ≤ most_journal_bytes → slice ≡ bytes
       → front ≡ front_of slice → imprint ≡ imprint_of front → lines ≡ length core.journal → IsReplayOf grid bytes core
-      → AreKept beside basis other runs → other ≡ bytes → IsEntryOf basis imprint lines runs entry
+      → AreKept beside basis other runs era → other ≡ bytes → IsEntryOf basis era imprint lines runs entry
       → IfSome set (λ xs. IfSome limits (λ ys. IfSome journal (λ zs. IsOwnEntry beside xs ys first days zs entry)))
   own_entry set limits journal bytes slice other front imprint lines basis ground based whole within is_slice is_front is_imprint are_lines replay kept is_other is_entry =
       let of_front : imprint ≡ imprint_of (front_of bytes) = is_imprint ∙ ap (λ (l : List ℕ). imprint_of l) (is_front ∙ ap (λ (l : List ℕ). front_of l) is_slice) in
-      let counted : IsEntryOf basis imprint (length core.journal) runs entry = subst (λ (n : ℕ). IsEntryOf basis imprint n runs entry) are_lines is_entry in
-      let own : IsEntryOf basis (imprint_of (front_of bytes)) (length core.journal) runs entry = subst (λ (i : Imprint). IsEntryOf basis i (length core.journal) runs entry) of_front counted in
+      let counted : IsEntryOf basis era imprint (length core.journal) runs entry = subst (λ (n : ℕ). IsEntryOf basis era imprint n runs entry) are_lines is_entry in
+      let own : IsEntryOf basis era (imprint_of (front_of bytes)) (length core.journal) runs entry = subst (λ (i : Imprint). IsEntryOf basis era i (length core.journal) runs entry) of_front counted in
       if_known (λ xs ys. IsGround xs ys first days flights rows) (λ xs ys. basis ≡ basis_of xs ys first days) (λ zs. bytes ≡ zs) (λ xs ys zs. IsOwnEntry beside xs ys first days zs entry) set limits journal
-      (λ xs ys zs g b e. subst (λ (l : List ℕ). IsOwnEntry beside xs ys first days l entry) e (of_bytes bytes basis xs ys within replay (subst (λ (l : List ℕ). AreKept beside basis l runs) is_other kept) own g b)) ground based whole
+      (λ xs ys zs g b e. subst (λ (l : List ℕ). IsOwnEntry beside xs ys first days l entry) e (of_bytes bytes basis xs ys within replay (subst (λ (l : List ℕ). AreKept beside basis l runs era) is_other kept) own g b)) ground based whole
 
 -- what is known of all three follows from what else is
 of_known : (P Q : List ℕ → List ℕ → List ℕ → Type 0) (set limits journal : Option (List ℕ))

@@ -7,9 +7,10 @@ use Rattle.seat_limits.specs.Authorised.{authorised_grid}
 use Rattle.seat_limits.specs.declared.limit_row.LimitRow.{LimitRow}
 use Rattle.seat_rules.specs.Inventory.{Inventory}
 use Rattle.seat_seal.specs.Besides.{IsFaultBeside}
+use Rattle.seat_seal.specs.Eras.{first_era}
 use Rattle.seat_seal.specs.Fronts.{front_of}
 use Rattle.seat_seal.specs.Imprints.{imprint_of}
-use Rattle.seat_seal.specs.Known.{AreRunsOf}
+use Rattle.seat_seal.specs.Known.{AreRunsOf, IsEraOf}
 use Rattle.seat_seal.specs.Reading.{one_entry}
 use Rattle.seat_seal.specs.Rules.{is_sealed}
 use Rattle.seat_seal.specs.Text.{seal_text}
@@ -17,6 +18,7 @@ use Rattle.seat_seal.specs.declared.beside.Basis.{Basis}
 use Rattle.seat_seal.specs.declared.beside.Beside.{Beside}
 use Rattle.seat_seal.specs.declared.comparing.SealFault.{SealFault}
 use Rattle.seat_seal.specs.declared.comparing.SealFault.TheVariants.{Journal}
+use Rattle.seat_seal.specs.declared.era.Era.{Era}
 use Rattle.seat_seal.specs.declared.imprint.Imprint.{Imprint}
 use Rattle.seat_seal.specs.declared.run.Run.{Run}
 use Rattle.seat_seal.specs.declared.seal.JournalState.TheVariants.{Closed}
@@ -30,33 +32,36 @@ use Rattle.seat_desk.specs.declared.fault.DeskFault.{DeskFault}
 use Rattle.seat_desk.specs.declared.fault.DeskFault.TheVariants.{Seal}
 use Rattle.seat_desk.specs.declared.inputs.Inputs.{Inputs}
 
--- what stands beside a journal differs from it, and its runs are not known
-pub record AreDenied (beside : Beside) (basis : Basis) (journal : List ℕ) (runs : List Run) : Type 0 where
+-- what stands beside a journal differs from it, and neither its runs nor its era are known
+pub record AreDenied (beside : Beside) (basis : Basis) (journal : List ℕ) (runs : List Run) (era : Era) : Type 0 where
   pub fault : SealFault
   pub is_first : IsFaultBeside beside basis journal (Some fault)
   pub none : runs ≡ []
+  pub first : era ≡ first_era
 
--- what stands beside a journal has no fault, and its runs are those that it knows
-pub record AreAgreed (beside : Beside) (basis : Basis) (journal : List ℕ) (runs : List Run) : Type 0 where
+-- what stands beside a journal has no fault, and its runs and its era are those that it knows
+pub record AreAgreed (beside : Beside) (basis : Basis) (journal : List ℕ) (runs : List Run) (era : Era) : Type 0 where
   pub faultless : IsFaultBeside beside basis journal None
   pub are_runs : AreRunsOf beside journal runs
+  pub is_era : IsEraOf beside journal era
 
--- the runs that are kept of what stands beside a journal
-abbrev pub AreKept : Beside → Basis → List ℕ → List Run → Type 0
-AreKept beside basis journal runs = AreDenied beside basis journal runs ⊎ AreAgreed beside basis journal runs
+-- the runs and the era that are kept of what stands beside a journal
+abbrev pub AreKept : Beside → Basis → List ℕ → List Run → Era → Type 0
+AreKept beside basis journal runs era = AreDenied beside basis journal runs era ⊎ AreAgreed beside basis journal runs era
 
--- the entry is of that basis and of a journal with so many lines, closed, and with these runs
-pub record IsEntryOf (basis : Basis) (imprint : Imprint) (lines : ℕ) (runs : List Run) (entry : Belonging) : Type 0 where
+-- the entry is of that basis and of a journal of this era with so many lines, closed, and with these runs
+pub record IsEntryOf (basis : Basis) (era : Era) (imprint : Imprint) (lines : ℕ) (runs : List Run) (entry : Belonging) : Type 0 where
   pub set : entry.set ≡ basis.set
   pub limits : entry.limits ≡ basis.limits
   pub first : IsDate entry.first.year entry.first.month entry.first.day basis.first
   pub days : entry.days ≡ basis.days
+  pub era_is : entry.era ≡ era
   pub imprint_is : entry.journal.imprint ≡ imprint
   pub lines_are : entry.journal.lines ≡ lines
   pub state : entry.journal.state ≡ Closed
   pub runs_are : entry.runs ≡ runs
 
--- the bytes of the journal are a legal history over the ladders of these inputs, and this is the entry of it, with the runs that are kept
+-- the bytes of the journal are a legal history over the ladders of these inputs, and this is the entry of it, with the runs and the era that are kept
 -- of what stands beside it
 pub record IsOwnEntry (beside : Beside) (set limits : List ℕ) (first days : ℕ) (journal : List ℕ) (entry : Belonging) : Type 0 where
   pub flights : List Flown
@@ -66,8 +71,9 @@ pub record IsOwnEntry (beside : Beside) (set limits : List ℕ) (first days : �
   pub core : Inventory
   pub is_replay : IsReplayOf (authorised_grid rows flights) journal core
   pub runs : List Run
-  pub are_kept : AreKept beside (basis_of set limits first days) journal runs
-  pub is_entry : IsEntryOf (basis_of set limits first days) (imprint_of (front_of journal)) (length core.journal) runs entry
+  pub era : Era
+  pub are_kept : AreKept beside (basis_of set limits first days) journal runs era
+  pub is_entry : IsEntryOf (basis_of set limits first days) era (imprint_of (front_of journal)) (length core.journal) runs entry
 
 -- the text is that of the journal's seal, which keeps the rules of one
 pub record IsSealOf (beside : Beside) (set limits : List ℕ) (first days : ℕ) (journal text : List ℕ) : Type 0 where

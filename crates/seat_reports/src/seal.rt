@@ -20,13 +20,14 @@ use seat_desk::{
 };
 use seat_disk::{Replaced, replace_whole};
 use seat_seal::{
-    Basis, Beside, Date, Imprint, JournalState, Runs, Seal, SealEntry, SealFault, SealText, Sealed,
-    SealedJournal, fault_beside, front_of, imprint_of, is_sealed, known_of, runs_known, seal_text,
+    Basis, Beside, Date, Era, Imprint, JournalState, Runs, Seal, SealEntry, SealFault, SealText,
+    Sealed, SealedJournal, era_known, fault_beside, front_of, imprint_of, is_sealed, known_of,
+    runs_known, seal_text,
 };
 use std::alloc::Global;
 
 /// Reads a data set, limit rows and a journal as an audit reads them, and puts the journal's seal in place of what its file has: at any
-/// moment a crash leaves what it would have left before, or the new seal, whole. It is closed, and names the runs that what stands beside
+/// moment a crash leaves what it would have left before, or the new seal, whole. It is closed, and has the era and the runs that what stands beside
 /// the journal so far knows, where that has no fault, and else none; a run that began behind more lines than the journal has is of
 /// another journal, and refused. What an audit refuses is refused here.
 pub fn desk_seal<S: NotedRead, L: NotedRead, J: NotedRead, K: Replaced>(
@@ -98,24 +99,28 @@ fn sealed<S: NotedRead, L: NotedRead, J: NotedRead>(
         Err(fault) => return Err(fault),
     };
     let imprint = imprint_of(front_of(&bytes));
-    let runs = kept_runs(beside, &basis, &bytes);
+    let (runs, era) = kept_of(beside, &basis, &bytes);
     let core = match replayed(alloc, grid, bytes) {
         Ok(core) => core,
         Err(fault) => return Err(fault),
     };
-    match text_of(entry_of(&basis, imprint, core.journal().len() as u32, runs)) {
+    match text_of(entry_of(&basis, era, imprint, core.journal().len() as u32, runs)) {
         Ok(text) => Ok(text),
         Err(fault) => Err(fault),
     }
 }
 
-/// The runs that are kept of what stands beside a journal: those that it knows, where it has no fault.
-fn kept_runs(beside: &Beside<'_>, basis: &Basis, journal: &[u8]) -> Runs
-    ensures { AreKept beside.now basis.now journal.now result }
+/// What is kept of what stands beside a journal: the runs and the era that it knows, where it has no fault.
+fn kept_of(beside: &Beside<'_>, basis: &Basis, journal: &[u8]) -> (Runs, Era)
+    ensures { AreKept beside.now basis.now journal.now result.0 result.1 }
 {
     match fault_beside(beside, basis, journal) {
-        Some(_) => Runs::new(),
-        None => runs_known(known_of(beside, journal)),
+        Some(_) => (Runs::new(), Era::first()),
+        None => {
+            let known = known_of(beside, journal);
+            let era = era_known(&known);
+            (runs_known(known), era)
+        }
     }
 }
 
@@ -136,14 +141,15 @@ fn text_of(entry: Sealed) -> Result<SealText, DeskFault>
     Ok(seal_text(&seal))
 }
 
-fn entry_of(basis: &Basis, imprint: Imprint, lines: u32, runs: Runs) -> Sealed
-    ensures { IsEntryOf basis.now imprint lines runs result }
+fn entry_of(basis: &Basis, era: Era, imprint: Imprint, lines: u32, runs: Runs) -> Sealed
+    ensures { IsEntryOf basis.now era imprint lines runs result }
 {
     Sealed {
         set: basis.set,
         limits: basis.limits,
         first: Date::of(basis.first),
         days: basis.days,
+        era,
         journal: SealedJournal {
             imprint,
             lines,

@@ -1,4 +1,5 @@
 pub mod Compared
+pub mod Dated
 pub mod Ordered
 pub mod Over
 pub mod Refusing

@@ -11,7 +11,7 @@ use Rattle.seat_seal.specs.declared.seal.Seal.{Seal}
 use Rattle.seat_seal.specs.declared.seal.Sealed.{Sealed as Belonging}
 use Rattle.seat_seal.specs.declared.seal.SealEntry.{SealEntry}
 use Rattle.seat_seal.specs.declared.seal.SealEntry.TheVariants.{Sealed}
-use Rattle.seat_seal.specs.Besides.{entry_among, entry_fault, entry_of, seal_fault, IsDifference, IsFaultBeside, IsFaultFrom, IsFaultOfText, IsNoSeal}
+use Rattle.seat_seal.specs.Besides.{entry_among, entry_fault, entry_of, seal_fault, IsDifference, IsFaultBeside, IsFaultFrom, IsFaultOfText}
 use Rattle.seat_seal.specs.Comparing.{compared, is_sealed_one, same_date}
 use Rattle.seat_seal.specs.Known.{known_in, IsKnown, IsKnownBy, IsKnownByNone, IsKnownFrom}
 use Rattle.seat_seal.specs.Rules.{IsSeal}

@@ -11,10 +11,12 @@ use Rattle.seat_recovery.specs.OpenText.{open_text}
 use Rattle.seat_seal.specs.Booked.{begins_with, is_booked}
 use Rattle.seat_seal.specs.Comparing.{same_imprint}
 use Rattle.seat_seal.specs.Imprints.{imprint_of}
+use Rattle.seat_seal.specs.Known.{IsEraOf}
 use Rattle.seat_seal.specs.Reading.{two_entries}
 use Rattle.seat_seal.specs.Rules.{is_seal}
 use Rattle.seat_seal.specs.declared.beside.Basis.{Basis}
 use Rattle.seat_seal.specs.declared.beside.Beside.{Beside}
+use Rattle.seat_seal.specs.declared.era.Era.{Era}
 use Rattle.seat_seal.specs.declared.imprint.Imprint.{Imprint}
 use Rattle.seat_seal.specs.declared.run.Run.{Run}
 use Rattle.seat_seal.specs.declared.seal.JournalState.{JournalState}
@@ -77,11 +79,14 @@ over state beside basis file journal imprint lines runs entry of_lines count are
 module _ (beside : Beside) (basis : Basis) (file : List ℕ) (journal : List Entry) (imprint : Imprint) (lines : ℕ)
     (runs more : List Run) (older newer : Belonging) (of_lines : imprint ≡ imprint_of (open_text journal)) (count : lines ≡ length journal)
     (are : AreRunsOver beside file lines runs) (is_newer : IsEntryIn Closed basis imprint lines runs newer)
-    (are_too : AreRunsOver beside file lines more) (is_older : IsEntryIn Open basis imprint lines more older) where
+    (are_too : AreRunsOver beside file lines more) (is_older : IsEntryIn Open basis imprint lines more older)
+    (era : Era) (is_era : IsEraOf beside file era) (of_newer : newer.era ≡ era) (of_older : older.era ≡ era) where
   are_entries : AreEntries beside basis file journal older newer
   are_entries = record {
     is_older = over Open beside basis file journal imprint lines more older of_lines count are_too is_older;
     is_newer = over Closed beside basis file journal imprint lines runs newer of_lines count are is_newer;
+    older_era = subst (λ (e : Era). IsEraOf beside file e) (sym of_older) is_era;
+    newer_era = subst (λ (e : Era). IsEraOf beside file e) (sym of_newer) is_era;
   }
 
   pub are_seals : (both alone : List ℕ) → both ≡ both_text (Sealed older) newer → alone ≡ alone_text newer

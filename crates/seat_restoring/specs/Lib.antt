@@ -1,4 +1,5 @@
 pub mod Comparing
+pub mod Dating
 pub mod Found
 pub mod Restoring
 pub mod Sealing

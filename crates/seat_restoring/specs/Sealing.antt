@@ -1,5 +1,5 @@
 -- The seal of a journal that `recover` ends, and the three steps in which both are written. And the seals of one that lines are added to.
-use Rattle.std.specs.Prelude.{◌≡◌, ◌⊎◌, ◌+◌, ◌≤◌, ℕ, false, true, List, [], length, Option}
+use Rattle.std.specs.Prelude.{◌≡◌, ◌⊎◌, ◌+◌, ℕ, false, true, List, [], length, Option}
 use Rattle.seat_journal.specs.declared.entry.Entry.{Entry}
 use Rattle.seat_journal.specs.Text.{journal_text}
 use Rattle.seat_nesting.specs.Nesting.{Ladders}
@@ -10,7 +10,7 @@ use Rattle.seat_recovery.specs.OpenText.{open_text}
 use Rattle.seat_recovery.specs.Recovering.{HasTornHead, IsRecovered}
 use Rattle.seat_seal.specs.Closing.{IsEntryIn, runs_within}
 use Rattle.seat_seal.specs.Imprints.{imprint_of}
-use Rattle.seat_seal.specs.Known.{IsKnown, runs_known}
+use Rattle.seat_seal.specs.Known.{IsEraOf, IsKnown, runs_known}
 use Rattle.seat_seal.specs.Reading.{two_entries}
 use Rattle.seat_seal.specs.Rules.{is_seal, is_sealed}
 use Rattle.seat_seal.specs.declared.beside.Basis.{Basis}
@@ -46,10 +46,12 @@ pub record IsEntryOver (state : JournalState) (beside : Beside) (basis : Basis) 
   pub are_runs : AreRunsOver beside file lines runs
   pub is : IsEntryIn state basis imprint lines runs entry
 
--- an open one, whose journal the file is as it is and at each later moment, and that of the journal of these lines
+-- an open one, whose journal the file is as it is and at each later moment, and that of the journal of these lines; both are of the era that is known
 pub record AreEntries (beside : Beside) (basis : Basis) (file : List ℕ) (journal : List Entry) (older newer : Belonging) : Type 0 where
   pub is_older : IsEntryOver Open beside basis file (imprint_of (open_text journal)) (length journal) older
   pub is_newer : IsEntryOver Closed beside basis file (imprint_of (open_text journal)) (length journal) newer
+  pub older_era : IsEraOf beside file older.era
+  pub newer_era : IsEraOf beside file newer.era
 
 -- the texts of the seal that names both, and of that of the journal alone; a reader finds in each the entry of the journal, and in the first
 -- an entry of each journal that begins with its lines

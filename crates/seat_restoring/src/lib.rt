@@ -3,10 +3,12 @@
 #![tactic(auto)]
 
 mod comparing;
+mod dating;
 mod ending;
 mod recover;
 mod sealing;
 mod served;
 
+pub use dating::{NoDay, era_on, host_day};
 pub use recover::desk_recover;
-pub use served::{find_sealed, go_on_sealed, seal_closed};
+pub use served::{find_sealed, go_on_sealed, seal_closed, seal_on};

@@ -7,9 +7,10 @@ ghost use Rattle.seat_seal.specs.Imprints.{imprint_of};
 ghost use Rattle.seat_serving.specs.GoingOn.{IsFoundIn};
 ghost use Rattle.seat_restoring.specs.Sealing.{AreRunsOver, AreSeals, AreUnsealable};
 
+use crate::dating::era_of;
 use seat_recovery::Recovered;
 use seat_seal::{
-    Basis, Beside, Imprint, Runs, SealEntry, Sealed, closed_entry, imprint_of, known_of,
+    Basis, Beside, Era, Imprint, Runs, SealEntry, Sealed, closed_entry, imprint_of, known_of,
     open_entry, runs_known,
 };
 use seat_sealing::{SealTexts, may_be_sealed, seal_texts};
@@ -29,10 +30,11 @@ pub fn seals_of(
     ensures none { IfNone result (AreUnsealable seal.now basis.now bytes.now found.now.core.journal) }
 {
     let lines = count_of(found);
+    let era = era_of(seal, bytes);
     let runs = runs_over(seal, bytes, lines);
-    let newer = closed_over(basis, imprint, lines, runs);
+    let newer = closed_over(basis, era, imprint, lines, runs);
     let more = runs_over(seal, bytes, lines);
-    let begun = open_over(basis, imprint, lines, more);
+    let begun = open_over(basis, era, imprint, lines, more);
     let older = SealEntry::Sealed(begun);
     if !may_be_sealed(&older, &newer) {
         return None;
@@ -40,16 +42,18 @@ pub fn seals_of(
     Some(seal_texts(older, newer))
 }
 
-fn closed_over(basis: &Basis, imprint: &Imprint, lines: u32, runs: Runs) -> Sealed
-    ensures { IsClosedEntry basis.now imprint.now lines runs result }
+fn closed_over(basis: &Basis, era: Era, imprint: &Imprint, lines: u32, runs: Runs) -> Sealed
+    ensures entry { IsClosedEntry basis.now imprint.now lines runs result }
+    ensures era { result.era ≡ era }
 {
-    closed_entry(basis, *imprint, lines, runs)
+    closed_entry(basis, era, *imprint, lines, runs)
 }
 
-fn open_over(basis: &Basis, imprint: &Imprint, lines: u32, runs: Runs) -> Sealed
-    ensures { IsOpenEntry basis.now imprint.now lines runs result }
+fn open_over(basis: &Basis, era: Era, imprint: &Imprint, lines: u32, runs: Runs) -> Sealed
+    ensures entry { IsOpenEntry basis.now imprint.now lines runs result }
+    ensures era { result.era ≡ era }
 {
-    open_entry(basis, *imprint, lines, runs)
+    open_entry(basis, era, *imprint, lines, runs)
 }
 
 /// The count of the lines that were found.

@@ -10,13 +10,13 @@ use Rattle.seat_journal.specs.declared.entry.Change.{Change}
 use Rattle.seat_journal.specs.declared.entry.Entry.{Entry}
 use Rattle.seat_seal.specs.Fronts.{front_of}
 use Rattle.seat_seal.specs.Imprints.{imprint_of}
-use Rattle.seat_seal.specs.Known.{AreRunsOf}
+use Rattle.seat_seal.specs.Known.{IsCarried}
 use Rattle.seat_seal.specs.Reading.{two_entries}
 use Rattle.seat_seal.specs.Rules.{is_entry, is_seal, is_sealed}
 use Rattle.seat_seal.specs.declared.beside.Basis.{Basis}
 use Rattle.seat_seal.specs.declared.beside.Beside.{Beside}
 use Rattle.seat_seal.specs.declared.imprint.Imprint.{Imprint}
-use Rattle.seat_seal.specs.declared.run.Run.{Run}
+use Rattle.seat_seal.specs.declared.known.Carried.{Carried}
 use Rattle.seat_seal.specs.declared.seal.Sealed.{Sealed as Belonging}
 use Rattle.seat_seal.specs.declared.seal.SealEntry.{SealEntry}
 use Rattle.seat_seal.specs.declared.seal.SealEntry.TheVariants.{Sealed}
@@ -97,7 +97,7 @@ pub keeps_no_rules : (older : SealEntry) (newer : Belonging) (may : Bool) → is
 unfolding is_seal
 keeps_no_rules older newer may first is none = last_false (is_entry older) (is_sealed newer) first (sym is ∙ none)
 
-module _ (basis : Basis) (imprints : List (Option Imprint)) (changed : Option Imprint) (behind today : ℕ) (earlier : List Run) (lines : List Entry) (said : List ℕ)
+module _ (basis : Basis) (imprints : List (Option Imprint)) (changed : Option Imprint) (behind today : ℕ) (earlier : Carried) (lines : List Entry) (said : List ℕ)
     (text : List ℕ) (newer : Belonging) (is_text : text ≡ journal_text lines)
     (is_entry_of : IsEntryOfRun basis imprints changed behind (length lines) today earlier text newer) where
   abbrev Told : List ℕ → Belonging → List ℕ → Type 0
@@ -181,7 +181,7 @@ pub record IsBooked (flights : List Flown) (grid : Ladders) (past : List Entry) 
 
 -- the texts are told by other names
 pub same_texts : (b basis : Basis) (named imprints : List (Option Imprint)) (told changed : Option Imprint) (ahead behind today : ℕ)
-    (before earlier : List Run) (slice lines : List Entry) (text said : List ℕ)
+    (before earlier : Carried) (slice lines : List Entry) (text said : List ℕ)
     → b ≡ basis → named ≡ imprints → told ≡ changed → ahead ≡ behind → before ≡ earlier → slice ≡ lines → text ≡ said
     → (journal : List ℕ) (entry : Belonging) (replies : List ℕ)
     → AreTexts b named told ahead today before slice text journal entry replies
@@ -191,7 +191,7 @@ same_texts b basis named imprints told changed ahead behind today before earlier
     (subst (λ (l : List (Option Imprint)). AreTexts b l changed behind today earlier lines said journal entry replies) one
     (subst (λ (l : Option Imprint). AreTexts b named l behind today earlier lines said journal entry replies) two
     (subst (λ (n : ℕ). AreTexts b named told n today earlier lines said journal entry replies) three
-    (subst (λ (l : List Run). AreTexts b named told ahead today l lines said journal entry replies) runs
+    (subst (λ (l : Carried). AreTexts b named told ahead today l lines said journal entry replies) runs
     (subst (λ (l : List Entry). AreTexts b named told ahead today before l said journal entry replies) four
     (subst (λ (l : List ℕ). AreTexts b named told ahead today before slice l journal entry replies) five are))))))
 
@@ -235,14 +235,14 @@ based_four P Q R basis first days None limits after resumed known give p q = tt
 module _ (set limits after : Option (List ℕ)) (first days today : ℕ) (texts : List (Option (List ℕ))) (changing : Option (List ℕ)) (flights : List Flown) (grid : Ladders) (past : List Entry) (scripts : List (List Request)) (changes : List Change)
     (history : List Entry) (receipts : List (List Entry)) (replies : List ℕ) (booked : IsBooked flights grid past scripts changes history receipts replies)
     (basis : Basis) (known : IfSome set (λ xs. IfSome limits (λ ys. basis ≡ basis_of xs ys first days)))
-    (imprints : List (Option Imprint)) (are : AreImprints texts imprints) (changed : Option Imprint) (is : IsImprintOf changing changed) (behind : ℕ) (earlier : List Run) (beside : Beside) where
+    (imprints : List (Option Imprint)) (are : AreImprints texts imprints) (changed : Option Imprint) (is : IsImprintOf changing changed) (behind : ℕ) (earlier : Carried) (beside : Beside) where
   module _ (asked : OfThree set limits after (λ xs ys zs. IsAsked xs ys first days today zs texts changing flights grid past scripts changes))
-      (count : behind ≡ length past) (runs : IfSome after (λ zs. AreRunsOf beside zs earlier)) where
+      (count : behind ≡ length past) (runs : IfSome after (λ zs. IsCarried beside zs earlier)) where
     pub sealed_run : (journal : List ℕ) (entry : Belonging) (said : List ℕ)
         → AreTexts basis imprints changed behind today earlier history replies journal entry said
         → OfThree set limits after (λ xs ys zs. IsSealedRun beside xs ys first days today zs texts changing journal entry said)
     sealed_run journal entry said t =
-        based_three (λ xs ys zs. IsAsked xs ys first days today zs texts changing flights grid past scripts changes × AreRunsOf beside zs earlier)
+        based_three (λ xs ys zs. IsAsked xs ys first days today zs texts changing flights grid past scripts changes × IsCarried beside zs earlier)
         (λ xs ys zs. IsSealedRun beside xs ys first days today zs texts changing journal entry said) basis first days set limits after known
         (λ xs ys zs same a. record {
           run = record {
@@ -268,18 +268,18 @@ module _ (set limits after : Option (List ℕ)) (first days today : ℕ) (texts 
           is_entry = subst (λ (b : Basis). IsEntryOfRun b imprints changed (length past) (length history) today earlier journal entry) same
               (subst (λ (n : ℕ). IsEntryOfRun basis imprints changed n (length history) today earlier journal entry) count t.entry_is);
         })
-        (with_third (λ xs ys zs. IsAsked xs ys first days today zs texts changing flights grid past scripts changes) (λ zs. AreRunsOf beside zs earlier) set limits after asked runs)
+        (with_third (λ xs ys zs. IsAsked xs ys first days today zs texts changing flights grid past scripts changes) (λ zs. IsCarried beside zs earlier) set limits after asked runs)
 
   module _ (resumed : Option (List ℕ)) (given : Option ℕ)
       (asked : OfFour set limits after resumed (λ xs ys old zs. WithTaken given beside zs (λ more. IsAskedStill xs ys first days today old more zs texts changing flights grid past scripts changes)))
       (ahead : OfFour set limits after resumed (λ xs ys old zs. WithTaken given beside zs (λ more. IsAhead more old behind)))
-      (runs : IfSome resumed (λ zs. AreRunsOf beside zs earlier)) where
+      (runs : IfSome resumed (λ zs. IsCarried beside zs earlier)) where
     pub sealed_resume : (journal : List ℕ) (entry : Belonging) (said : List ℕ)
         → AreTexts basis imprints changed behind today earlier history replies journal entry said
         → OfFour set limits after resumed
         (λ xs ys old zs. WithTaken given beside zs (λ more. IsSealedResume beside xs ys first days today old more zs texts changing journal entry said))
     sealed_resume journal entry said t =
-        based_four (λ xs ys old zs. WithTaken given beside zs (λ more. IsAskedStill xs ys first days today old more zs texts changing flights grid past scripts changes) × AreRunsOf beside zs earlier)
+        based_four (λ xs ys old zs. WithTaken given beside zs (λ more. IsAskedStill xs ys first days today old more zs texts changing flights grid past scripts changes) × IsCarried beside zs earlier)
         (λ xs ys old zs. WithTaken given beside zs (λ more. IsAhead more old behind))
         (λ xs ys old zs. WithTaken given beside zs (λ more. IsSealedResume beside xs ys first days today old more zs texts changing journal entry said)) basis first days set limits after resumed known
         (λ xs ys old zs same a h. record {
@@ -311,4 +311,4 @@ module _ (set limits after : Option (List ℕ)) (first days today : ℕ) (texts 
                 (subst (λ (n : ℕ). IsEntryOfRun basis imprints changed n (length history) today earlier journal entry) (h.here.each a.0.here.older a.0.here.is_asked.are_ready.is_older.is_text) t.entry_is));
           };
         })
-        (with_fourth (λ xs ys old zs. WithTaken given beside zs (λ more. IsAskedStill xs ys first days today old more zs texts changing flights grid past scripts changes)) (λ zs. AreRunsOf beside zs earlier) set limits after resumed asked runs) ahead
+        (with_fourth (λ xs ys old zs. WithTaken given beside zs (λ more. IsAskedStill xs ys first days today old more zs texts changing flights grid past scripts changes)) (λ zs. IsCarried beside zs earlier) set limits after resumed asked runs) ahead

@@ -2,12 +2,12 @@
 use Rattle.std.specs.Prelude.{◌≡◌, ◌+◌, ◌⊎◌, ℕ, false, List, length, Option}
 use Rattle.seat_journal.specs.Text.{journal_text}
 use Rattle.seat_journal.specs.declared.entry.Entry.{Entry}
-use Rattle.seat_seal.specs.Known.{AreRunsOf}
+use Rattle.seat_seal.specs.Known.{IsCarried}
 use Rattle.seat_seal.specs.Rules.{is_sealed}
 use Rattle.seat_seal.specs.declared.beside.Basis.{Basis}
 use Rattle.seat_seal.specs.declared.beside.Beside.{Beside}
 use Rattle.seat_seal.specs.declared.imprint.Imprint.{Imprint}
-use Rattle.seat_seal.specs.declared.run.Run.{Run}
+use Rattle.seat_seal.specs.declared.known.Carried.{Carried}
 use Rattle.seat_seal.specs.declared.seal.Sealed.{Sealed as Belonging}
 use Rattle.seat_seal.specs.declared.seal.SealEntry.{SealEntry}
 use Rattle.seat_desk.specs.Loading.{Bytes}
@@ -27,7 +27,7 @@ use Rattle.seat_sealing.specs.Written.{AreInPlace, AreWritten, RepliesFailed, Se
 
 -- the journal of these lines, an entry of it on that basis, and these replies
 pub record AreTexts (basis : Basis) (imprints : List (Option Imprint)) (changes : Option Imprint) (behind today : ℕ)
-    (earlier : List Run) (lines : List Entry) (said journal : List ℕ) (entry : Belonging) (replies : List ℕ) : Type 0 where
+    (earlier : Carried) (lines : List Entry) (said journal : List ℕ) (entry : Belonging) (replies : List ℕ) : Type 0 where
   pub journal_is : journal ≡ journal_text lines
   pub entry_is : IsEntryOfRun basis imprints changes behind (length lines) today earlier journal entry
   pub replies_are : replies ≡ said
@@ -88,7 +88,7 @@ pub record InputFailed {J K W : Type 0} (failed : Type 0) (journal_old journal_n
 -- ---- the entry of a run
 
 -- the texts of a run, and an entry of its journal: on the set, the limits and the days, by the scripts and the changes, with all its
--- lines, of which the run went on from those of the older journal, and with the runs that the seal beside that one knows
+-- lines, of which the run went on from those of the older journal, and with the era and the runs that the seal beside that one knows
 pub record IsSealedRun (beside : Beside) (set limits : List ℕ) (first days today : ℕ) (after : List ℕ) (texts : List (Option (List ℕ)))
     (changing : Option (List ℕ)) (journal : List ℕ) (entry : Belonging) (replies : List ℕ) : Type 0 where
   pub run : IsRun set limits first days today after texts changing journal replies
@@ -96,8 +96,8 @@ pub record IsSealedRun (beside : Beside) (set limits : List ℕ) (first days tod
   pub are_imprints : AreImprints texts imprints
   pub changed : Option Imprint
   pub is_changed : IsImprintOf changing changed
-  pub earlier : List Run
-  pub are_earlier : AreRunsOf beside after earlier
+  pub earlier : Carried
+  pub are_earlier : IsCarried beside after earlier
   pub is_entry : IsEntryOfRun (basis_of set limits first days) imprints changed (length run.past) (length run.history) today
       earlier journal entry
 
@@ -118,8 +118,8 @@ pub record IsSealedResume (beside : Beside) (set limits : List ℕ) (first days 
   pub are_imprints : AreImprints texts imprints
   pub changed : Option Imprint
   pub is_changed : IsImprintOf changing changed
-  pub earlier : List Run
-  pub are_earlier : AreRunsOf beside resumed earlier
+  pub earlier : Carried
+  pub are_earlier : IsCarried beside resumed earlier
   pub is_entry : IsEntryOfRun (basis_of set limits first days) imprints changed (length run.is_asked.older + more)
       (length run.history) today earlier journal entry
 

@@ -69,7 +69,7 @@ scripts_known basis before after text more changes behind lines today earlier jo
     let p = begins_with (text ++ more) in
     let has = ap (λ l. list_any p (map imprint_in l)) is.is_run.scripts_are ∙ among p 1 before after text some (grown text more some) in
     ap (λ (l : List Run). list_any p (flat_map (scripts_of None) l)) is.runs_are
-    ∙ by_last p (scripts_of None) earlier is.run has
+    ∙ by_last p (scripts_of None) earlier.runs is.run has
 
 pub changes_known : ChangesAreKnown
 changes_known basis scripts text more behind lines today earlier journal entry some is =
@@ -77,4 +77,4 @@ changes_known basis scripts text more behind lines today earlier journal entry s
     let named = is.is_run.changes_is ∙ some_imprint text some in
     let has = ap (λ (i : Option Imprint). list_any p (changes_in i)) named ∙ true_or (p (imprint_of text)) false (grown text more some) in
     ap (λ (l : List Run). list_any p (flat_map (changes_of None) l)) is.runs_are
-    ∙ by_last p (changes_of None) earlier is.run has
+    ∙ by_last p (changes_of None) earlier.runs is.run has

@@ -19,8 +19,8 @@ use Rattle.seat_scripts.specs.Beside.{IsCallOnce, IsFaultless, IsRefusedBeside, 
 use Rattle.seat_scripts.specs.Changes.{IsOfChanges, IsUnchanged, most_change_bytes}
 use Rattle.seat_scripts.specs.Going.{IsPast}
 use Rattle.seat_scripts.specs.Asked.{IsAsked, IsTooLargeRun}
-use Rattle.seat_seal.specs.Known.{AreRunsOf, IsKnown, runs_known}
-use Rattle.seat_seal.specs.declared.run.Run.{Run}
+use Rattle.seat_seal.specs.Known.{IsCarried, IsKnown, carried_by, runs_known}
+use Rattle.seat_seal.specs.declared.known.Carried.{Carried}
 use Rattle.seat_scripts.specs.Repeated.{IsBookedOf, IsOneBooked, IsRepeatedOf}
 use Rattle.seat_seal.specs.Booked.{changes_booked, scripts_booked}
 use Rattle.seat_scripts.specs.RunDesk.{IsRefusedRun}
@@ -66,11 +66,11 @@ read_last beside (Some xs) bytes slice last is_slice whole h =
     subst (λ (l : List ℕ). IsKnown beside l last) whole (subst (λ (l : List ℕ). IsKnown beside l last) is_slice h)
 read_last beside None bytes slice last is_slice whole h = tt
 
--- the runs that it knows
-pub runs_of : (beside : Beside) (text : Option (List ℕ)) (last : Option Belonging) (runs : List Run)
-    → IfSome text (λ xs. IsKnown beside xs last) → runs ≡ runs_known last → IfSome text (λ xs. AreRunsOf beside xs runs)
-runs_of beside (Some xs) last runs is same = record { known = last; is_known = is; runs_are = same }
-runs_of beside None last runs is same = tt
+-- what the next seal takes of what it knows
+pub carried_of : (beside : Beside) (text : Option (List ℕ)) (last : Option Belonging) (carried : Carried)
+    → IfSome text (λ xs. IsKnown beside xs last) → carried ≡ carried_by last → IfSome text (λ xs. IsCarried beside xs carried)
+carried_of beside (Some xs) last carried is same = record { known = last; is_known = is; carried_is = same }
+carried_of beside None last carried is same = tt
 
 -- whether a run that the seal knows names a script, where the journal's bytes are known
 pub repeated_of : (answer : Bool) (beside : Beside) (after : Option (List ℕ)) (texts : List (Option (List ℕ)))

@@ -6,6 +6,7 @@ use Rattle.seat_seal.specs.Imprints.{imprint_of}
 use Rattle.seat_seal.specs.Runs.{runs_with}
 use Rattle.seat_seal.specs.declared.beside.Basis.{Basis}
 use Rattle.seat_seal.specs.declared.imprint.Imprint.{Imprint}
+use Rattle.seat_seal.specs.declared.known.Carried.{Carried}
 use Rattle.seat_seal.specs.declared.run.Run.{Run}
 use Rattle.seat_seal.specs.declared.scripts.Script.{Script}
 use Rattle.seat_seal.specs.declared.seal.JournalState.TheVariants.{Closed}
@@ -28,16 +29,17 @@ pub record IsRun (imprints : List (Option Imprint)) (changes : Option Imprint) (
   pub scripts_are : run.scripts ≡ named_from 1 imprints
   pub changes_is : run.changes ≡ changes
 
--- the entry of a journal of this text: of that basis, closed, with so many lines, and with this run behind the earlier ones
+-- the entry of a journal of this text: of that basis, closed, with so many lines, of the era that was, and with this run behind the earlier ones
 pub record IsEntryOfRun (basis : Basis) (imprints : List (Option Imprint)) (changes : Option Imprint) (behind lines today : ℕ)
-    (earlier : List Run) (text : List ℕ) (entry : Belonging) : Type 0 where
+    (earlier : Carried) (text : List ℕ) (entry : Belonging) : Type 0 where
   pub set : entry.set ≡ basis.set
   pub limits : entry.limits ≡ basis.limits
   pub first : IsDate entry.first.year entry.first.month entry.first.day basis.first
   pub days : entry.days ≡ basis.days
+  pub era_is : entry.era ≡ earlier.era
   pub imprint_is : entry.journal.imprint ≡ imprint_of (front_of text)
   pub lines_are : entry.journal.lines ≡ lines
   pub state : entry.journal.state ≡ Closed
   pub run : Run
   pub is_run : IsRun imprints changes behind today run
-  pub runs_are : entry.runs ≡ runs_with earlier run
+  pub runs_are : entry.runs ≡ runs_with earlier.runs run

@@ -8,7 +8,7 @@ ghost use Rattle.seat_desk.specs.AuditDesk.{most_lines};
 ghost use Rattle.seat_desk.specs.Desk.{HasFailed, IsOfInput};
 ghost use Rattle.seat_desk.specs.Loading.{HasFirstLoadFailed, IsGridOf};
 ghost use Rattle.seat_desk.specs.Sealing.{IsBasisOf};
-ghost use Rattle.seat_seal.specs.Known.{AreRunsOf};
+ghost use Rattle.seat_seal.specs.Known.{IsCarried};
 ghost use Rattle.seat_scripts.specs.Asked.{IsAskedOf};
 ghost use Rattle.seat_scripts.specs.Beside.{AgreesOf, FailsSealedRun, IsRefusedSealedRunOf, IsTooLargeSealedRunOf};
 ghost use Rattle.seat_scripts.specs.Changes.{IsOnLeg};
@@ -25,7 +25,7 @@ use airline_base::{Day, NotedRead};
 use seat_core::Core;
 use seat_desk::{Based, DeskFault, Inputs, Loaded, load_based};
 use seat_journal::Change;
-use seat_seal::{Basis, Beside, Imprint, Runs, runs_known};
+use seat_seal::{Basis, Beside, Carried, Imprint, carried_by};
 use ssim_flights::Flights;
 use std::alloc::Global;
 
@@ -41,14 +41,14 @@ pub struct Asked {
     pub changes_imprint: Option<Imprint>,
     /// How many lines stand ahead of the scripts.
     pub behind: u32,
-    /// What the seal beside the older journal knows of its runs.
-    pub earlier: Runs,
+    /// What the next seal takes of the one beside the older journal.
+    pub earlier: Carried,
 }
 
 /// Reads a data set, limit rows, an older journal, one to eight scripts and changes of limits. What stands beside the older journal
 /// is compared with the set, the limits and that journal ahead of its own faults. Behind all inputs, scripts or changes are refused of
 /// which one begins with what a run booked that its seal knows, unless they are to be booked `again`.
-#[tactic(auto, using(crate::proofs::Inputs::asked_of, crate::proofs::Seals::agrees, crate::proofs::Seals::repeated_of, crate::proofs::Seals::runs_of, crate::proofs::Seals::sealed_again, crate::proofs::Seals::sealed_unloaded, crate::proofs::Seals::sealed_unread, crate::proofs::Seals::sealed_refused, crate::proofs::Seals::sealed_unchanged, crate::proofs::Seals::sealed_large_load, crate::proofs::Seals::sealed_large_past, crate::proofs::Seals::sealed_large_script, crate::proofs::Seals::sealed_large_changes, crate::proofs::Seals::sealed_past_fails, crate::proofs::Seals::sealed_script_fails, crate::proofs::Seals::sealed_changes_fail))]
+#[tactic(auto, using(crate::proofs::Inputs::asked_of, crate::proofs::Seals::agrees, crate::proofs::Seals::repeated_of, crate::proofs::Seals::carried_of, crate::proofs::Seals::sealed_again, crate::proofs::Seals::sealed_unloaded, crate::proofs::Seals::sealed_unread, crate::proofs::Seals::sealed_refused, crate::proofs::Seals::sealed_unchanged, crate::proofs::Seals::sealed_large_load, crate::proofs::Seals::sealed_large_past, crate::proofs::Seals::sealed_large_script, crate::proofs::Seals::sealed_large_changes, crate::proofs::Seals::sealed_past_fails, crate::proofs::Seals::sealed_script_fails, crate::proofs::Seals::sealed_changes_fail))]
 pub fn read_asked<S: NotedRead, L: NotedRead, A: NotedRead, C: NotedRead, D: NotedRead>(
     alloc: Global,
     inputs: &mut Inputs<S, L>,
@@ -78,7 +78,7 @@ pub fn read_asked<S: NotedRead, L: NotedRead, A: NotedRead, C: NotedRead, D: Not
     ensures imprints { IfOk result (λ a. AreImprints (map C.remaining scripts.old) a.imprints) }
     ensures changed { IfOk result (λ a. IsImprintOf (D.remaining changes.old) a.changes_imprint) }
     ensures behind { IfOk result (λ a. a.behind ≡ length a.past.journal) }
-    ensures earlier { IfOk result (λ a. IfSome (A.remaining after.old) (λ bytes. AreRunsOf beside.now bytes a.earlier)) }
+    ensures earlier { IfOk result (λ a. IfSome (A.remaining after.old) (λ bytes. IsCarried beside.now bytes a.earlier)) }
     ensures fault { IfErr result (λ f. IsOfInput f →
         IsRefusedSealedRunOf beside.now again S.remaining L.remaining inputs.old today (A.remaining after.old) (map C.remaining scripts.old) (D.remaining changes.old) f) }
     ensures large { IfErr result (λ f. f ≡ DeskFault.TooLarge →
@@ -123,6 +123,6 @@ pub fn read_asked<S: NotedRead, L: NotedRead, A: NotedRead, C: NotedRead, D: Not
         imprints,
         changes_imprint: imprint,
         behind,
-        earlier: runs_known(last),
+        earlier: carried_by(last),
     })
 }

@@ -7,7 +7,7 @@ ghost use Rattle.seat_scripts.specs.SealedRun.{IsEntryOfRun, IsRun, named, named
 
 use airline_base::Day;
 use seat_seal::{
-    Basis, Date, Imprint, JournalState, Run, Runs, Script, Scripts, Sealed, SealedJournal,
+    Basis, Carried, Date, Imprint, JournalState, Run, Script, Scripts, Sealed, SealedJournal,
 };
 
 /// What a run stands on: the set, the limits and the days, its scripts and changes, the count of the lines that it goes on from, and
@@ -22,8 +22,8 @@ pub struct RunBasis<'a> {
     pub today: Day,
 }
 
-/// The entry of a journal with this imprint of its head and entries, with so many lines and this run behind the earlier ones.
-pub fn entry_of_run(run: &RunBasis<'_>, earlier: Runs, lines: u32, imprint: Imprint) -> Sealed
+/// The entry of a journal with this imprint of its head and entries, with so many lines, of the era that was, and with this run behind the earlier ones.
+pub fn entry_of_run(run: &RunBasis<'_>, earlier: Carried, lines: u32, imprint: Imprint) -> Sealed
     requires { length run.now.imprints.now ≤ 8 }
     ensures entry { (text : List ℕ) → imprint ≡ imprint_of (front_of text)
         → IsEntryOfRun run.now.basis run.now.imprints.now run.now.changes run.now.behind lines run.now.today earlier text result }
@@ -36,13 +36,15 @@ pub fn entry_of_run(run: &RunBasis<'_>, earlier: Runs, lines: u32, imprint: Impr
     };
     let first = Date::of(run.basis.first);
     let this = run_of(run);
-    let mut runs = earlier;
+    let Carried { runs, era } = earlier;
+    let mut runs = runs;
     runs.add(this);
     Sealed {
         set: run.basis.set,
         limits: run.basis.limits,
         first,
         days: run.basis.days,
+        era,
         journal,
         runs,
     }

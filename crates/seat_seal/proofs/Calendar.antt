@@ -1,11 +1,11 @@
 -- Dates: what the calendar answers, and the text of a date.
-use Rattle.std.proofs.Common.{◌≡◌, ℕ, ◌+◌, ◌*◌, ◌/◌, ◌%◌, ◌<◌, ◌≤◌, Bool, true, false, cond, leb, ◌&&◌, List, ◌++◌, Option, Some, None, refl, sym, ◌∙◌, arith, pos}
+use Rattle.std.proofs.Common.{◌≡◌, ℕ, ◌+◌, ◌-◌, ◌*◌, ◌/◌, ◌%◌, ◌<◌, ◌≤◌, Bool, true, false, cond, leb, ◌&&◌, List, ◌++◌, Option, Some, None, refl, sym, subst, ap, ◌∙◌, arith, pos}
 use Rattle.std.specs.Prelude.{IsSome, IfSome, is_some}
 use Rattle.std.proofs.lemmas.Bool.Decides.{nat_tests}
 use Rattle.jiff_core.specs.Calendar.{IsCivilDate, days_in_month}
-use Rattle.airline_base.specs.Days.{IsDate, civil_in, is_civil}
-use Rattle.airline_base.proofs.DateLaws.{civil_is, short_month, two_again}
-use Rattle.airline_base.proofs.Tests.{both_true, kept}
+use Rattle.airline_base.specs.Days.{IsCenturyDay, IsDate, civil_in, day_month, is_civil, two_digits}
+use Rattle.airline_base.proofs.DateLaws.{century as century_of_field, civil_is, civil_takes, short_month, two_again}
+use Rattle.airline_base.proofs.Tests.{both_true, guarded, kept}
 use Rattle.seat_seal.specs.declared.date.Date.{Date}
 use Rattle.seat_seal.specs.Dates.{is_of_century, day_in, is_date}
 use Rattle.seat_seal.specs.Text.{date_text}
@@ -26,6 +26,27 @@ unfolding day_in
 day_is d r h valid value =
     let c = century d h in
     civil_is d.year d.month d.day r c.0 c.1 valid value ∙ sym (kept (is_of_century d) (civil_in d.year d.month d.day) h)
+
+-- ---- a date of these years is a day of them
+
+civil_of : (d : Date) (n : ℕ) → day_in d ≡ Some n → (is_of_century d ≡ true) × (civil_in d.year d.month d.day ≡ Some n)
+unfolding day_in
+civil_of d n e = guarded (is_of_century d) (civil_in d.year d.month d.day) n e
+
+pub day_century : (d : Date) (n : ℕ) → day_in d ≡ Some n → IsCenturyDay n
+day_century d n e =
+    let g = civil_of d n e in
+    let c = century d g.0 in
+    let year : ℕ = d.year - 2000 in
+    let whole : d.year ≡ 2000 + year = omega (arith, c.0) in
+    let small : year < 100 = omega (arith, c.1) in
+    let civil : civil_in (2000 + year) d.month d.day ≡ Some n = ap (λ (y : ℕ). civil_in y d.month d.day) (sym whole) ∙ g.1 in
+    century_of_field ((day_month d.day d.month) ++ two_digits year) n
+    (record { year = year; month = d.month; day = d.day; date = civil_takes year d.month d.day n small civil; century = small; written = refl })
+
+pub some_century : (d : Date) (r : Option ℕ) → r ≡ day_in d → IfSome r IsCenturyDay
+some_century d None e = tt
+some_century d (Some n) e = day_century d n (sym e)
 
 -- ---- a date has two digits for each of its numbers
 

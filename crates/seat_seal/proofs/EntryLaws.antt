@@ -1,5 +1,5 @@
 -- An entry that is spelled is read, and so is a seal.
-use Rattle.std.proofs.Common.{◌≡◌, ℕ, zero, suc, ◌+◌, ◌<◌, ◌≤◌, true, leb, ltb, ◌&&◌, List, [], ◌∷◌, ◌++◌, length, Option, Some, None, refl, sym, ap, ◌∙◌, arith, decimal, append_assoc, append-nil}
+use Rattle.std.proofs.Common.{◌≡◌, ℕ, zero, suc, ◌+◌, ◌<◌, ◌≤◌, Bool, true, false, leb, ltb, ◌&&◌, List, [], ◌∷◌, ◌++◌, length, Option, Some, None, refl, sym, ap, ◌∙◌, arith, decimal, append_assoc, append-nil}
 use Rattle.std.specs.Prelude.{codes, IfSome}
 use Rattle.std.specs.List.{flat_map, list_all, AllByRecursion}
 use Rattle.std.proofs.lemmas.Bool.Decides.{nat_tests}
@@ -7,6 +7,7 @@ use Rattle.hex.specs.Hex.{encode_lower}
 use Rattle.airline_base.specs.Fields.{◌>>=◌}
 use Rattle.airline_base.proofs.Tests.{both_true, some_is}
 use Rattle.seat_seal.specs.declared.date.Date.{Date}
+use Rattle.seat_seal.specs.declared.era.Era.{Era}
 use Rattle.seat_seal.specs.declared.imprint.Imprint.{Imprint}
 use Rattle.seat_seal.specs.declared.run.Run.{Run}
 use Rattle.seat_seal.specs.declared.scripts.Script.{Script}
@@ -16,10 +17,12 @@ use Rattle.seat_seal.specs.declared.seal.SealEntry.TheVariants.{Sealed, Other}
 use Rattle.seat_seal.specs.declared.seal.Seal.{Seal}
 use Rattle.seat_seal.specs.Dates.{is_date}
 use Rattle.seat_seal.specs.Digests.{IsDigest}
-use Rattle.seat_seal.specs.Rules.{is_imprint, is_journal, are_rising, is_script, are_changes, is_run, is_sealed, is_entry, is_second, is_seal, IsScript, IsChanges, IsNamed, HasDigests, HasTypes, IsSeal}
-use Rattle.seat_seal.specs.Text.{newline, most_runs, line, date_text, imprint_text, journal_text, script_text, script_line, changes_text, run_line, run_text, sealed_text, other_text, entry_text, second_text, entries_text, digest_line, seal_text}
-use Rattle.seat_seal.specs.Reading.{digest_at, number_at, date_at, imprint_at, journal_at, script_at, line_at, script_line_at, items_in, changes_at, run_at, sealed_at, other_at, entry_at, second_at, seal_at, one_entry, two_entries}
+use Rattle.seat_seal.specs.Eras.{is_first}
+use Rattle.seat_seal.specs.Rules.{is_era, is_imprint, is_journal, is_today, are_rising, is_script, are_changes, is_run, is_sealed, is_entry, is_second, is_seal, IsScript, IsChanges, IsNamed, HasDigests, HasTypes, IsSeal}
+use Rattle.seat_seal.specs.Text.{newline, most_runs, line, date_text, era_lines, era_lines_but, era_text, head_text, is_plain, is_second_plain, today_text, imprint_text, journal_text, script_text, script_line, changes_text, run_line, run_text, sealed_text, other_text, entry_text, second_text, entries_text, digest_line, seal_text}
+use Rattle.seat_seal.specs.Reading.{digest_at, number_at, date_at, era_at, today_at, imprint_at, journal_at, script_at, line_at, script_line_at, items_in, changes_at, run_at, sealed_at, other_at, entry_at, second_at, head_at, seal_at, one_entry, two_entries}
 use Rattle.seat_seal.proofs.Calendar.{date_again}
+use Rattle.seat_seal.proofs.EraText.{first_is}
 use Rattle.seat_seal.proofs.FieldLaws.{digest_again, number_again, imprint_again, journal_again, script_again, line_again}
 
 le_is : (a b : ℕ) → leb a b ≡ true → a ≤ b
@@ -158,17 +161,56 @@ runs_again (suc n) lines read (r ∷ more) rest low is keep few =
     let others = runs_again n lines (read ++ r ∷ []) more rest low is.1 both.1 (omega arith) in
     rw (append_assoc (run_text r) (flat_map run_text more) (codes "END\n" ++ rest), one, others, append_assoc read (r ∷ []) more) refl
 
+-- ---- eras
+
+today_again : (o : Option Date) (rest : List ℕ) → is_today o ≡ true → line_at (codes "today ") date_at rest ≡ None
+    → today_at (today_text o ++ rest) ≡ (o, rest)
+unfolding today_at
+today_again None rest is apart = rw apart refl
+today_again (Some d) rest is apart =
+    rw (line_again (codes "today ") (date_text d) rest date_at d (date_again d (newline ∷ rest) is)) refl
+
+lines_again : (e : Era) (rest : List ℕ) → is_era e ≡ true → line_at (codes "today ") date_at rest ≡ None
+    → era_at (era_lines e ++ rest) ≡ (e, rest)
+unfolding era_at era_lines
+lines_again e rest is apart =
+    let a = both_true (leb 1 e.epoch && leb e.epoch 999_999) (is_today e.today) is in
+    let b = both_true (leb 1 e.epoch) (leb e.epoch 999_999) a.0 in
+    let r1 = today_text e.today ++ rest in
+    let epoch = line_again (codes "epoch ") (decimal e.epoch) r1 (number_at 999_999) e.epoch (number_again 999_999 e.epoch (newline ∷ r1) (omega arith) (le_is e.epoch 999_999 b.1) refl) in
+    rw (append_assoc (line (codes "epoch ") (decimal e.epoch)) (today_text e.today) rest, epoch, today_again e.today rest a.1 apart) refl
+
+but_again : (b : Bool) (e : Era) (rest : List ℕ) → b ≡ is_first e → is_era e ≡ true → line_at (codes "today ") date_at rest ≡ None
+    → line_at (codes "epoch ") (number_at 999_999) rest ≡ None → era_at (era_lines_but b e ++ rest) ≡ (e, rest)
+unfolding era_at
+but_again true e rest first is apart none = rw none (ap (λ (x : Era). (x, rest)) (sym (first_is e (sym first))))
+but_again false e rest first is apart none = lines_again e rest is apart
+
+era_again : (e : Era) (rest : List ℕ) → is_era e ≡ true → line_at (codes "today ") date_at rest ≡ None
+    → line_at (codes "epoch ") (number_at 999_999) rest ≡ None → era_at (era_text e ++ rest) ≡ (e, rest)
+unfolding era_text
+era_again e rest is apart none = but_again (is_first e) e rest refl is apart none
+
+no_epoch : (journal rest : List ℕ) → line_at (codes "epoch ") (number_at 999_999) (line (codes "journal ") journal ++ rest) ≡ None
+unfolding line_at
+no_epoch journal rest = refl
+
+no_today : (journal rest : List ℕ) → line_at (codes "today ") date_at (line (codes "journal ") journal ++ rest) ≡ None
+unfolding line_at
+no_today journal rest = refl
+
 -- ---- entries
 
-sealed_apart : (a b c d e f g rest : List ℕ)
-    → (a ++ b ++ c ++ d ++ e ++ f ++ g) ++ rest ≡ a ++ (b ++ (c ++ (d ++ (e ++ (f ++ (g ++ rest))))))
-sealed_apart a b c d e f g rest = simp append_assoc
+sealed_apart : (a b c d e f g h rest : List ℕ)
+    → (a ++ b ++ c ++ d ++ e ++ f ++ g ++ h) ++ rest ≡ a ++ (b ++ (c ++ (d ++ (e ++ (f ++ (g ++ (h ++ rest)))))))
+sealed_apart a b c d e f g h rest = simp append_assoc
 
 -- the rules of an entry, one by one
 pub record HasRules (s : Belonging) : Type 0 where
   pub first : is_date s.first ≡ true
   pub days : s.days ≤ 366
   pub journal : is_journal s.journal ≡ true
+  pub era : is_era s.era ≡ true
   pub lines : s.journal.lines ≤ 999_999
   pub few : length s.runs ≤ most_runs
   pub runs : list_all (is_run s.journal.lines) s.runs ≡ true
@@ -181,11 +223,13 @@ has_rules s h =
     let c = both_true _ _ b.0 in
     let d = both_true _ _ c.0 in
     let e = both_true _ _ d.0 in
+    let f = both_true _ _ e.0 in
     record {
-      first = e.0;
-      days = le_is s.days 366 d.1;
-      journal = c.1;
-      lines = le_is s.journal.lines 999_999 (both_true (is_imprint s.journal.imprint) (leb s.journal.lines 999_999) c.1).1;
+      first = f.0;
+      days = le_is s.days 366 e.1;
+      journal = d.1;
+      era = c.1;
+      lines = le_is s.journal.lines 999_999 (both_true (is_imprint s.journal.imprint) (leb s.journal.lines 999_999) d.1).1;
       few = le_is (length s.runs) most_runs b.1;
       runs = a.1;
     }
@@ -198,16 +242,18 @@ sealed_again s rest is rules =
     let r6 = codes "END\n" ++ rest in
     let r5 = flat_map run_text s.runs ++ r6 in
     let r4 = line (codes "journal ") (journal_text s.journal) ++ r5 in
-    let r3 = line (codes "days ") (decimal s.days) ++ r4 in
+    let r4e = era_text s.era ++ r4 in
+    let r3 = line (codes "days ") (decimal s.days) ++ r4e in
     let r2 = line (codes "first ") (date_text s.first) ++ r3 in
     let r1 = line (codes "limits ") (encode_lower s.limits) ++ r2 in
     let set = line_again (codes "set ") (encode_lower s.set) r1 digest_at s.set (digest_again s.set (newline ∷ r1) is.set) in
     let limits = line_again (codes "limits ") (encode_lower s.limits) r2 digest_at s.limits (digest_again s.limits (newline ∷ r2) is.limits) in
     let first = line_again (codes "first ") (date_text s.first) r3 date_at s.first (date_again s.first (newline ∷ r3) r.first) in
-    let days = line_again (codes "days ") (decimal s.days) r4 (number_at 366) s.days (number_again 366 s.days (newline ∷ r4) (omega arith) r.days refl) in
+    let days = line_again (codes "days ") (decimal s.days) r4e (number_at 366) s.days (number_again 366 s.days (newline ∷ r4e) (omega arith) r.days refl) in
+    let era = era_again s.era r4 r.era (no_today (journal_text s.journal) r5) (no_epoch (journal_text s.journal) r5) in
     let journal = line_again (codes "journal ") (journal_text s.journal) r5 journal_at s.journal (journal_again s.journal (newline ∷ r5) is.journal r.journal) in
     let runs = runs_again most_runs s.journal.lines [] s.runs rest r.lines is.runs r.runs r.few in
-    rw (sealed_apart (line (codes "set ") (encode_lower s.set)) (line (codes "limits ") (encode_lower s.limits)) (line (codes "first ") (date_text s.first)) (line (codes "days ") (decimal s.days)) (line (codes "journal ") (journal_text s.journal)) (flat_map run_text s.runs) (codes "END\n") rest, set, limits, first, days, journal, runs) refl
+    rw (sealed_apart (line (codes "set ") (encode_lower s.set)) (line (codes "limits ") (encode_lower s.limits)) (line (codes "first ") (date_text s.first)) (line (codes "days ") (decimal s.days)) (era_text s.era) (line (codes "journal ") (journal_text s.journal)) (flat_map run_text s.runs) (codes "END\n") rest, set, limits, first, days, era, journal, runs) refl
 
 other_again : (i : Imprint) (rest : List ℕ) → IsDigest i.digest → is_imprint i ≡ true
     → other_at (other_text i ++ rest) ≡ Some (i, rest)
@@ -248,11 +294,21 @@ seal_parts : (s : Seal) → is_seal s ≡ true → (is_entry s.first ≡ true) �
 unfolding is_seal
 seal_parts s h = both_true (is_entry s.first) (is_second s.second) h
 
+head_again : (plain : Bool) (first second lines : List ℕ) → head_at ((head_text plain ++ first ++ second) ++ lines) ≡ Some ((first ++ second) ++ lines)
+unfolding head_at
+head_again true first second lines = refl
+head_again false first second lines = refl
+
 seal_read : (s : Seal) (lines : List ℕ)
     → entry_at (entry_text s.first ++ (second_text s.second ++ digest_line lines)) ≡ Some (s.first, second_text s.second ++ digest_line lines)
     → seal_at (entries_text s ++ digest_line lines) ≡ second_at s.first (second_text s.second ++ digest_line lines)
 unfolding seal_at entries_text
-seal_read s lines entry = rw (append_assoc (entry_text s.first) (second_text s.second) (digest_line lines), entry) refl
+seal_read s lines entry =
+    rw (
+      head_again (is_second_plain s.second && is_plain s.first) (entry_text s.first) (second_text s.second) (digest_line lines),
+      append_assoc (entry_text s.first) (second_text s.second) (digest_line lines),
+      entry,
+    ) refl
 
 pub seal_again : (s : Seal) → IsSeal s → seal_at (seal_text s) ≡ Some s
 unfolding seal_text

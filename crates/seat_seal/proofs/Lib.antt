@@ -1,5 +1,6 @@
 pub mod Calendar
 pub mod EntryLaws
+pub mod EraText
 pub mod FieldLaws
 pub mod Joined
 pub mod Lists

@@ -1,12 +1,15 @@
 -- What a seal knows of the journal beside it.
 use Rattle.std.specs.Prelude.{◌≡◌, ◌⊎◌, ℕ, List, [], Option, None, Some, option_map}
 use Rattle.seat_seal.specs.declared.beside.Beside.{Beside}
+use Rattle.seat_seal.specs.declared.era.Era.{Era}
+use Rattle.seat_seal.specs.declared.known.Carried.{Carried}
 use Rattle.seat_seal.specs.declared.run.Run.{Run}
 use Rattle.seat_seal.specs.declared.seal.Seal.{Seal}
 use Rattle.seat_seal.specs.declared.seal.Sealed.{Sealed as Belonging}
 use Rattle.seat_seal.specs.declared.seal.SealEntry.{SealEntry}
 use Rattle.seat_seal.specs.declared.seal.SealEntry.TheVariants.{Sealed, Other}
 use Rattle.seat_seal.specs.Besides.{entry_of}
+use Rattle.seat_seal.specs.Eras.{first_era}
 use Rattle.seat_seal.specs.Rules.{IsSeal}
 use Rattle.seat_seal.specs.Text.{seal_text}
 
@@ -45,6 +48,27 @@ pub record AreRunsOf (beside : Beside) (journal : List ℕ) (runs : List Run) : 
   pub known : Option Belonging
   pub is_known : IsKnown beside journal known
   pub runs_are : runs ≡ runs_known known
+
+-- the era that is known
+abbrev pub era_known : Option Belonging → Era
+era_known None = first_era
+era_known (Some entry) = entry.era
+
+-- the era that the seal beside a journal knows
+pub record IsEraOf (beside : Beside) (journal : List ℕ) (era : Era) : Type 0 where
+  pub known : Option Belonging
+  pub is_known : IsKnown beside journal known
+  pub era_is : era ≡ era_known known
+
+-- what the seal of a journal that goes on from another takes of what is known of that one
+abbrev pub carried_by : Option Belonging → Carried
+carried_by known = record { runs = runs_known known; era = era_known known }
+
+-- of what the seal beside a journal knows
+pub record IsCarried (beside : Beside) (journal : List ℕ) (carried : Carried) : Type 0 where
+  pub known : Option Belonging
+  pub is_known : IsKnown beside journal known
+  pub carried_is : carried ≡ carried_by known
 
 -- the law: what is known is one
 abbrev pub OneIsKnown : Type 0

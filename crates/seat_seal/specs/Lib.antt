@@ -4,6 +4,7 @@ pub mod Closing
 pub mod Comparing
 pub mod Dates
 pub mod Digests
+pub mod Eras
 pub mod Faults
 pub mod Fronts
 pub mod Imprints

@@ -5,6 +5,7 @@ use Rattle.std.specs.List.{prefix_len}
 use Rattle.std.specs.Str.Parse.{digits_value}
 use Rattle.airline_base.specs.Fields.{Field, ◌>>=◌, word_at, byte_at, two_are, two_value}
 use Rattle.seat_seal.specs.declared.date.Date.{Date}
+use Rattle.seat_seal.specs.declared.era.Era.{Era}
 use Rattle.seat_seal.specs.declared.imprint.Imprint.{Imprint}
 use Rattle.seat_seal.specs.declared.run.Run.{Run}
 use Rattle.seat_seal.specs.declared.scripts.Script.{Script}
@@ -16,6 +17,7 @@ use Rattle.seat_seal.specs.declared.seal.SealEntry.{SealEntry}
 use Rattle.seat_seal.specs.declared.seal.SealEntry.TheVariants.{Sealed, Other}
 use Rattle.seat_seal.specs.declared.seal.Seal.{Seal}
 use Rattle.seat_seal.specs.Digests.{digest_in}
+use Rattle.seat_seal.specs.Eras.{first_era}
 use Rattle.seat_seal.specs.Text.{blank, dash, most_runs, newline}
 
 -- ---- fields
@@ -107,6 +109,24 @@ changes_from bytes (Some imprint) = (Some imprint.0, imprint.1)
 unfoldable pub changes_at : List ℕ → Option Imprint × List ℕ
 changes_at bytes = changes_from bytes (line_at (codes "changes ") imprint_at bytes)
 
+-- ---- the lines of an era
+
+abbrev pub today_from : List ℕ → Field Date → Option Date × List ℕ
+today_from bytes None = (None, bytes)
+today_from bytes (Some date) = (Some date.0, date.1)
+
+-- the line of the host's day, where it stands there
+unfoldable pub today_at : List ℕ → Option Date × List ℕ
+today_at bytes = today_from bytes (line_at (codes "today ") date_at bytes)
+
+abbrev pub era_from : List ℕ → Field ℕ → Era × List ℕ
+era_from bytes None = (first_era, bytes)
+era_from bytes (Some epoch) = (record { epoch = epoch.0; today = (today_at epoch.1).0 }, (today_at epoch.1).1)
+
+-- the line of the epoch, where it stands there, and the host's day: else the first era
+unfoldable pub era_at : List ℕ → Era × List ℕ
+era_at bytes = era_from bytes (line_at (codes "epoch ") (number_at 999_999) bytes)
+
 -- ---- runs
 
 -- the line of a run, its scripts and its changes
@@ -136,7 +156,7 @@ sealed_at bytes = do
   limits ← line_at (codes "limits ") digest_at set.1
   first ← line_at (codes "first ") date_at limits.1
   days ← line_at (codes "days ") (number_at 366) first.1
-  journal ← line_at (codes "journal ") journal_at days.1
+  journal ← line_at (codes "journal ") journal_at (era_at days.1).1
   rest ← word_at (codes "END\n") (runs_at journal.1).1
   Some (
     record {
@@ -144,6 +164,7 @@ sealed_at bytes = do
       limits = limits.0;
       first = first.0;
       days = days.0;
+      era = (era_at days.1).0;
       journal = journal.0;
       runs = (runs_at journal.1).0;
     },
@@ -178,9 +199,17 @@ second_from first None second = second >>= (λ second. Some (two_entries first s
 unfoldable pub second_at : SealEntry → List ℕ → Option Seal
 second_at first bytes = second_from first (word_at (codes "digest ") bytes) (entry_at bytes)
 
+abbrev pub either_of : Option (List ℕ) → Option (List ℕ) → Option (List ℕ)
+either_of None other = other
+either_of (Some rest) other = Some rest
+
+-- behind the head of either version
+unfoldable pub head_at : List ℕ → Option (List ℕ)
+head_at bytes = either_of (word_at (codes "SEATSEAL 4\n") bytes) (word_at (codes "SEATSEAL 5\n") bytes)
+
 -- the digest is not compared here
 unfoldable pub seal_at : List ℕ → Option Seal
 seal_at bytes = do
-  rest ← word_at (codes "SEATSEAL 4\n") bytes
+  rest ← head_at bytes
   first ← entry_at rest
   second_at first.0 first.1

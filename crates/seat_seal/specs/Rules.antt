@@ -1,6 +1,8 @@
 -- What a seal may say.
 use Rattle.std.specs.Prelude.{ℕ, Bool, true, ◌&&◌, nat_le, nat_lt, List, [], ◌∷◌, length, Option, None, Some, IfSome, IsTrue}
 use Rattle.std.specs.List.{AllByRecursion, list_all}
+use Rattle.seat_seal.specs.declared.date.Date.{Date}
+use Rattle.seat_seal.specs.declared.era.Era.{Era}
 use Rattle.seat_seal.specs.declared.imprint.Imprint.{Imprint}
 use Rattle.seat_seal.specs.declared.run.Run.{Run}
 use Rattle.seat_seal.specs.declared.scripts.Script.{Script}
@@ -19,6 +21,14 @@ is_imprint i = nat_le i.bytes 9_999_999_999
 
 abbrev pub is_journal : SealedJournal → Bool
 is_journal j = is_imprint j.imprint && nat_le j.lines 999_999
+
+abbrev pub is_today : Option Date → Bool
+is_today None = true
+is_today (Some date) = is_date date
+
+-- an epoch of 1 to 999,999, and a date
+abbrev pub is_era : Era → Bool
+is_era e = nat_le 1 e.epoch && nat_le e.epoch 999_999 && is_today e.today
 
 -- sessions above this one, each above the one before it and none above 8
 abbrev pub are_rising : ℕ → List Script → Bool
@@ -41,7 +51,7 @@ is_run lines r =
 -- the rules of an entry: 1 to 366 days, and not too many runs
 unfoldable pub is_sealed : Belonging → Bool
 is_sealed s =
-    is_date s.first && nat_le 1 s.days && nat_le s.days 366 && is_journal s.journal
+    is_date s.first && nat_le 1 s.days && nat_le s.days 366 && is_journal s.journal && is_era s.era
     && nat_le (length s.runs) most_runs && list_all (is_run s.journal.lines) s.runs
 
 abbrev pub is_entry : SealEntry → Bool

@@ -1,10 +1,11 @@
--- The text of a seal, version 4.
-use Rattle.std.specs.Prelude.{ℕ, ◌/◌, ◌%◌, List, [], ◌∷◌, ◌++◌, Option, None, Some, codes, decimal}
+-- The text of a seal, version 5, and 4 where no entry has more than the first era.
+use Rattle.std.specs.Prelude.{ℕ, ◌/◌, ◌%◌, Bool, true, false, ◌&&◌, List, [], ◌∷◌, ◌++◌, Option, None, Some, codes, decimal}
 use Rattle.std.specs.List.{flat_map}
 use Rattle.hex.specs.Hex.{encode_lower}
 use Rattle.sha2.specs.Sha256.{sha256}
 use Rattle.airline_base.specs.Days.{two_digits}
 use Rattle.seat_seal.specs.declared.date.Date.{Date}
+use Rattle.seat_seal.specs.declared.era.Era.{Era}
 use Rattle.seat_seal.specs.declared.imprint.Imprint.{Imprint}
 use Rattle.seat_seal.specs.declared.run.Run.{Run}
 use Rattle.seat_seal.specs.declared.scripts.Script.{Script}
@@ -15,6 +16,7 @@ use Rattle.seat_seal.specs.declared.seal.Sealed.{Sealed as Belonging}
 use Rattle.seat_seal.specs.declared.seal.SealEntry.{SealEntry}
 use Rattle.seat_seal.specs.declared.seal.SealEntry.TheVariants.{Sealed, Other}
 use Rattle.seat_seal.specs.declared.seal.Seal.{Seal}
+use Rattle.seat_seal.specs.Eras.{is_first}
 
 abbrev pub blank : ℕ
 blank = 32
@@ -37,6 +39,22 @@ line word value = word ++ value ++ newline ∷ []
 unfoldable pub date_text : Date → List ℕ
 date_text d =
     two_digits (d.year / 100) ++ two_digits (d.year % 100) ++ dash ∷ two_digits d.month ++ dash ∷ two_digits d.day
+
+abbrev pub today_text : Option Date → List ℕ
+today_text None = []
+today_text (Some date) = line (codes "today ") (date_text date)
+
+-- the epoch, and the day of the host where one had the journal
+unfoldable pub era_lines : Era → List ℕ
+era_lines e = line (codes "epoch ") (decimal e.epoch) ++ today_text e.today
+
+abbrev pub era_lines_but : Bool → Era → List ℕ
+era_lines_but true e = []
+era_lines_but false e = era_lines e
+
+-- the lines of an era: none of the first
+unfoldable pub era_text : Era → List ℕ
+era_text e = era_lines_but (is_first e) e
 
 -- a digest, and a count of bytes
 unfoldable pub imprint_text : Imprint → List ℕ
@@ -78,6 +96,7 @@ sealed_text s =
     ++ line (codes "limits ") (encode_lower s.limits)
     ++ line (codes "first ") (date_text s.first)
     ++ line (codes "days ") (decimal s.days)
+    ++ era_text s.era
     ++ line (codes "journal ") (journal_text s.journal)
     ++ flat_map run_text s.runs
     ++ codes "END\n"
@@ -93,9 +112,23 @@ abbrev pub second_text : Option SealEntry → List ℕ
 second_text None = []
 second_text (Some entry) = entry_text entry
 
+-- an entry without lines of an era
+abbrev pub is_plain : SealEntry → Bool
+is_plain (Sealed s) = is_first s.era
+is_plain (Other i) = true
+
+abbrev pub is_second_plain : Option SealEntry → Bool
+is_second_plain None = true
+is_second_plain (Some entry) = is_plain entry
+
+-- version 4 had no lines of an era
+abbrev pub head_text : Bool → List ℕ
+head_text true = codes "SEATSEAL 4\n"
+head_text false = codes "SEATSEAL 5\n"
+
 -- the head, and a block for each entry
 unfoldable pub entries_text : Seal → List ℕ
-entries_text s = codes "SEATSEAL 4\n" ++ entry_text s.first ++ second_text s.second
+entries_text s = head_text (is_second_plain s.second && is_plain s.first) ++ entry_text s.first ++ second_text s.second
 
 -- the digest of the lines above it
 unfoldable pub digest_line : List ℕ → List ℕ

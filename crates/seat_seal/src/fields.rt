@@ -1,9 +1,10 @@
 //! The fields of a seal's text, and its lines.
 ghost use Rattle.std.specs.Prelude.{◌≡◌, ◌≤◌, ◌<◌, IfSome, option_map, length};
-ghost use Rattle.seat_seal.specs.Reading.{digest_at, number_at, two_at, date_at, imprint_at, state_at, journal_at, script_at, line_at};
+ghost use Rattle.seat_seal.specs.Reading.{digest_at, number_at, two_at, date_at, era_at, imprint_at, state_at, journal_at, script_at, line_at, today_at};
 
 use crate::date::Date;
 use crate::digest::Digest;
+use crate::era::Era;
 use crate::imprint::Imprint;
 use crate::scripts::Script;
 use crate::seal::{JournalState, SealedJournal};
@@ -204,4 +205,34 @@ pub fn script_line<'a>(word: &[u8], bytes: &'a [u8]) -> Option<(Script, &'a [u8]
         return None;
     };
     Some((script, byte_of(b'\n', rest)?))
+}
+
+// ---- the lines of an era
+
+/// The line of the epoch and that of the host's day, where they stand there, and else the first era.
+#[tactic(auto, unfolding(crate::specs::Reading::era_at))]
+pub fn era_at(bytes: &[u8]) -> (Era, &[u8])
+    ensures era { result.0 ≡ (era_at bytes.now).0 }
+    ensures rest { result.1.now ≡ (era_at bytes.now).1 }
+{
+    let Some((epoch, rest)) = number_line(b"epoch ", bytes, 999_999) else {
+        return (Era::first(), bytes);
+    };
+    let (today, rest) = today_at(rest);
+    let era = Era {
+        epoch: epoch as u32,
+        today,
+    };
+    (era, rest)
+}
+
+#[tactic(auto, unfolding(crate::specs::Reading::today_at))]
+fn today_at(bytes: &[u8]) -> (Option<Date>, &[u8])
+    ensures today { result.0 ≡ (today_at bytes.now).0 }
+    ensures rest { result.1.now ≡ (today_at bytes.now).1 }
+{
+    match date_line(b"today ", bytes) {
+        Some((date, rest)) => (Some(date), rest),
+        None => (None, bytes),
+    }
 }

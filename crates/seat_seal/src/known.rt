@@ -1,14 +1,22 @@
 //! What a seal knows of the journal beside it.
 ghost use Rattle.std.specs.Prelude.{◌≡◌, ◌⊎◌};
 ghost use Rattle.seat_seal.specs.Besides.{entry_of};
-ghost use Rattle.seat_seal.specs.Known.{IsKnown, IsKnownBy, IsKnownByNone, known_in, runs_known};
+ghost use Rattle.seat_seal.specs.Known.{IsKnown, IsKnownBy, IsKnownByNone, carried_by, known_in, runs_known};
 ghost use Rattle.seat_seal.specs.Reading.{two_entries};
 
 use crate::beside::Beside;
 use crate::comparing::is_its_journal;
+use crate::era::{Era, era_known};
 use crate::reading::read_seal;
 use crate::run::{Run, Runs};
 use crate::seal::{Seal, SealEntry, Sealed};
+
+/// What the seal of a journal that goes on from another takes of that one's seal.
+#[derive(Drop)]
+pub struct Carried {
+    pub runs: Runs,
+    pub era: Era,
+}
 
 /// What the seal beside a journal knows of it; nothing where there is no seal, or it knows no more than the bytes. Of a seal of two
 /// entries it is the one that is compared.
@@ -38,6 +46,17 @@ pub fn runs_known(known: Option<Sealed>) -> Runs
     match known {
         Some(entry) => runs_of(entry),
         None => Runs::new(),
+    }
+}
+
+/// The runs and the era that are known, by themselves.
+pub fn carried_by(known: Option<Sealed>) -> Carried
+    ensures { result ≡ carried_by known }
+{
+    let era = era_known(&known);
+    Carried {
+        runs: runs_known(known),
+        era,
     }
 }
 

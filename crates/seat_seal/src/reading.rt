@@ -4,10 +4,10 @@ ghost use Rattle.airline_base.specs.Bytes.{same_text};
 ghost use Rattle.seat_seal.specs.declared.seal.Seal.{Seal as Told};
 ghost use Rattle.seat_seal.specs.Rules.{IsSeal, HasTypes};
 ghost use Rattle.seat_seal.specs.Text.{seal_text};
-ghost use Rattle.seat_seal.specs.Reading.{scripts_at, changes_at, run_at, runs_at, sealed_at, other_at, entry_at, second_at, seal_at};
+ghost use Rattle.seat_seal.specs.Reading.{scripts_at, changes_at, run_at, runs_at, sealed_at, other_at, entry_at, second_at, head_at, seal_at};
 
 use crate::fields::{
-    date_at, date_line, digest_line, imprint_line, journal_line, number_at, number_line,
+    date_at, date_line, digest_line, era_at, imprint_line, journal_line, number_at, number_line,
     script_line,
 };
 use crate::imprint::Imprint;
@@ -50,10 +50,21 @@ fn is_text_of(seal: &Seal, bytes: &[u8]) -> bool
 fn seal_at(bytes: &[u8]) -> Option<Seal>
     ensures { result ≡ seal_at bytes.now }
 {
-    let Some((first, rest)) = entry_at(word_of(b"SEATSEAL 4\n", bytes)?) else {
+    let Some((first, rest)) = entry_at(head_at(bytes)?) else {
         return None;
     };
     second_at(first, rest)
+}
+
+// What stands behind the head of version 4 or 5.
+#[tactic(auto, unfolding(crate::specs::Reading::head_at))]
+fn head_at(bytes: &[u8]) -> Option<&[u8]>
+    ensures { option_map (λ rest. rest.now) result ≡ head_at bytes.now }
+{
+    match word_of(b"SEATSEAL 4\n", bytes) {
+        Some(rest) => Some(rest),
+        None => word_of(b"SEATSEAL 5\n", bytes),
+    }
 }
 
 // The digest's line, or a second entry.
@@ -119,6 +130,7 @@ fn sealed_at(bytes: &[u8]) -> Option<(Sealed, &[u8])>
     let Some((days, rest)) = number_line(b"days ", rest, 366) else {
         return None;
     };
+    let (era, rest) = era_at(rest);
     let Some((journal, rest)) = journal_line(b"journal ", rest) else {
         return None;
     };
@@ -129,6 +141,7 @@ fn sealed_at(bytes: &[u8]) -> Option<(Sealed, &[u8])>
         limits,
         first,
         days: days as u16,
+        era,
         journal,
         runs,
     };

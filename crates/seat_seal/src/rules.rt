@@ -1,8 +1,10 @@
 //! Whether a seal keeps its rules.
 ghost use Rattle.std.specs.Prelude.{◌≡◌};
 ghost use Rattle.std.specs.List.{list_all};
-ghost use Rattle.seat_seal.specs.Rules.{is_imprint, is_journal, is_script, are_changes, are_rising, is_run, is_sealed, is_entry, is_second, is_seal};
+ghost use Rattle.seat_seal.specs.Rules.{is_era, is_imprint, is_journal, is_script, are_changes, are_rising, is_run, is_sealed, is_entry, is_second, is_seal, is_today};
 
+use crate::date::Date;
+use crate::era::Era;
 use crate::imprint::Imprint;
 use crate::run::Run;
 use crate::scripts::Script;
@@ -10,6 +12,9 @@ use crate::seal::{Seal, SealEntry, Sealed, SealedJournal};
 
 /// The most lines of a journal.
 const MOST_LINES: u32 = 999_999;
+
+/// The last epoch.
+const MOST_EPOCHS: u32 = 999_999;
 
 /// The most runs of an entry.
 const MOST_RUNS: usize = 128;
@@ -50,8 +55,24 @@ pub fn is_sealed(sealed: &Sealed) -> bool
         && 1 <= sealed.days
         && sealed.days <= 366
         && is_journal(&sealed.journal)
+        && is_era(&sealed.era)
         && sealed.runs.as_slice().len() <= MOST_RUNS
         && are_runs(sealed.runs.as_slice(), sealed.journal.lines)
+}
+
+fn is_era(era: &Era) -> bool
+    ensures { result ≡ is_era era.now }
+{
+    1 <= era.epoch && era.epoch <= MOST_EPOCHS && is_today(&era.today)
+}
+
+fn is_today(today: &Option<Date>) -> bool
+    ensures { result ≡ is_today today.now }
+{
+    match today {
+        Some(date) => date.day().is_some(),
+        None => true,
+    }
 }
 
 fn are_runs(runs: &[Run], lines: u32) -> bool

@@ -1,6 +1,7 @@
 //! What a seal says.
 use crate::date::Date;
 use crate::digest::Digest;
+use crate::era::Era;
 use crate::imprint::Imprint;
 use crate::run::Runs;
 
@@ -29,6 +30,8 @@ pub struct Sealed {
     /// The first day of the flights, and the count of their days.
     pub first: Date,
     pub days: u16,
+    /// Its epoch, and the day of its host.
+    pub era: Era,
     pub journal: SealedJournal,
     /// The last runs that wrote it, the last one last.
     pub runs: Runs,

@@ -1,13 +1,16 @@
 //! The text of a seal, each part put behind those before it. It takes no memory.
-ghost use Rattle.std.specs.Prelude.{◌≡◌, ◌+◌, ◌≤◌, [], ◌++◌, codes, decimal, length, IfSome};
+ghost use Rattle.std.specs.Prelude.{◌≡◌, ◌&&◌, ◌+◌, ◌≤◌, [], ◌++◌, codes, decimal, length, IfSome};
 ghost use Rattle.std.specs.List.{flat_map, AllByRecursion};
 ghost use Rattle.hex.specs.Hex.{encode_lower};
 ghost use Rattle.seat_seal.specs.Digests.{IsDigest};
+ghost use Rattle.seat_seal.specs.Reading.{one_entry};
+ghost use Rattle.seat_seal.specs.declared.seal.SealEntry.TheVariants.{Sealed as Whole};
 ghost use Rattle.seat_seal.specs.Rules.{HasDigests, HasTypes, IsChanges, IsNamed, IsScript};
-ghost use Rattle.seat_seal.specs.Text.{imprint_text, line, date_text, journal_text, most_runs, run_line, run_text, script_text, script_line, changes_text, sealed_text, other_text, entry_text, second_text, entries_text, digest_line, seal_text, state_text};
+ghost use Rattle.seat_seal.specs.Text.{imprint_text, line, date_text, era_lines, era_text, head_text, is_plain, is_second_plain, today_text, journal_text, most_runs, run_line, run_text, script_text, script_line, changes_text, sealed_text, other_text, entry_text, second_text, entries_text, digest_line, seal_text, state_text};
 
 use crate::date::Date;
 use crate::digest::{Digest, digest_of};
+use crate::era::Era;
 use crate::imprint::Imprint;
 use crate::run::Run;
 use crate::scripts::Script;
@@ -33,6 +36,30 @@ pub fn seal_text(seal: &Seal) -> ArrayVec<u8, 262144>
     text
 }
 
+/// The text of a seal of this entry alone.
+#[tactic(auto, unfolding(crate::specs::Text::seal_text, crate::specs::Text::digest_line))]
+pub fn one_seal_text(entry: &Sealed) -> ArrayVec<u8, 262144>
+    ensures text { result.items ≡ seal_text (one_entry (Whole entry.now)) }
+    ensures types { HasDigests entry.now }
+{
+    let mut text = ArrayVec::new();
+    put_one(&mut text, entry);
+    let of_lines = digest_of(text.as_slice());
+    put_digest_line(&mut text, b"digest ", &of_lines);
+    text
+}
+
+// The lines ahead of the digest's.
+fn put_one(text: &mut SealText, entry: &Sealed)
+    requires { text.old.items ≡ [] }
+    ensures text { text.new.items ≡ entries_text (one_entry (Whole entry.now)) }
+    ensures len { length text.new.items ≤ 131011 }
+    ensures types { HasDigests entry.now }
+{
+    put_head(text, entry.era.is_first());
+    put_sealed(text, entry);
+}
+
 // The lines ahead of the digest's.
 fn put_entries(text: &mut SealText, seal: &Seal)
     requires { text.old.items ≡ [] }
@@ -41,9 +68,46 @@ fn put_entries(text: &mut SealText, seal: &Seal)
     ensures first { HasTypes seal.now.first }
     ensures second { IfSome seal.now.second HasTypes }
 {
-    put(text, b"SEATSEAL 4\n");
+    put_head(text, has_no_era(seal));
     put_entry(text, &seal.first);
     put_second(text, &seal.second);
+}
+
+// That of version 4 where no lines of an era follow: so a seal that has none is the one that it was before there were any.
+fn put_head(text: &mut SealText, plain: bool)
+    requires { text.old.items ≡ [] }
+    ensures text { text.new.items ≡ head_text plain }
+    ensures len { length text.new.items ≤ 11 }
+{
+    if plain {
+        put(text, b"SEATSEAL 4\n");
+    } else {
+        put(text, b"SEATSEAL 5\n");
+    }
+}
+
+fn has_no_era(seal: &Seal) -> bool
+    ensures { result ≡ (is_second_plain seal.now.second && is_plain seal.now.first) }
+{
+    is_second_plain(&seal.second) && is_plain(&seal.first)
+}
+
+fn is_second_plain(entry: &Option<SealEntry>) -> bool
+    ensures { result ≡ is_second_plain entry.now }
+{
+    match entry {
+        Some(entry) => is_plain(entry),
+        None => true,
+    }
+}
+
+fn is_plain(entry: &SealEntry) -> bool
+    ensures { result ≡ is_plain entry.now }
+{
+    match entry {
+        SealEntry::Sealed(sealed) => sealed.era.is_first(),
+        SealEntry::Other(_) => true,
+    }
 }
 
 fn put_second(text: &mut SealText, entry: &Option<SealEntry>)
@@ -90,9 +154,42 @@ fn put_sealed(text: &mut SealText, sealed: &Sealed)
     put_digest_line(text, b"limits ", &sealed.limits);
     put_date_line(text, b"first ", sealed.first);
     put_number_line(text, b"days ", sealed.days as u32);
+    put_era(text, sealed.era);
     put_journal_line(text, &sealed.journal);
     put_runs(text, sealed.runs.as_slice());
     put(text, b"END\n");
+}
+
+#[tactic(auto, using(crate::proofs::EraText::no_lines, crate::proofs::EraText::all_lines))]
+fn put_era(text: &mut SealText, era: Era)
+    requires room { length text.old.items + 34 ≤ 262144 }
+    ensures text { text.new.items ≡ text.old.items ++ era_text era }
+    ensures len { length text.new.items ≤ length text.old.items + 34 }
+{
+    if !era.is_first() {
+        put_era_lines(text, era);
+    }
+}
+
+#[tactic(auto, unfolding(crate::specs::Text::era_lines))]
+fn put_era_lines(text: &mut SealText, era: Era)
+    requires room { length text.old.items + 34 ≤ 262144 }
+    ensures text { text.new.items ≡ text.old.items ++ era_lines era }
+    ensures len { length text.new.items ≤ length text.old.items + 34 }
+{
+    put_number_line(text, b"epoch ", era.epoch);
+    put_today(text, era.today);
+}
+
+fn put_today(text: &mut SealText, today: Option<Date>)
+    requires room { length text.old.items + 17 ≤ 262144 }
+    ensures text { text.new.items ≡ text.old.items ++ today_text today }
+    ensures len { length text.new.items ≤ length text.old.items + 17 }
+{
+    match today {
+        Some(date) => put_date_line(text, b"today ", date),
+        None => {}
+    }
 }
 
 // Each run takes at most 1,019 bytes.

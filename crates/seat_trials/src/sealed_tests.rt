@@ -6,7 +6,7 @@ ghost use Rattle.seat_seal.specs.Fronts.{front_of};
 use airline_base::Failures;
 use seat_disk::{Folder, Fuse};
 use seat_seal::{
-    Date, JournalState, Run, Runs, Script, Scripts, Seal, SealEntry, Sealed, SealedJournal,
+    Date, Era, JournalState, Run, Runs, Script, Scripts, Seal, SealEntry, Sealed, SealedJournal,
     digest_of, entry_for, front_of, imprint_beside, imprint_of, lines_behind, read_seal,
     scripts_booked,
 };
@@ -66,6 +66,7 @@ fn sealed(text: &[u8], lines: u32, day: u8, script: &[u8]) -> Sealed
             day: 1,
         },
         days: 31,
+        era: Era::first(),
         journal: SealedJournal {
             imprint: imprint_of(front_of(text)),
             lines,

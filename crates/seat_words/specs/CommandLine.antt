@@ -105,7 +105,7 @@ run_app = with_rule (with_rule (with_rule (with_rule (with_rule (with_rule (with
 
 unfoldable pub serve_app : App
 serve_app = with_rule (with_rule (with_rule (with_rule (with_rule (with_rule (horizon_app (codes "serve"))
-    (required_option (codes "today")))
+    (optional (codes "today")))
     (required_option (codes "journal")))
     (optional_several (codes "desk")))
     (optional (codes "manager")))

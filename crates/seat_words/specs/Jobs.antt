@@ -93,7 +93,7 @@ IsRun rows asked = IsOver rows asked.over
 
 abbrev pub IsServe : List Row → ServeJob → Type 0
 IsServe rows asked = IsOver rows asked.over
-    × Has rows (codes "today") asked.today.now
+    × MayHave rows (codes "today") (option_map (λ text. text.now) asked.today)
     × Has rows (codes "journal") asked.journal.now
     × HasAny rows (codes "desk") asked.desks
     × MayHave rows (codes "manager") (option_map (λ text. text.now) asked.manager)
@@ -202,7 +202,7 @@ asked_values = (codes "ladder", [])
     ∷ (codes "rooms", horizon_values)
     ∷ (codes "loads", horizon_values)
     ∷ (codes "run", horizon_values ++ codes "today" ∷ codes "journal" ∷ [])
-    ∷ (codes "serve", horizon_values ++ codes "today" ∷ codes "journal" ∷ [])
+    ∷ (codes "serve", horizon_values ++ codes "journal" ∷ [])
     ∷ (codes "bookings", horizon_values ++ codes "journal" ∷ [])
     ∷ (codes "waiting", horizon_values ++ codes "journal" ∷ [])
     ∷ (codes "history", horizon_values ++ codes "locator" ∷ codes "journal" ∷ [])

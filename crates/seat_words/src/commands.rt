@@ -25,7 +25,7 @@ const TODAY_HELP: &str =
     "The day of the run, as 2024-06-01, from 2000 to 2099; it gives the requests their year";
 
 const SERVED_DAY_HELP: &str =
-    "The day of the host, as 2024-06-01, from 2000 to 2099; it gives the requests their year";
+    "The day of the host, as 2024-06-01, from 2000 to 2099, never earlier than before; it gives the requests their year, and may be left out beside a seal that has one";
 
 const SERVED_HELP: &str =
     "The journal to go on from (a file, which is locked); it is made where it is not there";
@@ -355,7 +355,7 @@ fn serve_command<'a>(alloc: Global) -> Result<Command<'a>, AllocError>
     );
     let serve = with_argument(
         serve,
-        wanted_option(alloc, "today", "DATE", SERVED_DAY_HELP),
+        optional_option(alloc, "today", "DATE", SERVED_DAY_HELP),
     );
     let serve = with_argument(
         serve,

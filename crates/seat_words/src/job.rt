@@ -55,7 +55,7 @@ pub enum Job<'a> {
     /// `seatdesk run` over a horizon `[--after JOURNAL] [--behind N] [--resume JOURNAL] --today DATE --journal OUT [--changes FILE]
     /// [--no-clobber] [--again] [SCRIPT...]`
     Run(RunJob<'a>),
-    /// `seatdesk serve` over a horizon `--today DATE --journal JOURNAL --desk DESK... [--manager PIPES] [--status FILE]
+    /// `seatdesk serve` over a horizon `[--today DATE] --journal JOURNAL --desk DESK... [--manager PIPES] [--status FILE]
     /// [--every SECONDS]`
     Serve(ServeJob<'a>),
     /// `seatdesk bookings` over a horizon `[--locator LOCATOR]... [--flight FLIGHT] [--day DATE] [--csv] [--json] [--open] JOURNAL`
@@ -144,7 +144,7 @@ pub struct RunJob<'a> {
 #[derive(Drop)]
 pub struct ServeJob<'a> {
     pub over: Horizon<'a>,
-    pub today: &'a str,
+    pub today: Option<&'a str>,
     pub journal: &'a str,
     /// None or more.
     pub desks: Several<'a>,
@@ -387,7 +387,7 @@ fn serve_asked<'a>(alloc: Global, matches: &ArgMatches<'a>) -> Result<ServeJob<'
 {
     Ok(ServeJob {
         over: horizon_of(matches),
-        today: value_of(matches, "today"),
+        today: may_value_of(matches, "today"),
         journal: value_of(matches, "journal"),
         desks: any_values_of(alloc, matches, "desk")?,
         manager: may_value_of(matches, "manager"),

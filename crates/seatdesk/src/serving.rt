@@ -1,7 +1,9 @@
 //! `serve` over the real file of a journal, which it locks, its seal's, and a desk on standard input and standard output, or desks on pipes.
 //! It knows which file and stream is which, and nothing of what a desk's line means.
+ghost use Rattle.std.specs.Prelude.{IfOk, IfSome};
 ghost use Rattle.airline_base.specs.Days.{IsCenturyDay};
 ghost use Rattle.seat_desk.specs.Loading.{IsGridOf};
+ghost use Rattle.seat_restoring.specs.Dating.{IsNotEarlier};
 
 use crate::commands::{day_of_run, days_of, inputs_of};
 use crate::noting::tell_found_unsealed;
@@ -17,10 +19,11 @@ use seat_files::{
     Guard, Input, Output, Refusal, SealOut, StatusFile, standard_input, standard_output, told,
 };
 use seat_recovery::MOST_OPEN_BYTES;
-use seat_seal::Beside;
+use seat_restoring::{NoDay, host_day};
+use seat_seal::{Basis, Beside};
 use seat_serving::ServeFault;
 use seat_tape::{BesideFile, TapeFile, open};
-use seat_words::ServeJob;
+use seat_words::{ServeJob, WordFault};
 use std::fs;
 use std::sync::Wait;
 use std::thread::Threads;
@@ -29,7 +32,7 @@ use std::time::Clock;
 /// What the words ask for besides the flights and limits.
 #[derive(Clone, Copy)]
 pub struct Open<'a, 'b> {
-    pub today: &'a str,
+    pub today: Option<&'a str>,
     pub journal: &'a str,
     pub desks: &'b [&'a str],
     pub manager: Option<&'a str>,
@@ -54,7 +57,7 @@ pub fn serve<'a, R: Threads + Wait + Clock + Copy + Send + 'static>(
         every: job.every,
     };
     let days = days_of(over.first, over.days)?;
-    let today = day_of_run(asked.today)?;
+    let said = day_said(asked.today)?;
     let mut pipes = match desks_named(rt, &asked) {
         Ok(pipes) => pipes,
         Err(refusal) => return Err(refusal),
@@ -96,7 +99,7 @@ pub fn serve<'a, R: Threads + Wait + Clock + Copy + Send + 'static>(
         rt,
         waits,
         based,
-        today,
+        said,
         journal,
         pipes,
         &as_beside(&text),
@@ -135,7 +138,7 @@ fn serve_over<'a, R: Threads + Wait + Clock + Copy + Send + 'static>(
     rt: &'a HostRuntime,
     waits: &R,
     based: Based,
-    today: Day,
+    said: Option<Day>,
     journal: &'a str,
     pipes: Option<Pipes>,
     seal: &Beside<'_>,
@@ -144,7 +147,7 @@ fn serve_over<'a, R: Threads + Wait + Clock + Copy + Send + 'static>(
     seals: &mut SealOut<'a>,
 ) -> Result<(), Refusal<'a>>
     requires grid { IsGridOf based.loaded.flights based.loaded.grid }
-    requires today { IsCenturyDay today }
+    requires said { IfSome said IsCenturyDay }
 {
     let Based { loaded, basis } = based;
     let Loaded { flights, grid, .. } = loaded;
@@ -152,6 +155,10 @@ fn serve_over<'a, R: Threads + Wait + Clock + Copy + Send + 'static>(
     let bytes = match tape.read_all(rt.alloc(), MOST_OPEN_BYTES) {
         Ok(bytes) => bytes,
         Err(fault) => return Err(unread(fault, journal, &tape)),
+    };
+    let today = match day_beside(seal, &basis, &bytes, said, journal) {
+        Ok(today) => today,
+        Err(refusal) => return Err(refusal),
     };
     let opened = open_host(
         waits,
@@ -169,7 +176,7 @@ fn serve_over<'a, R: Threads + Wait + Clock + Copy + Send + 'static>(
     let is_unsealed = seal.text.is_none() && has_entry(&bytes);
     drop(bytes);
     tell_kept(rt, journal, beside);
-    let (host, runs) = match opened {
+    let (host, sealed) = match opened {
         Ok(opened) => opened,
         Err(refused) => return Err(stopped(refused, journal, beside)),
     };
@@ -184,7 +191,7 @@ fn serve_over<'a, R: Threads + Wait + Clock + Copy + Send + 'static>(
             rt.alloc(),
             host,
             &basis,
-            runs,
+            sealed,
             &mut input,
             &mut out,
             seals,
@@ -205,7 +212,7 @@ fn serve_over<'a, R: Threads + Wait + Clock + Copy + Send + 'static>(
         &shared.post,
         &shared.board,
         &basis,
-        runs,
+        sealed,
         seals,
     );
     shared.post.end(waits);
@@ -213,6 +220,36 @@ fn serve_over<'a, R: Threads + Wait + Clock + Copy + Send + 'static>(
     match served {
         Ok(_) => Ok(()),
         Err(refused) => Err(unended(refused, journal)),
+    }
+}
+
+/// The day that is said, where one is.
+fn day_said(today: Option<&str>) -> Result<Option<Day>, WordFault>
+    ensures { IfOk result (λ said. IfSome said IsCenturyDay) }
+{
+    match today {
+        Some(today) => Ok(Some(day_of_run(today)?)),
+        None => Ok(None),
+    }
+}
+
+/// The day of the host: the one that is said, or else that of the journal's seal.
+fn day_beside<'a>(
+    seal: &Beside<'_>,
+    basis: &Basis,
+    bytes: &[u8],
+    said: Option<Day>,
+    journal: &'a str,
+) -> Result<Day, Refusal<'a>>
+    requires said { IfSome said IsCenturyDay }
+    ensures century { IfOk result IsCenturyDay }
+    ensures later { IfOk result (IsNotEarlier seal.now bytes.now) }
+{
+    match host_day(seal, basis, bytes, said) {
+        Ok(today) => Ok(today),
+        Err(NoDay::Missing) => Err(Refusal::from(WordFault::BadToday)),
+        Err(NoDay::Earlier) => Err(Refusal::from(WordFault::BadToday).at(journal, None)),
+        Err(NoDay::Refused(fault)) => Err(Refusal::from(fault).at(journal, None)),
     }
 }
 

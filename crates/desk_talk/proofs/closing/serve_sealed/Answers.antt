@@ -22,7 +22,7 @@ returns-in-Err-seal_closed-clause-told g c =
 
 pub returns-in-Err-seal_closed-clause-over : goal.returns-in-Err-seal_closed-clause-over
 returns-in-Err-seal_closed-clause-over g c =
-    talk_unsealed c.args.host c.args.basis.now c.args.runs c.in-Err-seal_closed.fault (g.I.Read.remaining c.args.input.now)
+    talk_unsealed c.args.host c.args.basis.now c.args.begun.runs c.in-Err-seal_closed.fault (g.I.Read.remaining c.args.input.now)
     (g.W.Write.contents c.args.out.now) (g.W.Write.contents c.serve_desk.new.out) c.args.host.serving.grid c.args.host.serving.cap c.in-Ok.served.0
     (g.D.Tape.seen c.in-Ok.served.1) (g.D.Tape.may_leave c.in-Ok.served.1) (g.D.Tape.unsynced c.in-Ok.served.1)
     c.in-Ok.ensures.front c.in-Ok.ensures.ended c.in-Ok.ensures.talk c.in-Err-seal_closed.ensures.large

@@ -3,7 +3,7 @@ use Rattle.std.proofs.lemmas.Result.{err_from_is_err_and}
 use Rattle.seat_scripts.proofs.OneTaken.{for_each, for_taken, with_taken}
 use Rattle.seat_scripts.proofs.Judged.{judged, never_of_changes, never_of_reading, never_of_seal, refused_by_runs}
 use Rattle.seat_scripts.specs.Begun.{IsJudged, IsJudgedOf}
-use Rattle.seat_scripts.proofs.Seals.{runs_of}
+use Rattle.seat_scripts.proofs.Seals.{carried_of}
 use Rattle.seat_scripts.proofs.SealedBoth.{large_behind, refused_behind}
 use Rattle.seat_scripts.proofs.Still.{asked_still, behind_still, has_ready, large_still, no_rest_still, still_large, still_read, unchanged_still, whole_still}
 use Rattle.seat_scripts.specs.Resumed.{IsAhead, IsAskedStill, IsRefusedResume, IsTooLargeResume}
@@ -167,7 +167,7 @@ returns-clause-once g c =
 
 pub returns-clause-earlier : goal.returns-clause-earlier
 returns-clause-earlier g c =
-    runs_of c.args.besides.now.journal (g.J.Read.remaining c.args.journal.now) c.in_ok-flights.field-0.known c.runs_known.result c.in_ok-flights.ensures.known c.runs_known.ensures
+    carried_of c.args.besides.now.journal (g.J.Read.remaining c.args.journal.now) c.in_ok-flights.field-0.known c.carried_by.result c.in_ok-flights.ensures.known c.carried_by.ensures
 
 pub returns-in_err-flights-clause-judged : goal.returns-in_err-flights-clause-judged
 returns-in_err-flights-clause-judged g c =
