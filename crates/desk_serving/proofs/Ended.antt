@@ -19,6 +19,10 @@ use Rattle.desk_serving.specs.Going.{GoesOn}
 use Rattle.desk_serving.proofs.Goes.{goes_same, told_ready}
 use Rattle.airline_base.specs.Days.{IsCenturyDay}
 use Rattle.seat_desk.specs.Loading.{IsGridOf}
+use Rattle.seat_restoring.specs.Dating.{IsDated, IsEraOver}
+use Rattle.seat_seal.specs.Eras.{IsDateOf}
+use Rattle.seat_seal.specs.declared.beside.Beside.{Beside}
+use Rattle.seat_seal.specs.declared.seal.Sealed.{Sealed as Belonging}
 use Rattle.ssim_flights.specs.declared.flight.Flight.{Flight as Flown}
 use Rattle.desk_talk.specs.Opening.{IsOpened}
 use Rattle.desk_talk.specs.Ending.{IsEnded, IsLeftOpen}
@@ -36,6 +40,15 @@ module _ {D : Type 0} where
   pub opened_today : (flights : List Flown) (grid : Ladders) (cap today : ℕ) (host : Attended D) → IsCenturyDay today
       → IsOpened flights grid cap today host → IsCenturyDay host.desk.today
   opened_today flights grid cap today host day is = subst IsCenturyDay (sym is.today_is) day
+
+  -- and the seal has that day
+  pub opened_dated : (flights : List Flown) (grid : Ladders) (cap today : ℕ) (host : Attended D) (beside : Beside) (file : List ℕ) (entry : Belonging)
+      → IsEraOver beside file today entry.era → IsOpened flights grid cap today host → IsDated host.desk.today entry.era
+  opened_dated flights grid cap today host beside file entry over is = record {
+    date = over.is_on.date;
+    is_date = subst (λ (d : ℕ). IsDateOf d over.is_on.date) (sym is.today_is) over.is_on.is_date;
+    today_is = over.is_on.today_is;
+  }
 
   module _ (seen : D → Option (List ℕ)) (leaves : D → List ℕ → Type 0) (unsynced failures : D → ℕ) where
     -- the journal is that of the host that was opened

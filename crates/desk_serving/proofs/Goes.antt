@@ -18,7 +18,7 @@ use Rattle.seat_serving.proofs.Holding.{seen_kept}
 begins_same : (xs ys : List Entry) → ys ≡ xs → Begins xs ys
 begins_same xs ys is = record { rest = []; is = is ∙ sym (append-nil xs) }
 
-begins_on : (xs ys zs : List Entry) → Begins xs ys → Begins ys zs → Begins xs zs
+pub begins_on : (xs ys zs : List Entry) → Begins xs ys → Begins ys zs → Begins xs zs
 begins_on xs ys zs a b = record {
   rest = a.rest ++ b.rest;
   is = b.is ∙ ap (λ (l : List Entry). l ++ b.rest) a.is ∙ append_assoc xs a.rest b.rest;

@@ -1,1 +1,2 @@
+pub mod Daily
 pub mod Going

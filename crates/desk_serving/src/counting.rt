@@ -1,15 +1,17 @@
 //! What a host has come to, counted behind each group that is answered.
 ghost use Rattle.std.specs.Prelude.{◌≡◌, IfErr, OnOk};
 ghost use Rattle.desk_answers.specs.Hosts.{IsReady};
-ghost use Rattle.desk_serving.specs.Going.{Fails, GoesOn};
+ghost use Rattle.desk_serving.specs.Daily.{FailsBy, IsOnDay, IsSealedOn, StaysNamed};
+ghost use Rattle.desk_serving.specs.Going.{GoesOn};
 ghost use Rattle.desk_status.specs.Tallies.{added, groups_behind, Counts, CountsFront};
 
+use crate::day::GroupFault;
 use crate::group::answer_group;
 use desk_hall::Hall;
 use desk_pipes::{Post, Said};
 use desk_status::{Board, Tally};
-use seat_disk::Tape;
-use seat_serving::ServeFault;
+use seat_disk::{Replaced, Tape};
+use seat_seal::Sealed;
 use std::alloc::Global;
 use std::sync::Wait;
 
@@ -23,23 +25,28 @@ pub(crate) fn begun<D: Tape>(hall: &Hall<'_, D>, board: &Board) -> Tally
 
 /// Answers the lines that wait, and shows what the host has come to then. Whether the host goes on.
 #[tactic(auto, using(crate::proofs::Tallied::counts_front))]
-pub(crate) fn answer_counted<R: Wait, D: Tape>(
+pub(crate) fn answer_counted<R: Wait, D: Tape, K: Replaced>(
     rt: &R,
     alloc: Global,
     hall: &mut Hall<'_, D>,
     post: &Post,
     said: &[Said],
+    entry: &mut Sealed,
+    seals: &mut K,
     board: &Board,
     tally: &mut Tally,
-) -> Result<bool, ServeFault>
+) -> Result<bool, GroupFault>
     requires ready { IsReady D.seen D.may_leave D.unsynced hall.old.serving }
+    requires dated { IsOnDay hall.old.today entry.old (K.may_leave seals.old) }
     requires counts { Counts tally.old hall.old.serving.journal }
     ensures goes { OnOk result (GoesOn D.seen D.may_leave D.unsynced D.failure_count hall.old.serving hall.new.serving) }
-    ensures fails { IfErr result (Fails D.seen D.may_leave D.unsynced D.failure_count hall.old.serving hall.new.serving) }
+    ensures fails { IfErr result (FailsBy D.seen D.may_leave D.unsynced D.failure_count hall.old.serving hall.new.serving) }
+    ensures sealed { OnOk result (IsSealedOn K.named K.may_leave K.kept_may_leave K.failure_count hall.new.today entry.old entry.new seals.old seals.new) }
+    ensures stays { StaysNamed K.may_leave K.kept_may_leave entry.old seals.old seals.new }
     ensures counts { OnOk result (Counts tally.new hall.new.serving.journal) }
     ensures groups { OnOk result (tally.new.groups ≡ groups_behind tally.old.groups (added tally.old hall.new.serving.journal)) }
 {
-    match answer_group(rt, alloc, hall, post, said) {
+    match answer_group(rt, alloc, hall, post, said, entry, seals) {
         Ok(goes_on) => {
             count(hall, tally);
             board.show(rt, *tally);

@@ -1,88 +1,136 @@
 //! The lines that wait, answered as a group.
-ghost use Rattle.std.specs.Prelude.{◌≡◌, ◌≤◌, ◌==◌, false, true, IfErr, IfOk, OnOk, length};
+ghost use Rattle.std.specs.Prelude.{◌≡◌, ◌≤◌, ◌==◌, false, true, IfErr, IfOk, OnErr, OnOk, length};
 ghost use Rattle.desk_answers.specs.Hosts.{IsReady};
+ghost use Rattle.desk_serving.specs.Daily.{FailsBy, IsOnDay, IsSealedOn, StaysNamed};
 ghost use Rattle.desk_serving.specs.Going.{is_apart, Fails, GoesOn, IsHeardAs};
 
+use crate::day::{GroupFault, keep_day};
 use airline_base::Memory;
 use desk_answers::memory_line;
 use desk_hall::Hall;
 use desk_pipes::{Post, Said};
-use seat_disk::Tape;
+use seat_disk::{Replaced, Tape};
+use seat_seal::Sealed;
 use seat_serving::ServeFault;
 use std::alloc::Global;
 use std::sync::Wait;
 
 /// Hears these lines in their order, books what they ask for, and tells each desk what concerns it. A word to the host that is no look is
 /// answered behind all ahead of it and ahead of all behind it. Whether the host goes on.
-#[tactic(auto, using(crate::proofs::Goes::goes_same, crate::proofs::Goes::goes_further, crate::proofs::Goes::fails_behind))]
-pub(crate) fn answer_group<R: Wait, D: Tape>(
+#[tactic(auto, using(crate::proofs::Goes::goes_same, crate::proofs::Goes::goes_further, crate::proofs::Goes::fails_behind, crate::proofs::Daily::fails_by_behind, crate::proofs::Daily::sealed_same, crate::proofs::Daily::sealed_further, crate::proofs::Daily::sealed_as, crate::proofs::Daily::stays_behind, crate::proofs::Daily::stays_on, crate::proofs::Daily::on_day_of, crate::proofs::Daily::by_inventory))]
+pub(crate) fn answer_group<R: Wait, D: Tape, K: Replaced>(
     rt: &R,
     alloc: Global,
     hall: &mut Hall<'_, D>,
     post: &Post,
     said: &[Said],
-) -> Result<bool, ServeFault>
+    entry: &mut Sealed,
+    seals: &mut K,
+) -> Result<bool, GroupFault>
     requires ready { IsReady D.seen D.may_leave D.unsynced hall.old.serving }
+    requires dated { IsOnDay hall.old.today entry.old (K.may_leave seals.old) }
     ensures goes { OnOk result (GoesOn D.seen D.may_leave D.unsynced D.failure_count hall.old.serving hall.new.serving) }
-    ensures fails { IfErr result (Fails D.seen D.may_leave D.unsynced D.failure_count hall.old.serving hall.new.serving) }
+    ensures fails { IfErr result (FailsBy D.seen D.may_leave D.unsynced D.failure_count hall.old.serving hall.new.serving) }
+    ensures sealed { OnOk result (IsSealedOn K.named K.may_leave K.kept_may_leave K.failure_count hall.new.today entry.old entry.new seals.old seals.new) }
+    ensures stays { StaysNamed K.may_leave K.kept_may_leave entry.old seals.old seals.new }
 {
     let mut goes_on = true;
     for one in said {
-        match answer_one(rt, alloc, hall, post, one) {
+        match answer_one(rt, alloc, hall, post, one, entry, seals) {
             Ok(more) => goes_on = more && goes_on,
             Err(fault) => return Err(fault),
         }
     }
-    match answer_heard(rt, alloc, hall, post) {
+    match answer_heard(rt, alloc, hall, post, entry, seals) {
         Ok(()) => Ok(goes_on),
-        Err(fault) => Err(fault),
+        Err(fault) => Err(GroupFault::Serve(fault)),
     }
 }
 
 // Hears a line.
-#[tactic(auto, using(crate::proofs::Goes::goes_same, crate::proofs::Goes::goes_further, crate::proofs::Goes::fails_behind))]
-fn answer_one<R: Wait, D: Tape>(
+#[tactic(auto, using(crate::proofs::Goes::goes_same, crate::proofs::Goes::goes_further, crate::proofs::Goes::fails_behind, crate::proofs::Daily::fails_by_behind, crate::proofs::Daily::stays_same, crate::proofs::Daily::day_as, crate::proofs::Daily::by_inventory))]
+fn answer_one<R: Wait, D: Tape, K: Replaced>(
     rt: &R,
     alloc: Global,
     hall: &mut Hall<'_, D>,
     post: &Post,
     one: &Said,
-) -> Result<bool, ServeFault>
+    entry: &mut Sealed,
+    seals: &mut K,
+) -> Result<bool, GroupFault>
     requires ready { IsReady D.seen D.may_leave D.unsynced hall.old.serving }
+    requires dated { IsOnDay hall.old.today entry.old (K.may_leave seals.old) }
     ensures goes { OnOk result (GoesOn D.seen D.may_leave D.unsynced D.failure_count hall.old.serving hall.new.serving) }
-    ensures fails { IfErr result (Fails D.seen D.may_leave D.unsynced D.failure_count hall.old.serving hall.new.serving) }
+    ensures fails { IfErr result (FailsBy D.seen D.may_leave D.unsynced D.failure_count hall.old.serving hall.new.serving) }
+    ensures sealed { OnOk result (IsSealedOn K.named K.may_leave K.kept_may_leave K.failure_count hall.new.today entry.old entry.new seals.old seals.new) }
+    ensures stays { StaysNamed K.may_leave K.kept_may_leave entry.old seals.old seals.new }
 {
     if !is_apart(one.line.as_slice()) {
-        return hear_one(rt, alloc, hall, post, one);
+        return hear_dated(rt, alloc, hall, post, one, entry, seals);
     }
-    if let Err(fault) = answer_heard(rt, alloc, hall, post) {
-        return Err(fault);
+    if let Err(fault) = answer_heard(rt, alloc, hall, post, entry, seals) {
+        return Err(GroupFault::Serve(fault));
     }
     if one.line.as_slice().starts_with(b"?HELLO ") {
         post.begin(rt, one.session);
     }
-    hear_apart(rt, alloc, hall, post, one)
+    hear_apart(rt, alloc, hall, post, one, entry, seals)
 }
 
 // Hears a line, and answers it ahead of all behind it.
-#[tactic(auto, using(crate::proofs::Goes::goes_further, crate::proofs::Goes::fails_behind))]
-fn hear_apart<R: Wait, D: Tape>(
+#[tactic(auto, using(crate::proofs::Goes::goes_further, crate::proofs::Goes::fails_behind, crate::proofs::Daily::fails_by_behind, crate::proofs::Daily::sealed_as, crate::proofs::Daily::stays_on, crate::proofs::Daily::on_day_of, crate::proofs::Daily::by_inventory))]
+fn hear_apart<R: Wait, D: Tape, K: Replaced>(
     rt: &R,
     alloc: Global,
     hall: &mut Hall<'_, D>,
     post: &Post,
     one: &Said,
-) -> Result<bool, ServeFault>
+    entry: &mut Sealed,
+    seals: &mut K,
+) -> Result<bool, GroupFault>
     requires ready { IsReady D.seen D.may_leave D.unsynced hall.old.serving }
+    requires dated { IsOnDay hall.old.today entry.old (K.may_leave seals.old) }
     ensures goes { OnOk result (GoesOn D.seen D.may_leave D.unsynced D.failure_count hall.old.serving hall.new.serving) }
-    ensures fails { IfErr result (Fails D.seen D.may_leave D.unsynced D.failure_count hall.old.serving hall.new.serving) }
+    ensures fails { IfErr result (FailsBy D.seen D.may_leave D.unsynced D.failure_count hall.old.serving hall.new.serving) }
+    ensures sealed { OnOk result (IsSealedOn K.named K.may_leave K.kept_may_leave K.failure_count hall.new.today entry.old entry.new seals.old seals.new) }
+    ensures stays { StaysNamed K.may_leave K.kept_may_leave entry.old seals.old seals.new }
 {
-    match hear_one(rt, alloc, hall, post, one) {
-        Ok(goes_on) => match answer_heard(rt, alloc, hall, post) {
-            Ok(()) => Ok(goes_on),
-            Err(fault) => Err(fault),
-        },
-        Err(fault) => Err(fault),
+    let goes_on = match hear_dated(rt, alloc, hall, post, one, entry, seals) {
+        Ok(goes_on) => goes_on,
+        Err(fault) => return Err(fault),
+    };
+    match answer_heard(rt, alloc, hall, post, entry, seals) {
+        Ok(()) => Ok(goes_on),
+        Err(fault) => Err(GroupFault::Serve(fault)),
+    }
+}
+
+// Hears a line. A later day that it gives is in the seal, on its disk, before anything is told under it.
+#[tactic(auto, using(crate::proofs::Goes::goes_same, crate::proofs::Goes::goes_further, crate::proofs::Goes::fails_behind, crate::proofs::Daily::stays_same, crate::proofs::Daily::by_inventory, crate::proofs::Daily::by_seal, crate::proofs::Daily::day_as, crate::proofs::Daily::sealed_as))]
+fn hear_dated<R: Wait, D: Tape, K: Replaced>(
+    rt: &R,
+    alloc: Global,
+    hall: &mut Hall<'_, D>,
+    post: &Post,
+    one: &Said,
+    entry: &mut Sealed,
+    seals: &mut K,
+) -> Result<bool, GroupFault>
+    requires ready { IsReady D.seen D.may_leave D.unsynced hall.old.serving }
+    requires dated { IsOnDay hall.old.today entry.old (K.may_leave seals.old) }
+    ensures goes { OnOk result (GoesOn D.seen D.may_leave D.unsynced D.failure_count hall.old.serving hall.new.serving) }
+    ensures fails { IfErr result (FailsBy D.seen D.may_leave D.unsynced D.failure_count hall.old.serving hall.new.serving) }
+    ensures sealed { OnOk result (IsSealedOn K.named K.may_leave K.kept_may_leave K.failure_count hall.new.today entry.old entry.new seals.old seals.new) }
+    ensures stays { StaysNamed K.may_leave K.kept_may_leave entry.old seals.old seals.new }
+{
+    let before = hall.today();
+    let goes_on = match hear_one(rt, alloc, hall, post, one, entry, seals) {
+        Ok(goes_on) => goes_on,
+        Err(fault) => return Err(GroupFault::Serve(fault)),
+    };
+    match keep_day(before, hall.today(), entry, seals) {
+        Ok(()) => Ok(goes_on),
+        Err(fault) => Err(GroupFault::Seal(fault)),
     }
 }
 
@@ -96,17 +144,21 @@ fn is_apart(line: &[u8]) -> bool
 }
 
 // Hears a line, or says that memory is wanting for it.
-#[tactic(auto, using(crate::proofs::Goes::goes_same, crate::proofs::Goes::goes_further, crate::proofs::Goes::fails_behind, crate::proofs::Goes::ready_as))]
-fn hear_one<R: Wait, D: Tape>(
+#[tactic(auto, using(crate::proofs::Goes::goes_same, crate::proofs::Goes::goes_further, crate::proofs::Goes::fails_behind, crate::proofs::Goes::ready_as, crate::proofs::Daily::day_as))]
+fn hear_one<R: Wait, D: Tape, K: Replaced>(
     rt: &R,
     alloc: Global,
     hall: &mut Hall<'_, D>,
     post: &Post,
     one: &Said,
+    entry: &Sealed,
+    seals: &K,
 ) -> Result<bool, ServeFault>
     requires ready { IsReady D.seen D.may_leave D.unsynced hall.old.serving }
+    requires dated { IsOnDay hall.old.today entry.now (K.may_leave seals.now) }
     ensures goes { OnOk result (GoesOn D.seen D.may_leave D.unsynced D.failure_count hall.old.serving hall.new.serving) }
     ensures fails { IfErr result (Fails D.seen D.may_leave D.unsynced D.failure_count hall.old.serving hall.new.serving) }
+    ensures memory { IfErr result (λ f. hall.new.today ≡ hall.old.today) }
 {
     let session = one.session;
     if session > hall.count() {
@@ -116,7 +168,7 @@ fn hear_one<R: Wait, D: Tape>(
         return Ok(goes_on);
     }
     let text = memory_line(session, hall.lines_of(session));
-    match answer_heard(rt, alloc, hall, post) {
+    match answer_heard(rt, alloc, hall, post, entry, seals) {
         Ok(()) => {
             post.tell(rt, session, text.as_slice());
             Ok(true)
@@ -126,6 +178,7 @@ fn hear_one<R: Wait, D: Tape>(
 }
 
 // A line of the manager, or of a session's desk.
+#[tactic(auto, using(crate::proofs::Daily::unordered_day, crate::proofs::Daily::unheard_day))]
 fn hear<D: Tape>(
     alloc: Global,
     hall: &mut Hall<'_, D>,
@@ -137,6 +190,7 @@ fn hear<D: Tape>(
     ensures heard { IfOk result (IsHeardAs (session == 0) is_earlier hall.old hall.new session line.now) }
     ensures same { hall.new.serving ≡ hall.old.serving }
     ensures count { length hall.new.desks ≡ length hall.old.desks }
+    ensures memory { OnErr result (hall.new.today ≡ hall.old.today) }
 {
     if session == 0 {
         return hall.hear_manager(alloc, line, is_earlier);
@@ -146,22 +200,26 @@ fn hear<D: Tape>(
 }
 
 // Books what was heard, and tells each desk. Where memory is wanting, what has its line is told all the same.
-#[tactic(auto, using(crate::proofs::Goes::goes_further, crate::proofs::Goes::fails_behind, crate::proofs::Goes::fails_as))]
-fn answer_heard<R: Wait, D: Tape>(
+#[tactic(auto, using(crate::proofs::Goes::goes_further, crate::proofs::Goes::fails_behind, crate::proofs::Goes::fails_as, crate::proofs::Daily::day_as))]
+fn answer_heard<R: Wait, D: Tape, K: Replaced>(
     rt: &R,
     alloc: Global,
     hall: &mut Hall<'_, D>,
     post: &Post,
+    entry: &Sealed,
+    seals: &K,
 ) -> Result<(), ServeFault>
     requires ready { IsReady D.seen D.may_leave D.unsynced hall.old.serving }
+    requires dated { IsOnDay hall.old.today entry.now (K.may_leave seals.now) }
     ensures goes { OnOk result (GoesOn D.seen D.may_leave D.unsynced D.failure_count hall.old.serving hall.new.serving) }
     ensures fails { IfErr result (Fails D.seen D.may_leave D.unsynced D.failure_count hall.old.serving hall.new.serving) }
+    ensures day { hall.new.today ≡ hall.old.today }
 {
     match book_heard(rt, alloc, hall) {
-        Ok(()) => tell_heard(rt, alloc, hall, post),
+        Ok(()) => tell_heard(rt, alloc, hall, post, entry, seals),
         Err(fault) => {
             if let ServeFault::Memory = fault {
-                let _ = tell_all(rt, alloc, hall, post);
+                let _ = tell_all(rt, alloc, hall, post, entry, seals);
             }
             Err(fault)
         }
@@ -170,17 +228,21 @@ fn answer_heard<R: Wait, D: Tape>(
 
 // Tells each desk what was heard.
 #[tactic(auto, using(crate::proofs::Goes::goes_same, crate::proofs::Goes::fails_same))]
-fn tell_heard<R: Wait, D: Tape>(
+fn tell_heard<R: Wait, D: Tape, K: Replaced>(
     rt: &R,
     alloc: Global,
     hall: &mut Hall<'_, D>,
     post: &Post,
+    entry: &Sealed,
+    seals: &K,
 ) -> Result<(), ServeFault>
     requires ready { IsReady D.seen D.may_leave D.unsynced hall.old.serving }
+    requires dated { IsOnDay hall.old.today entry.now (K.may_leave seals.now) }
     ensures goes { OnOk result (GoesOn D.seen D.may_leave D.unsynced D.failure_count hall.old.serving hall.new.serving) }
     ensures fails { IfErr result (Fails D.seen D.may_leave D.unsynced D.failure_count hall.old.serving hall.new.serving) }
+    ensures day { hall.new.today ≡ hall.old.today }
 {
-    if tell_all(rt, alloc, hall, post).is_err() {
+    if tell_all(rt, alloc, hall, post, entry, seals).is_err() {
         return Err(ServeFault::Memory);
     }
     hall.end_turns();
@@ -188,7 +250,7 @@ fn tell_heard<R: Wait, D: Tape>(
 }
 
 // Books what was heard.
-#[tactic(auto, using(crate::proofs::Goes::goes_answered, crate::proofs::Goes::fails_answered))]
+#[tactic(auto, using(crate::proofs::Goes::goes_answered, crate::proofs::Goes::fails_answered, crate::proofs::Daily::answered_day))]
 fn book_heard<R: Wait, D: Tape>(
     rt: &R,
     alloc: Global,
@@ -197,6 +259,7 @@ fn book_heard<R: Wait, D: Tape>(
     requires ready { IsReady D.seen D.may_leave D.unsynced hall.old.serving }
     ensures goes { OnOk result (GoesOn D.seen D.may_leave D.unsynced D.failure_count hall.old.serving hall.new.serving) }
     ensures fails { IfErr result (Fails D.seen D.may_leave D.unsynced D.failure_count hall.old.serving hall.new.serving) }
+    ensures day { hall.new.today ≡ hall.old.today }
 {
     match hall.answer(rt, alloc) {
         Ok(()) => Ok(()),
@@ -205,12 +268,15 @@ fn book_heard<R: Wait, D: Tape>(
 }
 
 // Tells the manager and each desk what concerns it.
-fn tell_all<R: Wait, D: Tape>(
+fn tell_all<R: Wait, D: Tape, K: Replaced>(
     rt: &R,
     alloc: Global,
     hall: &mut Hall<'_, D>,
     post: &Post,
+    entry: &Sealed,
+    seals: &K,
 ) -> Result<(), Memory>
+    requires dated { IsOnDay hall.old.today entry.now (K.may_leave seals.now) }
     ensures same { hall.new ≡ hall.old }
 {
     let count = hall.count();

@@ -4,6 +4,7 @@
 #![tactic(auto)]
 
 mod counting;
+mod day;
 mod group;
 mod opening;
 mod serving;

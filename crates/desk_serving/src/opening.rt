@@ -23,6 +23,7 @@ pub(crate) fn hall_over<'a, R: Wait, D: Tape>(
     requires grid { IsGridOf flights.now host.serving.grid }
     requires today { IsCenturyDay host.desk.today }
     ensures serving { IfOk result (λ hall. hall.serving ≡ host.entry.serving) }
+    ensures today { IfOk result (λ hall. hall.today ≡ host.entry.desk.today) }
     ensures desks { IfOk result (λ hall. length hall.desks ≡ 8) }
     ensures tape { IfErr result (λ tape. tape ≡ host.entry.serving.tape) }
 {

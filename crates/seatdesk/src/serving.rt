@@ -133,7 +133,7 @@ fn place_status<'a>(
 }
 
 /// The same with the inputs read, the journal locked and what stands beside it read.
-#[tactic(auto, using(desk_serving::proofs::Ended::opened_grid, desk_serving::proofs::Ended::opened_today))]
+#[tactic(auto, using(desk_serving::proofs::Ended::opened_grid, desk_serving::proofs::Ended::opened_today, desk_serving::proofs::Ended::opened_dated))]
 fn serve_over<'a, R: Threads + Wait + Clock + Copy + Send + 'static>(
     rt: &'a HostRuntime,
     waits: &R,
@@ -301,10 +301,10 @@ fn unended<'a>(refused: (HostedFault, TapeFile), journal: &'a str) -> Refusal<'a
     match fault {
         HostedFault::Day(ServeFault::Device) => failed(journal, &tape),
         HostedFault::Day(ServeFault::Memory) => Refusal::from(DeskFault::Memory),
-        HostedFault::Seal(DeskFault::TooLarge) => Refusal::from(DeskFault::TooLarge).at(
-            journal, None,
-        ),
-        HostedFault::Seal(fault) => Refusal::from(fault),
+        HostedFault::Seal(DeskFault::TooLarge) | HostedFault::Dating(DeskFault::TooLarge) => {
+            Refusal::from(DeskFault::TooLarge).at(journal, None)
+        }
+        HostedFault::Seal(fault) | HostedFault::Dating(fault) => Refusal::from(fault),
     }
 }
 

@@ -1,12 +1,28 @@
-use Rattle.desk_serving.proofs.Goes.{fails_behind}
+use Rattle.desk_serving.proofs.Daily.{by_inventory, fails_by_behind, sealed_further, stays_behind}
+use Rattle.desk_serving.proofs.Goes.{fails_behind, goes_further}
 use Rattle.desk_serving.proofs.group.answer_group.Goals as goal
 
 pub returns-in-Err-clause-fails : goal.returns-in-Err-clause-fails
 returns-in-Err-clause-fails g c =
-    fails_behind g.D.Tape.seen g.D.Tape.may_leave g.D.Tape.unsynced g.D.Failures.failure_count c.args.hall.now.serving c.loop-one.hall.serving
-    c.answer_one.new.hall.serving c.in-Err.fault c.loop-one.invariant c.in-Err.ensures.fails
+    fails_by_behind g.D.Tape.seen g.D.Tape.may_leave g.D.Tape.unsynced g.D.Failures.failure_count c.args.hall.now.serving c.loop-one.hall.serving
+    c.answer_one.new.hall.serving c.in-Err.fault c.loop-one.invariant.0 c.in-Err.ensures.fails
+
+pub returns-in-Err-clause-stays : goal.returns-in-Err-clause-stays
+returns-in-Err-clause-stays g c =
+    stays_behind g.K.Replaced.named g.K.Replaced.may_leave g.K.Replaced.kept_may_leave g.K.Failures.failure_count c.loop-one.hall.today
+    c.args.entry.now c.loop-one.entry c.args.seals.now c.loop-one.seals c.answer_one.new.seals c.loop-one.invariant.1 c.answer_one.ensures.stays
 
 pub returns-in-Err-answer_heard-clause-fails : goal.returns-in-Err-answer_heard-clause-fails
 returns-in-Err-answer_heard-clause-fails g c =
-    fails_behind g.D.Tape.seen g.D.Tape.may_leave g.D.Tape.unsynced g.D.Failures.failure_count c.args.hall.now.serving c.loop-one.hall.serving
-    c.answer_heard.new.hall.serving c.in-Err-answer_heard.fault c.loop-one.invariant c.in-Err-answer_heard.ensures.fails
+    by_inventory g.D.Tape.seen g.D.Tape.may_leave g.D.Tape.unsynced g.D.Failures.failure_count c.args.hall.now.serving c.answer_heard.new.hall.serving c.in-Err-answer_heard.fault
+    (fails_behind g.D.Tape.seen g.D.Tape.may_leave g.D.Tape.unsynced g.D.Failures.failure_count c.args.hall.now.serving c.loop-one.hall.serving
+    c.answer_heard.new.hall.serving c.in-Err-answer_heard.fault c.loop-one.invariant.0 c.in-Err-answer_heard.ensures.fails)
+
+pub loop-one-preserved : goal.loop-one-preserved
+loop-one-preserved g c = (
+  goes_further g.D.Tape.seen g.D.Tape.may_leave g.D.Tape.unsynced g.D.Failures.failure_count c.args.hall.now.serving c.loop-one.hall.serving
+      c.answer_one.new.hall.serving c.loop-one.invariant.0 c.in-Ok.ensures.goes,
+  sealed_further g.K.Replaced.named g.K.Replaced.may_leave g.K.Replaced.kept_may_leave g.K.Failures.failure_count c.loop-one.hall.today
+      c.answer_one.new.hall.today c.args.entry.now c.loop-one.entry c.answer_one.new.entry c.args.seals.now c.loop-one.seals
+      c.answer_one.new.seals c.loop-one.invariant.1 c.in-Ok.ensures.sealed,
+)

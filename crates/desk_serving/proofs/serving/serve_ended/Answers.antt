@@ -1,4 +1,5 @@
 use Rattle.std.proofs.Common.{rules}
+use Rattle.desk_serving.proofs.Daily.{told_by}
 use Rattle.desk_serving.proofs.Ended.{lost_none}
 use Rattle.desk_serving.proofs.Goes.{goes_from}
 use Rattle.desk_serving.proofs.serving.serve_ended.Goals as goal
@@ -10,3 +11,9 @@ returns-in-Err-end-clause-told g c =
     (goes_from g.D.Tape.seen g.D.Tape.may_leave g.D.Tape.unsynced g.D.Failures.failure_count c.args.host.serving
     c.in-Ok.opened.serving c.serve-served.new.hall.serving c.in-Ok-served.ensures.goes c.in-Ok.ensures.serving)
     (search rules) c.in-Err-end.ensures.lost
+
+pub returns-in-Err-served-clause-told : goal.returns-in-Err-served-clause-told
+returns-in-Err-served-clause-told g c =
+    told_by g.D.Tape.seen g.D.Tape.may_leave g.D.Tape.unsynced g.D.Failures.failure_count c.args.host.serving c.in-Ok.opened.serving
+    c.serve-served.new.hall.serving c.into_serving-serving.result c.in-Err-served.fault c.close.result c.in-Err-served.ensures.fails
+    c.in-Ok.ensures.serving (search rules) c.close.ensures.tape
