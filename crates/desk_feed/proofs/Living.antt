@@ -1,5 +1,5 @@
 -- A feed that is lived again.
-use Rattle.std.proofs.Common.{◌≡◌, ◌⊎◌, inl, inr, ℕ, zero, suc, ◌+◌, ◌<◌, ◌≤◌, Bool, true, false, ◌==◌, ◌&&◌, nat_lt, if◌then◌else◌, List, [], ◌∷◌, ◌++◌, length, take, drop, refl, ap, sym, ◌∙◌, subst, arith, append-nil, append_assoc, length-append, take-append-drop}
+use Rattle.std.proofs.Common.{◌≡◌, ◌⊎◌, inl, inr, ℕ, ◌+◌, ◌≤◌, Bool, true, false, ◌==◌, ◌&&◌, nat_lt, if◌then◌else◌, List, [], ◌∷◌, ◌++◌, length, take, drop, refl, ap, sym, ◌∙◌, subst, arith, append-nil, append_assoc, length-append, take-append-drop}
 use Rattle.std.proofs.lemmas.Bool.Decides.{nat_tests}
 use Rattle.std.proofs.lemmas.List.{append_cancel_left}
 use Rattle.std.proofs.Math.Seq.{take-append_seam}
@@ -9,8 +9,8 @@ use Rattle.seat_nesting.specs.Nesting.{Ladders}
 use Rattle.seat_rules.specs.Journal.{calls_of, next_line}
 use Rattle.seat_rules.specs.Prefixes.{Begins}
 use Rattle.seat_rules.proofs.History.Prefixes.{begins_itself, begins_length, begins_longer, begins_shorter, begins_trans, begins_whole}
-use Rattle.desk_calls.specs.Sending.{behind_call, is_next}
-use Rattle.desk_feed.specs.Feeding.{Asking, asked_one_by_one, behind_asking, behind_feed, is_call, place_at, right_if, right_lines, AreSent, Cut, IsItsLine, IsLived, IsSent, IsStrange, IsStrangeBy, Lives, LivesBy, LivesNext, LivesThrough}
+use Rattle.desk_calls.specs.Sending.{is_next}
+use Rattle.desk_feed.specs.Feeding.{Asking, asked_one_by_one, behind_asking, behind_feed, is_call, place_at, right_if, right_lines, AreSent, Cut, IsLived, IsSent, IsStrange, IsStrangeBy, Lives, LivesBy, LivesNext, LivesThrough}
 use Rattle.desk_feed.specs.Laws.{Tested, asking_of, AFeedIsItsJournal, IsVeryBy, LivedAgainBooksNothing, OwnFeedIsNoStranger, RightLinesAreAsked}
 
 begins_taken : (n : ℕ) (xs : List Entry) → Begins (take n xs) xs

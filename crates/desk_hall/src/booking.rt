@@ -20,7 +20,7 @@ const MOST: usize = 4096;
 /// Books all that is asked, one group behind the other: each has its line, on the disk and visible. Where memory is wanting those behind
 /// the first that has none are not booked, and may be asked again.
 #[tactic(auto, using(crate::proofs::Groups::booking_none, crate::proofs::Groups::all_booked, crate::proofs::Groups::booking_front, crate::proofs::Groups::booking_some))]
-pub(crate) fn book<R: Wait, D: Tape>(
+pub fn book<R: Wait, D: Tape>(
     rt: &R,
     alloc: Global,
     serving: &mut Serving<D>,

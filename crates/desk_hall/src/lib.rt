@@ -11,6 +11,8 @@ mod planning;
 mod telling;
 mod turn;
 
+pub use booking::book;
 pub use hall::Hall;
-pub use orders::{Order, RowFault};
+pub use orders::{Order, RowFault, count_of, day_named, order_of};
+pub use telling::{line_at, sets, turn_text};
 pub use turn::Turn;

@@ -75,7 +75,7 @@ pub enum Order {
 
 /// What a line of the manager, with its end, asks for. Ahead of a `?HELLO` and of a word to the host the manager is a desk as any other.
 /// What was said ahead of the host's start ends nothing.
-pub(crate) fn order_of(
+pub fn order_of(
     alloc: Global,
     served: &Served<'_>,
     manager: &mut Desk,
@@ -158,9 +158,9 @@ fn stop(is_earlier: bool, text: &[u8]) -> Option<Order>
     Some(Order::Stop)
 }
 
-// `?DAY 2024-06-22`
+/// The day of `?DAY 2024-06-22`, of the years 2000 to 2099.
 #[tactic(auto, unfolding(crate::specs::Orders::day_at))]
-fn day_named(text: &[u8]) -> Option<Day>
+pub fn day_named(text: &[u8]) -> Option<Day>
     ensures value { result ≡ day_at text.now }
     ensures century { IfSome result IsCenturyDay }
 {
@@ -272,8 +272,9 @@ fn call_of(text: &[u8]) -> Option<(u32, &[u8])>
     Some((call, row))
 }
 
+/// A number of one to six digits, and what stands behind all the digits.
 #[tactic(auto, unfolding(desk_lines::specs::Words::count_at))]
-fn count_of(bytes: &[u8]) -> Option<(u32, &[u8])>
+pub fn count_of(bytes: &[u8]) -> Option<(u32, &[u8])>
     ensures { option_map (λ x. (x.0, x.1.now)) result ≡ count_at bytes.now }
 {
     let (digits, rest) = digits_of(bytes);

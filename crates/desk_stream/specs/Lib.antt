@@ -1,0 +1,9 @@
+pub mod Feeds
+pub mod Hearing
+pub mod Laws
+pub mod Leads
+pub mod Meaning
+pub mod Planning
+pub mod Reading
+pub mod Telling
+pub mod Wanting
