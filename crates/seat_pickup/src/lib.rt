@@ -1,0 +1,11 @@
+//! What the lines behind the first ones of a journal made of the seats of each class on each flight.
+//! It knows how lines move seats, and nothing of texts, sessions, readers and writers.
+#![tactic(auto)]
+
+mod classes;
+mod counting;
+mod laws;
+mod moves;
+
+pub use classes::{Pickup, pickups};
+pub use laws::moves_balance;
