@@ -1,5 +1,5 @@
 -- A feed behind a line, and behind what is booked.
-use Rattle.std.proofs.Common.{◌≡◌, ℕ, ◌≤◌, ◌==◌, Bool, List, [], length, ap, sym, ◌∙◌, subst, arith, append-nil}
+use Rattle.std.proofs.Common.{◌≡◌, ℕ, ◌≤◌, ◌==◌, Bool, List, [], length, ap, sym, ◌∙◌, subst, arith, append-nil, take, drop}
 use Rattle.std.specs.Prelude.{IfSome, Option, None}
 use Rattle.airline_base.specs.Days.{IsCenturyDay}
 use Rattle.desk_calls.specs.declared.call_index.CallIndex.{CallIndex}
@@ -7,8 +7,8 @@ use Rattle.desk_feed.specs.Progress.{start, IsProgress}
 use Rattle.desk_feed.specs.declared.progress.Progress.{Progress}
 use Rattle.desk_feed.proofs.Passing.{at_start}
 use Rattle.desk_lines.specs.declared.desk.Desk.{Desk}
-use Rattle.desk_stream.specs.Feeds.{Feeding, IsFeed, IsHeard, IsStrangeLine}
-use Rattle.desk_stream.specs.Hearing.{HearsBy, IsStrangeStep, IsWaiting}
+use Rattle.desk_stream.specs.Feeds.{Feeding, IsFeed, IsHeard, IsStrangeLine, HasComeAsFar}
+use Rattle.desk_stream.specs.Hearing.{lines_with, HearsBy, IsStrangeStep, IsWaiting}
 use Rattle.desk_stream.specs.Leads.{lead_of}
 use Rattle.desk_stream.specs.declared.lead.Lead.{Lead}
 use Rattle.desk_stream.specs.Reading.{counted, step_of}
@@ -77,6 +77,19 @@ module _ {D : Type 0} where
         (subst (λ (p : Progress). IsProgress now.journal p) (sym stays)
         (subst (λ (l : List Entry). IsProgress l old.progress) (sym booked) feed.waiting.come.is_progress)) within;
   }
+
+  pub come_as_far : (old new : Feeding D) → new.serving.grid ≡ old.serving.grid
+      → new.serving.journal ≡ behind old.serving.grid old.serving.journal old.pending.asked.items → new.pending.asked.items ≡ []
+      → new.pending.progress ≡ old.pending.progress → HasComeAsFar old new
+  come_as_far old new grid booked none stays = record {
+    come = ap (λ (p : Progress). take p.lines (lines_with new.serving new.pending)) stays
+        ∙ ap (take old.pending.progress.lines) same;
+    ahead = ap (λ (p : Progress). drop p.lines (lines_with new.serving new.pending)) stays
+        ∙ ap (drop old.pending.progress.lines) same;
+  }
+    where
+      same : lines_with new.serving new.pending ≡ lines_with old.serving old.pending
+      same = none_behind new.serving.grid new.serving.journal new.pending.asked.items none ∙ booked
 
   pub begun_anew : (flights served : List Flown) (serving now : Served D) (reading : Read) (desks : List Desk) (calls : List CallIndex)
       (old new : Pending) → IsFeed flights served serving reading desks calls old → now.grid ≡ serving.grid

@@ -3,7 +3,7 @@ use Rattle.std.specs.Prelude.{◌≡◌, ◌==◌, ℕ, IfSome, List, length, No
 use Rattle.airline_base.specs.Days.{IsCenturyDay}
 use Rattle.desk_calls.specs.declared.call_index.CallIndex.{CallIndex}
 use Rattle.desk_lines.specs.declared.desk.Desk.{Desk}
-use Rattle.desk_stream.specs.Hearing.{HearsBy, IsStrangeStep, IsWaiting}
+use Rattle.desk_stream.specs.Hearing.{ahead_of, come_to, HearsBy, IsStrangeStep, IsWaiting}
 use Rattle.desk_stream.specs.Leads.{lead_of}
 use Rattle.desk_stream.specs.Reading.{counted, step_of}
 use Rattle.desk_stream.specs.declared.hearing.Pending.{Pending}
@@ -51,6 +51,11 @@ pub record IsStrangeLine {D : Type 0} (feed : Feeding D) (line : List ℕ) : Typ
   pub step : Step
   pub step_is : (reading, step) ≡ step_of (counted feed.reading) (lead_of line)
   pub strange : IsStrangeStep step feed.flights feed.serving (reading.epoch == feed.epoch) feed.desks feed.pending line
+
+-- the feed has come to the same lines, and the same are ahead of it: how it is cut into groups does not matter
+pub record HasComeAsFar {D : Type 0} (old new : Feeding D) : Type 0 where
+  pub come : come_to new.serving new.pending ≡ come_to old.serving old.pending
+  pub ahead : ahead_of new.serving new.pending ≡ ahead_of old.serving old.pending
 
 -- all but the inventory, what is asked for and how far the feed has come is the same
 pub record IsSameFeed {D : Type 0} (old new : Feeding D) : Type 0 where

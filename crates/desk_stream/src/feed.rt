@@ -12,7 +12,7 @@ ghost use Rattle.seat_serving.specs.declared.serving.ServeFault.TheVariants.{Dev
 ghost use Rattle.desk_answers.specs.Hosts.{IsReady};
 ghost use Rattle.desk_feed.specs.Progress.{IsProgress};
 ghost use Rattle.desk_hall.specs.Booking.{IsBehindSome};
-ghost use Rattle.desk_stream.specs.Feeds.{IsBegun, IsHeard, IsSameFeed, IsStrangeLine};
+ghost use Rattle.desk_stream.specs.Feeds.{HasComeAsFar, IsBegun, IsHeard, IsSameFeed, IsStrangeLine};
 ghost use Rattle.desk_stream.specs.Hearing.{IsSamePending};
 ghost use Rattle.desk_stream.specs.Telling.{IsFeedTurn};
 ghost use Rattle.desk_stream.specs.declared.hearing.FeedFault.TheVariants.{Strange as Stranger};
@@ -185,13 +185,14 @@ impl<'a, D: Tape> Feed<'a, D> {
 
     /// Books what the lines that were heard ask for, in their order and in groups: it is on the disk and visible. Where memory is wanting
     /// or the file fails, what is behind the first that has no line is not booked, and the feed has come to nothing.
-    #[tactic(auto, using(crate::proofs::Feeds::answered, crate::proofs::Feeds::begun_anew))]
+    #[tactic(auto, using(crate::proofs::Feeds::answered, crate::proofs::Feeds::begun_anew, crate::proofs::Feeds::come_as_far))]
     pub fn answer<R: Wait>(&mut self, rt: &R, alloc: Global) -> Result<(), ServeFault>
         requires ready { IsReady D.seen D.may_leave D.unsynced self.old.serving }
         ensures booked { OnOk result (self.new.serving.journal
             ≡ behind self.old.serving.grid self.old.serving.journal self.old.pending.asked.items) }
         ensures none { self.new.pending.asked.items ≡ [] }
         ensures come { OnOk result (self.new.pending.progress ≡ self.old.pending.progress) }
+        ensures far { OnOk result (HasComeAsFar self.old self.new) }
         ensures ready { OnOk result (IsReady D.seen D.may_leave D.unsynced self.new.serving) }
         ensures memory { IfErr result (λ f. f ≡ NoMemory → IsReady D.seen D.may_leave D.unsynced self.new.serving
             × IsBehindSome self.old.serving.grid self.old.serving.journal self.old.pending.asked.items self.new.serving.journal) }
