@@ -5,7 +5,7 @@
 
 FOLDER is on the disk that is measured; a second table is of /dev/shm, where a sync costs nothing. Over a season of N dated flights (93,000) by benches/season.py and limits
 by benches/journal.py: what a sync of one line costs there; one desk with one line in flight; eight desks with 32 lines each in flight; looks of
-a ninth client, one in flight, while eight desks book; how long a host takes from its start to the first READY over a journal of N lines (900,000), beside `audit` of it.
+a ninth client, one in flight, in a process of its own, while eight desks book; how long a host takes from its start to the first READY over a journal of N lines (900,000), beside `audit` of it.
 Each reply is read and counted by the clients; replies a second are over the time from the first line sent to the last reply read.
 """
 import argparse
@@ -99,8 +99,8 @@ class Seller:
                 sys.exit(line.decode())
 
 
-def sell(sellers, seconds, also=None):
-    """Lets desks book for so long, and then reads what is due; also() is called in between. Replies a second, and how long each waited."""
+def sell(sellers, seconds):
+    """Lets desks book for so long, and then reads what is due. Replies a second, and how long each waited."""
     began = time.monotonic()
     outs = {seller.client.out: seller for seller in sellers}
     poll = select.poll()
@@ -111,8 +111,6 @@ def sell(sellers, seconds, also=None):
             seller.go_on()
         for out, _ in poll.poll(1000):
             outs[out].hear()
-        if also:
-            also()
     while any(seller.sent for seller in sellers):
         for out, _ in poll.poll(60_000):
             outs[out].hear()
@@ -121,20 +119,30 @@ def sell(sellers, seconds, also=None):
 
 
 class Looker:
-    """A client that looks, one look in flight."""
+    """A client in a process of its own that looks for so long, one look in flight, and rests for a millisecond behind each."""
 
-    def __init__(self, client, line):
-        self.client, self.line, self.sent, self.taken = client, line, None, []
+    def __init__(self, client, line, seconds):
+        self.told, into = os.pipe()
+        self.child = os.fork()
+        if self.child == 0:
+            taken, until = [], time.monotonic() + seconds
+            while time.monotonic() < until:
+                sent = time.monotonic()
+                client.send(line)
+                while not any(it.startswith(b"LOOK ") for it in client.lines()):
+                    pass
+                taken.append(time.monotonic() - sent)
+                time.sleep(0.001)
+            with open(into, "w", encoding="ascii") as out:
+                out.write("\n".join(map(repr, taken)))
+            os._exit(0)
+        os.close(into)
 
-    def __call__(self):
-        if self.sent is None:
-            self.sent = time.monotonic()
-            self.client.send(self.line)
-        elif select.select([self.client.out], [], [], 0)[0]:
-            for line in self.client.lines():
-                if line.startswith(b"LOOK "):
-                    self.taken.append(time.monotonic() - self.sent)
-                    self.sent = None
+    def taken(self):
+        with open(self.told, encoding="ascii") as it:
+            taken = [float(line) for line in it]
+        os.waitpid(self.child, 0)
+        return taken
 
 
 class Host:
@@ -170,11 +178,12 @@ def table(program, inputs, folder, asked):
         host = Host(program, inputs, folder, f"journal-{desks}-{window}", desks)
         host.started()
         sellers = [Seller(client, requests(f"{inputs}/season", MOST // desks, client.desk), window) for client in host.clients[1:]]
-        looks = Looker(host.clients[0], b"? XX1Y10JUN %s\n" % first_pair(inputs)) if desks == 8 else None
-        rate, waited = sell(sellers, asked.seconds, looks)
+        looker = Looker(host.clients[0], b"? XX1Y10JUN %s\n" % first_pair(inputs), asked.seconds) if desks == 8 else None
+        rate, waited = sell(sellers, asked.seconds)
         print(f"| {desks} desk{'s' * (desks > 1)}, {window} line{'s' * (window > 1)} in flight | {rate:,.0f} | {percentile(waited, 0.5):.2f} ms | {percentile(waited, 0.99):.2f} ms |")
-        if looks:
-            print(f"| looks beside them | {len(looks.taken) / asked.seconds:,.0f} | {percentile(looks.taken, 0.5):.2f} ms | {percentile(looks.taken, 0.99):.2f} ms |")
+        if looker:
+            looks = looker.taken()
+            print(f"| looks beside them | {len(looks) / asked.seconds:,.0f} | {percentile(looks, 0.5):.2f} ms | {percentile(looks, 0.99):.2f} ms |")
         host.end()
         for left in ("", ".seal"):
             os.unlink(f"{folder}/journal-{desks}-{window}{left}")

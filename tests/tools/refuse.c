@@ -21,6 +21,7 @@
  *   KILL_WRITE=N     the Nth write takes half of its bytes, and the process is killed (SIGKILL)
  *   KILL_SYNC=N      the process is killed ahead of the Nth fsync or fdatasync, and likewise
  *   KILL_TRUNCATE=N, KILL_LINK=N, KILL_RENAME=N, KILL_UNLINK=N, KILL_LOCK=N, KILL_CHMOD=N
+ *   HOLD_SYNC=FILE   each fsync or fdatasync waits as long as FILE is there
  *   SLOW_RENAME=MS   each rename waits so many milliseconds, and
  *   SLOW_LOCK=MS     each flock
  *   REFUSE_MET=FILE  FILE is made once the Nth call was met
@@ -53,7 +54,7 @@ extern void *__libc_memalign(size_t, size_t);
 
 static long refuse_alloc, fail_read, fail_write, short_read, short_write, zero_write, one_byte, fail_stat, kill_write;
 static int fail_error = EIO;
-static const char *met_file;
+static const char *met_file, *hold_file;
 static atomic_bool in_main;
 static atomic_long allocs, reads, writes, looks;
 
@@ -108,6 +109,7 @@ static int counted_main(int count, char **words, char **environment) {
         deeds[i]->wait = deeds[i]->waits ? number_of(deeds[i]->waits) : 0;
     }
     met_file = getenv("REFUSE_MET");
+    hold_file = getenv("HOLD_SYNC");
     if (number_of("FAIL_ERROR"))
         fail_error = (int)number_of("FAIL_ERROR");
     atomic_store(&in_main, 1);
@@ -262,8 +264,23 @@ static int is_failed(struct deed *deed) {
     return turn == deed->fail;
 }
 
-int fsync(int file) { return is_failed(&syncs) ? (int)failed() : (int)syscall(SYS_fsync, file); }
-int fdatasync(int file) { return is_failed(&syncs) ? (int)failed() : (int)syscall(SYS_fdatasync, file); }
+/* Waits as long as a sync is held. */
+static void wait_held(void) {
+    int kept = errno;
+    while (atomic_load(&in_main) && hold_file && syscall(SYS_faccessat, AT_FDCWD, hold_file, F_OK) == 0)
+        nanosleep(&(struct timespec){.tv_nsec = 1000000}, NULL);
+    errno = kept;
+}
+
+int fsync(int file) {
+    wait_held();
+    return is_failed(&syncs) ? (int)failed() : (int)syscall(SYS_fsync, file);
+}
+
+int fdatasync(int file) {
+    wait_held();
+    return is_failed(&syncs) ? (int)failed() : (int)syscall(SYS_fdatasync, file);
+}
 
 int ftruncate(int file, off_t size) { return is_failed(&truncates) ? (int)failed() : (int)syscall(SYS_ftruncate, file, size); }
 int ftruncate64(int file, off64_t size) { return ftruncate(file, size); }

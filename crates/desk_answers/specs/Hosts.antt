@@ -1,9 +1,11 @@
 -- An open host and the desk that talks with it.
-use Rattle.std.specs.Prelude.{◌≡◌, ◌≤◌, ℕ, IsTrue, List, Option}
+use Rattle.std.specs.Prelude.{◌≡◌, ◌≤◌, ℕ, All, IsTrue, List, Option}
+use Rattle.logbook.specs.Pages.{Book}
 use Rattle.airline_base.specs.Days.{IsCenturyDay}
 use Rattle.desk_lines.specs.declared.desk.Desk.{Desk}
 use Rattle.ssim_flights.specs.declared.flight.Flight.{Flight as Flown}
 use Rattle.seat_desk.specs.Loading.{IsGridOf}
+use Rattle.seat_display.specs.Faces.{opened, Viewed}
 use Rattle.seat_nesting.specs.Nesting.{Ladders}
 use Rattle.seat_serving.specs.Served.{Served, IsOnDisk}
 
@@ -28,3 +30,8 @@ pub record IsReady {D : Type 0} (seen : D → Option (List ℕ)) (leaves : D →
   pub kept_is : s.kept ≡ s.journal
   pub disk : IsOnDisk s.journal (seen s.tape) (leaves s.tape)
   pub synced : unsynced s.tape ≡ 0
+
+-- viewers of one table over these limits, which have seen nothing
+pub record AreViewers (grid : Ladders) (viewers : List Viewed) : Type 0 where
+  pub book : Book
+  pub each : All (λ v. v ≡ opened book grid) viewers

@@ -36,20 +36,20 @@ left_text state None class = codes "-"
 abbrev pub flight_text : FlightClass → List ℕ
 flight_text flight = flight.airline ++ decimal flight.number ++ suffix_text flight.suffix
 
--- LOOK, how many lines the journal has, the flight, the day and the stations
-pub record IsAhead (journal : List Entry) (look : Look) (flight text : List ℕ) : Type 0 where
+-- LOOK, how many lines were seen, the flight, the day and the stations
+pub record IsAhead (count : ℕ) (look : Look) (flight text : List ℕ) : Type 0 where
   pub day : List ℕ
   pub is_day : IsDateText look.day day
-  pub written : text ≡ codes "LOOK " ++ decimal (length journal) ++ codes " " ++ flight ++ codes " " ++ day ++ codes " "
+  pub written : text ≡ codes "LOOK " ++ decimal count ++ codes " " ++ flight ++ codes " " ++ day ++ codes " "
       ++ look.board ++ look.off
 
--- and then the seats that are left in a class after those lines
-pub record IsLookLine (flights : List Flown) (grid : Ladders) (journal : List Entry) (flight : FlightClass) (look : Look)
+-- and then the seats that are left in a class where so many lines leave this
+pub record IsLookLine (flights : List Flown) (state : State) (count : ℕ) (flight : FlightClass) (look : Look)
     (text : List ℕ) : Type 0 where
   pub ahead : List ℕ
-  pub is_ahead : IsAhead journal look (flight_text flight) ahead
+  pub is_ahead : IsAhead count look (flight_text flight) ahead
   pub written : text ≡ ahead ++ codes " "
-      ++ left_text (replay grid journal) (place_wanted flights (wanted_at flight look)) flight.class ++ codes "\n"
+      ++ left_text state (place_wanted flights (wanted_at flight look)) flight.class ++ codes "\n"
 
 -- ---- each flight of a day
 
@@ -73,39 +73,53 @@ abbrev pub classes_text : Ladders → State → Place → List ℕ
 classes_text grid state place = flat_map (class_text state place) (ladder_at grid place.flight place.from)
 
 -- the line of a place of a flight
-pub record IsPlaceLine (grid : Ladders) (journal : List Entry) (look : Look) (flight : Flown) (place : Place) (text : List ℕ)
-    : Type 0 where
+pub record IsPlaceLine (grid : Ladders) (state : State) (count : ℕ) (look : Look) (flight : Flown) (place : Place)
+    (text : List ℕ) : Type 0 where
   pub ahead : List ℕ
-  pub is_ahead : IsAhead journal look (designator_text flight) ahead
-  pub written : text ≡ ahead ++ classes_text grid (replay grid journal) place ++ codes "\n"
+  pub is_ahead : IsAhead count look (designator_text flight) ahead
+  pub written : text ≡ ahead ++ classes_text grid state place ++ codes "\n"
 
 -- none where it is another flight's place
-abbrev pub IsOwnLine : Ladders → List Entry → Look → Flown → Place → Bool → List ℕ → Type 0
-IsOwnLine grid journal look flight place true text = IsPlaceLine grid journal look flight place text
-IsOwnLine grid journal look flight place false text = text ≡ []
+abbrev pub IsOwnLine : Ladders → State → ℕ → Look → Flown → Place → Bool → List ℕ → Type 0
+IsOwnLine grid state count look flight place true text = IsPlaceLine grid state count look flight place text
+IsOwnLine grid state count look flight place false text = text ≡ []
 
-abbrev pub IsFoundLine : Ladders → List Entry → Look → ℕ → Flown → Option Place → List ℕ → Type 0
-IsFoundLine grid journal look i flight (Some place) text = IsOwnLine grid journal look flight place (place.flight == i) text
-IsFoundLine grid journal look i flight None text = text ≡ []
+abbrev pub IsFoundLine : Ladders → State → ℕ → Look → ℕ → Flown → Option Place → List ℕ → Type 0
+IsFoundLine grid state count look i flight (Some place) text =
+    IsOwnLine grid state count look flight place (place.flight == i) text
+IsFoundLine grid state count look i flight None text = text ≡ []
 
 -- the line of flight i: a request for what is looked at on it is answered from a place of its own
-abbrev pub IsFlightLine : List Flown → Ladders → List Entry → Look → ℕ → Flown → List ℕ → Type 0
-IsFlightLine flights grid journal look i flight text =
-    IsFoundLine grid journal look i flight (place_wanted flights (wanted_on flight look)) text
+abbrev pub IsFlightLine : List Flown → Ladders → State → ℕ → Look → ℕ → Flown → List ℕ → Type 0
+IsFlightLine flights grid state count look i flight text =
+    IsFoundLine grid state count look i flight (place_wanted flights (wanted_on flight look)) text
 
 -- of no flight
-pub record IsNoneLine (journal : List Entry) (look : Look) (text : List ℕ) : Type 0 where
+pub record IsNoneLine (count : ℕ) (look : Look) (text : List ℕ) : Type 0 where
   pub ahead : List ℕ
-  pub is_ahead : IsAhead journal look (codes "-") ahead
+  pub is_ahead : IsAhead count look (codes "-") ahead
   pub written : text ≡ ahead ++ codes " -\n"
 
 -- the lines, or where there are none that of no flight
-abbrev pub IsSaidOf : List Entry → Look → List ℕ → List ℕ → Type 0
-IsSaidOf journal look [] text = IsNoneLine journal look text
-IsSaidOf journal look (c ∷ lines) text = text ≡ c ∷ lines
+abbrev pub IsSaidOf : ℕ → Look → List ℕ → List ℕ → Type 0
+IsSaidOf count look [] text = IsNoneLine count look text
+IsSaidOf count look (c ∷ lines) text = text ≡ c ∷ lines
 
 -- the lines of all flights, counted from 0
-pub record IsDayLook (flights : List Flown) (grid : Ladders) (journal : List Entry) (look : Look) (text : List ℕ) : Type 0 where
+pub record IsDayLook (flights : List Flown) (grid : Ladders) (state : State) (count : ℕ) (look : Look) (text : List ℕ)
+    : Type 0 where
   pub lines : List ℕ
-  pub are_lines : IsText (IsFlightLine flights grid journal look) 0 flights lines
-  pub said : IsSaidOf journal look lines text
+  pub are_lines : IsText (IsFlightLine flights grid state count look) 0 flights lines
+  pub said : IsSaidOf count look lines text
+
+-- ---- the whole
+
+-- a class of a flight is looked at, or each class of each flight of a day, where so many lines leave this
+abbrev pub IsSeen : List Flown → Ladders → State → ℕ → Option FlightClass → Look → List ℕ → Type 0
+IsSeen flights grid state count (Some flight) look text = IsLookLine flights state count flight look text
+IsSeen flights grid state count None look text = IsDayLook flights grid state count look text
+
+-- after the lines of a journal
+abbrev pub IsLooked : List Flown → Ladders → List Entry → Look → List ℕ → Type 0
+IsLooked flights grid journal look text =
+    IsSeen flights grid (replay grid journal) (length journal) look.flight look text

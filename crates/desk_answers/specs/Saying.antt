@@ -1,7 +1,5 @@
 -- What a desk is answered, by what its line means.
 use Rattle.std.specs.Prelude.{◌≡◌, ◌⊎◌, ℕ, ◌+◌, ◌==◌, Bool, true, false, nat_lt, List, [], ◌∷◌, ◌++◌, length, Option, Some, None}
-use Rattle.airimp_lines.specs.declared.look.FlightClass.{FlightClass}
-use Rattle.airimp_lines.specs.declared.look.Look.{Look as Looked}
 use Rattle.airimp_lines.specs.declared.requests.Request.{Request as Wish}
 use Rattle.desk_lines.specs.Lines.{next_number, Hears}
 use Rattle.desk_lines.specs.declared.desk.Desk.{Desk}
@@ -22,7 +20,7 @@ use Rattle.seat_scripts.specs.RunDesk.{IsAnswer}
 use Rattle.seat_scripts.specs.VeryRequest.{IsVeryRequest}
 use Rattle.desk_answers.specs.FaultLines.{full_line, wrong_call_line, wrong_line}
 use Rattle.desk_answers.specs.Hosts.{Attended}
-use Rattle.desk_answers.specs.Looks.{IsDayLook, IsLookLine}
+use Rattle.desk_answers.specs.Looks.{IsLooked}
 use Rattle.desk_answers.specs.Ready.{IsReadyLine}
 use Rattle.desk_answers.specs.declared.heard.Heard.{Heard}
 
@@ -71,17 +69,12 @@ IsCalled false flights grid cap session number past journal wish text =
 
 -- ---- what is said
 
--- a class of a flight is looked at, or each class of each flight of a day
-abbrev pub IsLooked : List Flown → Ladders → List Entry → Option FlightClass → Looked → List ℕ → Type 0
-IsLooked flights grid journal (Some flight) look text = IsLookLine flights grid journal flight look text
-IsLooked flights grid journal None look text = IsDayLook flights grid journal look text
-
 -- what is said of a line that asks for no seats; of one that does, nothing
 abbrev pub SaysQuiet : List Flown → Ladders → ℕ → ℕ → ℕ → List Entry → Meaning → List ℕ → Type 0
 SaysQuiet flights grid session today number journal Nothing text = text ≡ []
 SaysQuiet flights grid session today number journal (Request wish) text = text ≡ []
 SaysQuiet flights grid session today number journal (Call call wish) text = text ≡ []
-SaysQuiet flights grid session today number journal (Look look) text = IsLooked flights grid journal look.flight look text
+SaysQuiet flights grid session today number journal (Look look) text = IsLooked flights grid journal look text
 SaysQuiet flights grid session today number journal (Again behind) text =
     AreTold flights session (told_behind journal session behind) text
 SaysQuiet flights grid session today number journal (Hello name) text =

@@ -10,16 +10,15 @@ ghost use Rattle.seat_rules.specs.Journal.{calls_of};
 ghost use Rattle.seat_rules.specs.Prefixes.{Begins};
 ghost use Rattle.desk_answers.specs.Hosts.{IsReady};
 ghost use Rattle.desk_answers.specs.Ready.{IsReadyLine};
-ghost use Rattle.desk_answers.specs.Saying.{stays_behind, IsLooked, IsUntoldOf, Says, SaysQuiet};
+ghost use Rattle.desk_answers.specs.Saying.{stays_behind, IsUntoldOf, Says, SaysQuiet};
 ghost use Rattle.desk_answers.specs.declared.heard.HearFault.TheVariants.{Memory as NoMemory, Untold, Device};
 
 use crate::asking::ask;
 use crate::calling::call;
 use crate::faults::{wrong_call_line, wrong_line};
 use crate::heard::{HearFault, Heard};
-use crate::looking::{day_lines, look_line};
+use crate::looking::seen;
 use crate::ready::ready_line;
-use airimp_lines::Look;
 use airline_base::{Day, Locator, Memory};
 use desk_calls::CallIndex;
 use desk_lines::{Desk, Meaning};
@@ -112,7 +111,7 @@ pub fn quiet_answer<D: Tape>(
         serving.now.journal meaning.now text.items) }
 {
     match meaning {
-        Meaning::Look(look) => looked(alloc, flights, served, serving, look),
+        Meaning::Look(look) => seen(alloc, flights, served, serving, look),
         Meaning::Again(behind) => told_again(alloc, flights, serving, session, *behind),
         Meaning::Hello(name) => greeting(alloc, serving, session, *name, desk.today),
         Meaning::Wrong(wrong) => wrong_line(alloc, *wrong, session, desk.lines),
@@ -160,23 +159,4 @@ fn greeting<D: Tape>(
     let lines = serving.journal().len() as u32;
     let line = ready_line(Some(name), session, lines, serving.calls_of(session), today);
     Ok(Vec::from_slice(alloc, line.as_slice())?)
-}
-
-// The lines that answer a look.
-fn looked<D: Tape>(
-    alloc: Global,
-    flights: &Flights,
-    served: &Served<'_>,
-    serving: &Serving<D>,
-    look: &Look,
-) -> Result<Vec<u8>, Memory>
-    requires served { served.now ≡ flights.now }
-    requires grid { IsGridOf flights.now serving.now.grid }
-    ensures { IfOk result (λ text. IsLooked flights.now serving.now.grid serving.now.journal look.now.flight look.now
-        text.items) }
-{
-    match &look.flight {
-        Some(flight) => look_line(alloc, served, serving, flight, look),
-        None => day_lines(alloc, flights, served, serving, look),
-    }
 }

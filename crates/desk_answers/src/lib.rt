@@ -13,10 +13,13 @@ mod looking;
 mod open_host;
 mod placing;
 mod ready;
+mod seats;
 
 pub use asking::asked_by;
 pub use faults::{full_line, memory_line, wrong_call_line};
 pub use heard::{HearFault, Heard};
 pub use hearing::quiet_answer;
+pub use looking::seen;
 pub use open_host::OpenHost;
 pub use ready::ready_line;
+pub use seats::Seats;

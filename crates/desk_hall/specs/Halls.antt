@@ -1,5 +1,5 @@
 -- A host of several desks, and what a line of one of them leaves.
-use Rattle.std.specs.Prelude.{◌≡◌, ◌≤◌, ◌-◌, ◌+◌, ℕ, Bool, List, [], ◌∷◌, ◌++◌, length, set, slice_get, Some}
+use Rattle.std.specs.Prelude.{◌≡◌, ◌≤◌, ◌-◌, ◌+◌, ◌^◌, ◌==◌, ℕ, min, Bool, true, false, List, [], ◌∷◌, ◌++◌, length, set, slice_get, Some}
 use Rattle.std.specs.Prelude.{option_to_list}
 use Rattle.airline_base.specs.Days.{IsCenturyDay}
 use Rattle.desk_answers.specs.Saying.{HasHeard}
@@ -103,3 +103,26 @@ pub record IsUnheard {D : Type 0} (old new : Hallful D) (session : ℕ) (line : 
   pub same_host : IsSameHost old new
   pub asked_is : new.asked ≡ old.asked
   pub turns_are : new.turns ≡ old.turns
+
+-- lines count up to the highest number
+abbrev pub lines_behind : ℕ → ℕ → ℕ
+lines_behind lines more = min (lines + more) (2 ^ 32 - 1)
+
+-- a desk has said so many lines more
+abbrev pub counted : Desk → ℕ → Desk
+counted desk more = record desk { lines = lines_behind desk.lines more }
+
+-- the manager has, or a session's desk
+abbrev pub IsCounted : Bool → Desk → Desk → List Desk → List Desk → ℕ → ℕ → Type 0
+IsCounted true was manager old new session more = (manager ≡ counted was more) × (new ≡ old)
+IsCounted false was manager old new session more =
+    (manager ≡ was) × (desk : Desk) × (slice_get old (session - 1) ≡ Some desk)
+    × (new ≡ set old (session - 1) (counted desk more))
+
+-- so many lines of it were answered where they were read
+pub record IsPassed {D : Type 0} (old new : Hallful D) (session more : ℕ) : Type 0 where
+  pub counted_is : IsCounted (session == 0) old.manager new.manager old.desks new.desks session more
+  pub same_host : IsSameHost old new
+  pub asked_is : new.asked ≡ old.asked
+  pub turns_are : new.turns ≡ old.turns
+  pub count_is : length new.desks ≡ length old.desks

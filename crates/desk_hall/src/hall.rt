@@ -13,7 +13,7 @@ ghost use Rattle.seat_serving.specs.Answering.{behind};
 ghost use Rattle.seat_serving.specs.declared.serving.ServeFault.TheVariants.{Device, Memory as NoMemory};
 ghost use Rattle.desk_answers.specs.Hosts.{IsReady};
 ghost use Rattle.desk_hall.specs.Booking.{IsBehindSome};
-ghost use Rattle.desk_hall.specs.Halls.{HasHeardLine, IsHeardBy, IsOrdered, IsSameHall, IsUnheard, IsUnordered};
+ghost use Rattle.desk_hall.specs.Halls.{lines_behind, HasHeardLine, IsHeardBy, IsOrdered, IsPassed, IsSameHall, IsUnheard, IsUnordered};
 ghost use Rattle.desk_lines.specs.Lines.{IsRightMeaning};
 ghost use Rattle.desk_hall.specs.Telling.{IsTurn};
 
@@ -139,6 +139,20 @@ impl<'a, D: Tape> Hall<'a, D> {
             return self.manager.lines;
         }
         desk_at(self.desks.as_slice(), session).lines
+    }
+
+    /// Counts so many lines of a session's desk, or of the manager, which were answered where they were read.
+    pub fn pass(&mut self, session: u8, count: u32)
+        requires session { session ≤ length self.old.desks }
+        ensures counted { IsPassed self.old self.new session count }
+    {
+        if session == 0 {
+            self.manager.lines = lines_behind(self.manager.lines, count);
+            return;
+        }
+        let mut desk = desk_at(self.desks.as_slice(), session);
+        desk.lines = lines_behind(desk.lines, count);
+        self.desks[usize::from(session) - 1] = desk;
     }
 
     /// The inventory with its file; the desks are over.
@@ -303,6 +317,13 @@ impl<'a, D: Tape> Hall<'a, D> {
     {
         self.turns.clear();
     }
+}
+
+// How many lines a desk has said behind so many more.
+fn lines_behind(lines: u32, more: u32) -> u32
+    ensures { result ≡ lines_behind lines more }
+{
+    lines.saturating_add(more)
 }
 
 // A session's desk hears a line on a day.

@@ -1,3 +1,4 @@
 pub mod Cutting
 pub mod Files
 pub mod Waiting
+pub mod Watching

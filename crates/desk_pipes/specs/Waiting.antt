@@ -1,5 +1,5 @@
 -- Lines that wait for the host, and texts that wait for a desk.
-use Rattle.std.specs.Prelude.{◌≡◌, ℕ, Bool, true, false, nat_le, nat_lt, List, ◌++◌, codes, length, Option, Some, None}
+use Rattle.std.specs.Prelude.{◌≡◌, ℕ, ◌==◌, Bool, true, false, nat_le, nat_lt, List, ◌++◌, codes, length, Option, Some, None}
 
 -- the most lines of a desk that are not answered
 abbrev pub most_open : ℕ
@@ -14,6 +14,11 @@ abbrev pub may_say : Bool → Option ℕ → Bool
 may_say true unanswered = false
 may_say false None = false
 may_say false (Some unanswered) = nat_lt unanswered most_open
+
+-- whether each line that a desk has said is answered
+abbrev pub is_settled : Option ℕ → Bool
+is_settled None = true
+is_settled (Some unanswered) = unanswered == 0
 
 -- what waits for a desk behind a text, and whether a text was left out: where too much waits that is said once, and then nothing more
 abbrev pub text_told : Bool → Bool → List ℕ → List ℕ → List ℕ

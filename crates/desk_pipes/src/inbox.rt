@@ -1,6 +1,6 @@
 //! Lines that wait for the host, in the order in which they came.
 ghost use Rattle.std.specs.Prelude.{◌≡◌, ◌&&◌, ◌∷◌, ◌++◌, ◌+◌, ◌<◌, [], IfOk, nat_lt, slice_get, if◌then◌else◌, vec_capacity, vec_len};
-ghost use Rattle.desk_pipes.specs.Waiting.{may_say};
+ghost use Rattle.desk_pipes.specs.Waiting.{is_settled, may_say};
 
 use crate::cutting::HeldLine;
 use airline_base::Memory;
@@ -21,6 +21,8 @@ pub struct Said {
     pub line: HeldLine,
     /// Whether it was said ahead of the host's start, as far as that is known.
     pub is_earlier: bool,
+    /// How many lines of the desk were answered where they were read, behind the last that waited and ahead of this one.
+    pub passed: u32,
 }
 
 /// What lies under the lock.
@@ -39,6 +41,13 @@ impl Waiting {
     {
         may_say(self.is_over, count_of(&self.unanswered, session))
             && self.said.len() < self.said.capacity()
+    }
+
+    // Whether each line of a session is answered.
+    fn is_settled(&self, session: u8) -> bool
+        ensures { result ≡ is_settled (slice_get self.now.unanswered session) }
+    {
+        is_settled(count_of(&self.unanswered, session))
     }
 
     // Whether the line waits: it stands behind all that do.
@@ -89,6 +98,15 @@ fn may_say(is_over: bool, unanswered: Option<u32>) -> bool
     match unanswered {
         Some(count) => !is_over && count < MOST_OPEN,
         None => false,
+    }
+}
+
+fn is_settled(unanswered: Option<u32>) -> bool
+    ensures { result ≡ is_settled unanswered }
+{
+    match unanswered {
+        Some(count) => count == 0,
+        None => true,
     }
 }
 
@@ -153,6 +171,17 @@ impl Inbox {
         waiting.answered(said);
         drop(waiting);
         self.answered.notify_all();
+    }
+
+    /// Waits until each line that a session has said is answered.
+    pub fn settle<R: Wait>(&self, rt: &R, session: u8) {
+        let guard = self.waiting.lock(rt);
+        let waiting = self.answered.wait_while(
+            rt,
+            guard,
+            |waiting| !waiting.is_settled(session) && !waiting.is_over,
+        );
+        drop(waiting);
     }
 
     /// Nothing more is taken in.

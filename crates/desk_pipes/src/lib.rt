@@ -7,16 +7,20 @@ mod inbox;
 pub mod laws;
 mod mark;
 mod outbox;
+mod outlook;
 mod pipe_file;
 mod post;
 mod threads;
+mod watch;
 
 pub use cutting::HeldLine;
 pub use inbox::{Inbox, Said, room_for_lines};
 pub use mark::Mark;
 pub use outbox::Outbox;
+pub use outlook::Outlook;
 pub use pipe_file::{
     PipeFault, PipeId, Role, Unopened, are_swapped, fault_of, open_pipe, pass_pair,
 };
 pub use post::Post;
-pub use threads::{mark_pipe, read_desk, start_desk, write_desk};
+pub use threads::{mark_pipe, read_desk, start_writer, write_desk};
+pub use watch::{Unwatched, Watch, Watched};

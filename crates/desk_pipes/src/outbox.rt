@@ -44,6 +44,18 @@ impl Text {
         Ok(())
     }
 
+    // Adds the last text, where there is room: nothing is added behind it, unless a client begins.
+    fn add_last(&mut self, last: &[u8]) -> Result<(), AllocError>
+        ensures text { OnOk result (self.new.bytes.items
+            ≡ text_told self.old.is_lost (is_full self.old.bytes.items) self.old.bytes.items last.now) }
+        ensures lost { self.new.is_lost ≡ true }
+        ensures memory { OnErr result (self.new.bytes.items ≡ self.old.bytes.items) }
+    {
+        let added = self.add(last);
+        self.is_lost = true;
+        added
+    }
+
     // All that waits, in its order.
     fn hand_over(&mut self, bytes: &mut Vec<u8>)
         ensures all { bytes.new ≡ self.old.bytes }
@@ -89,6 +101,14 @@ impl Outbox {
     pub fn tell<R: Wait>(&self, rt: &R, bytes: &[u8]) {
         let mut text = self.text.lock(rt);
         let _ = text.add(bytes);
+        drop(text);
+        self.came.notify_one();
+    }
+
+    /// Lets a last text wait. What is told behind it is left out.
+    pub fn tell_last<R: Wait>(&self, rt: &R, bytes: &[u8]) {
+        let mut text = self.text.lock(rt);
+        let _ = text.add_last(bytes);
         drop(text);
         self.came.notify_one();
     }

@@ -1,22 +1,25 @@
 //! The inbox of all desks and the outbox of each: that of a session stands at its number, and the manager's first.
 ghost use Rattle.std.specs.Prelude.{◌≡◌, ◌+◌, IfOk, IfNone, IfSome, None, Some, length, slice_get};
+ghost use Rattle.airline_base.specs.Days.{IsCenturyDay};
 
 use crate::inbox::Inbox;
 use crate::outbox::Outbox;
-use airline_base::Memory;
+use crate::outlook::Outlook;
+use airline_base::{Day, Memory};
 use std::alloc::Global;
-use std::sync::Wait;
+use std::sync::{Mutex, Wait};
 
 /// What the host and the desks share.
 #[derive(Drop)]
 pub struct Post {
     pub inbox: Inbox,
     pub outboxes: Vec<Outbox>,
+    outlook: Mutex<Outlook>,
 }
 
 impl Post {
-    /// For so many desks and a manager.
-    pub fn new(alloc: Global, desks: u8) -> Result<Post, Memory> {
+    /// For so many desks and a manager, whose looks go by this.
+    pub fn new(alloc: Global, desks: u8, outlook: Outlook) -> Result<Post, Memory> {
         let mut outboxes = Vec::new(alloc);
         for _ in 0..=desks {
             outboxes.push(Outbox::new(alloc))?;
@@ -24,6 +27,7 @@ impl Post {
         Ok(Post {
             inbox: Inbox::new(alloc)?,
             outboxes,
+            outlook: Mutex::new(outlook),
         })
     }
 
@@ -42,11 +46,30 @@ impl Post {
         }
     }
 
-    /// Lets a text wait for each desk, and for the manager.
-    pub fn tell_each<R: Wait>(&self, rt: &R, text: &[u8]) {
+    /// Lets a last text wait for each desk, and for the manager.
+    pub fn tell_each_last<R: Wait>(&self, rt: &R, text: &[u8]) {
         for outbox in &self.outboxes {
-            outbox.tell(rt, text);
+            outbox.tell_last(rt, text);
         }
+    }
+
+    /// The day on which lines are read, and how many lines of the journal are told.
+    pub fn outlook<R: Wait>(&self, rt: &R) -> (Day, u32)
+        ensures century { IsCenturyDay result.0 }
+    {
+        let outlook = self.outlook.lock(rt);
+        let seen = (outlook.day(), outlook.count());
+        drop(outlook);
+        seen
+    }
+
+    /// From then on looks go by this day of the years 2000 to 2099, and by so many lines, which are visible and not told yet.
+    pub fn look_on<R: Wait>(&self, rt: &R, today: Day, lines: u32)
+        requires today { IsCenturyDay today }
+    {
+        let mut outlook = self.outlook.lock(rt);
+        outlook.set(today, lines);
+        drop(outlook);
     }
 
     /// A client of a session's desk begins.

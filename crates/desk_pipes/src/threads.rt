@@ -1,11 +1,14 @@
-//! The threads of a desk: one reads its lines, one writes what it is told, and one writes a host's mark.
-ghost use Rattle.std.specs.Prelude.{◌≤◌, length};
+//! The threads of a desk: one reads its lines, one writes what it is told, and one writes a host's mark. What the first runs is here, and who starts it is above.
+ghost use Rattle.std.specs.Prelude.{◌≡◌, ◌≤◌, length, map, OnOk};
+ghost use Rattle.desk_pipes.specs.Cutting.{lines_cut, rest_cut};
+ghost use Rattle.desk_pipes.specs.Watching.{is_told};
 
 use crate::cutting::{HeldLine, cut_lines};
 use crate::inbox::Said;
 use crate::mark::{Ahead, Mark};
 use crate::outbox::Outbox;
 use crate::post::Post;
+use crate::watch::{Passed, Watch, Watched};
 use airline_base::Memory;
 use std::alloc::Global;
 use std::io::{Read, Write};
@@ -16,19 +19,12 @@ use std::{io, thread};
 /// The most that one read takes.
 const PIECE: usize = 512;
 
-/// Starts both threads of a session's desk. They end with the host, or where their pipe fails, and nobody waits for them. Where the host's
-/// mark is written to what is read, the lines ahead of it are earlier ones.
-pub fn start_desk<
-    R: Threads + Wait + Copy + Send + 'static,
-    I: Read + Send + Drop + 'static,
-    O: Write + Send + Drop + 'static,
->(
+/// Starts the thread that writes what a session's desk is told. It ends with the host, or where its pipe fails, and nobody waits for it.
+pub fn start_writer<R: Threads + Wait + Copy + Send + 'static, O: Write + Send + Drop + 'static>(
     rt: &R,
     alloc: Global,
     post: &Arc<Post, Global>,
     session: u8,
-    mark: Option<Mark>,
-    input: I,
     out: O,
 ) -> Result<(), Memory> {
     let own = *rt;
@@ -36,31 +32,10 @@ pub fn start_desk<
     if thread::spawn(rt, move || write_there(own, alloc, theirs, session, out)).is_err() {
         return Err(Memory);
     }
-    let theirs = Arc::try_clone(post)?;
-    if thread::spawn(
-        rt,
-        move || read_there(own, alloc, theirs, session, mark, input),
-    )
-    .is_err()
-    {
-        return Err(Memory);
-    }
     Ok(())
 }
 
 // A pipe that fails ends its thread alone.
-fn read_there<R: Wait + Drop, I: Read + Drop>(
-    rt: R,
-    alloc: Global,
-    post: Arc<Post, Global>,
-    session: u8,
-    mark: Option<Mark>,
-    input: I,
-) {
-    let mut input = input;
-    let _ = read_desk(&rt, alloc, &post, session, mark, &mut input);
-}
-
 fn write_there<R: Wait + Drop, O: Write + Drop>(
     rt: R,
     alloc: Global,
@@ -91,48 +66,45 @@ fn mark_there<O: Write + Drop>(mark: Mark, pipe: O) {
     let _ = pipe.write_all(mark.as_slice());
 }
 
-/// Reads a session's lines, each of which waits for the host, up to the end of what there is to read, or of the host. Where there is a
-/// mark, the lines ahead of it are earlier ones.
-pub fn read_desk<R: Wait, I: Read>(
+/// Reads a session's lines, up to the end of what there is to read, or of the host. Each waits for the host, unless it is answered here.
+/// Where there is a mark, the lines ahead of it are earlier ones, and wait; nothing behind it is read until they are answered.
+pub fn read_desk<R: Wait, I: Read, W: Watch>(
     rt: &R,
     alloc: Global,
     post: &Post,
     session: u8,
     mark: Option<Mark>,
     input: &mut I,
+    watch: &mut W,
 ) -> io::Result<()> {
     let mut line = HeldLine::new();
     let mut piece = [0u8; PIECE];
     let mut lines = Vec::with_capacity(alloc, PIECE)?;
     let mut ahead = mark.map(Ahead::of);
+    let mut passed = Passed::none();
     for _ in rt.forever() {
         let n = input.read(&mut piece)?;
         if n == 0 {
             return Ok(());
         }
         let count = pass(&mut ahead, &piece[..n]);
-        let is_open = say_lines(
+        cut(&mut line, &piece[..count], &mut lines)?;
+        let is_open = say_earlier(
             rt,
             post,
             session,
             ahead.as_ref(),
-            &mut line,
-            &piece[..count],
+            watch,
+            &mut passed,
             &mut lines,
-        )? && say_lines(
-            rt,
-            post,
-            session,
-            None,
-            &mut line,
-            &piece[count..n],
-            &mut lines,
-        )?;
-        if !is_open {
-            return Ok(());
-        }
+        );
         if ahead.is_some_and(|it| it.is_over()) {
+            post.inbox.settle(rt, session);
             ahead = None;
+        }
+        cut(&mut line, &piece[count..n], &mut lines)?;
+        if !is_open || !say_lines(rt, post, session, watch, &mut passed, &mut lines) {
+            return Ok(());
         }
     }
     unreachable!()
@@ -148,38 +120,85 @@ fn pass(ahead: &mut Option<Ahead>, piece: &[u8]) -> usize
     }
 }
 
-// Lets the lines that end in a piece wait for the host, the mark apart. Whether more may come.
-fn say_lines<R: Wait>(
-    rt: &R,
-    post: &Post,
-    session: u8,
-    ahead: Option<&Ahead>,
-    line: &mut HeldLine,
-    piece: &[u8],
-    lines: &mut Vec<HeldLine>,
-) -> io::Result<bool> {
+// The lines that end in a piece.
+fn cut(line: &mut HeldLine, piece: &[u8], lines: &mut Vec<HeldLine>) -> io::Result<()>
+    ensures lines { OnOk result (map (λ l. l.items) lines.new.items ≡ lines_cut line.old.items piece.now) }
+    ensures rest { OnOk result (line.new.items ≡ rest_cut line.old.items piece.now) }
+{
     lines.clear();
     if lines.capacity() < piece.len() {
         return Err(io::ErrorKind::Other.into());
     }
     cut_lines(line, piece, lines);
+    Ok(())
+}
+
+// Lets lines that stand ahead of a host's mark wait for the host, the mark apart. Whether more may come.
+fn say_earlier<R: Wait, W: Watch>(
+    rt: &R,
+    post: &Post,
+    session: u8,
+    ahead: Option<&Ahead>,
+    watch: &mut W,
+    passed: &mut Passed,
+    lines: &mut Vec<HeldLine>,
+) -> bool {
     for line in lines.drain(..) {
         if ahead.is_some_and(|it| it.is_mark(line.as_slice())) {
             continue;
         }
-        let is_earlier = ahead.is_some();
-        if !post.inbox.say(
-            rt,
-            Said {
-                session,
-                line,
-                is_earlier,
-            },
-        ) {
-            return Ok(false);
+        let (today, _) = post.outlook(rt);
+        watch.pass(today, line.as_slice());
+        if !say(rt, post, passed.hand_on(session, line, true, false)) {
+            return false;
         }
     }
-    Ok(true)
+    true
+}
+
+// Lets lines wait for the host that are not answered here. Whether more may come.
+fn say_lines<R: Wait, W: Watch>(
+    rt: &R,
+    post: &Post,
+    session: u8,
+    watch: &mut W,
+    passed: &mut Passed,
+    lines: &mut Vec<HeldLine>,
+) -> bool {
+    for line in lines.drain(..) {
+        let (today, told) = post.outlook(rt);
+        let watched = watch.watch(today, told, line.as_slice());
+        let is_told = tell(rt, post, session, &watched);
+        if !say(rt, post, passed.hand_on(session, line, false, is_told)) {
+            return false;
+        }
+        if let Watched::Awaited = watched {
+            post.inbox.settle(rt, session);
+        }
+    }
+    true
+}
+
+// Tells what a line is answered, where it is.
+fn tell<R: Wait>(rt: &R, post: &Post, session: u8, watched: &Watched) -> bool
+    ensures { result ≡ is_told watched.now }
+{
+    match watched {
+        Watched::Told(text) => {
+            post.tell(rt, session, text.as_slice());
+            true
+        }
+        Watched::Heard => false,
+        Watched::Awaited => false,
+    }
+}
+
+// Lets a line wait for the host, where there is one. Whether more may come.
+fn say<R: Wait>(rt: &R, post: &Post, said: Option<Said>) -> bool {
+    match said {
+        Some(said) => post.inbox.say(rt, said),
+        None => true,
+    }
 }
 
 /// Writes what a desk is told, as it comes, up to the host's end. Ahead of it stands a line that spoils what another host left in the

@@ -24,7 +24,7 @@ use Rattle.desk_serving.specs.declared.day.GroupFault.TheVariants.{Serve, Seal}
 use Rattle.desk_serving.specs.declared.serving.HostedFault.TheVariants.{Day}
 use Rattle.seat_disk.specs.Growing.{KeepsFront}
 use Rattle.seat_recovery.specs.OpenText.{open_text}
-use Rattle.desk_hall.specs.Halls.{Hallful, IsSameHall, IsUnheard, IsUnordered}
+use Rattle.desk_hall.specs.Halls.{Hallful, IsPassed, IsSameHall, IsUnheard, IsUnordered}
 use Rattle.desk_serving.proofs.Goes.{begins_on, told_ready}
 use Rattle.seat_desk.specs.declared.fault.DeskFault.{DeskFault}
 use Rattle.seat_serving.proofs.Holding.{seen_kept}
@@ -44,6 +44,9 @@ day_as day other entry seals is same = subst (λ (d : ℕ). IsOnDay d entry seal
 -- a line for which memory is wanting gives no day
 pub unordered_day : {D : Type 0} (old new : Hallful D) → IsUnordered old new → new.today ≡ old.today
 unordered_day old new is = is.same_host.today_is
+
+pub passed_day : {D : Type 0} (old new : Hallful D) (session more : ℕ) → IsPassed old new session more → new.today ≡ old.today
+passed_day old new session more is = is.same_host.today_is
 
 pub unheard_day : {D : Type 0} (old new : Hallful D) (session : ℕ) (line : List ℕ) → IsUnheard old new session line → new.today ≡ old.today
 unheard_day old new session line is = is.same_host.today_is

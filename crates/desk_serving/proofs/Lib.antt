@@ -2,3 +2,4 @@ pub mod Tallied
 pub mod Daily
 pub mod Ended
 pub mod Goes
+pub mod Passes

@@ -2,7 +2,7 @@
 use Rattle.std.specs.Prelude.{◌≡◌, ℕ, false, Option, List, IsTrue, ◌==◌, ◌&&◌, if◌then◌else◌, Bool, true, [], ◌∷◌}
 use Rattle.airline_base.specs.Noting.{noted}
 use Rattle.desk_answers.specs.Hosts.{IsReady}
-use Rattle.desk_hall.specs.Halls.{Hallful, IsHeardBy, IsOrdered}
+use Rattle.desk_hall.specs.Halls.{Hallful, IsHeardBy, IsOrdered, IsPassed}
 use Rattle.seat_disk.specs.Growing.{KeepsFront}
 use Rattle.seat_recovery.specs.OpenText.{open_text}
 use Rattle.seat_rules.specs.Prefixes.{Begins}
@@ -31,6 +31,13 @@ pub record Fails {D : Type 0} (seen : D → Option (List ℕ)) (leaves : D → L
 abbrev pub IsHeardAs : {D : Type 0} → Bool → Bool → Hallful D → Hallful D → ℕ → List ℕ → Bool → Type 0
 IsHeardAs true is_earlier old new session line goes = IsOrdered is_earlier old new line goes
 IsHeardAs false is_earlier old new session line goes = IsHeardBy old new session line × (goes ≡ true)
+
+-- it counts behind so many lines of it that were answered where they were read
+pub record IsHeardBehind {D : Type 0} (is_earlier : Bool) (old new : Hallful D) (session passed : ℕ) (line : List ℕ) (goes : Bool)
+    : Type 0 where
+  pub mid : Hallful D
+  pub is_passed : IsPassed old mid session passed
+  pub is_heard : IsHeardAs (session == 0) is_earlier mid new session line goes
 
 -- a word to the host that is no look: it begins with ? and no blank
 abbrev pub is_apart : List ℕ → Bool

@@ -2,7 +2,7 @@
 ghost use Rattle.std.specs.Prelude.{◌≡◌, ◌≤◌, ◌==◌, false, true, IfErr, IfOk, OnErr, OnOk, length};
 ghost use Rattle.desk_answers.specs.Hosts.{IsReady};
 ghost use Rattle.desk_serving.specs.Daily.{FailsBy, IsOnDay, IsSealedOn, StaysNamed};
-ghost use Rattle.desk_serving.specs.Going.{is_apart, Fails, GoesOn, IsHeardAs};
+ghost use Rattle.desk_serving.specs.Going.{is_apart, Fails, GoesOn, IsHeardBehind};
 
 use crate::day::{GroupFault, keep_day};
 use airline_base::Memory;
@@ -164,7 +164,14 @@ fn hear_one<R: Wait, D: Tape, K: Replaced>(
     if session > hall.count() {
         return Ok(true);
     }
-    if let Ok(goes_on) = hear(alloc, hall, session, one.line.as_slice(), one.is_earlier) {
+    if let Ok(goes_on) = hear(
+        alloc,
+        hall,
+        session,
+        one.passed,
+        one.line.as_slice(),
+        one.is_earlier,
+    ) {
         return Ok(goes_on);
     }
     let text = memory_line(session, hall.lines_of(session));
@@ -177,21 +184,23 @@ fn hear_one<R: Wait, D: Tape, K: Replaced>(
     }
 }
 
-// A line of the manager, or of a session's desk.
-#[tactic(auto, using(crate::proofs::Daily::unordered_day, crate::proofs::Daily::unheard_day))]
+// A line of the manager, or of a session's desk, behind those that were answered where they were read.
+#[tactic(auto, using(crate::proofs::Daily::unordered_day, crate::proofs::Daily::unheard_day, crate::proofs::Daily::passed_day, crate::proofs::Passes::ordered_behind, crate::proofs::Passes::heard_behind))]
 fn hear<D: Tape>(
     alloc: Global,
     hall: &mut Hall<'_, D>,
     session: u8,
+    passed: u32,
     line: &[u8],
     is_earlier: bool,
 ) -> Result<bool, Memory>
     requires session { session ≤ length hall.old.desks }
-    ensures heard { IfOk result (IsHeardAs (session == 0) is_earlier hall.old hall.new session line.now) }
+    ensures heard { IfOk result (IsHeardBehind is_earlier hall.old hall.new session passed line.now) }
     ensures same { hall.new.serving ≡ hall.old.serving }
     ensures count { length hall.new.desks ≡ length hall.old.desks }
     ensures memory { OnErr result (hall.new.today ≡ hall.old.today) }
 {
+    hall.pass(session, passed);
     if session == 0 {
         return hall.hear_manager(alloc, line, is_earlier);
     }
@@ -226,7 +235,7 @@ fn answer_heard<R: Wait, D: Tape, K: Replaced>(
     }
 }
 
-// Tells each desk what was heard.
+// Tells each desk what was heard. Looks go by it from then on.
 #[tactic(auto, using(crate::proofs::Goes::goes_same, crate::proofs::Goes::fails_same))]
 fn tell_heard<R: Wait, D: Tape, K: Replaced>(
     rt: &R,
@@ -242,11 +251,19 @@ fn tell_heard<R: Wait, D: Tape, K: Replaced>(
     ensures fails { IfErr result (Fails D.seen D.may_leave D.unsynced D.failure_count hall.old.serving hall.new.serving) }
     ensures day { hall.new.today ≡ hall.old.today }
 {
+    post.look_on(rt, hall.today(), lines_kept(hall));
     if tell_all(rt, alloc, hall, post, entry, seals).is_err() {
         return Err(ServeFault::Memory);
     }
     hall.end_turns();
     Ok(())
+}
+
+// How many lines the journal has. All of them are on the disk, and visible.
+fn lines_kept<D: Tape>(hall: &Hall<'_, D>) -> u32
+    ensures { result ≡ length hall.now.serving.journal }
+{
+    hall.serving().journal().len() as u32
 }
 
 // Books what was heard.

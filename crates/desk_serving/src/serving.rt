@@ -111,11 +111,11 @@ fn hosted_fault<R: Wait>(rt: &R, post: &Post, fault: GroupFault) -> HostedFault
     match fault {
         GroupFault::Serve(ServeFault::Memory) => HostedFault::Day(ServeFault::Memory),
         GroupFault::Serve(fault) => {
-            post.tell_each(rt, b"FAULT - DEVICE\n");
+            post.tell_each_last(rt, b"FAULT - DEVICE\n");
             HostedFault::Day(fault)
         }
         GroupFault::Seal(fault) => {
-            post.tell_each(rt, b"FAULT - DEVICE\n");
+            post.tell_each_last(rt, b"FAULT - DEVICE\n");
             HostedFault::Dating(fault)
         }
     }

@@ -1,6 +1,7 @@
 -- A host that opens over the journal that a file has.
 use Rattle.std.proofs.Common.{◌≡◌, inr, ℕ, List, subst, sym, ap, ◌∙◌, length, drop}
-use Rattle.std.specs.Prelude.{false, IsTrue, Option}
+use Rattle.std.specs.Prelude.{All, false, IsTrue, Option}
+use Rattle.logbook.specs.Pages.{Book}
 use Rattle.seat_journal.specs.declared.entry.Entry.{Entry}
 use Rattle.seat_seal.specs.declared.beside.Basis.{Basis}
 use Rattle.seat_seal.specs.declared.beside.Beside.{Beside}
@@ -23,7 +24,8 @@ use Rattle.seat_recovery.specs.Recovering.{IsRecovered}
 use Rattle.seat_recovery.specs.declared.rest.Rest.{Rest}
 use Rattle.seat_serving.specs.GoingOn.{GoesAside, StoodBehind}
 use Rattle.seat_serving.specs.Served.{IsOnDisk, Served}
-use Rattle.desk_answers.specs.Hosts.{Attended, IsReady}
+use Rattle.seat_display.specs.Faces.{Viewed, opened as seen_nothing}
+use Rattle.desk_answers.specs.Hosts.{AreViewers, Attended, IsReady}
 use Rattle.desk_talk.specs.Opening.{IsCutTo, IsOpened, IsTooLong}
 
 -- it answers, and all its lines are on the disk
@@ -47,6 +49,12 @@ opened {D} flights grid cap today host desk s flown session is day standing line
   grid_is = ap (λ (x : Served D). x.grid) serving ∙ over;
   cap_is = ap (λ (x : Served D). x.cap) serving ∙ most;
 }
+
+-- the viewers of what it shows
+pub are_viewers : (grid found : Ladders) (book : Book) (viewers : List Viewed) → found ≡ grid
+    → All (λ v. v ≡ seen_nothing book found) viewers → AreViewers grid viewers
+are_viewers grid found book viewers is each =
+    subst (λ (g : Ladders). AreViewers g viewers) is (record { book = book; each = each })
 
 module _ {D : Type 0} where
   -- what stood behind the lines that it has

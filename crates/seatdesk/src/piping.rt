@@ -4,7 +4,10 @@
 use crate::serving::Open;
 use crate::stating::{Status, interval_asked};
 use airline_base::Memory;
-use desk_pipes::{Mark, PipeId, Post, Role, Unopened, mark_pipe, open_pipe, pass_pair, start_desk};
+use desk_looks::{Gallery, start_reader};
+use desk_pipes::{
+    Mark, Outlook, PipeId, Post, Role, Unopened, mark_pipe, open_pipe, pass_pair, start_writer,
+};
 use desk_status::{Board, start_status};
 use seat_desk::DeskFault;
 use seat_files::Refusal;
@@ -200,11 +203,13 @@ fn fit<'a, T>(path: &'a str, answer: Result<T, Unopened>) -> Result<T, Refusal<'
     }
 }
 
-/// The inbox and the outboxes, with two threads for each desk, and the board, with one where the status is said.
+/// The inbox and the outboxes, with two threads for each desk, of which one answers its looks, and the board, with one where the status is said.
 pub fn started<R: Threads + Wait + Clock + Copy + Send + 'static>(
     threads: &R,
     alloc: Global,
     pipes: Pipes,
+    outlook: Outlook,
+    gallery: Gallery,
 ) -> Result<Shared, Memory> {
     let Pipes {
         pairs,
@@ -217,7 +222,7 @@ pub fn started<R: Threads + Wait + Clock + Copy + Send + 'static>(
     if let Some(status) = status {
         start_status(threads, &board, every, status)?;
     }
-    let post = post_started(threads, alloc, pairs, mark, marked)?;
+    let post = post_started(threads, alloc, pairs, mark, marked, outlook, gallery)?;
     Ok(Shared { post, board })
 }
 
@@ -235,8 +240,11 @@ fn post_started<R: Threads + Wait + Copy + Send + 'static>(
     pairs: Vec<Pair>,
     mark: Mark,
     marked: File,
+    outlook: Outlook,
+    gallery: Gallery,
 ) -> Result<Arc<Post, Global>, Memory> {
-    let post = Arc::new(alloc, Post::new(alloc, MOST_DESKS)?)?;
+    let post = Arc::new(alloc, Post::new(alloc, MOST_DESKS, outlook)?)?;
+    let mut gallery = gallery;
     mark_pipe(threads, mark, marked)?;
     for pair in pairs {
         let Pair {
@@ -245,7 +253,9 @@ fn post_started<R: Threads + Wait + Copy + Send + 'static>(
             out,
         } = pair;
         let ahead = if session == MANAGER { Some(mark) } else { None };
-        start_desk(threads, alloc, &post, session, ahead, input, out)?;
+        start_writer(threads, alloc, &post, session, out)?;
+        let looks = gallery.next()?;
+        start_reader(threads, alloc, &post, session, ahead, input, looks)?;
     }
     Ok(post)
 }

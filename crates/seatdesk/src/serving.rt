@@ -11,6 +11,8 @@ use crate::piping::{Pipes, desks_named, started};
 use crate::restoring::{as_beside, seal_out, tell_kept, unopened};
 use crate::stating::Status;
 use airline_base::{Day, Failures, ReadFault};
+use desk_looks::{Gallery, Season};
+use desk_pipes::Outlook;
 use desk_serving::{HostedFault, serve_desks};
 use desk_talk::{DayFault, ServedFault, TalkFault, open_host, serve_sealed};
 use seat_desk::{Based, DeskFault, Inputs, Loaded, load_based};
@@ -28,6 +30,9 @@ use std::fs;
 use std::sync::Wait;
 use std::thread::Threads;
 use std::time::Clock;
+
+/// One for the manager, and one for each desk.
+const VIEWERS: u8 = 9;
 
 /// What the words ask for besides the flights and limits.
 #[derive(Clone, Copy)]
@@ -160,12 +165,16 @@ fn serve_over<'a, R: Threads + Wait + Clock + Copy + Send + 'static>(
         Ok(today) => today,
         Err(refusal) => return Err(refusal),
     };
+    let Ok(season) = Season::shared(rt.alloc(), flights, &grid) else {
+        return Err(Refusal::from(DeskFault::Memory));
+    };
     let opened = open_host(
         waits,
         rt.alloc(),
-        &flights,
+        season.flights(),
         grid,
         today,
+        VIEWERS,
         seal,
         &basis,
         &bytes,
@@ -176,7 +185,7 @@ fn serve_over<'a, R: Threads + Wait + Clock + Copy + Send + 'static>(
     let is_unsealed = seal.text.is_none() && has_entry(&bytes);
     drop(bytes);
     tell_kept(rt, journal, beside);
-    let (host, sealed) = match opened {
+    let (host, sealed, viewers) = match opened {
         Ok(opened) => opened,
         Err(refused) => return Err(stopped(refused, journal, beside)),
     };
@@ -200,14 +209,19 @@ fn serve_over<'a, R: Threads + Wait + Clock + Copy + Send + 'static>(
             Err(refused) => Err(untalked(refused, journal, &input, &out)),
         };
     };
-    let Ok(shared) = started(waits, rt.alloc(), pipes) else {
+    let outlook = Outlook::new(host.today(), host.serving().journal().len() as u32);
+    let Ok(gallery) = Gallery::new(&season, viewers) else {
+        let _ = host.into_serving().close(waits);
+        return Err(Refusal::from(DeskFault::Memory));
+    };
+    let Ok(shared) = started(waits, rt.alloc(), pipes, outlook, gallery) else {
         let _ = host.into_serving().close(waits);
         return Err(Refusal::from(DeskFault::Memory));
     };
     let served = serve_desks(
         waits,
         rt.alloc(),
-        &flights,
+        season.flights(),
         host,
         &shared.post,
         &shared.board,

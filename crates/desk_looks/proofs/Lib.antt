@@ -1,0 +1,3 @@
+pub mod Galleries
+pub mod Tries
+pub mod Watches

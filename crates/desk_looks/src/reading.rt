@@ -1,0 +1,63 @@
+//! The thread that reads a desk's lines, and answers its looks.
+
+use crate::lookout::Lookout;
+use crate::looks::Looks;
+use airline_base::Memory;
+use desk_lines::Desk;
+use desk_pipes::{Mark, Post, Unwatched, read_desk};
+use ssim_flights::Served;
+use std::alloc::Global;
+use std::io::Read;
+use std::sync::{Arc, Wait};
+use std::thread;
+use std::thread::Threads;
+
+/// Starts the thread that reads a session's lines. It ends with the host, or where its pipe fails, and nobody waits for it. Where the host's
+/// mark is written to what is read, the lines ahead of it are earlier ones. Where memory is wanting for an index of the flights, all lines
+/// wait for the host.
+pub fn start_reader<R: Threads + Wait + Copy + Send + 'static, I: Read + Send + Drop + 'static>(
+    rt: &R,
+    alloc: Global,
+    post: &Arc<Post>,
+    session: u8,
+    mark: Option<Mark>,
+    input: I,
+    looks: Option<Looks>,
+) -> Result<(), Memory> {
+    let own = *rt;
+    let theirs = Arc::try_clone(post)?;
+    if thread::spawn(
+        rt,
+        move || read_there(own, alloc, theirs, session, mark, input, looks),
+    )
+    .is_err()
+    {
+        return Err(Memory);
+    }
+    Ok(())
+}
+
+// A pipe that fails ends its thread alone.
+fn read_there<R: Wait + Drop, I: Read + Drop>(
+    rt: R,
+    alloc: Global,
+    post: Arc<Post>,
+    session: u8,
+    mark: Option<Mark>,
+    input: I,
+    looks: Option<Looks>,
+) {
+    let mut input = input;
+    let Some(looks) = looks else {
+        let _ = read_desk(&rt, alloc, &post, session, mark, &mut input, &mut Unwatched);
+        return;
+    };
+    let (season, window) = looks.into_parts();
+    let Ok(served) = Served::new(alloc, season.flights()) else {
+        let _ = read_desk(&rt, alloc, &post, session, mark, &mut input, &mut Unwatched);
+        return;
+    };
+    let (today, _) = post.outlook(&rt);
+    let mut lookout = Lookout::new(alloc, &season, served, window, Desk::silent(today));
+    let _ = read_desk(&rt, alloc, &post, session, mark, &mut input, &mut lookout);
+}
