@@ -7,10 +7,11 @@ ghost use Rattle.desk_questions.specs.ToldDesk.{IsToldOver};
 use airline_base::Memory;
 use desk_telling::put_told_behind;
 use seat_core::Core;
-use seat_desk::{DeskFault, Loaded, Question, replayed};
+use seat_desk::{DeskFault, Loaded, Question, replayed_in_parts};
 use seat_nesting::Grid;
 use ssim_flights::Flights;
 use std::alloc::Global;
+use std::thread::Threads;
 
 /// What a desk, named by its session, is told of the lines of a journal from this number on: the replies to its own lines, and the advices
 /// to bookings of its own. A journal is refused as an audit refuses it.
@@ -29,20 +30,27 @@ impl Question for ToldOf {
 
     ghost refuses = { λ asked grid fault journal. IsUnlawful grid fault journal };
 
-    fn text(&self, alloc: Global, loaded: Loaded, journal: Vec<u8>) -> Result<Vec<u8>, DeskFault> {
+    fn text<R: Threads + Sync>(
+        &self,
+        rt: &R,
+        alloc: Global,
+        loaded: Loaded,
+        journal: Vec<u8>,
+    ) -> Result<Vec<u8>, DeskFault> {
         let Loaded {
             flights,
             rows,
             grid,
         } = loaded;
         drop(rows);
-        told_text(alloc, &flights, grid, journal, self.desk, self.from)
+        told_text(rt, alloc, &flights, grid, journal, self.desk, self.from)
     }
 }
 
 /// What the desk is told, if the bytes are a legal history over these limits.
 #[tactic(auto, using(crate::proofs::Tellings::over_journal))]
-fn told_text(
+fn told_text<R: Threads + Sync>(
+    rt: &R,
     alloc: Global,
     flights: &Flights,
     grid: Grid,
@@ -55,7 +63,7 @@ fn told_text(
     ensures fault { IfErr result (λ f. f ≢ DeskFault.Memory → IsUnlawful grid f bytes.items) }
     ensures kind { IfErr result (λ f. (f ≢ DeskFault.Device) × (f ≢ DeskFault.TooLarge)) }
 {
-    let core = replayed(alloc, grid, bytes)?;
+    let core = replayed_in_parts(rt, alloc, grid, bytes)?;
     match text_from(alloc, flights, &core, desk, from) {
         Ok(text) => Ok(text),
         Err(_) => Err(DeskFault::Memory),

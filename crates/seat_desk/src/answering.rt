@@ -14,12 +14,21 @@ use crate::streams::read_input;
 use airline_base::{NotedRead, NotedWrite, put_all};
 use seat_seal::Beside;
 use std::alloc::Global;
+use std::thread::Threads;
 
 /// Answers a question about a data set, limit rows and a journal, and writes the text. Each input is read and checked before
 /// the next is read, what stands beside the journal is compared with them ahead of the journal's own faults, and nothing is written
 /// before all are right. The first day is in 2000 to 2099, `days` is 1 to 366;
 /// a set and a journal have at most 256 MiB, limit rows at most 16 MiB. The journal's text is of either version.
-pub fn answer_question<Q: Question, S: NotedRead, L: NotedRead, J: NotedRead, W: NotedWrite>(
+pub fn answer_question<
+    R: Threads + Sync,
+    Q: Question,
+    S: NotedRead,
+    L: NotedRead,
+    J: NotedRead,
+    W: NotedWrite,
+>(
+    rt: &R,
     alloc: Global,
     question: &Q,
     inputs: &mut Inputs<S, L>,
@@ -42,7 +51,7 @@ pub fn answer_question<Q: Question, S: NotedRead, L: NotedRead, J: NotedRead, W:
         (IsAnswerOf (Q.answers question.now) beside.now S.remaining L.remaining inputs.old (J.remaining journal.old))) }
     ensures untouched { IfErr result (λ f. f ≢ DeskFault.Device → out.new ≡ out.old) }
 {
-    let text = match answered(alloc, question, inputs, journal, beside) {
+    let text = match answered(rt, alloc, question, inputs, journal, beside) {
         Ok(text) => text,
         Err(fault) => return Err(fault),
     };
@@ -53,7 +62,8 @@ pub fn answer_question<Q: Question, S: NotedRead, L: NotedRead, J: NotedRead, W:
 }
 
 /// The text that answers a question about the inputs.
-fn answered<Q: Question, S: NotedRead, L: NotedRead, J: NotedRead>(
+fn answered<R: Threads + Sync, Q: Question, S: NotedRead, L: NotedRead, J: NotedRead>(
+    rt: &R,
     alloc: Global,
     question: &Q,
     inputs: &mut Inputs<S, L>,
@@ -80,7 +90,7 @@ fn answered<Q: Question, S: NotedRead, L: NotedRead, J: NotedRead>(
         Err(fault) => return Err(fault),
     };
     agreed(beside, &based.basis, &bytes)?;
-    match question.text(alloc, based.loaded, bytes) {
+    match question.text(rt, alloc, based.loaded, bytes) {
         Ok(text) => Ok(text),
         Err(fault) => Err(fault),
     }

@@ -14,11 +14,12 @@ use crate::listing::listed;
 use crate::named::put_named;
 use crate::picking::{Wanted, picked};
 use seat_core::Core;
-use seat_desk::{DeskFault, Loaded, Question, put, replayed};
+use seat_desk::{DeskFault, Loaded, Question, put, replayed_in_parts};
 use seat_nesting::Grid;
 use seat_rules::Booking;
 use ssim_flights::Flights;
 use std::alloc::{AllocError, Global};
+use std::thread::Threads;
 
 /// The live bookings that are asked for, class by class where a flight is, and in order of number, a line each: its number, its locator unless the question names one alone,
 /// and its segment as a reply has it, with the day of its first leg, the code HK where the seats are held or HL where they wait, and the
@@ -37,20 +38,27 @@ impl<'a> Question for BookingsOf<'a> {
     ghost refuses = { λ asked grid fault journal. IsUnlawful grid fault journal };
 
     #[tactic(auto, using(seat_desk::proofs::Grounds::grid_of_rows))]
-    fn text(&self, alloc: Global, loaded: Loaded, journal: Vec<u8>) -> Result<Vec<u8>, DeskFault> {
+    fn text<R: Threads + Sync>(
+        &self,
+        rt: &R,
+        alloc: Global,
+        loaded: Loaded,
+        journal: Vec<u8>,
+    ) -> Result<Vec<u8>, DeskFault> {
         let Loaded {
             flights,
             rows,
             grid,
         } = loaded;
         drop(rows);
-        bookings_over(alloc, &flights, grid, journal, &self.wanted)
+        bookings_over(rt, alloc, &flights, grid, journal, &self.wanted)
     }
 }
 
 /// The lines of the live bookings that are asked for, if the bytes are a legal history over these limits.
 #[tactic(auto, using(crate::proofs::LiveTexts::bookings_over, crate::proofs::LiveTexts::grid_after))]
-fn bookings_over(
+fn bookings_over<R: Threads + Sync>(
+    rt: &R,
     alloc: Global,
     flights: &Flights,
     grid: Grid,
@@ -63,7 +71,7 @@ fn bookings_over(
     ensures fault { IfErr result (λ f. f ≢ DeskFault.Memory → IsUnlawful grid f bytes.items) }
     ensures kind { IfErr result (λ f. (f ≢ DeskFault.Device) × (f ≢ DeskFault.TooLarge)) }
 {
-    let core = replayed(alloc, grid, bytes)?;
+    let core = replayed_in_parts(rt, alloc, grid, bytes)?;
     match text_of(alloc, flights, &core, wanted) {
         Ok(text) => Ok(text),
         Err(_) => Err(DeskFault::Memory),

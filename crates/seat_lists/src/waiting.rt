@@ -13,11 +13,12 @@ ghost use Rattle.seat_lists.specs.Waiting.{IsWaitingLine, IsWaitingOver, IsWaiti
 use crate::named::put_named;
 use crate::picking::{Wanted, picked};
 use seat_core::Core;
-use seat_desk::{DeskFault, Loaded, Question, put, put_number, replayed};
+use seat_desk::{DeskFault, Loaded, Question, put, put_number, replayed_in_parts};
 use seat_nesting::Grid;
 use seat_rules::Booking;
 use ssim_flights::Flights;
 use std::alloc::{AllocError, Global};
+use std::thread::Threads;
 
 /// Who waits among those who are asked for: a line for each booking, in the order in which a pass would confirm them, with the seats that
 /// are lacking. A journal is refused as an audit refuses it.
@@ -35,20 +36,27 @@ impl<'a> Question for WaitingOf<'a> {
     ghost refuses = { λ asked grid fault journal. IsUnlawful grid fault journal };
 
     #[tactic(auto, using(seat_desk::proofs::Grounds::grid_of_rows))]
-    fn text(&self, alloc: Global, loaded: Loaded, journal: Vec<u8>) -> Result<Vec<u8>, DeskFault> {
+    fn text<R: Threads + Sync>(
+        &self,
+        rt: &R,
+        alloc: Global,
+        loaded: Loaded,
+        journal: Vec<u8>,
+    ) -> Result<Vec<u8>, DeskFault> {
         let Loaded {
             flights,
             rows,
             grid,
         } = loaded;
         drop(rows);
-        waiting_over(alloc, &flights, grid, journal, &self.wanted)
+        waiting_over(rt, alloc, &flights, grid, journal, &self.wanted)
     }
 }
 
 /// The lines of those who wait, if the bytes are a legal history over these limits.
 #[tactic(auto, using(crate::proofs::Waiters::waiting_over, crate::proofs::LiveTexts::grid_after))]
-fn waiting_over(
+fn waiting_over<R: Threads + Sync>(
+    rt: &R,
     alloc: Global,
     flights: &Flights,
     grid: Grid,
@@ -61,7 +69,7 @@ fn waiting_over(
     ensures fault { IfErr result (λ f. f ≢ DeskFault.Memory → IsUnlawful grid f bytes.items) }
     ensures kind { IfErr result (λ f. (f ≢ DeskFault.Device) × (f ≢ DeskFault.TooLarge)) }
 {
-    let core = replayed(alloc, grid, bytes)?;
+    let core = replayed_in_parts(rt, alloc, grid, bytes)?;
     match text_of(alloc, flights, &core, wanted) {
         Ok(text) => Ok(text),
         Err(_) => Err(DeskFault::Memory),

@@ -13,12 +13,13 @@ use crate::leg::put_leg;
 use crate::sums::{put_sums, sums_of};
 use airline_base::Day;
 use seat_core::Core;
-use seat_desk::{DeskFault, Loaded, Question, replayed};
+use seat_desk::{DeskFault, Loaded, Question, replayed_in_parts};
 use seat_lists::{Designator, keeps_flight};
 use seat_nesting::Grid;
 use seat_questions::{Bars, CityPair, keeps_day, keeps_pair};
 use ssim_flights::{DatedLeg, Flight, Flights};
 use std::alloc::{AllocError, Global};
+use std::thread::Threads;
 
 /// Which legs are asked for.
 #[derive(Clone, Copy)]
@@ -45,20 +46,27 @@ impl Question for LoadsOf {
     ghost refuses = { λ asked grid fault journal. IsUnlawful grid fault journal };
 
     #[tactic(auto, using(seat_desk::proofs::Grounds::grid_of_rows))]
-    fn text(&self, alloc: Global, loaded: Loaded, journal: Vec<u8>) -> Result<Vec<u8>, DeskFault> {
+    fn text<R: Threads + Sync>(
+        &self,
+        rt: &R,
+        alloc: Global,
+        loaded: Loaded,
+        journal: Vec<u8>,
+    ) -> Result<Vec<u8>, DeskFault> {
         let Loaded {
             flights,
             rows,
             grid,
         } = loaded;
         drop(rows);
-        loads_after(alloc, &flights, grid, journal, self)
+        loads_after(rt, alloc, &flights, grid, journal, self)
     }
 }
 
 /// The loads that a journal's text leaves, if it is that of a legal history over these limits.
 #[tactic(auto, using(seat_questions::proofs::RoomTexts::grid_kept, crate::proofs::LoadTexts::loads_of_replay))]
-fn loads_after(
+fn loads_after<R: Threads + Sync>(
+    rt: &R,
     alloc: Global,
     flights: &Flights,
     grid: Grid,
@@ -71,7 +79,7 @@ fn loads_after(
     ensures fault { IfErr result (λ f. f ≢ DeskFault.Memory → IsUnlawful grid f bytes.items) }
     ensures kind { IfErr result (λ f. (f ≢ DeskFault.Device) × (f ≢ DeskFault.TooLarge)) }
 {
-    let core = replayed(alloc, grid, bytes)?;
+    let core = replayed_in_parts(rt, alloc, grid, bytes)?;
     listed(alloc, flights, &core, asked)
 }
 

@@ -13,6 +13,7 @@ use seat_desk::{DeskFault, Loaded, Question, put, put_designator, put_number, pu
 use seat_limits::LimitRow;
 use ssim_flights::{DatedLeg, Flight, Flights};
 use std::alloc::{AllocError, Global};
+use std::thread::Threads;
 
 /// A line for each limit row that is for no leg or that later ones hide, one for each dated leg without a row, and last how many legs have a row and
 /// how many rows a leg. It asks nothing of the journal.
@@ -25,7 +26,13 @@ impl Question for Cover {
 
     ghost refuses = { λ cover grid fault journal. ⊥ };
 
-    fn text(&self, alloc: Global, loaded: Loaded, journal: Vec<u8>) -> Result<Vec<u8>, DeskFault> {
+    fn text<R: Threads + Sync>(
+        &self,
+        rt: &R,
+        alloc: Global,
+        loaded: Loaded,
+        journal: Vec<u8>,
+    ) -> Result<Vec<u8>, DeskFault> {
         let Loaded {
             flights,
             rows,

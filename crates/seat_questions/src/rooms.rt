@@ -9,10 +9,13 @@ ghost use Rattle.seat_questions.specs.Rooms.{AreRoomsAfter, IsAdded, IsFirstPart
 
 use airline_base::{Class, Day, Place, Station};
 use seat_core::Core;
-use seat_desk::{DeskFault, Loaded, Question, put, put_head, put_number, put_way, replayed};
+use seat_desk::{
+    DeskFault, Loaded, Question, put, put_head, put_number, put_way, replayed_in_parts,
+};
 use seat_nesting::{Grid, Step};
 use ssim_flights::{DatedLeg, Flight, Flights, Served, Wanted};
 use std::alloc::{AllocError, Global};
+use std::thread::Threads;
 
 /// Two stations: a board point and an off point.
 #[derive(Clone, Copy)]
@@ -52,20 +55,27 @@ impl Question for RoomsOf {
     ghost refuses = { λ asked grid fault journal. IsUnlawful grid fault journal };
 
     #[tactic(auto, using(seat_desk::proofs::Grounds::grid_of_rows))]
-    fn text(&self, alloc: Global, loaded: Loaded, journal: Vec<u8>) -> Result<Vec<u8>, DeskFault> {
+    fn text<R: Threads + Sync>(
+        &self,
+        rt: &R,
+        alloc: Global,
+        loaded: Loaded,
+        journal: Vec<u8>,
+    ) -> Result<Vec<u8>, DeskFault> {
         let Loaded {
             flights,
             rows,
             grid,
         } = loaded;
         drop(rows);
-        rooms_after(alloc, &flights, grid, journal, self)
+        rooms_after(rt, alloc, &flights, grid, journal, self)
     }
 }
 
 /// The rooms that a journal's text leaves, if it is that of a legal history over these limits.
 #[tactic(auto, using(crate::proofs::RoomTexts::grid_kept, crate::proofs::RoomTexts::rooms_of_replay))]
-fn rooms_after(
+fn rooms_after<R: Threads + Sync>(
+    rt: &R,
     alloc: Global,
     flights: &Flights,
     grid: Grid,
@@ -78,7 +88,7 @@ fn rooms_after(
     ensures fault { IfErr result (λ f. f ≢ DeskFault.Memory → IsUnlawful grid f bytes.items) }
     ensures kind { IfErr result (λ f. (f ≢ DeskFault.Device) × (f ≢ DeskFault.TooLarge)) }
 {
-    let core = replayed(alloc, grid, bytes)?;
+    let core = replayed_in_parts(rt, alloc, grid, bytes)?;
     listed(alloc, flights, &core, asked)
 }
 

@@ -51,13 +51,21 @@ pub fn flights<'a>(
     told(outcome, &[&set], &[&out])
 }
 
-pub fn cover<'a>(rt: &HostRuntime, over: &Horizon<'a>) -> Result<(), Refusal<'a>> {
+pub fn cover<'a, R: Threads + Sync>(
+    rt: &HostRuntime,
+    threads: &R,
+    over: &Horizon<'a>,
+) -> Result<(), Refusal<'a>> {
     let days = days_of(over.first, over.days)?;
-    answered(rt, over, days, &Cover, None, Looked::PLAIN)
+    answered(rt, threads, over, days, &Cover, None, Looked::PLAIN)
 }
 
 /// What a desk is told of a journal, of its first line or a later one on.
-pub fn told_of<'a>(rt: &HostRuntime, asked: &ToldJob<'a>) -> Result<(), Refusal<'a>> {
+pub fn told_of<'a, R: Threads + Sync>(
+    rt: &HostRuntime,
+    threads: &R,
+    asked: &ToldJob<'a>,
+) -> Result<(), Refusal<'a>> {
     let over = &asked.over;
     let days = days_of(over.first, over.days)?;
     let Some(desk) = session_word(asked.desk) else {
@@ -67,6 +75,7 @@ pub fn told_of<'a>(rt: &HostRuntime, asked: &ToldJob<'a>) -> Result<(), Refusal<
     let question = ToldOf { desk, from };
     asked_of(
         rt,
+        threads,
         over,
         days,
         &question,
@@ -75,8 +84,9 @@ pub fn told_of<'a>(rt: &HostRuntime, asked: &ToldJob<'a>) -> Result<(), Refusal<
     )
 }
 
-pub fn why<'a>(
+pub fn why<'a, R: Threads + Sync>(
     rt: &HostRuntime,
+    threads: &R,
     over: &Horizon<'a>,
     line: &str,
     is_open: bool,
@@ -86,7 +96,15 @@ pub fn why<'a>(
     let Some(line) = line_word(line) else {
         return Err(Refusal::from(WordFault::BadLine));
     };
-    asked_of(rt, over, days, &Why { line }, Some(journal), is_open)
+    asked_of(
+        rt,
+        threads,
+        over,
+        days,
+        &Why { line },
+        Some(journal),
+        is_open,
+    )
 }
 
 /// How a journal alone is looked at.
@@ -118,7 +136,7 @@ pub fn audit<'a, R: Threads + Sync>(
     requires days { (1 ≤ days.1) × (days.1 ≤ 366) }
 {
     if looked.is_open {
-        return answered(rt, over, days, &OpenAudit, Some(journal), looked);
+        return answered(rt, threads, over, days, &OpenAudit, Some(journal), looked);
     }
     let answer = match audited_once(rt, threads, over, &days, journal, looked) {
         Ok(answer) => answer,
@@ -257,8 +275,9 @@ pub fn seal<'a>(
 }
 
 /// The answer to a question about a journal that may be open.
-pub fn asked_of<'a, Q: Question>(
+pub fn asked_of<'a, R: Threads + Sync, Q: Question>(
     rt: &HostRuntime,
+    threads: &R,
     over: &Horizon<'a>,
     days: (Day, u16),
     question: &Q,
@@ -273,16 +292,25 @@ pub fn asked_of<'a, Q: Question>(
         is_open,
     };
     if is_open {
-        return answered(rt, over, days, &OpenQuestion { question }, journal, looked);
+        return answered(
+            rt,
+            threads,
+            over,
+            days,
+            &OpenQuestion { question },
+            journal,
+            looked,
+        );
     }
-    answered(rt, over, days, question, journal, looked)
+    answered(rt, threads, over, days, question, journal, looked)
 }
 
 /// The answer to a question about a journal, or about one without lines, with what stands beside it. A journal that a run has replaced
 /// meanwhile is read once more, with its seal, and so is an open one that the seal denies, to which the first line may just have been added: nothing is
 /// written of one that is refused.
-fn answered<'a, Q: Question>(
+fn answered<'a, R: Threads + Sync, Q: Question>(
     rt: &HostRuntime,
+    threads: &R,
     over: &Horizon<'a>,
     days: (Day, u16),
     question: &Q,
@@ -292,7 +320,7 @@ fn answered<'a, Q: Question>(
     requires first { IsOfCentury days.0 }
     requires days { (1 ≤ days.1) × (days.1 ≤ 366) }
 {
-    let answer = match answered_once(rt, over, &days, question, journal, looked) {
+    let answer = match answered_once(rt, threads, over, &days, question, journal, looked) {
         Ok(answer) => answer,
         Err(refusal) => return Err(refusal),
     };
@@ -300,7 +328,7 @@ fn answered<'a, Q: Question>(
     if !is_moved {
         return outcome;
     }
-    match answered_once(rt, over, &days, question, journal, looked) {
+    match answered_once(rt, threads, over, &days, question, journal, looked) {
         Ok(answer) => answer.outcome,
         Err(refusal) => Err(refusal),
     }
@@ -313,8 +341,9 @@ struct Answer<'a> {
     is_moved: bool,
 }
 
-fn answered_once<'a, Q: Question>(
+fn answered_once<'a, R: Threads + Sync, Q: Question>(
     rt: &HostRuntime,
+    threads: &R,
     over: &Horizon<'a>,
     days: &(Day, u16),
     question: &Q,
@@ -335,6 +364,7 @@ fn answered_once<'a, Q: Question>(
     } = texts;
     let mut out = standard_output(rt);
     let outcome = answer_question(
+        threads,
         rt.alloc(),
         question,
         &mut inputs,

@@ -17,6 +17,7 @@ use seat_words::{
     BookingsJob, HistoryJob, Horizon, LoadsJob, RoomsJob, Shape, WaitingJob, WordFault,
     locator_word,
 };
+use std::thread::Threads;
 use table_questions::{
     BookingTable, ClassSums, DaySums, FlightSums, HistoryTable, LegSums, LoadTable, PairSums,
     RoomTable, Table, TableOf, WaitingTable,
@@ -24,7 +25,11 @@ use table_questions::{
 
 /// The rooms of the places that `--day` and `--pair` keep, with bars where they are asked for. Without a journal they are those
 /// after no line.
-pub fn rooms<'a>(rt: &HostRuntime, asked: &RoomsJob<'a>) -> Result<(), Refusal<'a>> {
+pub fn rooms<'a, R: Threads + Sync>(
+    rt: &HostRuntime,
+    threads: &R,
+    asked: &RoomsJob<'a>,
+) -> Result<(), Refusal<'a>> {
     let over = &asked.over;
     let days = days_of(over.first, over.days)?;
     let rooms = RoomsOf {
@@ -36,14 +41,35 @@ pub fn rooms<'a>(rt: &HostRuntime, asked: &RoomsJob<'a>) -> Result<(), Refusal<'
     match form {
         Some(form) => {
             let table = RoomTable { rooms };
-            tabled(rt, over, days, &table, form, asked.journal, asked.is_open)
+            tabled(
+                rt,
+                threads,
+                over,
+                days,
+                &table,
+                form,
+                asked.journal,
+                asked.is_open,
+            )
         }
-        None => asked_of(rt, over, days, &rooms, asked.journal, asked.is_open),
+        None => asked_of(
+            rt,
+            threads,
+            over,
+            days,
+            &rooms,
+            asked.journal,
+            asked.is_open,
+        ),
     }
 }
 
 /// How full the legs are that `--flight`, `--day` and `--pair` keep, with bars where they are asked for, or the sums that `--by` names. Without a journal that is before the first booking.
-pub fn loads<'a>(rt: &HostRuntime, asked: &LoadsJob<'a>) -> Result<(), Refusal<'a>> {
+pub fn loads<'a, R: Threads + Sync>(
+    rt: &HostRuntime,
+    threads: &R,
+    asked: &LoadsJob<'a>,
+) -> Result<(), Refusal<'a>> {
     let over = &asked.over;
     let days = days_of(over.first, over.days)?;
     let loads = LoadsOf {
@@ -52,31 +78,24 @@ pub fn loads<'a>(rt: &HostRuntime, asked: &LoadsJob<'a>) -> Result<(), Refusal<'
         pair: pair_asked(asked.pair)?,
         bars: bars_asked(rt, asked.bars),
     };
+    let (journal, is_open) = (asked.journal, asked.is_open);
     let by = by_asked(asked.by)?;
     match by {
         Some(by) => {
             let form = sums_form(asked.shape, asked.bars)?;
-            summed(
-                rt,
-                over,
-                days,
-                loads,
-                by,
-                form,
-                asked.journal,
-                asked.is_open,
-            )
+            summed(rt, threads, over, days, loads, by, form, journal, is_open)
         }
         None => {
             let form = form_asked(asked.shape, asked.bars)?;
-            loaded(rt, over, days, loads, form, asked.journal, asked.is_open)
+            loaded(rt, threads, over, days, loads, form, journal, is_open)
         }
     }
 }
 
 /// The loads, as text or in a form.
-fn loaded<'a>(
+fn loaded<'a, R: Threads + Sync>(
     rt: &HostRuntime,
+    threads: &R,
     over: &Horizon<'a>,
     days: (Day, u16),
     loads: LoadsOf,
@@ -90,9 +109,9 @@ fn loaded<'a>(
     match form {
         Some(form) => {
             let table = LoadTable { loads };
-            tabled(rt, over, days, &table, form, journal, is_open)
+            tabled(rt, threads, over, days, &table, form, journal, is_open)
         }
-        None => asked_of(rt, over, days, &loads, journal, is_open),
+        None => asked_of(rt, threads, over, days, &loads, journal, is_open),
     }
 }
 
@@ -107,8 +126,9 @@ enum By {
 }
 
 /// Their sums.
-fn summed<'a>(
+fn summed<'a, R: Threads + Sync>(
     rt: &HostRuntime,
+    threads: &R,
     over: &Horizon<'a>,
     days: (Day, u16),
     loads: LoadsOf,
@@ -123,15 +143,15 @@ fn summed<'a>(
     match by {
         By::EachLeg => {
             let table = LegSums { loads };
-            tabled(rt, over, days, &table, form, journal, is_open)
+            tabled(rt, threads, over, days, &table, form, journal, is_open)
         }
         By::EachDay => {
             let table = DaySums { loads };
-            tabled(rt, over, days, &table, form, journal, is_open)
+            tabled(rt, threads, over, days, &table, form, journal, is_open)
         }
         By::EachFlight => {
             let table = FlightSums { loads };
-            tabled(rt, over, days, &table, form, journal, is_open)
+            tabled(rt, threads, over, days, &table, form, journal, is_open)
         }
         By::EachPair => {
             let table = PairSums { loads };
@@ -145,7 +165,11 @@ fn summed<'a>(
 }
 
 /// The live bookings of the locators, the flights and the day that are asked for.
-pub fn bookings<'a>(rt: &HostRuntime, asked: &BookingsJob<'a>) -> Result<(), Refusal<'a>> {
+pub fn bookings<'a, R: Threads + Sync>(
+    rt: &HostRuntime,
+    threads: &R,
+    asked: &BookingsJob<'a>,
+) -> Result<(), Refusal<'a>> {
     let over = &asked.over;
     let days = days_of(over.first, over.days)?;
     let locators = locators_asked(rt.alloc(), asked.locators.as_slice())?;
@@ -159,10 +183,20 @@ pub fn bookings<'a>(rt: &HostRuntime, asked: &BookingsJob<'a>) -> Result<(), Ref
     match form {
         Some(form) => {
             let table = BookingTable { wanted };
-            tabled(rt, over, days, &table, form, journal, asked.is_open)
+            tabled(
+                rt,
+                threads,
+                over,
+                days,
+                &table,
+                form,
+                journal,
+                asked.is_open,
+            )
         }
         None => asked_of(
             rt,
+            threads,
             over,
             days,
             &BookingsOf { wanted },
@@ -173,7 +207,11 @@ pub fn bookings<'a>(rt: &HostRuntime, asked: &BookingsJob<'a>) -> Result<(), Ref
 }
 
 /// Who waits, on the flights and the day that are asked for.
-pub fn waiting<'a>(rt: &HostRuntime, asked: &WaitingJob<'a>) -> Result<(), Refusal<'a>> {
+pub fn waiting<'a, R: Threads + Sync>(
+    rt: &HostRuntime,
+    threads: &R,
+    asked: &WaitingJob<'a>,
+) -> Result<(), Refusal<'a>> {
     let over = &asked.over;
     let days = days_of(over.first, over.days)?;
     let wanted = Wanted {
@@ -186,10 +224,20 @@ pub fn waiting<'a>(rt: &HostRuntime, asked: &WaitingJob<'a>) -> Result<(), Refus
     match form {
         Some(form) => {
             let table = WaitingTable { wanted };
-            tabled(rt, over, days, &table, form, journal, asked.is_open)
+            tabled(
+                rt,
+                threads,
+                over,
+                days,
+                &table,
+                form,
+                journal,
+                asked.is_open,
+            )
         }
         None => asked_of(
             rt,
+            threads,
             over,
             days,
             &WaitingOf { wanted },
@@ -200,7 +248,11 @@ pub fn waiting<'a>(rt: &HostRuntime, asked: &WaitingJob<'a>) -> Result<(), Refus
 }
 
 /// What the lines of a journal did for a locator.
-pub fn history<'a>(rt: &HostRuntime, asked: &HistoryJob<'a>) -> Result<(), Refusal<'a>> {
+pub fn history<'a, R: Threads + Sync>(
+    rt: &HostRuntime,
+    threads: &R,
+    asked: &HistoryJob<'a>,
+) -> Result<(), Refusal<'a>> {
     let over = &asked.over;
     let days = days_of(over.first, over.days)?;
     let Some(locator) = locator_word(asked.locator) else {
@@ -211,10 +263,20 @@ pub fn history<'a>(rt: &HostRuntime, asked: &HistoryJob<'a>) -> Result<(), Refus
     match form {
         Some(form) => {
             let table = HistoryTable { locator };
-            tabled(rt, over, days, &table, form, journal, asked.is_open)
+            tabled(
+                rt,
+                threads,
+                over,
+                days,
+                &table,
+                form,
+                journal,
+                asked.is_open,
+            )
         }
         None => asked_of(
             rt,
+            threads,
             over,
             days,
             &HistoryOf { locator },
@@ -225,8 +287,9 @@ pub fn history<'a>(rt: &HostRuntime, asked: &HistoryJob<'a>) -> Result<(), Refus
 }
 
 /// The answer to a question as a table.
-fn tabled<'a, T: Table>(
+fn tabled<'a, R: Threads + Sync, T: Table>(
     rt: &HostRuntime,
+    threads: &R,
     over: &Horizon<'a>,
     days: (Day, u16),
     table: &T,
@@ -238,7 +301,7 @@ fn tabled<'a, T: Table>(
     requires days { (1 ≤ days.1) × (days.1 ≤ 366) }
 {
     let question = TableOf { asked: table, form };
-    asked_of(rt, over, days, &question, journal, is_open)
+    asked_of(rt, threads, over, days, &question, journal, is_open)
 }
 
 /// The one form that is asked for, of bars, CSV and JSON; none where it is the text, with bars or without.

@@ -6,10 +6,11 @@ ghost use Rattle.seat_desk.specs.Loading.{IsGridOf};
 ghost use Rattle.seat_tables.specs.Rows.{IsTable};
 
 use seat_core::Core;
-use seat_desk::{DeskFault, Loaded, Question, replayed};
+use seat_desk::{DeskFault, Loaded, Question, replayed_in_parts};
 use seat_tables::Form;
 use ssim_flights::Flights;
 use std::alloc::{AllocError, Global};
+use std::thread::Threads;
 
 /// Rows that flights, opening limits and the lines of a journal give.
 pub trait Table {
@@ -56,14 +57,20 @@ impl<'a, T: Table> Question for TableOf<'a, T> {
     ghost refuses = { λ asked grid fault journal. IsUnlawful grid fault journal };
 
     #[tactic(auto, using(seat_desk::proofs::Grounds::grid_of_rows, seat_questions::proofs::RoomTexts::grid_kept, crate::proofs::Tables::table_of_replay))]
-    fn text(&self, alloc: Global, loaded: Loaded, journal: Vec<u8>) -> Result<Vec<u8>, DeskFault> {
+    fn text<R: Threads + Sync>(
+        &self,
+        rt: &R,
+        alloc: Global,
+        loaded: Loaded,
+        journal: Vec<u8>,
+    ) -> Result<Vec<u8>, DeskFault> {
         let Loaded {
             flights,
             rows,
             grid,
         } = loaded;
         drop(rows);
-        let core = replayed(alloc, grid, journal)?;
+        let core = replayed_in_parts(rt, alloc, grid, journal)?;
         match self.asked.written(alloc, self.form, &flights, &core) {
             Ok(text) => Ok(text),
             Err(_) => Err(DeskFault::Memory),
