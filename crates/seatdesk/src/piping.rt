@@ -117,15 +117,16 @@ fn misnamed<'a>(desks: &[&'a str]) -> Refusal<'a> {
     if desks.len() > usize::from(MOST_DESKS) {
         return Refusal::unfit("--desk", "Stands more than eight times");
     }
-    for (place, word) in desks.iter().enumerate() {
-        if sessions_of(&[*word]).is_none() {
+    for place in 0..desks.len() {
+        let word = desks[place];
+        if sessions_of(&[word]).is_none() {
             return Refusal::unfit(
-                *word,
+                word,
                 "Has no session of 1 to 8 ahead of two pipes, as 1=IN:OUT",
             );
         }
         if is_named_ahead(&desks[..place], word) {
-            return Refusal::unfit(*word, "Its session is named twice");
+            return Refusal::unfit(word, "Its session is named twice");
         }
     }
     unnumbered(desks)
