@@ -22,6 +22,8 @@ mod lots;
 #[cfg(test)]
 mod name_tests;
 #[cfg(test)]
+mod part_tests;
+#[cfg(test)]
 mod plain;
 #[cfg(test)]
 mod replaced_tests;

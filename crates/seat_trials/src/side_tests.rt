@@ -9,7 +9,7 @@ use std::test::Fail;
 
 /// The limits of four flights: ladders that differ from leg to leg, a class that is missing on a leg,
 /// one whose rank is another there, a leg without limits, and one class alone.
-fn limits() -> &'static [u8] {
+pub fn limits() -> &'static [u8] {
     b"AU XX123 15JUN24 15JUN24 LHRJFK F012/009 Y009/012 M004/010
 AU XX123 15JUN24 15JUN24 JFKLAX F008/010 Y008/012 M005/011
 AU XX123 16JUN24 16JUN24 LHRJFK F006/000 Y004/020
@@ -23,7 +23,7 @@ AU XX124 16JUN24 16JUN24 LAXSFO Y009/020
 }
 
 /// The same limits by flight, leg and class, without a mark.
-fn same_limits() -> &'static [Limit] {
+pub fn same_limits() -> &'static [Limit] {
     &[
         (0, 0, b'F', 12, 9, false),
         (0, 0, b'Y', 9, 12, false),

@@ -1,0 +1,334 @@
+//! Journals, legal and spoilt by lot, replayed in order, flight by flight and in parts: each way gives the same inventory
+//! or the same fault.
+ghost use Rattle.std.specs.Prelude.{◌≡◌, [], IfOk};
+
+use crate::lots::Lots;
+use crate::plain::Plain;
+use crate::side_tests::{limits, same_limits};
+use crate::trial::{Trial, Why, all_numbers};
+use crate::worked_set::{grid, three_legs};
+use airline_base::{Class, Place};
+use seat_core::{Core, replay};
+use seat_journal::{Advice, Advices, Entry, Work};
+use seat_nesting::Grid;
+use seat_replay::{audit_in_parts, replay_by_flight, replay_in_parts};
+use seat_rules::{ReplayFault, ReplayKind, Totals};
+use std::alloc::Global;
+use std::test::Fail;
+use std::thread::{Threads, available_parallelism};
+
+/// So many lines are drawn by lot, and so many journals are made of them.
+const LINES: u32 = 400;
+
+const JOURNALS: u32 = 240;
+
+/// A legal history of lines that are drawn by lot.
+fn history(alloc: Global, grid: Grid) -> Result<Trial, Why> {
+    let Ok(mut plain) = Plain::new(alloc, same_limits()) else {
+        return Err("memory");
+    };
+    let mut trial = Trial::new(alloc, grid, LINES)?;
+    let mut lots = Lots::new(40);
+    for _ in 0..LINES {
+        let work = lots.work(plain.bookings()).ok_or("a line")?;
+        let session = match work {
+            Work::Seats(_) => lots.below(8) as u8 + 1,
+            Work::Limit(_) => 0,
+        };
+        let _ = trial.step(session, work)?;
+        if plain.answer(&work).is_err() {
+            return Err("memory");
+        }
+    }
+    Ok(trial)
+}
+
+/// The first lines.
+fn front(alloc: Global, lines: &[Entry], count: usize) -> Result<Vec<Entry>, Why> {
+    let mut front = Vec::new(alloc);
+    for line in lines.iter().take(count) {
+        let Ok(copy) = line.copy(alloc) else {
+            return Err("memory");
+        };
+        if front.push(copy).is_err() {
+            return Err("memory");
+        }
+    }
+    Ok(front)
+}
+
+/// A request for no seats, or a change of a flight that is not there.
+fn misfit(work: Work) -> Work {
+    match work {
+        Work::Seats(command) => {
+            let mut command = command;
+            command.seats = 0;
+            Work::Seats(command)
+        }
+        Work::Limit(change) => {
+            let mut change = change;
+            change.flight = 9;
+            Work::Limit(change)
+        }
+    }
+}
+
+/// Turns a field of an entry into that of another, or near it.
+fn turn(lots: &mut Lots, entry: &mut Entry, other: Entry) {
+    match lots.below(12) {
+        0 => entry.number = other.number,
+        1 => entry.session = lots.below(11) as u8,
+        2 => entry.call = other.call,
+        3 => entry.call = entry.call.wrapping_sub(1),
+        4 => entry.work = other.work,
+        5 => entry.reply = other.reply,
+        6 => entry.released = entry.released.wrapping_add(1),
+        7 => entry.released = other.released,
+        8 | 9 | 10 => entry.work = misfit(entry.work),
+        _ => entry.reply = other.reply,
+    }
+}
+
+/// One advice of a booking of this number, of every third none.
+fn told(alloc: Global, number: u32) -> Result<Advices, Why> {
+    let place = Place {
+        flight: 0,
+        from: 0,
+        to: 0,
+    };
+    let mut advices = Advices::new(alloc);
+    if number % 3 == 0 {
+        return Ok(advices);
+    }
+    let class = Class::new(b'Y').ok_or("a class")?;
+    let advice = Advice {
+        number,
+        place,
+        class,
+        seats: 1,
+    };
+    match advices.push(advice) {
+        Ok(()) => Ok(advices),
+        Err(_) => Err("memory"),
+    }
+}
+
+/// Spoils one line: a field of it, its place, or it is lost.
+fn spoil(alloc: Global, lots: &mut Lots, lines: &mut Vec<Entry>) -> Result<(), Why> {
+    let Ok(count) = u32::try_from(lines.len()) else {
+        return Err("too many lines");
+    };
+    if count == 0 {
+        return Ok(());
+    }
+    let at = lots.below(count) as usize;
+    let other = lots.below(count) as usize;
+    match lots.below(12) {
+        0 => {
+            if at < lines.len() {
+                let _ = lines.remove(at);
+            }
+        }
+        1 => {
+            if at < lines.len() && other < lines.len() {
+                lines.swap(at, other);
+            }
+        }
+        2 => {
+            if let Some(entry) = lines.get_mut(at) {
+                entry.advices = told(alloc, other as u32)?;
+            }
+        }
+        _ => {
+            let Some(Ok(other)) = lines.get(other).map(|line| line.copy(alloc)) else {
+                return Err("memory");
+            };
+            if let Some(entry) = lines.get_mut(at) {
+                turn(lots, entry, other);
+            }
+        }
+    }
+    Ok(())
+}
+
+/// What a replay gives: the number and the kind of a fault, or 0 and what the inventory shows.
+#[derive(Clone, Copy, PartialEq)]
+struct Given {
+    number: u32,
+    kind: usize,
+    shown: [u64; 18],
+}
+
+fn outcome_of(replayed: Result<Core, ReplayFault>) -> Result<Given, Why> {
+    match replayed {
+        Ok(core) => Ok(Given {
+            number: 0,
+            kind: 0,
+            shown: all_numbers(&core),
+        }),
+        Err(fault) => match fault.kind {
+            ReplayKind::Memory => Err("memory"),
+            _ => Ok(Given {
+                number: fault.number,
+                kind: fault_at(fault.kind),
+                shown: [0; 18],
+            }),
+        },
+    }
+}
+
+/// The same of an audit, which shows the totals alone.
+fn outcome_of_audit(audited: Result<Totals, ReplayFault>) -> Result<Given, Why> {
+    match audited {
+        Ok(totals) => {
+            let mut shown = [0u64; 18];
+            shown[0] = u64::from(totals.lines);
+            shown[1] = totals.confirmed;
+            shown[2] = totals.released;
+            Ok(Given {
+                number: 0,
+                kind: 0,
+                shown,
+            })
+        }
+        Err(fault) => outcome_of(Err(fault)),
+    }
+}
+
+fn totals_of(replayed: Result<Core, ReplayFault>) -> Result<Totals, ReplayFault> {
+    match replayed {
+        Ok(core) => Ok(core.totals()),
+        Err(fault) => Err(fault),
+    }
+}
+
+fn opened(alloc: Global, limits: &Grid, cap: u32) -> Result<Core, Why>
+    ensures { IfOk result (λ core. core.journal ≡ []) }
+{
+    if cap > 999_999 {
+        return Err("at most 999,999 lines");
+    }
+    let Ok(grid) = limits.copy(alloc) else {
+        return Err("memory");
+    };
+    match Core::new(alloc, grid, cap) {
+        Ok(core) => Ok(core),
+        Err(_) => Err("memory"),
+    }
+}
+
+/// Replays a journal each way.
+fn compare<R: Threads + Sync>(
+    rt: &R,
+    alloc: Global,
+    limits: &Grid,
+    cap: u32,
+    lines: &[Entry],
+) -> Result<Given, Why> {
+    let want = outcome_of(replay(alloc, opened(alloc, limits, cap)?, lines))?;
+    let found = outcome_of(replay_by_flight(alloc, opened(alloc, limits, cap)?, lines))?;
+    if found != want {
+        return Err("by flight");
+    }
+    let told = outcome_of_audit(totals_of(replay(alloc, opened(alloc, limits, cap)?, lines)))?;
+    let processors = match available_parallelism(rt) {
+        Ok(count) => count.get(),
+        Err(_) => 1,
+    };
+    for parts in [0, 1, 2, 3, processors.saturating_add(3)] {
+        let core = opened(alloc, limits, cap)?;
+        let found = outcome_of(replay_in_parts(rt, alloc, core, lines, parts))?;
+        if found != want {
+            return Err("in parts");
+        }
+        let core = opened(alloc, limits, cap)?;
+        let found = outcome_of_audit(audit_in_parts(rt, alloc, core, lines, parts))?;
+        if found != told {
+            return Err("an audit in parts");
+        }
+    }
+    Ok(want)
+}
+
+/// How often a journal was legal, and how often each fault came.
+#[derive(Drop)]
+struct Tally {
+    legal: u32,
+    faults: [u32; 6],
+}
+
+impl Tally {
+    fn count(&mut self, given: Given) {
+        if given.number == 0 {
+            self.legal = self.legal.saturating_add(1);
+            return;
+        }
+        if let Some(times) = self.faults.get_mut(given.kind) {
+            *times = times.saturating_add(1);
+        }
+    }
+
+    fn has_all(&self) -> bool {
+        for times in &self.faults {
+            if *times < 3 {
+                return false;
+            }
+        }
+        self.legal >= 20
+    }
+}
+
+fn fault_at(kind: ReplayKind) -> usize {
+    match kind {
+        ReplayKind::BadNumber => 0,
+        ReplayKind::BadCaller => 1,
+        ReplayKind::BadCommand => 2,
+        ReplayKind::OtherReply => 3,
+        ReplayKind::OtherReleased => 4,
+        ReplayKind::OtherAdvices => 5,
+        ReplayKind::Memory => 6,
+    }
+}
+
+/// One journal: the first lines of the history, of which some are spoilt, under a cap that is sometimes too small.
+fn try_one<R: Threads + Sync>(
+    rt: &R,
+    alloc: Global,
+    limits: &Grid,
+    lots: &mut Lots,
+    history: &[Entry],
+) -> Result<Given, Why> {
+    let count = lots.below(LINES) as usize;
+    let mut lines = front(alloc, history, count)?;
+    for _ in 0..lots.below(4) {
+        spoil(alloc, lots, &mut lines)?;
+    }
+    let cap = if lots.below(12) == 0 { 50 } else { LINES };
+    compare(rt, alloc, limits, cap, &lines)
+}
+
+fn replay_each_way<R: Threads + Sync>(rt: &R, alloc: Global) -> Result<(), Why> {
+    let grid = grid(alloc, three_legs(), limits()).ok_or("a grid")?;
+    let Ok(copy) = grid.copy(alloc) else {
+        return Err("memory");
+    };
+    let trial = history(alloc, copy)?;
+    let mut lots = Lots::new(41);
+    let mut tally = Tally {
+        legal: 0,
+        faults: [0; 6],
+    };
+    for _ in 0..JOURNALS {
+        tally.count(try_one(rt, alloc, &grid, &mut lots, trial.journal())?);
+    }
+    if tally.has_all() {
+        Ok(())
+    } else {
+        Err("each fault comes often")
+    }
+}
+
+#[test]
+fn each_way_gives_the_same(rt: HostRuntime) -> Result<(), Fail> {
+    Ok(replay_each_way(&rt, rt.alloc())?)
+}
