@@ -15,7 +15,7 @@ _seatdesk() {
     esac
     for ((i = 1; i < COMP_CWORD; i++)); do
         case ${COMP_WORDS[i]} in
-        ladder | check | flights | cover | rooms | loads | run | serve | bookings | waiting | history | audit | seal | recover | replies | told | why | explain | help)
+        ladder | check | flights | cover | rooms | loads | run | serve | bookings | waiting | pickup | history | audit | seal | recover | replies | told | why | explain | help)
             command=${COMP_WORDS[i]}
             break
             ;;
@@ -23,7 +23,7 @@ _seatdesk() {
     done
     case $command in
     '')
-        words='ladder check flights cover rooms loads run serve bookings waiting history audit seal recover replies told why explain help -v --verbose -h --help -V --version'
+        words='ladder check flights cover rooms loads run serve bookings waiting pickup history audit seal recover replies told why explain help -v --verbose -h --help -V --version'
         files=''
         values=''
         place=''
@@ -88,6 +88,12 @@ _seatdesk() {
         values='--first --days --flight --day'
         place='files'
         ;;
+    pickup)
+        words='--set --limits --first --days --behind --flight --csv --json --open -v --verbose -h --help'
+        files='--set --limits'
+        values='--first --days --behind --flight'
+        place='files'
+        ;;
     history)
         words='--set --limits --first --days --locator --csv --json --open -v --verbose -h --help'
         files='--set --limits'
@@ -139,7 +145,7 @@ _seatdesk() {
         place=''
         ;;
     help)
-        words='ladder check flights cover rooms loads run serve bookings waiting history audit seal recover replies told why explain'
+        words='ladder check flights cover rooms loads run serve bookings waiting pickup history audit seal recover replies told why explain'
         files=''
         values=''
         place=''

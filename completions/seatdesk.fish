@@ -14,6 +14,7 @@ complete -c seatdesk -n __fish_use_subcommand -a run -d 'Books the requests of s
 complete -c seatdesk -n __fish_use_subcommand -a serve -d 'Stays open for desks: answers each line of a message once it is on the disk'
 complete -c seatdesk -n __fish_use_subcommand -a bookings -d 'Writes live bookings, of locators or of a flight, in the codes of AIRIMP'
 complete -c seatdesk -n __fish_use_subcommand -a waiting -d 'Writes who waits, in the order in which they would be confirmed, and the seats that they lack'
+complete -c seatdesk -n __fish_use_subcommand -a pickup -d 'Writes what was held, sold, cancelled and confirmed behind a line of a journal, by flight and class'
 complete -c seatdesk -n __fish_use_subcommand -a history -d 'Writes what the lines of a journal did for a locator, each with its reply'
 complete -c seatdesk -n __fish_use_subcommand -a audit -d 'Replays a journal against its schedule and limits, and writes one summary line'
 complete -c seatdesk -n __fish_use_subcommand -a seal -d 'Writes the seal of a journal that audit accepts, which says what the journal belongs to'
@@ -130,6 +131,19 @@ complete -c seatdesk -n '__fish_seen_subcommand_from waiting' -s v -l verbose -d
 complete -c seatdesk -n '__fish_seen_subcommand_from waiting' -s h -l help -d 'Print help'
 complete -c seatdesk -n '__fish_seen_subcommand_from waiting' -F
 
+complete -c seatdesk -n '__fish_seen_subcommand_from pickup' -l set -r -F -d 'The data set of the schedule (SSIM chapter 7, a file)'
+complete -c seatdesk -n '__fish_seen_subcommand_from pickup' -l limits -r -F -d 'The booking limits of the legs, in seats from 0 to 999 (a file)'
+complete -c seatdesk -n '__fish_seen_subcommand_from pickup' -l first -x -d 'The first day of departure, as 2024-06-01, from 2000 to 2099'
+complete -c seatdesk -n '__fish_seen_subcommand_from pickup' -l days -x -d 'How many days from the first on, 1 to 366'
+complete -c seatdesk -n '__fish_seen_subcommand_from pickup' -l behind -x -d 'How many lines an older JOURNAL had, 0 to 999999; what stands behind them is picked up'
+complete -c seatdesk -n '__fish_seen_subcommand_from pickup' -l flight -x -d 'The flights of this name alone, on all their days, as LZ601'
+complete -c seatdesk -n '__fish_seen_subcommand_from pickup' -l csv -d 'Writes the rows as CSV, below a line of the columns\' names'
+complete -c seatdesk -n '__fish_seen_subcommand_from pickup' -l json -d 'Writes the rows as JSON, an object a line'
+complete -c seatdesk -n '__fish_seen_subcommand_from pickup' -l open -d 'Takes a JOURNAL that is still open: its whole lines count, and it needs no END line'
+complete -c seatdesk -n '__fish_seen_subcommand_from pickup' -s v -l verbose -d 'Names the file of a fault, and where in it the fault stands, or the system\'s reason'
+complete -c seatdesk -n '__fish_seen_subcommand_from pickup' -s h -l help -d 'Print help'
+complete -c seatdesk -n '__fish_seen_subcommand_from pickup' -F
+
 complete -c seatdesk -n '__fish_seen_subcommand_from history' -l set -r -F -d 'The data set of the schedule (SSIM chapter 7, a file)'
 complete -c seatdesk -n '__fish_seen_subcommand_from history' -l limits -r -F -d 'The booking limits of the legs, in seats from 0 to 999 (a file)'
 complete -c seatdesk -n '__fish_seen_subcommand_from history' -l first -x -d 'The first day of departure, as 2024-06-01, from 2000 to 2099'
@@ -211,4 +225,4 @@ complete -c seatdesk -n '__fish_seen_subcommand_from explain' -s v -l verbose -d
 complete -c seatdesk -n '__fish_seen_subcommand_from explain' -s h -l help -d 'Print help'
 complete -c seatdesk -n '__fish_seen_subcommand_from explain' -a 'A1 A2 A3 A4 A5 A6 A7 A8 A9 B1 C1 DEVICE E1 E2 F1 F2 F3 F4 F5 F6 F7 F8 F9 H1 H2 H3 H4 H5 J1 J2 J3 J4 L1 L2 L3 L4 M1 M2 M3 M4 M5 M6 M7 MEMORY P1 P2 P3 P4 P5 P6 P7 P8 P9 Q1 Q2 Q3 R2 S1 S2 S3 S4 S5 S6 S7 S8 S9 S10 S11 S12 S13 S14 S15 SEAL U1'
 
-complete -c seatdesk -n '__fish_seen_subcommand_from help' -a 'ladder check flights cover rooms loads run serve bookings waiting history audit seal recover replies told why explain'
+complete -c seatdesk -n '__fish_seen_subcommand_from help' -a 'ladder check flights cover rooms loads run serve bookings waiting pickup history audit seal recover replies told why explain'

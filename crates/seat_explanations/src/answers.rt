@@ -107,7 +107,7 @@ const ROOMS: &[Explanation] = &[
         behind: "",
         code: "SUMS",
         numbers: NONE,
-        text: "Of loads: the legs above it, the seats held on them of the sum of their highest limits, what part of that is held,\nper mille, the passengers who hold seats there, and those who wait, each booking once.",
+        text: "Of loads: the legs above it, the seats held on them of the sum of their highest limits, what part of that is held,\nper mille, the passengers who hold seats there, and those who wait, each booking once.\nOf pickup: the sums of the columns above it.",
     },
 ];
 

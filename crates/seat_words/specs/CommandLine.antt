@@ -160,6 +160,15 @@ waiting_app = with_rule (with_rule (with_rule (with_rule (with_rule (with_rule (
     (flag (codes "open")))
     (required_value (codes "journal"))
 
+unfoldable pub pickup_app : App
+pickup_app = with_rule (with_rule (with_rule (with_rule (with_rule (with_rule (horizon_app (codes "pickup"))
+    (required_option (codes "behind")))
+    (optional (codes "flight")))
+    (flag (codes "csv")))
+    (flag (codes "json")))
+    (flag (codes "open")))
+    (required_value (codes "journal"))
+
 unfoldable pub history_app : App
 history_app = with_rule (with_rule (with_rule (with_rule (with_rule (horizon_app (codes "history"))
     (required_option (codes "locator")))
@@ -212,8 +221,8 @@ selling_app = with_command (with_command (with_command (with_command (with_comma
 
 -- the program: one of its commands must be named
 unfoldable pub seatdesk_app : App
-seatdesk_app = with_command (with_command (with_command (with_command (with_command (with_command (with_command (with_command (with_command (with_command
-    selling_app bookings_app) waiting_app) history_app) audit_app) seal_app) recover_app) replies_app) told_app) why_app) explain_app
+seatdesk_app = with_command (with_command (with_command (with_command (with_command (with_command (with_command (with_command (with_command (with_command (with_command
+    selling_app bookings_app) waiting_app) pickup_app) history_app) audit_app) seal_app) recover_app) replies_app) told_app) why_app) explain_app
 
 -- the command is read as a, and its options are its own
 pub record IsBuiltAs (a : App) (c : Command) : Type 0 where

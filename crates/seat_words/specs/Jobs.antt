@@ -13,11 +13,12 @@ use Rattle.seat_words.specs.declared.job.RunJob.{RunJob}
 use Rattle.seat_words.specs.declared.job.ServeJob.{ServeJob}
 use Rattle.seat_words.specs.declared.job.BookingsJob.{BookingsJob}
 use Rattle.seat_words.specs.declared.job.WaitingJob.{WaitingJob}
+use Rattle.seat_words.specs.declared.job.PickupJob.{PickupJob}
 use Rattle.seat_words.specs.declared.job.HistoryJob.{HistoryJob}
 use Rattle.seat_words.specs.declared.job.AuditJob.{AuditJob}
 use Rattle.seat_words.specs.declared.job.RepliesJob.{RepliesJob}
 use Rattle.seat_words.specs.declared.job.ToldJob.{ToldJob}
-use Rattle.seat_words.specs.declared.job.Job.TheVariants.{Ladder, Check, Flights, Cover, Rooms, Loads, Run, Serve, Bookings, Waiting, History, Audit, Seal, Recover, Replies, Told, Why, Explain}
+use Rattle.seat_words.specs.declared.job.Job.TheVariants.{Ladder, Check, Flights, Cover, Rooms, Loads, Run, Serve, Bookings, Waiting, Pickup, History, Audit, Seal, Recover, Replies, Told, Why, Explain}
 
 -- a command that clap found in the words, and what it found of the command's values
 abbrev pub Line : Type 0
@@ -117,6 +118,14 @@ IsWaiting rows asked = IsOver rows asked.over
     × HasFlag rows (codes "open") asked.is_open
     × Has rows (codes "journal") asked.journal.now
 
+abbrev pub IsPickup : List Row → PickupJob → Type 0
+IsPickup rows asked = IsOver rows asked.over
+    × Has rows (codes "behind") asked.behind.now
+    × MayHave rows (codes "flight") (option_map (λ text. text.now) asked.flight)
+    × IsShaped rows asked.shape
+    × HasFlag rows (codes "open") asked.is_open
+    × Has rows (codes "journal") asked.journal.now
+
 abbrev pub IsHistory : List Row → HistoryJob → Type 0
 IsHistory rows asked = IsOver rows asked.over
     × Has rows (codes "locator") asked.locator.now
@@ -167,6 +176,7 @@ Asks (Run asked) line = (line.0 ≡ codes "run") × IsRun line.1 asked
 Asks (Serve asked) line = (line.0 ≡ codes "serve") × IsServe line.1 asked
 Asks (Bookings asked) line = (line.0 ≡ codes "bookings") × IsBookings line.1 asked
 Asks (Waiting asked) line = (line.0 ≡ codes "waiting") × IsWaiting line.1 asked
+Asks (Pickup asked) line = (line.0 ≡ codes "pickup") × IsPickup line.1 asked
 Asks (History asked) line = (line.0 ≡ codes "history") × IsHistory line.1 asked
 Asks (Audit asked) line = (line.0 ≡ codes "audit") × IsAudit line.1 asked
 Asks (Seal over journal) line = (line.0 ≡ codes "seal")
@@ -205,6 +215,7 @@ asked_values = (codes "ladder", [])
     ∷ (codes "serve", horizon_values ++ codes "journal" ∷ [])
     ∷ (codes "bookings", horizon_values ++ codes "journal" ∷ [])
     ∷ (codes "waiting", horizon_values ++ codes "journal" ∷ [])
+    ∷ (codes "pickup", horizon_values ++ codes "behind" ∷ codes "journal" ∷ [])
     ∷ (codes "history", horizon_values ++ codes "locator" ∷ codes "journal" ∷ [])
     ∷ (codes "audit", horizon_values ++ codes "journal" ∷ [])
     ∷ (codes "seal", horizon_values ++ codes "journal" ∷ [])

@@ -1,7 +1,7 @@
 //! The commands, as clap reads them and as their help shows them.
 ghost use Rattle.std.specs.Prelude.{IfOk, IsOkAnd, codes};
 ghost use Rattle.clap.specs.Words.{AddsArg, App, new_app};
-ghost use Rattle.seat_words.specs.CommandLine.{IsBuiltAs, IsReadAlike, IsReadAs, audit_app, bare_app, bookings_app, check_app, cover_app, explain_app, flag, flights_app, history_app, horizon_app, ladder_app, lettered_flag, loads_app, named_app, optional, optional_several, optional_value, optional_values, trailing_values, recover_app, replies_app, required_option, required_value, rooms_app, run_app, seal_app, seatdesk_app, selling_app, serve_app, told_app, waiting_app, why_app, with_command, with_verbose};
+ghost use Rattle.seat_words.specs.CommandLine.{IsBuiltAs, IsReadAlike, IsReadAs, audit_app, bare_app, bookings_app, check_app, cover_app, explain_app, flag, flights_app, history_app, horizon_app, ladder_app, lettered_flag, loads_app, named_app, optional, optional_several, optional_value, optional_values, pickup_app, trailing_values, recover_app, replies_app, required_option, required_value, rooms_app, run_app, seal_app, seatdesk_app, selling_app, serve_app, told_app, waiting_app, why_app, with_command, with_verbose};
 
 use clap::{Arg, ArgAction, Command};
 use std::alloc::{AllocError, Global};
@@ -105,6 +105,9 @@ const JSON_HELP: &str = "Writes the rows as JSON, an object a line";
 
 const BY_HELP: &str = "What the loads are summed by: leg, flight, day, pair or class";
 
+const PICKED_HELP: &str =
+    "How many lines an older JOURNAL had, 0 to 999999; what stands behind them is picked up";
+
 const LEG_DAY_HELP: &str = "The legs that depart on this day alone, as 2024-06-01";
 
 const LEG_PAIR_HELP: &str = "The legs between these two stations alone, as LHRJFK";
@@ -150,6 +153,7 @@ pub(crate) fn seatdesk_command<'a>(alloc: Global) -> Result<Command<'a>, AllocEr
     let program = selling_command(alloc);
     let program = with_command(alloc, program, bookings_command(alloc));
     let program = with_command(alloc, program, waiting_command(alloc));
+    let program = with_command(alloc, program, pickup_command(alloc));
     let program = with_command(alloc, program, history_command(alloc));
     let program = with_command(alloc, program, audit_command(alloc));
     let program = with_command(alloc, program, seal_command(alloc));
@@ -422,6 +426,29 @@ fn waiting_command<'a>(alloc: Global) -> Result<Command<'a>, AllocError>
     let waiting = with_argument(waiting, flag(alloc, "open", OPEN_HELP));
     with_argument(
         waiting,
+        wanted_value(alloc, "journal", "JOURNAL", JOURNAL_HELP),
+    )
+}
+
+fn pickup_command<'a>(alloc: Global) -> Result<Command<'a>, AllocError>
+    ensures { IfOk result (IsBuiltAs pickup_app) }
+{
+    let pickup = horizon_command(
+        alloc,
+        "pickup",
+        "Writes what was held, sold, cancelled and confirmed behind a line of a journal, by flight and class",
+        "Example: seatdesk pickup --set examples/summer.ssim --limits examples/limits.txt --first 2024-07-01 --days 31 --behind 8 examples/journal.txt",
+    );
+    let pickup = with_argument(pickup, wanted_option(alloc, "behind", "N", PICKED_HELP));
+    let pickup = with_argument(
+        pickup,
+        optional_option(alloc, "flight", "FLIGHT", FLIGHT_HELP),
+    );
+    let pickup = with_argument(pickup, flag(alloc, "csv", CSV_HELP));
+    let pickup = with_argument(pickup, flag(alloc, "json", JSON_HELP));
+    let pickup = with_argument(pickup, flag(alloc, "open", OPEN_HELP));
+    with_argument(
+        pickup,
         wanted_value(alloc, "journal", "JOURNAL", JOURNAL_HELP),
     )
 }

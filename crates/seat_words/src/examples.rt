@@ -119,6 +119,15 @@ pub fn examples_are_read()
         ∷ (codes "journal", codes "examples/journal.txt" ∷ [])
         ∷ (codes "csv", codes "false" ∷ []) ∷ (codes "json", codes "false" ∷ []) ∷ (codes "open", codes "false" ∷ [])
         ∷ (codes "verbose", codes "false" ∷ []) ∷ []) }
+    ensures pickup { IsReadTo
+        (codes "seatdesk pickup --set examples/summer.ssim --limits examples/limits.txt --first 2024-07-01 --days 31 --behind 8 examples/journal.txt")
+        (codes "pickup")
+        ((codes "set", codes "examples/summer.ssim" ∷ []) ∷ (codes "limits", codes "examples/limits.txt" ∷ [])
+        ∷ (codes "first", codes "2024-07-01" ∷ []) ∷ (codes "days", codes "31" ∷ [])
+        ∷ (codes "behind", codes "8" ∷ [])
+        ∷ (codes "journal", codes "examples/journal.txt" ∷ [])
+        ∷ (codes "csv", codes "false" ∷ []) ∷ (codes "json", codes "false" ∷ []) ∷ (codes "open", codes "false" ∷ [])
+        ∷ (codes "verbose", codes "false" ∷ []) ∷ []) }
     ensures history { IsReadTo
         (codes "seatdesk history --set examples/summer.ssim --limits examples/limits.txt --first 2024-07-01 --days 31 --locator W8Y3ZA examples/journal.txt")
         (codes "history")

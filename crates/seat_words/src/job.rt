@@ -4,7 +4,7 @@ ghost use Rattle.clap.specs.Walk.{texts};
 ghost use Rattle.clap.specs.Words.{FailsBy, all_of, fault_of, first_of, found_of, kind_of, matches_of, rows_of, subcommand_of, subcommand_rows_of, takes};
 ghost use Rattle.clap.specs.declared.error.kind.ErrorKind.TheVariants.{InvalidValue, OutOfMemory};
 ghost use Rattle.seat_words.specs.CommandLine.{seatdesk_app};
-ghost use Rattle.seat_words.specs.Jobs.{Asks, IsAudit, IsBookings, IsHistory, IsLoads, IsOver, IsReplies, IsRooms, IsRun, IsServe, IsShaped, IsTold, IsWaiting, has_values, horizon_values, is_answerable, is_complete, is_flagged, is_verbose};
+ghost use Rattle.seat_words.specs.Jobs.{Asks, IsAudit, IsBookings, IsHistory, IsLoads, IsOver, IsPickup, IsReplies, IsRooms, IsRun, IsServe, IsShaped, IsTold, IsWaiting, has_values, horizon_values, is_answerable, is_complete, is_flagged, is_verbose};
 
 use super::commands::seatdesk_command;
 use super::several::Several;
@@ -62,6 +62,8 @@ pub enum Job<'a> {
     Bookings(BookingsJob<'a>),
     /// `seatdesk waiting` over a horizon `[--flight FLIGHT] [--day DATE] [--csv] [--json] [--open] JOURNAL`
     Waiting(WaitingJob<'a>),
+    /// `seatdesk pickup` over a horizon `--behind N [--flight FLIGHT] [--csv] [--json] [--open] JOURNAL`
+    Pickup(PickupJob<'a>),
     /// `seatdesk history` over a horizon `--locator LOCATOR [--csv] [--json] [--open] JOURNAL`
     History(HistoryJob<'a>),
     /// `seatdesk audit` over a horizon `[--after JOURNAL] [--behind N] [--today DATE] [--sealed] [--open] [--shards] JOURNAL [SCRIPT...]`
@@ -172,6 +174,17 @@ pub struct WaitingJob<'a> {
     pub over: Horizon<'a>,
     pub flight: Option<&'a str>,
     pub day: Option<&'a str>,
+    pub shape: Shape,
+    pub is_open: bool,
+    pub journal: &'a str,
+}
+
+/// What `seatdesk pickup` asks for.
+#[derive(Clone, Copy)]
+pub struct PickupJob<'a> {
+    pub over: Horizon<'a>,
+    pub behind: &'a str,
+    pub flight: Option<&'a str>,
     pub shape: Shape,
     pub is_open: bool,
     pub journal: &'a str,
@@ -304,6 +317,7 @@ fn job_named<'a>(alloc: Global, name: &str, matches: &ArgMatches<'a>) -> Result<
         "serve" => Ok(Job::Serve(serve_asked(alloc, matches)?)),
         "bookings" => Ok(Job::Bookings(bookings_asked(alloc, matches)?)),
         "waiting" => Ok(Job::Waiting(waiting_asked(matches))),
+        "pickup" => Ok(Job::Pickup(pickup_asked(matches))),
         "history" => Ok(Job::History(history_asked(matches))),
         "audit" => Ok(Job::Audit(audit_asked(alloc, matches)?)),
         "seal" => Ok(Job::Seal {
@@ -422,6 +436,20 @@ fn waiting_asked<'a>(matches: &ArgMatches<'a>) -> WaitingJob<'a>
         over: horizon_of(matches),
         flight: may_value_of(matches, "flight"),
         day: may_value_of(matches, "day"),
+        shape: shape_of(matches),
+        is_open: flag_of(matches, "open"),
+        journal: value_of(matches, "journal"),
+    }
+}
+
+fn pickup_asked<'a>(matches: &ArgMatches<'a>) -> PickupJob<'a>
+    requires { is_complete (codes "pickup", rows_of (found_of matches.now)) ≡ true }
+    ensures { IsPickup (rows_of (found_of matches.now)) result }
+{
+    PickupJob {
+        over: horizon_of(matches),
+        behind: value_of(matches, "behind"),
+        flight: may_value_of(matches, "flight"),
         shape: shape_of(matches),
         is_open: flag_of(matches, "open"),
         journal: value_of(matches, "journal"),

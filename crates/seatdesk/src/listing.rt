@@ -14,13 +14,13 @@ use seat_loads::LoadsOf;
 use seat_questions::RoomsOf;
 use seat_tables::Form;
 use seat_words::{
-    BookingsJob, HistoryJob, Horizon, LoadsJob, RoomsJob, Shape, WaitingJob, WordFault,
-    locator_word,
+    BookingsJob, HistoryJob, Horizon, LoadsJob, PickupJob, RoomsJob, Shape, WaitingJob, WordFault,
+    behind_word, locator_word,
 };
 use std::thread::Threads;
 use table_questions::{
     BookingTable, ClassSums, DaySums, FlightSums, HistoryTable, LegSums, LoadTable, PairSums,
-    RoomTable, Table, TableOf, WaitingTable,
+    PickupOf, RoomTable, Table, TableOf, WaitingTable,
 };
 
 /// The rooms of the places that `--day` and `--pair` keep, with bars where they are asked for. Without a journal they are those
@@ -155,11 +155,11 @@ fn summed<'a, R: Threads + Sync>(
         }
         By::EachPair => {
             let table = PairSums { loads };
-            tabled(rt, over, days, &table, form, journal, is_open)
+            tabled(rt, threads, over, days, &table, form, journal, is_open)
         }
         By::EachClass => {
             let table = ClassSums { loads };
-            tabled(rt, over, days, &table, form, journal, is_open)
+            tabled(rt, threads, over, days, &table, form, journal, is_open)
         }
     }
 }
@@ -245,6 +245,31 @@ pub fn waiting<'a, R: Threads + Sync>(
             asked.is_open,
         ),
     }
+}
+
+/// What was held, sold, cancelled and confirmed behind the lines of an older journal.
+pub fn pickup<'a, R: Threads + Sync>(
+    rt: &HostRuntime,
+    threads: &R,
+    asked: &PickupJob<'a>,
+) -> Result<(), Refusal<'a>> {
+    let over = &asked.over;
+    let days = days_of(over.first, over.days)?;
+    let Some(behind) = behind_word(asked.behind) else {
+        return Err(Refusal::from(WordFault::BadBehind));
+    };
+    let flight = flight_asked(asked.flight)?;
+    let form = match form_asked(asked.shape, false)? {
+        Some(form) => form,
+        None => Form::Text,
+    };
+    let question = PickupOf {
+        behind,
+        flight,
+        form,
+    };
+    let journal = Some(asked.journal);
+    asked_of(rt, threads, over, days, &question, journal, asked.is_open)
 }
 
 /// What the lines of a journal did for a locator.

@@ -86,6 +86,7 @@ fn carry_out<'a, T: Threads + Wait + Clock + Sync + Copy + Send + 'static>(
         Job::Serve(asked) => done(serving::serve(rt, threads, asked)),
         Job::Bookings(asked) => done(listing::bookings(rt, threads, asked)),
         Job::Waiting(asked) => done(listing::waiting(rt, threads, asked)),
+        Job::Pickup(asked) => done(listing::pickup(rt, threads, asked)),
         Job::History(asked) => done(listing::history(rt, threads, asked)),
         Job::Audit(asked) => done(audited(rt, threads, asked)),
         Job::Seal { over, journal } => done(commands::seal(rt, over, journal)),
