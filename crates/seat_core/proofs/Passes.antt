@@ -2,3 +2,4 @@
 pub mod Undone
 pub mod Changed
 pub mod Skipped
+pub mod Lowered

@@ -1,5 +1,5 @@
 //! What a change of a limit is answered (AU): the pass under the new limit, or NO.
-ghost use Rattle.std.specs.Prelude.{◌≡◌, true, IfOk};
+ghost use Rattle.std.specs.Prelude.{◌≡◌, [], true, IfOk};
 ghost use Rattle.seat_nesting.specs.Changing.{can_set};
 ghost use Rattle.seat_nesting.specs.Counting.{limits_of, table_of};
 ghost use Rattle.seat_core.specs.Answers.{CountsFlight, Says};
@@ -16,6 +16,7 @@ use seat_nesting::Counts;
 use std::alloc::Global;
 
 /// Answers a change of a limit, from the counters and the bookings of its flight. The counters are left as they were.
+#[tactic(auto, using(crate::proofs::Step::Reply::none_queued))]
 pub fn answer_change(
     alloc: Global,
     counts: &mut Counts,
@@ -39,7 +40,8 @@ pub fn answer_change(
     }
 }
 
-/// The advices of the pass over the waiting list of a change's flight, under the limits with that change.
+/// The advices of the pass over the waiting list of a change's flight, under the limits with that change. Nothing that waits
+/// fits before it.
 fn advices_under(
     alloc: Global,
     counts: &mut Counts,
@@ -48,6 +50,8 @@ fn advices_under(
 ) -> Result<Vec<Advice>, Memory>
     requires may { can_set (limits_of counts.old) (table_of counts.old) change.now.flight change.now.leg
         change.now.class change.now.limit change.now.wait ≡ true }
+    requires quiet { advices_by (limits_of counts.old) (table_of counts.old) (queue_at books.now change.now.flight)
+        ≡ [] }
     ensures limits { limits_of counts.new ≡ limits_of counts.old }
     ensures seats { table_of counts.new ≡ table_of counts.old }
     ensures told { IfOk result (λ told. told.items
@@ -60,7 +64,9 @@ fn advices_under(
     }
 }
 
-/// The same over this waiting list: the change is made, and then undone.
+/// The same over this waiting list: the change is made, and then undone. A limit that is not raised leaves no more room, so
+/// that there is no pass.
+#[tactic(auto, using(crate::proofs::Passes::Lowered::none_lowered))]
 fn advices_with(
     alloc: Global,
     counts: &mut Counts,
@@ -69,6 +75,7 @@ fn advices_with(
 ) -> Result<Vec<Advice>, Memory>
     requires may { can_set (limits_of counts.old) (table_of counts.old) change.now.flight change.now.leg
         change.now.class change.now.limit change.now.wait ≡ true }
+    requires quiet { advices_by (limits_of counts.old) (table_of counts.old) queue.now.bookings ≡ [] }
     ensures limits { limits_of counts.new ≡ limits_of counts.old }
     ensures seats { table_of counts.new ≡ table_of counts.old }
     ensures told { IfOk result (λ told. told.items
@@ -79,6 +86,9 @@ fn advices_with(
     let Some(before) = counts.step(flight, leg, class) else {
         return Ok(Vec::new(alloc));
     };
+    if change.limit <= before.limit {
+        return Ok(Vec::new(alloc));
+    }
     counts.set(flight, leg, class, change.limit, change.wait);
     let told = advices_of(alloc, counts, queue);
     counts.set(flight, leg, class, before.limit, before.wait);

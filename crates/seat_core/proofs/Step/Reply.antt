@@ -291,6 +291,13 @@ changed_told grid counts books f h =
     ∙ (ap (λ (l : List Booking). advices_by grid (held bs) l) (sym h.queue)
     ∙ advices_same grid f (held bs) (table_of counts) (queue_at books f) on (λ l k. sym (h.seats l k))))
 
+-- none on the waiting list fits
+pub none_queued : (counts : Counted) (books : List FlightBook) (f : ℕ) → CountsFlight counts books f
+    → advices_by (limits_of counts) (table_of counts) (queue_at books f) ≡ []
+none_queued counts books f h =
+    sym (changed_told (limits_of counts) counts books f h)
+    ∙ (pass_is_by_table (limits_of counts) (book_at books f) ∙ none_told (limits_of counts) (held (book_at books f)) (book_at books f) h.quiet)
+
 -- ---- the flight of a place, in an inventory that is kept
 
 quiet_on : (grid : Ladders) (f : ℕ) (bs among : List Booking) → NoneFitsAmong grid bs among
