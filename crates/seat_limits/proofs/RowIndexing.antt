@@ -1,14 +1,17 @@
 -- Limit rows by flight and city pair.
-use Rattle.std.proofs.Common.{◌≡◌, ◌==◌, nat_eq, ℕ, zero, suc, ◌+◌, ◌<◌, ◌≤◌, Bool, true, false, ◌&&◌, cond, List, [], ◌∷◌, length, take, get_or, fold, Option, Some, None, refl, sym, ap, subst, ◌∙◌, arith}
+use Rattle.std.proofs.Common.{◌≡◌, ◌≢◌, ◌==◌, nat_eq, ℕ, zero, suc, ◌+◌, ◌-◌, ◌<◌, ◌≤◌, Bool, true, false, ◌&&◌, cond, List, [], ◌∷◌, length, take, get_or, fold, Option, Some, None, refl, sym, ap, subst, ◌∙◌, arith}
 use Rattle.std.specs.List.{slice_get}
 use Rattle.std.specs.Option.{option_eq}
+use Rattle.std.specs.HashMap.{get}
 use Rattle.std.specs.Cmp.Lexicographic.{pointwise}
-use Rattle.std.proofs.lemmas.Bool.{eqb-true, eq-eqb, and_parts}
+use Rattle.std.proofs.lemmas.Bool.{eqb-true, eqb-false, eq-eqb, and_parts}
 use Rattle.std.proofs.lemmas.List.{take_more}
 use Rattle.std.proofs.lemmas.List.Sums.{fold_push}
 use Rattle.std.proofs.lemmas.Option.{slice_get-get_or, slice_get_within, get_or_from_slice_get, same_Some}
 use Rattle.seat_nesting.specs.Nesting.{Steps}
-use Rattle.seat_limits.specs.Authorised.{row_pair, same_pair, holds_day, after_row, LastRows, is_of, last_below, PutsRow, HasLastRows}
+use Rattle.seat_limits.specs.Authorised.{row_pair, same_pair, holds_day, after_row, LastRows, is_of, last_below, PutsRow, HasLastRows, IsRun}
+use Rattle.seat_limits.specs.RowStretches.{number_of}
+use Rattle.seat_limits.specs.declared.row_index.Numbered.{Numbered}
 use Rattle.seat_limits.specs.declared.limit_row.LimitRow.{LimitRow}
 use Rattle.seat_limits.specs.declared.row_index.Pair.{Pair}
 
@@ -62,17 +65,64 @@ pub row_here : (rows : List LimitRow) (i : ℕ) (row : LimitRow) → i < length 
     → slice_get rows i ≡ Some row
 row_here rows i row lt is = slice_get-get_or rows i row lt ∙ ap (λ (x : LimitRow). Some x) (sym is)
 
-pub last_more : (old new : LastRows) (rows : List LimitRow) (i : ℕ) (row : LimitRow) → HasLastRows old rows i
-    → i < length rows → row ≡ get_or rows i row → PutsRow old new (row_pair row) i → HasLastRows new rows (i + 1)
-last_more old new rows i row h lt is puts =
-    let here = row_here rows i row lt is in
-    let one : i + 1 ≡ suc i = omega arith in
-    record {
-      last_is = λ p.
-          puts.at p ∙ ap (λ (o : Option ℕ). cond (same_pair (row_pair row) p) (Some i) o) (h.last_is p)
-          ∙ ap (λ (o : Option LimitRow). cond (is_of p o) (Some i) (last_below p rows i)) (sym here)
-          ∙ ap (last_below p rows) (sym one);
-    }
+-- ---- a run of rows of one pair
+
+-- a row of the pair is of no other
+not_another : (pair p : Pair) (o : Option LimitRow) → same_pair pair p ≡ false → is_of pair o ≡ true → is_of p o ≡ false
+not_another pair p None e h = absurd cc
+not_another pair p (Some row) e h = ap (λ (r : Pair). same_pair r p) (pair_is (row_pair row) pair h) ∙ e
+
+passed_over : (pair p : Pair) (rows : List LimitRow) (i j d : ℕ) → same_pair pair p ≡ false → IsRun rows pair i j
+    → i + d ≤ j → last_below p rows i ≡ last_below p rows (i + d)
+passed_over pair p rows i j zero e run le = let same : i ≡ i + 0 = omega arith in ap (last_below p rows) same
+passed_over pair p rows i j (suc d) e run le =
+    let before = passed_over pair p rows i j d e run (omega (arith, le)) in
+    let next : i + suc d ≡ suc (i + d) = omega arith in
+    let other = not_another pair p (slice_get rows (i + d)) e (run.each (i + d) (omega arith) (omega (arith, le))) in
+    before
+    ∙ (sym (ap (λ (b : Bool). cond b (Some (i + d)) (last_below p rows (i + d))) other) ∙ ap (last_below p rows) (sym next))
+
+pub last_run : (old new : LastRows) (rows : List LimitRow) (i j m : ℕ) (pair : Pair) → HasLastRows old rows i
+    → IsRun rows pair i j → i < j → j ≡ m + 1 → PutsRow old new pair m → HasLastRows new rows j
+last_run old new rows i j m pair h run lt is puts = record { last_is = λ p. puts.at p ∙ of p (same_pair pair p) refl } where
+  next : j ≡ suc m
+  next = omega (arith, is)
+
+  of : (p : Pair) (b : Bool) → same_pair pair p ≡ b
+      → cond (same_pair pair p) (Some m) (get same_pair old p) ≡ last_below p rows j
+  of p true e =
+      let there : is_of pair (slice_get rows m) ≡ true = run.each m (omega (arith, is, lt)) (omega (arith, is)) in
+      let here : is_of p (slice_get rows m) ≡ true = subst (λ (q : Pair). is_of q (slice_get rows m) ≡ true) (pair_is pair p e) there in
+      ap (λ (b : Bool). cond b (Some m) (get same_pair old p)) e
+      ∙ (sym (ap (λ (b : Bool). cond b (Some m) (last_below p rows m)) here) ∙ ap (last_below p rows) (sym next))
+  of p false e =
+      let far : i + (j - i) ≡ j = omega (arith, lt) in
+      ap (λ (b : Bool). cond b (Some m) (get same_pair old p)) e
+      ∙ (h.last_is p ∙ (passed_over pair p rows i j (j - i) e run (omega (arith, lt)) ∙ ap (last_below p rows) far))
+
+-- it begins with its first row, and goes on with the next of the pair
+pub run_first : (rows : List LimitRow) (i j : ℕ) (row : LimitRow) → i < length rows → row ≡ get_or rows i row → j ≡ i + 1
+    → IsRun rows (row_pair row) i j
+run_first rows i j row lt is next = record { each = λ k le less. of k (omega (arith, le, less, next)) } where
+  of : (k : ℕ) → i ≡ k → is_of (row_pair row) (slice_get rows k) ≡ true
+  of k same =
+      ap (λ (n : ℕ). is_of (row_pair row) (slice_get rows n)) (sym same)
+      ∙ (ap (is_of (row_pair row)) (row_here rows i row lt is) ∙ pair_same (row_pair row))
+
+pub run_more : (rows : List LimitRow) (pair : Pair) (from i j : ℕ) (row : LimitRow) → IsRun rows pair from i
+    → i < length rows → row ≡ get_or rows i row → same_pair (row_pair row) pair ≡ true → j ≡ i + 1 → IsRun rows pair from j
+run_more rows pair from i j row run lt is of_pair next = record { each = λ k le less. of k le less (k == i) refl } where
+  here : is_of pair (slice_get rows i) ≡ true
+  here = ap (is_of pair) (row_here rows i row lt is) ∙ of_pair
+
+  of : (k : ℕ) → from ≤ k → k < j → (b : Bool) → (k == i) ≡ b → is_of pair (slice_get rows k) ≡ true
+  of k le less true e = ap (λ (n : ℕ). is_of pair (slice_get rows n)) (eqb-true k i e) ∙ here
+  of k le less false e = run.each k le (let other : k ≢ i = eqb-false k i e in omega (arith, less, next, other))
+
+-- a pair that is the one before has its number
+pub number_known : (last : LastRows) (known : Numbered) (p : Pair) → known.number ≡ number_of last known.pair
+    → same_pair known.pair p ≡ true → known.number ≡ number_of last p
+number_known last known p is same = is ∙ ap (number_of last) (pair_is known.pair p same)
 
 -- ---- the rows so far
 

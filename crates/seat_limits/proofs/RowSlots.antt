@@ -1,14 +1,17 @@
 -- Limit rows by slots: the stretch that holds a leg's slot has the leg's row.
-use Rattle.std.proofs.Common.{◌≡◌, ◌≢◌, nat_le, nat_lt, ℕ, zero, suc, ◌+◌, ◌*◌, ◌<◌, ◌≤◌, ◌⊎◌, Bool, true, false, ◌&&◌, cond, List, [], ◌∷◌, ◌++◌, length, take, get_or, fold, Option, Some, None, refl, sym, ap, subst, ◌∙◌, arith, inl, inr}
+use Rattle.std.proofs.Common.{◌≡◌, ◌≢◌, nat_le, nat_lt, ℕ, zero, suc, ◌+◌, ◌*◌, ◌<◌, ◌≤◌, ◌⊎◌, Bool, true, false, ◌&&◌, cond, List, [], ◌∷◌, ◌++◌, length, take, get_or, fold, Option, Some, None, eqb, refl, sym, ap, subst, ◌∙◌, arith, inl, inr}
 use Rattle.std.specs.Prelude.{unwrap_or, All, IfSome}
-use Rattle.std.specs.List.{slice_get, Contains}
-use Rattle.std.specs.List.Sorted.{IsNonDecreasing, IsPermutation}
+use Rattle.std.specs.List.{slice_get, dedup, Contains}
+use Rattle.std.specs.List.Sorted.{IsNonDecreasing, IsPermutation, IsSorted}
+use Rattle.std.specs.Ordering.{nat_cmp}
 use Rattle.std.specs.Option.{option_map}
 use Rattle.std.specs.HashMap.{get}
 use Rattle.std.proofs.lemmas.Bool.{cases_lt, leb-true, leb-false, le-leb, lt-leb, ltb-true, ltb-false, lt-ltb, le-ltb}
 use Rattle.std.proofs.lemmas.List.{take_all, get_or_default}
 use Rattle.std.proofs.lemmas.List.Elements.{All-more, All-weaker, Contains-append_left, Contains-push}
 use Rattle.std.proofs.lemmas.List.Sorted.{Contains-permutation}
+use Rattle.std.proofs.lemmas.List.Kept.{Contains-dedup_nat}
+use Rattle.std.proofs.lemmas.Map.Keys.{IsStrictlyIncreasing-dedup, non_decreasing_from_sorted, sorted_from_strictly_increasing}
 use Rattle.std.proofs.lemmas.Option.{slice_get_within, get_or_from_slice_get, same_Some}
 use Rattle.seat_nesting.specs.Nesting.{Steps}
 use Rattle.seat_limits.specs.Authorised.{row_pair, same_pair, holds_day, is_for, after_row, authorised, row_steps, LastRows, is_of, last_below}
@@ -371,3 +374,13 @@ edges_sorted last rows edges order n h le moved up = record {
   where
     whole : take n rows ≡ rows
     whole = take_all n rows le
+
+-- each once
+pub edges_once : (last : LastRows) (rows : List LimitRow) (edges kept : List ℕ) → AreEdges last rows edges
+    → IsSorted nat_cmp edges → kept ≡ dedup eqb edges → AreEdges last rows kept
+edges_once last rows edges kept h order is = subst (AreEdges last rows) (sym is) (record {
+  sorted = non_decreasing_from_sorted (dedup eqb edges) (sorted_from_strictly_increasing (dedup eqb edges) (IsStrictlyIncreasing-dedup edges order));
+  starts = All-weaker (λ (r : LimitRow). Contains edges (start_of last r)) (λ (r : LimitRow). Contains (dedup eqb edges) (start_of last r)) (λ r k. Contains-dedup_nat edges (start_of last r) k) rows h.starts;
+  ends = All-weaker (λ (r : LimitRow). Contains edges (end_of last r)) (λ (r : LimitRow). Contains (dedup eqb edges) (end_of last r)) (λ r k. Contains-dedup_nat edges (end_of last r) k) rows h.ends;
+  days = h.days;
+})

@@ -1,5 +1,5 @@
 -- Authorised seats: which ladder the limit rows give to a dated leg.
-use Rattle.std.specs.Prelude.{◌≡◌, ℕ, zero, suc, ◌==◌, nat_eq, nat_le, Bool, false, ◌&&◌, List, [], length, map, fold, Option, Some, None, option_map, unwrap_or, slice_get, if◌then◌else◌}
+use Rattle.std.specs.Prelude.{◌≡◌, ◌<◌, ◌≤◌, ℕ, zero, suc, ◌==◌, nat_eq, nat_le, Bool, true, false, ◌&&◌, List, [], length, map, fold, Option, Some, None, option_map, unwrap_or, slice_get, if◌then◌else◌}
 use Rattle.std.specs.Option.{option_eq}
 use Rattle.std.specs.HashMap.{HashMap, get}
 use Rattle.std.specs.Cmp.Lexicographic.{pointwise}
@@ -78,6 +78,10 @@ pub record PutsRow (old new : LastRows) (pair : Pair) (i : ℕ) : Type 0 where
 -- the last of the first n rows by pair
 pub record HasLastRows (last : LastRows) (rows : List LimitRow) (n : ℕ) : Type 0 where
   pub last_is : (p : Pair) → get same_pair last p ≡ last_below p rows n
+
+-- the rows from the one place on, before the other, are of the pair
+pub record IsRun (rows : List LimitRow) (pair : Pair) (from end : ℕ) : Type 0 where
+  pub each : (k : ℕ) → from ≤ k → k < end → is_of pair (slice_get rows k) ≡ true
 
 -- ---- ladders by their rows
 

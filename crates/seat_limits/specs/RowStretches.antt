@@ -6,6 +6,7 @@ use Rattle.std.specs.HashMap.{get}
 use Rattle.seat_limits.specs.Authorised.{row_pair, same_pair, LastRows, last_below}
 use Rattle.seat_limits.specs.declared.limit_row.LimitRow.{LimitRow}
 use Rattle.seat_limits.specs.declared.row_index.Pair.{Pair}
+use Rattle.seat_limits.specs.declared.row_index.Numbered.{Numbered}
 
 -- ---- slots
 
@@ -16,6 +17,11 @@ slot number day = number * 131072 + day
 -- the number of a pair is that of its last row; 0 where it has none
 abbrev pub number_of : LastRows → Pair → ℕ
 number_of last pair = unwrap_or (get same_pair last pair) 0
+
+-- the pair that is noted, where one is, has this number
+abbrev pub Knows : LastRows → Option Numbered → Type 0
+Knows last None = Unit {0}
+Knows last (Some known) = known.number ≡ number_of last known.pair
 
 -- the slot on which a row begins, and the one on which it has ended
 abbrev pub start_of : LastRows → LimitRow → ℕ

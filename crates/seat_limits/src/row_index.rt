@@ -1,9 +1,9 @@
 //! Limit rows by flight and city pair, so that a leg finds its row by bisection.
-ghost use Rattle.std.specs.Prelude.{◌≡◌, ◌<◌, ◌^◌, length, IfOk, IfSome, OnOk};
+ghost use Rattle.std.specs.Prelude.{◌≡◌, ◌<◌, ◌≤◌, ◌+◌, ◌^◌, Some, length, IfOk, IfSome, OnOk};
 ghost use Rattle.std.specs.HashMap.{get};
 ghost use Rattle.std.specs.List.Sorted.{IsNonDecreasing};
-ghost use Rattle.seat_limits.specs.Authorised.{row_pair, leg_pair, authorised, row_steps, PutsRow, HasLastRows};
-ghost use Rattle.seat_limits.specs.RowStretches.{slot, number_of, start_of, end_of, AreEdges, IsFirst, ShowRows, IsRowIndex};
+ghost use Rattle.seat_limits.specs.Authorised.{row_pair, same_pair, leg_pair, authorised, row_steps, PutsRow, HasLastRows, IsRun};
+ghost use Rattle.seat_limits.specs.RowStretches.{slot, number_of, AreEdges, IsFirst, Knows, ShowRows, IsRowIndex};
 
 use crate::limit_row::LimitRow;
 use crate::stretches::Stretches;
@@ -20,6 +20,13 @@ pub struct Pair {
     pub suffix: Option<u8>,
     pub board: Station,
     pub off: Station,
+}
+
+/// A pair and its number.
+#[derive(Clone, Copy)]
+pub struct Numbered {
+    pub pair: Pair,
+    pub number: u32,
 }
 
 /// The pairs' days in one order, cut where rows begin and end, and the row that counts on each stretch.
@@ -62,10 +69,39 @@ fn last_rows(alloc: Global, rows: &[LimitRow]) -> Result<HashMap<Pair, u32>, Mem
 {
     let count = count_of(rows)?;
     let mut last = HashMap::new(alloc);
-    for i in 0..count {
-        put(&mut last, pair_of(&rows[i as usize]), i)?;
+    let mut i = 0;
+    while i < count {
+        let first = &rows[i as usize];
+        let end = run_end(rows, first, i, count);
+        put(&mut last, pair_of(first), end - 1)?;
+        i = end;
     }
     Ok(last)
+}
+
+/// Where the rows end that follow a row and are of its pair too.
+fn run_end(rows: &[LimitRow], first: &LimitRow, from: u32, count: u32) -> u32
+    requires count { count ≡ length rows.now }
+    requires inside { from < count }
+    requires here { IsRun rows.now (row_pair first.now) from (from + 1) }
+    ensures further { from < result }
+    ensures inside { result ≤ count }
+    ensures run { IsRun rows.now (row_pair first.now) from result }
+{
+    let mut end = from + 1;
+    while end < count {
+        if !is_same_pair(&rows[end as usize], first) {
+            return end;
+        }
+        end += 1;
+    }
+    end
+}
+
+fn is_same_pair(row: &LimitRow, other: &LimitRow) -> bool
+    ensures { result ≡ same_pair (row_pair row.now) (row_pair other.now) }
+{
+    pair_of(row) == pair_of(other)
 }
 
 /// How many rows there are. No memory has room for 2³² of them.
@@ -86,16 +122,19 @@ fn put(last: &mut HashMap<Pair, u32>, pair: Pair, i: u32) -> Result<(), Memory>
     Ok(())
 }
 
-/// The slots on which rows begin or have ended.
+/// The slots on which rows begin or have ended, each once.
 fn edges_of(alloc: Global, rows: &[LimitRow], last: &HashMap<Pair, u32>) -> Result<Vec<u64>, Memory>
     ensures { IfOk result (λ edges. AreEdges last.now rows.now edges.items) }
 {
     let mut edges = Vec::new(alloc);
+    let mut known = None;
     for row in rows {
-        edges.push(start_of(last, row))?;
-        edges.push(end_of(last, row))?;
+        let number = number_known(last, &mut known, row);
+        edges.push(start_of(number, row))?;
+        edges.push(end_of(number, row))?;
     }
     edges.sort_unstable();
+    edges.dedup();
     Ok(edges)
 }
 
@@ -110,12 +149,14 @@ fn rows_found(
     ensures { IfOk result (λ found. ShowRows last.now rows.now edges.now found.items) }
 {
     let mut stretches = Stretches::new(alloc, edges.len())?;
+    let mut known = None;
     let mut i = count_of(rows)?;
     while i > 0 {
         i -= 1;
         let row = &rows[i as usize];
-        let from = first_at(edges, start_of(last, row));
-        let to = first_at(edges, end_of(last, row));
+        let number = number_known(last, &mut known, row);
+        let from = first_at(edges, start_of(number, row));
+        let to = first_at(edges, end_of(number, row));
         stretches.paint(from, to, i);
     }
     Ok(stretches.rows)
@@ -146,17 +187,71 @@ fn number_of(last: &HashMap<Pair, u32>, pair: Pair) -> u32
     }
 }
 
-fn start_of(last: &HashMap<Pair, u32>, row: &LimitRow) -> u64
-    ensures { result ≡ start_of last.now row.now }
+/// The number of a row's pair, which is looked up where the row before had another pair.
+fn number_known(last: &HashMap<Pair, u32>, known: &mut Option<Numbered>, row: &LimitRow) -> u32
+    requires { Knows last.now known.old }
+    ensures number { result ≡ number_of last.now (row_pair row.now) }
+    ensures knows { Knows last.now known.new }
 {
-    slot(number_of(last, pair_of(row)), row.from)
+    match number_before(last, known, row) {
+        Some(number) => number,
+        None => {
+            let number = number_of(last, pair_of(row));
+            note(known, row, number);
+            number
+        }
+    }
 }
 
-fn end_of(last: &HashMap<Pair, u32>, row: &LimitRow) -> u64
-    ensures value { result ≡ end_of last.now row.now }
+/// Notes the number of a row's pair.
+fn note(known: &mut Option<Numbered>, row: &LimitRow, number: u32)
+    ensures { known.new ≡ Some (record { pair = row_pair row.now; number = number }) }
+{
+    *known = Some(Numbered {
+        pair: pair_of(row),
+        number,
+    });
+}
+
+/// The number of a row's pair, where it is the pair that is noted.
+#[tactic(auto, using(crate::proofs::RowIndexing::number_known))]
+fn number_before(
+    _last: &HashMap<Pair, u32>,
+    known: &Option<Numbered>,
+    row: &LimitRow,
+) -> Option<u32>
+    requires { Knows _last.now known.now }
+    ensures { IfSome result (λ number. number ≡ number_of _last.now (row_pair row.now)) }
+{
+    let Some(before) = known else {
+        return None;
+    };
+    if has_pair(before, row) {
+        Some(before.number)
+    } else {
+        None
+    }
+}
+
+fn has_pair(known: &Numbered, row: &LimitRow) -> bool
+    ensures { result ≡ same_pair known.now.pair (row_pair row.now) }
+{
+    known.pair == pair_of(row)
+}
+
+/// The slot on which a row begins whose pair has this number.
+fn start_of(number: u32, row: &LimitRow) -> u64
+    ensures { result ≡ slot number row.now.from }
+{
+    slot(number, row.from)
+}
+
+/// The slot on which it has ended.
+fn end_of(number: u32, row: &LimitRow) -> u64
+    ensures value { result ≡ slot number row.now.to + 1 }
     ensures day { row.now.to < 131072 }
 {
-    slot(number_of(last, pair_of(row)), row.to) + 1
+    slot(number, row.to) + 1
 }
 
 fn pair_of(row: &LimitRow) -> Pair

@@ -1,5 +1,5 @@
 use Rattle.std.proofs.Common.{◌≤◌, length}
-use Rattle.seat_limits.specs.RowStretches.{Skips}
+use Rattle.seat_limits.specs.RowStretches.{Knows, Skips}
 use Rattle.seat_limits.proofs.RowSlots.{ShowFrom}
 use Rattle.seat_limits.proofs.row_index.rows_found.Given as goal
 
@@ -8,6 +8,7 @@ invariant-loop-i l = record {
   shown : ShowFrom l.last l.rows l.edges l.stretches.rows.items l.i;
   skips_are : Skips l.stretches.rows.items l.stretches.skips.items;
   inside : l.i ≤ length l.rows;
+  knows : Knows l.last l.known;
 }
 
 abbrev pub decreases-loop-i : goal.decreases-loop-i
