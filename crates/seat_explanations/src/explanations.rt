@@ -146,6 +146,8 @@ const SCRIPT: &[&str] = &["script", "line"];
 
 const DESK: &[&str] = &["desk", "line"];
 
+const FED: &[&str] = &["line of the feed"];
+
 const CALL: &[&str] = &["desk", "call of that session"];
 
 // Records of a data set.
@@ -436,6 +438,36 @@ const SCRIPTS: &[Explanation] = &[
     },
     Explanation {
         behind: "",
+        code: "H6",
+        numbers: CALL,
+        text: "A numbered line is for another journal: the epoch that was said ahead of it (?EPOCH n in a feed) is not that of this journal, whose seal has it.\nNothing was booked.",
+    },
+    Explanation {
+        behind: "",
+        code: "H7",
+        numbers: FED,
+        text: "A line of a feed stands ahead of its first day. A feed begins with one, as ?DAY 2024-06-22: on it the lines behind it are read.\nThe line was passed over.",
+    },
+    Explanation {
+        behind: "H2",
+        code: "-",
+        numbers: FED,
+        text: "Of a feed: the line is neither led by the number of a session, 0 to 8, and a blank, nor ?DAY 2024-06-22 nor ?EPOCH 3. It was passed over.",
+    },
+    Explanation {
+        behind: "H7",
+        code: "-",
+        numbers: FED,
+        text: "Of a feed: whatever line it is.",
+    },
+    Explanation {
+        behind: "",
+        code: "FEED",
+        numbers: &["line of the feed", "line of the journal"],
+        text: "The feed is not that of this journal: its line asks for something else than the journal's line does, or for another session.\nNothing was booked. Where the journal had lines of others ahead of the feed's first message, --behind says how many.",
+    },
+    Explanation {
+        behind: "",
         code: "-",
         numbers: NONE,
         text: "Of a host's FAULT: no line of the desk is at fault.",
@@ -664,7 +696,7 @@ const WORDS: &[Explanation] = &[
         behind: "E2",
         code: "today",
         numbers: NONE,
-        text: "--today is no day of the years 2000 to 2099, as 2024-06-01, or it is missing:\naudit needs it where scripts are named, and serve where the seal beside JOURNAL has no day.\nOr it is earlier than the day of that seal: a host never goes back to an earlier day.\nLeave --today out, and the day of the seal holds.",
+        text: "--today is no day of the years 2000 to 2099, as 2024-06-01, or it is missing:\naudit needs it where scripts are named, and serve where the seal beside JOURNAL has no day.\nOr it is earlier than the day of that seal: a host never goes back to an earlier day.\nLeave --today out, and the day of the seal holds. Or it stands beside --feed, which has its days in it.",
     },
     Explanation {
         behind: "E2",
@@ -706,7 +738,7 @@ const WORDS: &[Explanation] = &[
         behind: "E2",
         code: "behind",
         numbers: NONE,
-        text: "--behind is no number of 0 to 999999, or stands beside --after, or the journal has fewer lines,\nor run has no --resume, whose journal it is of,\nor --after and --resume of run name one journal.",
+        text: "--behind is no number of 0 to 999999, or stands beside --after, or the journal has fewer lines,\nor run has no --resume, whose journal it is of, or serve no --feed,\nor --after and --resume of run name one journal.",
     },
     Explanation {
         behind: "E2",
@@ -718,13 +750,13 @@ const WORDS: &[Explanation] = &[
         behind: "E2",
         code: "desk",
         numbers: NONE,
-        text: "--desk of told is no digit of 0 to 8 (a desk has the number of its session, and 0 is the manager of the limits).\nOf serve: --desk is not - alone, which is standard input and standard output, and not N=IN:OUT with a session of 1 to 8 that stands once;\nor what it or --manager names is no named pipe (mkfifo -m 620 makes one to read a desk's lines from, and mkfifo -m 640 one to answer on),\nor one that is named twice, that another host has, or that others may write to or read; or their modes tell that IN and OUT are swapped;\nor desks on pipes have no --manager, or - has one. seatdesk -v says which of these it is.",
+        text: "--desk of told is no digit of 0 to 8 (a desk has the number of its session, and 0 is the manager of the limits).\nOf serve: --desk is not - alone, which is standard input and standard output, and not N=IN:OUT with a session of 1 to 8 that stands once;\nor what it or --manager names is no named pipe (mkfifo -m 620 makes one to read a desk's lines from, and mkfifo -m 640 one to answer on),\nor one that is named twice, that another host has, or that others may write to or read; or their modes tell that IN and OUT are swapped;\nor desks on pipes have no --manager, or - has one; or --feed is not -, or stands beside --desk or --manager. seatdesk -v says which of these it is.",
     },
     Explanation {
         behind: "E2",
         code: "status",
         numbers: NONE,
-        text: "--every of serve is no number of 1 to 3600, or the file of --status is an input, the journal, where standard output or standard error goes,\nor no regular file, or its name is one that no journal may have; or there is a desk on standard input, which has neither of the two. seatdesk -v says which of these it is.",
+        text: "--every of serve is no number of 1 to 3600, or the file of --status is an input, the journal, where standard output or standard error goes,\nor no regular file, or its name is one that no journal may have; or there is a desk or a feed on standard input, which has neither of the two. seatdesk -v says which of these it is.",
     },
     Explanation {
         behind: "E2",

@@ -64,10 +64,11 @@ fn explained<'a>(alloc: Global, line: &[&'a str]) -> Result<Meaning<'a>, AllocEr
     };
     let mut text = text_of(alloc, first)?;
     let numbers = put_behind(&mut text, code, behind)?;
-    if let Some(word) = no_number(first.numbers, numbers) {
+    let counted = counted_by(first, code, behind);
+    if let Some(word) = no_number(counted, numbers) {
         return Ok(Meaning::Unknown(word));
     }
-    for (what, number) in first.numbers.iter().zip(numbers) {
+    for (what, number) in counted.iter().zip(numbers) {
         put_number(&mut text, what, number)?;
     }
     Ok(Meaning::Found(text))
@@ -163,6 +164,17 @@ fn put_behind<'b, 'c>(
     };
     put(text, second)?;
     Ok(more)
+}
+
+/// What the numbers of a line count: what the code behind the first one says of them, where it does, or else the first one.
+fn counted_by(first: &'static Explanation, code: &str, behind: &[&str]) -> &'static [&'static str] {
+    let Some(word) = behind.first() else {
+        return first.numbers;
+    };
+    match row_behind(code, word) {
+        Some(second) if !second.numbers.is_empty() => second.numbers,
+        _ => first.numbers,
+    }
 }
 
 /// The first of these words that is no number, or one more than are counted.
