@@ -46,7 +46,8 @@ fn syncs_no_more_behind_a_lost_sync(rt: HostRuntime) -> Result<(), Fail> {
     assert!(rt; fused.sync().is_err());
     assert!(rt; fused.append(&LINE).is_err());
     assert!(rt; fused.cut(0).is_err());
-    assert!(rt; fused.failures() == 4);
+    assert!(rt; fused.read_all(rt.alloc(), 9).is_err());
+    assert!(rt; fused.failures() == 5);
     assert!(rt; fused.into_inner().bytes() == KEPT.as_slice());
     Ok(())
 }
