@@ -1,3 +1,4 @@
 pub mod Counted
 pub mod Balancing
 pub mod Picking
+pub mod Parting

@@ -1,3 +1,4 @@
 pub mod Moves
 pub mod Counting
 pub mod Pickups
+pub mod Older

@@ -20,18 +20,18 @@ pub fn no_counts(alloc: Global, flights: u32) -> Result<Vec<u64>, Memory>
 pub fn add(row: &mut Vec<u64>, flight: u32, class: Class, seats: u16) -> Result<(), Memory>
     ensures { OnOk result (Adds (those flight class seats) row.old.items row.new.items) }
 {
-    add_at(row, spot(flight, class), seats)
+    add_at(row, spot(flight, class), u64::from(seats))
 }
 
 /// Adds seats at a place, if the row has it. A count that 64 bits don't hold is want of memory.
 #[tactic(auto, using(crate::proofs::Counted::beyond, crate::proofs::Counted::there))]
-fn add_at(row: &mut Vec<u64>, place: usize, seats: u16) -> Result<(), Memory>
+pub fn add_at(row: &mut Vec<u64>, place: usize, seats: u64) -> Result<(), Memory>
     ensures { OnOk result (AddsAt place seats row.old.items row.new.items) }
 {
     if place >= row.len() {
         return Ok(());
     }
-    let Some(more) = row[place].checked_add(u64::from(seats)) else {
+    let Some(more) = row[place].checked_add(seats) else {
         return Err(Memory);
     };
     row[place] = more;

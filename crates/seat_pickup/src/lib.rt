@@ -6,6 +6,9 @@ mod classes;
 mod counting;
 mod laws;
 mod moves;
+mod past;
 
 pub use classes::{Pickup, pickups};
+pub use counting::add_at;
 pub use laws::moves_balance;
+pub use past::{Past, past_of};
