@@ -16,7 +16,7 @@ ghost use Rattle.seat_reports.specs.SealDesk.{AreKept, IsEntryOf, IsMisnumberedO
 
 use airline_base::NotedRead;
 use seat_desk::{
-    Based, DeskFault, Inputs, Loaded, MOST_JOURNAL_BYTES, load_based, read_input, replayed,
+    Based, DeskFault, Inputs, Loaded, MOST_JOURNAL_BYTES, load_based, read_input, replayed_in_parts,
 };
 use seat_disk::{Replaced, replace_whole};
 use seat_seal::{
@@ -25,12 +25,14 @@ use seat_seal::{
     runs_known, seal_text,
 };
 use std::alloc::Global;
+use std::thread::Threads;
 
 /// Reads a data set, limit rows and a journal as an audit reads them, and puts the journal's seal in place of what its file has: at any
 /// moment a crash leaves what it would have left before, or the new seal, whole. It is closed, and has the era and the runs that what stands beside
 /// the journal so far knows, where that has no fault, and else none; a run that began behind more lines than the journal has is of
-/// another journal, and refused. What an audit refuses is refused here.
-pub fn desk_seal<S: NotedRead, L: NotedRead, J: NotedRead, K: Replaced>(
+/// another journal, and refused. What an audit refuses is refused here. A long journal is read and replayed on all processors.
+pub fn desk_seal<R: Threads + Sync, S: NotedRead, L: NotedRead, J: NotedRead, K: Replaced>(
+    rt: &R,
     alloc: Global,
     inputs: &mut Inputs<S, L>,
     journal: &mut J,
@@ -54,7 +56,7 @@ pub fn desk_seal<S: NotedRead, L: NotedRead, J: NotedRead, K: Replaced>(
     ensures untouched { IfErr result (λ f. f ≢ DeskFault.Device → seal.new ≡ seal.old) }
     ensures only { KeepsNoMore (K.kept_may_leave seal.old) (K.kept_may_leave seal.new) }
 {
-    let text = match sealed(alloc, inputs, journal, beside) {
+    let text = match sealed(rt, alloc, inputs, journal, beside) {
         Ok(text) => text,
         Err(fault) => return Err(fault),
     };
@@ -65,7 +67,8 @@ pub fn desk_seal<S: NotedRead, L: NotedRead, J: NotedRead, K: Replaced>(
 }
 
 /// The text of a journal's seal.
-fn sealed<S: NotedRead, L: NotedRead, J: NotedRead>(
+fn sealed<R: Threads + Sync, S: NotedRead, L: NotedRead, J: NotedRead>(
+    rt: &R,
     alloc: Global,
     inputs: &mut Inputs<S, L>,
     journal: &mut J,
@@ -100,7 +103,7 @@ fn sealed<S: NotedRead, L: NotedRead, J: NotedRead>(
     };
     let imprint = imprint_of(front_of(&bytes));
     let (runs, era) = kept_of(beside, &basis, &bytes);
-    let core = match replayed(alloc, grid, bytes) {
+    let core = match replayed_in_parts(rt, alloc, grid, bytes) {
         Ok(core) => core,
         Err(fault) => return Err(fault),
     };

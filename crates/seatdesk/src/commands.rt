@@ -238,8 +238,9 @@ fn answer_of<'a>(
 
 /// Writes the seal of a journal that an audit accepts, while the journal is locked. It keeps the runs of a seal that agrees, and tells of a
 /// seal of other bytes that it took the place of.
-pub fn seal<'a>(
+pub fn seal<'a, R: Threads + Sync>(
     rt: &'a HostRuntime,
+    threads: &R,
     over: &Horizon<'a>,
     journal: &'a str,
 ) -> Result<(), Refusal<'a>> {
@@ -258,6 +259,7 @@ pub fn seal<'a>(
         }
     };
     let outcome = desk_seal(
+        threads,
         rt.alloc(),
         &mut inputs,
         &mut journal,

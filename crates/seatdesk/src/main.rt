@@ -89,7 +89,7 @@ fn carry_out<'a, T: Threads + Wait + Clock + Sync + Copy + Send + 'static>(
         Job::Pickup(asked) => done(listing::pickup(rt, threads, asked)),
         Job::History(asked) => done(listing::history(rt, threads, asked)),
         Job::Audit(asked) => done(audited(rt, threads, asked)),
-        Job::Seal { over, journal } => done(commands::seal(rt, over, journal)),
+        Job::Seal { over, journal } => done(commands::seal(rt, threads, over, journal)),
         Job::Recover { over, cut, journal } => done(restoring::recover(rt, over, *cut, journal)),
         Job::Replies(asked) => done(replaying::replies(rt, asked)),
         Job::Told(asked) => done(commands::told_of(rt, threads, asked)),
