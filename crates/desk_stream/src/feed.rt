@@ -21,7 +21,7 @@ use crate::hearing::{FeedFault, Pending, hear_step};
 use crate::lead::lead_of;
 use crate::reading::{Reading, count, is_of, step_of};
 use crate::telling::{FeedTurn, told_of};
-use airline_base::Memory;
+use airline_base::{Day, Memory};
 use desk_calls::CallIndex;
 use desk_feed::Progress;
 use desk_hall::book;
@@ -118,6 +118,13 @@ impl<'a, D: Tape> Feed<'a, D> {
         &self.serving
     }
 
+    /// The day on which its lines are read; none ahead of its first day.
+    pub fn today(&self) -> Option<Day>
+        ensures { result ≡ self.now.reading.today }
+    {
+        self.reading.today
+    }
+
     /// How many lines it has had.
     pub fn lines(&self) -> u32
         ensures { result ≡ self.now.reading.lines }
@@ -202,6 +209,7 @@ impl<'a, D: Tape> Feed<'a, D> {
         ensures told { KeepsFront (open_text self.old.serving.kept) (D.may_leave self.new.serving.tape) }
         ensures counted { OnOk result (D.failure_count self.new.serving.tape ≡ D.failure_count self.old.serving.tape) }
         ensures same { IsSameFeed self.old self.new }
+        ensures limits { (self.new.serving.grid ≡ self.old.serving.grid) × (self.new.serving.cap ≡ self.old.serving.cap) }
     {
         let Feed {
             flights: _,
