@@ -17,7 +17,7 @@ use seat_seal::{
 };
 
 /// Refuses a journal where what stands beside it is no seal, or one of another set, other limits or other days. Whether what is found of
-/// its bytes begins with the sealed lines is seen once it is found ([`keeps_sealed`]). The journal's bytes are digested only beside a seal of two
+/// its bytes begins with the sealed lines is seen once it is found ([`sealed_imprint`]). The journal's bytes are digested only beside a seal of two
 /// entries, and beside one of a journal of which nothing else is known.
 pub fn passed(seal: &Beside<'_>, basis: &Basis, journal: &[u8]) -> Result<(), DeskFault>
     ensures ok { OnOk result (Passes seal.now basis.now journal.now) }
@@ -79,21 +79,8 @@ fn is_passed(known: &Option<Sealed>, fault: SealFault) -> bool
     }
 }
 
-/// Refuses what was found in a file with these bytes, where it does not begin with the lines that were sealed, or has more than a whole journal had.
-pub fn keeps_sealed(seal: &Beside<'_>, bytes: &[u8], found: &Recovered) -> Result<(), DeskFault>
-    requires found { IsFoundIn found.now.core bytes.now found.now.len found.now.rest }
-    ensures ok { OnOk result (KeepsSealed seal.now bytes.now found.now.core.journal) }
-    ensures fault { IfErr result (LosesSealed seal.now bytes.now found.now.core.journal) }
-    ensures kind { IfErr result (λ f. (f ≢ DeskFault.Device) × (f ≢ DeskFault.TooLarge)) }
-{
-    let known = known_of(seal, bytes);
-    if has_sealed(&known, text_of(bytes, found)) {
-        return Ok(());
-    }
-    Err(DeskFault::Seal(SealFault::Journal))
-}
-
-/// The same, and the imprint of the head and the lines that were found, of which each byte is digested once.
+/// The imprint of the head and the lines that were found in a file with these bytes, of which each byte is digested once. Refuses them where they do not
+/// begin with the lines that were sealed, or are more than a whole journal had.
 pub fn sealed_imprint(
     seal: &Beside<'_>,
     bytes: &[u8],
@@ -137,16 +124,6 @@ fn imprint_behind(sealed: &SealedJournal, text: &[u8]) -> (Imprint, bool)
         return (imprint_of(text), begins_sealed(sealed, text));
     }
     imprint_beside(text, &[sealed.imprint])
-}
-
-/// Whether the text begins with what was sealed, and where that is a whole journal is that, as the entry says that is compared.
-fn has_sealed(known: &Option<Sealed>, text: &[u8]) -> bool
-    ensures { result ≡ has_sealed known.now text.now }
-{
-    match known {
-        Some(entry) => { begins_sealed(&entry.journal, text) && is_no_longer(&entry.journal, text) }
-        None => true,
-    }
 }
 
 /// Whether the text is no longer than the sealed one, unless more lines may have come since. No crash leaves the seal of a whole journal beside one

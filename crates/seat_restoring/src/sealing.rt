@@ -10,8 +10,8 @@ ghost use Rattle.seat_restoring.specs.Sealing.{AreRunsOver, AreSeals, AreUnseala
 use crate::dating::era_of;
 use seat_recovery::Recovered;
 use seat_seal::{
-    Basis, Beside, Era, Imprint, Runs, SealEntry, Sealed, closed_entry, imprint_of, known_of,
-    open_entry, runs_known,
+    Basis, Beside, Era, Imprint, Runs, SealEntry, Sealed, closed_entry, known_of, open_entry,
+    runs_known,
 };
 use seat_sealing::{SealTexts, may_be_sealed, seal_texts};
 use seat_serving::head_for;
@@ -70,14 +70,6 @@ pub(crate) fn runs_over(seal: &Beside<'_>, bytes: &[u8], lines: u32) -> Runs
     let mut runs = runs_known(known_of(seal, bytes));
     runs.keep_within(lines);
     runs
-}
-
-/// The imprint of the head and the lines that were found.
-pub(crate) fn imprint_of_lines(bytes: &[u8], found: &Recovered) -> Imprint
-    requires found { IsFoundIn found.now.core bytes.now found.now.len found.now.rest }
-    ensures { result ≡ imprint_of (open_text found.now.core.journal) }
-{
-    imprint_of(text_of(bytes, found))
 }
 
 /// The head and the lines that were found.
