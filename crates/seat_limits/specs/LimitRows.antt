@@ -11,6 +11,7 @@ use Rattle.seat_limits.specs.LadderText.{SpellsSteps, ladder_in}
 use Rattle.seat_limits.specs.RowFields.{suffix_at, date_at}
 use Rattle.seat_limits.specs.RowTexts.{Reading, each_row, WantsRowRoom}
 use Rattle.seat_limits.specs.declared.limit_row.LimitRow.{LimitRow}
+use Rattle.seat_limits.specs.declared.row_reading.ReadRow.{ReadRow}
 use Rattle.seat_limits.specs.declared.limit_fault.LimitFault.{LimitFault}
 use Rattle.seat_limits.specs.declared.limit_fault.LimitKind.{LimitKind}
 use Rattle.seat_limits.specs.declared.limit_fault.LimitKind.TheVariants as kinds
@@ -50,6 +51,19 @@ pub record IsLimitText (bytes : List ℕ) (rows : List LimitRow) : Type 0 where
   pub spelled : SpellsRows (lines bytes) rows
 
 -- ---- reading from left to right
+
+-- a row that is read, as it is kept
+abbrev pub packed : ReadRow → LimitRow
+packed row = record {
+  airline = row.airline;
+  number = row.number;
+  suffix = row.suffix;
+  from = row.from;
+  to = row.to;
+  board = row.board;
+  off = row.off;
+  ladder = row.ladder;
+}
 
 unfoldable pub row_at : List ℕ → Result LimitRow LimitKind
 row_at line = do

@@ -96,7 +96,7 @@ fn share(
     if let Some(ladder) = &shares[i] {
         return ladder.again();
     }
-    let ladder = SharedLadder::of(alloc, rows[i].ladder.copy())?;
+    let ladder = SharedLadder::of(alloc, rows[i].ladder.ladder())?;
     let kept = ladder.again()?;
     shares[i] = Some(kept);
     Ok(ladder)

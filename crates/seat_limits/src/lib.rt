@@ -20,5 +20,5 @@ pub use change_row::{ChangeRow, ChangeRows};
 pub use ladder_text::read_ladder;
 pub use limit_fault::{LimitFault, LimitKind};
 pub use limit_reading::read_limits;
-pub use limit_row::{LimitRow, LimitRows};
+pub use limit_row::{LimitRow, LimitRows, RowLadder};
 pub use row_index::{Pair, RowIndex, leg_pair_of};

@@ -32,7 +32,7 @@ pub fn read_limits(alloc: Global, bytes: &[u8]) -> Result<LimitRows, LimitFault>
     while !rest.is_empty() {
         let (text, after) = cut_line(rest);
         line += 1;
-        if let Err(kind) = take_line(&mut rows, text) {
+        if let Err(kind) = take_line(alloc, &mut rows, text) {
             return Err(LimitFault { line, kind });
         }
         rest = after;
@@ -41,17 +41,19 @@ pub fn read_limits(alloc: Global, bytes: &[u8]) -> Result<LimitRows, LimitFault>
 }
 
 /// Adds the row of a line, if it is not empty.
-fn take_line(rows: &mut LimitRows, text: &[u8]) -> Result<(), LimitKind>
+#[tactic(auto, using(crate::proofs::LimitTexts::kept_adds, crate::proofs::LimitTexts::kept_stops))]
+fn take_line(alloc: Global, rows: &mut LimitRows, text: &[u8]) -> Result<(), LimitKind>
     ensures taken { IfOk result (λ _. TakesLine row_at text.now rows.old rows.new) }
     ensures fault { IfErr result (IsStop row_at text.now) }
 {
     if text.is_empty() {
         return Ok(());
     }
-    let row = match row_of(text) {
-        Ok(row) => row,
+    let read = match row_of(text) {
+        Ok(read) => read,
         Err(kind) => return Err(kind),
     };
+    let row = read.packed(alloc)?;
     rows.push(row)?;
     Ok(())
 }

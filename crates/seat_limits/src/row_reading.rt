@@ -1,17 +1,53 @@
 //! Reading limit rows: `AU XX123 01JUN24 30JUN24 LHRJFK F112/004 Y100/010`.
-ghost use Rattle.std.specs.Prelude.{◌≡◌};
-ghost use Rattle.seat_limits.specs.LimitRows.{row_at};
+ghost use Rattle.std.specs.Prelude.{◌≡◌, IfOk};
+ghost use Rattle.std.specs.Result.{result_map_both};
+ghost use Rattle.seat_limits.specs.LimitRows.{packed, row_at};
 
 use crate::ladder_text::ladder_of;
 use crate::limit_fault::LimitKind;
-use crate::limit_row::LimitRow;
+use crate::limit_row::{LimitRow, RowLadder};
 use crate::row_fields::{date_of, suffix_of};
 use airline_base::fields::{airline_of, byte_of, numeral_of, station_of, word_of};
+use airline_base::{Airline, Day, Station};
+use seat_nesting::Ladder;
+use std::alloc::{AllocError, Global};
+
+/// A row that is read, its ladder in the memory of the longest.
+#[derive(Drop)]
+pub struct ReadRow {
+    pub airline: Airline,
+    pub number: u16,
+    pub suffix: Option<u8>,
+    pub from: Day,
+    pub to: Day,
+    pub board: Station,
+    pub off: Station,
+    pub ladder: Ladder,
+}
+
+impl ReadRow {
+    /// The row, its ladder in as much memory as it needs.
+    pub(crate) fn packed(&self, alloc: Global) -> Result<LimitRow, AllocError>
+        ensures { IfOk result (λ row. row ≡ packed self.now) }
+    {
+        let ladder = RowLadder::of(alloc, &self.ladder)?;
+        Ok(LimitRow {
+            airline: self.airline,
+            number: self.number,
+            suffix: self.suffix,
+            from: self.from,
+            to: self.to,
+            board: self.board,
+            off: self.off,
+            ladder,
+        })
+    }
+}
 
 /// The row that a line spells, or its first fault from left to right.
 #[tactic(auto, unfolding(crate::specs::LimitRows::row_at))]
-pub(crate) fn row_of(line: &[u8]) -> Result<LimitRow, LimitKind>
-    ensures { result ≡ row_at line.now }
+pub(crate) fn row_of(line: &[u8]) -> Result<ReadRow, LimitKind>
+    ensures { result_map_both packed (λ kind. kind) result ≡ row_at line.now }
 {
     let Some(rest) = word_of(b"AU ", line) else {
         return Err(LimitKind::Head);
@@ -51,7 +87,7 @@ pub(crate) fn row_of(line: &[u8]) -> Result<LimitRow, LimitKind>
         return Err(LimitKind::Entry);
     };
     let ladder = ladder_of(entries)?;
-    Ok(LimitRow {
+    Ok(ReadRow {
         airline,
         number,
         suffix,
