@@ -46,7 +46,7 @@ pub fn recover<'a>(
 }
 
 /// The journal is none of the inputs, nor the file of the answer.
-fn pass_guard<'a>(
+pub fn pass_guard<'a>(
     rt: &HostRuntime,
     inputs: &Inputs<Input<'a>, Input<'a>>,
     journal: &'a str,

@@ -1,38 +1,53 @@
 //! `serve` over the real file of a journal, which it locks, its seal's, and a desk on standard input and standard output, or desks on pipes.
 //! It knows which file and stream is which, and nothing of what a desk's line means.
-ghost use Rattle.std.specs.Prelude.{IfOk, IfSome};
+ghost use Rattle.std.specs.Prelude.{◌≡◌, ◌≤◌, IfOk, IfSome, length};
+ghost use Rattle.std.specs.Arc.{arc_value};
 ghost use Rattle.airline_base.specs.Days.{IsCenturyDay};
+ghost use Rattle.desk_answers.specs.Hosts.{AreViewers, IsReady};
+ghost use Rattle.seat_desk.specs.AuditDesk.{most_lines};
 ghost use Rattle.seat_desk.specs.Loading.{IsGridOf};
-ghost use Rattle.seat_restoring.specs.Dating.{IsNotEarlier};
+ghost use Rattle.seat_restoring.specs.Dating.{IsDated, IsNotEarlier, Stands};
+ghost use Rattle.seat_restoring.specs.Serving.{NamesAll};
+ghost use Rattle.ssim_flights.specs.Right.{IsOfCentury};
 
 use crate::commands::{day_of_run, days_of, inputs_of};
 use crate::noting::tell_found_unsealed;
 use crate::piping::{Pipes, desks_named, started};
-use crate::restoring::{as_beside, seal_out, tell_kept, unopened};
+use crate::restoring::{as_beside, pass_guard, seal_out, tell_kept, unopened};
 use crate::stating::Status;
 use airline_base::{Day, Failures, ReadFault};
+use desk_answers::OpenHost;
 use desk_looks::{Gallery, Season};
 use desk_pipes::Outlook;
 use desk_serving::{HostedFault, serve_desks};
 use desk_talk::{DayFault, ServedFault, TalkFault, open_host, serve_sealed};
 use seat_desk::{Based, DeskFault, Inputs, Loaded, load_based};
-use seat_disk::Tape;
-use seat_files::{
-    Guard, Input, Output, Refusal, SealOut, StatusFile, standard_input, standard_output, told,
-};
+use seat_disk::{Replaced, Tape};
+use seat_display::Viewer;
+use seat_files::{Input, Output, Refusal, SealOut, StatusFile, standard_input, standard_output};
+use seat_nesting::Grid;
 use seat_recovery::MOST_OPEN_BYTES;
 use seat_restoring::{NoDay, host_day};
-use seat_seal::{Basis, Beside};
+use seat_seal::{Basis, Beside, Sealed};
 use seat_serving::ServeFault;
 use seat_tape::{BesideFile, TapeFile, open};
-use seat_words::{ServeJob, WordFault};
+use seat_words::{Horizon, ServeJob, WordFault};
+use std::alloc::Global;
 use std::fs;
-use std::sync::Wait;
+use std::fs::File;
+use std::sync::{Arc, Wait};
 use std::thread::Threads;
 use std::time::Clock;
 
 /// One for the manager, and one for each desk.
 const VIEWERS: u8 = 9;
+
+const STANDARD_ERROR: &str = "/proc/self/fd/2";
+
+const NOTHING: &str = "/dev/null";
+
+/// Memory was wanting ahead of the first line.
+const NO_MEMORY: HostedFault = HostedFault::Day(ServeFault::Memory);
 
 /// What the words ask for besides the flights and limits.
 #[derive(Clone, Copy)]
@@ -52,43 +67,87 @@ pub fn serve<'a, R: Threads + Wait + Clock + Copy + Send + 'static>(
     waits: &R,
     job: &ServeJob<'a>,
 ) -> Result<(), Refusal<'a>> {
-    let over = &job.over;
-    let asked = Open {
+    let _error = standard_error_held(rt);
+    let asked = asked_by(job);
+    let days = days_of(job.over.first, job.over.days)?;
+    let said = day_said(asked.today)?;
+    let mut pipes = match desks_named(rt, &asked) {
+        Ok(pipes) => pipes,
+        Err(refusal) => return Err(refusal),
+    };
+    let (inputs, based) = match inputs_passed(rt, &job.over, days, asked.journal) {
+        Ok(passed) => passed,
+        Err(refusal) => return Err(refusal),
+    };
+    let tape = match open(rt, asked.journal) {
+        Ok(tape) => tape,
+        Err(fault) => return Err(unopened(asked.journal, fault)),
+    };
+    place_status(rt, &asked, &inputs, &mut pipes)?;
+    serve_locked(rt, waits, &inputs, based, said, asked.journal, pipes, tape)
+}
+
+/// What stands in for standard error where nothing is open on it: a pipe or a file that is opened next would have its descriptor, and the notes.
+fn standard_error_held(rt: &HostRuntime) -> Option<File> {
+    match fs::metadata(rt, STANDARD_ERROR) {
+        Ok(_) => None,
+        Err(_) => File::open(rt, NOTHING).ok(),
+    }
+}
+
+/// What the words ask for besides the flights and limits.
+fn asked_by<'a, 'b>(job: &'b ServeJob<'a>) -> Open<'a, 'b> {
+    Open {
         today: job.today,
         journal: job.journal,
         desks: job.desks.as_slice(),
         manager: job.manager,
         status: job.status,
         every: job.every,
-    };
-    let days = days_of(over.first, over.days)?;
-    let said = day_said(asked.today)?;
-    let mut pipes = match desks_named(rt, &asked) {
-        Ok(pipes) => pipes,
-        Err(refusal) => return Err(refusal),
-    };
-    let journal = asked.journal;
+    }
+}
+
+/// The flights and the limits of the inputs, which the journal is none of.
+fn inputs_passed<'a>(
+    rt: &HostRuntime,
+    over: &Horizon<'a>,
+    days: (Day, u16),
+    journal: &'a str,
+) -> Result<(Inputs<Input<'a>, Input<'a>>, Based), Refusal<'a>>
+    requires first { IsOfCentury days.0 }
+    requires days { (1 ≤ days.1) × (days.1 ≤ 366) }
+    ensures grid { IfOk result (λ r. IsGridOf r.1.loaded.flights r.1.loaded.grid) }
+{
     let mut inputs = match inputs_of(rt, over, days) {
         Ok(inputs) => inputs,
         Err(refusal) => return Err(refusal),
     };
-    let guard = Guard::new(rt, journal)?;
-    guard.pass(&inputs, &[], &[])?;
-    guard.pass_output(rt)?;
-    let based = match load_based(rt.alloc(), &mut inputs, true) {
-        Ok(based) => based,
-        Err(fault) => return told(Err(fault), &[&inputs.set, &inputs.limits], &[]),
-    };
-    let tape = match open(rt, journal) {
-        Ok(tape) => tape,
-        Err(fault) => return Err(unopened(journal, fault)),
-    };
-    place_status(rt, &asked, &inputs, &mut pipes)?;
+    pass_guard(rt, &inputs, journal)?;
+    match load_based(rt.alloc(), &mut inputs, true) {
+        Ok(based) => Ok((inputs, based)),
+        Err(fault) => Err(Refusal::from(fault).noting_all(&[&inputs.set, &inputs.limits])),
+    }
+}
+
+/// The same with the inputs read and the journal locked.
+fn serve_locked<'a, R: Threads + Wait + Clock + Copy + Send + 'static>(
+    rt: &'a HostRuntime,
+    waits: &R,
+    inputs: &Inputs<Input<'a>, Input<'a>>,
+    based: Based,
+    said: Option<Day>,
+    journal: &'a str,
+    pipes: Option<Pipes>,
+    tape: TapeFile,
+) -> Result<(), Refusal<'a>>
+    requires grid { IsGridOf based.loaded.flights based.loaded.grid }
+    requires said { IfSome said IsCenturyDay }
+{
     let path = match fs::canonicalize(rt, journal) {
         Ok(path) => path.into_string(),
         Err(error) => return Err(Refusal::unopened(journal, &error)),
     };
-    let mut seals = match seal_out(rt, journal, path.as_str(), &inputs) {
+    let mut seals = match seal_out(rt, journal, path.as_str(), inputs) {
         Ok(seals) => seals,
         Err(refusal) => return Err(refusal),
     };
@@ -137,8 +196,7 @@ fn place_status<'a>(
     Ok(())
 }
 
-/// The same with the inputs read, the journal locked and what stands beside it read.
-#[tactic(auto, using(desk_serving::proofs::Ended::opened_grid, desk_serving::proofs::Ended::opened_today, desk_serving::proofs::Ended::opened_dated))]
+/// The same with what stands beside the journal read.
 fn serve_over<'a, R: Threads + Wait + Clock + Copy + Send + 'static>(
     rt: &'a HostRuntime,
     waits: &R,
@@ -168,6 +226,34 @@ fn serve_over<'a, R: Threads + Wait + Clock + Copy + Send + 'static>(
     let Ok(season) = Season::shared(rt.alloc(), flights, &grid) else {
         return Err(Refusal::from(DeskFault::Memory));
     };
+    serve_read(
+        rt, waits, &season, grid, &basis, today, bytes, journal, pipes, seal, tape, beside, seals,
+    )
+}
+
+/// The same with the journal's bytes read, on this day.
+#[tactic(auto, using(desk_serving::proofs::Ended::opened_grid, desk_serving::proofs::Ended::opened_today, desk_serving::proofs::Ended::opened_dated))]
+fn serve_read<'a, R: Threads + Wait + Clock + Copy + Send + 'static>(
+    rt: &'a HostRuntime,
+    waits: &R,
+    season: &Arc<Season>,
+    grid: Grid,
+    basis: &Basis,
+    today: Day,
+    bytes: Vec<u8>,
+    journal: &'a str,
+    pipes: Option<Pipes>,
+    seal: &Beside<'_>,
+    tape: TapeFile,
+    beside: &mut BesideFile<'_>,
+    seals: &mut SealOut<'a>,
+) -> Result<(), Refusal<'a>>
+    requires grid { IsGridOf (arc_value season.now).flights grid }
+    requires opening { (arc_value season.now).grid ≡ grid }
+    requires size { length bytes.items ≤ 268_435_445 }
+    requires today { IsCenturyDay today }
+    requires later { IsNotEarlier seal.now bytes.items today }
+{
     let opened = open_host(
         waits,
         rt.alloc(),
@@ -176,7 +262,7 @@ fn serve_over<'a, R: Threads + Wait + Clock + Copy + Send + 'static>(
         today,
         VIEWERS,
         seal,
-        &basis,
+        basis,
         &bytes,
         tape,
         beside,
@@ -192,40 +278,62 @@ fn serve_over<'a, R: Threads + Wait + Clock + Copy + Send + 'static>(
     if is_unsealed {
         tell_found_unsealed(rt, journal);
     }
+    let alloc = rt.alloc();
     let Some(pipes) = pipes else {
         let mut input = standard_input(rt);
         let mut out = standard_output(rt);
-        return match serve_sealed(
-            waits,
-            rt.alloc(),
-            host,
-            &basis,
-            sealed,
-            &mut input,
-            &mut out,
-            seals,
-        ) {
+        let talked = serve_sealed(
+            waits, alloc, host, basis, sealed, &mut input, &mut out, seals,
+        );
+        return match talked {
             Ok(_) => Ok(()),
             Err(refused) => Err(untalked(refused, journal, &input, &out)),
         };
     };
+    match desks_served(
+        waits, alloc, season, host, viewers, pipes, basis, sealed, seals,
+    ) {
+        Ok(()) => Ok(()),
+        Err(refused) => Err(unended(refused, journal)),
+    }
+}
+
+/// Desks on pipes, up to the manager's end.
+fn desks_served<R: Threads + Wait + Clock + Copy + Send + 'static, D: Tape + Drop, K: Replaced>(
+    waits: &R,
+    alloc: Global,
+    season: &Arc<Season>,
+    host: OpenHost<'_, D>,
+    viewers: Vec<Viewer>,
+    pipes: Pipes,
+    basis: &Basis,
+    sealed: Sealed,
+    seals: &mut K,
+) -> Result<(), (HostedFault, D)>
+    requires viewers { AreViewers (arc_value season.now).grid viewers.items }
+    requires grid { IsGridOf (arc_value season.now).flights host.serving.grid }
+    requires today { IsCenturyDay host.desk.today }
+    requires ready { IsReady D.seen D.may_leave D.unsynced host.serving }
+    requires cap { host.serving.cap ≡ most_lines }
+    requires named { NamesAll host.serving.kept (K.may_leave seals.old) }
+    requires stands { Stands sealed host.serving.kept (K.may_leave seals.old) }
+    requires dated { IsDated host.desk.today sealed.era }
+{
     let outlook = Outlook::new(host.today(), host.serving().journal().len() as u32);
-    let Ok(gallery) = Gallery::new(&season, viewers) else {
-        let _ = host.into_serving().close(waits);
-        return Err(Refusal::from(DeskFault::Memory));
+    let Ok(gallery) = Gallery::new(season, viewers) else {
+        return Err((NO_MEMORY, host.into_serving().close(waits)));
     };
-    let Ok(shared) = started(waits, rt.alloc(), pipes, outlook, gallery) else {
-        let _ = host.into_serving().close(waits);
-        return Err(Refusal::from(DeskFault::Memory));
+    let Ok(shared) = started(waits, alloc, pipes, outlook, gallery) else {
+        return Err((NO_MEMORY, host.into_serving().close(waits)));
     };
     let served = serve_desks(
         waits,
-        rt.alloc(),
+        alloc,
         season.flights(),
         host,
         &shared.post,
         &shared.board,
-        &basis,
+        basis,
         sealed,
         seals,
     );
@@ -233,7 +341,7 @@ fn serve_over<'a, R: Threads + Wait + Clock + Copy + Send + 'static>(
     shared.board.end(waits);
     match served {
         Ok(_) => Ok(()),
-        Err(refused) => Err(unended(refused, journal)),
+        Err(refused) => Err(refused),
     }
 }
 
