@@ -6,9 +6,9 @@ use airline_base::spelling::put;
 use arrayvec::ArrayVec;
 use itoa::Buffer;
 
-/// The line that says how many lines are kept of a journal, and how many bytes behind them were cut. It takes no memory.
-pub fn recovered_line(lines: usize, cut: usize) -> ArrayVec<u8, 102>
-    ensures { result.items ≡ recovered_line lines cut }
+/// The line that says how many lines are kept of a journal, how many bytes behind them were cut, and how many lines ended in these. It takes no memory.
+pub fn recovered_line(lines: usize, cut: usize, whole: usize) -> ArrayVec<u8, 149>
+    ensures { result.items ≡ recovered_line lines cut whole }
 {
     let mut line = ArrayVec::new();
     let mut buffer = Buffer::new();
@@ -16,6 +16,8 @@ pub fn recovered_line(lines: usize, cut: usize) -> ArrayVec<u8, 102>
     put(&mut line, buffer.format(lines).as_bytes());
     put(&mut line, b" cut ");
     put(&mut line, buffer.format(cut).as_bytes());
+    put(&mut line, b" whole ");
+    put(&mut line, buffer.format(whole).as_bytes());
     put(&mut line, b"\n");
     line
 }

@@ -42,7 +42,7 @@ refused_differs beside basis file fault other differs same =
 of_day_not : (beside : Beside) (basis : Basis) (file : List ℕ) (f : NoDay) (fault : DeskFault) → IsOfDay f → f ≡ Refused fault
     → Differs beside basis file fault
 of_day_not beside basis file Missing fault of is = absurd (cc is)
-of_day_not beside basis file Earlier fault of is = absurd (cc is)
+of_day_not beside basis file (Earlier known) fault of is = absurd (cc is)
 of_day_not beside basis file (Refused other) fault of is = absurd of
 
 pub day_unrefused : (beside : Beside) (basis : Basis) (file : List ℕ) (answer : Result ℕ NoDay) → IfErr answer IsOfDay

@@ -22,7 +22,7 @@ abbrev pub day_for : Option ℕ → Option ℕ → Result ℕ NoDay
 day_for None None = Err Missing
 day_for (Some known) None = Ok known
 day_for None (Some said) = Ok said
-day_for (Some known) (Some said) = if nat_lt said known then Err Earlier else Ok said
+day_for (Some known) (Some said) = if nat_lt said known then Err (Earlier known) else Ok said
 
 -- no earlier than the day that is known
 abbrev pub IsSince : Option ℕ → ℕ → Type 0
@@ -38,7 +38,7 @@ pub record IsNotEarlier (beside : Beside) (file : List ℕ) (day : ℕ) : Type 0
 -- it is the day that is wanting, and not the seal that is wrong
 abbrev pub IsOfDay : NoDay → Type 0
 IsOfDay Missing = Unit {0}
-IsOfDay Earlier = Unit {0}
+IsOfDay (Earlier known) = Unit {0}
 IsOfDay (Refused fault) = ⊥
 
 -- the known one is that of the seal beside a file

@@ -16,8 +16,8 @@ use seat_seal::{Basis, Beside, Era, era_known, known_of};
 pub enum NoDay {
     /// None is said, and no seal knows one.
     Missing,
-    /// One is said that is earlier than the one that the seal knows.
-    Earlier,
+    /// One is said that is earlier than this one, which the seal knows.
+    Earlier(Day),
     /// What stands beside the journal is no seal, or one of another set, other limits or other days.
     Refused(DeskFault),
 }
@@ -73,7 +73,7 @@ fn later_of(known: Day, said: Day) -> Result<Day, NoDay>
     ensures kind { IfErr result IsOfDay }
 {
     if said.number() < known.number() {
-        return Err(NoDay::Earlier);
+        return Err(NoDay::Earlier(known));
     }
     Ok(said)
 }

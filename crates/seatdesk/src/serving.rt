@@ -370,7 +370,7 @@ fn day_beside<'a>(
     match host_day(seal, basis, bytes, said) {
         Ok(today) => Ok(today),
         Err(NoDay::Missing) => Err(Refusal::from(WordFault::BadToday)),
-        Err(NoDay::Earlier) => Err(Refusal::from(WordFault::BadToday).at(journal, None)),
+        Err(NoDay::Earlier(_)) => Err(Refusal::from(WordFault::BadToday).at(journal, None)),
         Err(NoDay::Refused(fault)) => Err(Refusal::from(fault).at(journal, None)),
     }
 }
