@@ -128,7 +128,7 @@ def main(into, out, script, answers):
             os.fsync(kept.fileno())
         pass_memory(whole_lines(answers), calls)
         first, *known = whole_lines(answers)
-        number, at = int(first), 0
+        number, at, shown = int(first), 0, 0
         while at < len(lines):
             if not SEGMENT.fullmatch(lines[at]):
                 # (a line of a message that is answered by nothing; a client that comes back sends its message's head again)
@@ -149,7 +149,9 @@ def main(into, out, script, answers):
                 kept.write(said + "\n")
                 kept.flush()
                 os.fsync(kept.fileno())
-            print(said)
+            if at >= shown:  # (once: a client that comes back goes through its answers again)
+                print(said)
+                shown = at + 1
             number += not said.startswith("FAULT")
             at += 1
         desk.advices()

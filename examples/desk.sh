@@ -53,7 +53,7 @@ answer() {
 
 # The messages of the script, behind the answers that there are; it fails where it must begin again.
 book() {
-    local line number said at=1 known
+    local line number said at=1 told=0 known
     mapfile -t known <"$answers"
     number=${known[0]}
     while IFS= read -r line || [ -n "$line" ]; do
@@ -73,7 +73,9 @@ book() {
             fi
             printf '%s\n' "$said" >>"$answers" && sync "$answers" || exit 1
         fi
-        printf '%s\n' "$said"
+        # (once: a client that comes back goes through its answers again)
+        told=$((told + 1))
+        [ "$told" -le "$shown" ] || { printf '%s\n' "$said" && shown=$told; }
         [[ $said == FAULT* ]] || number=$((number + 1))
     done <"$script"
 }
@@ -90,6 +92,7 @@ if [ "$behind" -ne 0 ] && [ "$behind" -ne 1 ]; then
     echo "the desk has $calls calls, and not those that ANSWERS knows: something else was booked for it" >&2
     exit 1
 fi
+shown=0
 until book; do hello; done
 # what came behind the last answer: its own advices, which are told with it
 say '?HELLO BEHIND\n'

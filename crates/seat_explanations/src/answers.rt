@@ -77,7 +77,7 @@ const VERDICTS: &[Explanation] = &[
         behind: "",
         code: "RECOVERED",
         numbers: NONE,
-        text: "Of recover: the journal has its END line and its seal. lines: the entries that it has.\ncut: the bytes that stood behind these; a note names the file that has them now.",
+        text: "Of recover: the journal has its END line and its seal. lines: the entries that it has.\ncut: the bytes that stood behind these; a note names the file that has them now. whole: how many whole lines were among them,\nof which some may have been booked and told, where --cut was said: the rest, if any, is a line that does not end.",
     },
 ];
 

@@ -3,7 +3,7 @@
 ghost use Rattle.std.specs.Prelude.{◌⊎◌, IfSome, IsTrue, codes};
 ghost use Rattle.seat_explanations.specs.Rows.{is_of};
 
-use crate::notes::NOTES;
+use crate::notes::{NOTES, REASONS};
 use crate::sealed::SEALS;
 
 /// What one code means.
@@ -63,6 +63,19 @@ pub fn row_of_note(code: &str, words: &[&str]) -> Option<&'static Explanation>
     };
     notes().iter().find(|row| row.code.eq_ignore_ascii_case(code)
         && (row.behind.is_empty() || has_word(words, row.behind)))
+}
+
+/// Whether a code is that of a row of limits or of changes.
+pub fn is_of_rows(code: &str) -> bool {
+    first_of(limits(), code).is_some()
+}
+
+/// The row of why a file may not be what it is named for: by a word of that.
+pub fn row_of_reason(words: &[&str]) -> Option<&'static Explanation>
+    ensures { IfSome result (λ row. IsTrue (is_of (codes "note") row.now)) }
+{
+    reasons().iter().find(|row| row.code.eq_ignore_ascii_case("note")
+        && has_word(words, row.behind))
 }
 
 fn has_word(words: &[&str], wanted: &str) -> bool {
@@ -132,6 +145,10 @@ fn notes() -> &'static [Explanation] {
     NOTES
 }
 
+fn reasons() -> &'static [Explanation] {
+    REASONS
+}
+
 pub(crate) const NONE: &[&str] = &[];
 
 const RECORD: &[&str] = &["record"];
@@ -144,7 +161,7 @@ const ENTRY: &[&str] = &["entry"];
 
 const SCRIPT: &[&str] = &["script", "line"];
 
-const DESK: &[&str] = &["desk", "line"];
+pub(crate) const DESK: &[&str] = &["desk", "line"];
 
 const FED: &[&str] = &["line of the feed"];
 
@@ -506,7 +523,7 @@ const SCRIPTS: &[Explanation] = &[
         behind: "",
         code: "E2",
         numbers: NONE,
-        text: "A word of the command line is wrong. The word behind it says which.\nNo file was read for it, but where that word is line or behind.",
+        text: "A word of the command line is wrong. The word behind it says which.\nNo file was read for it, but where that word is line or behind, or today of a host whose seal has a later day.",
     },
 ];
 
@@ -580,7 +597,7 @@ const JOURNALS: &[Explanation] = &[
         behind: "",
         code: "J2",
         numbers: LINE,
-        text: "The line of the journal is no entry. Lines count from 1, with the head.\nLines that another program wrote between the entries, as by 2>> JOURNAL while a host served, are to be taken out.\nWith --after it may be the older journal, which is read first.",
+        text: "The line of the journal is no entry. Lines count from 1, with the head.\nLines that another program wrote between the entries, as by 2>> JOURNAL while a host served, are to be taken out.\nOf recover and serve it is a whole line behind the right ones: make a copy of the file, and recover --cut takes it away with all behind it.\nWith --after it may be the older journal, which is read first.",
     },
     Explanation {
         behind: "",
@@ -620,31 +637,31 @@ const ENTRIES: &[Explanation] = &[
         behind: "",
         code: "P1",
         numbers: ENTRY,
-        text: "The entry's number is not its place in the journal. Entries count from 1.\nWith --after it may be the older journal, which is read first.",
+        text: "The entry's number is not its place in the journal. Entries count from 1.\nWith --after it may be the older journal, which is read first.\nOf recover and serve it is a whole line behind the right ones. Look whether the set, the limits and the days are the journal's. If they are, make a copy\nof the file; recover --cut then takes away that line and all behind it, at most 4,096 lines and 256 KiB, and keeps them beside the journal.",
     },
     Explanation {
         behind: "",
         code: "P2",
         numbers: ENTRY,
-        text: "Another reply is right for the entry, by the lines ahead of it and the limits.\nseatdesk why says which, and from what numbers of seats.\nWith --after it may be the older journal, which is read first.",
+        text: "Another reply is right for the entry, by the lines ahead of it and the limits.\nseatdesk why says which, and from what numbers of seats.\nWith --after it may be the older journal, which is read first.\nOf recover and serve it is a whole line behind the right ones. Look whether the set, the limits and the days are the journal's. If they are, make a copy\nof the file; recover --cut then takes away that line and all behind it, at most 4,096 lines and 256 KiB, and keeps them beside the journal.",
     },
     Explanation {
         behind: "",
         code: "P3",
         numbers: ENTRY,
-        text: "Another number of released seats is right for the entry.\nseatdesk why says which.\nWith --after it may be the older journal, which is read first.",
+        text: "Another number of released seats is right for the entry.\nseatdesk why says which.\nWith --after it may be the older journal, which is read first.\nOf recover and serve it is a whole line behind the right ones. Look whether the set, the limits and the days are the journal's. If they are, make a copy\nof the file; recover --cut then takes away that line and all behind it, at most 4,096 lines and 256 KiB, and keeps them beside the journal.",
     },
     Explanation {
         behind: "",
         code: "P4",
         numbers: ENTRY,
-        text: "Other confirmations from the waitlist are right for the entry.\nseatdesk why says which.\nWith --after it may be the older journal, which is read first.",
+        text: "Other confirmations from the waitlist are right for the entry.\nseatdesk why says which.\nWith --after it may be the older journal, which is read first.\nOf recover and serve it is a whole line behind the right ones. Look whether the set, the limits and the days are the journal's. If they are, make a copy\nof the file; recover --cut then takes away that line and all behind it, at most 4,096 lines and 256 KiB, and keeps them beside the journal.",
     },
     Explanation {
         behind: "",
         code: "P5",
         numbers: ENTRY,
-        text: "The entry's session may not make it, or the call is not the next of that session.\nSessions 1 to 8 ask for seats, and session 0, the manager, changes limits.\nWith --after it may be the older journal, which is read first.",
+        text: "The entry's session may not make it, or the call is not the next of that session.\nSessions 1 to 8 ask for seats, and session 0, the manager, changes limits.\nWith --after it may be the older journal, which is read first.\nOf recover and serve it is a whole line behind the right ones. Look whether the set, the limits and the days are the journal's. If they are, make a copy\nof the file; recover --cut then takes away that line and all behind it, at most 4,096 lines and 256 KiB, and keeps them beside the journal.",
     },
     Explanation {
         behind: "",
@@ -656,7 +673,7 @@ const ENTRIES: &[Explanation] = &[
         behind: "",
         code: "P7",
         numbers: ENTRY,
-        text: "The command or change of the entry does not fit the flights: there is no such place or leg.\nThe journal may be of another data set, first day or number of days.\nWith --after it may be the older journal, which is read first.",
+        text: "The command or change of the entry does not fit the flights: there is no such place or leg.\nThe journal may be of another data set, first day or number of days.\nWith --after it may be the older journal, which is read first.\nOf recover and serve it is a whole line behind the right ones. Look whether the set, the limits and the days are the journal's. If they are, make a copy\nof the file; recover --cut then takes away that line and all behind it, at most 4,096 lines and 256 KiB, and keeps them beside the journal.",
     },
     Explanation {
         behind: "",
@@ -696,7 +713,7 @@ const WORDS: &[Explanation] = &[
         behind: "E2",
         code: "today",
         numbers: NONE,
-        text: "--today is no day of the years 2000 to 2099, as 2024-06-01, or it is missing:\naudit needs it where scripts are named, and serve where the seal beside JOURNAL has no day.\nOr it is earlier than the day of that seal: a host never goes back to an earlier day.\nLeave --today out, and the day of the seal holds. Or it stands beside --feed, which has its days in it.",
+        text: "--today is no day of the years 2000 to 2099, as 2024-06-01, or it is missing:\naudit needs it where scripts are named, and serve where the seal beside JOURNAL has no day.\nOr it is earlier than the day of that seal: a host never goes back to an earlier day.\nLeave --today out, and the day of the seal holds: it stands in JOURNAL.seal, behind today. Or it stands beside --feed, which has its days in it.",
     },
     Explanation {
         behind: "E2",

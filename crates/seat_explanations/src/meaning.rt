@@ -1,6 +1,6 @@
 //! What a line means that the program printed: a fault, a reply, a note or an answer.
 //! It knows how such a line is written, and nothing of what its codes say.
-ghost use Rattle.std.specs.Prelude.{◌≡◌, ◌==◌, [], ◌∷◌, ◌++◌, IfOk, IfSome, IsTrue, OnOk, map};
+ghost use Rattle.std.specs.Prelude.{◌≡◌, ◌==◌, [], ◌∷◌, ◌++◌, IfOk, IfSome, IsTrue, OnOk, codes, map};
 ghost use Rattle.std.specs.List.{slice_split};
 ghost use Rattle.std.specs.String.{string_bytes};
 ghost use Rattle.seat_explanations.specs.Meanings.{IsMeaning, IsMeaningOf};
@@ -8,7 +8,9 @@ ghost use Rattle.seat_explanations.specs.Rows.{Begins, is_of, row_text};
 ghost use Rattle.seat_explanations.specs.Words.{filled, first_word, line_of, unnamed, words_of, IsPlace, IsUnplaced};
 
 use crate::answers::answer_row;
-use crate::explanations::{Explanation, row_behind, row_of, row_of_note};
+use crate::explanations::{
+    DESK, Explanation, is_of_rows, row_behind, row_of, row_of_note, row_of_reason,
+};
 use crate::replies::reply_row;
 use std::alloc::{AllocError, Global};
 
@@ -17,6 +19,12 @@ const NAME: &str = "seatdesk:";
 
 /// What stands ahead of a fault that is of no line, behind FAULT.
 const DASH: &str = "-";
+
+/// What stands ahead of a fault that a host tells a desk.
+const FAULT: &str = "FAULT";
+
+/// The session of a host's manager.
+const MANAGER: &str = "0";
 
 /// What a number with @ ahead of it counts, whatever the code's own numbers are.
 const CALL: &str = "call of that session";
@@ -29,6 +37,7 @@ pub enum Meaning<'a> {
 
 /// What a fault line means: its code, the code or word behind that, and what each number counts; or what a reply, a note or the word that an
 /// answer begins with says.
+/// Of a fault that a host told a desk it is what FAULT says, and then what the fault says.
 /// The line may be one word or several, as it was printed, without the program's name or the place of a journal, and in small letters.
 #[tactic(auto, using(crate::proofs::Rows::meaning_of_rest))]
 pub fn meaning_of<'a>(
@@ -57,21 +66,79 @@ fn explained<'a>(alloc: Global, line: &[&'a str]) -> Result<Meaning<'a>, AllocEr
         return Ok(Meaning::Found(text_of(alloc, note)?));
     }
     if let Some(answer) = answer_row(code) {
-        return Ok(Meaning::Found(text_of(alloc, answer)?));
+        let mut text = text_of(alloc, answer)?;
+        return match put_told(&mut text, code, behind)? {
+            None => Ok(Meaning::Found(text)),
+            Some(word) => Ok(Meaning::Unknown(word)),
+        };
     }
     let Some(first) = row_for(code) else {
-        return Ok(Meaning::Unknown(*code));
+        return match reason_for(code, behind) {
+            Some(reason) => Ok(Meaning::Found(text_of(alloc, reason)?)),
+            None => Ok(Meaning::Unknown(*code)),
+        };
     };
     let mut text = text_of(alloc, first)?;
-    let numbers = put_behind(&mut text, code, behind)?;
-    let counted = counted_by(first, code, behind);
+    match put_details(&mut text, first, code, behind)? {
+        None => Ok(Meaning::Found(text)),
+        Some(word) => Ok(Meaning::Unknown(word)),
+    }
+}
+
+/// Adds what the fault behind FAULT says, of which a host told a desk; or answers its first word that is no code or number of it.
+#[tactic(auto, using(crate::proofs::Rows::itself, crate::proofs::Rows::longer, crate::proofs::Rows::further))]
+fn put_told<'a>(
+    text: &mut String,
+    word: &str,
+    fault: &[&'a str],
+) -> Result<Option<&'a str>, AllocError>
+    ensures { OnOk result (Begins (string_bytes text.old) (string_bytes text.new)) }
+{
+    if !word.eq_ignore_ascii_case(FAULT) {
+        return Ok(None);
+    }
+    let Some((code, behind)) = fault.split_first() else {
+        return Ok(None);
+    };
+    let Some(row) = row_for(code) else {
+        return Ok(Some(*code));
+    };
+    put(text, row)?;
+    put_details(text, row, code, behind)
+}
+
+/// Adds what the code or word behind a code says, and what each number counts; or answers the first word that is none of these.
+#[tactic(auto, using(crate::proofs::Rows::itself, crate::proofs::Rows::further))]
+fn put_details<'a>(
+    text: &mut String,
+    row: &'static Explanation,
+    code: &str,
+    behind: &[&'a str],
+) -> Result<Option<&'a str>, AllocError>
+    ensures { OnOk result (Begins (string_bytes text.old) (string_bytes text.new)) }
+{
+    let numbers = put_behind(text, code, behind)?;
+    let counted = counted(row, code, behind, numbers);
     if let Some(word) = no_number(counted, numbers) {
-        return Ok(Meaning::Unknown(word));
+        return Ok(Some(word));
     }
     for (what, number) in counted.iter().zip(numbers) {
-        put_number(&mut text, what, number)?;
+        put_number(text, what, number)?;
     }
-    Ok(Meaning::Found(text))
+    Ok(None)
+}
+
+/// What the numbers behind a code count. Of a row of changes that a host was sent they are the manager's session, 0, and the line.
+fn counted(
+    row: &'static Explanation,
+    code: &str,
+    behind: &[&str],
+    numbers: &[&str],
+) -> &'static [&'static str] {
+    match numbers {
+        [session, _] if *session == MANAGER && is_of_rows(code) => DESK,
+        _ => counted_by(row, code, behind),
+    }
 }
 
 /// The row of a fault's code or a reply's.
@@ -80,6 +147,16 @@ fn row_for(code: &str) -> Option<&'static Explanation>
     ensures { IfSome result (λ row. IsTrue (is_of code.now row.now)) }
 {
     row_of(code).or(reply_row(code))
+}
+
+/// The row of what -v says of a file, behind its name and a colon.
+fn reason_for(name: &str, behind: &[&str]) -> Option<&'static Explanation>
+    ensures { IfSome result (λ row. IsTrue (is_of (codes "note") row.now)) }
+{
+    if !name.ends_with(':') {
+        return None;
+    }
+    row_of_reason(behind)
 }
 
 fn text_of(alloc: Global, row: &Explanation) -> Result<String, AllocError>

@@ -2,6 +2,14 @@
 
 use crate::explanations::{Explanation, NONE};
 
+// Why a file may not be what it is named for, as -v says it behind the file's name, each by a word of it.
+pub(crate) const REASONS: &[Explanation] = &[Explanation {
+    behind: "another",
+    code: "note",
+    numbers: NONE,
+    text: "Another process has the file's lock: a run, seatdesk seal or recover that has not ended, or a host that serves the journal,\nor of a pipe the host of its desk. One at a time has it. Wait for a run; a host ends by ?STOP of its manager, or of a desk on standard input by the\nend of its input. fuser with the file's name tells the process. The lock goes with its process, so there is nothing to take away.",
+}];
+
 // Lines that are no fault, each by a word of it; the last is that of any other note.
 pub(crate) const NOTES: &[Explanation] = &[
     Explanation {
