@@ -101,6 +101,8 @@ complete -c seatdesk -n '__fish_seen_subcommand_from serve' -l desk -x -d 'Where
 complete -c seatdesk -n '__fish_seen_subcommand_from serve' -l manager -x -d 'The two pipes of the manager, as IN:OUT, whom desks on pipes need'
 complete -c seatdesk -n '__fish_seen_subcommand_from serve' -l status -r -F -d 'The file that says how the host of desks on pipes is doing: lines, groups, desks, seats sold. It is rewritten whole'
 complete -c seatdesk -n '__fish_seen_subcommand_from serve' -l every -x -d 'How often that is said, 1 to 3600 seconds; 60 where nothing is said'
+complete -c seatdesk -n '__fish_seen_subcommand_from serve' -l feed -x -d 'Where one stream of lines for all desks comes from, in place of them: -, for standard input; it has its days in it, and what is told of it goes to standard output'
+complete -c seatdesk -n '__fish_seen_subcommand_from serve' -l behind -x -d 'How many lines the journal had where the feed begins, 0 to 999999; 0 where nothing is said'
 complete -c seatdesk -n '__fish_seen_subcommand_from serve' -s v -l verbose -d 'Names the file of a fault, and where in it the fault stands, or the system\'s reason'
 complete -c seatdesk -n '__fish_seen_subcommand_from serve' -s h -l help -d 'Print help'
 
@@ -223,6 +225,6 @@ complete -c seatdesk -n '__fish_seen_subcommand_from why' -F
 
 complete -c seatdesk -n '__fish_seen_subcommand_from explain' -s v -l verbose -d 'Names the file of a fault, and where in it the fault stands, or the system\'s reason'
 complete -c seatdesk -n '__fish_seen_subcommand_from explain' -s h -l help -d 'Print help'
-complete -c seatdesk -n '__fish_seen_subcommand_from explain' -a 'A1 A2 A3 A4 A5 A6 A7 A8 A9 B1 C1 DEVICE E1 E2 F1 F2 F3 F4 F5 F6 F7 F8 F9 H1 H2 H3 H4 H5 J1 J2 J3 J4 L1 L2 L3 L4 M1 M2 M3 M4 M5 M6 M7 MEMORY P1 P2 P3 P4 P5 P6 P7 P8 P9 Q1 Q2 Q3 R2 S1 S2 S3 S4 S5 S6 S7 S8 S9 S10 S11 S12 S13 S14 S15 SEAL U1'
+complete -c seatdesk -n '__fish_seen_subcommand_from explain' -a 'A1 A2 A3 A4 A5 A6 A7 A8 A9 B1 C1 DEVICE E1 E2 F1 F2 F3 F4 F5 F6 F7 F8 F9 FEED H1 H2 H3 H4 H5 J1 J2 J3 J4 L1 L2 L3 L4 M1 M2 M3 M4 M5 M6 M7 MEMORY P1 P2 P3 P4 P5 P6 P7 P8 P9 Q1 Q2 Q3 R2 S1 S2 S3 S4 S5 S6 S7 S8 S9 S10 S11 S12 S13 S14 S15 SEAL U1'
 
 complete -c seatdesk -n '__fish_seen_subcommand_from help' -a 'ladder check flights cover rooms loads run serve bookings waiting pickup history audit seal recover replies told why explain'

@@ -100,6 +100,8 @@ IsServe rows asked = IsOver rows asked.over
     × MayHave rows (codes "manager") (option_map (λ text. text.now) asked.manager)
     × MayHave rows (codes "status") (option_map (λ text. text.now) asked.status)
     × MayHave rows (codes "every") (option_map (λ text. text.now) asked.every)
+    × MayHave rows (codes "feed") (option_map (λ text. text.now) asked.feed)
+    × MayHave rows (codes "behind") (option_map (λ text. text.now) asked.behind)
 
 abbrev pub IsBookings : List Row → BookingsJob → Type 0
 IsBookings rows asked = IsOver rows asked.over

@@ -38,6 +38,12 @@ const MANAGER_HELP: &str = "The two pipes of the manager, as IN:OUT, whom desks 
 const STATUS_HELP: &str =
     "The file that says how the host of desks on pipes is doing: lines, groups, desks, seats sold. It is rewritten whole";
 
+const FEED_HELP: &str =
+    "Where one stream of lines for all desks comes from, in place of them: -, for standard input; it has its days in it, and what is told of it goes to standard output";
+
+const FED_HELP: &str =
+    "How many lines the journal had where the feed begins, 0 to 999999; 0 where nothing is said";
+
 const EVERY_HELP: &str = "How often that is said, 1 to 3600 seconds; 60 where nothing is said";
 
 const OUT_HELP: &str =
@@ -355,7 +361,7 @@ fn serve_command<'a>(alloc: Global) -> Result<Command<'a>, AllocError>
         alloc,
         "serve",
         "Stays open for desks: answers each line of a message once it is on the disk",
-        "Type the lines of a message, as in a script: the reply to each segment line stands below it. ? LZ601Q27JUL LHRKEF shows the seats\nthat are left in a class. The end of the input, or ?BYE, ends the journal; a host that is killed loses no reply that it gave,\nand goes on from its journal when it is started again.\n\nExample: seatdesk serve --set examples/summer.ssim --limits examples/limits.txt --first 2024-07-01 --days 31 --today 2024-06-20 --journal journal.txt --desk -\n\nTwo desks and a manager on pipes: seatdesk serve --set examples/summer.ssim --limits examples/limits.txt --first 2024-07-01 --days 31 --today 2024-06-20 --journal journal.txt --desk 1=london.in:london.out --desk 2=lisbon.in:lisbon.out --manager m.in:m.out",
+        "Type the lines of a message, as in a script: the reply to each segment line stands below it. ? LZ601Q27JUL LHRKEF shows the seats\nthat are left in a class. The end of the input, or ?BYE, ends the journal; a host that is killed loses no reply that it gave,\nand goes on from its journal when it is started again.\n\nExample: seatdesk serve --set examples/summer.ssim --limits examples/limits.txt --first 2024-07-01 --days 31 --today 2024-06-20 --journal journal.txt --desk -\n\nTwo desks and a manager on pipes: seatdesk serve --set examples/summer.ssim --limits examples/limits.txt --first 2024-07-01 --days 31 --today 2024-06-20 --journal journal.txt --desk 1=london.in:london.out --desk 2=lisbon.in:lisbon.out --manager m.in:m.out\n\nOne stream of lines for all desks: seatdesk serve --set examples/summer.ssim --limits examples/limits.txt --first 2024-07-01 --days 31 --journal journal.txt --feed -",
     );
     let serve = with_argument(
         serve,
@@ -374,10 +380,12 @@ fn serve_command<'a>(alloc: Global) -> Result<Command<'a>, AllocError>
         optional_option(alloc, "manager", "PIPES", MANAGER_HELP),
     );
     let serve = with_argument(serve, optional_option(alloc, "status", "FILE", STATUS_HELP));
-    with_argument(
+    let serve = with_argument(
         serve,
         optional_option(alloc, "every", "SECONDS", EVERY_HELP),
-    )
+    );
+    let serve = with_argument(serve, optional_option(alloc, "feed", "FEED", FEED_HELP));
+    with_argument(serve, optional_option(alloc, "behind", "N", FED_HELP))
 }
 
 fn bookings_command<'a>(alloc: Global) -> Result<Command<'a>, AllocError>

@@ -196,6 +196,14 @@ pub fn examples_are_read()
         ∷ (codes "desk", codes "1=london.in:london.out" ∷ codes "2=lisbon.in:lisbon.out" ∷ [])
         ∷ (codes "manager", codes "m.in:m.out" ∷ [])
         ∷ (codes "verbose", codes "false" ∷ []) ∷ []) }
+    ensures feed { IsReadTo
+        (codes "seatdesk serve --set examples/summer.ssim --limits examples/limits.txt --first 2024-07-01 --days 31 --journal journal.txt --feed -")
+        (codes "serve")
+        ((codes "set", codes "examples/summer.ssim" ∷ []) ∷ (codes "limits", codes "examples/limits.txt" ∷ [])
+        ∷ (codes "first", codes "2024-07-01" ∷ []) ∷ (codes "days", codes "31" ∷ [])
+        ∷ (codes "journal", codes "journal.txt" ∷ [])
+        ∷ (codes "feed", codes "-" ∷ [])
+        ∷ (codes "verbose", codes "false" ∷ []) ∷ []) }
     ensures recover { IsReadTo
         (codes "seatdesk recover --set examples/summer.ssim --limits examples/limits.txt --first 2024-07-01 --days 31 journal.txt")
         (codes "recover")

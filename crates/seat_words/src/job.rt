@@ -55,8 +55,8 @@ pub enum Job<'a> {
     /// `seatdesk run` over a horizon `[--after JOURNAL] [--behind N] [--resume JOURNAL] --today DATE --journal OUT [--changes FILE]
     /// [--no-clobber] [--again] [SCRIPT...]`
     Run(RunJob<'a>),
-    /// `seatdesk serve` over a horizon `[--today DATE] --journal JOURNAL --desk DESK... [--manager PIPES] [--status FILE]
-    /// [--every SECONDS]`
+    /// `seatdesk serve` over a horizon `[--today DATE] --journal JOURNAL [--desk DESK]... [--manager PIPES] [--status FILE]
+    /// [--every SECONDS] [--feed FEED] [--behind N]`
     Serve(ServeJob<'a>),
     /// `seatdesk bookings` over a horizon `[--locator LOCATOR]... [--flight FLIGHT] [--day DATE] [--csv] [--json] [--open] JOURNAL`
     Bookings(BookingsJob<'a>),
@@ -153,6 +153,9 @@ pub struct ServeJob<'a> {
     pub manager: Option<&'a str>,
     pub status: Option<&'a str>,
     pub every: Option<&'a str>,
+    /// Where one stream of lines for all desks comes from.
+    pub feed: Option<&'a str>,
+    pub behind: Option<&'a str>,
 }
 
 /// What `seatdesk bookings` asks for.
@@ -407,6 +410,8 @@ fn serve_asked<'a>(alloc: Global, matches: &ArgMatches<'a>) -> Result<ServeJob<'
         manager: may_value_of(matches, "manager"),
         status: may_value_of(matches, "status"),
         every: may_value_of(matches, "every"),
+        feed: may_value_of(matches, "feed"),
+        behind: may_value_of(matches, "behind"),
     })
 }
 

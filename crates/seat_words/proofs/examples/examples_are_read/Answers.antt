@@ -123,6 +123,10 @@ pub returns-clause-pipes : goal.returns-clause-pipes
 unfolding seatdesk_app selling_app bare_app named_app ladder_app check_app flights_app cover_app rooms_app loads_app run_app serve_app bookings_app audit_app seal_app recover_app replies_app told_app waiting_app pickup_app history_app why_app explain_app horizon_app clap_on_literals
 returns-clause-pipes c = record { taken = refl; found = refl }
 
+pub returns-clause-feed : goal.returns-clause-feed
+unfolding seatdesk_app selling_app bare_app named_app ladder_app check_app flights_app cover_app rooms_app loads_app run_app serve_app bookings_app audit_app seal_app recover_app replies_app told_app waiting_app pickup_app history_app why_app explain_app horizon_app clap_on_literals
+returns-clause-feed c = record { taken = refl; found = refl }
+
 pub returns-clause-recover : goal.returns-clause-recover
 unfolding seatdesk_app selling_app bare_app named_app ladder_app check_app flights_app cover_app rooms_app loads_app run_app serve_app bookings_app audit_app seal_app recover_app replies_app told_app waiting_app pickup_app history_app why_app explain_app horizon_app clap_on_literals
 returns-clause-recover c = record { taken = refl; found = refl }
