@@ -13,5 +13,5 @@ pub use bookings::BookingsOf;
 pub use laws::{passes_go_in_order, waiters_lack_seats};
 pub use listing::listed;
 pub use named::status_code;
-pub use picking::{Designator, Wanted, keeps_flight, picked};
+pub use picking::{Designator, Wanted, keeps_flight, keeps_place, picked};
 pub use waiting::{WaitingOf, lacked};

@@ -152,7 +152,7 @@ fn has_locator(locators: &[Locator], booking: &Booking) -> bool
 }
 
 /// Whether a place is asked for.
-fn keeps_place(flights: &Flights, wanted: &Wanted<'_>, place: Place) -> bool
+pub fn keeps_place(flights: &Flights, wanted: &Wanted<'_>, place: Place) -> bool
     ensures { result ≡ keeps_place flights.now wanted.now place }
 {
     if place.flight >= flights.len() {

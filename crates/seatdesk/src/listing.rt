@@ -8,19 +8,21 @@ use crate::commands::{
 };
 use airline_base::Day;
 use desk_questions::HistoryOf;
+use pickup_questions::{By as PickupBy, PickupOf};
 use seat_files::Refusal;
 use seat_lists::{BookingsOf, WaitingOf, Wanted};
 use seat_loads::LoadsOf;
+use seat_pickup::Past;
 use seat_questions::RoomsOf;
 use seat_tables::Form;
 use seat_words::{
     BookingsJob, HistoryJob, Horizon, LoadsJob, PickupJob, RoomsJob, Shape, WaitingJob, WordFault,
-    behind_word, locator_word,
+    behind_word,
 };
 use std::thread::Threads;
 use table_questions::{
     BookingTable, ClassSums, DaySums, FlightSums, HistoryTable, LegSums, LoadTable, PairSums,
-    PickupOf, RoomTable, Table, TableOf, WaitingTable,
+    RoomTable, Table, TableOf, WaitingTable,
 };
 
 /// The rooms of the places that `--day` and `--pair` keep, with bars where they are asked for. Without a journal they are those
@@ -255,18 +257,14 @@ pub fn pickup<'a, R: Threads + Sync>(
 ) -> Result<(), Refusal<'a>> {
     let over = &asked.over;
     let days = days_of(over.first, over.days)?;
-    let Some(behind) = behind_word(asked.behind) else {
+    let Some(lines) = behind_word(asked.behind) else {
         return Err(Refusal::from(WordFault::BadBehind));
     };
-    let flight = flight_asked(asked.flight)?;
-    let form = match form_asked(asked.shape, false)? {
-        Some(form) => form,
-        None => Form::Text,
-    };
     let question = PickupOf {
-        behind,
-        flight,
-        form,
+        past: Past::Lines(lines),
+        flight: flight_asked(asked.flight)?,
+        by: PickupBy::EachRow,
+        form: sums_form(asked.shape, false)?,
     };
     let journal = Some(asked.journal);
     asked_of(rt, threads, over, days, &question, journal, asked.is_open)
@@ -280,34 +278,23 @@ pub fn history<'a, R: Threads + Sync>(
 ) -> Result<(), Refusal<'a>> {
     let over = &asked.over;
     let days = days_of(over.first, over.days)?;
-    let Some(locator) = locator_word(asked.locator) else {
-        return Err(Refusal::from(WordFault::BadLocator));
+    let locators = locators_asked(rt.alloc(), &[asked.locator])?;
+    let wanted = Wanted {
+        locators: locators.as_slice(),
+        flight: None,
+        day: None,
     };
-    let journal = Some(asked.journal);
+    let (journal, is_open) = (Some(asked.journal), asked.is_open);
     let form = form_asked(asked.shape, false)?;
     match form {
         Some(form) => {
-            let table = HistoryTable { locator };
-            tabled(
-                rt,
-                threads,
-                over,
-                days,
-                &table,
-                form,
-                journal,
-                asked.is_open,
-            )
+            let table = HistoryTable { wanted };
+            tabled(rt, threads, over, days, &table, form, journal, is_open)
         }
-        None => asked_of(
-            rt,
-            threads,
-            over,
-            days,
-            &HistoryOf { locator },
-            journal,
-            asked.is_open,
-        ),
+        None => {
+            let question = HistoryOf { wanted };
+            asked_of(rt, threads, over, days, &question, journal, is_open)
+        }
     }
 }
 

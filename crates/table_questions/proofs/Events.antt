@@ -1,5 +1,5 @@
 -- The rows of what a line asked, and of an advice.
-use Rattle.std.proofs.Common.{◌≡◌, ℕ, List, [], ◌∷◌, sym, subst, Option, Some, None}
+use Rattle.std.proofs.Common.{Bool, ◌≡◌, List, [], ◌∷◌, sym, subst, Option, Some, None}
 use Rattle.ssim_flights.specs.declared.flight.Flight.{Flight as Flown}
 use Rattle.seat_journal.specs.declared.entry.Advice.{Advice}
 use Rattle.seat_journal.specs.declared.entry.Command.{Command}
@@ -23,15 +23,15 @@ asked_put flights e o c row old new some is put =
     subst (λ (x : Option Command). ArePut history_names (asked_rows flights e x) old new) (sym some)
     (subst (λ (cells : List Cell). ArePut history_names (cells ∷ []) old new) is put)
 
-pub no_advice : (flights : List Flown) (journal : List Entry) (locator : List ℕ) (e : Entry) (a : Advice) (sheet : Sheet)
-    → asked_in locator (line_numbered journal a.number) ≡ None → IsReady sheet
-    → ArePut history_names (advice_rows flights journal locator e 0 a) sheet sheet
-no_advice flights journal locator e a sheet none ready =
+pub no_advice : (flights : List Flown) (journal : List Entry) (keeps : Command → Bool) (e : Entry) (a : Advice) (sheet : Sheet)
+    → asked_in keeps (line_numbered journal a.number) ≡ None → IsReady sheet
+    → ArePut history_names (advice_rows flights journal keeps e 0 a) sheet sheet
+no_advice flights journal keeps e a sheet none ready =
     subst (λ (x : Option Command). ArePut history_names (confirmed_rows flights e a x) sheet sheet) (sym none) (put_none history_names sheet ready)
 
-pub advice_put : (flights : List Flown) (journal : List Entry) (locator : List ℕ) (e : Entry) (a : Advice) (c : Command) (row : List Cell)
-    (old new : Sheet) → asked_in locator (line_numbered journal a.number) ≡ Some c → row ≡ advice_row flights e a c
-    → ArePut history_names (row ∷ []) old new → ArePut history_names (advice_rows flights journal locator e 0 a) old new
-advice_put flights journal locator e a c row old new made is put =
+pub advice_put : (flights : List Flown) (journal : List Entry) (keeps : Command → Bool) (e : Entry) (a : Advice) (c : Command) (row : List Cell)
+    (old new : Sheet) → asked_in keeps (line_numbered journal a.number) ≡ Some c → row ≡ advice_row flights e a c
+    → ArePut history_names (row ∷ []) old new → ArePut history_names (advice_rows flights journal keeps e 0 a) old new
+advice_put flights journal keeps e a c row old new made is put =
     subst (λ (x : Option Command). ArePut history_names (confirmed_rows flights e a x) old new) (sym made)
     (subst (λ (cells : List Cell). ArePut history_names (cells ∷ []) old new) is put)

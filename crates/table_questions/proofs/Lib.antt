@@ -5,4 +5,3 @@ pub mod Days
 pub mod Events
 pub mod Pairs
 pub mod Classes
-pub mod PickedUp

@@ -1,5 +1,5 @@
--- The table of a locator's history: a row for each line that it asked for, and for each advice to a booking of it.
-use Rattle.std.specs.Prelude.{ℕ, List, [], ◌∷◌, ◌++◌, codes, Option, Some, None}
+-- The table of a history: a row for each line that asked for what is wanted, and for each advice to a booking that such a line made.
+use Rattle.std.specs.Prelude.{ℕ, Bool, List, [], ◌∷◌, ◌++◌, codes, Option, Some, None}
 use Rattle.airimp_lines.specs.declared.segment.Segment.{Segment}
 use Rattle.ssim_flights.specs.declared.flight.Flight.{Flight as Flown}
 use Rattle.seat_journal.specs.declared.entry.Advice.{Advice}
@@ -9,16 +9,17 @@ use Rattle.seat_nesting.specs.Nesting.{Ladders}
 use Rattle.seat_rules.specs.Applying.{effect_of}
 use Rattle.seat_rules.specs.declared.effect.Effect.{Effect}
 use Rattle.seat_rules.specs.declared.effect.Effect.TheVariants.{Holds, Waits, Reduces}
+use Rattle.seat_lists.specs.declared.picking.Wanted.{Wanted}
 use Rattle.desk_telling.specs.Segments.{segment_of}
 use Rattle.desk_telling.specs.Telling.{line_numbered}
-use Rattle.desk_questions.specs.History.{asked_in, under}
+use Rattle.desk_questions.specs.History.{asked_in, is_wanted, under}
 use Rattle.seat_tables.specs.Rows.{rows_from}
 use Rattle.seat_tables.specs.declared.cell.Cell.{Cell}
-use Rattle.seat_tables.specs.declared.cell.Cell.TheVariants.{Number, Date, Stop, Letter, Word, Flight, Nothing}
+use Rattle.seat_tables.specs.declared.cell.Cell.TheVariants.{Number, Date, Stop, Letter, Name, Word, Flight, Nothing}
 
 abbrev pub history_names : List (List ℕ)
 history_names =
-    codes "number" ∷ codes "session" ∷ codes "designator" ∷ codes "class" ∷ codes "day" ∷ codes "board" ∷ codes "off"
+    codes "number" ∷ codes "session" ∷ codes "locator" ∷ codes "designator" ∷ codes "class" ∷ codes "day" ∷ codes "board" ∷ codes "off"
     ∷ codes "code" ∷ codes "seats" ∷ codes "reply" ∷ codes "holds" ∷ codes "waits" ∷ codes "cancels" ∷ []
 
 -- ---- the segment; of one that no flight has nothing is known
@@ -55,10 +56,10 @@ cancelled_by _ seats = 0
 
 -- ---- rows
 
--- a line and its session, the segment as it was asked for, its code and seats, the reply, and what that did
+-- a line, its session and the locator, the segment as it was asked for, its code and seats, the reply, and what that did
 abbrev pub asked_row : List Flown → Entry → Command → List Cell
 asked_row flights e c =
-    Number e.number ∷ Number e.session ∷ designator_in (segment_of flights c) ∷ Letter c.class ∷ day_in (segment_of flights c)
+    Number e.number ∷ Number e.session ∷ Name c.locator ∷ designator_in (segment_of flights c) ∷ Letter c.class ∷ day_in (segment_of flights c)
     ∷ board_in (segment_of flights c) ∷ off_in (segment_of flights c) ∷ Word c.code ∷ Number c.seats ∷ Word e.reply
     ∷ Number (held_by (effect_of e.reply) c.seats) ∷ Number (listed_by (effect_of e.reply) c.seats)
     ∷ Number (cancelled_by (effect_of e.reply) c.seats) ∷ []
@@ -66,7 +67,7 @@ asked_row flights e c =
 -- the segment of the booking that is confirmed, with KL and the seats of the advice, which are held from then on; an advice has no reply
 abbrev pub advice_row : List Flown → Entry → Advice → Command → List Cell
 advice_row flights e a c =
-    Number e.number ∷ Number e.session ∷ designator_in (segment_of flights c) ∷ Letter c.class ∷ day_in (segment_of flights c)
+    Number e.number ∷ Number e.session ∷ Name c.locator ∷ designator_in (segment_of flights c) ∷ Letter c.class ∷ day_in (segment_of flights c)
     ∷ board_in (segment_of flights c) ∷ off_in (segment_of flights c) ∷ Word (codes "KL") ∷ Number a.seats ∷ Nothing
     ∷ Number a.seats ∷ Number 0 ∷ Number 0 ∷ []
 
@@ -79,14 +80,14 @@ confirmed_rows flights e a None = []
 confirmed_rows flights e a (Some c) = advice_row flights e a c ∷ []
 
 -- the booking of an advice was made by the line of its number
-abbrev pub advice_rows : List Flown → List Entry → List ℕ → Entry → ℕ → Advice → List (List Cell)
-advice_rows flights journal locator e k a =
-    confirmed_rows flights e a (asked_in locator (line_numbered journal a.number))
+abbrev pub advice_rows : List Flown → List Entry → (Command → Bool) → Entry → ℕ → Advice → List (List Cell)
+advice_rows flights journal keeps e k a =
+    confirmed_rows flights e a (asked_in keeps (line_numbered journal a.number))
 
 -- of a line what it asked, and then its advices in their order
-abbrev pub line_rows : List Flown → List Entry → List ℕ → ℕ → Entry → List (List Cell)
-line_rows flights journal locator k e =
-    asked_rows flights e (under locator e.work) ++ rows_from (advice_rows flights journal locator e) 0 e.advices
+abbrev pub line_rows : List Flown → List Entry → (Command → Bool) → ℕ → Entry → List (List Cell)
+line_rows flights journal keeps k e =
+    asked_rows flights e (under keeps e.work) ++ rows_from (advice_rows flights journal keeps e) 0 e.advices
 
-abbrev pub history_rows : List ℕ → List Flown → Ladders → List Entry → List (List Cell)
-history_rows locator flights grid journal = rows_from (line_rows flights journal locator) 0 journal
+abbrev pub history_rows : Wanted → List Flown → Ladders → List Entry → List (List Cell)
+history_rows wanted flights grid journal = rows_from (line_rows flights journal (is_wanted flights wanted)) 0 journal

@@ -4,4 +4,3 @@ pub mod RoomRows
 pub mod BookingRows
 pub mod SumRows
 pub mod HistoryRows
-pub mod PickupRows

@@ -168,7 +168,7 @@ fn day_cells(day: Day, sums: &Sums) -> [Cell; 7]
 
 /// The number of the earliest day on which a leg departs; the last there is where there is none.
 #[tactic(auto, using(crate::proofs::Days::earlier_flight, crate::proofs::Days::no_flight_earlier))]
-fn days_from(flights: &Flights) -> u32
+pub fn days_from(flights: &Flights) -> u32
     ensures value { result ≡ days_from flights.now }
     ensures bound { IsDay result }
 {
@@ -195,7 +195,7 @@ fn earliest(day: u32, legs: &[DatedLeg]) -> u32
 
 /// The number of the latest day on which a leg departs, or 0.
 #[tactic(auto, using(crate::proofs::Days::later_flight, crate::proofs::Days::no_flight_later))]
-fn latest_of(flights: &Flights) -> u32
+pub fn latest_of(flights: &Flights) -> u32
     ensures value { result ≡ latest_of 0 flights.now }
     ensures bound { result ≤ 84005 }
 {

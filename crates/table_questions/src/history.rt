@@ -1,35 +1,36 @@
-//! The table of a locator's history: what the lines of a journal did for it, row by row.
+//! The table of a history: what the lines of a journal did for a locator, or on a flight, row by row.
 //! It knows no other table.
 ghost use Rattle.std.specs.Prelude.{◌≡◌, IfOk, OnOk, map};
 ghost use Rattle.seat_tables.specs.Rows.{IsTable, rows_from};
 ghost use Rattle.seat_tables.specs.Sheets.{ArePut, IsReady};
-ghost use Rattle.desk_questions.specs.History.{under};
+ghost use Rattle.desk_questions.specs.History.{is_wanted, under};
 ghost use Rattle.table_questions.specs.HistoryRows.{advice_row, advice_rows, asked_row, asked_rows, board_in, cancelled_by, day_in, designator_in, held_by, history_names, line_rows, listed_by, off_in};
 
 use crate::table::Table;
 use airimp_lines::Segment;
-use airline_base::{Code, Locator};
+use airline_base::Code;
 use desk_questions::{made_under, under};
 use desk_telling::segment_of;
 use seat_core::Core;
 use seat_journal::{Advice, Command, Entry};
+use seat_lists::Wanted;
 use seat_rules::{Effect, effect_of};
 use seat_tables::{Cell, Form, Sheet, put_row};
 use ssim_flights::Flights;
 use std::alloc::{AllocError, Global};
 
-/// What the lines of a journal did for a locator.
+/// What the lines of a journal did for a locator, on a flight or on a day.
 #[derive(Clone, Copy)]
-pub struct HistoryTable {
-    pub locator: Locator,
+pub struct HistoryTable<'a> {
+    pub wanted: Wanted<'a>,
 }
 
-impl Table for HistoryTable {
+impl<'a> Table for HistoryTable<'a> {
     ghost use Rattle.table_questions.specs.HistoryRows.{history_names, history_rows};
 
     ghost names = { history_names };
 
-    ghost rows = { λ asked flights grid journal. history_rows asked.locator flights grid journal };
+    ghost rows = { λ asked flights grid journal. history_rows asked.wanted flights grid journal };
 
     fn written(
         &self,
@@ -38,7 +39,7 @@ impl Table for HistoryTable {
         flights: &Flights,
         core: &Core,
     ) -> Result<Vec<u8>, AllocError> {
-        history_table(alloc, form, flights, core.journal(), self.locator)
+        history_table(alloc, form, flights, core.journal(), &self.wanted)
     }
 }
 
@@ -48,23 +49,24 @@ fn history_table(
     form: Form,
     flights: &Flights,
     journal: &[Entry],
-    locator: Locator,
+    wanted: &Wanted<'_>,
 ) -> Result<Vec<u8>, AllocError>
     ensures { IfOk result (λ text. IsTable form history_names
-        (rows_from (line_rows flights.now journal.now locator) 0 journal.now) text.items) }
+        (rows_from (line_rows flights.now journal.now (is_wanted flights.now wanted.now)) 0 journal.now) text.items) }
 {
     let mut sheet = Sheet::new(alloc, form, &names())?;
-    put_lines(alloc, &mut sheet, flights, journal, locator)?;
+    put_lines(alloc, &mut sheet, flights, journal, wanted)?;
     sheet.into_text()
 }
 
 /// The names of the columns.
-fn names() -> [&'static str; 13]
+fn names() -> [&'static str; 14]
     ensures { map (λ n. n.now) result ≡ history_names }
 {
     [
         "number",
         "session",
+        "locator",
         "designator",
         "class",
         "day",
@@ -85,14 +87,14 @@ fn put_lines(
     sheet: &mut Sheet,
     flights: &Flights,
     journal: &[Entry],
-    locator: Locator,
+    wanted: &Wanted<'_>,
 ) -> Result<(), AllocError>
     requires ready { IsReady sheet.old }
-    ensures { OnOk result (ArePut history_names (rows_from (line_rows flights.now journal.now locator) 0 journal.now)
+    ensures { OnOk result (ArePut history_names (rows_from (line_rows flights.now journal.now (is_wanted flights.now wanted.now)) 0 journal.now)
         sheet.old sheet.new) }
 {
     for i in 0..journal.len() {
-        put_line(alloc, sheet, flights, journal, locator, &journal[i])?;
+        put_line(alloc, sheet, flights, journal, wanted, &journal[i])?;
     }
     Ok(())
 }
@@ -104,32 +106,32 @@ fn put_line(
     sheet: &mut Sheet,
     flights: &Flights,
     journal: &[Entry],
-    locator: Locator,
+    wanted: &Wanted<'_>,
     line: &Entry,
 ) -> Result<(), AllocError>
     requires ready { IsReady sheet.old }
-    ensures { OnOk result (ArePut history_names (line_rows flights.now journal.now locator 0 line.now)
+    ensures { OnOk result (ArePut history_names (line_rows flights.now journal.now (is_wanted flights.now wanted.now) 0 line.now)
         sheet.old sheet.new) }
 {
-    put_asked(alloc, sheet, flights, locator, line)?;
-    put_advices(alloc, sheet, flights, journal, locator, line)?;
+    put_asked(alloc, sheet, flights, wanted, line)?;
+    put_advices(alloc, sheet, flights, journal, wanted, line)?;
     Ok(())
 }
 
-/// Adds the row of what a line asked, if it did so under the locator.
+/// Adds the row of what a line asked, if it did so of what is wanted.
 #[tactic(auto, using(crate::proofs::Tables::row_put, crate::proofs::Events::nothing_asked, crate::proofs::Events::asked_put))]
 fn put_asked(
     alloc: Global,
     sheet: &mut Sheet,
     flights: &Flights,
-    locator: Locator,
+    wanted: &Wanted<'_>,
     line: &Entry,
 ) -> Result<(), AllocError>
     requires ready { IsReady sheet.old }
-    ensures { OnOk result (ArePut history_names (asked_rows flights.now line.now (under locator line.now.work))
+    ensures { OnOk result (ArePut history_names (asked_rows flights.now line.now (under (is_wanted flights.now wanted.now) line.now.work))
         sheet.old sheet.new) }
 {
-    match under(&line.work, locator) {
+    match under(flights, &line.work, wanted) {
         Some(command) => {
             let row = asked_row(flights, line, &command);
             put_row(alloc, sheet, &names(), &row)
@@ -139,7 +141,7 @@ fn put_asked(
 }
 
 /// The row of a request.
-fn asked_row(flights: &Flights, line: &Entry, command: &Command) -> [Cell; 13]
+fn asked_row(flights: &Flights, line: &Entry, command: &Command) -> [Cell; 14]
     ensures { result ≡ asked_row flights.now line.now command.now }
 {
     let segment = segment_of(flights, command);
@@ -147,6 +149,7 @@ fn asked_row(flights: &Flights, line: &Entry, command: &Command) -> [Cell; 13]
     [
         Cell::Number(u64::from(line.number)),
         Cell::Number(u64::from(line.session)),
+        Cell::Name(command.locator),
         designator_in(&segment),
         Cell::Letter(command.class),
         day_in(&segment),
@@ -224,42 +227,42 @@ fn cancelled_by(effect: Effect, seats: u16) -> u16
     }
 }
 
-/// Adds the rows of the advices of a line that are to bookings of the locator.
+/// Adds the rows of the advices of a line that are to bookings of what is wanted.
 fn put_advices(
     alloc: Global,
     sheet: &mut Sheet,
     flights: &Flights,
     journal: &[Entry],
-    locator: Locator,
+    wanted: &Wanted<'_>,
     line: &Entry,
 ) -> Result<(), AllocError>
     requires ready { IsReady sheet.old }
     ensures { OnOk result (ArePut history_names
-        (rows_from (advice_rows flights.now journal.now locator line.now) 0 line.now.advices) sheet.old sheet.new) }
+        (rows_from (advice_rows flights.now journal.now (is_wanted flights.now wanted.now) line.now) 0 line.now.advices) sheet.old sheet.new) }
 {
     let advices = line.advices.as_slice();
     for i in 0..advices.len() {
-        put_advice(alloc, sheet, flights, journal, locator, line, &advices[i])?;
+        put_advice(alloc, sheet, flights, journal, wanted, line, &advices[i])?;
     }
     Ok(())
 }
 
-/// Adds the row of an advice, if it is to a booking of the locator.
+/// Adds the row of an advice, if it is to a booking of what is wanted.
 #[tactic(auto, using(crate::proofs::Tables::row_put, crate::proofs::Events::no_advice, crate::proofs::Events::advice_put))]
 fn put_advice(
     alloc: Global,
     sheet: &mut Sheet,
     flights: &Flights,
     journal: &[Entry],
-    locator: Locator,
+    wanted: &Wanted<'_>,
     line: &Entry,
     advice: &Advice,
 ) -> Result<(), AllocError>
     requires ready { IsReady sheet.old }
-    ensures { OnOk result (ArePut history_names (advice_rows flights.now journal.now locator line.now 0 advice.now)
+    ensures { OnOk result (ArePut history_names (advice_rows flights.now journal.now (is_wanted flights.now wanted.now) line.now 0 advice.now)
         sheet.old sheet.new) }
 {
-    match made_under(journal, locator, advice.number) {
+    match made_under(flights, journal, wanted, advice.number) {
         Some(command) => {
             let row = advice_row(flights, line, advice, &command);
             put_row(alloc, sheet, &names(), &row)
@@ -269,13 +272,14 @@ fn put_advice(
 }
 
 /// The row of an advice.
-fn advice_row(flights: &Flights, line: &Entry, advice: &Advice, command: &Command) -> [Cell; 13]
+fn advice_row(flights: &Flights, line: &Entry, advice: &Advice, command: &Command) -> [Cell; 14]
     ensures { result ≡ advice_row flights.now line.now advice.now command.now }
 {
     let segment = segment_of(flights, command);
     [
         Cell::Number(u64::from(line.number)),
         Cell::Number(u64::from(line.session)),
+        Cell::Name(command.locator),
         designator_in(&segment),
         Cell::Letter(command.class),
         day_in(&segment),

@@ -1,0 +1,6 @@
+pub mod OlderTexts
+pub mod Moving
+pub mod Grouping
+pub mod Lettering
+pub mod Starting
+pub mod PickedUp

@@ -1,0 +1,4 @@
+pub mod OlderText
+pub mod Groups
+pub mod GroupRows
+pub mod PickupRows
