@@ -21,11 +21,18 @@ ROWS = {
     "rooms, one day": ["rooms", *OVER, "--day", "2024-03-01", "journal"],
     "bookings, one locator": ["bookings", *OVER, "--locator", "A00001", "journal"],
     "why, the last line": ["why", *OVER, "--line", "LAST", "journal"],
+    "seal": ["seal", *OVER, "journal"],
+    "run behind it, no request": ["run", *OVER, "--after", "journal", "--today", "2024-03-01", "--journal", "OUT", "empty"],
 }
+# What a row writes, which goes before the next.
+WRITTEN = "OUT", "OUT.seal", "journal.seal"
 
 
 def measured(program, processors, folder, words):
     """Wall and processor seconds, and the peak in MB."""
+    for name in WRITTEN:
+        if os.path.exists(f"{folder}/{name}"):
+            os.remove(f"{folder}/{name}")
     words = ["taskset", "-c", f"0-{processors - 1}", program, *words]
     began = time.monotonic()
     run = subprocess.Popen(words, cwd=folder, stdin=subprocess.DEVNULL, stdout=subprocess.DEVNULL, stderr=subprocess.PIPE)
@@ -47,6 +54,8 @@ def main():
     words.add_argument("--times", type=int, default=5)
     asked = words.parse_args()
     write_inputs(asked.folder, asked.flights, asked.lines)
+    with open(f"{asked.folder}/empty", "w", encoding="ascii"):
+        pass
     programs = [os.path.abspath(it) for it in asked.program]
     taken = {}
     for _ in range(asked.times):
