@@ -89,15 +89,15 @@ _seatdesk() {
         place='files'
         ;;
     pickup)
-        words='--set --limits --first --days --behind --flight --csv --json --open -v --verbose -h --help'
-        files='--set --limits'
-        values='--first --days --behind --flight'
+        words='--set --limits --first --days --behind --since --flight --by --csv --json --open -v --verbose -h --help'
+        files='--set --limits --since'
+        values='--first --days --behind --flight --by'
         place='files'
         ;;
     history)
-        words='--set --limits --first --days --locator --csv --json --open -v --verbose -h --help'
+        words='--set --limits --first --days --locator --flight --day --csv --json --open -v --verbose -h --help'
         files='--set --limits'
-        values='--first --days --locator'
+        values='--first --days --locator --flight --day'
         place='files'
         ;;
     audit)

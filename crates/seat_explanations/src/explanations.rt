@@ -679,7 +679,7 @@ const ENTRIES: &[Explanation] = &[
         behind: "",
         code: "P8",
         numbers: &["session", "call of that session"],
-        text: "The journal's line of that call is not what the script of the session asks there,\nor one of them has more. The journal may be of other scripts, another first day or another data set.\nWith --after calls go on from those of the older journal, with --behind from those of the lines before.\nBehind a number of lines the words name the scripts and the changes of all runs since. Where the journal does\nnot begin with the older one's lines, the session and the call are those of the first line that differs, which may be of session 0.\nWith run --resume the script may have more, but must begin with the journal's lines, and so must the file of --changes,\nof which those of session 0 are.",
+        text: "The journal's line of that call is not what the script of the session asks there,\nor one of them has more. The journal may be of other scripts, another first day or another data set.\nWith --after calls go on from those of the older journal, with --behind from those of the lines before.\nBehind a number of lines the words name the scripts and the changes of all runs since. Where the journal does\nnot begin with the older one's lines, as pickup --since wants too, the session and the call are those of the first line that differs,\nwhich may be of session 0.\nWith run --resume the script may have more, but must begin with the journal's lines, and so must the file of --changes,\nof which those of session 0 are.",
     },
     Explanation {
         behind: "",
@@ -743,7 +743,7 @@ const WORDS: &[Explanation] = &[
         behind: "E2",
         code: "locator",
         numbers: NONE,
-        text: "--locator is not six characters of A to Z and 0 to 9, as B3N6VC.",
+        text: "--locator is not six characters of A to Z and 0 to 9, as B3N6VC.\nOr history has neither --locator nor --flight, one of which says whose lines it is to tell.",
     },
     Explanation {
         behind: "E2",
@@ -755,7 +755,7 @@ const WORDS: &[Explanation] = &[
         behind: "E2",
         code: "behind",
         numbers: NONE,
-        text: "--behind is no number of 0 to 999999, or stands beside --after, or the journal has fewer lines,\nor run has no --resume, whose journal it is of, or serve no --feed,\nor --after and --resume of run name one journal.",
+        text: "--behind is no number of 0 to 999999, or stands beside --after or --since, or the journal has fewer lines,\nor pickup has neither --behind nor --since, one of which says what stands ahead,\nor run has no --resume, whose journal it is of, or serve no --feed,\nor --after and --resume of run name one journal.",
     },
     Explanation {
         behind: "E2",
@@ -785,7 +785,7 @@ const WORDS: &[Explanation] = &[
         behind: "E2",
         code: "by",
         numbers: NONE,
-        text: "--by of loads is not leg, flight, day, pair or class.",
+        text: "--by of loads is not leg, flight, day, pair or class, or that of pickup not flight, day or class.",
     },
     Explanation {
         behind: "E2",

@@ -163,17 +163,21 @@ waiting_app = with_rule (with_rule (with_rule (with_rule (with_rule (with_rule (
     (required_value (codes "journal"))
 
 unfoldable pub pickup_app : App
-pickup_app = with_rule (with_rule (with_rule (with_rule (with_rule (with_rule (horizon_app (codes "pickup"))
-    (required_option (codes "behind")))
+pickup_app = with_rule (with_rule (with_rule (with_rule (with_rule (with_rule (with_rule (with_rule (horizon_app (codes "pickup"))
+    (optional (codes "behind")))
+    (optional (codes "since")))
     (optional (codes "flight")))
+    (optional (codes "by")))
     (flag (codes "csv")))
     (flag (codes "json")))
     (flag (codes "open")))
     (required_value (codes "journal"))
 
 unfoldable pub history_app : App
-history_app = with_rule (with_rule (with_rule (with_rule (with_rule (horizon_app (codes "history"))
-    (required_option (codes "locator")))
+history_app = with_rule (with_rule (with_rule (with_rule (with_rule (with_rule (with_rule (horizon_app (codes "history"))
+    (optional (codes "locator")))
+    (optional (codes "flight")))
+    (optional (codes "day")))
     (flag (codes "csv")))
     (flag (codes "json")))
     (flag (codes "open")))

@@ -122,15 +122,19 @@ IsWaiting rows asked = IsOver rows asked.over
 
 abbrev pub IsPickup : List Row → PickupJob → Type 0
 IsPickup rows asked = IsOver rows asked.over
-    × Has rows (codes "behind") asked.behind.now
+    × MayHave rows (codes "behind") (option_map (λ text. text.now) asked.behind)
+    × MayHave rows (codes "since") (option_map (λ text. text.now) asked.since)
     × MayHave rows (codes "flight") (option_map (λ text. text.now) asked.flight)
+    × MayHave rows (codes "by") (option_map (λ text. text.now) asked.by)
     × IsShaped rows asked.shape
     × HasFlag rows (codes "open") asked.is_open
     × Has rows (codes "journal") asked.journal.now
 
 abbrev pub IsHistory : List Row → HistoryJob → Type 0
 IsHistory rows asked = IsOver rows asked.over
-    × Has rows (codes "locator") asked.locator.now
+    × MayHave rows (codes "locator") (option_map (λ text. text.now) asked.locator)
+    × MayHave rows (codes "flight") (option_map (λ text. text.now) asked.flight)
+    × MayHave rows (codes "day") (option_map (λ text. text.now) asked.day)
     × IsShaped rows asked.shape
     × HasFlag rows (codes "open") asked.is_open
     × Has rows (codes "journal") asked.journal.now
@@ -217,8 +221,8 @@ asked_values = (codes "ladder", [])
     ∷ (codes "serve", horizon_values ++ codes "journal" ∷ [])
     ∷ (codes "bookings", horizon_values ++ codes "journal" ∷ [])
     ∷ (codes "waiting", horizon_values ++ codes "journal" ∷ [])
-    ∷ (codes "pickup", horizon_values ++ codes "behind" ∷ codes "journal" ∷ [])
-    ∷ (codes "history", horizon_values ++ codes "locator" ∷ codes "journal" ∷ [])
+    ∷ (codes "pickup", horizon_values ++ codes "journal" ∷ [])
+    ∷ (codes "history", horizon_values ++ codes "journal" ∷ [])
     ∷ (codes "audit", horizon_values ++ codes "journal" ∷ [])
     ∷ (codes "seal", horizon_values ++ codes "journal" ∷ [])
     ∷ (codes "recover", horizon_values ++ codes "journal" ∷ [])

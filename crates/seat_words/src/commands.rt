@@ -114,6 +114,11 @@ const BY_HELP: &str = "What the loads are summed by: leg, flight, day, pair or c
 const PICKED_HELP: &str =
     "How many lines an older JOURNAL had, 0 to 999999; what stands behind them is picked up";
 
+const SINCE_HELP: &str =
+    "An older JOURNAL in place of --behind (a file): what stands behind its lines is picked up";
+
+const PICKED_BY_HELP: &str = "What the rows are summed by: flight, day or class";
+
 const LEG_DAY_HELP: &str = "The legs that depart on this day alone, as 2024-06-01";
 
 const LEG_PAIR_HELP: &str = "The legs between these two stations alone, as LHRJFK";
@@ -445,13 +450,15 @@ fn pickup_command<'a>(alloc: Global) -> Result<Command<'a>, AllocError>
         alloc,
         "pickup",
         "Writes what was held, sold, cancelled and confirmed behind a line of a journal, by flight and class",
-        "Example: seatdesk pickup --set examples/summer.ssim --limits examples/limits.txt --first 2024-07-01 --days 31 --behind 8 examples/journal.txt",
+        "One of --behind and --since says what stands ahead.\n\nExample: seatdesk pickup --set examples/summer.ssim --limits examples/limits.txt --first 2024-07-01 --days 31 --behind 8 examples/journal.txt",
     );
-    let pickup = with_argument(pickup, wanted_option(alloc, "behind", "N", PICKED_HELP));
+    let pickup = with_argument(pickup, optional_option(alloc, "behind", "N", PICKED_HELP));
+    let pickup = with_argument(pickup, optional_option(alloc, "since", "OLDER", SINCE_HELP));
     let pickup = with_argument(
         pickup,
         optional_option(alloc, "flight", "FLIGHT", FLIGHT_HELP),
     );
+    let pickup = with_argument(pickup, optional_option(alloc, "by", "BY", PICKED_BY_HELP));
     let pickup = with_argument(pickup, flag(alloc, "csv", CSV_HELP));
     let pickup = with_argument(pickup, flag(alloc, "json", JSON_HELP));
     let pickup = with_argument(pickup, flag(alloc, "open", OPEN_HELP));
@@ -467,13 +474,18 @@ fn history_command<'a>(alloc: Global) -> Result<Command<'a>, AllocError>
     let history = horizon_command(
         alloc,
         "history",
-        "Writes what the lines of a journal did for a locator, each with its reply",
-        "Example: seatdesk history --set examples/summer.ssim --limits examples/limits.txt --first 2024-07-01 --days 31 --locator W8Y3ZA examples/journal.txt",
+        "Writes what the lines of a journal did for a locator or on a flight, each with its reply",
+        "One of --locator and --flight says whose.\n\nExample: seatdesk history --set examples/summer.ssim --limits examples/limits.txt --first 2024-07-01 --days 31 --locator W8Y3ZA examples/journal.txt",
     );
     let history = with_argument(
         history,
-        wanted_option(alloc, "locator", "LOCATOR", HISTORY_LOCATOR_HELP),
+        optional_option(alloc, "locator", "LOCATOR", HISTORY_LOCATOR_HELP),
     );
+    let history = with_argument(
+        history,
+        optional_option(alloc, "flight", "FLIGHT", FLIGHT_HELP),
+    );
+    let history = with_argument(history, optional_option(alloc, "day", "DATE", DAY_HELP));
     let history = with_argument(history, flag(alloc, "csv", CSV_HELP));
     let history = with_argument(history, flag(alloc, "json", JSON_HELP));
     let history = with_argument(history, flag(alloc, "open", OPEN_HELP));

@@ -62,9 +62,9 @@ pub enum Job<'a> {
     Bookings(BookingsJob<'a>),
     /// `seatdesk waiting` over a horizon `[--flight FLIGHT] [--day DATE] [--csv] [--json] [--open] JOURNAL`
     Waiting(WaitingJob<'a>),
-    /// `seatdesk pickup` over a horizon `--behind N [--flight FLIGHT] [--csv] [--json] [--open] JOURNAL`
+    /// `seatdesk pickup` over a horizon `[--behind N] [--since OLDER] [--flight FLIGHT] [--by BY] [--csv] [--json] [--open] JOURNAL`
     Pickup(PickupJob<'a>),
-    /// `seatdesk history` over a horizon `--locator LOCATOR [--csv] [--json] [--open] JOURNAL`
+    /// `seatdesk history` over a horizon `[--locator LOCATOR] [--flight FLIGHT] [--day DATE] [--csv] [--json] [--open] JOURNAL`
     History(HistoryJob<'a>),
     /// `seatdesk audit` over a horizon `[--after JOURNAL] [--behind N] [--today DATE] [--sealed] [--open] [--shards] JOURNAL [SCRIPT...]`
     Audit(AuditJob<'a>),
@@ -186,8 +186,10 @@ pub struct WaitingJob<'a> {
 #[derive(Clone, Copy)]
 pub struct PickupJob<'a> {
     pub over: Horizon<'a>,
-    pub behind: &'a str,
+    pub behind: Option<&'a str>,
+    pub since: Option<&'a str>,
     pub flight: Option<&'a str>,
+    pub by: Option<&'a str>,
     pub shape: Shape,
     pub is_open: bool,
     pub journal: &'a str,
@@ -197,7 +199,9 @@ pub struct PickupJob<'a> {
 #[derive(Clone, Copy)]
 pub struct HistoryJob<'a> {
     pub over: Horizon<'a>,
-    pub locator: &'a str,
+    pub locator: Option<&'a str>,
+    pub flight: Option<&'a str>,
+    pub day: Option<&'a str>,
     pub shape: Shape,
     pub is_open: bool,
     pub journal: &'a str,
@@ -453,8 +457,10 @@ fn pickup_asked<'a>(matches: &ArgMatches<'a>) -> PickupJob<'a>
 {
     PickupJob {
         over: horizon_of(matches),
-        behind: value_of(matches, "behind"),
+        behind: may_value_of(matches, "behind"),
+        since: may_value_of(matches, "since"),
         flight: may_value_of(matches, "flight"),
+        by: may_value_of(matches, "by"),
         shape: shape_of(matches),
         is_open: flag_of(matches, "open"),
         journal: value_of(matches, "journal"),
@@ -467,7 +473,9 @@ fn history_asked<'a>(matches: &ArgMatches<'a>) -> HistoryJob<'a>
 {
     HistoryJob {
         over: horizon_of(matches),
-        locator: value_of(matches, "locator"),
+        locator: may_value_of(matches, "locator"),
+        flight: may_value_of(matches, "flight"),
+        day: may_value_of(matches, "day"),
         shape: shape_of(matches),
         is_open: flag_of(matches, "open"),
         journal: value_of(matches, "journal"),

@@ -231,7 +231,7 @@ fn answer_of<'a>(
         },
         Err(refusal) => Answer {
             is_moved: refusal.is_of_seal() && (is_open || is_moved(rt, journal)),
-            outcome: Err(refusal),
+            outcome: Err(refusal.noting_unasked(journal)),
         },
     }
 }

@@ -6,10 +6,11 @@ ghost use Rattle.ssim_flights.specs.Right.{IsOfCentury};
 use crate::commands::{
     asked_of, bars_asked, day_asked, days_of, flight_asked, locators_asked, pair_asked,
 };
-use airline_base::Day;
+use crate::seals::lines_behind;
+use airline_base::{Day, Locator};
 use desk_questions::HistoryOf;
-use pickup_questions::{By as PickupBy, PickupOf};
-use seat_files::Refusal;
+use pickup_questions::{By as PickupBy, PickupOf, read_older};
+use seat_files::{Refusal, opened, told};
 use seat_lists::{BookingsOf, WaitingOf, Wanted};
 use seat_loads::LoadsOf;
 use seat_pickup::Past;
@@ -17,8 +18,8 @@ use seat_questions::RoomsOf;
 use seat_tables::Form;
 use seat_words::{
     BookingsJob, HistoryJob, Horizon, LoadsJob, PickupJob, RoomsJob, Shape, WaitingJob, WordFault,
-    behind_word,
 };
+use std::alloc::Global;
 use std::thread::Threads;
 use table_questions::{
     BookingTable, ClassSums, DaySums, FlightSums, HistoryTable, LegSums, LoadTable, PairSums,
@@ -249,7 +250,7 @@ pub fn waiting<'a, R: Threads + Sync>(
     }
 }
 
-/// What was held, sold, cancelled and confirmed behind the lines of an older journal.
+/// What was held, sold, cancelled and confirmed behind the lines of an older journal, which is opened first, or behind so many.
 pub fn pickup<'a, R: Threads + Sync>(
     rt: &HostRuntime,
     threads: &R,
@@ -257,20 +258,71 @@ pub fn pickup<'a, R: Threads + Sync>(
 ) -> Result<(), Refusal<'a>> {
     let over = &asked.over;
     let days = days_of(over.first, over.days)?;
-    let Some(lines) = behind_word(asked.behind) else {
+    let behind = lines_behind(asked.since, asked.behind)?;
+    let Some(lines) = behind else {
         return Err(Refusal::from(WordFault::BadBehind));
     };
     let question = PickupOf {
         past: Past::Lines(lines),
         flight: flight_asked(asked.flight)?,
-        by: PickupBy::EachRow,
+        by: pickup_by(asked.by)?,
         form: sums_form(asked.shape, false)?,
     };
-    let journal = Some(asked.journal);
-    asked_of(rt, threads, over, days, &question, journal, asked.is_open)
+    match asked.since {
+        Some(older) => pickup_since(rt, threads, asked, days, &question, older),
+        None => {
+            let journal = Some(asked.journal);
+            asked_of(rt, threads, over, days, &question, journal, asked.is_open)
+        }
+    }
 }
 
-/// What the lines of a journal did for a locator.
+/// The same question behind the lines of an older journal.
+fn pickup_since<'a, R: Threads + Sync>(
+    rt: &HostRuntime,
+    threads: &R,
+    asked: &PickupJob<'a>,
+    days: (Day, u16),
+    question: &PickupOf<'_>,
+    older: &'a str,
+) -> Result<(), Refusal<'a>>
+    requires first { IsOfCentury days.0 }
+    requires days { (1 ≤ days.1) × (days.1 ≤ 366) }
+{
+    let mut older = opened(rt, older)?;
+    let lines = match read_older(threads, rt.alloc(), &mut older) {
+        Ok(lines) => lines,
+        Err(fault) => return told(Err(fault), &[&older], &[]),
+    };
+    let question = PickupOf {
+        past: Past::Older(lines.as_slice()),
+        flight: question.flight,
+        by: question.by,
+        form: question.form,
+    };
+    let journal = Some(asked.journal);
+    asked_of(
+        rt,
+        threads,
+        &asked.over,
+        days,
+        &question,
+        journal,
+        asked.is_open,
+    )
+}
+
+fn pickup_by(by: Option<&str>) -> Result<PickupBy, WordFault> {
+    match by {
+        None => Ok(PickupBy::EachRow),
+        Some("flight") => Ok(PickupBy::EachFlight),
+        Some("class") => Ok(PickupBy::EachClass),
+        Some("day") => Ok(PickupBy::EachDay),
+        Some(_) => Err(WordFault::BadBy),
+    }
+}
+
+/// What the lines of a journal did for a locator, or on a flight, on the days that are asked for.
 pub fn history<'a, R: Threads + Sync>(
     rt: &HostRuntime,
     threads: &R,
@@ -278,12 +330,15 @@ pub fn history<'a, R: Threads + Sync>(
 ) -> Result<(), Refusal<'a>> {
     let over = &asked.over;
     let days = days_of(over.first, over.days)?;
-    let locators = locators_asked(rt.alloc(), &[asked.locator])?;
+    let locators = locator_asked(rt.alloc(), asked.locator)?;
     let wanted = Wanted {
         locators: locators.as_slice(),
-        flight: None,
-        day: None,
+        flight: flight_asked(asked.flight)?,
+        day: day_asked(asked.day)?,
     };
+    if locators.is_empty() && wanted.flight.is_none() {
+        return Err(Refusal::from(WordFault::BadLocator));
+    }
     let (journal, is_open) = (Some(asked.journal), asked.is_open);
     let form = form_asked(asked.shape, false)?;
     match form {
@@ -295,6 +350,14 @@ pub fn history<'a, R: Threads + Sync>(
             let question = HistoryOf { wanted };
             asked_of(rt, threads, over, days, &question, journal, is_open)
         }
+    }
+}
+
+/// The locator, if one is asked for.
+fn locator_asked<'a>(alloc: Global, locator: Option<&'a str>) -> Result<Vec<Locator>, Refusal<'a>> {
+    match locator {
+        Some(word) => locators_asked(alloc, &[word]),
+        None => Ok(Vec::new(alloc)),
     }
 }
 
