@@ -6,7 +6,7 @@ cut off: it numbers these lines, writes down what each was answered, and when it
     examples/desk.py --by COMMAND SCRIPT ANSWERS
 
 COMMAND is a way to pipes that are elsewhere, as 'ssh london@host' with relay.py at its other end. ANSWERS, the memory, is made where it is not there. Its first
-line has the number of the first call; then comes each answer, in the order of the script. A script may grow at its end, as long as nothing else was booked
+line has the number of the first call and the epoch of the journal that it is of; then comes each answer, in the order of the script. A script may grow at its end, as long as nothing else was booked
 for the desk since: then its calls have other numbers, and the client ends with an error. New lines behind those of another script are a new script, with a memory of its own.
 """
 import fcntl
@@ -34,7 +34,7 @@ def opened(path, way):
 
 class Desk:
     def __init__(self, into, out):
-        self.way, self.rest = None, b""
+        self.way, self.rest, self.epoch = None, b"", ""
         if into == "--by":
             self.way = subprocess.Popen(shlex.split(out), stdin=subprocess.PIPE, stdout=subprocess.PIPE)
             self.into, self.out = self.way.stdin.fileno(), self.way.stdout.fileno()
@@ -73,7 +73,7 @@ class Desk:
         """Where the desk stands. No answer ahead of the READY that has our own word is ours."""
         while True:
             word = "".join(random.choices(string.ascii_uppercase, k=6))
-            self.send(f"!\n?HELLO {word}\n")
+            self.send(f"!\n?HELLO {word} {self.epoch}".rstrip() + "\n")
             for line in iter(self.line, None):
                 if line.startswith(f"READY {word} "):
                     return line.split(" ")
@@ -110,7 +110,7 @@ def whole_lines(answers):
 def pass_memory(memory, calls):
     """Ends where the desk has other calls than the memory knows. One line may be booked whose answer never came; more are another script's."""
     first, *known = memory
-    number = int(first) + sum(not said.startswith("FAULT") for said in known)
+    number = int(first.split()[0]) + sum(not said.startswith("FAULT") for said in known)
     if calls - number not in (-1, 0):
         sys.exit(f"the desk has {calls} calls, and ANSWERS knows those up to {number - 1}: something else was booked for it")
 
@@ -121,14 +121,19 @@ def main(into, out, script, answers):
     with open(answers, "a", encoding="ascii") as kept:
         fcntl.flock(kept, fcntl.LOCK_EX)  # (a second client with the same memory waits)
         desk = Desk(into, out)
-        calls = int(desk.hello()[4])
+        # (a memory that has no epoch is of whatever journal the desk has)
+        desk.epoch = "".join(whole_lines(answers)[:1]).partition(" ")[2]
+        _, _, _, _, calls, _, epoch = desk.hello()
+        if desk.epoch not in ("", epoch):
+            sys.exit(f"the desk's journal is of epoch {epoch}, and ANSWERS of {desk.epoch}: its calls are another journal's")
+        desk.epoch = epoch
         if not whole_lines(answers):
-            kept.write(f"{calls + 1}\n")
+            kept.write(f"{int(calls) + 1} {epoch}\n")
             kept.flush()
             os.fsync(kept.fileno())
-        pass_memory(whole_lines(answers), calls)
+        pass_memory(whole_lines(answers), int(calls))
         first, *known = whole_lines(answers)
-        number, at, shown = int(first), 0, 0
+        number, at, shown = int(first.split()[0]), 0, 0
         while at < len(lines):
             if not SEGMENT.fullmatch(lines[at]):
                 # (a line of a message that is answered by nothing; a client that comes back sends its message's head again)
@@ -141,10 +146,10 @@ def main(into, out, script, answers):
                 said = desk.answer(number)
                 if said is None:
                     desk.hello()
-                    number, at = int(first), 0
+                    number, at = int(first.split()[0]), 0
                     known = whole_lines(answers)[1:]
                     continue
-                if re.match("FAULT H[34] ", said):
+                if re.match("FAULT H[346] ", said):
                     sys.exit(f"{said}: call {number} of the desk is another line's")
                 kept.write(said + "\n")
                 kept.flush()

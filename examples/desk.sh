@@ -3,8 +3,8 @@
 #
 #   examples/desk.sh IN OUT SCRIPT ANSWERS
 #
-# ANSWERS, the memory, is made where it is not there. Its first line has the number of the first call; then comes each answer, in the order of the script. A
-# script may grow at its end, as long as nothing else was booked for the desk since: new lines behind those of another script are a new script, with a memory of its own.
+# ANSWERS, the memory, is made where it is not there. Its first line has the number of the first call and the epoch of the journal that it is of; then comes each
+# answer, in the order of the script. A script may grow at its end, as long as nothing else was booked for the desk since: new lines behind those of another script are a new script, with a memory of its own.
 set -u
 [ "$#" = 4 ] || { sed -n '2,8s/^# \{0,1\}//p' "$0" >&2; exit 2; }
 script=$3 answers=$4 seconds=10 letters=ABCDEFGHIJKLMNOPQRSTUVWXYZ
@@ -23,18 +23,18 @@ say() {
     printf "$@" 2>/dev/null >&3
 }
 
-# Says hello until the host answers with this client's own word; what stands ahead of that is for another client. calls: how many the desk has.
+# Says hello until the host answers with this client's own word; what stands ahead of that is for another client. calls: how many the desk has. epoch: the journal's.
 hello() {
     local line word
     while :; do
         word=
         for _ in {1..6}; do word+=${letters:RANDOM%26:1}; done
-        say '!\n?HELLO %s\n' "$word" || { sleep 1; continue; }
+        say '!\n?HELLO %s%s\n' "$word" "$named" || { sleep 1; continue; }
         while IFS= read -r -t "$seconds" -u 4 line; do
             # (a line that ends with ! is of a host that has started: another may have heard the word)
             [[ $line != *! ]] || break
             [[ $line == "READY $word "* ]] || continue
-            read -r _ _ _ _ calls _ <<<"$line"
+            read -r _ _ _ _ calls _ epoch <<<"$line"
             return
         done
     done
@@ -55,7 +55,7 @@ answer() {
 book() {
     local line number said at=1 told=0 known
     mapfile -t known <"$answers"
-    number=${known[0]}
+    number=${known[0]%% *}
     while IFS= read -r line || [ -n "$line" ]; do
         if [[ ! $line =~ $segment ]]; then
             # (a line of a message that is answered by nothing; a client that comes back sends its message's head again)
@@ -67,7 +67,7 @@ book() {
         else
             say '@%s %s\n' "$number" "$line" || return 1
             answer "$number" || return 1
-            if [[ $said == FAULT\ H[34]\ * ]]; then
+            if [[ $said == FAULT\ H[346]\ * ]]; then
                 echo "$said: call $number of the desk is another line's" >&2
                 exit 1
             fi
@@ -80,13 +80,22 @@ book() {
     done <"$script"
 }
 
-hello
 # (a line that a kill or a loss of power left without its end is none)
 truncate -s "$(head -n "$(wc -l <"$answers")" "$answers" | wc -c)" "$answers"
-[ -s "$answers" ] || { printf '%s\n' "$((calls + 1))" >"$answers" && sync "$answers"; } || exit
+# (a memory that has no epoch is of whatever journal the desk has)
+named=
+[ ! -s "$answers" ] || read -r _ named <"$answers"
+named=${named:+ $named}
+hello
+if [ -n "$named" ] && [ "$named" != " $epoch" ]; then
+    echo "the desk's journal is of epoch $epoch, and ANSWERS of$named: its calls are another journal's" >&2
+    exit 1
+fi
+named=" $epoch"
+[ -s "$answers" ] || { printf '%s %s\n' "$((calls + 1))" "$epoch" >"$answers" && sync "$answers"; } || exit
 mapfile -t known <"$answers"
 faults=$(grep -c '^FAULT' "$answers")
-behind=$((calls + 1 - known[0] - (${#known[@]} - 1 - faults)))
+behind=$((calls + 1 - ${known[0]%% *} - (${#known[@]} - 1 - faults)))
 # (one line may be booked whose answer never came; more are another script's)
 if [ "$behind" -ne 0 ] && [ "$behind" -ne 1 ]; then
     echo "the desk has $calls calls, and not those that ANSWERS knows: something else was booked for it" >&2

@@ -37,5 +37,5 @@ module _ (flights : List Flown) (grid : Ladders) (cap session call : ℕ) (past 
       rw not is.0
 
 pub calls_are_behind : CallsAreBehind
-calls_are_behind flights grid cap session today number call past journal wish stays text says =
+calls_are_behind flights grid cap session today epoch number call past journal wish stays text says =
     called flights grid cap session call past journal wish text (call == calls_of past session + 1) refl says.1

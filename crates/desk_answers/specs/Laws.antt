@@ -16,7 +16,7 @@ numbered flights call wish = record { call = call; work = Seats (command_of flig
 
 -- whatever is said of a numbered request, the journal is behind it as a list of them leaves it
 abbrev pub CallsAreBehind : Type 0
-CallsAreBehind = (flights : List Flown) (grid : Ladders) (cap session today number call : ℕ) (past journal : List Entry)
+CallsAreBehind = (flights : List Flown) (grid : Ladders) (cap session today epoch number call : ℕ) (past journal : List Entry)
     (wish : Wish) (stays : Bool) (text : List ℕ)
-    → Says flights grid cap session today number past journal (Call call wish) stays text
+    → Says flights grid cap session today epoch number past journal (Call call wish) stays text
     → journal ≡ behind_call grid cap session past (numbered flights call wish)

@@ -16,9 +16,9 @@ name_text None = []
 name_text (Some name) = name ++ codes " "
 
 -- READY, the word of the hello that it answers, the session, how many lines the journal has, how many of them are this session's,
--- and the day
-pub record IsReadyLine (name : Option (List ℕ)) (session lines calls today : ℕ) (text : List ℕ) : Type 0 where
+-- the day, and the journal's epoch
+pub record IsReadyLine (name : Option (List ℕ)) (session lines calls today epoch : ℕ) (text : List ℕ) : Type 0 where
   pub day : List ℕ
   pub is_day : IsIsoDay today day
   pub written : text ≡ codes "READY " ++ name_text name ++ decimal session ++ codes " " ++ decimal lines ++ codes " " ++ decimal calls
-      ++ codes " " ++ day ++ codes "\n"
+      ++ codes " " ++ day ++ codes " " ++ decimal epoch ++ codes "\n"

@@ -70,18 +70,18 @@ IsCalled false flights grid cap session number past journal wish text =
 -- ---- what is said
 
 -- what is said of a line that asks for no seats; of one that does, nothing
-abbrev pub SaysQuiet : List Flown → Ladders → ℕ → ℕ → ℕ → List Entry → Meaning → List ℕ → Type 0
-SaysQuiet flights grid session today number journal Nothing text = text ≡ []
-SaysQuiet flights grid session today number journal (Request wish) text = text ≡ []
-SaysQuiet flights grid session today number journal (Call call wish) text = text ≡ []
-SaysQuiet flights grid session today number journal (Look look) text = IsLooked flights grid journal look text
-SaysQuiet flights grid session today number journal (Again behind) text =
+abbrev pub SaysQuiet : List Flown → Ladders → ℕ → ℕ → ℕ → ℕ → List Entry → Meaning → List ℕ → Type 0
+SaysQuiet flights grid session today epoch number journal Nothing text = text ≡ []
+SaysQuiet flights grid session today epoch number journal (Request wish) text = text ≡ []
+SaysQuiet flights grid session today epoch number journal (Call call wish) text = text ≡ []
+SaysQuiet flights grid session today epoch number journal (Look look) text = IsLooked flights grid journal look text
+SaysQuiet flights grid session today epoch number journal (Again behind) text =
     AreTold flights session (told_behind journal session behind) text
-SaysQuiet flights grid session today number journal (Hello name) text =
-    IsReadyLine (Some name) session (length journal) (calls_of journal session) today text
-SaysQuiet flights grid session today number journal Leave text = text ≡ []
-SaysQuiet flights grid session today number journal (Wrong wrong) text = text ≡ wrong_line wrong session number
-SaysQuiet flights grid session today number journal (WrongCall call wrong) text = text ≡ wrong_call_line wrong session call
+SaysQuiet flights grid session today epoch number journal (Hello name named) text =
+    IsReadyLine (Some name) session (length journal) (calls_of journal session) today epoch text
+SaysQuiet flights grid session today epoch number journal Leave text = text ≡ []
+SaysQuiet flights grid session today epoch number journal (Wrong wrong) text = text ≡ wrong_line wrong session number
+SaysQuiet flights grid session today epoch number journal (WrongCall call wrong) text = text ≡ wrong_call_line wrong session call
 
 -- the desk stays, unless it said that it goes
 abbrev pub stays_behind : Meaning → Bool
@@ -89,18 +89,18 @@ stays_behind Leave = false
 stays_behind meaning = true
 
 -- the journal is as it was
-abbrev pub SaysSame : List Flown → Ladders → ℕ → ℕ → ℕ → List Entry → List Entry → Meaning → Bool → List ℕ → Type 0
-SaysSame flights grid session today number past journal meaning stays text =
-    (stays ≡ stays_behind meaning) × (journal ≡ past) × SaysQuiet flights grid session today number past meaning text
+abbrev pub SaysSame : List Flown → Ladders → ℕ → ℕ → ℕ → ℕ → List Entry → List Entry → Meaning → Bool → List ℕ → Type 0
+SaysSame flights grid session today epoch number past journal meaning stays text =
+    (stays ≡ stays_behind meaning) × (journal ≡ past) × SaysQuiet flights grid session today epoch number past meaning text
 
 -- what is said of a line by its meaning, what the journal is then, and whether the desk stays
-abbrev pub Says : List Flown → Ladders → ℕ → ℕ → ℕ → ℕ → List Entry → List Entry → Meaning → Bool → List ℕ → Type 0
-Says flights grid cap session today number past journal (Request wish) stays text =
+abbrev pub Says : List Flown → Ladders → ℕ → ℕ → ℕ → ℕ → ℕ → List Entry → List Entry → Meaning → Bool → List ℕ → Type 0
+Says flights grid cap session today epoch number past journal (Request wish) stays text =
     (stays ≡ true) × IsAsked (nat_lt (length past) cap) flights grid session past journal wish text
-Says flights grid cap session today number past journal (Call call wish) stays text =
+Says flights grid cap session today epoch number past journal (Call call wish) stays text =
     (stays ≡ true) × IsCalled (call == calls_of past session + 1) flights grid cap session call past journal wish text
-Says flights grid cap session today number past journal meaning stays text =
-    SaysSame flights grid session today number past journal meaning stays text
+Says flights grid cap session today epoch number past journal meaning stays text =
+    SaysSame flights grid session today epoch number past journal meaning stays text
 
 -- the desk has heard this line, which counts, and it means this
 pub record HasHeard (old new : Desk) (line : List ℕ) (meaning : Meaning) : Type 0 where
@@ -112,7 +112,7 @@ pub record HasHeard (old new : Desk) (line : List ℕ) (meaning : Meaning) : Typ
 pub record IsAnswered {D : Type 0} (old new : Attended D) (line : List ℕ) (heard : Heard) : Type 0 where
   pub meaning : Meaning
   pub is_heard : HasHeard old.desk new.desk line meaning
-  pub says : Says old.flights old.serving.grid old.serving.cap old.session new.desk.today new.desk.lines old.serving.journal
+  pub says : Says old.flights old.serving.grid old.serving.cap old.session new.desk.today new.desk.epoch new.desk.lines old.serving.journal
       new.serving.journal meaning heard.stays heard.text.items
 
 -- with a number or without

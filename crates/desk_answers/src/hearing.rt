@@ -19,7 +19,7 @@ use crate::faults::{wrong_call_line, wrong_line};
 use crate::heard::{HearFault, Heard};
 use crate::looking::seen;
 use crate::ready::ready_line;
-use airline_base::{Day, Locator, Memory};
+use airline_base::{Locator, Memory};
 use desk_calls::CallIndex;
 use desk_lines::{Desk, Meaning};
 use desk_telling::put_told_behind;
@@ -47,7 +47,7 @@ pub(crate) fn answer_to<R: Wait, D: Tape>(
     requires session { (1 ≤ session) × (session ≤ 8) }
     requires right { IsRightMeaning meaning }
     ensures says { IfOk result (λ heard. Says flights.now serving.old.grid serving.old.cap session
-        desk.now.today desk.now.lines serving.old.journal serving.new.journal meaning heard.stays heard.text.items) }
+        desk.now.today desk.now.epoch desk.now.lines serving.old.journal serving.new.journal meaning heard.stays heard.text.items) }
     ensures ready { OnOk result (IsReady D.seen D.may_leave D.unsynced serving.new) }
     ensures still { IfErr result (λ f. (f ≡ Device → ⊥) → IsReady D.seen D.may_leave D.unsynced serving.new) }
     ensures memory { IfErr result (λ f. f ≡ NoMemory → serving.new.journal ≡ serving.old.journal) }
@@ -107,13 +107,13 @@ pub fn quiet_answer<D: Tape>(
 ) -> Result<Vec<u8>, Memory>
     requires served { served.now ≡ flights.now }
     requires grid { IsGridOf flights.now serving.now.grid }
-    ensures { IfOk result (λ text. SaysQuiet flights.now serving.now.grid session desk.now.today desk.now.lines
+    ensures { IfOk result (λ text. SaysQuiet flights.now serving.now.grid session desk.now.today desk.now.epoch desk.now.lines
         serving.now.journal meaning.now text.items) }
 {
     match meaning {
         Meaning::Look(look) => seen(alloc, flights, served, serving, look),
         Meaning::Again(behind) => told_again(alloc, flights, serving, session, *behind),
-        Meaning::Hello(name) => greeting(alloc, serving, session, *name, desk.today),
+        Meaning::Hello(name, _) => greeting(alloc, serving, session, *name, desk),
         Meaning::Wrong(wrong) => wrong_line(alloc, *wrong, session, desk.lines),
         Meaning::WrongCall(number, wrong) => wrong_call_line(alloc, *wrong, session, *number),
         Meaning::Nothing => Ok(Vec::new(alloc)),
@@ -151,12 +151,19 @@ fn greeting<D: Tape>(
     serving: &Serving<D>,
     session: u8,
     name: Locator,
-    today: Day,
+    desk: &Desk,
 ) -> Result<Vec<u8>, Memory>
     ensures { IfOk result (λ text. IsReadyLine (Some name) session (length serving.now.journal)
-        (calls_of serving.now.journal session) today text.items) }
+        (calls_of serving.now.journal session) desk.now.today desk.now.epoch text.items) }
 {
     let lines = serving.journal().len() as u32;
-    let line = ready_line(Some(name), session, lines, serving.calls_of(session), today);
+    let line = ready_line(
+        Some(name),
+        session,
+        lines,
+        serving.calls_of(session),
+        desk.today,
+        desk.epoch,
+    );
     Ok(Vec::from_slice(alloc, line.as_slice())?)
 }

@@ -88,6 +88,13 @@ impl<'a, D: Tape> OpenHost<'a, D> {
         self.desk.today
     }
 
+    /// The epoch of the journal.
+    pub fn epoch(&self) -> u32
+        ensures { result ≡ self.now.desk.epoch }
+    {
+        self.desk.epoch
+    }
+
     /// How many lines the desk has said.
     pub fn heard(&self) -> u32
         ensures { result ≡ self.now.desk.lines }

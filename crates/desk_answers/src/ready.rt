@@ -6,11 +6,11 @@ use airline_base::spelling::{put, put_number};
 use airline_base::{Day, Locator};
 use arrayvec::ArrayVec;
 
-/// A line of READY: two words, three numbers, a day, blanks and LF.
+/// A line of READY: two words, four numbers, a day, blanks and LF.
 type ReadyLine = ArrayVec<u8, 70>;
 
-/// READY, the word of the hello that it answers, the session, how many lines the journal has, how many of them are this session's, and
-/// the day.
+/// READY, the word of the hello that it answers, the session, how many lines the journal has, how many of them are this session's,
+/// the day, and the journal's epoch.
 #[tactic(auto, using(crate::proofs::Readying::ready_is))]
 pub fn ready_line(
     name: Option<Locator>,
@@ -18,8 +18,9 @@ pub fn ready_line(
     lines: u32,
     calls: u32,
     today: Day,
+    epoch: u32,
 ) -> ArrayVec<u8, 70>
-    ensures { IsReadyLine name session lines calls today result.items }
+    ensures { IsReadyLine name session lines calls today epoch result.items }
 {
     let mut text = ArrayVec::new();
     put(&mut text, b"READY ");
@@ -31,6 +32,8 @@ pub fn ready_line(
     put_number(&mut text, calls);
     put(&mut text, b" ");
     put(&mut text, &iso_day(today));
+    put(&mut text, b" ");
+    put_number(&mut text, epoch);
     put(&mut text, b"\n");
     text
 }

@@ -61,6 +61,16 @@ module _ {D : Type 0} where
     turns_are = turns;
   }
 
+  -- where it was added
+  pub heard_if : {A E : Type 0} (old new : Hallful D) (session : ℕ) (line : List ℕ) (desk : Desk) (meaning : Meaning) (plan : Plan) (r : Result A E)
+      → HasHeardLine old.desks new.desks old.today session line desk meaning
+      → Plans old.flights old.serving.cap session desk (behind old.serving.grid old.serving.journal old.asked) meaning plan
+      → OnOk r ((new.asked ≡ old.asked ++ option_to_list plan.asked) × (new.turns ≡ old.turns ++ plan.turn ∷ []))
+      → new.serving ≡ old.serving → new.today ≡ old.today → new.flights ≡ old.flights → OnOk r (IsHeardBy old new session line)
+  heard_if old new session line desk meaning plan (Ok x) heard plans more serving today flights =
+      heard_by old new session line desk meaning plan heard plans more.0 more.1 serving today flights
+  heard_if old new session line desk meaning plan (Err e) heard plans more serving today flights = tt
+
   pub unheard : (old new : Hallful D) (session : ℕ) (line : List ℕ) (desk : Desk) (meaning : Meaning)
       → HasHeardLine old.desks new.desks old.today session line desk meaning → new.asked ≡ old.asked → new.turns ≡ old.turns
       → new.serving ≡ old.serving → new.today ≡ old.today → new.flights ≡ old.flights → IsUnheard old new session line
@@ -72,6 +82,15 @@ module _ {D : Type 0} where
     asked_is = asked;
     turns_are = turns;
   }
+
+  -- and where it was not
+  pub unheard_if : {A E : Type 0} (old new : Hallful D) (session : ℕ) (line : List ℕ) (desk : Desk) (meaning : Meaning) (r : Result A E)
+      → HasHeardLine old.desks new.desks old.today session line desk meaning
+      → OnErr r ((new.asked ≡ old.asked) × (new.turns ≡ old.turns)) → new.serving ≡ old.serving → new.today ≡ old.today
+      → new.flights ≡ old.flights → OnErr r (IsUnheard old new session line)
+  unheard_if old new session line desk meaning (Ok x) heard same serving today flights = tt
+  unheard_if old new session line desk meaning (Err e) heard same serving today flights =
+      unheard old new session line desk meaning heard same.0 same.1 serving today flights
 
   pub hall_more : (flights served : List Flown) (serving : Served D) (today : ℕ) (desks now : List Desk) (calls : List CallIndex)
       (old new : List Asked) (more : Option Asked) → IsHall flights served serving today desks calls old

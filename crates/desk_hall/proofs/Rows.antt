@@ -6,10 +6,13 @@ use Rattle.std.specs.Str.Lines.{lines}
 use Rattle.std.proofs.lemmas.Bool.Decides.{nat_tests}
 use Rattle.std.proofs.lemmas.List.{length-map}
 use Rattle.airline_base.specs.declared.place.Place.{Place}
-use Rattle.desk_hall.specs.Orders.{IsCallBy, IsCalled, IsLegless, IsNumbered, IsRightOrder, IsRow, IsRowOf, numbered_order}
+use Rattle.desk_hall.specs.Orders.{IsCallBy, IsCalled, IsLegless, IsNumbered, IsOrder, IsOrderBy, IsRightOrder, IsRow, IsRowOf, IsUnnamed, is_for_desk, numbered_order, order_by_epoch}
 use Rattle.desk_hall.specs.declared.orders.Order.{Order}
 use Rattle.desk_hall.specs.declared.orders.Order.TheVariants.{Limit, Said}
+use Rattle.airline_base.specs.Lines.{line_at}
 use Rattle.desk_lines.specs.Calls.{call_at}
+use Rattle.desk_lines.specs.Lines.{is_numbered, next_number}
+use Rattle.desk_lines.specs.declared.desk.Desk.{Desk}
 use Rattle.desk_lines.specs.declared.desk.Meaning.TheVariants.{Wrong}
 use Rattle.desk_lines.specs.declared.desk.Wrong.TheVariants as faults
 use Rattle.seat_journal.specs.declared.entry.Change.{Change}
@@ -122,3 +125,22 @@ pub too_long : (flights : List Flown) (text : List ℕ) (order : Order) → 256 
 too_long flights text order long is =
     let many : nat_lt 256 (length text) ≡ true = grind (arith, nat_tests) in
     rw many is
+
+-- ---- what the manager's line comes to that is no word
+
+pub row_read : (is_earlier : Bool) (flights : List Flown) (old new : Desk) (line text : List ℕ) (plain order : Order)
+    → is_for_desk old.standing line ≡ false → new.lines ≡ next_number old.lines → new.today ≡ old.today
+    → new.standing ≡ old.standing → new.epoch ≡ old.epoch → new.is_stranger ≡ old.is_stranger → text ≡ (line_at line).0
+    → IsUnnamed (is_numbered text) flights text plain → order ≡ order_by_epoch old.is_stranger plain
+    → IsOrder is_earlier flights old new line order
+row_read is_earlier flights old new line text plain order none counts day stands epoch client cut row is =
+    subst (λ (b : Bool). IsOrderBy b is_earlier flights old new line order) (sym none) (record {
+      counted = counts;
+      same_day = day;
+      same_standing = stands;
+      same_epoch = epoch;
+      same_client = client;
+      plain = plain;
+      is_row = subst (λ (t : List ℕ). IsUnnamed (is_numbered t) flights t plain) cut row;
+      order_is = is;
+    })

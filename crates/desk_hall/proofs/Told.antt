@@ -109,7 +109,7 @@ quiet_none flights grid journal session asker desk meaning text other none =
     rw not none
 
 pub quiet_own : (flights : List Flown) (grid : Ladders) (journal : List Entry) (session asker : ℕ) (desk : Desk) (meaning : Meaning)
-    (text : List ℕ) → asker ≡ session → SaysQuiet flights grid asker desk.today desk.lines journal meaning text
+    (text : List ℕ) → asker ≡ session → SaysQuiet flights grid asker desk.today desk.epoch desk.lines journal meaning text
     → IsQuietTo (asker == session) flights grid journal asker desk meaning text
 quiet_own flights grid journal session asker desk meaning text own is =
     let same : (asker == session) ≡ true = grind (arith, nat_tests) in
@@ -129,14 +129,14 @@ refused_own session fault number text own is =
     let same : (session == 0) ≡ true = grind (arith, nat_tests) in
     rw same (is ∙ ap (λ (n : ℕ). row_fault_line fault n number) own)
 
-pub standing_none : (journal : List Entry) (session day : ℕ) (text : List ℕ) → (session ≡ 0 → ⊥) → text ≡ []
-    → IsStanding (session == 0) journal day text
-standing_none journal session day text other none =
+pub standing_none : (journal : List Entry) (session day epoch : ℕ) (text : List ℕ) → (session ≡ 0 → ⊥) → text ≡ []
+    → IsStanding (session == 0) journal day epoch text
+standing_none journal session day epoch text other none =
     let not : (session == 0) ≡ false = grind (arith, nat_tests) in
     rw not none
 
-pub standing_own : (journal : List Entry) (session day : ℕ) (text : List ℕ) → session ≡ 0
-    → IsReadyLine None 0 (length journal) (calls_of journal 0) day text → IsStanding (session == 0) journal day text
-standing_own journal session day text own is =
+pub standing_own : (journal : List Entry) (session day epoch : ℕ) (text : List ℕ) → session ≡ 0
+    → IsReadyLine None 0 (length journal) (calls_of journal 0) day epoch text → IsStanding (session == 0) journal day epoch text
+standing_own journal session day epoch text own is =
     let same : (session == 0) ≡ true = grind (arith, nat_tests) in
     rw same is

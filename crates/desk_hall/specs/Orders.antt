@@ -7,6 +7,7 @@ use Rattle.airline_base.specs.Fields.{◌>>=◌, two_are, two_value, word_at}
 use Rattle.airline_base.specs.Lines.{line_at}
 use Rattle.desk_answers.specs.Saying.{HasHeard}
 use Rattle.desk_lines.specs.Calls.{call_at}
+use Rattle.desk_lines.specs.Epochs.{by_epoch}
 use Rattle.desk_lines.specs.Lines.{is_numbered, is_word, next_number}
 use Rattle.desk_lines.specs.declared.desk.Desk.{Desk}
 use Rattle.desk_lines.specs.declared.desk.Meaning.{Meaning}
@@ -147,6 +148,15 @@ abbrev pub row_text : RowFault → List ℕ
 row_text (Malformed kind) = kind_text kind
 row_text NoLeg = codes "U1"
 
+-- ---- the epoch
+
+-- of a manager whose client is for another journal each numbered row is refused, as a desk's numbered line is
+abbrev pub order_by_epoch : Bool → Order → Order
+order_by_epoch true (Said meaning) = Said (by_epoch true meaning)
+order_by_epoch true (LimitCall call change) = Said (WrongCall call faults.Epoch)
+order_by_epoch true (RefusedCall call fault) = Said (WrongCall call faults.Epoch)
+order_by_epoch stranger order = order
+
 -- ---- the whole
 
 -- it means something to a desk
@@ -155,12 +165,16 @@ pub record IsSaid (is_earlier : Bool) (old new : Desk) (line : List ℕ) (order 
   pub has_heard : HasHeard old new line meaning
   pub order_is : order ≡ order_in is_earlier (line_at line).0 meaning
 
--- it counts, and is a row
+-- it counts, and is a row, for this journal or for another
 pub record IsRead (flights : List Flown) (old new : Desk) (line : List ℕ) (order : Order) : Type 0 where
   pub counted : new.lines ≡ next_number old.lines
   pub same_day : new.today ≡ old.today
   pub same_standing : new.standing ≡ old.standing
-  pub is_row : IsUnnamed (is_numbered (line_at line).0) flights (line_at line).0 order
+  pub same_epoch : new.epoch ≡ old.epoch
+  pub same_client : new.is_stranger ≡ old.is_stranger
+  pub plain : Order
+  pub is_row : IsUnnamed (is_numbered (line_at line).0) flights (line_at line).0 plain
+  pub order_is : order ≡ order_by_epoch old.is_stranger plain
 
 abbrev pub IsOrderBy : Bool → Bool → List Flown → Desk → Desk → List ℕ → Order → Type 0
 IsOrderBy true is_earlier flights old new line order = IsSaid is_earlier old new line order

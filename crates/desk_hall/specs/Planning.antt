@@ -70,7 +70,7 @@ abbrev pub day_behind : ℕ → Order → ℕ
 day_behind today (orders.Day day) = if nat_lt today day then day else today
 day_behind today order = today
 
--- the manager stands so behind its line, and today is the day that holds then
+-- the manager stands so behind its line, at a journal of its epoch, and today is the day that holds then
 abbrev pub PlansOrder : ℕ → Desk → ℕ → List Entry → Order → Plan → Type 0
 PlansOrder cap manager today past (orders.Said meaning) plan = PlansQuiet 0 manager meaning plan
 PlansOrder cap manager today past (orders.Limit change) plan = PlansLimit (nat_lt (length past) cap) past change plan
@@ -79,7 +79,7 @@ PlansOrder cap manager today past (orders.LimitCall number change) plan =
 PlansOrder cap manager today past (orders.Refused fault) plan = (plan.turn ≡ Refused fault manager.lines) × (plan.asked ≡ None)
 PlansOrder cap manager today past (orders.RefusedCall number fault) plan =
     (plan.turn ≡ RefusedCall fault number) × (plan.asked ≡ None)
-PlansOrder cap manager today past (orders.Day day) plan = (plan.turn ≡ Stands today) × (plan.asked ≡ None)
+PlansOrder cap manager today past (orders.Day day) plan = (plan.turn ≡ Stands today manager.epoch) × (plan.asked ≡ None)
 PlansOrder cap manager today past orders.Stop plan = PlansQuiet 0 manager Nothing plan
 
 -- all but the end

@@ -67,7 +67,7 @@ IsRowRepeatTo false flights journal number change text = text ≡ []
 -- what books nothing
 abbrev pub IsQuietTo : Bool → List Flown → Ladders → List Entry → ℕ → Desk → Meaning → List ℕ → Type 0
 IsQuietTo true flights grid journal asker desk meaning text =
-    SaysQuiet flights grid asker desk.today desk.lines journal meaning text
+    SaysQuiet flights grid asker desk.today desk.epoch desk.lines journal meaning text
 IsQuietTo false flights grid journal asker desk meaning text = text ≡ []
 
 -- only the manager is told of its row's fault: the code, its session and the line
@@ -86,10 +86,10 @@ abbrev pub refused_call_to : Bool → RowFault → ℕ → List ℕ
 refused_call_to true fault call = row_call_line fault 0 call
 refused_call_to false fault call = []
 
--- and where it stands
-abbrev pub IsStanding : Bool → List Entry → ℕ → List ℕ → Type 0
-IsStanding true journal day text = IsReadyLine None 0 (length journal) (calls_of journal 0) day text
-IsStanding false journal day text = text ≡ []
+-- and where it stands, on this day and at a journal of this epoch
+abbrev pub IsStanding : Bool → List Entry → ℕ → ℕ → List ℕ → Type 0
+IsStanding true journal day epoch text = IsReadyLine None 0 (length journal) (calls_of journal 0) day epoch text
+IsStanding false journal day epoch text = text ≡ []
 
 -- a session's desk is told of the line that a request made what concerns it, whoever asked, and of any other line what its own is
 -- answered
@@ -104,4 +104,4 @@ IsTurn flights grid journal session (Quiet asker desk meaning) text =
     IsQuietTo (asker == session) flights grid journal asker desk meaning text
 IsTurn flights grid journal session (Refused fault number) text = text ≡ refused_to (session == 0) fault number
 IsTurn flights grid journal session (RefusedCall fault call) text = text ≡ refused_call_to (session == 0) fault call
-IsTurn flights grid journal session (Stands day) text = IsStanding (session == 0) journal day text
+IsTurn flights grid journal session (Stands day epoch) text = IsStanding (session == 0) journal day epoch text

@@ -203,10 +203,7 @@ impl<'a, D: Tape> Hall<'a, D> {
             &desk,
             &meaning,
         );
-        match add(asked, turns, &plan) {
-            Ok(()) => Ok(()),
-            Err(_) => Err(Memory),
-        }
+        add(asked, turns, &plan)
     }
 
     /// Hears a line of the manager with its end: another limit, which `answer` sets, a later day, or the end of it all, but where it was said

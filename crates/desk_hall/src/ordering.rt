@@ -43,7 +43,7 @@ pub(crate) fn plan_of_order<D: Tape>(
         }
         Order::Refused(fault) => unasked(Turn::Refused(fault, manager.lines)),
         Order::RefusedCall(number, fault) => unasked(Turn::RefusedCall(fault, number)),
-        Order::Day(_) => unasked(Turn::Stands(today)),
+        Order::Day(_) => unasked(Turn::Stands(today, manager.epoch)),
         Order::Stop => quiet(0, manager, Meaning::Nothing),
     }
 }

@@ -1,18 +1,18 @@
 //! What a line of the manager asks for: another limit, a later day, or the end of it all.
-ghost use Rattle.std.specs.Prelude.{◌≡◌, ◌+◌, ◌≤◌, ◌<◌, ◌^◌, List, length, nat_lt, option_map, IfOk, IfSome};
+ghost use Rattle.std.specs.Prelude.{◌≡◌, ◌+◌, ◌≤◌, ◌<◌, ◌^◌, List, length, nat_lt, option_map, true, IfOk, IfSome};
 ghost use Rattle.seat_limits.specs.ChangeRows.{IsChangeText};
 ghost use Rattle.seat_scripts.specs.Changes.{change_of, wanted_by};
 ghost use Rattle.airline_base.specs.Days.{IsCenturyDay, civil_in};
 ghost use Rattle.desk_lines.specs.Calls.{call_at};
 ghost use Rattle.desk_lines.specs.Lines.{is_numbered, is_word};
 ghost use Rattle.desk_lines.specs.Words.{count_at};
-ghost use Rattle.desk_hall.specs.Orders.{day_at, in_century, is_for_desk, iso_day_at, numbered_meaning, order_in, own_order, stop_at, IsCallBy, IsNumbered, IsOfCentury, IsOrder, IsRightOrder, IsRow, IsUnnamed};
+ghost use Rattle.desk_hall.specs.Orders.{day_at, in_century, is_for_desk, iso_day_at, numbered_meaning, order_by_epoch, order_in, own_order, stop_at, IsCallBy, IsNumbered, IsOfCentury, IsOrder, IsRightOrder, IsRow, IsUnnamed};
 ghost use Rattle.ssim_flights.specs.declared.flight.Flight.{Flight as Flown};
 
 use airline_base::fields::{byte_of, digits_of, two_are, two_value, value_of, word_of};
 use airline_base::lines::cut_line;
 use airline_base::{Day, Memory};
-use desk_lines::{Desk, Meaning, Standing, Wrong};
+use desk_lines::{Desk, Meaning, Standing, Wrong, by_epoch};
 use seat_journal::Change;
 use seat_limits::{ChangeRow, LimitKind, read_changes};
 use ssim_flights::{Served, Wanted};
@@ -75,6 +75,7 @@ pub enum Order {
 
 /// What a line of the manager, with its end, asks for. Ahead of a `?HELLO` and of a word to the host the manager is a desk as any other.
 /// What was said ahead of the host's start ends nothing.
+#[tactic(auto, using(crate::proofs::Rows::row_read))]
 pub fn order_of(
     alloc: Global,
     served: &Served<'_>,
@@ -94,7 +95,34 @@ pub fn order_of(
     }
     manager.lines = manager.lines.saturating_add(1);
     let (text, _) = cut_line(line);
-    unnamed_order(alloc, served, text)
+    let order = unnamed_order(alloc, served, text)?;
+    Ok(order_by_epoch(manager.is_stranger, order))
+}
+
+// What it asks for, of a client for this journal or for another.
+fn order_by_epoch(is_stranger: bool, order: Order) -> Order
+    ensures value { result ≡ order_by_epoch is_stranger order }
+    ensures right { (flights : List Flown) → IsRightOrder flights order → IsRightOrder flights result }
+    ensures century { IsOfCentury order → IsOfCentury result }
+{
+    if is_stranger {
+        return strange(order);
+    }
+    order
+}
+
+// What has the number of a call is refused.
+fn strange(order: Order) -> Order
+    ensures value { result ≡ order_by_epoch true order }
+    ensures right { (flights : List Flown) → IsRightOrder flights order → IsRightOrder flights result }
+    ensures century { IsOfCentury order → IsOfCentury result }
+{
+    match order {
+        Order::Said(meaning) => Order::Said(by_epoch(true, meaning)),
+        Order::LimitCall(call, _) => Order::Said(Meaning::WrongCall(call, Wrong::Epoch)),
+        Order::RefusedCall(call, _) => Order::Said(Meaning::WrongCall(call, Wrong::Epoch)),
+        _ => order,
+    }
 }
 
 fn is_for_desk(standing: Standing, line: &[u8]) -> bool

@@ -22,6 +22,6 @@ pub enum Turn {
     Refused(RowFault, u32),
     /// By that of a row with the number of this call.
     RefusedCall(RowFault, u32),
-    /// By where the manager stands on this day.
-    Stands(Day),
+    /// By where the manager stands on this day, at a journal of this epoch.
+    Stands(Day, u32),
 }

@@ -9,6 +9,7 @@ use Rattle.airimp_lines.specs.Steps.{Message, step, AreOwn}
 use Rattle.airimp_lines.specs.declared.fault.ScriptKind.{ScriptKind}
 use Rattle.airimp_lines.specs.declared.requests.Request.{Request as Asked}
 use Rattle.desk_lines.specs.Calls.{MeansNumbered}
+use Rattle.desk_lines.specs.Epochs.{by_epoch, stranger_behind}
 use Rattle.desk_lines.specs.Words.{plain_word}
 use Rattle.desk_lines.specs.declared.desk.Desk.{Desk}
 use Rattle.desk_lines.specs.declared.desk.Meaning.{Meaning}
@@ -66,12 +67,12 @@ MeansWord today text meaning = MeansWordBy today text (plain_word text) meaning
 
 -- a hello ends the message that is open
 abbrev pub behind_word : Meaning → Standing → Standing
-behind_word (Hello name) standing = Between
+behind_word (Hello name named) standing = Between
 behind_word meaning standing = standing
 
 -- a desk that was silent begins with a hello, and hears nothing else
 abbrev pub greeted_by : Meaning → Standing × Meaning
-greeted_by (Hello name) = (Between, Hello name)
+greeted_by (Hello name named) = (Between, Hello name named)
 greeted_by plain = (Silent, Wrong faults.NoHello)
 
 abbrev pub greeted : Option Meaning → Standing × Meaning
@@ -142,6 +143,10 @@ IsRightMeaning (Request request) = IsRightSegment request.segment
 IsRightMeaning (Call call request) = IsRightSegment request.segment
 IsRightMeaning _ = ⊤
 
--- the desk hears this line, and it means this
+-- the desk hears this line, and it means this: what its words say, unless it is numbered and the client that speaks is for another journal
 pub record Hears (old new : Desk) (line : List ℕ) (meaning : Meaning) : Type 0 where
-  pub means : MeansBy (is_long line) old.today old.standing line (next_number old.lines) new.standing meaning
+  pub heard : Meaning
+  pub means : MeansBy (is_long line) old.today old.standing line (next_number old.lines) new.standing heard
+  pub stranger_is : new.is_stranger ≡ stranger_behind old.is_stranger old.epoch heard
+  pub meaning_is : meaning ≡ by_epoch new.is_stranger heard
+  pub epoch_is : new.epoch ≡ old.epoch

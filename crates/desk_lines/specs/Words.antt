@@ -1,9 +1,9 @@
 -- The words to the host that are no look.
-use Rattle.std.specs.Prelude.{ℕ, ◌==◌, ◌&&◌, nat_lt, nat_le, if◌then◌else◌, List, [], length, take, drop, codes, Option, Some, None}
+use Rattle.std.specs.Prelude.{ℕ, ◌==◌, ◌&&◌, nat_lt, nat_le, if◌then◌else◌, List, length, take, drop, codes, Option, Some, None}
 use Rattle.std.specs.Char.{is_ascii_digit}
 use Rattle.std.specs.List.{prefix_len}
 use Rattle.std.specs.Str.Parse.{digits_value}
-use Rattle.airline_base.specs.Fields.{◌>>=◌, Field, fixed_at, word_at}
+use Rattle.airline_base.specs.Fields.{◌>>=◌, Field, byte_at, fixed_at, word_at}
 use Rattle.airline_base.specs.Names.{is_locator}
 use Rattle.desk_lines.specs.declared.desk.Meaning.{Meaning}
 use Rattle.desk_lines.specs.declared.desk.Meaning.TheVariants.{Again, Hello, Leave}
@@ -31,12 +31,27 @@ again_at text = do
   count ← count_at behind
   if length count.1 == 0 then Some (Again count.0) else None
 
--- `?HELLO WORD`: six letters or digits
+-- a blank, and the number of an epoch
+unfoldable pub epoch_at : List ℕ → Option ℕ
+epoch_at text = do
+  behind ← byte_at 32 text
+  epoch ← count_at behind
+  if length epoch.1 == 0 then Some epoch.0 else None
+
+abbrev pub named_hello : List ℕ → Option ℕ → Option Meaning
+named_hello name None = None
+named_hello name (Some epoch) = Some (Hello name (Some epoch))
+
+-- nothing stands behind the word, or an epoch does
+abbrev pub hello_of : List ℕ → List ℕ → Option Meaning
+hello_of name rest = if length rest == 0 then Some (Hello name None) else named_hello name (epoch_at rest)
+
+-- `?HELLO WORD`, six letters or digits, and `?HELLO WORD EPOCH`
 unfoldable pub hello_at : List ℕ → Option Meaning
 hello_at text = do
   behind ← word_at (codes "?HELLO ") text
   name ← fixed_at 6 is_locator behind
-  if length name.1 == 0 then Some (Hello name.0) else None
+  hello_of name.0 name.1
 
 abbrev pub first_of : Option Meaning → Option Meaning → Option Meaning
 first_of None other = other

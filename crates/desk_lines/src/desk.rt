@@ -1,12 +1,13 @@
 //! A desk, and what each of its lines means.
 //! It knows no inventory.
-ghost use Rattle.std.specs.Prelude.{◌≡◌, IfSome};
+ghost use Rattle.std.specs.Prelude.{◌≡◌, false, IfSome};
 ghost use Rattle.airline_base.specs.Days.{IsCenturyDay};
 ghost use Rattle.airimp_lines.specs.Grammar.{IsRightSegment};
 ghost use Rattle.desk_lines.specs.Lines.{asked, behind_refused, behind_word, greeted, greeted_by, is_long, is_numbered, is_word, next_number, spoilt, standing_of, Hears, IsRightMeaning, MeansBy, MeansLine, MeansShort, MeansText, MeansUnnamed, MeansWordIn};
 ghost use Rattle.desk_lines.specs.Words.{plain_word};
 
 use crate::calls::numbered;
+use crate::epoch::{by_epoch, stranger_behind};
 use crate::words::{plain_word, word};
 use airimp_lines::{LineRead, Look, Request, ScriptKind, read_line};
 use airline_base::lines::cut_line;
@@ -29,6 +30,8 @@ pub enum Wrong {
     Beyond,
     /// Nobody has said `?HELLO` yet.
     NoHello,
+    /// It is numbered, and its client is for a journal of another epoch.
+    Epoch,
     /// It is a wrong line of a message.
     Line(ScriptKind),
 }
@@ -39,7 +42,7 @@ impl fmt::Display for Wrong {
 
     ghost output = { λ wrong. Some (wrong_text wrong) };
 
-    /// The code: H1 to H5, or that of a script.
+    /// The code: H1 to H6, or that of a script.
     fn fmt<W: fmt::Write>(&self, f: &mut fmt::Formatter<W>) -> fmt::Result {
         match self {
             Wrong::TooLong => f.write_str("H1"),
@@ -47,6 +50,7 @@ impl fmt::Display for Wrong {
             Wrong::Other => f.write_str("H3"),
             Wrong::Beyond => f.write_str("H4"),
             Wrong::NoHello => f.write_str("H5"),
+            Wrong::Epoch => f.write_str("H6"),
             Wrong::Line(kind) => kind.fmt(f),
         }
     }
@@ -65,8 +69,8 @@ pub enum Meaning {
     Look(Look),
     /// It asks for what concerns its session behind so many lines, once more.
     Again(u32),
-    /// A client begins, with a word of its own choosing, and asks where the desk stands.
-    Hello(Locator),
+    /// A client begins, with a word of its own choosing, and asks where the desk stands; it may name the epoch of the journal that it is for, 0 to 999,999.
+    Hello(Locator, Option<u32>),
     /// The desk goes.
     Leave,
     /// It is refused.
@@ -95,43 +99,55 @@ pub struct Desk {
     pub standing: Standing,
     /// How many lines it has heard.
     pub lines: u32,
+    /// The epoch of the journal.
+    pub epoch: u32,
+    /// Whether the last `?HELLO` named another epoch: then no numbered line is booked.
+    pub is_stranger: bool,
 }
 
 impl Desk {
-    /// A desk that has said nothing.
-    pub fn new(today: Day) -> Desk
-        ensures { (result.today ≡ today) × (result.standing ≡ Standing.Between) × (result.lines ≡ 0) }
+    /// A desk of a journal of this epoch that has said nothing.
+    pub fn new(today: Day, epoch: u32) -> Desk
+        ensures parts { (result.today ≡ today) × (result.standing ≡ Standing.Between) × (result.lines ≡ 0) }
+        ensures epoch { (result.epoch ≡ epoch) × (result.is_stranger ≡ false) }
     {
         Desk {
             today,
             standing: Standing::Between,
             lines: 0,
+            epoch,
+            is_stranger: false,
         }
     }
 
     /// A desk to whose pipe somebody may have written before: nothing is heard ahead of a `?HELLO`.
-    pub fn silent(today: Day) -> Desk
-        ensures { (result.today ≡ today) × (result.standing ≡ Standing.Silent) × (result.lines ≡ 0) }
+    pub fn silent(today: Day, epoch: u32) -> Desk
+        ensures parts { (result.today ≡ today) × (result.standing ≡ Standing.Silent) × (result.lines ≡ 0) }
+        ensures epoch { (result.epoch ≡ epoch) × (result.is_stranger ≡ false) }
     {
         Desk {
             today,
             standing: Standing::Silent,
             lines: 0,
+            epoch,
+            is_stranger: false,
         }
     }
 
-    /// Hears a line with its end. A wrong line changes nothing but that it counts, and that a wrong first line refuses its message.
+    /// Hears a line with its end. A wrong line changes nothing but that it counts, and that a wrong first line refuses its message. A numbered line is
+    /// refused where the last `?HELLO` named another epoch than the journal's.
     pub fn hear(&mut self, line: &[u8]) -> Meaning
         requires today { IsCenturyDay self.old.today }
         ensures means { Hears self.old self.new line.now result }
         ensures right { IsRightMeaning result }
         ensures counted { self.new.lines ≡ next_number self.old.lines }
-        ensures same { self.new.today ≡ self.old.today }
+        ensures same { (self.new.today ≡ self.old.today) × (self.new.epoch ≡ self.old.epoch) }
     {
         self.lines = self.lines.saturating_add(1);
         let (standing, meaning) = heard(self.standing, line, self.lines, self.today);
         self.standing = standing;
-        meaning
+        self.is_stranger = stranger_behind(self.is_stranger, self.epoch, &meaning);
+        by_epoch(self.is_stranger, meaning)
     }
 }
 
@@ -214,7 +230,7 @@ fn greeted_by(meaning: Meaning) -> (Standing, Meaning)
     ensures right { IsRightMeaning result.1 }
 {
     match meaning {
-        Meaning::Hello(name) => (Standing::Between, Meaning::Hello(name)),
+        Meaning::Hello(name, named) => (Standing::Between, Meaning::Hello(name, named)),
         _ => (Standing::Silent, Meaning::Wrong(Wrong::NoHello)),
     }
 }
@@ -224,7 +240,7 @@ fn behind_word(standing: Standing, meaning: &Meaning) -> Standing
     ensures { result ≡ behind_word meaning.now standing }
 {
     match meaning {
-        Meaning::Hello(_) => Standing::Between,
+        Meaning::Hello(_, _) => Standing::Between,
         _ => standing,
     }
 }

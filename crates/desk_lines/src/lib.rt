@@ -4,6 +4,8 @@
 
 mod calls;
 mod desk;
+mod epoch;
 mod words;
 
 pub use desk::{Desk, Meaning, Standing, Wrong};
+pub use epoch::by_epoch;

@@ -3,14 +3,14 @@ ghost use Rattle.std.specs.Prelude.{◌≡◌, IfSome, Some, codes, option_map};
 ghost use Rattle.airline_base.specs.Days.{IsCenturyDay};
 ghost use Rattle.airline_base.specs.Fields.{word_at};
 ghost use Rattle.desk_lines.specs.Lines.{IsRightMeaning, MeansLook, MeansWord};
-ghost use Rattle.desk_lines.specs.Words.{again_at, count_at, first_of, hello_at, leave_at, plain_word};
+ghost use Rattle.desk_lines.specs.Words.{again_at, count_at, epoch_at, first_of, hello_at, hello_of, leave_at, plain_word};
 
 use crate::desk::{Meaning, Wrong};
 use airimp_lines::read_look;
-use airline_base::Day;
-use airline_base::fields::{digits_of, locator_of, value_of, word_of};
+use airline_base::fields::{byte_of, digits_of, locator_of, value_of, word_of};
+use airline_base::{Day, Locator};
 
-/// The most digits of a number of lines or of a call.
+/// The most digits of a number of lines, of a call or of an epoch.
 const MOST_DIGITS: usize = 6;
 
 /// What a word to the host means.
@@ -79,7 +79,7 @@ fn again(text: &[u8]) -> Option<Meaning>
     Some(Meaning::Again(count))
 }
 
-// `?HELLO K7M2QP`
+// `?HELLO K7M2QP` and `?HELLO K7M2QP 2`
 #[tactic(auto, unfolding(crate::specs::Words::hello_at))]
 fn hello(text: &[u8]) -> Option<Meaning>
     ensures value { result ≡ hello_at text.now }
@@ -91,10 +91,38 @@ fn hello(text: &[u8]) -> Option<Meaning>
     let Some((name, rest)) = locator_of(rest) else {
         return None;
     };
+    hello_of(name, rest)
+}
+
+// A hello behind whose word this stands: nothing, or an epoch.
+fn hello_of(name: Locator, rest: &[u8]) -> Option<Meaning>
+    ensures value { result ≡ hello_of name rest.now }
+    ensures right { IfSome result IsRightMeaning }
+{
+    if rest.is_empty() {
+        return Some(Meaning::Hello(name, None));
+    }
+    match epoch_of(rest) {
+        Some(epoch) => Some(Meaning::Hello(name, Some(epoch))),
+        None => None,
+    }
+}
+
+// A blank and the number of an epoch.
+#[tactic(auto, unfolding(crate::specs::Words::epoch_at))]
+fn epoch_of(text: &[u8]) -> Option<u32>
+    ensures { result ≡ epoch_at text.now }
+{
+    let Some(rest) = byte_of(b' ', text) else {
+        return None;
+    };
+    let Some((epoch, rest)) = count_of(rest) else {
+        return None;
+    };
     if !rest.is_empty() {
         return None;
     }
-    Some(Meaning::Hello(name))
+    Some(epoch)
 }
 
 /// The number that the digits at the front spell, one to six of them.

@@ -48,7 +48,7 @@ IsWatchedLook flown old new lines look Awaited = ⊥
 -- a hello waits for the host, and all behind it for its answer; any other line waits for the host
 abbrev pub IsWatchedBy : Meaning → Looking → Looking → ℕ → Watched → Type 0
 IsWatchedBy (Look look) old new lines watched = IsWatchedLook new.flown old.window new.window lines look watched
-IsWatchedBy (Hello name) old new lines watched = (watched ≡ Awaited) × (new.window ≡ old.window)
+IsWatchedBy (Hello name named) old new lines watched = (watched ≡ Awaited) × (new.window ≡ old.window)
 IsWatchedBy meaning old new lines watched = (watched ≡ Heard) × (new.window ≡ old.window)
 
 -- by what it means on this day

@@ -89,7 +89,7 @@ impl<'a> Lookout<'a> {
         let meaning = self.mean(today, line);
         match meaning {
             Meaning::Look(look) => self.answer(lines, &look),
-            Meaning::Hello(_) => Watched::Awaited,
+            Meaning::Hello(_, _) => Watched::Awaited,
             Meaning::Nothing => Watched::Heard,
             Meaning::Request(_) => Watched::Heard,
             Meaning::Call(_, _) => Watched::Heard,

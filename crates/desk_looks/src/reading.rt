@@ -12,6 +12,9 @@ use std::sync::{Arc, Wait};
 use std::thread;
 use std::thread::Threads;
 
+/// No look asks which journal a client is for.
+const NO_EPOCH: u32 = 0;
+
 /// Starts the thread that reads a session's lines. It ends with the host, or where its pipe fails, and nobody waits for it. Where the host's
 /// mark is written to what is read, the lines ahead of it are earlier ones. Where memory is wanting for an index of the flights, all lines
 /// wait for the host.
@@ -58,6 +61,12 @@ fn read_there<R: Wait + Drop, I: Read + Drop>(
         return;
     };
     let (today, _) = post.outlook(&rt);
-    let mut lookout = Lookout::new(alloc, &season, served, window, Desk::silent(today));
+    let mut lookout = Lookout::new(
+        alloc,
+        &season,
+        served,
+        window,
+        Desk::silent(today, NO_EPOCH),
+    );
     let _ = read_desk(&rt, alloc, &post, session, mark, &mut input, &mut lookout);
 }

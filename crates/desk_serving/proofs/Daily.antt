@@ -17,16 +17,17 @@ use Rattle.seat_seal.specs.Rules.{is_sealed}
 use Rattle.seat_seal.specs.declared.seal.Sealed.{Sealed as Belonging}
 use Rattle.seat_sealing.specs.Steps.{alone_text}
 use Rattle.seat_serving.specs.Served.{Served}
-use Rattle.desk_serving.specs.Daily.{FailsBy, IsOfEpoch, IsOnDay, IsSealedOn, IsSealedStill, StaysNamed, hosted_by}
+use Rattle.desk_serving.specs.Daily.{CountsSeal, FailsBy, IsOfEpoch, IsOnDay, IsSealedOn, IsSealedStill, StaysNamed, hosted_by}
 use Rattle.desk_serving.specs.Going.{Fails, GoesOn}
 use Rattle.desk_serving.specs.declared.day.GroupFault.{GroupFault}
 use Rattle.desk_serving.specs.declared.day.GroupFault.TheVariants.{Serve, Seal}
-use Rattle.desk_serving.specs.declared.serving.HostedFault.TheVariants.{Day}
+use Rattle.desk_serving.specs.declared.serving.HostedFault.TheVariants.{Dating, Day}
 use Rattle.seat_disk.specs.Growing.{KeepsFront}
 use Rattle.seat_recovery.specs.OpenText.{open_text}
 use Rattle.desk_hall.specs.Halls.{Hallful, IsPassed, IsSameHall, IsUnheard, IsUnordered}
 use Rattle.desk_serving.proofs.Goes.{begins_on, told_ready}
 use Rattle.seat_desk.specs.declared.fault.DeskFault.{DeskFault}
+use Rattle.seat_desk.specs.declared.fault.DeskFault.TheVariants.{Device as NoFile}
 use Rattle.seat_serving.proofs.Holding.{seen_kept}
 use Rattle.seat_serving.specs.declared.serving.ServeFault.{ServeFault}
 
@@ -169,10 +170,29 @@ module _ {K : Type 0} (named : K → Option (List ℕ)) (leaves : K → List ℕ
       → HasFailed failures between after → HasFailed failures before after
   failed_behind old mid before between after still failed = failed ∙ ap noted still.sealed.counted
 
+  -- a failure of its file is counted behind what was sealed
+  pub counts_behind : (day : ℕ) (old mid : Belonging) (before between after : K) (fault : GroupFault)
+      → IsSealedOn named leaves kept failures day old mid before between → CountsSeal failures between after fault → CountsSeal failures before after fault
+  counts_behind day old mid before between after fault is counts = record { counted = λ e. counts.counted e ∙ ap noted is.counted }
+
   -- by the day that the hall has
   pub sealed_as : (day other : ℕ) (old new : Belonging) (before after : K) → other ≡ day → IsSealedOn named leaves kept failures day old new before after
       → IsSealedOn named leaves kept failures other old new before after
   sealed_as day other old new before after is on = subst (λ (d : ℕ). IsSealedOn named leaves kept failures d old new before after) (sym is) on
+
+-- by the inventory no file of the seal failed
+pub counts_none : {K : Type 0} (failures : K → ℕ) (before after : K) (fault : ServeFault) → CountsSeal failures before after (Serve fault)
+counts_none {K} failures before after fault = record { counted = λ e. absurd (cc e) }
+
+pub counts_seal : {K : Type 0} (failures : K → ℕ) (before after : K) (fault : DeskFault) → (fault ≡ NoFile → HasFailed failures before after)
+    → CountsSeal failures before after (Seal fault)
+counts_seal {K} failures before after fault failed = record { counted = λ e. failed (cc e) }
+
+-- and where the host of the desks says so, it did
+pub dating_failed : {K : Type 0} (failures : K → ℕ) (before after : K) (fault : GroupFault) → CountsSeal failures before after fault
+    → hosted_by fault ≡ Dating NoFile → HasFailed failures before after
+dating_failed {K} failures before after (Serve f) counts is = absurd (cc is)
+dating_failed {K} failures before after (Seal f) counts is = counts.counted (ap Seal (cc is))
 
 module _ {D : Type 0} (seen : D → Option (List ℕ)) (leaves : D → List ℕ → Type 0) (unsynced failures : D → ℕ) where
   -- by the inventory

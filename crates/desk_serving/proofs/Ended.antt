@@ -1,6 +1,6 @@
 -- The end of the journal of a host of several desks.
 use Rattle.std.proofs.Common.{◌≡◌, ℕ, List, subst, sym, ap, ◌∙◌, refl}
-use Rattle.std.specs.Prelude.{None, IfSome, Option, []}
+use Rattle.std.specs.Prelude.{None, IfSome, Option, [], false}
 use Rattle.seat_nesting.specs.Nesting.{Ladders}
 use Rattle.seat_journal.specs.declared.entry.Entry.{Entry}
 use Rattle.seat_journal.specs.Text.{journal_text, IsJournalText}
@@ -30,7 +30,7 @@ use Rattle.desk_talk.proofs.Ended.{ended_so as talk_ended_so, left_open as talk_
 
 module _ {D : Type 0} where
   attended : Served D → Attended D
-  attended s = record { flights = []; session = 1; desk = record { today = 0; standing = Between; lines = 0 }; serving = s }
+  attended s = record { flights = []; session = 1; desk = record { today = 0; standing = Between; lines = 0; epoch = 1; is_stranger = false }; serving = s }
 
   -- a host that is opened is over its flights, and on its day
   pub opened_grid : (flights : List Flown) (grid : Ladders) (cap today : ℕ) (host : Attended D) → IsGridOf flights grid

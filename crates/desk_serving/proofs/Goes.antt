@@ -1,5 +1,5 @@
 -- A host that goes on, and then goes on or fails.
-use Rattle.std.proofs.Common.{◌≡◌, ℕ, ◌+◌, ◌<◌, List, ◌++◌, length, refl, ap, sym, ◌∙◌, subst, arith, append_assoc, append-nil}
+use Rattle.std.proofs.Common.{◌≡◌, ℕ, List, ◌++◌, refl, ap, sym, ◌∙◌, subst, arith, append_assoc, append-nil}
 use Rattle.std.specs.Prelude.{Option, [], false, IfErr, Result, Ok, Err}
 use Rattle.airline_base.specs.Noting.{noted}
 use Rattle.desk_answers.specs.Hosts.{IsReady}

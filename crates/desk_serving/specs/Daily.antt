@@ -10,6 +10,8 @@ use Rattle.seat_sealing.specs.Steps.{alone_text}
 use Rattle.seat_serving.specs.Served.{Served}
 use Rattle.airline_base.specs.Noting.{noted}
 use Rattle.desk_answers.specs.Hosts.{IsReady}
+use Rattle.seat_desk.specs.Desk.{HasFailed}
+use Rattle.seat_desk.specs.declared.fault.DeskFault.TheVariants.{Device as NoFile}
 use Rattle.seat_disk.specs.Growing.{KeepsFront}
 use Rattle.seat_recovery.specs.OpenText.{open_text}
 use Rattle.seat_rules.specs.Prefixes.{Begins}
@@ -64,6 +66,10 @@ pub record FailsBy {D : Type 0} (seen : D → Option (List ℕ)) (leaves : D →
   pub told : KeepsFront (open_text old.kept) (leaves new.tape)
   pub memory : fault ≡ Serve NoMemory → IsReady seen leaves unsynced new
   pub device : fault ≡ Serve Device → failures new.tape ≡ noted (failures old.tape)
+
+-- where the file of the seal failed a call of it was counted
+pub record CountsSeal {K : Type 0} (failures : K → ℕ) (before after : K) (fault : GroupFault) : Type 0 where
+  pub counted : fault ≡ Seal NoFile → HasFailed failures before after
 
 -- what the host of the desks failed by
 abbrev pub hosted_by : GroupFault → HostedFault

@@ -1,5 +1,5 @@
 -- A host that goes on answering, or fails.
-use Rattle.std.specs.Prelude.{◌≡◌, ℕ, false, Option, List, IsTrue, ◌==◌, ◌&&◌, if◌then◌else◌, Bool, true, [], ◌∷◌}
+use Rattle.std.specs.Prelude.{◌≡◌, ℕ, false, Option, List, ◌==◌, ◌&&◌, if◌then◌else◌, Bool, true, [], ◌∷◌}
 use Rattle.airline_base.specs.Noting.{noted}
 use Rattle.desk_answers.specs.Hosts.{IsReady}
 use Rattle.desk_hall.specs.Halls.{Hallful, IsHeardBy, IsOrdered, IsPassed}

@@ -1,2 +1,3 @@
 pub mod Daily
 pub mod Going
+pub mod Silence

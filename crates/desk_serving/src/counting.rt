@@ -1,7 +1,7 @@
 //! What a host has come to, counted behind each group that is answered.
 ghost use Rattle.std.specs.Prelude.{◌≡◌, IfErr, OnOk};
 ghost use Rattle.desk_answers.specs.Hosts.{IsReady};
-ghost use Rattle.desk_serving.specs.Daily.{FailsBy, IsOnDay, IsSealedOn, StaysNamed};
+ghost use Rattle.desk_serving.specs.Daily.{CountsSeal, FailsBy, IsOnDay, IsSealedOn, StaysNamed};
 ghost use Rattle.desk_serving.specs.Going.{GoesOn};
 ghost use Rattle.desk_status.specs.Tallies.{added, groups_behind, Counts, CountsFront};
 
@@ -43,6 +43,7 @@ pub(crate) fn answer_counted<R: Wait, D: Tape, K: Replaced>(
     ensures fails { IfErr result (FailsBy D.seen D.may_leave D.unsynced D.failure_count hall.old.serving hall.new.serving) }
     ensures sealed { OnOk result (IsSealedOn K.named K.may_leave K.kept_may_leave K.failure_count hall.new.today entry.old entry.new seals.old seals.new) }
     ensures stays { StaysNamed K.may_leave K.kept_may_leave entry.old seals.old seals.new }
+    ensures unsealed { IfErr result (CountsSeal K.failure_count seals.old seals.new) }
     ensures counts { OnOk result (Counts tally.new hall.new.serving.journal) }
     ensures groups { OnOk result (tally.new.groups ≡ groups_behind tally.old.groups (added tally.old hall.new.serving.journal)) }
 {

@@ -1,7 +1,7 @@
 //! The lines that wait, answered as a group.
 ghost use Rattle.std.specs.Prelude.{◌≡◌, ◌≤◌, ◌==◌, false, true, IfErr, IfOk, OnErr, OnOk, length};
 ghost use Rattle.desk_answers.specs.Hosts.{IsReady};
-ghost use Rattle.desk_serving.specs.Daily.{FailsBy, IsOnDay, IsSealedOn, StaysNamed};
+ghost use Rattle.desk_serving.specs.Daily.{CountsSeal, FailsBy, IsOnDay, IsSealedOn, StaysNamed};
 ghost use Rattle.desk_serving.specs.Going.{is_apart, Fails, GoesOn, IsHeardBehind};
 
 use crate::day::{GroupFault, keep_day};
@@ -17,7 +17,7 @@ use std::sync::Wait;
 
 /// Hears these lines in their order, books what they ask for, and tells each desk what concerns it. A word to the host that is no look is
 /// answered behind all ahead of it and ahead of all behind it. Whether the host goes on.
-#[tactic(auto, using(crate::proofs::Goes::goes_same, crate::proofs::Goes::goes_further, crate::proofs::Goes::fails_behind, crate::proofs::Daily::fails_by_behind, crate::proofs::Daily::sealed_same, crate::proofs::Daily::sealed_further, crate::proofs::Daily::sealed_as, crate::proofs::Daily::stays_behind, crate::proofs::Daily::stays_on, crate::proofs::Daily::on_day_of, crate::proofs::Daily::by_inventory))]
+#[tactic(auto, using(crate::proofs::Goes::goes_same, crate::proofs::Goes::goes_further, crate::proofs::Goes::fails_behind, crate::proofs::Daily::fails_by_behind, crate::proofs::Daily::sealed_same, crate::proofs::Daily::sealed_further, crate::proofs::Daily::sealed_as, crate::proofs::Daily::stays_behind, crate::proofs::Daily::stays_on, crate::proofs::Daily::on_day_of, crate::proofs::Daily::by_inventory, crate::proofs::Daily::counts_none))]
 pub(crate) fn answer_group<R: Wait, D: Tape, K: Replaced>(
     rt: &R,
     alloc: Global,
@@ -33,6 +33,7 @@ pub(crate) fn answer_group<R: Wait, D: Tape, K: Replaced>(
     ensures fails { IfErr result (FailsBy D.seen D.may_leave D.unsynced D.failure_count hall.old.serving hall.new.serving) }
     ensures sealed { OnOk result (IsSealedOn K.named K.may_leave K.kept_may_leave K.failure_count hall.new.today entry.old entry.new seals.old seals.new) }
     ensures stays { StaysNamed K.may_leave K.kept_may_leave entry.old seals.old seals.new }
+    ensures unsealed { IfErr result (CountsSeal K.failure_count seals.old seals.new) }
 {
     let mut goes_on = true;
     for one in said {
@@ -48,7 +49,7 @@ pub(crate) fn answer_group<R: Wait, D: Tape, K: Replaced>(
 }
 
 // Hears a line.
-#[tactic(auto, using(crate::proofs::Goes::goes_same, crate::proofs::Goes::goes_further, crate::proofs::Goes::fails_behind, crate::proofs::Daily::fails_by_behind, crate::proofs::Daily::stays_same, crate::proofs::Daily::day_as, crate::proofs::Daily::by_inventory))]
+#[tactic(auto, using(crate::proofs::Goes::goes_same, crate::proofs::Goes::goes_further, crate::proofs::Goes::fails_behind, crate::proofs::Daily::fails_by_behind, crate::proofs::Daily::stays_same, crate::proofs::Daily::day_as, crate::proofs::Daily::by_inventory, crate::proofs::Daily::counts_none))]
 fn answer_one<R: Wait, D: Tape, K: Replaced>(
     rt: &R,
     alloc: Global,
@@ -64,6 +65,7 @@ fn answer_one<R: Wait, D: Tape, K: Replaced>(
     ensures fails { IfErr result (FailsBy D.seen D.may_leave D.unsynced D.failure_count hall.old.serving hall.new.serving) }
     ensures sealed { OnOk result (IsSealedOn K.named K.may_leave K.kept_may_leave K.failure_count hall.new.today entry.old entry.new seals.old seals.new) }
     ensures stays { StaysNamed K.may_leave K.kept_may_leave entry.old seals.old seals.new }
+    ensures unsealed { IfErr result (CountsSeal K.failure_count seals.old seals.new) }
 {
     if !is_apart(one.line.as_slice()) {
         return hear_dated(rt, alloc, hall, post, one, entry, seals);
@@ -78,7 +80,7 @@ fn answer_one<R: Wait, D: Tape, K: Replaced>(
 }
 
 // Hears a line, and answers it ahead of all behind it.
-#[tactic(auto, using(crate::proofs::Goes::goes_further, crate::proofs::Goes::fails_behind, crate::proofs::Daily::fails_by_behind, crate::proofs::Daily::sealed_as, crate::proofs::Daily::stays_on, crate::proofs::Daily::on_day_of, crate::proofs::Daily::by_inventory))]
+#[tactic(auto, using(crate::proofs::Goes::goes_further, crate::proofs::Goes::fails_behind, crate::proofs::Daily::fails_by_behind, crate::proofs::Daily::sealed_as, crate::proofs::Daily::stays_on, crate::proofs::Daily::on_day_of, crate::proofs::Daily::by_inventory, crate::proofs::Daily::counts_none))]
 fn hear_apart<R: Wait, D: Tape, K: Replaced>(
     rt: &R,
     alloc: Global,
@@ -94,6 +96,7 @@ fn hear_apart<R: Wait, D: Tape, K: Replaced>(
     ensures fails { IfErr result (FailsBy D.seen D.may_leave D.unsynced D.failure_count hall.old.serving hall.new.serving) }
     ensures sealed { OnOk result (IsSealedOn K.named K.may_leave K.kept_may_leave K.failure_count hall.new.today entry.old entry.new seals.old seals.new) }
     ensures stays { StaysNamed K.may_leave K.kept_may_leave entry.old seals.old seals.new }
+    ensures unsealed { IfErr result (CountsSeal K.failure_count seals.old seals.new) }
 {
     let goes_on = match hear_dated(rt, alloc, hall, post, one, entry, seals) {
         Ok(goes_on) => goes_on,
@@ -106,7 +109,7 @@ fn hear_apart<R: Wait, D: Tape, K: Replaced>(
 }
 
 // Hears a line. A later day that it gives is in the seal, on its disk, before anything is told under it.
-#[tactic(auto, using(crate::proofs::Goes::goes_same, crate::proofs::Goes::goes_further, crate::proofs::Goes::fails_behind, crate::proofs::Daily::stays_same, crate::proofs::Daily::by_inventory, crate::proofs::Daily::by_seal, crate::proofs::Daily::day_as, crate::proofs::Daily::sealed_as))]
+#[tactic(auto, using(crate::proofs::Goes::goes_same, crate::proofs::Goes::goes_further, crate::proofs::Goes::fails_behind, crate::proofs::Daily::stays_same, crate::proofs::Daily::by_inventory, crate::proofs::Daily::by_seal, crate::proofs::Daily::day_as, crate::proofs::Daily::sealed_as, crate::proofs::Daily::counts_none, crate::proofs::Daily::counts_seal))]
 fn hear_dated<R: Wait, D: Tape, K: Replaced>(
     rt: &R,
     alloc: Global,
@@ -122,6 +125,7 @@ fn hear_dated<R: Wait, D: Tape, K: Replaced>(
     ensures fails { IfErr result (FailsBy D.seen D.may_leave D.unsynced D.failure_count hall.old.serving hall.new.serving) }
     ensures sealed { OnOk result (IsSealedOn K.named K.may_leave K.kept_may_leave K.failure_count hall.new.today entry.old entry.new seals.old seals.new) }
     ensures stays { StaysNamed K.may_leave K.kept_may_leave entry.old seals.old seals.new }
+    ensures unsealed { IfErr result (CountsSeal K.failure_count seals.old seals.new) }
 {
     let before = hall.today();
     let goes_on = match hear_one(rt, alloc, hall, post, one, entry, seals) {

@@ -1,7 +1,8 @@
 //! A host of several desks, each silent until somebody says hello.
-ghost use Rattle.std.specs.Prelude.{◌≡◌, ◌+◌, [], length, IfErr, IfOk, OnOk};
+ghost use Rattle.std.specs.Prelude.{◌≡◌, ◌+◌, [], length, All, IfErr, IfOk, OnOk};
 ghost use Rattle.airline_base.specs.Days.{IsCenturyDay};
 ghost use Rattle.seat_desk.specs.Loading.{IsGridOf};
+ghost use Rattle.desk_serving.specs.Silence.{IsSilentAt};
 
 use airline_base::{Day, Memory};
 use desk_answers::OpenHost;
@@ -13,7 +14,8 @@ use ssim_flights::{Flights, Served};
 use std::alloc::Global;
 use std::sync::Wait;
 
-/// The same host for eight desks and a manager, whose lines are read on its day. Nobody has said hello.
+/// The same host for eight desks and a manager, whose lines are read on its day, at a journal of its epoch. Nobody has said hello.
+#[tactic(auto, using(crate::proofs::Silence::silent_manager, crate::proofs::Silence::silent_hall))]
 pub(crate) fn hall_over<'a, R: Wait, D: Tape>(
     rt: &R,
     alloc: Global,
@@ -25,14 +27,17 @@ pub(crate) fn hall_over<'a, R: Wait, D: Tape>(
     ensures serving { IfOk result (λ hall. hall.serving ≡ host.entry.serving) }
     ensures today { IfOk result (λ hall. hall.today ≡ host.entry.desk.today) }
     ensures desks { IfOk result (λ hall. length hall.desks ≡ 8) }
+    ensures manager { IfOk result (λ hall. IsSilentAt host.entry.desk.epoch hall.manager) }
+    ensures silent { IfOk result (λ hall. All (IsSilentAt host.entry.desk.epoch) hall.desks) }
     ensures tape { IfErr result (λ tape. tape ≡ host.entry.serving.tape) }
 {
     let today = host.today();
+    let epoch = host.epoch();
     let serving = host.into_serving();
     let Ok(served) = Served::new(alloc, flights) else {
         return Err(serving.close(rt));
     };
-    let Ok(desks) = silent_desks(alloc, today) else {
+    let Ok(desks) = silent_desks(alloc, today, epoch) else {
         return Err(serving.close(rt));
     };
     let Ok(calls) = no_calls(alloc) else {
@@ -44,17 +49,19 @@ pub(crate) fn hall_over<'a, R: Wait, D: Tape>(
         serving,
         today,
         desks,
-        Desk::silent(today),
+        Desk::silent(today, epoch),
         calls,
         Vec::new(alloc),
         Vec::new(alloc),
     ))
 }
 
-fn silent_desks(alloc: Global, today: Day) -> Result<Vec<Desk>, Memory>
-    ensures { IfOk result (λ desks. length desks.items ≡ 8) }
+#[tactic(auto, using(crate::proofs::Silence::silent, crate::proofs::Silence::all_silent))]
+fn silent_desks(alloc: Global, today: Day, epoch: u32) -> Result<Vec<Desk>, Memory>
+    ensures count { IfOk result (λ desks. length desks.items ≡ 8) }
+    ensures silent { IfOk result (λ desks. All (IsSilentAt epoch) desks.items) }
 {
-    let desks = [Desk::silent(today); 8];
+    let desks = [Desk::silent(today, epoch); 8];
     Ok(Vec::from_slice(alloc, &desks)?)
 }
 

@@ -14,10 +14,10 @@ ghost use Rattle.seat_restoring.specs.Dating.{IsDated, Stands};
 ghost use Rattle.seat_restoring.specs.Serving.{IsSealedEnd, NamesAll};
 ghost use Rattle.seat_serving.specs.declared.serving.ServeFault.TheVariants.{Device, Memory as NoMemory};
 ghost use Rattle.desk_answers.specs.Hosts.{IsReady};
-ghost use Rattle.desk_serving.specs.Daily.{FailsBy, IsOfEpoch, IsOnDay, IsSealedOn, IsSealedStill, StaysNamed, hosted_by};
+ghost use Rattle.desk_serving.specs.Daily.{CountsSeal, FailsBy, IsOfEpoch, IsOnDay, IsSealedOn, IsSealedStill, StaysNamed, hosted_by};
 ghost use Rattle.desk_serving.specs.declared.day.GroupFault.TheVariants.{Serve};
 ghost use Rattle.desk_serving.specs.Going.{GoesOn};
-ghost use Rattle.desk_serving.specs.declared.serving.HostedFault.TheVariants.{Day, Seal};
+ghost use Rattle.desk_serving.specs.declared.serving.HostedFault.TheVariants.{Dating, Day, Seal};
 ghost use Rattle.desk_talk.specs.Closing.{IsEndedUnsealed};
 ghost use Rattle.desk_talk.specs.Ending.{IsEnded, IsLeftOpen};
 
@@ -51,7 +51,7 @@ pub enum HostedFault {
 /// Serves eight desks to the manager's end and ends the journal, while the open seal of the lines that the host began with stands in the file
 /// `seals`, on the host's day: a later day of the manager's is in it, on its disk, before a line is told under that day. Then the closed seal of all lines takes its place, of this basis, and with the day and the
 /// runs of the open one. Whatever a crash leaves of the two files, the seal has the journal's entry. What the host has come to stands on the board behind each group.
-#[tactic(auto, using(desk_talk::proofs::Closed::still_named, desk_talk::proofs::Closed::ended_named, desk_talk::proofs::Closed::ended_told, desk_talk::proofs::Closed::ended_unsealed, desk_talk::proofs::Closed::few_ended, crate::proofs::Daily::on_day, crate::proofs::Daily::stays_still, crate::proofs::Daily::names_on, crate::proofs::Daily::sealed_end, crate::proofs::Daily::of_epoch, crate::proofs::Daily::no_more_behind, crate::proofs::Daily::failed_behind))]
+#[tactic(auto, using(desk_talk::proofs::Closed::still_named, desk_talk::proofs::Closed::ended_named, desk_talk::proofs::Closed::ended_told, desk_talk::proofs::Closed::ended_unsealed, desk_talk::proofs::Closed::few_ended, crate::proofs::Daily::on_day, crate::proofs::Daily::stays_still, crate::proofs::Daily::names_on, crate::proofs::Daily::sealed_end, crate::proofs::Daily::of_epoch, crate::proofs::Daily::no_more_behind, crate::proofs::Daily::failed_behind, crate::proofs::Daily::dating_failed))]
 pub fn serve_desks<R: Wait, D: Tape, K: Replaced>(
     rt: &R,
     alloc: Global,
@@ -88,6 +88,7 @@ pub fn serve_desks<R: Wait, D: Tape, K: Replaced>(
     ensures over { IfErr result (λ f. (e : DeskFault) → f.0 ≡ Seal e → IsEndedUnsealed host.entry.serving.kept (D.seen f.1)
         (D.may_leave f.1) (D.unsynced f.1)) }
     ensures device { IfErr result (λ f. f.0 ≡ Seal DeskFault.Device → HasFailed K.failure_count seals.old seals.new) }
+    ensures dating { IfErr result (λ f. f.0 ≡ Dating DeskFault.Device → HasFailed K.failure_count seals.old seals.new) }
 {
     let mut entry = begun;
     let served = match serve_ended(rt, alloc, flights, host, post, board, &mut entry, seals) {
@@ -122,7 +123,7 @@ fn hosted_fault<R: Wait>(rt: &R, post: &Post, fault: GroupFault) -> HostedFault
 }
 
 // Serves the desks to the manager's end, and ends the journal. Where the host fails the journal is left open.
-#[tactic(auto, using(crate::proofs::Goes::ready_as, crate::proofs::Goes::goes_from, crate::proofs::Goes::fails_from, crate::proofs::Ended::ended_so, crate::proofs::Ended::ended_front, crate::proofs::Ended::lost_none, crate::proofs::Ended::left_open, crate::proofs::Ended::told_at_once, crate::proofs::Ended::left_at_once, crate::proofs::Daily::day_as, crate::proofs::Daily::stays_same, crate::proofs::Daily::stays_on, crate::proofs::Daily::some_day, crate::proofs::Daily::by_inventory, crate::proofs::Daily::fails_by_from))]
+#[tactic(auto, using(crate::proofs::Goes::ready_as, crate::proofs::Goes::goes_from, crate::proofs::Goes::fails_from, crate::proofs::Ended::ended_so, crate::proofs::Ended::ended_front, crate::proofs::Ended::lost_none, crate::proofs::Ended::left_open, crate::proofs::Ended::told_at_once, crate::proofs::Ended::left_at_once, crate::proofs::Daily::day_as, crate::proofs::Daily::stays_same, crate::proofs::Daily::stays_on, crate::proofs::Daily::some_day, crate::proofs::Daily::by_inventory, crate::proofs::Daily::fails_by_from, crate::proofs::Daily::counts_none))]
 fn serve_ended<R: Wait, D: Tape, K: Replaced>(
     rt: &R,
     alloc: Global,
@@ -147,6 +148,7 @@ fn serve_ended<R: Wait, D: Tape, K: Replaced>(
         → D.failure_count f.1 ≡ noted (D.failure_count host.entry.serving.tape)) }
     ensures sealed { OnOk result (IsSealedStill K.named K.may_leave K.kept_may_leave K.failure_count entry.old entry.new seals.old seals.new) }
     ensures stays { StaysNamed K.may_leave K.kept_may_leave entry.old seals.old seals.new }
+    ensures unsealed { IfErr result (λ f. CountsSeal K.failure_count seals.old seals.new f.0) }
 {
     let opened = match hall_over(rt, alloc, flights, host) {
         Ok(opened) => opened,
@@ -168,7 +170,7 @@ fn serve_ended<R: Wait, D: Tape, K: Replaced>(
 }
 
 // Answers what waits, one group behind the other, up to the manager's end.
-#[tactic(auto, using(crate::proofs::Goes::goes_same, crate::proofs::Goes::goes_further, crate::proofs::Goes::fails_behind, crate::proofs::Goes::fails_ready, crate::proofs::Daily::fails_by_behind, crate::proofs::Daily::sealed_same, crate::proofs::Daily::sealed_further, crate::proofs::Daily::stays_behind, crate::proofs::Daily::stays_same, crate::proofs::Daily::stays_on, crate::proofs::Daily::on_day_of, crate::proofs::Daily::by_inventory))]
+#[tactic(auto, using(crate::proofs::Goes::goes_same, crate::proofs::Goes::goes_further, crate::proofs::Goes::fails_behind, crate::proofs::Goes::fails_ready, crate::proofs::Daily::fails_by_behind, crate::proofs::Daily::sealed_same, crate::proofs::Daily::sealed_further, crate::proofs::Daily::stays_behind, crate::proofs::Daily::stays_same, crate::proofs::Daily::stays_on, crate::proofs::Daily::on_day_of, crate::proofs::Daily::by_inventory, crate::proofs::Daily::counts_none))]
 fn serve<R: Wait, D: Tape, K: Replaced>(
     rt: &R,
     alloc: Global,
@@ -184,6 +186,7 @@ fn serve<R: Wait, D: Tape, K: Replaced>(
     ensures fails { IfErr result (FailsBy D.seen D.may_leave D.unsynced D.failure_count hall.old.serving hall.new.serving) }
     ensures sealed { OnOk result (IsSealedOn K.named K.may_leave K.kept_may_leave K.failure_count hall.new.today entry.old entry.new seals.old seals.new) }
     ensures stays { StaysNamed K.may_leave K.kept_may_leave entry.old seals.old seals.new }
+    ensures unsealed { IfErr result (CountsSeal K.failure_count seals.old seals.new) }
 {
     let Ok(room) = room_for_lines(alloc) else {
         return Err(GroupFault::Serve(ServeFault::Memory));

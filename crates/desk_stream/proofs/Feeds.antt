@@ -1,6 +1,6 @@
 -- A feed behind a line, and behind what is booked.
 use Rattle.std.proofs.Common.{◌≡◌, ℕ, ◌≤◌, ◌==◌, Bool, List, [], length, ap, sym, ◌∙◌, subst, arith, append-nil, take, drop}
-use Rattle.std.specs.Prelude.{IfSome, Option, None}
+use Rattle.std.specs.Prelude.{Err, IfErr, IfSome, None, Ok, Option, Result}
 use Rattle.airline_base.specs.Days.{IsCenturyDay}
 use Rattle.desk_calls.specs.declared.call_index.CallIndex.{CallIndex}
 use Rattle.desk_feed.specs.Progress.{start, IsProgress}
@@ -10,6 +10,8 @@ use Rattle.desk_lines.specs.declared.desk.Desk.{Desk}
 use Rattle.desk_stream.specs.Feeds.{Feeding, IsFeed, IsHeard, IsStrangeLine, HasComeAsFar}
 use Rattle.desk_stream.specs.Hearing.{lines_with, HearsBy, IsStrangeStep, IsWaiting}
 use Rattle.desk_stream.specs.Leads.{lead_of}
+use Rattle.desk_stream.specs.declared.hearing.FeedFault.{FeedFault}
+use Rattle.desk_stream.specs.declared.hearing.FeedFault.TheVariants.{Strange}
 use Rattle.desk_stream.specs.declared.lead.Lead.{Lead}
 use Rattle.desk_stream.specs.Reading.{counted, step_of}
 use Rattle.desk_stream.specs.declared.hearing.Pending.{Pending}
@@ -106,24 +108,33 @@ module _ {D : Type 0} where
   -- ---- behind a line
 
   pub heard_by : (old new : Feeding D) (line : List ℕ) (at : Read) (lead : Lead) (came : Read × Step) (own : Bool) → at ≡ counted old.reading
-      → lead ≡ lead_of line → came ≡ step_of at lead → new.reading ≡ came.0 → own ≡ (came.0.epoch == old.epoch)
+      → lead ≡ lead_of line → came ≡ step_of old.epoch at lead → new.reading ≡ came.0 → own ≡ (came.0.epoch == old.epoch)
       → HearsBy came.1 old.flights old.serving own old.desks new.desks old.pending new.pending line → IsHeard old new line
   heard_by old new line at lead came own counts leads is reads owns hears = record {
     step = came.1;
-    step_is = ap (λ (r : Read). (r, came.1)) reads ∙ is ∙ ap (λ (r : Read). step_of r lead) counts ∙ ap (step_of (counted old.reading)) leads;
+    step_is = ap (λ (r : Read). (r, came.1)) reads ∙ is ∙ ap (λ (r : Read). step_of old.epoch r lead) counts ∙ ap (step_of old.epoch (counted old.reading)) leads;
     hears = subst (λ (b : Bool). HearsBy came.1 old.flights old.serving b old.desks new.desks old.pending new.pending line)
         (owns ∙ ap (λ (r : Read). r.epoch == old.epoch) (sym reads)) hears;
   }
 
   pub strange_line : (old : Feeding D) (line : List ℕ) (at : Read) (lead : Lead) (came : Read × Step) (own : Bool) → at ≡ counted old.reading
-      → lead ≡ lead_of line → came ≡ step_of at lead → own ≡ (came.0.epoch == old.epoch)
+      → lead ≡ lead_of line → came ≡ step_of old.epoch at lead → own ≡ (came.0.epoch == old.epoch)
       → IsStrangeStep came.1 old.flights old.serving own old.desks old.pending line → IsStrangeLine old line
   strange_line old line at lead came own counts leads is owns strange = record {
     reading = came.0;
     step = came.1;
-    step_is = is ∙ ap (λ (r : Read). step_of r lead) counts ∙ ap (step_of (counted old.reading)) leads;
+    step_is = is ∙ ap (λ (r : Read). step_of old.epoch r lead) counts ∙ ap (step_of old.epoch (counted old.reading)) leads;
     strange = subst (λ (b : Bool). IsStrangeStep came.1 old.flights old.serving b old.desks old.pending line) owns strange;
   }
+
+  -- where it was refused for that
+  pub strange_if : {A : Type 0} (old : Feeding D) (line : List ℕ) (at : Read) (lead : Lead) (came : Read × Step) (own : Bool) (r : Result A FeedFault)
+      → at ≡ counted old.reading → lead ≡ lead_of line → came ≡ step_of old.epoch at lead → own ≡ (came.0.epoch == old.epoch)
+      → IfErr r (λ f. f ≡ Strange → IsStrangeStep came.1 old.flights old.serving own old.desks old.pending line)
+      → IfErr r (λ f. f ≡ Strange → IsStrangeLine old line)
+  strange_if old line at lead came own (Ok x) counts leads is owns strange = tt
+  strange_if old line at lead came own (Err e) counts leads is owns strange = λ f_is.
+      strange_line old line at lead came own counts leads is owns (strange f_is)
 
   -- the feed stays one, whatever a line comes to
   pub feed_on : (flights served : List Flown) (serving : Served D) (reading later : Read) (desks now : List Desk) (calls : List CallIndex)

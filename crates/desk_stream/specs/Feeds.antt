@@ -42,14 +42,14 @@ pub record IsBegun (epoch : ℕ) (reading : Read) : Type 0 where
 -- it comes to what stands at its front
 pub record IsHeard {D : Type 0} (old new : Feeding D) (line : List ℕ) : Type 0 where
   pub step : Step
-  pub step_is : (new.reading, step) ≡ step_of (counted old.reading) (lead_of line)
+  pub step_is : (new.reading, step) ≡ step_of old.epoch (counted old.reading) (lead_of line)
   pub hears : HearsBy step old.flights old.serving (new.reading.epoch == old.epoch) old.desks new.desks old.pending new.pending line
 
 -- the line is a session's, and means a request that is none of this journal's feed
 pub record IsStrangeLine {D : Type 0} (feed : Feeding D) (line : List ℕ) : Type 0 where
   pub reading : Read
   pub step : Step
-  pub step_is : (reading, step) ≡ step_of (counted feed.reading) (lead_of line)
+  pub step_is : (reading, step) ≡ step_of feed.epoch (counted feed.reading) (lead_of line)
   pub strange : IsStrangeStep step feed.flights feed.serving (reading.epoch == feed.epoch) feed.desks feed.pending line
 
 -- the feed has come to the same lines, and the same are ahead of it: how it is cut into groups does not matter

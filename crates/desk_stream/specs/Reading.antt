@@ -18,31 +18,31 @@ counted reading = record reading { lines = next_number reading.lines }
 abbrev pub later_of : ℕ → ℕ → ℕ
 later_of today day = if nat_lt today day then day else today
 
--- the manager is told where it stands on the day
-abbrev pub on_day : Read → ℕ → Read × Step
-on_day reading day = (record reading { today = Some day }, Told (Desk (Stands day)))
+-- the manager is told where it stands on the day, at a journal of this epoch
+abbrev pub on_day : ℕ → Read → ℕ → Read × Step
+on_day own reading day = (record reading { today = Some day }, Told (Desk (Stands day own)))
 
 abbrev pub of_epoch : Read → ℕ → Read
 of_epoch reading epoch = record reading { epoch = epoch }
 
 -- the first line is a day, whatever day it is
-abbrev pub first_step : Read → Lead → Read × Step
-first_step reading (leads.Day day) = on_day reading day
-first_step reading lead = (reading, Told (Dayless reading.lines))
+abbrev pub first_step : ℕ → Read → Lead → Read × Step
+first_step own reading (leads.Day day) = on_day own reading day
+first_step own reading lead = (reading, Told (Dayless reading.lines))
 
 -- and then each is led by a session, or is a later day, or an epoch
-abbrev pub next_step : Read → ℕ → Lead → Read × Step
-next_step reading today (leads.Session session) = (reading, Line session today)
-next_step reading today (leads.Day day) = on_day reading (later_of today day)
-next_step reading today (leads.Epoch epoch) = (of_epoch reading epoch, Silent)
-next_step reading today leads.Unknown = (reading, Told (Unknown reading.lines))
+abbrev pub next_step : ℕ → Read → ℕ → Lead → Read × Step
+next_step own reading today (leads.Session session) = (reading, Line session today)
+next_step own reading today (leads.Day day) = on_day own reading (later_of today day)
+next_step own reading today (leads.Epoch epoch) = (of_epoch reading epoch, Silent)
+next_step own reading today leads.Unknown = (reading, Told (Unknown reading.lines))
 
-abbrev pub step_by : Read → Option ℕ → Lead → Read × Step
-step_by reading None lead = first_step reading lead
-step_by reading (Some today) lead = next_step reading today lead
+abbrev pub step_by : ℕ → Read → Option ℕ → Lead → Read × Step
+step_by own reading None lead = first_step own reading lead
+step_by own reading (Some today) lead = next_step own reading today lead
 
-abbrev pub step_of : Read → Lead → Read × Step
-step_of reading lead = step_by reading reading.today lead
+abbrev pub step_of : ℕ → Read → Lead → Read × Step
+step_of own reading lead = step_by own reading reading.today lead
 
 -- a session's line is behind a digit and a blank, and read on a day of the years 2000 to 2099
 abbrev pub IsRightStep : List ℕ → Step → Type 0

@@ -159,7 +159,7 @@ impl<'a, D: Tape> Feed<'a, D> {
     /// Hears a line with its end. A numbered request is taken as it was then, by the calls and the day of then: where lines of the
     /// journal are ahead of the feed the next of them must be its own, and its answer is told once more; behind the last it is booked
     /// by `answer`. Where it is another's, or memory is wanting, nothing comes of the line.
-    #[tactic(auto, using(crate::proofs::Feeds::heard_by, crate::proofs::Feeds::strange_line, crate::proofs::Feeds::feed_on))]
+    #[tactic(auto, using(crate::proofs::Feeds::heard_by, crate::proofs::Feeds::feed_on))]
     pub fn hear(&mut self, alloc: Global, line: &[u8]) -> Result<(), FeedFault>
         ensures heard { OnOk result (IsHeard self.old self.new line.now) }
         ensures strange { IfErr result (λ f. f ≡ Stranger → IsStrangeLine self.old line.now) }
@@ -178,9 +178,9 @@ impl<'a, D: Tape> Feed<'a, D> {
             pending,
         } = self;
         count(reading);
-        let (behind, step) = step_of(reading, line, lead_of(line));
-        *reading = behind;
         let own = *epoch;
+        let (behind, step) = step_of(own, reading, line, lead_of(line));
+        *reading = behind;
         let is_own = is_of(reading, own);
         match hear_step(
             alloc, flights, served, serving, is_own, desks, pending, step, line,

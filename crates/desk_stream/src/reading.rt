@@ -31,54 +31,54 @@ pub enum Step {
     Line(u8, Day),
 }
 
-/// What a line that begins so comes to, the last of those that are counted, and where the reading stands behind it.
-pub(crate) fn step_of(reading: &Reading, line: &[u8], lead: Lead) -> (Reading, Step)
+/// What a line that begins so comes to, the last of those that are counted, at a journal of this epoch, and where the reading stands behind it.
+pub(crate) fn step_of(own: u32, reading: &Reading, line: &[u8], lead: Lead) -> (Reading, Step)
     requires today { IfSome reading.now.today IsCenturyDay }
     requires right { IsRightLead line.now lead }
-    ensures value { result ≡ step_of reading.now lead }
+    ensures value { result ≡ step_of own reading.now lead }
     ensures right { IsRightStep line.now result.1 }
     ensures today { IfSome result.0.today IsCenturyDay }
 {
     match reading.today {
-        None => first_step(reading, line, lead),
-        Some(today) => next_step(reading, line, today, lead),
+        None => first_step(own, reading, line, lead),
+        Some(today) => next_step(own, reading, line, today, lead),
     }
 }
 
 // Ahead of the first day.
-fn first_step(reading: &Reading, line: &[u8], lead: Lead) -> (Reading, Step)
+fn first_step(own: u32, reading: &Reading, line: &[u8], lead: Lead) -> (Reading, Step)
     requires none { reading.now.today ≡ None }
     requires right { IsRightLead line.now lead }
-    ensures value { result ≡ first_step reading.now lead }
+    ensures value { result ≡ first_step own reading.now lead }
     ensures right { IsRightStep line.now result.1 }
     ensures today { IfSome result.0.today IsCenturyDay }
 {
     match lead {
-        Lead::Day(day) => on_day(reading, day),
+        Lead::Day(day) => on_day(own, reading, day),
         _ => (*reading, Step::Told(FeedTurn::Dayless(reading.lines))),
     }
 }
 
-fn next_step(reading: &Reading, line: &[u8], today: Day, lead: Lead) -> (Reading, Step)
+fn next_step(own: u32, reading: &Reading, line: &[u8], today: Day, lead: Lead) -> (Reading, Step)
     requires today { reading.now.today ≡ Some today }
     requires century { IsCenturyDay today }
     requires right { IsRightLead line.now lead }
-    ensures value { result ≡ next_step reading.now today lead }
+    ensures value { result ≡ next_step own reading.now today lead }
     ensures right { IsRightStep line.now result.1 }
     ensures today { IfSome result.0.today IsCenturyDay }
 {
     match lead {
         Lead::Session(session) => (*reading, Step::Line(session, today)),
-        Lead::Day(day) => on_day(reading, later_of(today, day)),
+        Lead::Day(day) => on_day(own, reading, later_of(today, day)),
         Lead::Epoch(epoch) => (of_epoch(reading, epoch), Step::Silent),
         Lead::Unknown => (*reading, Step::Told(FeedTurn::Unknown(reading.lines))),
     }
 }
 
 // The manager is told where it stands on the day.
-fn on_day(reading: &Reading, day: Day) -> (Reading, Step)
+fn on_day(own: u32, reading: &Reading, day: Day) -> (Reading, Step)
     requires century { IsCenturyDay day }
-    ensures value { result ≡ on_day reading.now day }
+    ensures value { result ≡ on_day own reading.now day }
     ensures right { (line : List ℕ) → IsRightStep line result.1 }
     ensures today { IfSome result.0.today IsCenturyDay }
 {
@@ -87,7 +87,7 @@ fn on_day(reading: &Reading, day: Day) -> (Reading, Step)
         epoch: reading.epoch,
         lines: reading.lines,
     };
-    (behind, Step::Told(FeedTurn::Desk(Turn::Stands(day))))
+    (behind, Step::Told(FeedTurn::Desk(Turn::Stands(day, own))))
 }
 
 // A day that is not later is passed over.

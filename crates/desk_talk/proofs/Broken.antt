@@ -212,14 +212,14 @@ module _ {D : Type 0} (seen : D → Option (List ℕ)) (leaves : D → List ℕ 
 
   pub half_ready : (old : Attended D) (fault : TalkFault) (ready : List ℕ) (input a b : Option (List ℕ)) → fault ≡ Output
       → IsReady seen leaves unsynced old.serving
-      → IsReadyLine None old.session (length old.serving.journal) (calls_of old.serving.journal old.session) old.desk.today ready
+      → IsReadyLine None old.session (length old.serving.journal) (calls_of old.serving.journal old.session) old.desk.today old.desk.epoch ready
       → TookFront a b ready → IfSome input (IsBroken old fault (leaves old.serving.tape) a b)
   half_ready old fault ready None a b output host is took = tt
   half_ready old fault ready (Some xs) a b output host is took =
       inl (record { output = output; safe = safe_ready seen leaves unsynced old host; ready = ready; is_ready = is; begun = took })
 
   behind : (old mid : Attended D) (between bytes xs ys ready : List ℕ) (fault : TalkFault) (now : List ℕ → Type 0) (o a b c : Option (List ℕ)) (m n : ℕ)
-      → IsReadyLine None old.session (length old.serving.journal) (calls_of old.serving.journal old.session) old.desk.today ready
+      → IsReadyLine None old.session (length old.serving.journal) (calls_of old.serving.journal old.session) old.desk.today old.desk.epoch ready
       → Appends o a ready → xs ≡ bytes ++ ys
       → TalksOn seen leaves unsynced failures old [] bytes mid between true a b m n → BreaksOff mid between fault now b c ys
       → BreaksBehind old fault now o c xs
@@ -245,7 +245,7 @@ module _ {D : Type 0} (seen : D → Option (List ℕ)) (leaves : D → List ℕ 
   }
 
   broken_behind : (old mid : Attended D) (between bytes ready : List ℕ) (fault : TalkFault) (now : List ℕ → Type 0) (i j o a b c : Option (List ℕ)) (m n : ℕ)
-      → IsReadyLine None old.session (length old.serving.journal) (calls_of old.serving.journal old.session) old.desk.today ready
+      → IsReadyLine None old.session (length old.serving.journal) (calls_of old.serving.journal old.session) old.desk.today old.desk.epoch ready
       → Appends o a ready → Consumes i j bytes
       → TalksOn seen leaves unsynced failures old [] bytes mid between true a b m n → IfSome j (BreaksOff mid between fault now b c)
       → IfSome i (IsBroken old fault now o c)
@@ -256,7 +256,7 @@ module _ {D : Type 0} (seen : D → Option (List ℕ)) (leaves : D → List ℕ 
 
   -- behind what was read so far
   pub talk_broken : (old mid : Attended D) (between none ready : List ℕ) (fault : TalkFault) (now : List ℕ → Type 0) (i j o a b c : Option (List ℕ)) (m n : ℕ)
-      → IsReadyLine None old.session (length old.serving.journal) (calls_of old.serving.journal old.session) old.desk.today ready
+      → IsReadyLine None old.session (length old.serving.journal) (calls_of old.serving.journal old.session) old.desk.today old.desk.epoch ready
       → Appends o a ready → none ≡ []
       → Reads seen leaves unsynced failures old none mid between true i j a b m n → IfSome j (BreaksOff mid between fault now b c)
       → IfSome i (IsBroken old fault now o c)

@@ -39,16 +39,22 @@ ready_host {D} seen leaves unsynced host s same answers kept disk synced =
 -- its parts
 pub opened : {D : Type 0} (flights : List Flown) (grid : Ladders) (cap today : ℕ) (host : Attended D) (desk : Desk) (s : Served D)
     → host.flights ≡ flights → host.session ≡ 1 → host.desk ≡ desk → desk.today ≡ today → desk.standing ≡ Between
-    → desk.lines ≡ 0 → host.serving ≡ s → s.grid ≡ grid → s.cap ≡ cap → IsOpened flights grid cap today host
-opened {D} flights grid cap today host desk s flown session is day standing lines serving over most = record {
+    → desk.lines ≡ 0 → desk.is_stranger ≡ false → host.serving ≡ s → s.grid ≡ grid → s.cap ≡ cap → IsOpened flights grid cap today host
+opened {D} flights grid cap today host desk s flown session is day standing lines client serving over most = record {
   flights_are = flown;
   session_is = session;
   today_is = ap (λ (d : Desk). d.today) is ∙ day;
   standing_is = ap (λ (d : Desk). d.standing) is ∙ standing;
   lines_are = ap (λ (d : Desk). d.lines) is ∙ lines;
+  client_is = ap (λ (d : Desk). d.is_stranger) is ∙ client;
   grid_is = ap (λ (x : Served D). x.grid) serving ∙ over;
   cap_is = ap (λ (x : Served D). x.cap) serving ∙ most;
 }
+
+-- of the epoch of its seal
+pub epoch_to : {D : Type 0} (host : Attended D) (desk : Desk) (entry : Belonging) → host.desk ≡ desk → desk.epoch ≡ entry.era.epoch
+    → host.desk.epoch ≡ entry.era.epoch
+epoch_to {D} host desk entry is of = ap (λ (d : Desk). d.epoch) is ∙ of
 
 -- the viewers of what it shows
 pub are_viewers : (grid found : Ladders) (book : Book) (viewers : List Viewed) → found ≡ grid

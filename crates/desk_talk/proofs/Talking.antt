@@ -292,7 +292,7 @@ module _ {D : Type 0} (seen : D → Option (List ℕ)) (leaves : D → List ℕ 
   }
 
   at_end : (old new : Attended D) (after bytes : List ℕ) (i j o a b : Option (List ℕ)) (m n : ℕ) (ready : List ℕ)
-      → IsReadyLine None old.session (length old.serving.journal) (calls_of old.serving.journal old.session) old.desk.today ready
+      → IsReadyLine None old.session (length old.serving.journal) (calls_of old.serving.journal old.session) old.desk.today old.desk.epoch ready
       → Appends o a ready → Consumes i j bytes → IsAtEnd j → Talks old [] bytes new after true a b m n
       → IfSome i (IsTalk old new o b)
   at_end old new after bytes None j o a b m n ready is put took end talks = tt
@@ -310,7 +310,7 @@ module _ {D : Type 0} (seen : D → Option (List ℕ)) (leaves : D → List ℕ 
       }
 
   gone : (old new : Attended D) (after bytes : List ℕ) (i j o a b : Option (List ℕ)) (m n : ℕ) (ready : List ℕ)
-      → IsReadyLine None old.session (length old.serving.journal) (calls_of old.serving.journal old.session) old.desk.today ready
+      → IsReadyLine None old.session (length old.serving.journal) (calls_of old.serving.journal old.session) old.desk.today old.desk.epoch ready
       → Appends o a ready → Consumes i j bytes → Talks old [] bytes new after false a b m n
       → IfSome i (IsTalk old new o b)
   gone old new after bytes None j o a b m n ready is put took talks = tt
@@ -338,7 +338,7 @@ module _ {D : Type 0} (seen : D → Option (List ℕ)) (leaves : D → List ℕ 
 
   -- the last read ends the talk
   pub talk_is : (old mid new : Attended D) (between after none : List ℕ) (more : Bool) (i j k o a b c : Option (List ℕ)) (l m n : ℕ) (ready : List ℕ)
-      → IsReadyLine None old.session (length old.serving.journal) (calls_of old.serving.journal old.session) old.desk.today ready
+      → IsReadyLine None old.session (length old.serving.journal) (calls_of old.serving.journal old.session) old.desk.today old.desk.epoch ready
       → Appends o a ready → none ≡ [] → Has_read old none mid between true i j a b l m
       → Turned mid between new after more j k b c m n → more ≡ false
       → IfSome i (IsTalk old new o c)

@@ -16,13 +16,14 @@ use Rattle.seat_restoring.specs.Restoring.{HasLongTail}
 use Rattle.seat_restoring.specs.Sealing.{HasNoSeal}
 use Rattle.desk_answers.specs.Hosts.{Attended}
 
--- over these flights and limits, for session 1, whose desk has said nothing on this day
+-- over these flights and limits, for session 1, whose desk has said nothing on this day, and whose client is for this journal
 pub record IsOpened {D : Type 0} (flights : List Flown) (grid : Ladders) (cap today : ℕ) (host : Attended D) : Type 0 where
   pub flights_are : host.flights ≡ flights
   pub session_is : host.session ≡ 1
   pub today_is : host.desk.today ≡ today
   pub standing_is : host.desk.standing ≡ Between
   pub lines_are : host.desk.lines ≡ 0
+  pub client_is : host.desk.is_stranger ≡ false
   pub grid_is : host.serving.grid ≡ grid
   pub cap_is : host.serving.cap ≡ cap
 

@@ -125,7 +125,7 @@ Turns seen leaves unsynced failures old before new after false in_old in_new out
 pub record IsTalk {D : Type 0} (old new : Attended D) (out_old out_new : Option (List ℕ)) (input : List ℕ) : Type 0 where
   pub ready : List ℕ
   pub is_ready : IsReadyLine None old.session (length old.serving.journal) (calls_of old.serving.journal old.session)
-      old.desk.today ready
+      old.desk.today old.desk.epoch ready
   pub after : List ℕ
   pub stays : Bool
   pub told : List ℕ
@@ -207,7 +207,7 @@ pub record IsHalfReady {D : Type 0} (old : Attended D) (fault : TalkFault) (leav
   pub safe : IsSafe old leaves
   pub ready : List ℕ
   pub is_ready : IsReadyLine None old.session (length old.serving.journal) (calls_of old.serving.journal old.session)
-      old.desk.today ready
+      old.desk.today old.desk.epoch ready
   pub begun : TookFront out_old out_new ready
 
 -- the desk was told where it stands, and behind that the talk is broken off
@@ -215,7 +215,7 @@ pub record BreaksBehind {D : Type 0} (old : Attended D) (fault : TalkFault) (lea
     (input : List ℕ) : Type 0 where
   pub ready : List ℕ
   pub is_ready : IsReadyLine None old.session (length old.serving.journal) (calls_of old.serving.journal old.session)
-      old.desk.today ready
+      old.desk.today old.desk.epoch ready
   pub out_mid : Option (List ℕ)
   pub put : Appends out_old out_mid ready
   pub breaks : BreaksOff old [] fault leaves out_mid out_new input

@@ -101,7 +101,7 @@ fn turn<R: Wait, I: NotedRead, W: NotedWrite, D: Tape>(
 // The line that says where the desk stands.
 fn ready_of<D: Tape>(host: &OpenHost<'_, D>) -> ArrayVec<u8, 70>
     ensures { IsReadyLine None host.now.session (length host.now.serving.journal)
-        (calls_of host.now.serving.journal host.now.session) host.now.desk.today result.items }
+        (calls_of host.now.serving.journal host.now.session) host.now.desk.today host.now.desk.epoch result.items }
 {
     let session = host.session();
     let serving = host.serving();
@@ -112,5 +112,6 @@ fn ready_of<D: Tape>(host: &OpenHost<'_, D>) -> ArrayVec<u8, 70>
         lines,
         serving.calls_of(session),
         host.today(),
+        host.epoch(),
     )
 }

@@ -219,7 +219,7 @@ const DESKS: &[Explanation] = &[
         behind: "",
         code: "READY",
         numbers: NONE,
-        text: "The host hears the desk. Behind it stand the word of the ?HELLO that it answers, where it answers one, the session,\nhow many lines the journal has, how many of these are the session's, and the day of the run.",
+        text: "The host hears the desk. Behind it stand the word of the ?HELLO that it answers, where it answers one, the session,\nhow many lines the journal has, how many of these are the session's, the day of the run, and the journal's epoch.",
     },
     Explanation {
         behind: "",

@@ -433,7 +433,7 @@ const SCRIPTS: &[Explanation] = &[
         behind: "",
         code: "H2",
         numbers: DESK,
-        text: "A line of the desk begins with ? or @, and is neither a word to the host nor a numbered segment line. The words are:\n? LZ601Q27JUL LHRKEF, which looks at a class, ? 27JUL LHRKEF, which looks at each flight of that day, ?AGAIN 25, which asks\nfor what concerns the session behind line 25 once more, ?HELLO K7M2QP, with which a client begins, and ?BYE, with which\nthe desk goes. A numbered line is @17 LZ601Q27JUL LHRKEF NN2: only a segment line of a message has a number, and of the manager's lines a row.",
+        text: "A line of the desk begins with ? or @, and is neither a word to the host nor a numbered segment line. The words are:\n? LZ601Q27JUL LHRKEF, which looks at a class, ? 27JUL LHRKEF, which looks at each flight of that day, ?AGAIN 25, which asks\nfor what concerns the session behind line 25 once more, ?HELLO K7M2QP, with which a client begins, and ?BYE, with which\nthe desk goes. Behind the word of ?HELLO the epoch of the journal may stand. A numbered line is @17 LZ601Q27JUL LHRKEF NN2: only a segment line of a message has a number, and of the manager's lines a row.",
     },
     Explanation {
         behind: "",
@@ -457,7 +457,7 @@ const SCRIPTS: &[Explanation] = &[
         behind: "",
         code: "H6",
         numbers: CALL,
-        text: "A numbered line is for another journal: the epoch that was said ahead of it (?EPOCH n in a feed) is not that of this journal, whose seal has it.\nNothing was booked.",
+        text: "A numbered line is for another journal: the epoch that its client named (?HELLO WORD EPOCH, or ?EPOCH n ahead of it in a feed) is not that of\nthis journal, which is the last number of READY and stands in the seal. Nothing was booked.\nSee in that journal what became of its lines, and say ?HELLO anew.",
     },
     Explanation {
         behind: "",

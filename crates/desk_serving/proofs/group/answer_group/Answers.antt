@@ -1,4 +1,4 @@
-use Rattle.desk_serving.proofs.Daily.{by_inventory, fails_by_behind, sealed_further, stays_behind}
+use Rattle.desk_serving.proofs.Daily.{by_inventory, counts_behind, fails_by_behind, sealed_further, stays_behind}
 use Rattle.desk_serving.proofs.Goes.{fails_behind, goes_further}
 use Rattle.desk_serving.proofs.group.answer_group.Goals as goal
 
@@ -11,6 +11,12 @@ pub returns-in-Err-clause-stays : goal.returns-in-Err-clause-stays
 returns-in-Err-clause-stays g c =
     stays_behind g.K.Replaced.named g.K.Replaced.may_leave g.K.Replaced.kept_may_leave g.K.Failures.failure_count c.loop-one.hall.today
     c.args.entry.now c.loop-one.entry c.args.seals.now c.loop-one.seals c.answer_one.new.seals c.loop-one.invariant.1 c.answer_one.ensures.stays
+
+pub returns-in-Err-clause-unsealed : goal.returns-in-Err-clause-unsealed
+returns-in-Err-clause-unsealed g c =
+    counts_behind g.K.Replaced.named g.K.Replaced.may_leave g.K.Replaced.kept_may_leave g.K.Failures.failure_count c.loop-one.hall.today
+    c.args.entry.now c.loop-one.entry c.args.seals.now c.loop-one.seals c.answer_one.new.seals c.in-Err.fault c.loop-one.invariant.1
+    c.in-Err.ensures.unsealed
 
 pub returns-in-Err-answer_heard-clause-fails : goal.returns-in-Err-answer_heard-clause-fails
 returns-in-Err-answer_heard-clause-fails g c =

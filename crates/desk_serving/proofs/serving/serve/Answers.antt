@@ -1,4 +1,4 @@
-use Rattle.desk_serving.proofs.Daily.{fails_by_behind, sealed_further, stays_behind}
+use Rattle.desk_serving.proofs.Daily.{counts_behind, fails_by_behind, sealed_further, stays_behind}
 use Rattle.desk_serving.proofs.Goes.{goes_further}
 use Rattle.desk_serving.proofs.serving.serve.Goals as goal
 
@@ -11,6 +11,12 @@ pub returns-in-Err-clause-stays : goal.returns-in-Err-clause-stays
 returns-in-Err-clause-stays g c =
     stays_behind g.K.Replaced.named g.K.Replaced.may_leave g.K.Replaced.kept_may_leave g.K.Failures.failure_count c.loop.hall.today
     c.args.entry.now c.loop.entry c.args.seals.now c.loop.seals c.answer_counted.new.seals c.loop.invariant.1 c.answer_counted.ensures.stays
+
+pub returns-in-Err-clause-unsealed : goal.returns-in-Err-clause-unsealed
+returns-in-Err-clause-unsealed g c =
+    counts_behind g.K.Replaced.named g.K.Replaced.may_leave g.K.Replaced.kept_may_leave g.K.Failures.failure_count c.loop.hall.today
+    c.args.entry.now c.loop.entry c.args.seals.now c.loop.seals c.answer_counted.new.seals c.in-Err.fault c.loop.invariant.1
+    c.in-Err.ensures.unsealed
 
 pub loop-preserved : goal.loop-preserved
 loop-preserved g c = (

@@ -1,4 +1,9 @@
-use Rattle.desk_stream.proofs.Feeds.{feed_on}
+use Rattle.std.proofs.Common.{sym, subst, ◌∙◌}
+use Rattle.std.specs.Prelude.{◌≡◌, IfErr}
+use Rattle.desk_stream.specs.Feeds.{Feeding, IsStrangeLine}
+use Rattle.desk_stream.specs.declared.hearing.FeedFault.TheVariants.{Strange as Stranger}
+use Rattle.desk_stream.proofs.Feeds.{feed_on, strange_if}
+use Rattle.desk_stream.proofs.feed.Feed.hear.Goals.{in-Ok, in-Err}
 use Rattle.desk_stream.proofs.feed.Feed.hear.Goals as goal
 
 pub invariant_of-self : goal.invariant_of-self
@@ -6,3 +11,22 @@ invariant_of-self g c =
     feed_on c.self.inside.flights.now c.self.inside.served c.self.inside.serving c.self.inside.reading c.step_of-behind.result.0
     c.self.inside.desks.items c.hear_step.new.desks.items c.self.inside.calls.items c.self.inside.pending c.hear_step.new.pending
     c.self.invariant c.step_of-behind.ensures.today c.hear_step.ensures.desks c.hear_step.ensures.waiting
+
+pub returns-clause-strange : goal.returns-clause-strange
+returns-clause-strange g c =
+    let old : Feeding g.row.D.Denot = (record {
+      flights = c.self.inside.flights.now;
+      serving = c.self.inside.serving;
+      epoch = c.self.inside.epoch;
+      reading = c.self.inside.reading;
+      desks = c.self.inside.desks.items;
+      pending = c.self.inside.pending;
+    }) in
+    let same : c.match-hear_step.result ≡ c.hear_step.result = elim c.match-hear_step.branch [
+      | in-Ok w ↦ w.result-is ∙ sym w.in-Ok.is
+      | in-Err w ↦ w.result-is ∙ sym w.in-Err.is
+    ] in
+    subst (λ (feed : Feeding g.row.D.Denot). IfErr c.match-hear_step.result (λ f. f ≡ Stranger → IsStrangeLine feed c.args.line.now)) c.self.view_is
+    (subst (λ r. IfErr r (λ f. f ≡ Stranger → IsStrangeLine old c.args.line.now)) (sym same)
+    (strange_if old c.args.line.now c.count.new.reading c.lead_of.result c.step_of-behind.result c.is_of-is_own.result c.hear_step.result
+    c.count.ensures c.lead_of.ensures.value c.step_of-behind.ensures.value c.is_of-is_own.ensures c.hear_step.ensures.strange))
