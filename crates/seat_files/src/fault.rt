@@ -10,6 +10,8 @@ pub enum Fault {
     Desk(DeskFault),
     /// A fault of one of several journals.
     Shards(ShardFault),
+    /// A feed is not that of its journal: its line of this number asks for something else than the journal's line of that.
+    Feed { line: u32, number: u32 },
     Word(WordFault),
 }
 
@@ -24,6 +26,7 @@ impl fmt::Display for Fault {
         match self {
             Fault::Desk(fault) => fault.fmt(f),
             Fault::Shards(fault) => fault.fmt(f),
+            Fault::Feed { line, number } => write!(f, "FEED {line} {number}"),
             Fault::Word(fault) => fault.fmt(f),
         }
     }
@@ -33,13 +36,14 @@ impl Fault {
     ghost use Rattle.std.specs.Prelude.{◌≡◌};
     ghost use Rattle.seat_files.specs.Faults.{exit_status};
 
-    /// The exit status: 2 for the command line, else that of the command's fault.
+    /// The exit status: 2 for the command line, 1 for a feed, else that of the command's fault.
     pub fn status(&self) -> u8
         ensures { result ≡ exit_status self.now }
     {
         match self {
             Fault::Desk(fault) => fault.status(),
             Fault::Shards(fault) => fault.status(),
+            Fault::Feed { .. } => 1,
             Fault::Word(_) => 2,
         }
     }

@@ -111,6 +111,13 @@ impl<'a> Refusal<'a> {
         Refusal::from(DeskFault::Device).at(path, error.raw_os_error())
     }
 
+    /// A feed that is not that of this journal: its line, and the line of the journal that it differs from.
+    pub fn strange(journal: &'a str, line: u32, number: u32) -> Refusal<'a>
+        ensures { result.fault ≡ Fault.Feed line number }
+    {
+        Refusal::of(Fault::Feed { line, number }).at(journal, None)
+    }
+
     /// A file that may not be the journal's, and why.
     pub fn barred(file: &'a str, why: &'static str) -> Refusal<'a>
         ensures { result.fault ≡ Fault.Word WordFault.BadJournal }
@@ -486,6 +493,7 @@ fn is_of_input(fault: &Fault) -> bool {
                 | DeskFault::Memory
         ),
         Fault::Shards(_) => true,
+        Fault::Feed { .. } => false,
         Fault::Word(_) => false,
     }
 }
@@ -496,6 +504,7 @@ fn place_of(fault: &Fault) -> Option<(&'static str, u32)> {
         Fault::Desk(fault) => place_in(fault),
         Fault::Shards(ShardFault::Journal { fault, .. }) => place_in(fault),
         Fault::Shards(ShardFault::Shared { number, .. }) => Some(("entry", *number)),
+        Fault::Feed { number, .. } => Some(("entry", *number)),
         _ => None,
     }
 }

@@ -1,0 +1,13 @@
+-- What was read so far is answered, and the seal has the day.
+use Rattle.std.proofs.Common.{◌≡◌, []}
+use Rattle.desk_serving.specs.Daily.{IsSealedOn}
+use Rattle.desk_serving.specs.Going.{GoesOn}
+use Rattle.desk_streaming.specs.Streaming.{Lived, Reads}
+use Rattle.desk_streaming.proofs.streaming.stream.Given as goal
+
+abbrev pub invariant-loop : goal.invariant-loop
+invariant-loop g l = Reads l.initial.feed l.initial.line.items l.feed l.line.items (g.I.Read.remaining l.initial.input) (g.I.Read.remaining l.input) (g.W.Write.contents l.initial.out) (g.W.Write.contents l.out)
+    × Lived l.initial.feed l.feed
+    × GoesOn g.D.Tape.seen g.D.Tape.may_leave g.D.Tape.unsynced g.D.Failures.failure_count l.initial.feed.serving l.feed.serving
+    × IsSealedOn g.K.Replaced.named g.K.Replaced.may_leave g.K.Replaced.kept_may_leave g.K.Failures.failure_count l.day l.initial.entry l.entry l.initial.seals l.seals
+    × (l.feed.pending.asked.items ≡ [])
