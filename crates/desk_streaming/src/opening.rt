@@ -45,7 +45,7 @@ pub(crate) fn feed_over<'a, R: Wait, D: Tape>(
     let Some(progress) = Progress::behind(serving.journal(), behind) else {
         return Err((FedFault::Behind, serving.close(rt)));
     };
-    let Ok(parts) = parts_of(alloc, flights, today) else {
+    let Ok(parts) = parts_of(alloc, flights, today, epoch) else {
         return Err((FedFault::Broken(StreamFault::Memory), serving.close(rt)));
     };
     let (served, desks, calls) = parts;
@@ -109,21 +109,22 @@ fn parts_of<'a>(
     alloc: Global,
     flights: &'a Flights,
     today: Day,
+    epoch: u32,
 ) -> Result<(Served<'a>, Vec<Desk>, Vec<CallIndex>), Memory>
     ensures served { IfOk result (λ parts. parts.0 ≡ flights.now) }
     ensures counts { IfOk result (λ parts. (length parts.1.items ≡ 9) × (length parts.2.items ≡ 9)) }
 {
     let served = Served::new(alloc, flights)?;
-    let desks = desks_on(alloc, today)?;
+    let desks = desks_on(alloc, today, epoch)?;
     let calls = no_calls(alloc)?;
     Ok((served, desks, calls))
 }
 
 // Whatever day this is: each line is heard on the feed's.
-fn desks_on(alloc: Global, today: Day) -> Result<Vec<Desk>, Memory>
+fn desks_on(alloc: Global, today: Day, epoch: u32) -> Result<Vec<Desk>, Memory>
     ensures { IfOk result (λ desks. length desks.items ≡ 9) }
 {
-    let desks = [Desk::new(today); 9];
+    let desks = [Desk::new(today, epoch); 9];
     Ok(Vec::from_slice(alloc, &desks)?)
 }
 

@@ -4,6 +4,7 @@
 
 mod commands;
 mod explain;
+mod feeding;
 mod heard;
 mod listing;
 mod locale;

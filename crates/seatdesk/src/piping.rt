@@ -58,6 +58,9 @@ pub fn desks_named<'a>(
     rt: &HostRuntime,
     asked: &Open<'a, '_>,
 ) -> Result<Option<Pipes>, Refusal<'a>> {
+    if asked.feed.is_some() {
+        return unstated(asked);
+    }
     if asked.desks.is_empty() {
         return Err(Refusal::unfit("--desk", "Is missing"));
     }
@@ -71,7 +74,7 @@ pub fn desks_named<'a>(
     pipes_named(rt, asked.desks, manager, every)
 }
 
-/// A desk on standard input and standard output has no status beside it.
+/// A desk or a feed on standard input and standard output has no status beside it.
 fn unstated<'a>(asked: &Open<'a, '_>) -> Result<Option<Pipes>, Refusal<'a>> {
     match asked.status.or(asked.every) {
         Some(word) => Err(Refusal::unsaid(word, "Is for desks on pipes alone")),

@@ -1,4 +1,4 @@
-//! `serve` over the real file of a journal, which it locks, its seal's, and a desk on standard input and standard output, or desks on pipes.
+//! `serve` over the real file of a journal, which it locks, its seal's, and a desk or a feed on standard input and standard output, or desks on pipes.
 //! It knows which file and stream is which, and nothing of what a desk's line means.
 ghost use Rattle.std.specs.Prelude.{◌≡◌, ◌≤◌, IfOk, IfSome, length};
 ghost use Rattle.std.specs.Arc.{arc_value};
@@ -11,6 +11,7 @@ ghost use Rattle.seat_restoring.specs.Serving.{NamesAll};
 ghost use Rattle.ssim_flights.specs.Right.{IsOfCentury};
 
 use crate::commands::{day_of_run, days_of, inputs_of};
+use crate::feeding::{feed_asked, feed_input, unfed};
 use crate::noting::tell_found_unsealed;
 use crate::piping::{Pipes, desks_named, started};
 use crate::restoring::{as_beside, pass_guard, seal_out, tell_kept, unopened};
@@ -20,6 +21,7 @@ use desk_answers::OpenHost;
 use desk_looks::{Gallery, Season};
 use desk_pipes::Outlook;
 use desk_serving::{HostedFault, serve_desks};
+use desk_streaming::{FedFault, StreamFault, day_known, has_fewer, serve_feed};
 use desk_talk::{DayFault, ServedFault, TalkFault, open_host, serve_sealed};
 use seat_desk::{Based, DeskFault, Inputs, Loaded, load_based};
 use seat_disk::{Replaced, Tape};
@@ -32,6 +34,7 @@ use seat_seal::{Basis, Beside, Sealed};
 use seat_serving::ServeFault;
 use seat_tape::{BesideFile, TapeFile, open};
 use seat_words::{Horizon, ServeJob, WordFault};
+use ssim_flights::Flights;
 use std::alloc::Global;
 use std::fs;
 use std::fs::File;
@@ -49,6 +52,9 @@ const NOTHING: &str = "/dev/null";
 /// Memory was wanting ahead of the first line.
 const NO_MEMORY: HostedFault = HostedFault::Day(ServeFault::Memory);
 
+/// The same, of a feed.
+const NO_ROOM_TO_READ: FedFault = FedFault::Broken(StreamFault::Memory);
+
 /// What the words ask for besides the flights and limits.
 #[derive(Clone, Copy)]
 pub struct Open<'a, 'b> {
@@ -58,6 +64,8 @@ pub struct Open<'a, 'b> {
     pub manager: Option<&'a str>,
     pub status: Option<&'a str>,
     pub every: Option<&'a str>,
+    pub feed: Option<&'a str>,
+    pub behind: Option<&'a str>,
 }
 
 /// Goes on with a journal beside its seal, or begins it, answers a desk up to the end of its input, or desks up to the manager's end, and
@@ -71,6 +79,7 @@ pub fn serve<'a, R: Threads + Wait + Clock + Copy + Send + 'static>(
     let asked = asked_by(job);
     let days = days_of(job.over.first, job.over.days)?;
     let said = day_said(asked.today)?;
+    let fed = feed_asked(&asked)?;
     let mut pipes = match desks_named(rt, &asked) {
         Ok(pipes) => pipes,
         Err(refusal) => return Err(refusal),
@@ -84,7 +93,7 @@ pub fn serve<'a, R: Threads + Wait + Clock + Copy + Send + 'static>(
         Err(fault) => return Err(unopened(asked.journal, fault)),
     };
     place_status(rt, &asked, &inputs, &mut pipes)?;
-    serve_locked(rt, waits, &inputs, based, said, asked.journal, pipes, tape)
+    serve_locked(rt, waits, &inputs, based, said, fed, asked.journal, pipes, tape)
 }
 
 /// What stands in for standard error where nothing is open on it: a pipe or a file that is opened next would have its descriptor, and the notes.
@@ -104,6 +113,8 @@ fn asked_by<'a, 'b>(job: &'b ServeJob<'a>) -> Open<'a, 'b> {
         manager: job.manager,
         status: job.status,
         every: job.every,
+        feed: job.feed,
+        behind: job.behind,
     }
 }
 
@@ -136,6 +147,7 @@ fn serve_locked<'a, R: Threads + Wait + Clock + Copy + Send + 'static>(
     inputs: &Inputs<Input<'a>, Input<'a>>,
     based: Based,
     said: Option<Day>,
+    fed: Option<u32>,
     journal: &'a str,
     pipes: Option<Pipes>,
     tape: TapeFile,
@@ -164,6 +176,7 @@ fn serve_locked<'a, R: Threads + Wait + Clock + Copy + Send + 'static>(
         waits,
         based,
         said,
+        fed,
         journal,
         pipes,
         &as_beside(&text),
@@ -202,6 +215,7 @@ fn serve_over<'a, R: Threads + Wait + Clock + Copy + Send + 'static>(
     waits: &R,
     based: Based,
     said: Option<Day>,
+    fed: Option<u32>,
     journal: &'a str,
     pipes: Option<Pipes>,
     seal: &Beside<'_>,
@@ -219,7 +233,10 @@ fn serve_over<'a, R: Threads + Wait + Clock + Copy + Send + 'static>(
         Ok(bytes) => bytes,
         Err(fault) => return Err(unread(fault, journal, &tape)),
     };
-    let today = match day_beside(seal, &basis, &bytes, said, journal) {
+    if has_fewer(&bytes, fed.unwrap_or(0)) {
+        return Err(Refusal::from(WordFault::BadBehind));
+    }
+    let today = match day_beside(seal, &basis, &bytes, said, fed, journal) {
         Ok(today) => today,
         Err(refusal) => return Err(refusal),
     };
@@ -227,7 +244,7 @@ fn serve_over<'a, R: Threads + Wait + Clock + Copy + Send + 'static>(
         return Err(Refusal::from(DeskFault::Memory));
     };
     serve_read(
-        rt, waits, &season, grid, &basis, today, bytes, journal, pipes, seal, tape, beside, seals,
+        rt, waits, &season, grid, &basis, today, fed, bytes, journal, pipes, seal, tape, beside, seals,
     )
 }
 
@@ -240,6 +257,7 @@ fn serve_read<'a, R: Threads + Wait + Clock + Copy + Send + 'static>(
     grid: Grid,
     basis: &Basis,
     today: Day,
+    fed: Option<u32>,
     bytes: Vec<u8>,
     journal: &'a str,
     pipes: Option<Pipes>,
@@ -279,6 +297,15 @@ fn serve_read<'a, R: Threads + Wait + Clock + Copy + Send + 'static>(
         tell_found_unsealed(rt, journal);
     }
     let alloc = rt.alloc();
+    if let Some(behind) = fed {
+        let mut out = standard_output(rt);
+        return match feed_served(
+            rt, waits, season.flights(), host, behind, &mut out, basis, sealed, seals,
+        ) {
+            Ok(()) => Ok(()),
+            Err(refused) => Err(unfed(refused, journal, &out)),
+        };
+    }
     let Some(pipes) = pipes else {
         let mut input = standard_input(rt);
         let mut out = standard_output(rt);
@@ -295,6 +322,46 @@ fn serve_read<'a, R: Threads + Wait + Clock + Copy + Send + 'static>(
     ) {
         Ok(()) => Ok(()),
         Err(refused) => Err(unended(refused, journal)),
+    }
+}
+
+/// A feed, up to the end of standard input.
+fn feed_served<R: Threads + Wait + Copy + Send + 'static, D: Tape + Drop, K: Replaced>(
+    rt: &HostRuntime,
+    waits: &R,
+    flights: &Flights,
+    host: OpenHost<'_, D>,
+    behind: u32,
+    out: &mut Output<'_>,
+    basis: &Basis,
+    sealed: Sealed,
+    seals: &mut K,
+) -> Result<(), (FedFault, D)>
+    requires grid { IsGridOf flights.now host.serving.grid }
+    requires today { IsCenturyDay host.desk.today }
+    requires ready { IsReady D.seen D.may_leave D.unsynced host.serving }
+    requires cap { host.serving.cap ≡ most_lines }
+    requires named { NamesAll host.serving.kept (K.may_leave seals.old) }
+    requires stands { Stands sealed host.serving.kept (K.may_leave seals.old) }
+    requires dated { IsDated host.desk.today sealed.era }
+{
+    let Ok(mut input) = feed_input(rt, waits) else {
+        return Err((NO_ROOM_TO_READ, host.into_serving().close(waits)));
+    };
+    match serve_feed(
+        waits,
+        rt.alloc(),
+        flights,
+        host,
+        behind,
+        &mut input,
+        out,
+        basis,
+        sealed,
+        seals,
+    ) {
+        Ok(_) => Ok(()),
+        Err(refused) => Err(refused),
     }
 }
 
@@ -355,18 +422,22 @@ fn day_said(today: Option<&str>) -> Result<Option<Day>, WordFault>
     }
 }
 
-/// The day of the host: the one that is said, or else that of the journal's seal.
+/// The day of the host: the one that is said, or else that of the journal's seal. A feed has its days in it.
 fn day_beside<'a>(
     seal: &Beside<'_>,
     basis: &Basis,
     bytes: &[u8],
     said: Option<Day>,
+    fed: Option<u32>,
     journal: &'a str,
 ) -> Result<Day, Refusal<'a>>
     requires said { IfSome said IsCenturyDay }
     ensures century { IfOk result IsCenturyDay }
     ensures later { IfOk result (IsNotEarlier seal.now bytes.now) }
 {
+    if fed.is_some() {
+        return Ok(day_known(seal, bytes));
+    }
     match host_day(seal, basis, bytes, said) {
         Ok(today) => Ok(today),
         Err(NoDay::Missing) => Err(Refusal::from(WordFault::BadToday)),
@@ -455,6 +526,6 @@ fn untalked<'a>(
 }
 
 /// The journal's file failed.
-fn failed<'a>(journal: &'a str, tape: &TapeFile) -> Refusal<'a> {
+pub fn failed<'a>(journal: &'a str, tape: &TapeFile) -> Refusal<'a> {
     Refusal::from(DeskFault::Device).at(journal, tape.reason())
 }
