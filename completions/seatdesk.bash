@@ -41,7 +41,7 @@ _seatdesk() {
         place='files'
         ;;
     flights)
-        words='--first --days -v --verbose -h --help'
+        words='--first --days --csv --json -v --verbose -h --help'
         files=''
         values='--first --days'
         place='files'

@@ -34,6 +34,8 @@ complete -c seatdesk -n '__fish_seen_subcommand_from check' -F
 
 complete -c seatdesk -n '__fish_seen_subcommand_from flights' -l first -x -d 'The first day of departure, as 2024-06-01, from 2000 to 2099'
 complete -c seatdesk -n '__fish_seen_subcommand_from flights' -l days -x -d 'How many days from the first on, 1 to 366'
+complete -c seatdesk -n '__fish_seen_subcommand_from flights' -l csv -d 'Writes the rows as CSV, below a line of the columns\' names'
+complete -c seatdesk -n '__fish_seen_subcommand_from flights' -l json -d 'Writes the rows as JSON, an object a line'
 complete -c seatdesk -n '__fish_seen_subcommand_from flights' -s v -l verbose -d 'Names the file of a fault, and where in it the fault stands, or the system\'s reason'
 complete -c seatdesk -n '__fish_seen_subcommand_from flights' -s h -l help -d 'Print help'
 complete -c seatdesk -n '__fish_seen_subcommand_from flights' -F

@@ -37,7 +37,7 @@ check_line = leaf_line is_complete (built_leaf (with_verbose check_app).top) (se
 flights_line : Yields is_complete (built_leaf (with_verbose flights_app).top)
 unfolding flights_app
 flights_line = leaf_line is_complete (built_leaf (with_verbose flights_app).top)
-    (set_keeps _ refl refl, (set_keeps _ refl refl, (set_keeps _ refl refl, (flag_keeps _ refl _ refl, (help_keeps _ refl, tt))))) (λ rows h. h)
+    (set_keeps _ refl refl, (set_keeps _ refl refl, (flag_keeps _ refl _ refl, (flag_keeps _ refl _ refl, (set_keeps _ refl refl, (flag_keeps _ refl _ refl, (help_keeps _ refl, tt))))))) (λ rows h. h)
 
 cover_line : Yields is_complete (built_leaf (with_verbose cover_app).top)
 unfolding cover_app horizon_app

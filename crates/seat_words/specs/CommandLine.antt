@@ -53,9 +53,11 @@ unfoldable pub check_app : App
 check_app = with_rule (new_app (codes "check")) (required_value (codes "set"))
 
 unfoldable pub flights_app : App
-flights_app = with_rule (with_rule (with_rule (new_app (codes "flights"))
+flights_app = with_rule (with_rule (with_rule (with_rule (with_rule (new_app (codes "flights"))
     (required_option (codes "first")))
     (required_option (codes "days")))
+    (flag (codes "csv")))
+    (flag (codes "json")))
     (required_value (codes "set"))
 
 -- what a command asks for that works on the limits of a horizon

@@ -171,10 +171,11 @@ IsTold rows asked = IsOver rows asked.over
 abbrev pub Asks : Job → Line → Type 0
 Asks Ladder line = line.0 ≡ codes "ladder"
 Asks (Check set) line = (line.0 ≡ codes "check") × Has line.1 (codes "set") set.now
-Asks (Flights set first days) line = (line.0 ≡ codes "flights")
+Asks (Flights set first days shape) line = (line.0 ≡ codes "flights")
     × Has line.1 (codes "set") set.now
     × Has line.1 (codes "first") first.now
     × Has line.1 (codes "days") days.now
+    × IsShaped line.1 shape
 Asks (Cover over) line = (line.0 ≡ codes "cover") × IsOver line.1 over
 Asks (Rooms asked) line = (line.0 ≡ codes "rooms") × IsRooms line.1 asked
 Asks (Loads asked) line = (line.0 ≡ codes "loads") × IsLoads line.1 asked

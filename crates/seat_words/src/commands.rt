@@ -271,6 +271,8 @@ fn flights_command<'a>(alloc: Global) -> Result<Command<'a>, AllocError>
         wanted_option(alloc, "first", "DATE", FIRST_HELP),
     );
     let flights = with_argument(flights, wanted_option(alloc, "days", "N", DAYS_HELP));
+    let flights = with_argument(flights, flag(alloc, "csv", CSV_HELP));
+    let flights = with_argument(flights, flag(alloc, "json", JSON_HELP));
     with_argument(flights, wanted_value(alloc, "set", "SET", SET_INPUT_HELP))
 }
 

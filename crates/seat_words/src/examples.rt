@@ -13,6 +13,7 @@ pub fn examples_are_read()
         (codes "flights")
         ((codes "first", codes "2024-07-01" ∷ []) ∷ (codes "days", codes "31" ∷ [])
         ∷ (codes "set", codes "examples/summer.ssim" ∷ [])
+        ∷ (codes "csv", codes "false" ∷ []) ∷ (codes "json", codes "false" ∷ [])
         ∷ (codes "verbose", codes "false" ∷ []) ∷ []) }
     ensures audit { IsReadTo
         (codes "seatdesk audit --set examples/summer.ssim --limits examples/limits.txt --first 2024-07-01 --days 31 examples/journal.txt")

@@ -37,11 +37,12 @@ pub enum Job<'a> {
     Check {
         set: &'a str,
     },
-    /// `seatdesk flights --first DATE --days N SET`
+    /// `seatdesk flights --first DATE --days N [--csv] [--json] SET`
     Flights {
         set: &'a str,
         first: &'a str,
         days: &'a str,
+        shape: Shape,
     },
     /// `seatdesk cover` over a horizon
     Cover {
@@ -314,6 +315,7 @@ fn job_named<'a>(alloc: Global, name: &str, matches: &ArgMatches<'a>) -> Result<
             set: value_of(matches, "set"),
             first: value_of(matches, "first"),
             days: value_of(matches, "days"),
+            shape: shape_of(matches),
         }),
         "cover" => Ok(Job::Cover {
             over: horizon_of(matches),

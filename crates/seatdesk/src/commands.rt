@@ -16,7 +16,7 @@ use seat_files::{
 use seat_lists::Designator;
 use seat_open::{OpenAudit, OpenQuestion};
 use seat_questions::{Bars, CityPair, Cover, Why};
-use seat_reports::{desk_audit, desk_check, desk_flights, desk_ladder, desk_seal};
+use seat_reports::{desk_audit, desk_check, desk_ladder, desk_seal};
 use seat_words::{
     Horizon, ToldJob, WordFault, date_word, days_word, flight_word, line_word, locator_word,
     pair_word, session_word,
@@ -35,19 +35,6 @@ pub fn check<'a>(rt: &HostRuntime, set: &'a str) -> Result<(), Refusal<'a>> {
     let mut set = taken(rt, set)?;
     let mut out = standard_output(rt);
     let outcome = desk_check(rt.alloc(), &mut set, &mut out);
-    told(outcome, &[&set], &[&out])
-}
-
-pub fn flights<'a>(
-    rt: &HostRuntime,
-    set: &'a str,
-    first: &str,
-    days: &str,
-) -> Result<(), Refusal<'a>> {
-    let (first, days) = days_of(first, days)?;
-    let mut set = taken(rt, set)?;
-    let mut out = standard_output(rt);
-    let outcome = desk_flights(rt.alloc(), &mut set, first, days, &mut out);
     told(outcome, &[&set], &[&out])
 }
 

@@ -10,11 +10,12 @@ use crate::seals::lines_behind;
 use airline_base::{Day, Locator};
 use desk_questions::HistoryOf;
 use pickup_questions::{By as PickupBy, PickupOf, read_older};
-use seat_files::{Refusal, opened, told};
+use seat_files::{Refusal, opened, standard_output, taken, told};
 use seat_lists::{BookingsOf, WaitingOf, Wanted};
 use seat_loads::LoadsOf;
 use seat_pickup::Past;
 use seat_questions::RoomsOf;
+use seat_reports::desk_flights;
 use seat_tables::Form;
 use seat_words::{
     BookingsJob, HistoryJob, Horizon, LoadsJob, PickupJob, RoomsJob, Shape, WaitingJob, WordFault,
@@ -25,6 +26,26 @@ use table_questions::{
     BookingTable, ClassSums, DaySums, FlightSums, HistoryTable, LegSums, LoadTable, PairSums,
     RoomTable, Table, TableOf, WaitingTable,
 };
+use table_reports::desk_flight_table;
+
+/// The dated flights of a data set.
+pub fn flights<'a>(
+    rt: &HostRuntime,
+    set: &'a str,
+    first: &str,
+    days: &str,
+    shape: Shape,
+) -> Result<(), Refusal<'a>> {
+    let (first, days) = days_of(first, days)?;
+    let form = form_asked(shape, false)?;
+    let mut set = taken(rt, set)?;
+    let mut out = standard_output(rt);
+    let outcome = match form {
+        Some(form) => desk_flight_table(rt.alloc(), form, &mut set, first, days, &mut out),
+        None => desk_flights(rt.alloc(), &mut set, first, days, &mut out),
+    };
+    told(outcome, &[&set], &[&out])
+}
 
 /// The rooms of the places that `--day` and `--pair` keep, with bars where they are asked for. Without a journal they are those
 /// after no line.

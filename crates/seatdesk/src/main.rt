@@ -79,7 +79,12 @@ fn carry_out<'a, T: Threads + Wait + Clock + Sync + Copy + Send + 'static>(
     match job {
         Job::Ladder => done(commands::ladder(rt)),
         Job::Check { set } => done(commands::check(rt, set)),
-        Job::Flights { set, first, days } => done(commands::flights(rt, set, first, days)),
+        Job::Flights {
+            set,
+            first,
+            days,
+            shape,
+        } => done(listing::flights(rt, set, first, days, *shape)),
         Job::Cover { over } => done(commands::cover(rt, threads, over)),
         Job::Rooms(asked) => done(listing::rooms(rt, threads, asked)),
         Job::Loads(asked) => done(listing::loads(rt, threads, asked)),
