@@ -93,7 +93,17 @@ pub fn serve<'a, R: Threads + Wait + Clock + Copy + Send + 'static>(
         Err(fault) => return Err(unopened(asked.journal, fault)),
     };
     place_status(rt, &asked, &inputs, &mut pipes)?;
-    serve_locked(rt, waits, &inputs, based, said, fed, asked.journal, pipes, tape)
+    serve_locked(
+        rt,
+        waits,
+        &inputs,
+        based,
+        said,
+        fed,
+        asked.journal,
+        pipes,
+        tape,
+    )
 }
 
 /// What stands in for standard error where nothing is open on it: a pipe or a file that is opened next would have its descriptor, and the notes.
@@ -244,7 +254,8 @@ fn serve_over<'a, R: Threads + Wait + Clock + Copy + Send + 'static>(
         return Err(Refusal::from(DeskFault::Memory));
     };
     serve_read(
-        rt, waits, &season, grid, &basis, today, fed, bytes, journal, pipes, seal, tape, beside, seals,
+        rt, waits, &season, grid, &basis, today, fed, bytes, journal, pipes, seal, tape, beside,
+        seals,
     )
 }
 
@@ -300,7 +311,15 @@ fn serve_read<'a, R: Threads + Wait + Clock + Copy + Send + 'static>(
     if let Some(behind) = fed {
         let mut out = standard_output(rt);
         return match feed_served(
-            rt, waits, season.flights(), host, behind, &mut out, basis, sealed, seals,
+            rt,
+            waits,
+            season.flights(),
+            host,
+            behind,
+            &mut out,
+            basis,
+            sealed,
+            seals,
         ) {
             Ok(()) => Ok(()),
             Err(refused) => Err(unfed(refused, journal, &out)),
