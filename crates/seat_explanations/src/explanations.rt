@@ -3,6 +3,7 @@
 ghost use Rattle.std.specs.Prelude.{◌⊎◌, IfSome, IsTrue, codes};
 ghost use Rattle.seat_explanations.specs.Rows.{is_of};
 
+use crate::counted::{CALL, DESK, ENTRY, FED, LINE, NONE, RECORD, SCRIPT, SERIAL};
 use crate::notes::{NOTES, REASONS};
 use crate::sealed::SEALS;
 
@@ -148,24 +149,6 @@ fn notes() -> &'static [Explanation] {
 fn reasons() -> &'static [Explanation] {
     REASONS
 }
-
-pub(crate) const NONE: &[&str] = &[];
-
-const RECORD: &[&str] = &["record"];
-
-const SERIAL: &[&str] = &["record with the serial number"];
-
-const LINE: &[&str] = &["line"];
-
-const ENTRY: &[&str] = &["entry"];
-
-const SCRIPT: &[&str] = &["script", "line"];
-
-pub(crate) const DESK: &[&str] = &["desk", "line"];
-
-const FED: &[&str] = &["line of the feed"];
-
-const CALL: &[&str] = &["desk", "call of that session"];
 
 // Records of a data set.
 const RECORDS: &[Explanation] = &[

@@ -3,6 +3,7 @@
 #![tactic(auto)]
 
 mod answers;
+mod counted;
 mod explanations;
 mod meaning;
 mod notes;

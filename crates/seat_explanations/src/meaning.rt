@@ -8,8 +8,9 @@ ghost use Rattle.seat_explanations.specs.Rows.{Begins, is_of, row_text};
 ghost use Rattle.seat_explanations.specs.Words.{filled, first_word, line_of, unnamed, words_of, IsPlace, IsUnplaced};
 
 use crate::answers::answer_row;
+use crate::counted::DESK;
 use crate::explanations::{
-    DESK, Explanation, is_of_rows, row_behind, row_of, row_of_note, row_of_reason,
+    Explanation, is_of_rows, row_behind, row_of, row_of_note, row_of_reason,
 };
 use crate::replies::reply_row;
 use std::alloc::{AllocError, Global};

@@ -1,6 +1,7 @@
 //! What the lines on standard error say that are no fault.
 
-use crate::explanations::{Explanation, NONE};
+use crate::counted::NONE;
+use crate::explanations::Explanation;
 
 // Why a file may not be what it is named for, as -v says it behind the file's name, each by a word of it.
 pub(crate) const REASONS: &[Explanation] = &[Explanation {

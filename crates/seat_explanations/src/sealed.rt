@@ -1,6 +1,7 @@
 //! What the faults of a seal say.
 
-use crate::explanations::{Explanation, NONE};
+use crate::counted::NONE;
+use crate::explanations::Explanation;
 
 // What stands beside a journal.
 pub(crate) const SEALS: &[Explanation] = &[
