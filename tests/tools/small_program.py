@@ -1,5 +1,5 @@
-"""The sources of the program for one command: those of crates/seatdesk without the other commands, and those of the crates
-that are still named, in a folder that is a repository of its own.
+"""The sources of the program for one command: those of crates/seatdesk and of the crates that are parts of it, as modules of one crate, without
+the other commands, and those of the crates that are still named, in a folder that is a repository of its own.
 
 It leaves out
   - of each match the arms `Job::NAME => ..` of the other commands,
@@ -15,8 +15,10 @@ import re
 import shutil
 
 PROGRAM = "seatdesk"
-# What stands for audits with scripts, which the caller refuses.
-BODILESS = ["audit_against"]
+# Crates of the program's own, on which no library stands: their functions are looked through as the program's are.
+PARTS = ["command_inputs", "question_commands", "sale_commands", "host_commands"]
+# What stands for audits with scripts and for a season, which the caller refuses.
+BODILESS = ["audit_against", "started"]
 NOTHING = "{ unreachable!() }"
 
 PASSED_OVER = re.compile(
@@ -183,6 +185,21 @@ class Sources:
                     with open(os.path.join(here, name), encoding="utf-8") as it:
                         self.files[path] = it.read()
 
+    def add_part(self, name, folder):
+        """Makes a module of a crate: its root is the module's file, and its paths begin there."""
+        others = "|".join(PARTS)
+        for path, text in Sources(folder).files.items():
+            text = re.sub(r"\bcrate::(?!proofs\b)", f"crate::{name}::", text)
+            text = re.sub(rf"(?<![:\w])({others})::", r"crate::\1::", text)
+            if path == "lib.rt":
+                text = re.sub(r"^#!\[.*\n", "", text, flags=re.M)
+                text = re.sub(r"^pub use (?=\w)", f"pub use crate::{name}::", text, flags=re.M)
+                path = f"{name}.rt"
+            else:
+                path = f"{name}/{path}"
+            self.files[path] = text
+        self.files["main.rt"] = re.sub(r"^(?=mod )", f"mod {name};\n", self.files["main.rt"], count=1, flags=re.M)
+
     def change(self, how, *more):
         for path, text in self.files.items():
             self.files[path] = how(text, *more)
@@ -197,6 +214,14 @@ class Sources:
                 return path
         return None
 
+    def origin(self, file, name, known, imported):
+        """The file in which a function stands that a file names or gives on."""
+        for _ in PARTS:
+            if (file, name) in known:
+                break
+            file = imported.get(file, {}).get(name, file)
+        return file
+
     def called(self, path, begin, end, known, imported):
         """The functions of the program that a piece of a file names."""
         code = blanked(self.files[path])
@@ -206,9 +231,14 @@ class Sources:
                 continue
             module = re.search(r"(\w+)\s*::$", ahead)
             file = self.file_of(module[1]) if module else path
-            file = file if (file, word[0]) in known else imported[path].get(word[0], file)
+            file = file if (file, word[0]) in known or module else imported[path].get(word[0], file)
+            file = self.origin(file, word[0], known, imported)
             if (file, word[0]) in known:
                 yield file, word[0]
+
+    def given(self, way, known, imported):
+        """The function that a path of a `use` names, by its file."""
+        return self.origin(self.file_of(way[-2]), way[-1], known, imported), way[-1]
 
     def without_unreached(self):
         """Drops each function that nothing reaches, and its name from each `use`."""
@@ -233,7 +263,7 @@ class Sources:
         for path, text in self.files.items():
             spans = [(it.begin, it.end, "") for it in items(text) if (path, it.name) in gone and it.kind == "fn"]
             for item, ahead, ways in uses(text):
-                kept = [it for it in ways if len(it[0]) < 2 or (self.file_of(it[0][-2]), it[0][-1]) not in gone]
+                kept = [it for it in ways if len(it[0]) < 2 or self.given(it[0], known, imported) not in gone]
                 if len(kept) < len(ways):
                     spans.append((item.at, item.end, spelled(ahead, kept)))
             self.files[path] = cut(text, spans)
@@ -293,11 +323,16 @@ def make(root, room, command, is_utf_8):
     that are in it. The program has no environment there, so it is told whether its locale is one of UTF-8."""
     crates = crates_of(root)
     ahead, used = crates[PROGRAM]
+    parts = [it for it in PARTS if it in crates]
+    used = [it for it in dict.fromkeys(sum((crates[it][1] for it in [*parts, PROGRAM]), [])) if it not in parts]
     sources = Sources(f"{root}/crates/{PROGRAM}/src")
+    for part in parts:
+        sources.add_part(part, f"{root}/crates/{part}/src")
     sources.change(without_arms, command)
     sources.change(without_bodies)
     if is_utf_8:
         sources.change(lambda text: cut(text, [(it.block, it.end, "{ true }") for it in items(text) if it.name == "is_utf_8"]))
+    sources.change(lambda text: cut(text, [(it.block, it.end, "{ None }") for it in items(text) if it.name == "season_asked"]))
     sources.without_unreached()
     named = sources.named(used)
     below, to_do = [], sorted(named & set(crates))

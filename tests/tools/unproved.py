@@ -1,6 +1,6 @@
 """./seatdesk --try WORDS: one command by `rt try`, which compiles it with checks, runs it and proves nothing.
 
-The commands that only read are tried, on inputs without a seal beside them; `run`, `seal`, `recover`, and `audit` with scripts, are refused. The program is made anew at each use, of the
+The commands that only read are tried, on inputs without a seal beside them; `run`, `seal`, `recover`, `audit` with scripts, and a season in the place of its four options, are refused. The program is made anew at each use, of the
 one command alone (small_program.py), in a folder that goes away again, and runs in a folder of its own: so each file among the
 words is handed to it under another name. Standard output and the exit status are those of the program. The status is 125 where
 nothing was run or it gave no answer.
@@ -46,6 +46,7 @@ class Words:
         at = next((i for i, it in enumerate(words) if not it.startswith("-")), len(words))
         self.command = words[at] if at < len(words) else ""
         self.asks_help = bool({"-h", "--help"} & set(words))
+        self.has_season = any(it == "--season" or it.startswith("--season=") for it in words)
         options, values, are_files = commands().get(self.command, ([], [], False))
         is_behind = False
         at += 1
@@ -78,6 +79,8 @@ def refuse(words):
         fail("seal writes a seal, and --try is for commands that only read: without --try the program is proved and built, and seals")
     if words.command == "recover":
         fail("recover cuts a journal and ends it, and --try is for commands that only read: without --try the program is proved and built, and recovers")
+    if words.has_season and words.command != "explain":
+        fail("--try takes no --season, whose files are not among the words: name --set, --limits, --first and --days, or leave out --try")
     if words.command == "audit" and words.plain > 1:
         fail("--try has audit without scripts: with them, leave out --try, and the program is proved and built, and audits")
 

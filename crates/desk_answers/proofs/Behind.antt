@@ -8,7 +8,7 @@ use Rattle.seat_journal.specs.declared.entry.Entry.{Entry}
 use Rattle.seat_journal.specs.declared.entry.Work.TheVariants.{Seats}
 use Rattle.seat_nesting.specs.Nesting.{Ladders}
 use Rattle.seat_rules.specs.Journal.{calls_of, next_line}
-use Rattle.seat_scripts.specs.Requests.{command_of}
+use Rattle.seat_replies.specs.Requests.{command_of}
 use Rattle.desk_answers.specs.Laws.{numbered, CallsAreBehind}
 use Rattle.desk_answers.specs.Saying.{IsAsked, IsCalled}
 

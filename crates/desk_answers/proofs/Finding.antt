@@ -7,7 +7,7 @@ use Rattle.ssim_flights.specs.declared.flight.Flight.{Flight as Flown}
 use Rattle.ssim_flights.specs.declared.flight.Wanted.{Wanted}
 use Rattle.seat_desk.specs.Loading.{IsGridOf}
 use Rattle.seat_nesting.specs.Nesting.{Fits, Ladders}
-use Rattle.seat_scripts.proofs.Serving.{served}
+use Rattle.seat_replies.proofs.Serving.{served}
 
 -- what is found is on the inventory's legs
 pub there_fits : (flights : List Flown) (grid : Ladders) (wanted : Wanted) (place : Option Place) → IsGridOf flights grid

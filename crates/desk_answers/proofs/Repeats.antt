@@ -11,10 +11,10 @@ use Rattle.seat_desk.specs.Loading.{IsGridOf}
 use Rattle.seat_journal.specs.declared.entry.Entry.{Entry}
 use Rattle.seat_nesting.specs.Nesting.{Ladders}
 use Rattle.seat_rules.specs.Journal.{IsLegal, calls_of}
-use Rattle.seat_scripts.specs.Answering.{IsAnswerable}
-use Rattle.seat_scripts.specs.RunDesk.{IsAnswer}
-use Rattle.seat_scripts.specs.VeryRequest.{IsVeryRequest}
-use Rattle.seat_scripts.proofs.Histories.{lines_booked}
+use Rattle.seat_replies.specs.Answering.{IsAnswerable}
+use Rattle.seat_replies.specs.RunDesk.{IsAnswer}
+use Rattle.seat_replies.specs.VeryRequest.{IsVeryRequest}
+use Rattle.seat_replies.proofs.Histories.{lines_booked}
 use Rattle.desk_answers.specs.FaultLines.{wrong_call_line}
 use Rattle.desk_answers.specs.Saying.{IsAgain, IsAnsweredAgain, IsAsked, IsCalled}
 use Rattle.desk_answers.proofs.Wishes.{requested}

@@ -10,15 +10,15 @@ use Rattle.seat_journal.specs.declared.entry.Work.{Work}
 use Rattle.seat_journal.specs.declared.entry.Work.TheVariants.{Seats, Limit}
 use Rattle.seat_nesting.specs.Nesting.{Fits, Ladders}
 use Rattle.ssim_flights.specs.Places.{place_wanted}
-use Rattle.seat_scripts.specs.Requests.{wanted_of}
+use Rattle.seat_replies.specs.Requests.{wanted_of}
 use Rattle.seat_rules.specs.Journal.{IsLegal, calls_of}
 use Rattle.seat_desk.specs.Loading.{IsGridOf}
 use Rattle.seat_serving.specs.Answering.{line_for, lines_for, with_line, AreRight, IsRight}
 use Rattle.seat_serving.specs.declared.asked.Asked.{Asked}
-use Rattle.seat_scripts.specs.Answering.{IsAnswerable, IsBehind, IsRequested}
-use Rattle.seat_scripts.specs.RunDesk.{IsAnswer}
-use Rattle.seat_scripts.proofs.Histories.{lines_booked}
-use Rattle.seat_scripts.proofs.Serving.{served as served_fits}
+use Rattle.seat_replies.specs.Answering.{IsAnswerable, IsBehind, IsRequested}
+use Rattle.seat_replies.specs.RunDesk.{IsAnswer}
+use Rattle.seat_replies.proofs.Histories.{lines_booked}
+use Rattle.seat_replies.proofs.Serving.{served as served_fits}
 use Rattle.desk_answers.specs.FaultLines.{full_line}
 use Rattle.desk_answers.specs.Saying.{asked_by, IsAsked, IsBooked, IsLastOf}
 

@@ -7,7 +7,7 @@ use Rattle.ssim_flights.specs.declared.flight.Flight.{Flight as Flown}
 use Rattle.seat_journal.specs.declared.entry.Entry.{Entry}
 use Rattle.seat_journal.specs.declared.entry.Work.TheVariants.{Seats}
 use Rattle.seat_nesting.specs.Nesting.{Ladders}
-use Rattle.seat_scripts.specs.Requests.{command_of}
+use Rattle.seat_replies.specs.Requests.{command_of}
 use Rattle.desk_answers.specs.Saying.{Says}
 
 -- a request, on the first place that serves it, and the number of its call

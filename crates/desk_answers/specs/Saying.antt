@@ -15,9 +15,9 @@ use Rattle.seat_nesting.specs.Nesting.{Ladders}
 use Rattle.seat_rules.specs.Journal.{calls_of}
 use Rattle.seat_serving.specs.Answering.{line_for, with_line}
 use Rattle.seat_serving.specs.declared.asked.Asked.{Asked}
-use Rattle.seat_scripts.specs.Requests.{command_of}
-use Rattle.seat_scripts.specs.RunDesk.{IsAnswer}
-use Rattle.seat_scripts.specs.VeryRequest.{IsVeryRequest}
+use Rattle.seat_replies.specs.Requests.{command_of}
+use Rattle.seat_replies.specs.RunDesk.{IsAnswer}
+use Rattle.seat_replies.specs.VeryRequest.{IsVeryRequest}
 use Rattle.desk_answers.specs.FaultLines.{full_line, wrong_call_line, wrong_line}
 use Rattle.desk_answers.specs.Hosts.{Attended}
 use Rattle.desk_answers.specs.Looks.{IsLooked}

@@ -1,6 +1,6 @@
 //! What a request asks of the inventory, on the first place that serves it.
 ghost use Rattle.std.specs.Prelude.{◌≡◌};
-ghost use Rattle.seat_scripts.specs.Requests.{command_of, wanted_of};
+ghost use Rattle.seat_replies.specs.Requests.{command_of, wanted_of};
 
 use airimp_lines::{Request, Segment};
 use seat_journal::Command;

@@ -15,8 +15,8 @@ use Rattle.seat_journal.specs.declared.entry.Change.{Change}
 use Rattle.seat_journal.specs.declared.entry.Entry.{Entry}
 use Rattle.seat_nesting.specs.Nesting.{Ladders}
 use Rattle.seat_rules.specs.Journal.{calls_of, FitsChange}
-use Rattle.seat_scripts.specs.Changes.{IsOnLeg}
-use Rattle.seat_scripts.proofs.Serving.{changes_fit}
+use Rattle.seat_replies.specs.Changes.{IsOnLeg}
+use Rattle.seat_replies.proofs.Serving.{changes_fit}
 use Rattle.seat_serving.specs.Answering.{behind, IsRight}
 use Rattle.seat_serving.specs.declared.asked.Asked.{Asked}
 use Rattle.ssim_flights.specs.declared.flight.Flight.{Flight as Flown}

@@ -18,7 +18,7 @@ use Rattle.desk_lines.specs.declared.desk.Wrong.TheVariants as faults
 use Rattle.seat_journal.specs.declared.entry.Change.{Change}
 use Rattle.seat_limits.specs.ChangeRows.{IsChangeText, SpellsChanges}
 use Rattle.seat_limits.specs.declared.change_row.ChangeRow.{ChangeRow}
-use Rattle.seat_scripts.specs.Changes.{IsOnLeg, change_of, on_leg, on_place, wanted_by}
+use Rattle.seat_replies.specs.Changes.{IsOnLeg, change_of, on_leg, on_place, wanted_by}
 use Rattle.ssim_flights.specs.Places.{place_wanted}
 use Rattle.ssim_flights.specs.declared.flight.Flight.{Flight as Flown}
 

@@ -18,11 +18,11 @@ use Rattle.desk_hall.specs.declared.turn.Turn.{Turn}
 use Rattle.seat_desk.specs.FlightsDesk.{IsPut, IsText}
 use Rattle.seat_desk.proofs.Texts.{put_more, text_whole}
 use Rattle.seat_nesting.specs.Nesting.{Ladders}
-use Rattle.seat_scripts.specs.RunDesk.{at_any}
+use Rattle.seat_replies.specs.RunDesk.{at_any}
 use Rattle.desk_telling.specs.Telling.{AreTold, AreToldBehind, told_of}
 use Rattle.ssim_flights.specs.declared.flight.Flight.{Flight as Flown}
 use Rattle.seat_journal.specs.declared.entry.Entry.{Entry}
-use Rattle.seat_scripts.specs.VeryRequest.{IsVeryRequest}
+use Rattle.seat_replies.specs.VeryRequest.{IsVeryRequest}
 
 pub line_told : (flights : List Flown) (journal : List Entry) (session place : ℕ) (line : Entry) (old text : List ℕ)
     → slice_get journal place ≡ Some line → AreToldBehind flights session (told_of journal session line) old text → old ≡ []

@@ -25,7 +25,7 @@ use Rattle.seat_limits.specs.FaultText.{kind_text}
 use Rattle.seat_limits.specs.declared.change_row.ChangeRow.{ChangeRow}
 use Rattle.seat_limits.specs.declared.limit_fault.LimitFault.{LimitFault}
 use Rattle.seat_limits.specs.declared.limit_fault.LimitKind.{LimitKind}
-use Rattle.seat_scripts.specs.Changes.{AreServed, IsOnLeg}
+use Rattle.seat_replies.specs.Changes.{AreServed, IsOnLeg}
 use Rattle.ssim_flights.specs.declared.flight.Flight.{Flight as Flown}
 
 -- ---- words

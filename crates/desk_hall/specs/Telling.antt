@@ -19,7 +19,7 @@ use Rattle.seat_journal.specs.declared.entry.Change.{Change}
 use Rattle.seat_journal.specs.declared.entry.Entry.{Entry}
 use Rattle.seat_journal.specs.declared.entry.Work.TheVariants.{Limit}
 use Rattle.seat_nesting.specs.Nesting.{Ladders}
-use Rattle.seat_scripts.specs.VeryRequest.{IsVeryRequest}
+use Rattle.seat_replies.specs.VeryRequest.{IsVeryRequest}
 
 -- of the line at a place, where there is one
 abbrev pub told_if : List Entry → ℕ → Option Entry → List Telling

@@ -8,7 +8,7 @@ ghost use Rattle.seat_desk.specs.Loading.{IsGridOf};
 ghost use Rattle.seat_disk.specs.Growing.{KeepsFront};
 ghost use Rattle.seat_recovery.specs.OpenText.{open_text};
 ghost use Rattle.seat_rules.specs.Prefixes.{Begins};
-ghost use Rattle.seat_scripts.specs.RunDesk.{at_any};
+ghost use Rattle.seat_replies.specs.RunDesk.{at_any};
 ghost use Rattle.seat_serving.specs.Answering.{behind};
 ghost use Rattle.seat_serving.specs.declared.serving.ServeFault.TheVariants.{Device, Memory as NoMemory};
 ghost use Rattle.desk_answers.specs.Hosts.{IsReady};

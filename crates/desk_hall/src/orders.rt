@@ -1,7 +1,7 @@
 //! What a line of the manager asks for: another limit, a later day, or the end of it all.
 ghost use Rattle.std.specs.Prelude.{◌≡◌, ◌+◌, ◌≤◌, ◌<◌, ◌^◌, List, length, nat_lt, option_map, true, IfOk, IfSome};
 ghost use Rattle.seat_limits.specs.ChangeRows.{IsChangeText};
-ghost use Rattle.seat_scripts.specs.Changes.{change_of, wanted_by};
+ghost use Rattle.seat_replies.specs.Changes.{change_of, wanted_by};
 ghost use Rattle.airline_base.specs.Days.{IsCenturyDay, civil_in};
 ghost use Rattle.desk_lines.specs.Calls.{call_at};
 ghost use Rattle.desk_lines.specs.Lines.{is_numbered, is_word};

@@ -31,12 +31,16 @@ again_at text = do
   count ← count_at behind
   if length count.1 == 0 then Some (Again count.0) else None
 
+-- epochs begin at 1
+abbrev pub epoch_of : ℕ → Option ℕ
+epoch_of number = if number == 0 then None else Some number
+
 -- a blank, and the number of an epoch
 unfoldable pub epoch_at : List ℕ → Option ℕ
 epoch_at text = do
   behind ← byte_at 32 text
   epoch ← count_at behind
-  if length epoch.1 == 0 then Some epoch.0 else None
+  if length epoch.1 == 0 then epoch_of epoch.0 else None
 
 abbrev pub named_hello : List ℕ → Option ℕ → Option Meaning
 named_hello name None = None

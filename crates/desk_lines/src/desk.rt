@@ -69,7 +69,7 @@ pub enum Meaning {
     Look(Look),
     /// It asks for what concerns its session behind so many lines, once more.
     Again(u32),
-    /// A client begins, with a word of its own choosing, and asks where the desk stands; it may name the epoch of the journal that it is for, 0 to 999,999.
+    /// A client begins, with a word of its own choosing, and asks where the desk stands; it may name the epoch of the journal that it is for, 1 to 999,999.
     Hello(Locator, Option<u32>),
     /// The desk goes.
     Leave,

@@ -3,7 +3,7 @@ ghost use Rattle.std.specs.Prelude.{◌≡◌, IfSome, Some, codes, option_map};
 ghost use Rattle.airline_base.specs.Days.{IsCenturyDay};
 ghost use Rattle.airline_base.specs.Fields.{word_at};
 ghost use Rattle.desk_lines.specs.Lines.{IsRightMeaning, MeansLook, MeansWord};
-ghost use Rattle.desk_lines.specs.Words.{again_at, count_at, epoch_at, first_of, hello_at, hello_of, leave_at, plain_word};
+ghost use Rattle.desk_lines.specs.Words.{again_at, count_at, epoch_at, epoch_of, first_of, hello_at, hello_of, leave_at, plain_word};
 
 use crate::desk::{Meaning, Wrong};
 use airimp_lines::read_look;
@@ -102,7 +102,7 @@ fn hello_of(name: Locator, rest: &[u8]) -> Option<Meaning>
     if rest.is_empty() {
         return Some(Meaning::Hello(name, None));
     }
-    match epoch_of(rest) {
+    match epoch_behind(rest) {
         Some(epoch) => Some(Meaning::Hello(name, Some(epoch))),
         None => None,
     }
@@ -110,7 +110,7 @@ fn hello_of(name: Locator, rest: &[u8]) -> Option<Meaning>
 
 // A blank and the number of an epoch.
 #[tactic(auto, unfolding(crate::specs::Words::epoch_at))]
-fn epoch_of(text: &[u8]) -> Option<u32>
+fn epoch_behind(text: &[u8]) -> Option<u32>
     ensures { result ≡ epoch_at text.now }
 {
     let Some(rest) = byte_of(b' ', text) else {
@@ -122,7 +122,14 @@ fn epoch_of(text: &[u8]) -> Option<u32>
     if !rest.is_empty() {
         return None;
     }
-    Some(epoch)
+    epoch_of(epoch)
+}
+
+// Epochs begin at 1.
+fn epoch_of(number: u32) -> Option<u32>
+    ensures { result ≡ epoch_of number }
+{
+    if number == 0 { None } else { Some(number) }
 }
 
 /// The number that the digits at the front spell, one to six of them.

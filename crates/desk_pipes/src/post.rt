@@ -5,6 +5,7 @@ ghost use Rattle.airline_base.specs.Days.{IsCenturyDay};
 use crate::inbox::Inbox;
 use crate::outbox::Outbox;
 use crate::outlook::Outlook;
+use crate::watch::{Watch, Watched};
 use airline_base::{Day, Memory};
 use std::alloc::Global;
 use std::sync::{Mutex, Wait};
@@ -61,6 +62,24 @@ impl Post {
         let seen = (outlook.day(), outlook.count());
         drop(outlook);
         seen
+    }
+
+    /// What becomes of a line of a session's desk, where it is read. What answers it waits for the desk ahead of all that the host tells of lines
+    /// that were not told by then, since none of these is told before looks go by it.
+    pub(crate) fn watch_line<R: Wait, W: Watch>(
+        &self,
+        rt: &R,
+        session: u8,
+        watch: &mut W,
+        line: &[u8],
+    ) -> Watched {
+        let outlook = self.outlook.lock(rt);
+        let watched = watch.watch(outlook.day(), outlook.count(), line);
+        if let Watched::Told(text) = &watched {
+            self.tell(rt, session, text.as_slice());
+        }
+        drop(outlook);
+        watched
     }
 
     /// From then on looks go by this day of the years 2000 to 2099, and by so many lines, which are visible and not told yet.

@@ -166,10 +166,12 @@ fn say_lines<R: Wait, W: Watch>(
     lines: &mut Vec<HeldLine>,
 ) -> bool {
     for line in lines.drain(..) {
-        let (today, told) = post.outlook(rt);
-        let watched = watch.watch(today, told, line.as_slice());
-        let is_told = tell(rt, post, session, &watched);
-        if !say(rt, post, passed.hand_on(session, line, false, is_told)) {
+        let watched = post.watch_line(rt, session, watch, line.as_slice());
+        if !say(
+            rt,
+            post,
+            passed.hand_on(session, line, false, is_told(&watched)),
+        ) {
             return false;
         }
         if let Watched::Awaited = watched {
@@ -179,15 +181,12 @@ fn say_lines<R: Wait, W: Watch>(
     true
 }
 
-// Tells what a line is answered, where it is.
-fn tell<R: Wait>(rt: &R, post: &Post, session: u8, watched: &Watched) -> bool
+// Whether a line is answered where it was read.
+fn is_told(watched: &Watched) -> bool
     ensures { result ≡ is_told watched.now }
 {
     match watched {
-        Watched::Told(text) => {
-            post.tell(rt, session, text.as_slice());
-            true
-        }
+        Watched::Told(_) => true,
         Watched::Heard => false,
         Watched::Awaited => false,
     }

@@ -1,5 +1,5 @@
 -- What is counted goes on with what is counted of the lines behind it.
-use Rattle.std.proofs.Common.{◌≡◌, ◌≤◌, ◌<◌, ◌+◌, ◌-◌, ◌++◌, ℕ, List, [], ◌∷◌, drop, length, length-append, ap, arith, sym, subst, ◌∙◌}
+use Rattle.std.proofs.Common.{◌≡◌, ◌≤◌, ◌<◌, ◌+◌, ℕ, List, [], ◌∷◌, drop, length, length-append, ap, arith, sym, ◌∙◌}
 use Rattle.std.specs.Prelude.{◌^◌}
 use Rattle.std.specs.List.{sum_by}
 use Rattle.std.proofs.Math.Seq.{drop-append_seam}

@@ -1,6 +1,8 @@
 -- What is counted of a host.
-use Rattle.std.specs.Prelude.{◌≡◌, ◌≤◌, ◌<◌, ◌^◌, ℕ, suc, ◌-◌, ◌*◌, ◌/◌, ◌%◌, ◌++◌, ◌==◌, List, [], ◌∷◌, codes, decimal, drop, length, if◌then◌else◌}
+use Rattle.std.specs.Prelude.{◌≡◌, ◌≤◌, ◌<◌, ◌^◌, ℕ, suc, ◌+◌, ◌-◌, ◌*◌, ◌/◌, ◌%◌, ◌++◌, ◌==◌, Bool, false, Option, None, Some, List, [], ◌∷◌, codes, decimal, drop, length, position, if◌then◌else◌}
 use Rattle.std.specs.List.{sum_by}
+use Rattle.airline_base.specs.Fields.{word_at}
+use Rattle.airline_base.specs.Lines.{is_line_feed}
 use Rattle.seat_journal.specs.declared.entry.Entry.{Entry}
 use Rattle.seat_rules.specs.Prefixes.{Begins}
 use Rattle.seat_rules.specs.Totals.{confirmed_by, released_by}
@@ -54,3 +56,16 @@ sold_text t = codes " desks " ++ (decimal t.desks ++ (codes " sold " ++ (decimal
 
 abbrev pub status_text : Tally → List ℕ
 status_text t = counted_text t ++ (grouped_text t ++ sold_text t)
+
+-- the first LF of so many bytes is the last of them
+abbrev pub ends_line : Option ℕ → ℕ → Bool
+ends_line None count = false
+ends_line (Some end) count = end + 1 == count
+
+abbrev pub is_status_behind : Option (List ℕ) → Bool
+is_status_behind None = false
+is_status_behind (Some rest) = ends_line (position is_line_feed rest) (length rest)
+
+-- one line, which begins as a status does
+abbrev pub is_status : List ℕ → Bool
+is_status text = is_status_behind (word_at (codes "STATUS lines ") text)

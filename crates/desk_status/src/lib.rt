@@ -11,4 +11,4 @@ mod text;
 pub use board::Board;
 pub use saying::{Sayer, start_status};
 pub use tally::Tally;
-pub use text::{StatusText, status_text};
+pub use text::{MOST_STATUS, StatusText, is_status, status_text};

@@ -1,14 +1,20 @@
 //! How a host's status is written.
-ghost use Rattle.std.specs.Prelude.{◌≡◌, ◌+◌, ◌/◌, ◌%◌, ◌≤◌, ◌++◌, codes, decimal, length};
-ghost use Rattle.desk_status.specs.Tallies.{counted_text, grouped_text, sold, sold_text, status_text, tenths};
+ghost use Rattle.std.specs.Prelude.{◌≡◌, ◌+◌, ◌/◌, ◌%◌, ◌≤◌, ◌++◌, codes, decimal, length, position};
+ghost use Rattle.airline_base.specs.Lines.{is_line_feed};
+ghost use Rattle.desk_status.specs.Tallies.{counted_text, ends_line, grouped_text, is_status, sold, sold_text, status_text, tenths};
 
 use crate::tally::Tally;
+use airline_base::fields::word_of;
+use airline_base::lines::line_end;
 use airline_base::spelling::{put, put_number};
 use arrayvec::ArrayVec;
 use itoa::Buffer;
 
+/// The most bytes of a line of a host's status, its end with them.
+pub const MOST_STATUS: usize = 160;
+
 /// A line of a host's status, with its end.
-pub type StatusText = ArrayVec<u8, 160>;
+pub type StatusText = ArrayVec<u8, MOST_STATUS>;
 
 /// `STATUS lines 25 groups 7 each 3.5 desks 2 sold 98`: the lines of the journal, the groups in which lines were added since the host
 /// began, how many lines one of these had, to a tenth and rounded down, the desks that it is open to, and the seats that are sold. It takes
@@ -85,4 +91,24 @@ fn put_seats(text: &mut StatusText, number: u64)
 {
     let mut buffer = Buffer::new();
     put(text, buffer.format(number).as_bytes());
+}
+
+/// Whether a text may be a host's status: one line, which begins as a status does.
+pub fn is_status(text: &[u8]) -> bool
+    ensures { result ≡ is_status text.now }
+{
+    match word_of(b"STATUS lines ", text) {
+        Some(rest) => ends_line(rest),
+        None => false,
+    }
+}
+
+// Whether the first line ends with the bytes.
+fn ends_line(bytes: &[u8]) -> bool
+    ensures { result ≡ ends_line (position is_line_feed bytes.now) (length bytes.now) }
+{
+    match line_end(bytes) {
+        Some(end) => end + 1 == bytes.len(),
+        None => false,
+    }
 }

@@ -7,11 +7,11 @@ use Rattle.desk_feed.specs.Progress.{start, IsProgress}
 use Rattle.desk_feed.specs.declared.progress.Progress.{Progress}
 use Rattle.desk_feed.proofs.Passing.{at_start}
 use Rattle.desk_lines.specs.declared.desk.Desk.{Desk}
-use Rattle.desk_stream.specs.Feeds.{Feeding, IsFeed, IsHeard, IsStrangeLine, HasComeAsFar}
-use Rattle.desk_stream.specs.Hearing.{lines_with, HearsBy, IsStrangeStep, IsWaiting}
+use Rattle.desk_stream.specs.Feeds.{read_behind, Feeding, IsFeed, IsHeard, IsOwnLine, IsStrangeLine, HasComeAsFar}
+use Rattle.desk_stream.specs.Hearing.{lines_with, HearsBy, IsOwnStep, IsStrangeStep, IsWaiting}
 use Rattle.desk_stream.specs.Leads.{lead_of}
 use Rattle.desk_stream.specs.declared.hearing.FeedFault.{FeedFault}
-use Rattle.desk_stream.specs.declared.hearing.FeedFault.TheVariants.{Strange}
+use Rattle.desk_stream.specs.declared.hearing.FeedFault.TheVariants.{Memory, Strange}
 use Rattle.desk_stream.specs.declared.lead.Lead.{Lead}
 use Rattle.desk_stream.specs.Reading.{counted, step_of}
 use Rattle.desk_stream.specs.declared.hearing.Pending.{Pending}
@@ -117,6 +117,12 @@ module _ {D : Type 0} where
         (owns ∙ ap (λ (r : Read). r.epoch == old.epoch) (sym reads)) hears;
   }
 
+  -- whatever comes of it
+  pub read_to : (old : Feeding D) (line : List ℕ) (at : Read) (lead : Lead) (came : Read × Step) → at ≡ counted old.reading
+      → lead ≡ lead_of line → came ≡ step_of old.epoch at lead → came.0 ≡ read_behind old line
+  read_to old line at lead came counts leads is =
+      ap (λ (p : Read × Step). p.0) (is ∙ ap (λ (r : Read). step_of old.epoch r lead) counts ∙ ap (step_of old.epoch (counted old.reading)) leads)
+
   pub strange_line : (old : Feeding D) (line : List ℕ) (at : Read) (lead : Lead) (came : Read × Step) (own : Bool) → at ≡ counted old.reading
       → lead ≡ lead_of line → came ≡ step_of old.epoch at lead → own ≡ (came.0.epoch == old.epoch)
       → IsStrangeStep came.1 old.flights old.serving own old.desks old.pending line → IsStrangeLine old line
@@ -135,6 +141,25 @@ module _ {D : Type 0} where
   strange_if old line at lead came own (Ok x) counts leads is owns strange = tt
   strange_if old line at lead came own (Err e) counts leads is owns strange = λ f_is.
       strange_line old line at lead came own counts leads is owns (strange f_is)
+
+  own_line : (old : Feeding D) (line : List ℕ) (at : Read) (lead : Lead) (came : Read × Step) (own : Bool) → at ≡ counted old.reading
+      → lead ≡ lead_of line → came ≡ step_of old.epoch at lead → own ≡ (came.0.epoch == old.epoch)
+      → IsOwnStep came.1 old.flights old.serving own old.desks old.pending line → IsOwnLine old line
+  own_line old line at lead came own counts leads is owns mine = record {
+    reading = came.0;
+    step = came.1;
+    step_is = is ∙ ap (λ (r : Read). step_of old.epoch r lead) counts ∙ ap (step_of old.epoch (counted old.reading)) leads;
+    own = subst (λ (b : Bool). IsOwnStep came.1 old.flights old.serving b old.desks old.pending line) owns mine;
+  }
+
+  -- where memory is wanting for it
+  pub own_if : {A : Type 0} (old : Feeding D) (line : List ℕ) (at : Read) (lead : Lead) (came : Read × Step) (own : Bool) (r : Result A FeedFault)
+      → at ≡ counted old.reading → lead ≡ lead_of line → came ≡ step_of old.epoch at lead → own ≡ (came.0.epoch == old.epoch)
+      → IfErr r (λ f. f ≡ Memory → IsOwnStep came.1 old.flights old.serving own old.desks old.pending line)
+      → IfErr r (λ f. f ≡ Memory → IsOwnLine old line)
+  own_if old line at lead came own (Ok x) counts leads is owns mine = tt
+  own_if old line at lead came own (Err e) counts leads is owns mine = λ f_is.
+      own_line old line at lead came own counts leads is owns (mine f_is)
 
   -- the feed stays one, whatever a line comes to
   pub feed_on : (flights served : List Flown) (serving : Served D) (reading later : Read) (desks now : List Desk) (calls : List CallIndex)

@@ -7,19 +7,22 @@ use Rattle.desk_feed.specs.declared.progress.Progress.{Progress}
 use Rattle.desk_hall.proofs.Halls.{right_more, room_more}
 use Rattle.desk_hall.specs.Orders.{IsOrder}
 use Rattle.desk_hall.specs.declared.orders.Order.{Order}
+use Rattle.desk_hall.specs.declared.turn.Turn.{Turn}
 use Rattle.desk_lines.specs.Lines.{next_number, Hears}
 use Rattle.desk_lines.specs.declared.desk.Desk.{Desk}
 use Rattle.desk_lines.specs.declared.desk.Meaning.{Meaning}
-use Rattle.desk_stream.specs.Hearing.{ahead_of, come_to, CallsBy, ComesBy, ComesTo, HasHeardAt, IsCameTo, IsPlanned, IsRightPlan, IsSamePending, IsStrangeBy, IsStrangeTo, IsWaiting}
+use Rattle.desk_stream.specs.Hearing.{ahead_of, called_by, come_to, CallsBy, ComesBy, ComesTo, HasHeardAt, IsCameTo, IsNoStranger, IsOwnCall, IsOwnOf, IsPlanned, IsRightPlan, IsSamePending, IsStrangeBy, IsStrangeTo, IsWaiting}
 use Rattle.desk_stream.specs.Meaning.{meant_by, ordered, IsMeant, IsRightMeant}
 use Rattle.desk_stream.specs.Planning.{IsComeTo, Passes, Plans}
 use Rattle.desk_stream.specs.declared.hearing.Pending.{Pending}
 use Rattle.desk_stream.specs.declared.meant.Meant.{Meant}
+use Rattle.desk_stream.specs.declared.meant.Meant.TheVariants as meants
 use Rattle.desk_stream.specs.declared.planning.Called.{Called}
 use Rattle.desk_stream.specs.declared.planning.Plan.{Plan}
 use Rattle.desk_stream.specs.declared.telling.FeedTurn.{FeedTurn}
 use Rattle.desk_stream.specs.declared.telling.FeedTurn.TheVariants as turns
-use Rattle.desk_stream.proofs.Plans.{goes, Goes}
+use Rattle.desk_stream.specs.declared.wanted.Wanted.{Wanted}
+use Rattle.desk_stream.proofs.Plans.{goes, planned_own, Goes}
 use Rattle.seat_serving.specs.Answering.{AreRight}
 use Rattle.seat_serving.specs.Served.{Served}
 use Rattle.seat_serving.specs.declared.asked.Asked.{Asked}
@@ -132,6 +135,34 @@ module _ {D : Type 0} (flights : List Flown) (serving : Served D) where
   strange_by own desks now pending session today line desk meant heard strange =
       record { now = now; desk = desk; meant = meant; has_heard = heard; strange = strange }
 
+  -- ---- memory is wanting for a line that is no stranger's
+
+  pub own_planned : (pending : Pending) (c : Called) (desk : Desk) (plan : Plan)
+      → Plans flights serving.cap c desk (come_to serving pending) (ahead_of serving pending) plan → IsOwnCall flights serving pending c
+  own_planned pending c desk plan plans = record {
+    none = planned_own flights serving.cap c desk (come_to serving pending) (ahead_of serving pending) plan plans;
+  }
+
+  pub own_said : (own : Bool) (pending : Pending) (session : ℕ) (turn : Turn)
+      → IsNoStranger flights serving own pending session (meants.Said turn)
+  own_said own pending session turn = record { none = λ strange. strange }
+
+  pub own_called : (own : Bool) (pending : Pending) (session number : ℕ) (wanted : Wanted)
+      → (own ≡ true → IsOwnCall flights serving pending (called_by session number wanted))
+      → IsNoStranger flights serving own pending session (meants.Called number wanted)
+  own_called own pending session number wanted mine = record { none = λ strange. (mine strange.0).none strange.1 }
+
+  pub own_to : (own : Bool) (desks now : List Desk) (pending : Pending) (session today : ℕ) (line : List ℕ) (desk : Desk) (meant : Meant)
+      → HasHeardAt flights desks now session today line desk meant → IsNoStranger flights serving own pending session meant
+      → IsOwnOf flights serving own desks pending session today line
+  own_to own desks now pending session today line desk meant heard none = record {
+    of_session = λ some. record { now = now; desk = desk; meant = meant; has_heard = heard; no_stranger = none };
+  }
+
+  pub own_row : (own : Bool) (desks : List Desk) (pending : Pending) (session today : ℕ) (line : List ℕ) → session ≡ 0
+      → IsOwnOf flights serving own desks pending session today line
+  own_row own desks pending session today line is = record { of_session = λ some. absurd (some is) }
+
   -- what stands behind a lead is the line
   pub comes_behind : (own : Bool) (desks now : List Desk) (old new : Pending) (session today : ℕ) (line rest : List ℕ) → rest ≡ drop 2 line
       → ComesTo flights serving own desks now old new session today rest
@@ -144,6 +175,12 @@ module _ {D : Type 0} (flights : List Flown) (serving : Served D) where
       → IsStrangeTo flights serving own desks pending session today (drop 2 line)
   strange_behind own desks pending session today line rest is strange =
       subst (λ (l : List ℕ). IsStrangeTo flights serving own desks pending session today l) is strange
+
+  pub own_behind : (own : Bool) (desks : List Desk) (pending : Pending) (session today : ℕ) (line rest : List ℕ) → rest ≡ drop 2 line
+      → IsOwnOf flights serving own desks pending session today rest
+      → IsOwnOf flights serving own desks pending session today (drop 2 line)
+  own_behind own desks pending session today line rest is mine =
+      subst (λ (l : List ℕ). IsOwnOf flights serving own desks pending session today l) is mine
 
   -- ---- this journal's, or another's
   pub calls_own : (own : Bool) (old new : Pending) (desk : Desk) (c : Called) → own ≡ true → IsPlanned flights serving old new desk c

@@ -4,7 +4,7 @@ use Rattle.std.specs.Prelude.{IfSome, Option, Some, None, IsTrue, option_to_list
 use Rattle.std.proofs.lemmas.Bool.Decides.{nat_tests}
 use Rattle.std.proofs.lemmas.List.{length-take-le}
 use Rattle.std.proofs.Math.Seq.{take-length}
-use Rattle.desk_feed.specs.Feeding.{behind_asking, is_call, IsItsLine, IsStrange, IsStrangeBy, Lives, LivesBy, LivesNext}
+use Rattle.desk_feed.specs.Feeding.{behind_asking, is_call, Asking, IsItsLine, IsStrange, IsStrangeBy, Lives, LivesBy, LivesNext}
 use Rattle.desk_feed.specs.Progress.{kind_of, HasPassed, IsKind, IsProgress}
 use Rattle.desk_feed.specs.declared.progress.CallKind.{CallKind}
 use Rattle.desk_feed.specs.declared.progress.CallKind.TheVariants.{Next, There, Beyond}
@@ -23,6 +23,7 @@ use Rattle.desk_stream.specs.declared.hearing.Pending.{Pending}
 use Rattle.desk_stream.specs.declared.planning.Called.{Called}
 use Rattle.desk_stream.specs.declared.planning.Plan.{Plan}
 use Rattle.seat_journal.specs.declared.entry.Entry.{Entry}
+use Rattle.seat_journal.specs.declared.entry.Work.{Work}
 use Rattle.seat_nesting.specs.Nesting.{Ladders}
 use Rattle.seat_rules.specs.Journal.{calls_of, next_line}
 use Rattle.seat_serving.specs.Answering.{behind, line_for, lines_for, IsRight}
@@ -342,6 +343,31 @@ module _ (flights : List Flown) (grid : Ladders) (cap : ℕ) (journal : List Ent
           goes_told plan more new come (other_call (calls_of Past c.session) c.number (λ h. there_not_next (sym is ∙ h))) added passes at.none at.stays
       by Beyond is at =
           goes_told plan more new come (other_call (calls_of Past c.session) c.number (λ h. beyond_not_next (sym is ∙ h))) added passes at.none at.stays
+
+-- ---- what is planned is no stranger's
+
+no_call : (b : Bool) (a : Asking) (Very : Work → Type 0) (ahead : List Entry) → b ≡ false → IsStrangeBy b a Very ahead → ⊥
+no_call true a Very ahead is strange = absurd (cc is)
+no_call false a Very ahead is strange = strange
+
+next_own : (flights : List Flown) (cap : ℕ) (c : Called) (past : List Entry) (b : Bool) (ahead : List Entry) (plan : Plan)
+    → PlansNext flights cap c past ahead plan → IsStrangeBy b (asking_of flights c) (IsVery flights c.wanted) ahead → ⊥
+next_own flights cap c past true [] plan plans strange = strange
+next_own flights cap c past true (e ∷ ahead) plan plans strange = strange plans.own
+next_own flights cap c past false ahead plan plans strange = strange
+
+pub planned_own : (flights : List Flown) (cap : ℕ) (c : Called) (desk : Desk) (past ahead : List Entry) (plan : Plan)
+    → Plans flights cap c desk past ahead plan → IsStrange (asking_of flights c) (IsVery flights c.wanted) past ahead → ⊥
+planned_own flights cap c desk past ahead plan plans strange = by (kind_of (calls_of past c.session) c.number) refl plans.comes
+  where
+    by : (k : CallKind) → kind_of (calls_of past c.session) c.number ≡ k → PlansBy k flights cap c desk past ahead plan → ⊥
+    by Next is at = next_own flights cap c past (is_call past (asking_of flights c)) ahead plan at strange
+    by There is at =
+        no_call (is_call past (asking_of flights c)) (asking_of flights c) (IsVery flights c.wanted) ahead
+        (other_call (calls_of past c.session) c.number (λ h. there_not_next (sym is ∙ h))) strange
+    by Beyond is at =
+        no_call (is_call past (asking_of flights c)) (asking_of flights c) (IsVery flights c.wanted) ahead
+        (other_call (calls_of past c.session) c.number (λ h. beyond_not_next (sym is ∙ h))) strange
 
 -- ---- the line that is ahead
 

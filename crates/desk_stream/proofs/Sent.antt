@@ -14,7 +14,7 @@ use Rattle.seat_journal.specs.declared.entry.Entry.{Entry}
 use Rattle.seat_nesting.specs.Nesting.{Ladders}
 use Rattle.seat_rules.specs.Journal.{calls_of, next_line}
 use Rattle.seat_rules.specs.Prefixes.{Begins}
-use Rattle.seat_scripts.specs.VeryRequest.{CommandsAreVeryRequests}
+use Rattle.seat_replies.specs.VeryRequest.{CommandsAreVeryRequests}
 use Rattle.seat_serving.specs.Answering.{behind}
 use Rattle.seat_serving.specs.declared.asked.Asked.{Asked}
 use Rattle.ssim_flights.specs.declared.flight.Flight.{Flight as Flown}

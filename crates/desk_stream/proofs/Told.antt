@@ -10,7 +10,7 @@ use Rattle.seat_desk.specs.FlightsDesk.{IsPut, IsText}
 use Rattle.seat_desk.proofs.Texts.{put_more, text_whole}
 use Rattle.seat_journal.specs.declared.entry.Entry.{Entry}
 use Rattle.seat_nesting.specs.Nesting.{Ladders}
-use Rattle.seat_scripts.specs.RunDesk.{at_any}
+use Rattle.seat_replies.specs.RunDesk.{at_any}
 use Rattle.ssim_flights.specs.declared.flight.Flight.{Flight as Flown}
 
 -- the first so many are told

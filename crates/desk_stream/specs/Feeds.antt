@@ -3,7 +3,7 @@ use Rattle.std.specs.Prelude.{◌≡◌, ◌==◌, ℕ, IfSome, List, length, No
 use Rattle.airline_base.specs.Days.{IsCenturyDay}
 use Rattle.desk_calls.specs.declared.call_index.CallIndex.{CallIndex}
 use Rattle.desk_lines.specs.declared.desk.Desk.{Desk}
-use Rattle.desk_stream.specs.Hearing.{ahead_of, come_to, HearsBy, IsStrangeStep, IsWaiting}
+use Rattle.desk_stream.specs.Hearing.{ahead_of, come_to, HearsBy, IsOwnStep, IsStrangeStep, IsWaiting}
 use Rattle.desk_stream.specs.Leads.{lead_of}
 use Rattle.desk_stream.specs.Reading.{counted, step_of}
 use Rattle.desk_stream.specs.declared.hearing.Pending.{Pending}
@@ -39,6 +39,10 @@ pub record IsBegun (epoch : ℕ) (reading : Read) : Type 0 where
   pub epoch_is : reading.epoch ≡ epoch
   pub none : reading.lines ≡ 0
 
+-- where its reading stands behind a line
+abbrev pub read_behind : {D : Type 0} → Feeding D → List ℕ → Read
+read_behind feed line = (step_of feed.epoch (counted feed.reading) (lead_of line)).0
+
 -- it comes to what stands at its front
 pub record IsHeard {D : Type 0} (old new : Feeding D) (line : List ℕ) : Type 0 where
   pub step : Step
@@ -51,6 +55,13 @@ pub record IsStrangeLine {D : Type 0} (feed : Feeding D) (line : List ℕ) : Typ
   pub step : Step
   pub step_is : (reading, step) ≡ step_of feed.epoch (counted feed.reading) (lead_of line)
   pub strange : IsStrangeStep step feed.flights feed.serving (reading.epoch == feed.epoch) feed.desks feed.pending line
+
+-- the line is the manager's, or means what is no stranger's
+pub record IsOwnLine {D : Type 0} (feed : Feeding D) (line : List ℕ) : Type 0 where
+  pub reading : Read
+  pub step : Step
+  pub step_is : (reading, step) ≡ step_of feed.epoch (counted feed.reading) (lead_of line)
+  pub own : IsOwnStep step feed.flights feed.serving (reading.epoch == feed.epoch) feed.desks feed.pending line
 
 -- the feed has come to the same lines, and the same are ahead of it: how it is cut into groups does not matter
 pub record HasComeAsFar {D : Type 0} (old new : Feeding D) : Type 0 where

@@ -113,6 +113,28 @@ pub record IsStrangeTo {D : Type 0} (flights : List Flown) (serving : Served D) 
   pub has_heard : HasHeardAt flights desks now session today line desk meant
   pub strange : IsStrangeBy flights serving own pending session meant
 
+-- it is a line of this journal's feed, or may be one
+pub record IsOwnCall {D : Type 0} (flights : List Flown) (serving : Served D) (pending : Pending) (c : Called) : Type 0 where
+  pub none : IsStrangeCall flights serving pending c → ⊥
+
+pub record IsNoStranger {D : Type 0} (flights : List Flown) (serving : Served D) (own : Bool) (pending : Pending) (session : ℕ) (meant : Meant)
+    : Type 0 where
+  pub none : IsStrangeBy flights serving own pending session meant → ⊥
+
+-- the line means what is no stranger's
+pub record IsOwnTo {D : Type 0} (flights : List Flown) (serving : Served D) (own : Bool) (desks : List Desk) (pending : Pending)
+    (session today : ℕ) (line : List ℕ) : Type 0 where
+  pub now : List Desk
+  pub desk : Desk
+  pub meant : Meant
+  pub has_heard : HasHeardAt flights desks now session today line desk meant
+  pub no_stranger : IsNoStranger flights serving own pending session meant
+
+-- for a row of the manager memory may be wanting ahead of what it means
+pub record IsOwnOf {D : Type 0} (flights : List Flown) (serving : Served D) (own : Bool) (desks : List Desk) (pending : Pending)
+    (session today : ℕ) (line : List ℕ) : Type 0 where
+  pub of_session : (session ≡ 0 → ⊥) → IsOwnTo flights serving own desks pending session today line
+
 -- ---- by what stands at the front of a line of the feed; a session's own line is behind its digit and its blank
 
 abbrev pub HearsBy : {D : Type 0} → Step → List Flown → Served D → Bool → List Desk → List Desk → Pending → Pending → List ℕ → Type 0
@@ -126,3 +148,9 @@ IsStrangeStep (steps.Told turn) flights serving own desks pending line = ⊥
 IsStrangeStep steps.Silent flights serving own desks pending line = ⊥
 IsStrangeStep (steps.Line session today) flights serving own desks pending line =
     IsStrangeTo flights serving own desks pending session today (drop 2 line)
+
+abbrev pub IsOwnStep : {D : Type 0} → Step → List Flown → Served D → Bool → List Desk → Pending → List ℕ → Type 0
+IsOwnStep (steps.Told turn) flights serving own desks pending line = Unit {0}
+IsOwnStep steps.Silent flights serving own desks pending line = ⊥
+IsOwnStep (steps.Line session today) flights serving own desks pending line =
+    IsOwnOf flights serving own desks pending session today (drop 2 line)

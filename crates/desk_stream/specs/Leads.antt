@@ -16,12 +16,16 @@ abbrev pub session_at : List ℕ → Option ℕ
 session_at (digit ∷ blank ∷ line) = session_if digit blank
 session_at _ = None
 
+-- epochs begin at 1
+abbrev pub epoch_of : ℕ → Option ℕ
+epoch_of number = if number == 0 then None else Some number
+
 -- `?EPOCH n`
 unfoldable pub epoch_at : List ℕ → Option ℕ
 epoch_at text = do
   behind ← word_at (codes "?EPOCH ") text
   epoch ← count_at behind
-  if length epoch.1 == 0 then Some epoch.0 else None
+  if length epoch.1 == 0 then epoch_of epoch.0 else None
 
 -- a day, or an epoch
 abbrev pub word_lead : Option ℕ → Option ℕ → Lead
@@ -35,6 +39,11 @@ lead_by None text = word_lead (day_at text) (epoch_at text)
 
 abbrev pub lead_of : List ℕ → Lead
 lead_of line = lead_by (session_at line) (line_at line).0
+
+-- the day that a feed begins with whose first line begins so, where it is one
+abbrev pub first_day : Lead → Option ℕ
+first_day (Day day) = Some day
+first_day lead = None
 
 -- a session is the manager or one of eight, with a line behind its digit and its blank; a day is of the years 2000 to 2099
 abbrev pub IsRightLead : List ℕ → Lead → Type 0

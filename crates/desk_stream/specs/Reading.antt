@@ -25,9 +25,10 @@ on_day own reading day = (record reading { today = Some day }, Told (Desk (Stand
 abbrev pub of_epoch : Read → ℕ → Read
 of_epoch reading epoch = record reading { epoch = epoch }
 
--- the first line is a day, whatever day it is
+-- the first line is a day, whatever day it is: each line ahead of it is at fault, and an epoch among them holds all the same
 abbrev pub first_step : ℕ → Read → Lead → Read × Step
 first_step own reading (leads.Day day) = on_day own reading day
+first_step own reading (leads.Epoch epoch) = (of_epoch reading epoch, Told (Dayless reading.lines))
 first_step own reading lead = (reading, Told (Dayless reading.lines))
 
 -- and then each is led by a session, or is a later day, or an epoch

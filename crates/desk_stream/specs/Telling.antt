@@ -8,7 +8,7 @@ use Rattle.desk_stream.specs.declared.telling.FeedTurn.TheVariants.{Desk, Unknow
 use Rattle.seat_desk.specs.FlightsDesk.{IsText}
 use Rattle.seat_journal.specs.declared.entry.Entry.{Entry}
 use Rattle.seat_nesting.specs.Nesting.{Ladders}
-use Rattle.seat_scripts.specs.RunDesk.{at_any}
+use Rattle.seat_replies.specs.RunDesk.{at_any}
 use Rattle.ssim_flights.specs.declared.flight.Flight.{Flight as Flown}
 
 -- the digit of the manager or of a session, and a blank

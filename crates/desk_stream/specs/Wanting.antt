@@ -10,9 +10,9 @@ use Rattle.desk_stream.specs.declared.wanted.Wanted.{Wanted}
 use Rattle.desk_stream.specs.declared.wanted.Wanted.TheVariants.{Seats, Limit}
 use Rattle.seat_journal.specs.declared.entry.Work.{Work}
 use Rattle.seat_journal.specs.declared.entry.Work.TheVariants as works
-use Rattle.seat_scripts.specs.Changes.{IsOnLeg}
-use Rattle.seat_scripts.specs.Requests.{command_of}
-use Rattle.seat_scripts.specs.VeryRequest.{IsVeryRequest}
+use Rattle.seat_replies.specs.Changes.{IsOnLeg}
+use Rattle.seat_replies.specs.Requests.{command_of}
+use Rattle.seat_replies.specs.VeryRequest.{IsVeryRequest}
 use Rattle.seat_serving.specs.declared.asked.Asked.{Asked}
 use Rattle.ssim_flights.specs.declared.flight.Flight.{Flight as Flown}
 

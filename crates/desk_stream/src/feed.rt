@@ -6,16 +6,16 @@ ghost use Rattle.seat_desk.specs.Loading.{IsGridOf};
 ghost use Rattle.seat_disk.specs.Growing.{KeepsFront};
 ghost use Rattle.seat_recovery.specs.OpenText.{open_text};
 ghost use Rattle.seat_rules.specs.Prefixes.{Begins};
-ghost use Rattle.seat_scripts.specs.RunDesk.{at_any};
+ghost use Rattle.seat_replies.specs.RunDesk.{at_any};
 ghost use Rattle.seat_serving.specs.Answering.{behind};
 ghost use Rattle.seat_serving.specs.declared.serving.ServeFault.TheVariants.{Device, Memory as NoMemory};
 ghost use Rattle.desk_answers.specs.Hosts.{IsReady};
 ghost use Rattle.desk_feed.specs.Progress.{IsProgress};
 ghost use Rattle.desk_hall.specs.Booking.{IsBehindSome};
-ghost use Rattle.desk_stream.specs.Feeds.{HasComeAsFar, IsBegun, IsHeard, IsSameFeed, IsStrangeLine};
+ghost use Rattle.desk_stream.specs.Feeds.{read_behind, HasComeAsFar, IsBegun, IsHeard, IsOwnLine, IsSameFeed, IsStrangeLine};
 ghost use Rattle.desk_stream.specs.Hearing.{IsSamePending};
 ghost use Rattle.desk_stream.specs.Telling.{IsFeedTurn};
-ghost use Rattle.desk_stream.specs.declared.hearing.FeedFault.TheVariants.{Strange as Stranger};
+ghost use Rattle.desk_stream.specs.declared.hearing.FeedFault.TheVariants.{Memory as Wanting, Strange as Stranger};
 
 use crate::hearing::{FeedFault, Pending, hear_step};
 use crate::lead::lead_of;
@@ -159,11 +159,13 @@ impl<'a, D: Tape> Feed<'a, D> {
     /// Hears a line with its end. A numbered request is taken as it was then, by the calls and the day of then: where lines of the
     /// journal are ahead of the feed the next of them must be its own, and its answer is told once more; behind the last it is booked
     /// by `answer`. Where it is another's, or memory is wanting, nothing comes of the line.
-    #[tactic(auto, using(crate::proofs::Feeds::heard_by, crate::proofs::Feeds::feed_on))]
+    #[tactic(auto, using(crate::proofs::Feeds::heard_by, crate::proofs::Feeds::read_to, crate::proofs::Feeds::feed_on))]
     pub fn hear(&mut self, alloc: Global, line: &[u8]) -> Result<(), FeedFault>
         ensures heard { OnOk result (IsHeard self.old self.new line.now) }
         ensures strange { IfErr result (λ f. f ≡ Stranger → IsStrangeLine self.old line.now) }
+        ensures memory { IfErr result (λ f. f ≡ Wanting → IsOwnLine self.old line.now) }
         ensures same { OnErr result (IsSamePending self.old.pending self.new.pending) }
+        ensures read { self.new.reading ≡ read_behind self.old line.now }
         ensures unbooked { (self.new.serving ≡ self.old.serving) × (self.new.flights ≡ self.old.flights)
             × (self.new.epoch ≡ self.old.epoch) }
     {

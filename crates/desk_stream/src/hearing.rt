@@ -4,7 +4,7 @@ ghost use Rattle.std.specs.Prelude.{option_to_list};
 ghost use Rattle.airline_base.specs.Days.{IsCenturyDay};
 ghost use Rattle.seat_desk.specs.Loading.{IsGridOf};
 ghost use Rattle.seat_serving.specs.Answering.{AreRight};
-ghost use Rattle.desk_stream.specs.Hearing.{ahead_of, come_to, ComesBy, ComesTo, HasHeardAt, IsCameTo, IsPlanned, IsRightPlan, IsSamePending, CallsBy, HearsBy, IsStrangeBy, IsStrangeCall, IsStrangeStep, IsStrangeTo, IsWaiting};
+ghost use Rattle.desk_stream.specs.Hearing.{ahead_of, come_to, ComesBy, ComesTo, HasHeardAt, IsCameTo, IsNoStranger, IsOwnCall, IsOwnOf, IsOwnStep, IsPlanned, IsRightPlan, IsSamePending, CallsBy, HearsBy, IsStrangeBy, IsStrangeCall, IsStrangeStep, IsStrangeTo, IsWaiting};
 ghost use Rattle.desk_stream.specs.Meaning.{IsMeant, IsRightMeant};
 ghost use Rattle.desk_stream.specs.Planning.{Passes, Plans};
 ghost use Rattle.desk_stream.specs.Reading.{IsRightStep};
@@ -43,7 +43,7 @@ pub struct Pending {
 }
 
 /// What comes of a line of the feed by what stands at its front; a numbered one is another journal's where the epoch is not its own.
-#[tactic(auto, using(crate::proofs::Hears::comes_behind, crate::proofs::Hears::strange_behind))]
+#[tactic(auto, using(crate::proofs::Hears::comes_behind, crate::proofs::Hears::strange_behind, crate::proofs::Hears::own_behind))]
 pub(crate) fn hear_step<D: Tape>(
     alloc: Global,
     flights: &Flights,
@@ -64,6 +64,8 @@ pub(crate) fn hear_step<D: Tape>(
         line.now) }
     ensures strange { IfErr result (λ f. f ≡ Stranger → IsStrangeStep step flights.now serving.now is_own desks.old.items
         pending.old line.now) }
+    ensures memory { IfErr result (λ f. f ≡ NoMemory → IsOwnStep step flights.now serving.now is_own desks.old.items pending.old
+        line.now) }
     ensures same { OnErr result (IsSamePending pending.old pending.new) }
     ensures waiting { IsWaiting serving.now pending.new }
     ensures desks { length desks.new.items ≡ 9 }
@@ -95,7 +97,7 @@ fn behind_lead(line: &[u8]) -> &[u8]
 }
 
 // Hears a line of the manager or of a session, read on this day.
-#[tactic(auto, using(crate::proofs::Hears::came_by, crate::proofs::Hears::strange_by))]
+#[tactic(auto, using(crate::proofs::Hears::came_by, crate::proofs::Hears::strange_by, crate::proofs::Hears::own_to, crate::proofs::Hears::own_row))]
 fn hear_line<D: Tape>(
     alloc: Global,
     flights: &Flights,
@@ -117,6 +119,8 @@ fn hear_line<D: Tape>(
         session today line.now) }
     ensures strange { IfErr result (λ f. f ≡ Stranger → IsStrangeTo flights.now serving.now is_own desks.old.items pending.old
         session today line.now) }
+    ensures memory { IfErr result (λ f. f ≡ NoMemory → IsOwnOf flights.now serving.now is_own desks.old.items
+        pending.old session today line.now) }
     ensures same { OnErr result (IsSamePending pending.old pending.new) }
     ensures waiting { IsWaiting serving.now pending.new }
     ensures desks { length desks.new.items ≡ 9 }
@@ -148,6 +152,7 @@ fn hear_at(
     requires session { (session ≤ 8) × (length desks.old.items ≡ 9) }
     ensures heard { IfOk result (λ r. HasHeardAt flights.now desks.old.items desks.new.items session today line.now r.0 r.1) }
     ensures right { IfOk result (λ r. IsRightMeant flights.now session r.1) }
+    ensures manager { OnErr result (session ≡ 0) }
     ensures desks { length desks.new.items ≡ 9 }
 {
     let mut desk = desk_at(desks.as_slice(), session);
@@ -180,6 +185,7 @@ fn meant_of(
     requires today { IsCenturyDay desk.old.today }
     ensures meant { IfOk result (IsMeant flights.now session desk.old desk.new line.now) }
     ensures right { IfOk result (IsRightMeant flights.now session) }
+    ensures manager { OnErr result (session ≡ 0) }
 {
     if session == 0 {
         let order = order_of(alloc, served, desk, line, false)?;
@@ -190,6 +196,7 @@ fn meant_of(
 }
 
 // What comes of it.
+#[tactic(auto, using(crate::proofs::Hears::own_said, crate::proofs::Hears::own_called))]
 fn come_by<D: Tape>(
     flights: &Flights,
     served: &Served<'_>,
@@ -207,6 +214,7 @@ fn come_by<D: Tape>(
     requires waiting { IsWaiting serving.now pending.old }
     ensures comes { OnOk result (ComesBy flights.now serving.now is_own pending.old pending.new session desk.now meant.now) }
     ensures strange { IfErr result (λ f. f ≡ Stranger → IsStrangeBy flights.now serving.now is_own pending.old session meant.now) }
+    ensures memory { IfErr result (λ f. f ≡ NoMemory → IsNoStranger flights.now serving.now is_own pending.old session meant.now) }
     ensures same { OnErr result (IsSamePending pending.old pending.new) }
     ensures waiting { IsWaiting serving.now pending.new }
 {
@@ -247,6 +255,7 @@ fn come_by_call<D: Tape>(
     requires waiting { IsWaiting serving.now pending.old }
     ensures comes { OnOk result (CallsBy is_own flights.now serving.now pending.old pending.new desk.now called.now) }
     ensures strange { IfErr result (λ f. f ≡ Stranger → (is_own ≡ true) × IsStrangeCall flights.now serving.now pending.old called.now) }
+    ensures memory { IfErr result (λ f. f ≡ NoMemory → is_own ≡ true → IsOwnCall flights.now serving.now pending.old called.now) }
     ensures same { OnErr result (IsSamePending pending.old pending.new) }
     ensures waiting { IsWaiting serving.now pending.new }
 {
@@ -286,7 +295,7 @@ pub(crate) fn tell<D: Tape>(
 }
 
 // A numbered request of this journal.
-#[tactic(auto, using(crate::proofs::Hears::waiting_of, crate::proofs::Hears::waiting_still))]
+#[tactic(auto, using(crate::proofs::Hears::waiting_of, crate::proofs::Hears::waiting_still, crate::proofs::Hears::own_planned))]
 fn call<D: Tape>(
     flights: &Flights,
     served: &Served<'_>,
@@ -302,6 +311,7 @@ fn call<D: Tape>(
     requires waiting { IsWaiting serving.now pending.old }
     ensures planned { OnOk result (IsPlanned flights.now serving.now pending.old pending.new desk.now called.now) }
     ensures strange { IfErr result (λ f. f ≡ Stranger → IsStrangeCall flights.now serving.now pending.old called.now) }
+    ensures memory { IfErr result (λ f. f ≡ NoMemory → IsOwnCall flights.now serving.now pending.old called.now) }
     ensures same { OnErr result (IsSamePending pending.old pending.new) }
     ensures waiting { IsWaiting serving.now pending.new }
 {

@@ -2,7 +2,7 @@
 //! It knows the definitions alone.
 ghost use Rattle.desk_stream.specs.Laws.{AFeedIsItsJournal, LivedAgainBooksNothing, OwnFeedIsNoStranger, RightLinesAreBooked};
 
-use seat_scripts::commands_are_very_requests;
+use seat_replies::commands_are_very_requests;
 
 /// However often a feed was sent from a place that the journal had come to, wherever it was broken off, and whatever of the journal
 /// was left then, at last sent to its end it leaves the journal of the feed in one piece.

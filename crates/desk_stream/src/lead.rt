@@ -1,8 +1,9 @@
 //! What stands at the front of a feed's line: whose it is, or a word of the feed.
 ghost use Rattle.std.specs.Prelude.{◌≡◌, ◌≤◌, IfSome, length};
+ghost use Rattle.airline_base.specs.Days.{IsCenturyDay};
 ghost use Rattle.airline_base.specs.Lines.{line_at};
 ghost use Rattle.desk_hall.specs.Orders.{day_at};
-ghost use Rattle.desk_stream.specs.Leads.{epoch_at, lead_of, session_at, session_if, word_lead, IsRightLead};
+ghost use Rattle.desk_stream.specs.Leads.{epoch_at, epoch_of, first_day, lead_of, session_at, session_if, word_lead, IsRightLead};
 
 use airline_base::Day;
 use airline_base::fields::word_of;
@@ -16,7 +17,7 @@ pub enum Lead {
     Session(u8),
     /// A day of the years 2000 to 2099.
     Day(Day),
-    /// The epoch of the journal that the numbered lines behind it are for.
+    /// The epoch of the journal that the numbered lines behind it are for, 1 to 999,999.
     Epoch(u32),
     /// It is none of these.
     Unknown,
@@ -30,6 +31,17 @@ pub(crate) fn lead_of(line: &[u8]) -> Lead
     match session_of(line) {
         Some(session) => Lead::Session(session),
         None => word_lead(line),
+    }
+}
+
+/// The day that a feed begins with whose first line this is, with its end, where it is one.
+pub fn first_day(line: &[u8]) -> Option<Day>
+    ensures value { result ≡ first_day (lead_of line.now) }
+    ensures century { IfSome result IsCenturyDay }
+{
+    match lead_of(line) {
+        Lead::Day(day) => Some(day),
+        _ => None,
     }
 }
 
@@ -83,5 +95,12 @@ fn epoch_named(text: &[u8]) -> Option<u32>
     if !rest.is_empty() {
         return None;
     }
-    Some(epoch)
+    epoch_of(epoch)
+}
+
+// Epochs begin at 1.
+fn epoch_of(number: u32) -> Option<u32>
+    ensures { result ≡ epoch_of number }
+{
+    if number == 0 { None } else { Some(number) }
 }

@@ -14,4 +14,5 @@ mod wanted;
 
 pub use feed::Feed;
 pub use hearing::FeedFault;
+pub use lead::first_day;
 pub use telling::FeedTurn;

@@ -45,7 +45,7 @@ pub(crate) fn step_of(own: u32, reading: &Reading, line: &[u8], lead: Lead) -> (
     }
 }
 
-// Ahead of the first day.
+// Ahead of the first day. An epoch holds all the same: no numbered line is then taken for another journal's.
 fn first_step(own: u32, reading: &Reading, line: &[u8], lead: Lead) -> (Reading, Step)
     requires none { reading.now.today ≡ None }
     requires right { IsRightLead line.now lead }
@@ -55,6 +55,10 @@ fn first_step(own: u32, reading: &Reading, line: &[u8], lead: Lead) -> (Reading,
 {
     match lead {
         Lead::Day(day) => on_day(own, reading, day),
+        Lead::Epoch(epoch) => (
+            of_epoch(reading, epoch),
+            Step::Told(FeedTurn::Dayless(reading.lines)),
+        ),
         _ => (*reading, Step::Told(FeedTurn::Dayless(reading.lines))),
     }
 }

@@ -2,7 +2,7 @@
 ghost use Rattle.std.specs.Prelude.{◌≡◌, ◌≤◌, ◌∷◌, ◌++◌, [], codes, length, IfOk, OnOk};
 ghost use Rattle.seat_desk.specs.FlightsDesk.{IsText};
 ghost use Rattle.seat_desk.specs.Loading.{IsGridOf};
-ghost use Rattle.seat_scripts.specs.RunDesk.{at_any};
+ghost use Rattle.seat_replies.specs.RunDesk.{at_any};
 ghost use Rattle.desk_stream.specs.Telling.{foreign_line, led, led_from, unled_line, FewSessions, IsFeedTurn, IsLedTo, IsLedTurn};
 
 use airline_base::Memory;

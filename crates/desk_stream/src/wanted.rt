@@ -9,7 +9,7 @@ use desk_answers::asked_by;
 use desk_hall::{Turn, sets};
 use seat_disk::Tape;
 use seat_journal::{Change, Work};
-use seat_scripts::is_very_request;
+use seat_replies::is_very_request;
 use seat_serving::{Asked, Serving};
 use ssim_flights::{Flights, Served};
 

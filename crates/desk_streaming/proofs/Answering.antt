@@ -10,7 +10,7 @@ use Rattle.desk_stream.specs.declared.reading.Reading.{Reading as Read}
 use Rattle.desk_streaming.specs.Streaming.{IsAnswered, IsBooked, IsToldTo, Lived}
 use Rattle.desk_streaming.proofs.Hearing.{lived_far, lived_on, lived_stays}
 use Rattle.seat_desk.specs.FlightsDesk.{IsText}
-use Rattle.seat_scripts.specs.RunDesk.{at_any}
+use Rattle.seat_replies.specs.RunDesk.{at_any}
 use Rattle.seat_rules.specs.Prefixes.{Begins}
 use Rattle.seat_serving.specs.Answering.{behind}
 

@@ -12,7 +12,9 @@ use Rattle.desk_stream.specs.declared.hearing.FeedFault.TheVariants as hearings
 use Rattle.desk_streaming.specs.Streaming.{broken_by, stopped_by, Breaks, IsOfAnswer, IsOfTelling}
 use Rattle.desk_streaming.specs.declared.fault.StreamFault.{StreamFault}
 use Rattle.desk_streaming.specs.declared.fault.StreamFault.TheVariants.{Input, Output, Memory, Strange, Journal, Dating}
+use Rattle.seat_desk.specs.Desk.{HasFailed}
 use Rattle.seat_desk.specs.declared.fault.DeskFault.{DeskFault}
+use Rattle.seat_desk.specs.declared.fault.DeskFault.TheVariants.{Device as NoSeal}
 use Rattle.seat_disk.specs.Growing.{KeepsFront}
 use Rattle.seat_recovery.specs.OpenText.{open_text}
 use Rattle.seat_rules.specs.Prefixes.{Begins}
@@ -38,6 +40,41 @@ of_telling (Dating fault) is = tt
 pub no_output : (fault : ServeFault) (b : StreamFault) (m n : ℕ) → b ≡ broken_by fault → b ≡ Output → m ≡ n
 no_output serves.Memory b m n is other = absurd (cc (sym is ∙ other))
 no_output serves.Device b m n is other = absurd (cc (sym is ∙ other))
+
+-- ---- the file of the seal, the reader and the writer
+
+pub dating_failed : {K : Type 0} (failures : K → ℕ) (before after : K) (fault : DeskFault) → (fault ≡ NoSeal → HasFailed failures before after)
+    → Dating fault ≡ Dating NoSeal → HasFailed failures before after
+dating_failed failures before after fault failed is = failed (cc is)
+
+pub no_dating : {K : Type 0} (failures : K → ℕ) (before after : K) (fault : ServeFault) (b : StreamFault) → b ≡ broken_by fault → b ≡ Dating NoSeal
+    → HasFailed failures before after
+no_dating failures before after serves.Memory b is other = absurd (cc (sym is ∙ other))
+no_dating failures before after serves.Device b is other = absurd (cc (sym is ∙ other))
+
+pub told_undated : {K : Type 0} (failures : K → ℕ) (before after : K) (b : StreamFault) → IsOfTelling b → b ≡ Dating NoSeal
+    → HasFailed failures before after
+told_undated failures before after b of is = absurd (subst IsOfTelling is of)
+
+pub no_input_of : (b : StreamFault) → IsOfAnswer b → b ≡ Input → ⊥
+no_input_of b of is = subst IsOfAnswer is of
+
+pub never_input : (b : StreamFault) (m n : ℕ) → (b ≡ Input → ⊥) → b ≡ Input → m ≡ n
+never_input b m n never is = absurd (never is)
+
+pub no_input_stopped : {D : Type 0} (feed : Feeding D) (fault : FeedFault) (b : StreamFault) → b ≡ stopped_by feed fault → b ≡ Input → ⊥
+no_input_stopped feed hearings.Memory b is other = absurd (cc (sym is ∙ other))
+no_input_stopped feed hearings.Strange b is other = absurd (cc (sym is ∙ other))
+
+pub no_output_stopped : {D : Type 0} (feed : Feeding D) (fault : FeedFault) (b : StreamFault) (m n : ℕ) → b ≡ stopped_by feed fault → b ≡ Output
+    → m ≡ n
+no_output_stopped feed hearings.Memory b m n is other = absurd (cc (sym is ∙ other))
+no_output_stopped feed hearings.Strange b m n is other = absurd (cc (sym is ∙ other))
+
+pub no_dating_stopped : {D K : Type 0} (failures : K → ℕ) (before after : K) (feed : Feeding D) (fault : FeedFault) (b : StreamFault)
+    → b ≡ stopped_by feed fault → b ≡ Dating NoSeal → HasFailed failures before after
+no_dating_stopped failures before after feed hearings.Memory b is other = absurd (cc (sym is ∙ other))
+no_dating_stopped failures before after feed hearings.Strange b is other = absurd (cc (sym is ∙ other))
 
 telling_is_none : (b : StreamFault) → IsOfTelling b → b ≡ Journal → ⊥
 telling_is_none Input is same = absurd is

@@ -1,22 +1,22 @@
 -- Lines that are heard, one behind the other.
-use Rattle.std.proofs.Common.{◌≡◌, ⊎_elim, inl, inr, ℕ, ◌+◌, ◌<◌, ◌≤◌, ◌==◌, Bool, true, false, List, [], ◌∷◌, ◌++◌, length, take, drop, get_or, refl, ap, sym, ◌∙◌, subst, arith}
+use Rattle.std.proofs.Common.{◌≡◌, ⊎_elim, inl, inr, ℕ, ◌+◌, ◌<◌, ◌≤◌, ◌==◌, Bool, true, false, List, [], ◌∷◌, ◌++◌, length, take, drop, get_or, refl, ap, sym, ◌∙◌, subst, take-append-drop, arith}
 use Rattle.std.proofs.lemmas.Bool.Decides.{nat_tests}
 use Rattle.std.proofs.lemmas.List.{take_all, take_more}
 use Rattle.airline_base.specs.Lines.{is_line_feed}
 use Rattle.desk_feed.specs.Feeding.{Asking, LivesThrough}
 use Rattle.desk_lines.specs.declared.desk.Desk.{Desk}
-use Rattle.desk_stream.specs.Feeds.{Feeding, HasComeAsFar, IsHeard, IsStrangeLine}
+use Rattle.desk_stream.specs.Feeds.{read_behind, Feeding, HasComeAsFar, IsHeard, IsOwnLine, IsStrangeLine}
 use Rattle.desk_stream.specs.Hearing.{ahead_of, called_by, come_to, CallsBy, ComesBy, HearsBy, IsPlanned, IsSamePending}
 use Rattle.desk_stream.specs.Laws.{IsVeryCall}
 use Rattle.desk_stream.specs.Wanting.{asking_of}
 use Rattle.desk_stream.specs.declared.hearing.FeedFault.{FeedFault}
-use Rattle.desk_stream.specs.declared.hearing.FeedFault.TheVariants.{Strange as Stranger}
+use Rattle.desk_stream.specs.declared.hearing.FeedFault.TheVariants.{Memory as Wanting, Strange as Stranger}
 use Rattle.desk_stream.specs.declared.meant.Meant.{Meant}
 use Rattle.desk_stream.specs.declared.meant.Meant.TheVariants as meants
 use Rattle.desk_stream.specs.declared.planning.Called.{Called}
 use Rattle.desk_stream.specs.declared.reading.Step.{Step}
 use Rattle.desk_stream.specs.declared.reading.Step.TheVariants as steps
-use Rattle.desk_streaming.specs.Streaming.{held, Hears, IsEnd, IsHeld, IsLineHeard, IsSameBut, Lived, StopsAt}
+use Rattle.desk_streaming.specs.Streaming.{held, Hears, HearsFront, IsEnd, IsHeld, IsLineHeard, IsSameBut, Lived, StopsAt, WantsAt}
 use Rattle.seat_journal.specs.declared.entry.Entry.{Entry}
 use Rattle.seat_journal.specs.declared.entry.Work.{Work}
 use Rattle.seat_nesting.specs.Nesting.{Ladders}
@@ -148,9 +148,15 @@ module _ {D : Type 0} where
 
   pub stops_at : (old new : Feeding D) (line : List ℕ) (fault : FeedFault) → (fault ≡ Stranger → IsStrangeLine old line)
       → IsSamePending old.pending new.pending → (new.serving ≡ old.serving) × (new.flights ≡ old.flights) × (new.epoch ≡ old.epoch)
-      → fault ≡ Stranger → StopsAt new
-  stops_at old new line fault strange same but is =
-      record { old = old; line = line; strange = strange is; same = same; but = same_but old new but }
+      → new.reading ≡ read_behind old line → fault ≡ Stranger → StopsAt new
+  stops_at old new line fault strange same but read is =
+      record { old = old; line = line; strange = strange is; same = same; but = same_but old new but; read = read }
+
+  pub wants_at : (old new : Feeding D) (line : List ℕ) (fault : FeedFault) → (fault ≡ Wanting → IsOwnLine old line)
+      → IsSamePending old.pending new.pending → (new.serving ≡ old.serving) × (new.flights ≡ old.flights) × (new.epoch ≡ old.epoch)
+      → new.reading ≡ read_behind old line → fault ≡ Wanting → WantsAt new
+  wants_at old new line fault own same but read is =
+      record { old = old; line = line; own = own is; same = same; but = same_but old new but; read = read }
 
   -- ---- bytes
 
@@ -202,3 +208,17 @@ module _ {D : Type 0} where
       → Hears old before piece new after
   hears_all old new before after piece i so_far over =
       subst (λ (l : List ℕ). Hears old before l new after) (take_all i piece over) so_far
+
+  -- the bytes of a piece ahead of one by which nothing is heard
+  pub hears_front : (old mid new : Feeding D) (before between piece : List ℕ) (i : ℕ) → Hears old before (take i piece) mid between
+      → IsSamePending mid.pending new.pending → IsSameBut mid new → HearsFront old before piece new
+  hears_front old mid new before between piece i so_far same but = record {
+    part = take i piece;
+    rest = drop i piece;
+    whole = sym (take-append-drop i piece);
+    heard = mid;
+    held_is = between;
+    hears = so_far;
+    same = same;
+    same_but = but;
+  }

@@ -1,7 +1,13 @@
 pub mod Answering
 pub mod Breaking
+pub mod Days
+pub mod Entries
+pub mod Fewer
+pub mod Fresh
 pub mod Hearing
 pub mod Holding
 pub mod Opened
+pub mod Sealing
 pub mod Strangers
 pub mod Streamed
+pub mod Written

@@ -1,12 +1,13 @@
 -- A feed that is read to its end, piece by piece.
-use Rattle.std.specs.Prelude.{◌≡◌, ◌⊎◌, ℕ, Bool, true, false, Option, List, [], ◌∷◌, ◌++◌, codes, take}
+use Rattle.std.specs.Prelude.{◌≡◌, ◌⊎◌, ℕ, ◌≤◌, Bool, true, false, nat_le, if◌then◌else◌, Option, None, Some, List, [], ◌∷◌, ◌++◌, codes, take}
 use Rattle.std.specs.Io.KnownBytes.{Appends, Consumes, IsAtEnd}
 use Rattle.airline_base.specs.Lines.{is_line_feed}
-use Rattle.airline_base.specs.Noting.{noted}
+use Rattle.airline_base.specs.Noting.{noted, TookFront}
 use Rattle.desk_answers.specs.Hosts.{IsReady}
 use Rattle.desk_feed.specs.Feeding.{LivesThrough}
 use Rattle.desk_feed.specs.Progress.{one_more}
-use Rattle.desk_stream.specs.Feeds.{Feeding, HasComeAsFar, IsHeard, IsSameFeed, IsStrangeLine}
+use Rattle.desk_hall.specs.Booking.{IsBehindSome}
+use Rattle.desk_stream.specs.Feeds.{read_behind, Feeding, HasComeAsFar, IsHeard, IsOwnLine, IsSameFeed, IsStrangeLine}
 use Rattle.desk_stream.specs.Hearing.{ahead_of, come_to, IsSamePending}
 use Rattle.desk_stream.specs.Laws.{IsVeryCall}
 use Rattle.desk_stream.specs.Telling.{IsFeedTurn}
@@ -15,12 +16,12 @@ use Rattle.desk_stream.specs.declared.hearing.FeedFault.{FeedFault}
 use Rattle.desk_stream.specs.declared.hearing.FeedFault.TheVariants as hearings
 use Rattle.desk_stream.specs.declared.planning.Called.{Called}
 use Rattle.desk_streaming.specs.declared.fault.StreamFault.{StreamFault}
-use Rattle.desk_streaming.specs.declared.fault.StreamFault.TheVariants.{Input, Output, Memory, Strange, Journal}
+use Rattle.desk_streaming.specs.declared.fault.StreamFault.TheVariants.{Input, Output, Memory, Strange, Journal, Dating}
 use Rattle.seat_desk.specs.FlightsDesk.{IsText}
 use Rattle.seat_disk.specs.Growing.{KeepsFront}
 use Rattle.seat_recovery.specs.OpenText.{open_text}
 use Rattle.seat_rules.specs.Prefixes.{Begins}
-use Rattle.seat_scripts.specs.RunDesk.{at_any}
+use Rattle.seat_replies.specs.RunDesk.{at_any}
 use Rattle.seat_serving.specs.Answering.{behind}
 use Rattle.seat_serving.specs.Served.{Served}
 use Rattle.seat_serving.specs.declared.serving.ServeFault.{ServeFault}
@@ -55,6 +56,17 @@ Hears {D} old before (c ∷ bytes) new after =
     (IsHeld c × Hears old (held (before ++ c ∷ [])) bytes new after)
     ⊎ ((mid : Feeding D) × IsEnd c × IsLineHeard old mid (held (before ++ c ∷ [])) × Hears mid [] bytes new after)
 
+-- of a piece only a front is heard: nothing comes of the line behind it
+pub record HearsFront {D : Type 0} (old : Feeding D) (before piece : List ℕ) (new : Feeding D) : Type 0 where
+  pub part : List ℕ
+  pub rest : List ℕ
+  pub whole : piece ≡ part ++ rest
+  pub heard : Feeding D
+  pub held_is : List ℕ
+  pub hears : Hears old before part heard held_is
+  pub same : IsSamePending heard.pending new.pending
+  pub same_but : IsSameBut heard new
+
 -- the next line of the journal is none of the feed's: a line that was heard asks for another
 pub record StopsAt {D : Type 0} (feed : Feeding D) : Type 0 where
   pub old : Feeding D
@@ -62,6 +74,16 @@ pub record StopsAt {D : Type 0} (feed : Feeding D) : Type 0 where
   pub strange : IsStrangeLine old line
   pub same : IsSamePending old.pending feed.pending
   pub but : IsSameBut old feed
+  pub read : feed.reading ≡ read_behind old line
+
+-- memory is wanting for a line that was heard, which is the manager's or no stranger's
+pub record WantsAt {D : Type 0} (feed : Feeding D) : Type 0 where
+  pub old : Feeding D
+  pub line : List ℕ
+  pub own : IsOwnLine old line
+  pub same : IsSamePending old.pending feed.pending
+  pub but : IsSameBut old feed
+  pub read : feed.reading ≡ read_behind old line
 
 -- ---- what the journal is behind them
 
@@ -75,6 +97,19 @@ pub record Lived {D : Type 0} (old new : Feeding D) : Type 0 where
   pub grid_is : new.serving.grid ≡ old.serving.grid
   pub cap_is : new.serving.cap ≡ old.serving.cap
   pub flights_are : new.flights ≡ old.flights
+
+-- ---- the day
+
+-- the feed's day is the same or a later one
+abbrev pub IsNoEarlierDay : Option ℕ → Option ℕ → Type 0
+IsNoEarlierDay None after = Unit {0}
+IsNoEarlierDay (Some before) None = ⊥
+IsNoEarlierDay (Some before) (Some after) = before ≤ after
+
+-- the later of the day that the seal has and the feed's, where it has one
+abbrev pub later_day : ℕ → Option ℕ → ℕ
+later_day day None = day
+later_day day (Some today) = if nat_le today day then day else today
 
 -- ---- answers
 
@@ -173,6 +208,80 @@ pub record Breaks {D : Type 0} (seen : D → Option (List ℕ)) (leaves : D → 
   pub told : KeepsFront (open_text old.kept) (leaves new.tape)
   pub still : (fault ≡ Journal → ⊥) → IsReady seen leaves unsynced new
   pub device : fault ≡ Journal → failures new.tape ≡ noted (failures old.tape)
+
+-- what was heard is booked, and of what is told of it the writer took a front
+pub record IsToldFront {D : Type 0} (old new : Feeding D) (out_old out_new : Option (List ℕ)) : Type 0 where
+  pub booked : IsBooked old new
+  pub text : List ℕ
+  pub told : IsText (at_any (IsFeedTurn new.flights new.serving.grid new.serving.journal)) 0 new.pending.turns.items text
+  pub took : TookFront out_old out_new text
+
+-- the first of what was asked for is booked, or all of it, and nothing is told of it
+pub record IsUntold {D : Type 0} (old new : Feeding D) (out_old out_new : Option (List ℕ)) : Type 0 where
+  pub booked : IsBehindSome old.serving.grid old.serving.journal old.pending.asked.items new.serving.journal
+  pub none_asked : new.pending.asked.items ≡ []
+  pub out_is : out_new ≡ out_old
+
+-- what becomes of what was heard last, and what is written of it: nothing where the input failed or the day is not in the seal, but that a file failed, as
+-- far as that can be written; where the output failed it is booked, and a front of what is told of it is written; where memory is wanting for it some of
+-- it is booked, and nothing is written; and it is booked and told where memory is wanting for the next line, or that is a stranger's
+abbrev pub EndsIn : {D : Type 0} → StreamFault → Feeding D → Feeding D → Option (List ℕ) → Option (List ℕ) → Type 0
+EndsIn Input old new out_old out_new = (new ≡ old) × (out_new ≡ out_old)
+EndsIn (Dating fault) old new out_old out_new = (new ≡ old) × TookFront out_old out_new no_file_line
+EndsIn Journal old new out_old out_new = TookFront out_old out_new no_file_line
+EndsIn Output old new out_old out_new = IsToldFront old new out_old out_new
+EndsIn Memory old new out_old out_new = IsUntold old new out_old out_new ⊎ (IsAnswered old new out_old out_new × WantsAt old)
+EndsIn (Strange line number) old new out_old out_new = IsAnswered old new out_old out_new
+
+-- of what is told of lines that are booked a front is written
+pub record IsTakenFront {D : Type 0} (mid : Feeding D) (out_old out_new : Option (List ℕ)) : Type 0 where
+  pub text : List ℕ
+  pub told : IsText (at_any (IsFeedTurn mid.flights mid.serving.grid mid.serving.journal)) 0 mid.pending.turns.items text
+  pub took : TookFront out_old out_new text
+
+-- where it can't be told: nothing is written, or a front of it
+abbrev pub EndsTold : {D : Type 0} → StreamFault → Feeding D → Option (List ℕ) → Option (List ℕ) → Type 0
+EndsTold Output mid out_old out_new = IsTakenFront mid out_old out_new
+EndsTold fault mid out_old out_new = out_new ≡ out_old
+
+-- where nothing more is booked: some of it is, or the file failed, and that is said
+abbrev pub EndsBooked : {D : Type 0} → ServeFault → Feeding D → Feeding D → Type 0
+EndsBooked serves.Memory old new =
+    IsBehindSome old.serving.grid old.serving.journal old.pending.asked.items new.serving.journal × (new.pending.asked.items ≡ [])
+EndsBooked serves.Device old new = Unit {0}
+
+abbrev pub Says : ServeFault → Option (List ℕ) → Option (List ℕ) → Type 0
+Says serves.Memory out_old out_new = out_new ≡ out_old
+Says serves.Device out_old out_new = TookFront out_old out_new no_file_line
+
+-- of a piece, the next bytes of what is read, a front is heard, and the feed ends in this
+pub record IsBrokenPiece {D : Type 0} (old new : Feeding D) (before : List ℕ) (fault : StreamFault) (piece : List ℕ)
+    (out_old out_new : Option (List ℕ)) : Type 0 where
+  pub last : Feeding D
+  pub hears : HearsFront old before piece last
+  pub ends : EndsIn fault last new out_old out_new
+
+-- the next bytes of what is read, where it is known
+abbrev pub AreNext : List ℕ → Option (List ℕ) → Type 0
+AreNext bytes None = Unit {0}
+AreNext bytes (Some rest) = Begins bytes rest
+
+pub record IsBrokenTurn {D : Type 0} (old new : Feeding D) (before : List ℕ) (fault : StreamFault) (in_old out_old out_new : Option (List ℕ))
+    : Type 0 where
+  pub piece : List ℕ
+  pub are_next : AreNext piece in_old
+  pub broken : IsBrokenPiece old new before fault piece out_old out_new
+
+-- some pieces were read, each answered ahead of the next, and of the next one a front is heard, and told or not: what was written is what the whole feed is
+-- told, as far as it goes, but for the line of a file that failed
+pub record IsBrokenOff {D : Type 0} (old new : Feeding D) (before : List ℕ) (fault : StreamFault) (in_old out_old out_new : Option (List ℕ))
+    : Type 0 where
+  pub mid : Feeding D
+  pub between : List ℕ
+  pub in_mid : Option (List ℕ)
+  pub out_mid : Option (List ℕ)
+  pub reads : Reads old before mid between in_old in_mid out_old out_mid
+  pub broken : IsBrokenTurn mid new between fault in_mid out_mid out_new
 
 -- why nothing more is booked
 abbrev pub broken_by : ServeFault → StreamFault

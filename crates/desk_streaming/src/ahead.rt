@@ -1,6 +1,7 @@
 //! Bytes that are read ahead of whoever hears them, by a thread of its own: so a writer that reads no answer yet may write on for a while.
 //! It knows bytes, locks and a thread, and nothing of lines.
 use airline_base::Memory;
+use arrayvec::ArrayVec;
 use std::alloc::Global;
 use std::io::Read;
 use std::sync::{Arc, Condvar, Mutex, Wait};
@@ -12,6 +13,12 @@ const MOST_BYTES: usize = 1 << 20;
 
 /// The most that one read takes.
 const PIECE: usize = 4096;
+
+/// The most bytes of a first line, its end with it: enough to tell whether it is a day.
+const MOST_FIRST: usize = 259;
+
+/// A line that was looked at, or nothing.
+pub type FirstLine = ArrayVec<u8, MOST_FIRST>;
 
 /// What lies under the lock.
 #[derive(Drop)]
@@ -65,6 +72,29 @@ impl Basin {
         self.came.notify_one();
     }
 
+    /// Waits until a line came, or as many bytes as it may have, or all there is. The line with its end; nothing where it has none. It stays.
+    fn first_line<R: Wait>(&self, rt: &R) -> FirstLine {
+        let guard = self.waiting.lock(rt);
+        let waiting = self.came.wait_while(
+            rt,
+            guard,
+            |waiting| !waiting.is_over
+                && first_of(&waiting.bytes).is_none()
+                && waiting.bytes.len() < MOST_FIRST,
+        );
+        let mut line = FirstLine::new();
+        if let Some(bytes) = first_of(&waiting.bytes) {
+            for byte in bytes {
+                if line.is_full() {
+                    break;
+                }
+                line.push(*byte);
+            }
+        }
+        drop(waiting);
+        line
+    }
+
     /// Waits until something came, and takes all of it. What `bytes` had is given up. Whether what was read from has failed.
     fn take<R: Wait>(&self, rt: &R, bytes: &mut Vec<u8>) -> bool {
         bytes.clear();
@@ -105,6 +135,20 @@ impl<R: Wait> Read for AheadReader<R> {
         self.read = self.read.saturating_add(n);
         Ok(n)
     }
+}
+
+/// The line at the front with its end, where it has one.
+fn first_of(bytes: &[u8]) -> Option<&[u8]> {
+    let end = bytes.iter().position(|byte| *byte == b'\n')?;
+    bytes.get(..end.saturating_add(1))
+}
+
+/// The first line with its end, ahead of any read, once it came, where it is needed. It is read all the same. Nothing where it has no end.
+pub fn first_line<R: Wait>(reader: &AheadReader<R>, is_needed: bool) -> FirstLine {
+    if is_needed {
+        return reader.basin.first_line(&reader.rt);
+    }
+    FirstLine::new()
 }
 
 /// Starts the thread that reads ahead, up to 1 MiB of what nobody has taken. It ends with what it reads from, and nobody waits for it.

@@ -2,6 +2,7 @@
 ghost use Rattle.std.specs.Prelude.{◌≡◌, ◌≤◌, IfErr, IfSome, OnOk};
 ghost use Rattle.seat_desk.specs.Desk.{HasFailed};
 ghost use Rattle.desk_serving.specs.Daily.{IsOnDay, IsSealedOn, StaysNamed};
+ghost use Rattle.desk_streaming.specs.Streaming.{later_day};
 
 use airline_base::Day;
 use seat_desk::DeskFault;
@@ -9,8 +10,8 @@ use seat_disk::Replaced;
 use seat_restoring::seal_on;
 use seat_seal::Sealed;
 
-/// Puts a day of the feed into the seal, on its disk, where it is later than the one that the seal has. A feed that is lived again may be on an
-/// earlier one.
+/// Puts a day of the feed into the seal, on its disk, where it is later than the one that the seal has. A feed may be on an earlier one, as one is
+/// that is lived again: its lines are read on that, and the seal keeps its own.
 #[tactic(auto, using(desk_serving::proofs::Daily::sealed_same, desk_serving::proofs::Daily::sealed_on, desk_serving::proofs::Daily::stays_same, desk_serving::proofs::Daily::stays_with))]
 pub(crate) fn keep_later<K: Replaced>(
     day: &mut Day,
@@ -20,6 +21,7 @@ pub(crate) fn keep_later<K: Replaced>(
 ) -> Result<(), DeskFault>
     requires dated { IsOnDay day.old entry.old (K.may_leave seals.old) }
     ensures sealed { OnOk result (IsSealedOn K.named K.may_leave K.kept_may_leave K.failure_count day.new entry.old entry.new seals.old seals.new) }
+    ensures day { OnOk result (day.new ≡ later_day day.old today) }
     ensures since { OnOk result (IfSome today (λ it. it ≤ day.new)) }
     ensures stays { StaysNamed K.may_leave K.kept_may_leave entry.old seals.old seals.new }
     ensures device { IfErr result (λ f. f ≡ DeskFault.Device → HasFailed K.failure_count seals.old seals.new) }

@@ -4,6 +4,7 @@
 #![tactic(auto)]
 
 mod ahead;
+mod counting;
 mod day;
 mod fault;
 mod opening;
@@ -12,8 +13,7 @@ mod serving;
 mod streaming;
 mod telling;
 
-pub use ahead::{AheadReader, read_ahead};
+pub use ahead::{AheadReader, FirstLine, first_line, read_ahead};
 pub use fault::{FedFault, StreamFault};
-pub use opening::{day_known, has_fewer};
+pub use opening::{feed_day, has_fewer, needs_day};
 pub use serving::serve_feed;
-pub use streaming::stream;

@@ -1,7 +1,8 @@
 //! The bytes of a feed: each is held until its line ends, and the line is then heard.
-ghost use Rattle.std.specs.Prelude.{◌≡◌, ◌∷◌, ◌++◌, [], IfErr, OnOk};
-ghost use Rattle.desk_stream.specs.declared.hearing.FeedFault.TheVariants.{Strange as Stranger};
-ghost use Rattle.desk_streaming.specs.Streaming.{held, Hears, IsLineHeard, IsSameBut, Lived, StopsAt};
+ghost use Rattle.std.specs.Prelude.{◌≡◌, ◌∷◌, ◌++◌, [], IfErr, OnErr, OnOk};
+ghost use Rattle.desk_stream.specs.Hearing.{IsSamePending};
+ghost use Rattle.desk_stream.specs.declared.hearing.FeedFault.TheVariants.{Memory as Wanting, Strange as Stranger};
+ghost use Rattle.desk_streaming.specs.Streaming.{held, Hears, HearsFront, IsLineHeard, IsNoEarlierDay, IsSameBut, Lived, StopsAt, WantsAt};
 
 use arrayvec::ArrayVec;
 use desk_stream::{Feed, FeedFault};
@@ -12,7 +13,7 @@ use std::alloc::Global;
 pub(crate) type HeldLine = ArrayVec<u8, 259>;
 
 /// Hears the bytes of a piece behind those of a line that are held.
-#[tactic(auto, using(crate::proofs::Hearing::hears_none, crate::proofs::Hearing::lived_none, crate::proofs::Hearing::same_none, crate::proofs::Hearing::hears_all, crate::proofs::Hearing::hears_more, crate::proofs::Hearing::lived_on, crate::proofs::Hearing::same_on))]
+#[tactic(auto, using(crate::proofs::Hearing::hears_none, crate::proofs::Hearing::lived_none, crate::proofs::Hearing::same_none, crate::proofs::Hearing::hears_all, crate::proofs::Hearing::hears_more, crate::proofs::Hearing::lived_on, crate::proofs::Hearing::same_on, crate::proofs::Hearing::hears_front, crate::proofs::Days::same_day, crate::proofs::Days::days_on))]
 pub(crate) fn hear_piece<D: Tape>(
     alloc: Global,
     feed: &mut Feed<'_, D>,
@@ -20,8 +21,11 @@ pub(crate) fn hear_piece<D: Tape>(
     piece: &[u8],
 ) -> Result<(), FeedFault>
     ensures hears { OnOk result (Hears feed.old line.old.items piece.now feed.new line.new.items) }
+    ensures front { OnErr result (HearsFront feed.old line.old.items piece.now feed.new) }
     ensures lived { Lived feed.old feed.new }
     ensures strange { IfErr result (λ f. f ≡ Stranger → StopsAt feed.new) }
+    ensures memory { IfErr result (λ f. f ≡ Wanting → WantsAt feed.new) }
+    ensures days { IsNoEarlierDay feed.old.reading.today feed.new.reading.today }
     ensures same { IsSameBut feed.old feed.new }
 {
     for byte in piece {
@@ -34,7 +38,7 @@ pub(crate) fn hear_piece<D: Tape>(
 }
 
 // Holds a byte of a line, and hears the line where it ends it.
-#[tactic(auto, using(crate::proofs::Hearing::byte_held, crate::proofs::Hearing::line_ended, crate::proofs::Hearing::lived_none, crate::proofs::Hearing::same_none))]
+#[tactic(auto, using(crate::proofs::Hearing::byte_held, crate::proofs::Hearing::line_ended, crate::proofs::Hearing::lived_none, crate::proofs::Hearing::same_none, crate::proofs::Days::same_day))]
 fn hear_byte<D: Tape>(
     alloc: Global,
     feed: &mut Feed<'_, D>,
@@ -42,8 +46,11 @@ fn hear_byte<D: Tape>(
     byte: u8,
 ) -> Result<(), FeedFault>
     ensures hears { OnOk result (Hears feed.old line.old.items (byte ∷ []) feed.new line.new.items) }
+    ensures stays { OnErr result (IsSamePending feed.old.pending feed.new.pending) }
     ensures lived { Lived feed.old feed.new }
     ensures strange { IfErr result (λ f. f ≡ Stranger → StopsAt feed.new) }
+    ensures memory { IfErr result (λ f. f ≡ Wanting → WantsAt feed.new) }
+    ensures days { IsNoEarlierDay feed.old.reading.today feed.new.reading.today }
     ensures same { IsSameBut feed.old feed.new }
 {
     hold(line, byte);
@@ -60,11 +67,14 @@ fn hear_byte<D: Tape>(
 }
 
 // Hears a line.
-#[tactic(auto, using(crate::proofs::Hearing::line_lived, crate::proofs::Hearing::line_heard, crate::proofs::Hearing::same_lived, crate::proofs::Hearing::stops_at, crate::proofs::Hearing::same_but))]
+#[tactic(auto, using(crate::proofs::Hearing::line_lived, crate::proofs::Hearing::line_heard, crate::proofs::Hearing::same_lived, crate::proofs::Hearing::stops_at, crate::proofs::Hearing::wants_at, crate::proofs::Hearing::same_but, crate::proofs::Days::day_read))]
 fn hear_line<D: Tape>(alloc: Global, feed: &mut Feed<'_, D>, line: &[u8]) -> Result<(), FeedFault>
     ensures heard { OnOk result (IsLineHeard feed.old feed.new line.now) }
+    ensures stays { OnErr result (IsSamePending feed.old.pending feed.new.pending) }
     ensures lived { Lived feed.old feed.new }
     ensures strange { IfErr result (λ f. f ≡ Stranger → StopsAt feed.new) }
+    ensures memory { IfErr result (λ f. f ≡ Wanting → WantsAt feed.new) }
+    ensures days { IsNoEarlierDay feed.old.reading.today feed.new.reading.today }
     ensures same { IsSameBut feed.old feed.new }
 {
     match feed.hear(alloc, line) {

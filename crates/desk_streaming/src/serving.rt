@@ -4,10 +4,10 @@ ghost use Rattle.airline_base.specs.Days.{IsCenturyDay};
 ghost use Rattle.airline_base.specs.Noting.{noted};
 ghost use Rattle.desk_answers.specs.Hosts.{IsReady};
 ghost use Rattle.desk_serving.specs.Daily.{IsOfEpoch, IsOnDay, IsSealedStill, StaysNamed};
-ghost use Rattle.desk_streaming.specs.Serving.{IsFedTo, IsLivedTo, IsOfFeed, IsStrangeFed, is_of_journal};
-ghost use Rattle.desk_streaming.specs.declared.fault.FedFault.TheVariants.{Behind, Broken, Seal};
-ghost use Rattle.desk_streaming.specs.declared.fault.StreamFault.TheVariants.{Strange};
-ghost use Rattle.desk_talk.specs.Closing.{IsEndedUnsealed};
+ghost use Rattle.desk_streaming.specs.Serving.{IsFed, IsFedFront, IsFedOut, IsFedTo, IsFedUnsealed, IsLivedTo, IsOfFeed, IsStrangeFed, is_of_journal};
+ghost use Rattle.desk_streaming.specs.declared.fault.StreamFault.{StreamFault as Fault};
+ghost use Rattle.desk_streaming.specs.declared.fault.FedFault.TheVariants.{Behind, Broken, End, Seal};
+ghost use Rattle.desk_streaming.specs.declared.fault.StreamFault.TheVariants.{Dating, Input, Output, Strange};
 ghost use Rattle.desk_talk.specs.Ending.{IsEnded, IsLeftOpen};
 ghost use Rattle.seat_desk.specs.AuditDesk.{most_lines};
 ghost use Rattle.seat_desk.specs.Desk.{HasFailed};
@@ -19,12 +19,14 @@ ghost use Rattle.seat_restoring.specs.Dating.{IsDated, Stands};
 ghost use Rattle.seat_restoring.specs.Serving.{IsSealedEnd, NamesAll};
 ghost use Rattle.seat_rules.specs.Prefixes.{Begins};
 ghost use Rattle.seat_sealing.specs.Pairs.{NoneDenied};
+ghost use Rattle.seat_serving.specs.declared.serving.ServeFault.{ServeFault as EndFault};
 
 use crate::fault::FedFault;
 use crate::opening::feed_over;
 use crate::streaming::stream;
 use airline_base::{NotedRead, NotedWrite};
 use desk_answers::OpenHost;
+use desk_status::Board;
 use seat_desk::DeskFault;
 use seat_disk::{Replaced, Tape};
 use seat_restoring::seal_closed;
@@ -39,14 +41,16 @@ use std::sync::Wait;
 /// line is told under that day. Then the closed seal of all lines takes its place, of this basis, and with the day and the runs of the open one. Whatever a
 /// crash leaves of the two files, the seal has the journal's entry.
 ///
-/// The journal is then what the feed's numbered lines made of the lines that were there, each taken as it was at its first coming.
-#[tactic(auto, using(desk_talk::proofs::Closed::still_named, desk_talk::proofs::Closed::ended_named, desk_talk::proofs::Closed::ended_told, desk_talk::proofs::Closed::ended_unsealed, desk_talk::proofs::Closed::few_ended, desk_serving::proofs::Daily::on_day, desk_serving::proofs::Daily::stays_still, desk_serving::proofs::Daily::names_on, desk_serving::proofs::Daily::sealed_end, desk_serving::proofs::Daily::of_epoch, desk_serving::proofs::Daily::no_more_behind, desk_serving::proofs::Daily::failed_behind, crate::proofs::Opened::no_seal_over, crate::proofs::Opened::no_seal_failed))]
+/// The journal is then what the feed's numbered lines made of the lines that were there, each taken as it was at its first coming. What the host has
+/// come to stands on the board behind each piece.
+#[tactic(auto, using(desk_talk::proofs::Closed::still_named, desk_talk::proofs::Closed::ended_named, desk_talk::proofs::Closed::ended_told, desk_talk::proofs::Closed::few_ended, desk_serving::proofs::Daily::on_day, desk_serving::proofs::Daily::stays_still, desk_serving::proofs::Daily::names_on, desk_serving::proofs::Daily::sealed_end, desk_serving::proofs::Daily::of_epoch, desk_serving::proofs::Daily::no_more_behind, desk_serving::proofs::Daily::failed_behind, crate::proofs::Opened::no_seal_over, crate::proofs::Opened::no_seal_failed, crate::proofs::Written::no_seal_written, crate::proofs::Opened::no_seal_streamed, crate::proofs::Sealing::fed_sealed, crate::proofs::Sealing::fed_unsealed))]
 pub fn serve_feed<R: Wait, I: NotedRead, W: NotedWrite, D: Tape, K: Replaced>(
     rt: &R,
     alloc: Global,
     flights: &Flights,
     host: OpenHost<'_, D>,
     behind: u32,
+    board: &Board,
     input: &mut I,
     out: &mut W,
     basis: &Basis,
@@ -60,8 +64,8 @@ pub fn serve_feed<R: Wait, I: NotedRead, W: NotedWrite, D: Tape, K: Replaced>(
     requires named { NamesAll host.serving.kept (K.may_leave seals.old) }
     requires stands { Stands begun host.serving.kept (K.may_leave seals.old) }
     requires dated { IsDated host.desk.today begun.era }
-    ensures fed { IfOk result (λ r. IfSome (I.remaining input.old) (IsFedTo flights.now host.entry.serving begun.era.epoch behind
-        (W.contents out.old) (W.contents out.new) r.0.journal)) }
+    ensures fed { IfOk result (λ r. IfSome (I.remaining input.old) (IsFed flights.now host.entry.serving begun.era.epoch behind
+        host.entry.desk.today (K.may_leave seals.new) (W.contents out.old) (W.contents out.new) r.0.journal)) }
     ensures lived { IfOk result (λ r. IsLivedTo flights.now host.entry.serving behind r.0.journal) }
     ensures ended { IfOk result (λ r. IsEnded host.entry.serving.grid host.entry.serving.cap r.0 (D.seen r.1)
         (D.may_leave r.1) (D.unsynced r.1)) }
@@ -80,14 +84,24 @@ pub fn serve_feed<R: Wait, I: NotedRead, W: NotedWrite, D: Tape, K: Replaced>(
     ensures behind { IfErr result (λ f. f.0 ≡ Behind → length host.entry.serving.journal < behind) }
     ensures strange { IfErr result (λ f. (a b : ℕ) → f.0 ≡ Broken (Strange a b) → IsStrangeFed flights.now host.entry.serving begun.era.epoch
         behind a b (D.seen f.1) (D.may_leave f.1)) }
+    ensures broken { IfErr result (λ f. (b : Fault) → f.0 ≡ Broken b → IsFedFront flights.now host.entry.serving begun.era.epoch behind b
+        (I.remaining input.old) (W.contents out.old) (W.contents out.new) (D.seen f.1) (D.may_leave f.1)) }
+    ensures streamed { IfErr result (λ f. (e : EndFault) → f.0 ≡ End e → IfSome (I.remaining input.old) (IsFedOut flights.now host.entry.serving
+        begun.era.epoch behind (W.contents out.old) (W.contents out.new))) }
+    ensures input { IfErr result (λ f. f.0 ≡ Broken Input → I.failure_count input.new ≡ noted (I.failure_count input.old)) }
+    ensures output { IfErr result (λ f. f.0 ≡ Broken Output → W.failure_count out.new ≡ noted (W.failure_count out.old)) }
+    ensures dating { IfErr result (λ f. f.0 ≡ Broken (Dating DeskFault.Device) → HasFailed K.failure_count seals.old seals.new) }
+    ensures unheard { IfErr result (λ f. f.0 ≡ Behind → (input.new ≡ input.old) × (out.new ≡ out.old) × (seals.new ≡ seals.old)
+        × (f.1 ≡ host.entry.serving.tape)) }
     ensures unsealed { IfErr result (λ f. IsOfFeed f.0 → NamesAll host.entry.serving.kept (K.may_leave seals.new)) }
-    ensures over { IfErr result (λ f. (e : DeskFault) → f.0 ≡ Seal e → IsEndedUnsealed host.entry.serving.kept (D.seen f.1)
-        (D.may_leave f.1) (D.unsynced f.1)) }
+    ensures over { IfErr result (λ f. (e : DeskFault) → f.0 ≡ Seal e → IsFedUnsealed flights.now host.entry.serving begun.era.epoch behind
+        host.entry.desk.today basis.now begun.runs e (I.remaining input.old) (W.contents out.old) (W.contents out.new) (D.seen f.1)
+        (D.may_leave f.1) (D.unsynced f.1) (K.may_leave seals.new)) }
     ensures device { IfErr result (λ f. f.0 ≡ Seal DeskFault.Device → HasFailed K.failure_count seals.old seals.new) }
 {
     let mut entry = begun;
     let served = match serve_ended(
-        rt, alloc, flights, host, behind, input, out, &mut entry, seals,
+        rt, alloc, flights, host, behind, board, input, out, &mut entry, seals,
     ) {
         Ok(served) => served,
         Err(refused) => return Err(refused),
@@ -100,13 +114,14 @@ pub fn serve_feed<R: Wait, I: NotedRead, W: NotedWrite, D: Tape, K: Replaced>(
 }
 
 // Serves the feed to its end, and ends the journal. Where the feed is broken off the journal is left open.
-#[tactic(auto, using(desk_serving::proofs::Goes::ready_as, desk_serving::proofs::Ended::ended_front, desk_serving::proofs::Ended::told_at_once, desk_serving::proofs::Ended::left_at_once, desk_serving::proofs::Daily::stays_same, desk_serving::proofs::Daily::stays_on, desk_serving::proofs::Daily::some_day, desk_serving::proofs::Goes::goes_from, desk_serving::proofs::Daily::day_as, crate::proofs::Opened::none_asked_yet, crate::proofs::Opened::breaks_over, crate::proofs::Opened::told_broken, crate::proofs::Opened::left_broken, crate::proofs::Opened::counts_broken, crate::proofs::Opened::left_ended, crate::proofs::Opened::counts_ended, crate::proofs::Opened::no_journal_yet, crate::proofs::Opened::of_feed, crate::proofs::Opened::no_stranger))]
+#[tactic(auto, using(desk_serving::proofs::Goes::ready_as, desk_serving::proofs::Ended::ended_front, desk_serving::proofs::Ended::told_at_once, desk_serving::proofs::Ended::left_at_once, desk_serving::proofs::Daily::stays_same, desk_serving::proofs::Daily::stays_on, desk_serving::proofs::Daily::some_day, desk_serving::proofs::Goes::goes_from, desk_serving::proofs::Daily::day_as, crate::proofs::Opened::none_asked_yet, crate::proofs::Opened::breaks_over, crate::proofs::Opened::told_broken, crate::proofs::Opened::left_broken, crate::proofs::Opened::counts_broken, crate::proofs::Opened::left_ended, crate::proofs::Opened::counts_ended, crate::proofs::Opened::no_journal_yet, crate::proofs::Opened::of_feed, crate::proofs::Opened::no_stranger, crate::proofs::Written::nothing_written, crate::proofs::Written::fed_off, crate::proofs::Written::no_stream, crate::proofs::Opened::no_opening_streamed, crate::proofs::Opened::no_broken_streamed, crate::proofs::Opened::fed_out, crate::proofs::Fresh::since_begun, crate::proofs::Opened::no_opening_input, crate::proofs::Opened::no_opening_output, crate::proofs::Opened::no_opening_date))]
 fn serve_ended<R: Wait, I: NotedRead, W: NotedWrite, D: Tape, K: Replaced>(
     rt: &R,
     alloc: Global,
     flights: &Flights,
     host: OpenHost<'_, D>,
     behind: u32,
+    board: &Board,
     input: &mut I,
     out: &mut W,
     entry: &mut Sealed,
@@ -117,7 +132,7 @@ fn serve_ended<R: Wait, I: NotedRead, W: NotedWrite, D: Tape, K: Replaced>(
     requires ready { IsReady D.seen D.may_leave D.unsynced host.serving }
     requires dated { IsOnDay host.desk.today entry.old (K.may_leave seals.old) }
     ensures fed { IfOk result (λ r. IfSome (I.remaining input.old) (IsFedTo flights.now host.entry.serving entry.old.era.epoch behind
-        (W.contents out.old) (W.contents out.new) r.0.journal)) }
+        host.entry.desk.today entry.new.era (W.contents out.old) (W.contents out.new) r.0.journal)) }
     ensures lived { IfOk result (λ r. IsLivedTo flights.now host.entry.serving behind r.0.journal) }
     ensures ended { IfOk result (λ r. IsEnded host.entry.serving.grid host.entry.serving.cap r.0 (D.seen r.1)
         (D.may_leave r.1) (D.unsynced r.1)) }
@@ -130,6 +145,15 @@ fn serve_ended<R: Wait, I: NotedRead, W: NotedWrite, D: Tape, K: Replaced>(
     ensures behind { IfErr result (λ f. f.0 ≡ Behind → length host.entry.serving.journal < behind) }
     ensures strange { IfErr result (λ f. (a b : ℕ) → f.0 ≡ Broken (Strange a b) → IsStrangeFed flights.now host.entry.serving
         entry.old.era.epoch behind a b (D.seen f.1) (D.may_leave f.1)) }
+    ensures broken { IfErr result (λ f. (b : Fault) → f.0 ≡ Broken b → IsFedFront flights.now host.entry.serving entry.old.era.epoch behind b
+        (I.remaining input.old) (W.contents out.old) (W.contents out.new) (D.seen f.1) (D.may_leave f.1)) }
+    ensures streamed { IfErr result (λ f. (e : EndFault) → f.0 ≡ End e → IfSome (I.remaining input.old) (IsFedOut flights.now host.entry.serving
+        entry.old.era.epoch behind (W.contents out.old) (W.contents out.new))) }
+    ensures input { IfErr result (λ f. f.0 ≡ Broken Input → I.failure_count input.new ≡ noted (I.failure_count input.old)) }
+    ensures output { IfErr result (λ f. f.0 ≡ Broken Output → W.failure_count out.new ≡ noted (W.failure_count out.old)) }
+    ensures dating { IfErr result (λ f. f.0 ≡ Broken (Dating DeskFault.Device) → HasFailed K.failure_count seals.old seals.new) }
+    ensures unheard { IfErr result (λ f. f.0 ≡ Behind → (input.new ≡ input.old) × (out.new ≡ out.old) × (seals.new ≡ seals.old)
+        × (f.1 ≡ host.entry.serving.tape)) }
     ensures kind { IfErr result (λ f. IsOfFeed f.0) }
     ensures sealed { OnOk result (IsSealedStill K.named K.may_leave K.kept_may_leave K.failure_count entry.old entry.new seals.old seals.new) }
     ensures stays { StaysNamed K.may_leave K.kept_may_leave entry.old seals.old seals.new }
@@ -140,7 +164,9 @@ fn serve_ended<R: Wait, I: NotedRead, W: NotedWrite, D: Tape, K: Replaced>(
         Err(refused) => return Err(refused),
     };
     let mut feed = opened;
-    let streamed = stream(rt, alloc, &mut feed, &mut day, entry, seals, input, out);
+    let streamed = stream(
+        rt, alloc, &mut feed, &mut day, entry, seals, board, input, out,
+    );
     let serving = feed.into_serving();
     match streamed {
         Ok(()) => match serving.end(rt, alloc) {

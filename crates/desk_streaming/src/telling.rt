@@ -1,11 +1,13 @@
 //! What a piece of a feed is answered: its days are sealed, what it asks for is booked, and what is told of it is written.
-ghost use Rattle.std.specs.Prelude.{◌≡◌, ◌≤◌, IfErr, IfSome, OnOk};
+ghost use Rattle.std.specs.Prelude.{◌≡◌, ◌≤◌, IfErr, IfSome, OnErr, OnOk};
 ghost use Rattle.airline_base.specs.Noting.{noted, TookFront};
 ghost use Rattle.desk_answers.specs.Hosts.{IsReady};
 ghost use Rattle.desk_serving.specs.Daily.{IsOnDay, IsSealedOn, StaysNamed};
 ghost use Rattle.desk_serving.specs.Going.{Fails, GoesOn};
-ghost use Rattle.desk_streaming.specs.Streaming.{broken_by, no_file_line, Breaks, IsAnswered, IsBooked, IsOfAnswer, IsOfTelling, IsToldTo, Lived};
-ghost use Rattle.desk_streaming.specs.declared.fault.StreamFault.TheVariants.{Output};
+ghost use Rattle.desk_streaming.specs.Streaming.{broken_by, later_day, no_file_line, Breaks, EndsBooked, EndsIn, EndsTold, IsAnswered, IsBooked, IsOfAnswer, IsOfTelling, IsToldTo, Lived, Says};
+ghost use Rattle.desk_streaming.specs.declared.fault.StreamFault.TheVariants.{Dating, Output};
+ghost use Rattle.seat_desk.specs.Desk.{HasFailed};
+ghost use Rattle.seat_desk.specs.declared.fault.DeskFault.TheVariants.{Device as NoSeal};
 
 use crate::day::keep_later;
 use crate::fault::StreamFault;
@@ -18,7 +20,7 @@ use std::alloc::Global;
 use std::sync::Wait;
 
 /// Answers what was heard. A later day is in the seal, on its disk, before anything is told under it.
-#[tactic(auto, using(desk_serving::proofs::Daily::stays_on, desk_serving::proofs::Daily::on_day_of, crate::proofs::Answering::is_answered, crate::proofs::Answering::lived_answered, desk_serving::proofs::Goes::goes_as, crate::proofs::Answering::since_booked, crate::proofs::Breaking::breaks_sealed, crate::proofs::Breaking::breaks_booked, crate::proofs::Breaking::breaks_told, crate::proofs::Breaking::of_booking, crate::proofs::Breaking::of_telling, crate::proofs::Breaking::no_output))]
+#[tactic(auto, using(desk_serving::proofs::Daily::stays_on, desk_serving::proofs::Daily::on_day_of, crate::proofs::Answering::is_answered, crate::proofs::Answering::lived_answered, desk_serving::proofs::Goes::goes_as, crate::proofs::Answering::since_booked, crate::proofs::Breaking::breaks_sealed, crate::proofs::Breaking::breaks_booked, crate::proofs::Breaking::breaks_told, crate::proofs::Breaking::of_booking, crate::proofs::Breaking::of_telling, crate::proofs::Breaking::no_output, crate::proofs::Breaking::dating_failed, crate::proofs::Breaking::no_dating, crate::proofs::Breaking::told_undated, crate::proofs::Written::ends_told, crate::proofs::Written::ends_booked, crate::proofs::Written::ends_undated))]
 pub(crate) fn answer_heard<R: Wait, W: NotedWrite, D: Tape, K: Replaced>(
     rt: &R,
     alloc: Global,
@@ -36,7 +38,11 @@ pub(crate) fn answer_heard<R: Wait, W: NotedWrite, D: Tape, K: Replaced>(
     ensures breaks { IfErr result (Breaks D.seen D.may_leave D.unsynced D.failure_count feed.old.serving feed.new.serving) }
     ensures sealed { OnOk result (IsSealedOn K.named K.may_leave K.kept_may_leave K.failure_count day.new entry.old entry.new seals.old seals.new) }
     ensures stays { StaysNamed K.may_leave K.kept_may_leave entry.old seals.old seals.new }
+    ensures counted { OnOk result (W.failure_count out.new ≡ W.failure_count out.old) }
     ensures output { IfErr result (λ f. f ≡ Output → W.failure_count out.new ≡ noted (W.failure_count out.old)) }
+    ensures dating { IfErr result (λ f. f ≡ Dating NoSeal → HasFailed K.failure_count seals.old seals.new) }
+    ensures ends { IfErr result (λ f. EndsIn f feed.old feed.new (W.contents out.old) (W.contents out.new)) }
+    ensures day { OnOk result (day.new ≡ later_day day.old feed.old.reading.today) }
     ensures kind { IfErr result IsOfAnswer }
 {
     if let Err(fault) = keep_later(day, feed.today(), entry, seals) {
@@ -53,7 +59,7 @@ pub(crate) fn answer_heard<R: Wait, W: NotedWrite, D: Tape, K: Replaced>(
 }
 
 // Books what was heard.
-#[tactic(auto, using(crate::proofs::Answering::is_booked, crate::proofs::Answering::goes_booked, crate::proofs::Breaking::fails_booked))]
+#[tactic(auto, using(crate::proofs::Answering::is_booked, crate::proofs::Answering::goes_booked, crate::proofs::Breaking::fails_booked, crate::proofs::Written::ends_unbooked))]
 fn book_heard<R: Wait, D: Tape>(
     rt: &R,
     alloc: Global,
@@ -63,6 +69,7 @@ fn book_heard<R: Wait, D: Tape>(
     ensures booked { OnOk result (IsBooked feed.old feed.new) }
     ensures goes { OnOk result (GoesOn D.seen D.may_leave D.unsynced D.failure_count feed.old.serving feed.new.serving) }
     ensures fails { IfErr result (Fails D.seen D.may_leave D.unsynced D.failure_count feed.old.serving feed.new.serving) }
+    ensures ends { IfErr result (λ f. EndsBooked f feed.old feed.new) }
 {
     match feed.answer(rt, alloc) {
         Ok(()) => Ok(()),
@@ -71,7 +78,7 @@ fn book_heard<R: Wait, D: Tape>(
 }
 
 // Writes what is told of it.
-#[tactic(auto, using(crate::proofs::Answering::is_told_to, crate::proofs::Answering::same_serving, crate::proofs::Answering::told_serving))]
+#[tactic(auto, using(crate::proofs::Answering::is_told_to, crate::proofs::Answering::same_serving, crate::proofs::Answering::told_serving, crate::proofs::Written::took_front))]
 fn tell_heard<W: NotedWrite, D: Tape, K: Replaced>(
     alloc: Global,
     feed: &mut Feed<'_, D>,
@@ -84,7 +91,10 @@ fn tell_heard<W: NotedWrite, D: Tape, K: Replaced>(
     requires since { IfSome feed.old.reading.today (λ it. it ≤ day) }
     ensures told { OnOk result (IsToldTo feed.old feed.new (W.contents out.old) (W.contents out.new)) }
     ensures same { feed.new.serving ≡ feed.old.serving }
+    ensures untold { OnErr result (feed.new ≡ feed.old) }
+    ensures counted { OnOk result (W.failure_count out.new ≡ W.failure_count out.old) }
     ensures output { IfErr result (λ f. f ≡ Output → W.failure_count out.new ≡ noted (W.failure_count out.old)) }
+    ensures ends { IfErr result (λ f. EndsTold f feed.old (W.contents out.old) (W.contents out.new)) }
     ensures kind { IfErr result IsOfTelling }
 {
     let Ok(text) = feed.told(alloc) else {
@@ -99,7 +109,8 @@ fn tell_heard<W: NotedWrite, D: Tape, K: Replaced>(
 
 // Why nothing more is booked.
 fn unbooked<W: NotedWrite>(out: &mut W, fault: ServeFault) -> StreamFault
-    ensures { result ≡ broken_by fault }
+    ensures value { result ≡ broken_by fault }
+    ensures says { Says fault (W.contents out.old) (W.contents out.new) }
 {
     match fault {
         ServeFault::Memory => StreamFault::Memory,

@@ -1,7 +1,8 @@
 -- The rows of groups: none where nothing was held or came.
-use Rattle.std.proofs.Common.{Bool, true, false, ◌≡◌, ℕ, ◌-◌, ◌<◌, ◌≤◌, List, [], ◌∷◌, length, get_or, refl, sym, ap, subst, ◌∙◌, arith}
+use Rattle.std.proofs.Common.{Bool, true, false, ◌≡◌, ℕ, ◌+◌, ◌-◌, ◌<◌, ◌≤◌, List, [], ◌∷◌, length, get_or, refl, sym, ap, subst, ◌∙◌, arith}
 use Rattle.ssim_flights.specs.declared.flight.DatedLeg.{DatedLeg}
 use Rattle.ssim_flights.specs.declared.flight.Flight.{Flight as Flown}
+use Rattle.seat_pickup.specs.Pickups.{has_any}
 use Rattle.seat_pickup.specs.declared.classes.Pickup.{Pickup}
 use Rattle.seat_tables.specs.Sheets.{ArePut, IsReady}
 use Rattle.seat_tables.specs.declared.cell.Cell.{Cell}
@@ -10,10 +11,11 @@ use Rattle.seat_tables.specs.declared.sheet.Sheet.{Sheet}
 use Rattle.table_questions.proofs.Tables.{rows_kept, rows_left}
 use Rattle.table_questions.specs.Tables.{kept_rows}
 use Rattle.pickup_questions.specs.GroupRows.{class_cells, class_names, day_cells, day_names, flight_cells, flight_names, rows_of_class, rows_of_flight, rows_on_day, start_cell}
-use Rattle.pickup_questions.specs.Groups.{by_class, by_flight, group_of, has_any, start_group, sums_in}
+use Rattle.pickup_questions.specs.LegRows.{leg_cells, leg_names, rows_of_leg}
+use Rattle.pickup_questions.specs.Groups.{by_class, by_flight, group_of, start_group, sums_in}
 use Rattle.pickup_questions.specs.declared.groups.Groups.{Groups}
 use Rattle.pickup_questions.specs.declared.groups.Groups.TheVariants.{Flights, Classes}
-use Rattle.pickup_questions.specs.declared.moved.MoveSums.{MoveSums}
+use Rattle.seat_pickup.specs.declared.moved.MoveSums.{MoveSums}
 
 -- the row of these sums, or none
 group_left : (names : List (List ℕ)) (cells : MoveSums → List Cell) (sums right : MoveSums) (any : Bool) (sheet : Sheet)
@@ -69,6 +71,18 @@ pub day_kept : (group : Pickup → ℕ) (all : List Pickup) (k day : ℕ) (sums 
     → ArePut day_names (rows_on_day group all k day) old new
 day_kept group all k day sums any old new same is e put =
     group_kept day_names (λ s. day_cells day s) sums (sums_in group k all) any old new same is e put
+
+-- of a leg
+pub leg_left : (moved : ℕ → ℕ → MoveSums) (i : ℕ) (flight : Flown) (j : ℕ) (leg : DatedLeg) (sums : MoveSums) (any : Bool) (sheet : Sheet)
+    → sums ≡ moved i (65 + j) → any ≡ has_any sums → any ≡ false → IsReady sheet → ArePut leg_names (rows_of_leg moved i flight j leg) sheet sheet
+leg_left moved i flight j leg sums any sheet same is e ready =
+    group_left leg_names (λ s. leg_cells i flight leg s) sums (moved i (65 + j)) any sheet same is e ready
+
+pub leg_kept : (moved : ℕ → ℕ → MoveSums) (i : ℕ) (flight : Flown) (j : ℕ) (leg : DatedLeg) (sums : MoveSums) (any : Bool) (old new : Sheet)
+    → sums ≡ moved i (65 + j) → any ≡ has_any sums → any ≡ true → ArePut leg_names (leg_cells i flight leg sums ∷ []) old new
+    → ArePut leg_names (rows_of_leg moved i flight j leg) old new
+leg_kept moved i flight j leg sums any old new same is e put =
+    group_kept leg_names (λ s. leg_cells i flight leg s) sums (moved i (65 + j)) any old new same is e put
 
 -- ---- the first leg
 

@@ -7,7 +7,7 @@ use Rattle.seat_pickup.specs.declared.classes.Pickup.{Pickup}
 use Rattle.pickup_questions.specs.Groups.{AreMoved, AreSums, counts_in, group_of, move_of, sum_in, sums_in}
 use Rattle.pickup_questions.specs.declared.groups.Move.{Move}
 use Rattle.pickup_questions.specs.declared.moved.Moved.{Moved}
-use Rattle.pickup_questions.specs.declared.moved.MoveSums.{MoveSums}
+use Rattle.seat_pickup.specs.declared.moved.MoveSums.{MoveSums}
 
 pub moved_none : (group : Pickup → ℕ) (count : ℕ) (of : Move) (all : List Pickup) (row : List ℕ) → row ≡ replicate count 0
     → AreMoved group count of (take 0 all) row

@@ -2,14 +2,15 @@
 use Rattle.std.specs.Prelude.{ℕ, ◌+◌, ◌-◌, List, [], ◌∷◌, codes}
 use Rattle.ssim_flights.specs.declared.flight.DatedLeg.{DatedLeg}
 use Rattle.ssim_flights.specs.declared.flight.Flight.{Flight as Flown}
+use Rattle.seat_pickup.specs.Pickups.{has_any}
 use Rattle.seat_pickup.specs.declared.classes.Pickup.{Pickup}
 use Rattle.seat_tables.specs.Rows.{rows_from}
 use Rattle.seat_tables.specs.declared.cell.Cell.{Cell}
 use Rattle.seat_tables.specs.declared.cell.Cell.TheVariants.{Number, Date, Letter, Flight, Nothing}
 use Rattle.table_questions.specs.Tables.{kept_rows}
 use Rattle.table_questions.specs.SumRows.{day_count, days_from, rows_of_each}
-use Rattle.pickup_questions.specs.Groups.{by_class, by_flight, by_given, has_any, start_groups, sums_in}
-use Rattle.pickup_questions.specs.declared.moved.MoveSums.{MoveSums}
+use Rattle.pickup_questions.specs.Groups.{by_class, by_flight, by_given, start_groups, sums_in}
+use Rattle.seat_pickup.specs.declared.moved.MoveSums.{MoveSums}
 
 -- the names of the sums, and the sums
 abbrev pub sums_names : List (List ℕ)

@@ -1,5 +1,5 @@
 -- Rows of pickup in groups, and what the rows of each group come to.
-use Rattle.std.specs.Prelude.{◌≡◌, ◌<◌, ◌||◌, nat_lt, ℕ, ◌-◌, ◌==◌, Bool, List, [], ◌∷◌, length, slice_get, slice_index_or, unwrap_or, if◌then◌else◌}
+use Rattle.std.specs.Prelude.{◌≡◌, ◌<◌, ℕ, ◌-◌, ◌==◌, List, [], ◌∷◌, length, slice_get, slice_index_or, unwrap_or, if◌then◌else◌}
 use Rattle.std.specs.List.{sum_by}
 use Rattle.ssim_flights.specs.declared.flight.DatedLeg.{DatedLeg}
 use Rattle.ssim_flights.specs.declared.flight.Flight.{Flight as Flown}
@@ -9,7 +9,7 @@ use Rattle.pickup_questions.specs.declared.groups.Groups.TheVariants.{Flights, C
 use Rattle.pickup_questions.specs.declared.groups.Move.{Move}
 use Rattle.pickup_questions.specs.declared.groups.Move.TheVariants.{Before, Sold, Cancelled, Confirmed, Held}
 use Rattle.pickup_questions.specs.declared.moved.Moved.{Moved}
-use Rattle.pickup_questions.specs.declared.moved.MoveSums.{MoveSums}
+use Rattle.seat_pickup.specs.declared.moved.MoveSums.{MoveSums}
 
 abbrev pub move_of : Move → Pickup → ℕ
 move_of Before p = p.before
@@ -68,10 +68,6 @@ sums_in group k all = record {
   confirmed = sum_in group k Confirmed all;
   held = sum_in group k Held all;
 }
-
--- a group in which nothing was held or came has no row
-abbrev pub has_any : MoveSums → Bool
-has_any sums = nat_lt 0 sums.before || nat_lt 0 sums.sold || nat_lt 0 sums.confirmed
 
 -- ---- the days of flights
 

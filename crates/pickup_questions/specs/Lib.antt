@@ -1,4 +1,5 @@
 pub mod OlderText
 pub mod Groups
 pub mod GroupRows
+pub mod LegRows
 pub mod PickupRows

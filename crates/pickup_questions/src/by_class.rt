@@ -8,9 +8,9 @@ ghost use Rattle.pickup_questions.specs.GroupRows.{class_cells, class_names, cla
 ghost use Rattle.pickup_questions.specs.declared.groups.Groups.TheVariants.{Classes};
 
 use crate::groups::Groups;
-use crate::moved::{MoveSums, Moved, has_any, moved_by, sums_at};
+use crate::moved::{Moved, moved_by, sums_at};
 use airline_base::{Class, Memory};
-use seat_pickup::Pickup;
+use seat_pickup::{MoveSums, Pickup, has_any};
 use seat_tables::{Cell, Form, Sheet, put_row};
 use std::alloc::Global;
 

@@ -10,9 +10,9 @@ ghost use Rattle.pickup_questions.specs.GroupRows.{day_cells, day_names, day_row
 ghost use Rattle.pickup_questions.specs.declared.groups.Groups.TheVariants.{Given};
 
 use crate::groups::Groups;
-use crate::moved::{MoveSums, Moved, has_any, moved_by, sums_at};
+use crate::moved::{Moved, moved_by, sums_at};
 use airline_base::{Day, Memory};
-use seat_pickup::Pickup;
+use seat_pickup::{MoveSums, Pickup, has_any};
 use seat_tables::{Cell, Form, Sheet, put_row};
 use ssim_flights::{DatedLeg, Flights};
 use std::alloc::Global;

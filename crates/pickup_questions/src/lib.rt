@@ -1,16 +1,17 @@
-//! What the lines of a journal behind older ones made of the seats, as tables: class by class, or the sums by flight, by class or by day.
+//! What the lines of a journal behind older ones made of the seats, as tables: class by class or leg by leg, or the sums by flight, by class or by day.
 //! It knows what a row says, and leaves how one is spelled, and every number, to the crates below.
 #![tactic(auto)]
 
 mod by_class;
 mod by_day;
 mod by_flight;
+mod by_leg;
 mod groups;
 mod moved;
 mod older;
 mod pickup;
 
 pub use groups::{Groups, Move};
-pub use moved::{MoveSums, Moved};
+pub use moved::Moved;
 pub use older::read_older;
 pub use pickup::{By, PickupOf};

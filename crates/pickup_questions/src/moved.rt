@@ -1,11 +1,11 @@
 //! All that rows of pickup come to, group by group.
 //! It knows no table.
-ghost use Rattle.std.specs.Prelude.{◌≡◌, ◌<◌, ◌||◌, IfOk, nat_lt};
-ghost use Rattle.pickup_questions.specs.Groups.{AreSums, group_of, has_any, sums_in};
+ghost use Rattle.std.specs.Prelude.{◌≡◌, ◌<◌, IfOk};
+ghost use Rattle.pickup_questions.specs.Groups.{AreSums, group_of, sums_in};
 
 use crate::groups::{Groups, Move, summed};
 use airline_base::Memory;
-use seat_pickup::Pickup;
+use seat_pickup::{MoveSums, Pickup};
 use std::alloc::Global;
 
 /// The sums of rows by group.
@@ -21,16 +21,6 @@ pub struct Moved<'a> {
     pub cancelled: Vec<u64>,
     pub confirmed: Vec<u64>,
     pub held: Vec<u64>,
-}
-
-/// What the rows of a group come to.
-#[derive(Clone, Copy)]
-pub struct MoveSums {
-    pub before: u64,
-    pub sold: u64,
-    pub cancelled: u64,
-    pub confirmed: u64,
-    pub held: u64,
 }
 
 /// The sums of these rows by so many groups.
@@ -76,11 +66,4 @@ pub fn sums_at(moved: &Moved<'_>, group: usize) -> MoveSums
         confirmed: moved.confirmed[group],
         held: moved.held[group],
     }
-}
-
-/// Whether anything was held in a group before, or came.
-pub fn has_any(sums: &MoveSums) -> bool
-    ensures { result ≡ has_any sums.now }
-{
-    0 < sums.before || 0 < sums.sold || 0 < sums.confirmed
 }

@@ -6,13 +6,14 @@ ghost use Rattle.seat_desk.specs.AuditDesk.{most_journal_bytes, most_lines};
 ghost use Rattle.seat_tables.specs.Rows.{IsTable, rows_from};
 ghost use Rattle.seat_tables.specs.Sheets.{ArePut, IsReady};
 ghost use Rattle.seat_pickup.specs.Older.{past_lines};
-ghost use Rattle.seat_pickup.specs.Pickups.{pickups_of};
+ghost use Rattle.seat_pickup.specs.Pickups.{moved_behind, pickups_of};
 ghost use Rattle.pickup_questions.specs.Groups.{move_of};
 ghost use Rattle.pickup_questions.specs.PickupRows.{IsPickupOver, IsPickupRefused, IsPickupText, names_by, pickup_names, pickup_row, rows_by, rows_of_pickup, sum_text, sums_part, sums_text};
 
 use crate::by_class::class_table;
 use crate::by_day::day_table;
 use crate::by_flight::flight_table;
+use crate::by_leg::leg_table;
 use crate::groups::{Move, move_of};
 use airline_base::Memory;
 use seat_core::Core;
@@ -43,6 +44,8 @@ pub enum By {
     /// A class of a flight.
     EachRow,
     EachFlight,
+    /// A leg of a flight: a booking counts on each leg of its place.
+    EachLeg,
     EachClass,
     /// The flights whose first leg departs on a day.
     EachDay,
@@ -105,11 +108,21 @@ fn written(
 ) -> Result<Vec<u8>, Memory>
     requires capped { core.now.cap ≤ most_lines }
     requires within { lines ≤ length core.now.journal }
-    ensures { IfOk result (λ text. IsPickupText asked.now.by asked.now.form flights.now
-        (pickups_of asked.now.flight flights.now core.now.grid core.now.journal lines) text.items) }
+    ensures { IfOk result (λ text. IsPickupText asked.now.by asked.now.form asked.now.flight flights.now
+        (pickups_of asked.now.flight flights.now core.now.grid core.now.journal lines)
+        (moved_behind core.now.grid core.now.journal lines) text.items) }
 {
     let all = pickups(alloc, flights, core, lines, &asked.flight)?;
-    text_of(alloc, asked.by, asked.form, flights, &all)
+    text_of(
+        alloc,
+        asked.by,
+        asked.form,
+        flights,
+        core,
+        lines,
+        &asked.flight,
+        &all,
+    )
 }
 
 #[tactic(auto, using(crate::proofs::PickedUp::summed))]
@@ -118,28 +131,41 @@ fn text_of(
     by: By,
     form: Form,
     flights: &Flights,
+    core: &Core,
+    lines: usize,
+    asked: &Option<Designator>,
     all: &[Pickup],
 ) -> Result<Vec<u8>, Memory>
-    ensures { IfOk result (λ text. IsPickupText by form flights.now all.now text.items) }
+    requires capped { core.now.cap ≤ most_lines }
+    requires within { lines ≤ length core.now.journal }
+    ensures { IfOk result (λ text. IsPickupText by form asked.now flights.now all.now
+        (moved_behind core.now.grid core.now.journal lines) text.items) }
 {
-    let mut text = table_by(alloc, by, form, flights, all)?;
+    let mut text = table_by(alloc, by, form, flights, core, lines, asked, all)?;
     put_sums(&mut text, form, all)?;
     Ok(text)
 }
 
-#[tactic(auto, using(crate::proofs::PickedUp::each_row, crate::proofs::PickedUp::each_flight, crate::proofs::PickedUp::each_class, crate::proofs::PickedUp::each_day))]
+#[tactic(auto, using(crate::proofs::PickedUp::each_row, crate::proofs::PickedUp::each_flight, crate::proofs::PickedUp::each_leg, crate::proofs::PickedUp::each_class, crate::proofs::PickedUp::each_day))]
 fn table_by(
     alloc: Global,
     by: By,
     form: Form,
     flights: &Flights,
+    core: &Core,
+    lines: usize,
+    asked: &Option<Designator>,
     all: &[Pickup],
 ) -> Result<Vec<u8>, Memory>
-    ensures { IfOk result (λ text. IsTable form (names_by by) (rows_by by flights.now all.now) text.items) }
+    requires capped { core.now.cap ≤ most_lines }
+    requires within { lines ≤ length core.now.journal }
+    ensures { IfOk result (λ text. IsTable form (names_by by)
+        (rows_by by asked.now flights.now all.now (moved_behind core.now.grid core.now.journal lines)) text.items) }
 {
     match by {
         By::EachRow => table_of(alloc, form, all),
         By::EachFlight => flight_table(alloc, form, flights, all),
+        By::EachLeg => leg_table(alloc, form, flights, core, lines, asked),
         By::EachClass => class_table(alloc, form, all),
         By::EachDay => day_table(alloc, form, flights, all),
     }

@@ -1,9 +1,10 @@
 -- What holds of a row of either table holds of the first one that is found; what begins with a text goes on with it.
-use Rattle.std.proofs.Common.{◌≡◌, ℕ, List, [], ◌∷◌, ◌++◌, Option, Some, None, IfSome, IsTrue, sym, ap, ◌∙◌, append_assoc, append-nil}
+use Rattle.std.proofs.Common.{◌≡◌, ⊎_elim, inl, inr, ℕ, List, [], ◌∷◌, ◌++◌, Option, Some, None, IfSome, IsTrue, sym, ap, ◌∙◌, append_assoc, append-nil}
+use Rattle.std.specs.Prelude.{◌⊎◌, codes}
 use Rattle.std.specs.Option.{option_or}
-use Rattle.seat_explanations.specs.Meanings.{IsMeaning, IsMeaningOf}
+use Rattle.seat_explanations.specs.Meanings.{IsMeaning, IsMeaningOf, TellsMeaning}
 use Rattle.seat_explanations.specs.Rows.{Begins, TellsOf, is_of, row_text}
-use Rattle.seat_explanations.specs.Words.{first_word, IsPlace, IsUnplaced}
+use Rattle.seat_explanations.specs.Words.{first_word, IsLead, IsPlace, IsPlainOf, IsUnplaced}
 use Rattle.seat_explanations.specs.declared.explanations.Explanation.{Explanation}
 use Rattle.seat_explanations.specs.declared.meaning.Meaning.{Meaning}
 
@@ -39,6 +40,36 @@ told_further code old new tells goes = record {
 
 pub is_place : (word number : List ℕ) → word ≡ number ++ 58 ∷ [] → IsPlace word
 is_place word number is = record { number = number; is = is }
+
+pub is_lead : (word : List ℕ) (digit : ℕ) → word ≡ digit ∷ [] → IsLead word
+is_lead word digit is = record { session = digit; is = is }
+
+-- the row of a code
+pub told_code : (code : List ℕ) (row : Explanation) (text : List ℕ) → IsTrue (is_of code row) → text ≡ row_text row → TellsMeaning code text
+told_code code row text of whole = record { either = inl (begun code row text of whole) }
+
+-- and what stands behind it
+pub told_code_on : (code : List ℕ) (row : Explanation) (old new : List ℕ) → IsTrue (is_of code row) → old ≡ row_text row → Begins old new
+    → TellsMeaning code new
+told_code_on code row old new of whole goes = record { either = inl (told_further code old new (begun code row old of whole) goes) }
+
+-- the row of a note
+pub told_reason : (word : List ℕ) (row : Explanation) (text : List ℕ) → IsTrue (is_of (codes "note") row) → text ≡ row_text row
+    → TellsMeaning word text
+told_reason word row text of whole = record { either = inr (inl (begun (codes "note") row text of whole)) }
+
+pub told_note : (word : List ℕ) (row : Explanation) (text : List ℕ) → IsTrue (is_of word row) ⊎ IsTrue (is_of (codes "note") row)
+    → text ≡ row_text row → TellsMeaning word text
+told_note word row text of whole =
+    ⊎_elim (λ (h : IsTrue (is_of word row)). told_code word row text h whole)
+    (λ (h : IsTrue (is_of (codes "note") row)). told_reason word row text h whole) of
+
+-- the row of a word to a host, or of a reply's code
+pub told_plainly : (word plain : List ℕ) (row : Explanation) (text : List ℕ) → IsPlainOf word plain → IsTrue (is_of plain row)
+    → text ≡ row_text row → TellsMeaning word text
+told_plainly word plain row text is of whole = record {
+  either = inr (inr (record { plain = plain; is_plain = is; tells = begun plain row text of whole }));
+}
 
 pub meaning_of_rest : (line rest : List (List ℕ)) (meaning : Meaning) → IsUnplaced line rest → IsMeaning (first_word rest) meaning
     → IsMeaningOf line meaning

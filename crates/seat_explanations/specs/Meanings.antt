@@ -4,11 +4,21 @@ use Rattle.std.specs.String.{string_bytes}
 use Rattle.seat_explanations.specs.declared.meaning.Meaning.{Meaning}
 use Rattle.seat_explanations.specs.declared.meaning.Meaning.TheVariants.{Found, Unknown}
 use Rattle.seat_explanations.specs.Rows.{TellsOf}
-use Rattle.seat_explanations.specs.Words.{first_word, IsUnplaced}
+use Rattle.seat_explanations.specs.Words.{first_word, IsPlainOf, IsUnplaced}
 
--- what is found of a code begins with its row, or with that of a note
+-- the text begins with the row of a word to a host, or of a reply's code without its seats
+pub record TellsPlainly (word text : List ℕ) : Type 0 where
+  pub plain : List ℕ
+  pub is_plain : IsPlainOf word plain
+  pub tells : TellsOf plain text
+
+-- the text begins with the row of the word, or with that of a note, or with that of a word to a host or a reply
+pub record TellsMeaning (word text : List ℕ) : Type 0 where
+  pub either : TellsOf word text ⊎ (TellsOf (codes "note") text ⊎ TellsPlainly word text)
+
+-- so does what is found of a code
 abbrev pub IsMeaning : List ℕ → Meaning → Type 0
-IsMeaning code (Found text) = TellsOf code (string_bytes text) ⊎ TellsOf (codes "note") (string_bytes text)
+IsMeaning code (Found text) = TellsMeaning code (string_bytes text)
 IsMeaning code (Unknown word) = ⊤
 
 -- what is found of the first word of a line, or of the one behind the place of a journal

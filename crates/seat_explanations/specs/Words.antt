@@ -1,5 +1,5 @@
 -- The words of a line that is given in pieces, as one word or as several.
-use Rattle.std.specs.Prelude.{◌≡◌, ◌⊎◌, ℕ, List, [], ◌∷◌, ◌++◌, ◌==◌, ◌||◌, nat_eq, if◌then◌else◌, codes}
+use Rattle.std.specs.Prelude.{◌≡◌, ◌⊎◌, ℕ, List, [], ◌∷◌, ◌++◌, ◌==◌, ◌||◌, length, take, nat_eq, if◌then◌else◌, codes}
 use Rattle.std.specs.Cmp.Lexicographic.{pointwise}
 use Rattle.std.specs.List.{slice_split}
 
@@ -34,6 +34,15 @@ pub record IsPlace (word : List ℕ) : Type 0 where
   pub number : List ℕ
   pub is : word ≡ number ++ 58 ∷ []
 
--- the rest is the line, or all of it behind such a word
+-- the word is one digit
+pub record IsLead (word : List ℕ) : Type 0 where
+  pub session : ℕ
+  pub is : word ≡ session ∷ []
+
+-- the rest is the line, or all of it behind such a word, the place of a journal or the session of a feed's line
 pub record IsUnplaced (line rest : List (List ℕ)) : Type 0 where
-  pub either : (rest ≡ line) ⊎ ((place : List ℕ) × IsPlace place × (line ≡ place ∷ rest))
+  pub either : (rest ≡ line) ⊎ ((ahead : List ℕ) × (IsPlace ahead ⊎ IsLead ahead) × (line ≡ ahead ∷ rest))
+
+-- a word to a host behind ?, or what a word begins with, as the code of a reply does ahead of its seats
+abbrev pub IsPlainOf : List ℕ → List ℕ → Type 0
+IsPlainOf word plain = (word ≡ 63 ∷ plain) ⊎ (plain ≡ take (length plain) word)

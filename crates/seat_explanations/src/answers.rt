@@ -141,7 +141,7 @@ const LISTS: &[Explanation] = &[
         behind: "",
         code: "NOTHING",
         numbers: NONE,
-        text: "Of history: the line did nothing to the bookings of the locator.",
+        text: "Of history: the line did nothing to the bookings that are asked for.",
     },
 ];
 
@@ -225,7 +225,7 @@ const DESKS: &[Explanation] = &[
         behind: "",
         code: "STATUS",
         numbers: NONE,
-        text: "What a host of desks on pipes says of itself while it runs. lines: those of its journal. groups: how often lines were added\nsince it began. each: how many lines such a group had, to a tenth. desks: those that it is open to.\nsold: the seats that are held.",
+        text: "What a host of desks on pipes, or of a feed, says of itself while it runs. lines: those of its journal. groups: how often lines were added\nsince it began. each: how many lines such a group had, to a tenth. desks: those that it is open to.\nsold: the seats that are held.",
     },
     Explanation {
         behind: "",

@@ -16,4 +16,9 @@ pub(crate) const DESK: &[&str] = &["desk", "line"];
 
 pub(crate) const FED: &[&str] = &["line of the feed"];
 
+/// What is counted by its name, and not by a number.
+pub(crate) const NAMED_KEY: &str = "key";
+
+pub(crate) const KEY: &[&str] = &[NAMED_KEY];
+
 pub(crate) const CALL: &[&str] = &["desk", "call of that session"];

@@ -6,6 +6,7 @@ ghost use Rattle.seat_explanations.specs.Rows.{is_of};
 use crate::counted::{CALL, DESK, ENTRY, FED, LINE, NONE, RECORD, SCRIPT, SERIAL};
 use crate::notes::{NOTES, REASONS};
 use crate::sealed::SEALS;
+use crate::seasons::SEASONS;
 
 /// What one code means.
 pub struct Explanation {
@@ -34,6 +35,7 @@ pub fn row_behind(behind: &str, code: &str) -> Option<&'static Explanation>
         .or(first_behind(entries(), behind, code))
         .or(first_behind(seals(), behind, code))
         .or(first_behind(words(), behind, code))
+        .or(first_behind(seasons(), behind, code))
 }
 
 /// The row of a code, wherever it stands: a letter with its number, or a word that stands first.
@@ -52,6 +54,7 @@ pub fn row_of(code: &str) -> Option<&'static Explanation>
         .or(first_of(entries(), code))
         .or(first_of(seals(), code))
         .or(first_of(words(), code))
+        .or(first_of(seasons(), code))
 }
 
 /// The row of a line that is no fault, which says what was kept, or is a note: by a word that the note has.
@@ -95,7 +98,8 @@ fn first_of<'a>(rows: &'a [Explanation], code: &str) -> Option<&'a Explanation>
 {
     rows.iter().find(|row| row.code.eq_ignore_ascii_case(code)
         && row.behind != "E2"
-        && row.behind != "SEAL")
+        && row.behind != "SEAL"
+        && row.behind != "SEASON")
 }
 
 fn records() -> &'static [Explanation] {
@@ -132,6 +136,10 @@ fn journals() -> &'static [Explanation] {
 
 fn entries() -> &'static [Explanation] {
     ENTRIES
+}
+
+fn seasons() -> &'static [Explanation] {
+    SEASONS
 }
 
 fn seals() -> &'static [Explanation] {
@@ -440,13 +448,13 @@ const SCRIPTS: &[Explanation] = &[
         behind: "",
         code: "H6",
         numbers: CALL,
-        text: "A numbered line is for another journal: the epoch that its client named (?HELLO WORD EPOCH, or ?EPOCH n ahead of it in a feed) is not that of\nthis journal, which is the last number of READY and stands in the seal. Nothing was booked.\nSee in that journal what became of its lines, and say ?HELLO anew.",
+        text: "A numbered line is for another journal: the epoch that was named ahead of it, by ?EPOCH n in a feed and else by ?HELLO WORD EPOCH, is not that of\nthis journal, which is the last number of READY and stands in the seal. Nothing was booked.\nSee in the journal of that epoch what became of its lines. Then a feed goes on with ?EPOCH and this one's, and a desk says ?HELLO anew.",
     },
     Explanation {
         behind: "",
         code: "H7",
         numbers: FED,
-        text: "A line of a feed stands ahead of its first day. A feed begins with one, as ?DAY 2024-06-22: on it the lines behind it are read.\nThe line was passed over.",
+        text: "A line of a feed stands ahead of its first day. A feed begins with one, as ?DAY 2024-06-22: on it the lines behind it are read.\nThe line was passed over; an ?EPOCH holds all the same.",
     },
     Explanation {
         behind: "H2",
@@ -476,7 +484,7 @@ const SCRIPTS: &[Explanation] = &[
         behind: "-",
         code: "DEVICE",
         numbers: NONE,
-        text: "A file does not open, or a read or a write failed. seatdesk -v names the file and the system's reason.\nTold to a desk, as FAULT - DEVICE, it is the journal's file: the line may be booked, and the host ends. Ask ?AGAIN when it is there again.",
+        text: "A file does not open, or a read or a write failed. seatdesk -v names the file and the system's reason.\nTold to a desk, as FAULT - DEVICE, it is the journal's file: the line may be booked, and the host ends. Ask ?AGAIN when it is there again.\nTold of a feed, as - FAULT - DEVICE, it is the file of the journal or of its seal: lines of which nothing is told may be booked, and the host ends.\nSend the feed again, from a saved place with --behind: what was booked is told once more.",
     },
     Explanation {
         behind: "-",
@@ -506,7 +514,7 @@ const SCRIPTS: &[Explanation] = &[
         behind: "",
         code: "E2",
         numbers: NONE,
-        text: "A word of the command line is wrong. The word behind it says which.\nNo file was read for it, but where that word is line or behind, or today of a host whose seal has a later day.",
+        text: "A word of the command line is wrong. The word behind it says which.\nNo file was read for it, but where that word is line, behind or html, or today of a host whose seal has a later day.",
     },
 ];
 
@@ -696,7 +704,7 @@ const WORDS: &[Explanation] = &[
         behind: "E2",
         code: "today",
         numbers: NONE,
-        text: "--today is no day of the years 2000 to 2099, as 2024-06-01, or it is missing:\naudit needs it where scripts are named, and serve where the seal beside JOURNAL has no day.\nOr it is earlier than the day of that seal: a host never goes back to an earlier day.\nLeave --today out, and the day of the seal holds: it stands in JOURNAL.seal, behind today. Or it stands beside --feed, which has its days in it.",
+        text: "--today is no day of the years 2000 to 2099, as 2024-06-01, or it is missing:\naudit needs it where scripts are named, and serve where the seal beside JOURNAL has no day.\nOr it is earlier than the day of that seal: a host never goes back to an earlier day.\nLeave --today out, and the day of the seal holds: it stands in JOURNAL.seal, behind today. Or it stands beside --feed, which has its days in it;\nor the first line of a feed is no day, as ?DAY 2024-06-22, and the seal beside JOURNAL has none either.",
     },
     Explanation {
         behind: "E2",
@@ -756,7 +764,7 @@ const WORDS: &[Explanation] = &[
         behind: "E2",
         code: "status",
         numbers: NONE,
-        text: "--every of serve is no number of 1 to 3600, or the file of --status is an input, the journal, where standard output or standard error goes,\nor no regular file, or its name is one that no journal may have; or there is a desk or a feed on standard input, which has neither of the two. seatdesk -v says which of these it is.",
+        text: "--every of serve is no number of 1 to 3600, or the file of --status is an input, the journal, where standard output or standard error goes,\nor no regular file, or its name is one that no journal may have, or it has anything but a status of a host, which would be lost;\nor there is a desk on standard input, which has neither of the two. seatdesk -v says which of these it is.",
     },
     Explanation {
         behind: "E2",
@@ -774,7 +782,13 @@ const WORDS: &[Explanation] = &[
         behind: "E2",
         code: "form",
         numbers: NONE,
-        text: "More than one of --csv, --json and --bars is asked for, and an answer has one form; or --bars with --by, and sums have none.",
+        text: "More than one of --csv, --json, --html and --bars is asked for, and an answer has one form; or --bars or --html with --by, and sums have neither.",
+    },
+    Explanation {
+        behind: "E2",
+        code: "html",
+        numbers: NONE,
+        text: "The page of --html has more than 30,000,000 bytes, and nothing was written. Ask for fewer legs, by --day, --flight or --pair.",
     },
     Explanation {
         behind: "E2",

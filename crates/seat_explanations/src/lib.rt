@@ -3,11 +3,13 @@
 #![tactic(auto)]
 
 mod answers;
+mod asked;
 mod counted;
 mod explanations;
 mod meaning;
 mod notes;
 mod replies;
 mod sealed;
+mod seasons;
 
 pub use meaning::{Meaning, meaning_of};

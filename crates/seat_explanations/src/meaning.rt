@@ -5,10 +5,11 @@ ghost use Rattle.std.specs.List.{slice_split};
 ghost use Rattle.std.specs.String.{string_bytes};
 ghost use Rattle.seat_explanations.specs.Meanings.{IsMeaning, IsMeaningOf};
 ghost use Rattle.seat_explanations.specs.Rows.{Begins, is_of, row_text};
-ghost use Rattle.seat_explanations.specs.Words.{filled, first_word, line_of, unnamed, words_of, IsPlace, IsUnplaced};
+ghost use Rattle.seat_explanations.specs.Words.{filled, first_word, line_of, unnamed, words_of, IsLead, IsPlace, IsPlainOf, IsUnplaced};
 
 use crate::answers::answer_row;
-use crate::counted::DESK;
+use crate::asked::asked_row;
+use crate::counted::{DESK, NAMED_KEY};
 use crate::explanations::{
     Explanation, is_of_rows, row_behind, row_of, row_of_note, row_of_reason,
 };
@@ -39,7 +40,8 @@ pub enum Meaning<'a> {
 /// What a fault line means: its code, the code or word behind that, and what each number counts; or what a reply, a note or the word that an
 /// answer begins with says.
 /// Of a fault that a host told a desk it is what FAULT says, and then what the fault says.
-/// The line may be one word or several, as it was printed, without the program's name or the place of a journal, and in small letters.
+/// The line may be one word or several, as it was printed, without the program's name, the place of a journal or the session that a feed's line
+/// is led by, and in small letters. A reply's code may have its seats behind it, and a word to a host its ? ahead of it.
 #[tactic(auto, using(crate::proofs::Rows::meaning_of_rest))]
 pub fn meaning_of<'a>(
     alloc: Global,
@@ -56,7 +58,7 @@ pub fn meaning_of<'a>(
     explained(alloc, without_place(without_name(line.as_slice())))
 }
 
-#[tactic(auto, using(crate::proofs::Rows::begun, crate::proofs::Rows::itself, crate::proofs::Rows::told_further))]
+#[tactic(auto, using(crate::proofs::Rows::told_code_on, crate::proofs::Rows::told_note, crate::proofs::Rows::itself))]
 fn explained<'a>(alloc: Global, line: &[&'a str]) -> Result<Meaning<'a>, AllocError>
     ensures found { IfOk result (λ meaning. IsMeaning (first_word (map (λ word. word.now) line.now)) meaning) }
 {
@@ -74,15 +76,48 @@ fn explained<'a>(alloc: Global, line: &[&'a str]) -> Result<Meaning<'a>, AllocEr
         };
     }
     let Some(first) = row_for(code) else {
-        return match reason_for(code, behind) {
-            Some(reason) => Ok(Meaning::Found(text_of(alloc, reason)?)),
-            None => Ok(Meaning::Unknown(*code)),
-        };
+        return other_meaning(alloc, code, behind);
     };
     let mut text = text_of(alloc, first)?;
     match put_details(&mut text, first, code, behind)? {
         None => Ok(Meaning::Found(text)),
         Some(word) => Ok(Meaning::Unknown(word)),
+    }
+}
+
+/// The same of a word that is no code: why a file is refused, a word to a host, or a reply's code with its seats.
+#[tactic(auto, using(crate::proofs::Rows::told_reason, crate::proofs::Rows::told_plainly))]
+fn other_meaning<'a>(
+    alloc: Global,
+    word: &'a str,
+    behind: &[&str],
+) -> Result<Meaning<'a>, AllocError>
+    ensures found { IfOk result (IsMeaning word.now) }
+{
+    if let Some(reason) = reason_for(word, behind) {
+        return Ok(Meaning::Found(text_of(alloc, reason)?));
+    }
+    match plain_row(plain_of(word)) {
+        Some(row) => Ok(Meaning::Found(text_of(alloc, row)?)),
+        None => Ok(Meaning::Unknown(word)),
+    }
+}
+
+/// The row of a word to a host, or of a reply's code.
+#[tactic(auto, using(crate::proofs::Rows::either))]
+fn plain_row(plain: &str) -> Option<&'static Explanation>
+    ensures { IfSome result (λ row. IsTrue (is_of plain.now row.now)) }
+{
+    asked_row(plain).or(reply_row(plain))
+}
+
+/// A word without the ? ahead of it, or without the digits at its end.
+fn plain_of(word: &str) -> &str
+    ensures { IsPlainOf word.now result.now }
+{
+    match word.strip_prefix('?') {
+        Some(plain) => plain,
+        None => word.trim_end_matches(|c: char| c.is_ascii_digit()),
     }
 }
 
@@ -205,12 +240,13 @@ fn without_name<'a, 'b>(line: &'b [&'a str]) -> &'b [&'a str]
     }
 }
 
-/// The line without the place of one of several journals, which stands ahead of its fault.
+/// The line without the place of one of several journals, or the session that a feed's line is for, which stand ahead of the fault.
 fn without_place<'a, 'b>(line: &'b [&'a str]) -> &'b [&'a str]
     ensures { IsUnplaced (map (λ word. word.now) line.now) (map (λ word. word.now) result.now) }
 {
     match line {
         [first, rest @ ..] if is_place(first) => rest,
+        [first, rest @ ..] if is_lead(first) && !rest.is_empty() => rest,
         _ => line,
     }
 }
@@ -223,6 +259,17 @@ fn is_place(word: &str) -> bool
     match word.strip_suffix(':') {
         Some(digits) => is_number(digits),
         None => false,
+    }
+}
+
+/// Whether a word is the number of the manager, 0, or of a session, 1 to 8.
+#[tactic(auto, using(crate::proofs::Rows::is_lead))]
+fn is_lead(word: &str) -> bool
+    ensures { IsTrue result → IsLead word.now }
+{
+    match word.as_bytes() {
+        [digit] => b'0' <= *digit && *digit <= b'8',
+        _ => false,
     }
 }
 
@@ -255,14 +302,19 @@ fn counted_by(first: &'static Explanation, code: &str, behind: &[&str]) -> &'sta
     }
 }
 
-/// The first of these words that is no number, or one more than are counted.
+/// The first of these words that is no number and no key, or one more than are counted.
 fn no_number<'a>(counted: &[&str], numbers: &[&'a str]) -> Option<&'a str> {
     for (i, word) in numbers.iter().enumerate() {
-        if i >= counted.len() || !is_number(word) {
+        if i >= counted.len() || !is_right(counted[i], word) {
             return Some(*word);
         }
     }
     None
+}
+
+/// Whether a word may stand for what is counted so: a number, or the name of a key.
+fn is_right(what: &str, word: &str) -> bool {
+    what == NAMED_KEY || is_number(word)
 }
 
 /// Whether a word is a number, as it is printed of a line or, behind @, of a call.

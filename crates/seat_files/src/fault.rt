@@ -1,5 +1,6 @@
 //! What the program is refused with: by a command, or for a word of its command line.
 use seat_desk::DeskFault;
+use seat_season::SeasonKind;
 use seat_shards::ShardFault;
 use seat_words::WordFault;
 use std::fmt;
@@ -13,6 +14,8 @@ pub enum Fault {
     /// A feed is not that of its journal: its line of this number asks for something else than the journal's line of that.
     Feed { line: u32, number: u32 },
     Word(WordFault),
+    /// A season file is none.
+    Season(SeasonKind),
 }
 
 impl fmt::Display for Fault {
@@ -28,6 +31,7 @@ impl fmt::Display for Fault {
             Fault::Shards(fault) => fault.fmt(f),
             Fault::Feed { line, number } => write!(f, "FEED {line} {number}"),
             Fault::Word(fault) => fault.fmt(f),
+            Fault::Season(fault) => fault.fmt(f),
         }
     }
 }
@@ -36,7 +40,7 @@ impl Fault {
     ghost use Rattle.std.specs.Prelude.{◌≡◌};
     ghost use Rattle.seat_files.specs.Faults.{exit_status};
 
-    /// The exit status: 2 for the command line, 1 for a feed, else that of the command's fault.
+    /// The exit status: 2 for the command line, 1 for a feed or a season, else that of the command's fault.
     pub fn status(&self) -> u8
         ensures { result ≡ exit_status self.now }
     {
@@ -45,6 +49,7 @@ impl Fault {
             Fault::Shards(fault) => fault.status(),
             Fault::Feed { .. } => 1,
             Fault::Word(_) => 2,
+            Fault::Season(_) => 1,
         }
     }
 }

@@ -20,7 +20,7 @@ pub use guard::{Guard, NOT_EMPTY, files_taken};
 pub use journal_file::{JournalFile, TOO_LONG, is_one_file, is_same, lines_in, of};
 pub use kept_file::{Content, KEPT_BEFORE, Kept, kept_number};
 pub use once::pass_once;
-pub use refusal::{Refusal, Shown, told};
+pub use refusal::{Behind, Refusal, Shown, told};
 pub use seal_file::{SEAL, SealFile, is_moved};
 pub use seal_out::SealOut;
 pub use status_file::StatusFile;

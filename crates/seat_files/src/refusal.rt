@@ -11,6 +11,7 @@ use crate::streams::{Input, Output};
 use airline_base::Failures;
 use seat_desk::DeskFault;
 use seat_seal::SealFault;
+use seat_season::SeasonKind;
 use seat_shards::ShardFault;
 use seat_words::WordFault;
 use std::fmt::Write;
@@ -38,6 +39,8 @@ pub struct Refusal<'a> {
     is_unheard: bool,
     /// The journal of a run whose replies failed.
     put: Option<Put<'a>>,
+    /// The key that no season has, where the fault is of one.
+    key: Option<&'a str>,
 }
 
 /// What the name of a file beside another ends with: a word, and behind it a number where it has one.
@@ -98,7 +101,22 @@ impl<'a> Refusal<'a> {
             has_mark: false,
             is_unheard: false,
             put: None,
+            key: None,
         }
+    }
+
+    /// A file that is no season, and the key that no season has, where that is why.
+    pub fn of_season(file: &'a str, kind: SeasonKind, key: Option<&'a str>) -> Refusal<'a>
+        ensures { result.fault ≡ Fault.Season kind }
+    {
+        let mut refusal = Refusal::of(Fault::Season(kind)).at(file, None);
+        refusal.key = key;
+        refusal
+    }
+
+    /// What stands behind the fault in its line.
+    pub fn behind(&self) -> Behind<'a> {
+        Behind { key: self.key }
     }
 
     /// The fault of a file that does not open.
@@ -458,6 +476,24 @@ impl<'a> Refusal<'a> {
     }
 }
 
+/// A key that a fault is of and its code does not say, with a blank ahead of it; or nothing.
+#[derive(Clone, Copy)]
+pub struct Behind<'a> {
+    key: Option<&'a str>,
+}
+
+impl fmt::Display for Behind<'_> {
+    fn fmt<W: fmt::Write>(&self, f: &mut fmt::Formatter<W>) -> fmt::Result {
+        match self.key {
+            Some(name) => {
+                f.write_char(' ')?;
+                Shown { name }.fmt(f)
+            }
+            None => Ok(()),
+        }
+    }
+}
+
 /// The name of a file as it may be shown: each byte of a control character as `\xHH`.
 #[derive(Clone, Copy)]
 pub struct Shown<'a> {
@@ -495,6 +531,7 @@ fn is_of_input(fault: &Fault) -> bool {
         Fault::Shards(_) => true,
         Fault::Feed { .. } => false,
         Fault::Word(_) => false,
+        Fault::Season(_) => false,
     }
 }
 
@@ -505,6 +542,7 @@ fn place_of(fault: &Fault) -> Option<(&'static str, u32)> {
         Fault::Shards(ShardFault::Journal { fault, .. }) => place_in(fault),
         Fault::Shards(ShardFault::Shared { number, .. }) => Some(("entry", *number)),
         Fault::Feed { number, .. } => Some(("entry", *number)),
+        Fault::Season(SeasonKind::Form { line }) => Some(("line", *line)),
         _ => None,
     }
 }

@@ -1,6 +1,6 @@
 -- What is picked up, class by class and flight by flight.
 use Rattle.std.proofs.Common.{◌≡◌, ◌==◌, ◌&&◌, ◌||◌, ℕ, suc, ◌+◌, ◌-◌, ◌*◌, ◌<◌, ◌≤◌, Bool, true, false, List, [], ◌∷◌, ◌++◌, length, take, drop, get_or, Option, Some, None, refl, sym, ap, subst, ◌∙◌, arith, if◌then◌else◌, append_assoc}
-use Rattle.std.specs.Prelude.{IsTrue, nat_lt}
+use Rattle.std.specs.Prelude.{nat_lt}
 use Rattle.std.specs.Char.{is_ascii_uppercase}
 use Rattle.std.proofs.Math.ListN.{drop_of_length-le}
 use Rattle.std.proofs.lemmas.Bool.Decides.{nat_tests}
@@ -10,18 +10,23 @@ use Rattle.ssim_flights.proofs.Walks.{drop_step}
 use Rattle.ssim_flights.specs.declared.flight.Flight.{Flight as Flown}
 use Rattle.seat_journal.specs.declared.entry.Entry.{Entry}
 use Rattle.seat_nesting.specs.Nesting.{Ladders}
+use Rattle.seat_rules.specs.Bookings.{is_held}
 use Rattle.seat_rules.specs.Flights.{bookings_on}
 use Rattle.seat_rules.specs.Journal.{IsLegal, replay}
 use Rattle.seat_rules.specs.declared.booking.Booking.{Booking}
+use Rattle.seat_rules.proofs.Filters.{sum_kept}
 use Rattle.seat_lists.specs.Picking.{keeps_flight}
 use Rattle.seat_lists.specs.declared.picking.Designator.{Designator}
 use Rattle.seat_pickup.specs.Counting.{AreCounts, count_at, spot}
-use Rattle.seat_pickup.specs.Moves.{cancelled_by, confirmed_by, held_in, holds, sold_by, sum_of}
-use Rattle.seat_pickup.specs.Pickups.{AreMoves, of_class, of_classes, of_flight, of_flights, of_letters, with_any}
-use Rattle.seat_pickup.specs.declared.classes.Moves.{Moves}
+use Rattle.seat_questions.specs.Why.{has_leg}
+use Rattle.seat_pickup.specs.Moves.{cancelled_by, confirmed_by, held_in, holds, is_at, sold_by, sum_of}
+use Rattle.seat_pickup.specs.Pickups.{AreMoves, moved_behind, of_class, of_classes, of_flight, of_flights, of_letters, with_any}
+use Rattle.seat_pickup.specs.declared.moved.Moves.{Moves}
+use Rattle.seat_pickup.specs.declared.moved.MoveSums.{MoveSums}
 use Rattle.seat_pickup.specs.declared.classes.Pickup.{Pickup}
+use Rattle.seat_pickup.specs.declared.split.Split.{Split}
+use Rattle.seat_pickup.specs.declared.split.Split.TheVariants.{Classes, Legs}
 use Rattle.seat_pickup.proofs.Balancing.{moves_balance}
-use Rattle.seat_pickup.proofs.Counted.{low, high}
 
 -- each of these letters is that of a class
 pub is_letter : (letter : ℕ) → 65 ≤ letter → letter ≤ 90 → is_ascii_uppercase letter ≡ true
@@ -37,14 +42,63 @@ pub letter_added : (of : ℕ → Pickup) (letter class : ℕ) (old new : List Pi
 letter_added of letter class old new from to is added =
     added ∙ ap (λ (n : ℕ). old ++ with_any (of n)) (same_class letter class (is_ascii_uppercase letter) (is_letter letter from to) is)
 
-pub held_is : (bookings all : List Booking) (f c n : ℕ) → bookings ≡ bookings_on f all → n ≡ sum_by (holds c) bookings → n ≡ held_in all f c
-held_is bookings all f c n own is = is ∙ ap (λ (l : List Booking). sum_by (holds c) l) own
+-- ---- what is held on a flight
 
--- the rows have the place of a class of one of their flights
-pub spot_within : (flights f c : ℕ) (of : ℕ → ℕ → ℕ) (row : List ℕ) → AreCounts flights of row → f < flights → IsTrue (is_ascii_uppercase c)
-    → spot f c < length row
-spot_within flights f c of row are inside letter =
-    omega (arith, are.counted, inside, low c letter, high c letter)
+none_if : (h : Bool) (n : ℕ) → (if h && false then n else 0) ≡ 0
+none_if true n = refl
+none_if false n = refl
+
+-- a booking of another flight counts nowhere on it
+away : (split : Split) (f k : ℕ) (b : Booking) → (b.place.flight == f) ≡ false → holds (is_at split) f k b ≡ 0
+away Classes f k b off =
+    ap (λ (t : Bool). if is_held b.status && (t && (b.class == k)) then b.seats else 0) off ∙ none_if (is_held b.status) b.seats
+away Legs f k b off =
+    ap (λ (t : Bool). if is_held b.status && (t && has_leg b.place (k - 65)) then b.seats else 0) off ∙ none_if (is_held b.status) b.seats
+
+pub held_is : (split : Split) (bookings all : List Booking) (f k n : ℕ) → bookings ≡ bookings_on f all
+    → n ≡ sum_by (holds (is_at split) f k) bookings → n ≡ held_in (is_at split) all f k
+held_is split bookings all f k n own is =
+    is ∙ ap (λ (l : List Booking). sum_by (holds (is_at split) f k) l) own
+    ∙ sum_kept (λ (b : Booking). b.place.flight == f) (holds (is_at split) f k) (away split f k) all
+
+-- the rows have the place of a class or leg of one of their flights
+pub spot_within : (flights f k : ℕ) (of : ℕ → ℕ → ℕ) (row : List ℕ) → AreCounts flights of row → f < flights → 65 ≤ k → k ≤ 90
+    → spot f k < length row
+spot_within flights f k of row are inside from to = omega (arith, are.counted, inside, from, to)
+
+same_sums : (a b : MoveSums) → a.before ≡ b.before → a.sold ≡ b.sold → a.cancelled ≡ b.cancelled → a.confirmed ≡ b.confirmed
+    → a.held ≡ b.held → a ≡ b
+same_sums a b e f g h k = λ i. record { before = e i; sold = f i; cancelled = g i; confirmed = h i; held = k i }
+
+pub sums_are : (grid : Ladders) (journal : List Entry) (n : ℕ) (moves : Moves) (f k : ℕ) (sums : MoveSums)
+    → IsLegal grid journal → AreMoves (drop n journal) moves → f < moves.flights → 65 ≤ k → k ≤ 90
+    → sums.held ≡ held_in (is_at moves.split) (replay grid journal).bookings f k
+    → sums.sold ≡ count_at moves.sold.items f k
+    → sums.cancelled ≡ count_at moves.cancelled.items f k
+    → sums.confirmed ≡ count_at moves.confirmed.items f k
+    → sums.before ≡ (sums.held + sums.cancelled) - (sums.sold + sums.confirmed)
+    → sums ≡ moved_behind grid journal n (is_at moves.split) f k
+sums_are grid journal n moves f k sums legal are inside from to held sold cancelled confirmed before =
+    same_sums sums (moved_behind grid journal n (is_at moves.split) f k) was sells cancels confirms held
+  where
+    sells : sums.sold ≡ sum_of (sold_by (is_at moves.split)) (drop n journal) f k
+    sells = sold ∙ are.sold.each f k inside from to
+
+    cancels : sums.cancelled ≡ sum_of (cancelled_by (is_at moves.split)) (drop n journal) f k
+    cancels = cancelled ∙ are.cancelled.each f k inside from to
+
+    confirms : sums.confirmed ≡ sum_of (confirmed_by (is_at moves.split)) (drop n journal) f k
+    confirms = confirmed ∙ are.confirmed.each f k inside from to
+
+    whole : take n journal ++ drop n journal ≡ journal
+    whole = take-append-drop n journal
+
+    was : sums.before ≡ held_in (is_at moves.split) (replay grid (take n journal)).bookings f k
+    was =
+        let law = moves_balance (is_at moves.split) grid (take n journal) (drop n journal) f k (subst (IsLegal grid) (sym whole) legal) in
+        let now : held_in (is_at moves.split) (replay grid (take n journal ++ drop n journal)).bookings f k ≡ held_in (is_at moves.split) (replay grid journal).bookings f k =
+        ap (λ (l : List Entry). held_in (is_at moves.split) (replay grid l).bookings f k) whole in
+        omega (arith, law, now, before, held, sells, cancels, confirms)
 
 -- ---- one class
 
@@ -64,37 +118,22 @@ same_pickup p q a b c d e f g h = λ i. record {
   held = h i;
 }
 
-pub pickup_is : (grid : Ladders) (journal : List Entry) (n : ℕ) (moves : Moves) (i : ℕ) (flight : Flown) (class : ℕ) (p : Pickup)
-    → IsLegal grid journal → AreMoves (drop n journal) moves → i < moves.flights → IsTrue (is_ascii_uppercase class)
+pub pickup_is : (grid : Ladders) (journal : List Entry) (n : ℕ) (split : Split) (i : ℕ) (flight : Flown) (class letter : ℕ) (sums : MoveSums) (p : Pickup)
+    → split ≡ Classes → letter ≡ class → sums ≡ moved_behind grid journal n (is_at split) i letter
     → p.flight ≡ i → p.name.airline ≡ flight.airline → p.name.number ≡ flight.number → p.name.suffix ≡ flight.suffix → p.class ≡ class
-    → p.held ≡ held_in (replay grid journal).bookings i class
-    → p.sold ≡ count_at moves.sold.items i class
-    → p.cancelled ≡ count_at moves.cancelled.items i class
-    → p.confirmed ≡ count_at moves.confirmed.items i class
-    → p.before ≡ (p.held + p.cancelled) - (p.sold + p.confirmed)
+    → p.before ≡ sums.before → p.sold ≡ sums.sold → p.cancelled ≡ sums.cancelled → p.confirmed ≡ sums.confirmed → p.held ≡ sums.held
     → p ≡ of_class (replay grid (take n journal)).bookings (drop n journal) (replay grid journal).bookings i flight class
-pickup_is grid journal n moves i flight class p legal are inside letter at airline number suffix of held sold cancelled confirmed before =
+pickup_is grid journal n split i flight class letter sums p by spelled is at airline number suffix of before sold cancelled confirmed held =
     same_pickup p (of_class (replay grid (take n journal)).bookings (drop n journal) (replay grid journal).bookings i flight class)
-    at (name_is p.name (record { airline = flight.airline; number = flight.number; suffix = flight.suffix }) airline number suffix) of was sells cancels confirms held
+    at (name_is p.name (record { airline = flight.airline; number = flight.number; suffix = flight.suffix }) airline number suffix) of
+    (before ∙ ap (λ (s : MoveSums). s.before) right) (sold ∙ ap (λ (s : MoveSums). s.sold) right) (cancelled ∙ ap (λ (s : MoveSums). s.cancelled) right)
+    (confirmed ∙ ap (λ (s : MoveSums). s.confirmed) right) (held ∙ ap (λ (s : MoveSums). s.held) right)
   where
-    sells : p.sold ≡ sum_of sold_by (drop n journal) i class
-    sells = sold ∙ are.sold.each i class inside (low class letter) (high class letter)
-
-    cancels : p.cancelled ≡ sum_of cancelled_by (drop n journal) i class
-    cancels = cancelled ∙ are.cancelled.each i class inside (low class letter) (high class letter)
-
-    confirms : p.confirmed ≡ sum_of confirmed_by (drop n journal) i class
-    confirms = confirmed ∙ are.confirmed.each i class inside (low class letter) (high class letter)
-
-    whole : take n journal ++ drop n journal ≡ journal
-    whole = take-append-drop n journal
-
-    was : p.before ≡ held_in (replay grid (take n journal)).bookings i class
-    was =
-        let law = moves_balance grid (take n journal) (drop n journal) i class (subst (IsLegal grid) (sym whole) legal) in
-        let now : held_in (replay grid (take n journal ++ drop n journal)).bookings i class ≡ held_in (replay grid journal).bookings i class =
-        ap (λ (l : List Entry). held_in (replay grid l).bookings i class) whole in
-        omega (arith, law, now, before, held, sells, cancels, confirms)
+    right : sums ≡ moved_behind grid journal n (is_at Classes) i class
+    right =
+        is
+        ∙ ap (λ (m : ℕ). moved_behind grid journal n (is_at split) i m) spelled
+        ∙ ap (λ (s : Split). moved_behind grid journal n (is_at s) i class) by
 
 pub class_left : (p : Pickup) (any : Bool) (all : List Pickup) → any ≡ (nat_lt 0 p.before || nat_lt 0 p.sold || nat_lt 0 p.confirmed)
     → any ≡ false → all ≡ all ++ with_any p

@@ -1,5 +1,5 @@
 -- What the lines behind the first ones made of each class of each flight.
-use Rattle.std.specs.Prelude.{◌≡◌, ℕ, zero, suc, ◌+◌, ◌||◌, nat_lt, List, [], ◌∷◌, ◌++◌, take, drop, Option, if◌then◌else◌}
+use Rattle.std.specs.Prelude.{◌≡◌, ℕ, zero, suc, ◌+◌, ◌||◌, nat_lt, Bool, List, [], ◌∷◌, ◌++◌, take, drop, Option, if◌then◌else◌}
 use Rattle.ssim_flights.specs.declared.flight.Flight.{Flight as Flown}
 use Rattle.seat_journal.specs.declared.entry.Entry.{Entry}
 use Rattle.seat_nesting.specs.Nesting.{Ladders}
@@ -7,30 +7,50 @@ use Rattle.seat_rules.specs.Journal.{IsLegal, replay}
 use Rattle.seat_rules.specs.declared.booking.Booking.{Booking}
 use Rattle.seat_lists.specs.Picking.{keeps_flight}
 use Rattle.seat_lists.specs.declared.picking.Designator.{Designator}
-use Rattle.seat_pickup.specs.Moves.{cancelled_by, confirmed_by, held_in, sold_by, sum_of}
-use Rattle.seat_pickup.specs.declared.classes.Moves.{Moves}
+use Rattle.seat_pickup.specs.Moves.{Where, cancelled_by, confirmed_by, held_in, is_at, sold_by, sum_of}
+use Rattle.seat_pickup.specs.declared.split.Split.TheVariants.{Classes}
+use Rattle.seat_pickup.specs.declared.moved.MoveSums.{MoveSums}
+use Rattle.seat_pickup.specs.declared.moved.Moves.{Moves}
 use Rattle.seat_pickup.specs.declared.classes.Pickup.{Pickup}
 use Rattle.seat_pickup.specs.Counting.{AreCounts}
 
--- the bookings before and after these lines: what was held on a flight in a class, what the lines sold, cancelled and confirmed from the list,
--- and what is held
+-- the bookings before and after these lines: what was held there, what the lines sold, cancelled and confirmed from the list, and what is held
+abbrev pub moved_at : Where → List Booking → List Entry → List Booking → ℕ → ℕ → MoveSums
+moved_at on before since after f k = record {
+  before = held_in on before f k;
+  sold = sum_of (sold_by on) since f k;
+  cancelled = sum_of (cancelled_by on) since f k;
+  confirmed = sum_of (confirmed_by on) since f k;
+  held = held_in on after f k;
+}
+
+-- behind the first n lines of a journal
+abbrev pub moved_behind : Ladders → List Entry → ℕ → Where → ℕ → ℕ → MoveSums
+moved_behind grid journal n on f k =
+    moved_at on (replay grid (take n journal)).bookings (drop n journal) (replay grid journal).bookings f k
+
+-- anything was held there before, or came
+abbrev pub has_any : MoveSums → Bool
+has_any sums = nat_lt 0 sums.before || nat_lt 0 sums.sold || nat_lt 0 sums.confirmed
+
+-- the rows have what these lines moved
+pub record AreMoves (since : List Entry) (moves : Moves) : Type 0 where
+  pub sold : AreCounts moves.flights (sum_of (sold_by (is_at moves.split)) since) moves.sold.items
+  pub cancelled : AreCounts moves.flights (sum_of (cancelled_by (is_at moves.split)) since) moves.cancelled.items
+  pub confirmed : AreCounts moves.flights (sum_of (confirmed_by (is_at moves.split)) since) moves.confirmed.items
+
+-- what was held on a flight in a class, what came and went, and what is held
 abbrev pub of_class : List Booking → List Entry → List Booking → ℕ → Flown → ℕ → Pickup
 of_class before since after i flight class = record {
   flight = i;
   name = record { airline = flight.airline; number = flight.number; suffix = flight.suffix };
   class = class;
-  before = held_in before i class;
-  sold = sum_of sold_by since i class;
-  cancelled = sum_of cancelled_by since i class;
-  confirmed = sum_of confirmed_by since i class;
-  held = held_in after i class;
+  before = held_in (is_at Classes) before i class;
+  sold = sum_of (sold_by (is_at Classes)) since i class;
+  cancelled = sum_of (cancelled_by (is_at Classes)) since i class;
+  confirmed = sum_of (confirmed_by (is_at Classes)) since i class;
+  held = held_in (is_at Classes) after i class;
 }
-
--- the rows have what these lines moved
-pub record AreMoves (since : List Entry) (moves : Moves) : Type 0 where
-  pub sold : AreCounts moves.flights (sum_of sold_by since) moves.sold.items
-  pub cancelled : AreCounts moves.flights (sum_of cancelled_by since) moves.cancelled.items
-  pub confirmed : AreCounts moves.flights (sum_of confirmed_by since) moves.confirmed.items
 
 -- a class in which nothing was held or came is left out
 abbrev pub with_any : Pickup → List Pickup
@@ -61,6 +81,6 @@ pickups_of asked flights grid journal n =
 
 -- what was held, with what was sold and confirmed and without what was cancelled, is what is held
 abbrev pub MovesBalance : Type 0
-MovesBalance = (grid : Ladders) (older since : List Entry) (f c : ℕ) → IsLegal grid (older ++ since) →
-    held_in (replay grid older).bookings f c + (sum_of sold_by since f c + sum_of confirmed_by since f c)
-    ≡ held_in (replay grid (older ++ since)).bookings f c + sum_of cancelled_by since f c
+MovesBalance = (on : Where) (grid : Ladders) (older since : List Entry) (f k : ℕ) → IsLegal grid (older ++ since) →
+    held_in on (replay grid older).bookings f k + (sum_of (sold_by on) since f k + sum_of (confirmed_by on) since f k)
+    ≡ held_in on (replay grid (older ++ since)).bookings f k + sum_of (cancelled_by on) since f k

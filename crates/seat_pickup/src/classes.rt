@@ -1,19 +1,17 @@
 //! What the lines behind the first ones made of each class of each flight.
 //! It knows no text.
-ghost use Rattle.std.specs.Prelude.{◌≡◌, ◌≤◌, ◌<◌, ◌++◌, ◌+◌, ◌-◌, ◌||◌, IfOk, OnOk, drop, length, nat_lt, take};
-ghost use Rattle.std.specs.List.{sum_by};
+ghost use Rattle.std.specs.Prelude.{◌≡◌, ◌≤◌, ◌<◌, ◌++◌, ◌||◌, IfOk, OnOk, drop, length, nat_lt, take};
 ghost use Rattle.seat_rules.specs.Inventory.{state_now};
 ghost use Rattle.seat_rules.specs.Journal.{replay};
 ghost use Rattle.seat_desk.specs.AuditDesk.{most_lines};
-ghost use Rattle.seat_pickup.specs.Moves.{held_in, holds};
-ghost use Rattle.seat_pickup.specs.Pickups.{AreMoves, of_class, of_flight, of_flights, of_letters, pickups_of, with_any};
+ghost use Rattle.seat_pickup.specs.Pickups.{AreMoves, of_class, of_flight, of_letters, pickups_of, with_any};
+ghost use Rattle.seat_pickup.specs.declared.split.Split.TheVariants.{Classes};
 
-use crate::counting::count_at;
-use crate::moves::{cancelled_in, confirmed_in, sold_in};
+use crate::moved::{Moves, moved_at, moves_behind};
+use crate::split::Split;
 use airline_base::{Class, Memory};
 use seat_core::Core;
 use seat_lists::{Designator, keeps_flight};
-use seat_rules::Booking;
 use ssim_flights::{Flight, Flights};
 use std::alloc::Global;
 
@@ -36,15 +34,6 @@ pub struct Pickup {
     pub held: u64,
 }
 
-/// What lines moved, by flight and class.
-#[derive(Drop)]
-pub struct Moves {
-    pub flights: u32,
-    pub sold: Vec<u64>,
-    pub cancelled: Vec<u64>,
-    pub confirmed: Vec<u64>,
-}
-
 /// What the lines behind the first `lines` of an inventory made of each class of each flight that is asked for: by flight, and from A to Z. A class
 /// in which nothing was held or came is left out.
 pub fn pickups(
@@ -58,7 +47,7 @@ pub fn pickups(
     requires within { lines ≤ length core.now.journal }
     ensures { IfOk result (λ all. all.items ≡ pickups_of flight.now flights.now core.now.grid core.now.journal lines) }
 {
-    let moves = moves_behind(alloc, flights.len(), core, lines)?;
+    let moves = moves_behind(alloc, Split::Classes, flights.len(), core, lines)?;
     let mut all = Vec::new(alloc);
     for index in 0..flights.len() {
         add_flight(
@@ -72,21 +61,6 @@ pub fn pickups(
         )?;
     }
     Ok(all)
-}
-
-/// What those lines moved.
-fn moves_behind(alloc: Global, flights: u32, core: &Core, lines: usize) -> Result<Moves, Memory>
-    requires within { lines ≤ length core.now.journal }
-    ensures flights { IfOk result (λ moves. moves.flights ≡ flights) }
-    ensures moved { IfOk result (AreMoves (drop lines core.now.journal)) }
-{
-    let since = &core.journal()[lines..];
-    Ok(Moves {
-        flights,
-        sold: sold_in(alloc, flights, since)?,
-        cancelled: cancelled_in(alloc, flights, since)?,
-        confirmed: confirmed_in(alloc, flights, since)?,
-    })
 }
 
 /// Adds those of a flight, if it is asked for.
@@ -103,6 +77,7 @@ fn add_flight(
     requires capped { core.now.cap ≤ most_lines }
     requires within { lines ≤ length core.now.journal }
     requires inside { index < moves.now.flights }
+    requires classes { moves.now.split ≡ Classes }
     requires moved { AreMoves (drop lines core.now.journal) moves.now }
     ensures { OnOk result (all.new.items ≡ all.old.items ++ of_flight asked.now (of_class (replay core.now.grid (take lines core.now.journal)).bookings
         (drop lines core.now.journal) (state_now core.now).bookings) index flight.now) }
@@ -125,6 +100,7 @@ fn add_classes(
     requires capped { core.now.cap ≤ most_lines }
     requires within { lines ≤ length core.now.journal }
     requires inside { index < moves.now.flights }
+    requires classes { moves.now.split ≡ Classes }
     requires moved { AreMoves (drop lines core.now.journal) moves.now }
     ensures { OnOk result (all.new.items ≡ all.old.items ++ of_letters (of_class (replay core.now.grid (take lines core.now.journal)).bookings
         (drop lines core.now.journal) (state_now core.now).bookings index flight.now)) }
@@ -149,6 +125,7 @@ fn add_letter(
     requires capped { core.now.cap ≤ most_lines }
     requires within { lines ≤ length core.now.journal }
     requires inside { index < moves.now.flights }
+    requires classes { moves.now.split ≡ Classes }
     requires moved { AreMoves (drop lines core.now.journal) moves.now }
     requires from { 65 ≤ letter }
     requires to { letter ≤ 90 }
@@ -175,6 +152,7 @@ fn add_class(
     requires capped { core.now.cap ≤ most_lines }
     requires within { lines ≤ length core.now.journal }
     requires inside { index < moves.now.flights }
+    requires classes { moves.now.split ≡ Classes }
     requires moved { AreMoves (drop lines core.now.journal) moves.now }
     ensures { OnOk result (all.new.items ≡ all.old.items ++ with_any (of_class (replay core.now.grid (take lines core.now.journal)).bookings
         (drop lines core.now.journal) (state_now core.now).bookings index flight.now class)) }
@@ -196,7 +174,7 @@ fn has_any(pickup: &Pickup) -> bool
 }
 
 /// What became of a class of a flight.
-#[tactic(auto, using(crate::proofs::Picking::spot_within, crate::proofs::Picking::pickup_is))]
+#[tactic(auto, using(crate::proofs::Counted::low, crate::proofs::Counted::high, crate::proofs::Picking::pickup_is))]
 fn of_class(
     core: &Core,
     moves: &Moves,
@@ -208,40 +186,22 @@ fn of_class(
     requires capped { core.now.cap ≤ most_lines }
     requires within { lines ≤ length core.now.journal }
     requires inside { index < moves.now.flights }
+    requires classes { moves.now.split ≡ Classes }
     requires moved { AreMoves (drop lines core.now.journal) moves.now }
     ensures { IfOk result (λ p. p ≡ of_class (replay core.now.grid (take lines core.now.journal)).bookings
         (drop lines core.now.journal) (state_now core.now).bookings index flight.now class) }
 {
-    // For the prover alone: only the inventory itself says that its journal is legal.
-    let _ = core.journal();
-    let held = held_in(core, index, class);
-    let sold = count_at(&moves.sold, index, class);
-    let cancelled = count_at(&moves.cancelled, index, class);
-    let confirmed = count_at(&moves.confirmed, index, class);
-    let before = before(held, sold, cancelled, confirmed)?;
+    let sums = moved_at(core, moves, lines, index, class.letter())?;
     Ok(Pickup {
         flight: index,
         name: name_of(flight),
         class,
-        before,
-        sold,
-        cancelled,
-        confirmed,
-        held,
+        before: sums.before,
+        sold: sums.sold,
+        cancelled: sums.cancelled,
+        confirmed: sums.confirmed,
+        held: sums.held,
     })
-}
-
-/// What was held before: what is, with what was cancelled and without what came. A count that 64 bits don't hold is want of memory.
-fn before(held: u64, sold: u64, cancelled: u64, confirmed: u64) -> Result<u64, Memory>
-    ensures { IfOk result (λ n. n ≡ (held + cancelled) - (sold + confirmed)) }
-{
-    let Some(all) = held.checked_add(cancelled) else {
-        return Err(Memory);
-    };
-    let Some(came) = sold.checked_add(confirmed) else {
-        return Err(Memory);
-    };
-    Ok(all.saturating_sub(came))
 }
 
 /// What names a flight.
@@ -254,38 +214,5 @@ fn name_of(flight: &Flight) -> Designator
         airline: flight.airline,
         number: flight.number,
         suffix: flight.suffix,
-    }
-}
-
-/// The seats that are held on a flight in a class.
-#[tactic(auto, using(seat_questions::proofs::Standings::few_bookings, crate::proofs::Picking::held_is))]
-fn held_in(core: &Core, index: u32, class: Class) -> u64
-    requires capped { core.now.cap ≤ most_lines }
-    ensures { result ≡ held_in (state_now core.now).bookings index class }
-{
-    // For the prover alone: a journal of so few lines leaves no more bookings, so that their sum fits.
-    let _ = core.journal();
-    held_among(core.bookings_on(index), class)
-}
-
-fn held_among(bookings: &[Booking], class: Class) -> u64
-    requires few { length bookings.now ≤ 999999 }
-    ensures { result ≡ sum_by (holds class) bookings.now }
-{
-    let mut seats = 0u64;
-    for booking in bookings {
-        seats += u64::from(holds(booking, class));
-    }
-    seats
-}
-
-/// The seats that a booking holds, if it is in the class.
-fn holds(booking: &Booking, class: Class) -> u16
-    ensures { result ≡ holds class booking.now }
-{
-    if !booking.is_waiting() && booking.class == class {
-        booking.seats
-    } else {
-        0
     }
 }

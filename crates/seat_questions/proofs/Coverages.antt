@@ -1,5 +1,5 @@
 -- Rows and legs find each other by counts.
-use Rattle.std.proofs.Common.{◌≡◌, ◌==◌, ℕ, zero, suc, ◌+◌, ◌<◌, ◌≤◌, Bool, true, false, ◌&&◌, ◌||◌, cond, nat_lt, nat_le, max, List, [], ◌∷◌, ◌++◌, length, map, take, get_or, Some, refl, sym, ap, subst, ◌∙◌, append_assoc, arith, zero-add}
+use Rattle.std.proofs.Common.{◌≡◌, ◌==◌, ℕ, zero, suc, ◌+◌, ◌-◌, ◌<◌, ◌≤◌, Bool, true, false, ◌&&◌, ◌||◌, cond, nat_lt, nat_le, max, List, [], ◌∷◌, ◌++◌, length, map, take, get_or, Some, refl, sym, ap, subst, ◌∙◌, append_assoc, arith, zero-add}
 use Rattle.seat_questions.proofs.Common.{DatedLeg, Flight, LimitRow, IsPut}
 use Rattle.std.specs.Prelude.{count_by, slice_get}
 use Rattle.std.specs.List.{All, AllWithin, flat_map, list_any, sum_by}
@@ -10,17 +10,17 @@ use Rattle.std.proofs.lemmas.Bool.{eqb-true}
 use Rattle.std.proofs.lemmas.Bool.Decides.{nat_tests}
 use Rattle.std.proofs.lemmas.List.{map_more, take_all}
 use Rattle.std.proofs.lemmas.List.Elements.{All-more}
-use Rattle.std.proofs.lemmas.List.Sums.{sum_by-cons}
+use Rattle.std.proofs.lemmas.List.Sums.{sum_by-append, sum_by-cons}
 use Rattle.std.proofs.lemmas.List.Sorted.{IsNonDecreasingBy-from_sort, list_any-IsPermutation, sum_by-IsPermutation}
 use Rattle.std.proofs.lemmas.List.Folds.{list_any-append}
 use Rattle.std.proofs.lemmas.Option.{get_or_from_slice_get, slice_get_within}
 use Rattle.airline_base.specs.Days.{IsDay}
 use Rattle.seat_limits.specs.Authorised.{holds_day, leg_pair, row_pair, same_pair}
 use Rattle.seat_limits.proofs.RowIndexing.{pair_is}
-use Rattle.seat_questions.specs.Cover.{IsCoverText, IsFlightPartBy, IsRowPartBy, covered_by, effect_among, has_leg, has_row, is_on, is_row_of, leg_count, row_text, sums_text}
+use Rattle.seat_questions.specs.Cover.{IsCoverText, IsFlightPartBy, IsRowPartBy, covered_by, effect_among, has_leg, has_row, is_on, is_row_of, leg_count, legs_for, row_text, sums_text}
 use Rattle.seat_desk.specs.FlightsDesk.{IsText}
 use Rattle.seat_desk.proofs.Texts.{each_more}
-use Rattle.seat_questions.specs.Coverage.{IsCoverage, IsDatedRow, IsRanking, begin_of, below, day_of, days_of, end_of, finds_leg, finds_row, point, row_number}
+use Rattle.seat_questions.specs.Coverage.{IsCoverage, IsDatedRow, IsRanking, begin_of, below, day_of, days_of, end_of, finds_leg, finds_row, found_legs, point, row_number}
 use Rattle.seat_questions.specs.PairNumbers.{number_of}
 use Rattle.seat_questions.specs.declared.coverage.Coverage.{Coverage}
 use Rattle.seat_questions.specs.declared.pair_numbers.PairNumbers.{PairNumbers}
@@ -235,6 +235,33 @@ leg_found c flights rows h k row at =
     ∙ any_same (λ (flight : Flight). list_any test (days_of c.numbers flight)) (λ (flight : Flight). is_on row flight) flights
     (λ i flight _. any_map test (day_of c.numbers flight) flight.legs
     ∙ any_same (λ (leg : DatedLeg). test (day_of c.numbers flight leg)) (λ (leg : DatedLeg). is_row_of row flight leg) flight.legs (λ j leg _. found c flights rows h k row at flight leg))
+  where
+    test : ℕ → Bool
+    test = within (begin_of c.numbers row) (end_of c.numbers row)
+
+count_flat : {X : Type 0} (p : ℕ → Bool) (f : X → List ℕ) (xs : List X)
+    → count_by p (flat_map f xs) ≡ sum_by (λ x. count_by p (f x)) xs
+count_flat p f [] = refl
+count_flat p f (x ∷ xs) =
+    sum_by-append (λ n. one (p n)) (f x) (flat_map f xs)
+    ∙ ap (λ (n : ℕ). count_by p (f x) + n) (count_flat p f xs) ∙ sym (sum_by-cons (λ y. count_by p (f y)) x xs)
+
+left_over : (a b c : ℕ) → b ≡ a + c → b - a ≡ c
+left_over a b c e = omega (arith, e)
+
+-- the difference is how many legs the row is for
+pub legs_counted : (c : Coverage) (flights : List Flight) (rows : List LimitRow) → IsCoverage c flights rows
+    → (k : ℕ) (row : LimitRow) → slice_get rows k ≡ Some row
+    → found_legs c row ≡ legs_for flights row
+legs_counted c flights rows h k row at =
+    left_over (below (begin_of c.numbers row) c.days.items) (below (end_of c.numbers row) c.days.items) (count_by test c.days.items)
+    (counts_add (λ n. nat_lt n (end_of c.numbers row)) (λ n. nat_lt n (begin_of c.numbers row)) test
+    (λ n. within_one (begin_of c.numbers row) (end_of c.numbers row) n (begin_before c.numbers row)) c.days.items)
+    ∙ sum_by-IsPermutation (λ n. one (test n)) (flat_map (days_of c.numbers) flights) c.days.items h.days.same
+    ∙ count_flat test (days_of c.numbers) flights
+    ∙ ap (λ (f : Flight → ℕ). sum_by f flights) (λ i flight. count_map test (day_of c.numbers flight) flight.legs i)
+    ∙ ap (λ (p : Flight → DatedLeg → Bool). sum_by (λ flight. count_by (p flight) flight.legs) flights)
+    (λ i flight leg. found c flights rows h k row at flight leg i)
   where
     test : ℕ → Bool
     test = within (begin_of c.numbers row) (end_of c.numbers row)

@@ -1,9 +1,9 @@
 pub mod Common
-mod Coverages
+pub mod Coverages
 pub mod Covers
 mod Effects
 mod Numbering
 mod Reasons
 pub mod RoomTexts
 pub mod Standings
-mod Winners
+pub mod Marking

@@ -22,6 +22,13 @@ is_on row flight = list_any (λ (leg : DatedLeg). is_row_of row flight leg) flig
 abbrev pub has_leg : List Flown → LimitRow → Bool
 has_leg flights row = list_any (λ flight. is_on row flight) flights
 
+-- the legs that the row is for: of the flight, of all flights
+abbrev pub legs_on : LimitRow → Flown → ℕ
+legs_on row flight = count_by (λ (leg : DatedLeg). is_row_of row flight leg) flight.legs
+
+abbrev pub legs_for : List Flown → LimitRow → ℕ
+legs_for flights row = sum_by (legs_on row) flights
+
 -- the row gives the leg its ladder: it is for the leg, and none of the rows behind it is
 abbrev pub gives : List LimitRow → LimitRow → Flown → DatedLeg → Bool
 gives behind row flight leg = is_row_of row flight leg && not (has_row behind flight leg)

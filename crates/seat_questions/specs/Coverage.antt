@@ -1,5 +1,5 @@
 -- Limit rows and legs on one line of numbers: each pair has a run of points, one for each day.
-use Rattle.std.specs.Prelude.{◌≡◌, ◌+◌, ◌*◌, ℕ, Bool, min, max, nat_lt, List, map, count_by, length}
+use Rattle.std.specs.Prelude.{◌≡◌, ◌+◌, ◌-◌, ◌*◌, ℕ, Bool, min, max, nat_lt, List, map, count_by, length}
 use Rattle.std.specs.List.{All, flat_map}
 use Rattle.std.specs.List.Sorted.{IsNonDecreasing, IsPermutation}
 use Rattle.airline_base.specs.Days.{IsDay}
@@ -45,6 +45,10 @@ below number numbers = count_by (λ n. nat_lt n number) numbers
 -- more legs are before the end of the row than before its beginning
 abbrev pub finds_leg : Coverage → LimitRow → Bool
 finds_leg c row = nat_lt (below (begin_of c.numbers row) c.days.items) (below (end_of c.numbers row) c.days.items)
+
+-- and so many more
+abbrev pub found_legs : Coverage → LimitRow → ℕ
+found_legs c row = below (end_of c.numbers row) c.days.items - below (begin_of c.numbers row) c.days.items
 
 -- more rows begin up to the leg than end
 abbrev pub finds_row : Coverage → Flown → DatedLeg → Bool

@@ -3,7 +3,7 @@ ghost use Rattle.std.specs.Prelude.{◌≡◌, ◌<◌, ◌++◌, IfOk, OnOk};
 ghost use Rattle.std.specs.List.{flat_map};
 ghost use Rattle.std.specs.List.Sorted.{IsNonDecreasing};
 ghost use Rattle.airline_base.specs.Days.{IsDay};
-ghost use Rattle.seat_questions.specs.Coverage.{AreSpans, IsCoverage, IsRanking, IsSearchable, begin_at, below, day_of, days_of, end_at, finds_leg, finds_row, point};
+ghost use Rattle.seat_questions.specs.Coverage.{AreSpans, IsCoverage, IsRanking, IsSearchable, begin_at, below, day_of, days_of, end_at, finds_leg, finds_row, found_legs, point};
 
 use crate::pair_numbers::{PairNumbers, pair_of};
 use airline_base::{Day, Memory};
@@ -27,6 +27,7 @@ pub struct Spans {
 }
 
 impl Coverage {
+    /// Both in one order, where each is found by a search.
     pub fn new(alloc: Global, flights: &Flights, rows: &[LimitRow]) -> Result<Coverage, Memory>
         ensures right { IfOk result (λ c. IsCoverage c flights.now rows.now) }
         ensures searchable { IfOk result IsSearchable }
@@ -48,6 +49,16 @@ impl Coverage {
     {
         let number = self.numbers.of(pair_of(row));
         self.legs_before(begin(number, row)) < self.legs_before(end(number, row))
+    }
+
+    /// How many legs a row is for: so many more are before its end than before its beginning.
+    pub fn legs_of(&self, row: &LimitRow) -> usize
+        requires { IsSearchable self.now }
+        ensures { result ≡ found_legs self.now row.now }
+    {
+        let number = self.numbers.of(pair_of(row));
+        let before = self.legs_before(begin(number, row));
+        self.legs_before(end(number, row)).saturating_sub(before)
     }
 
     fn legs_before(&self, point: u128) -> usize

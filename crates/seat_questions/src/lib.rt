@@ -13,6 +13,7 @@ mod why;
 mod winning;
 
 pub use cover::Cover;
+pub use coverage::Coverage;
 pub use laws::{
     found_places_are_written, opening_rooms_are_of_no_lines, rows_without_effect_give_nothing,
     written_places_are_found,
@@ -20,3 +21,4 @@ pub use laws::{
 pub use legs::{has_leg, put_class, put_each_room, put_each_wait, waiting};
 pub use rooms::{Bars, CityPair, RoomsOf, is_shown, keeps_day, keeps_pair, put_bars, run_of};
 pub use why::Why;
+pub use winning::winners;

@@ -12,7 +12,7 @@ use ssim_flights::{DatedLeg, Flight, Flights};
 use std::alloc::Global;
 
 /// Beside each row whether it is the last one that is for some leg.
-#[tactic(auto, using(crate::proofs::Winners::none_marked))]
+#[tactic(auto, using(crate::proofs::Marking::none_marked))]
 pub fn winners(alloc: Global, flights: &Flights, rows: &[LimitRow]) -> Result<Vec<bool>, Memory>
     ensures { IfOk result (λ marks. AreWinners rows.now flights.now marks.items) }
 {
@@ -25,7 +25,7 @@ pub fn winners(alloc: Global, flights: &Flights, rows: &[LimitRow]) -> Result<Ve
 }
 
 /// Marks the rows of the legs of a flight.
-#[tactic(auto, using(crate::proofs::Winners::same_marks, crate::proofs::Winners::leg_marked, crate::proofs::Winners::legs_marked))]
+#[tactic(auto, using(crate::proofs::Marking::same_marks, crate::proofs::Marking::leg_marked, crate::proofs::Marking::legs_marked))]
 fn mark_legs(marks: &mut Vec<bool>, index: &RowIndex, rows: &[LimitRow], flight: &Flight)
     requires index { IsRowIndex index.now.last index.now.edges.items index.now.found.items rows.now }
     requires counted { length marks.old.items ≡ length rows.now }
@@ -38,7 +38,7 @@ fn mark_legs(marks: &mut Vec<bool>, index: &RowIndex, rows: &[LimitRow], flight:
 }
 
 /// Marks a row, if there is one.
-#[tactic(auto, using(crate::proofs::Winners::row_marked, crate::proofs::Winners::none_more))]
+#[tactic(auto, using(crate::proofs::Marking::row_marked, crate::proofs::Marking::none_more))]
 fn mark(marks: &mut Vec<bool>, row: Option<u32>)
     requires { IfSome row (λ i. i < length marks.old.items) }
     ensures { Marks (λ i. is_that i row) marks.old.items marks.new.items }

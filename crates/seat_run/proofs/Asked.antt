@@ -2,7 +2,7 @@
 use Rattle.std.proofs.Common.{◌≡◌, ◌-◌, ◌≤◌, ℕ, zero, suc, List, [], ap, sym, ◌∙◌, subst, arith, Option, Some, None}
 use Rattle.std.specs.Prelude.{slice_get, unwrap_or}
 use Rattle.airimp_lines.specs.declared.requests.Request.{Request}
-use Rattle.seat_scripts.specs.RunDesk.{requests_of}
+use Rattle.seat_replies.specs.RunDesk.{requests_of}
 
 pub managed : (scripts : List (List Request)) (session : ℕ) → session ≡ 0 → [] ≡ requests_of scripts session
 managed scripts session is = ap (requests_of scripts) (sym is)

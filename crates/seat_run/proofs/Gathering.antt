@@ -31,9 +31,9 @@ use Rattle.seat_host.specs.declared.under_lock.BookFault.TheVariants.{JournalFul
 use Rattle.seat_workers.specs.declared.workers.RunFault.{RunFault}
 use Rattle.seat_desk.specs.declared.fault.DeskFault.{DeskFault}
 use Rattle.seat_desk.specs.declared.fault.DeskFault.TheVariants.{Memory}
-use Rattle.seat_scripts.specs.RunDesk.{asked_in, IsBookedTo, IsFull, IsHistoryOf, IsUnbooked, works_in}
+use Rattle.seat_replies.specs.RunDesk.{asked_in, IsBookedTo, IsFull, IsHistoryOf, IsUnbooked, works_in}
 use Rattle.seat_run.specs.Refusing.{call_refusal, run_refusal}
-use Rattle.seat_scripts.proofs.Rows.{all_of, row_at, row_count}
+use Rattle.seat_replies.proofs.Rows.{all_of, row_at, row_count}
 
 -- the manager and n sessions that go on from the past
 abbrev all_seated : List Entry → ℕ → List Seat

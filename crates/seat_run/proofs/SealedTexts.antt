@@ -27,12 +27,12 @@ use Rattle.seat_desk.specs.Sealing.{basis_of}
 use Rattle.seat_desk.specs.declared.fault.DeskFault.{DeskFault}
 use Rattle.seat_desk.specs.declared.fault.DeskFault.TheVariants.{Device, TooLarge}
 use Rattle.seat_scripts.specs.Against.{OfFour}
-use Rattle.seat_scripts.specs.Asked.{IsAsked, OfThree}
+use Rattle.seat_replies.specs.Asked.{IsAsked, OfThree}
 use Rattle.seat_scripts.specs.Begun.{IsBehindRuns}
-use Rattle.seat_scripts.specs.Going.{lists_over}
-use Rattle.seat_scripts.specs.Requests.{commands_of}
+use Rattle.seat_replies.specs.Going.{lists_over}
+use Rattle.seat_replies.specs.Requests.{commands_of}
 use Rattle.seat_scripts.specs.Resumed.{IsAhead, IsAskedStill}
-use Rattle.seat_scripts.specs.RunDesk.{IsHistoryOf, IsReplied}
+use Rattle.seat_replies.specs.RunDesk.{IsHistoryOf, IsReplied}
 use Rattle.seat_scripts.proofs.OneTaken.{one_taken}
 use Rattle.seat_scripts.specs.Taken.{WithTaken}
 use Rattle.seat_scripts.specs.SealedRun.{IsEntryOfRun}

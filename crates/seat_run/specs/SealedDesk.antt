@@ -14,9 +14,9 @@ use Rattle.seat_desk.specs.Loading.{Bytes}
 use Rattle.seat_desk.specs.Sealing.{basis_of}
 use Rattle.seat_desk.specs.declared.inputs.Inputs.{Inputs}
 use Rattle.seat_scripts.specs.Against.{OfFour}
-use Rattle.seat_scripts.specs.Asked.{OfThree}
+use Rattle.seat_replies.specs.Asked.{OfThree}
 use Rattle.seat_scripts.specs.Resumed.{IsResumed}
-use Rattle.seat_scripts.specs.RunDesk.{IsRun}
+use Rattle.seat_replies.specs.RunDesk.{IsRun}
 use Rattle.seat_scripts.specs.Taken.{WithTaken}
 use Rattle.seat_scripts.specs.SealedRun.{IsEntryOfRun}
 use Rattle.seat_scripts.specs.TextImprints.{AreImprints, IsImprintOf}

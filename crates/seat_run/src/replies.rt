@@ -1,20 +1,20 @@
 //! The replies to the receipts of the manager and of each session, one session after the other.
 ghost use Rattle.std.specs.Prelude.{◌≡◌, ◌≤◌, IfOk, OnOk, drop, length};
 ghost use Rattle.seat_desk.specs.FlightsDesk.{IsPut, IsText};
-ghost use Rattle.seat_scripts.specs.Answering.{AreAllAnswerable, AreAnswerable};
-ghost use Rattle.seat_scripts.specs.Going.{behind};
-ghost use Rattle.seat_scripts.specs.RunDesk.{AreSessions, IsAnswer, requests_of};
+ghost use Rattle.seat_replies.specs.Answering.{AreAllAnswerable, AreAnswerable};
+ghost use Rattle.seat_replies.specs.Going.{behind};
+ghost use Rattle.seat_replies.specs.RunDesk.{AreSessions, IsAnswer, requests_of};
 
 use airimp_lines::{Request, Requests};
 use seat_host::{Receipt, Receipts};
 use seat_journal::Entry;
-use seat_scripts::{Past, put_answer};
+use seat_replies::{Past, put_answer};
 use ssim_flights::Flights;
 use std::alloc::{AllocError, Global};
 
 /// The replies to the lines behind the past: those of session 0, the manager, then of session 1, and so on, each with the
 /// advices of its line.
-#[tactic(auto, using(seat_desk::proofs::Texts::put_none, seat_scripts::proofs::Parts::sessions_whole))]
+#[tactic(auto, using(seat_desk::proofs::Texts::put_none, seat_replies::proofs::Parts::sessions_whole))]
 pub fn replies(
     alloc: Global,
     flights: &Flights,
@@ -69,7 +69,7 @@ fn added(receipts: &Receipts, past: u32) -> &[Receipt]
 }
 
 /// Adds the answers to lines, each beside the request at its place.
-#[tactic(auto, using(seat_desk::proofs::Texts::put_none, seat_scripts::proofs::Parts::answers_more, seat_scripts::proofs::Parts::line_answerable))]
+#[tactic(auto, using(seat_desk::proofs::Texts::put_none, seat_replies::proofs::Parts::answers_more, seat_replies::proofs::Parts::line_answerable))]
 fn put_answers(
     text: &mut Vec<u8>,
     flights: &Flights,

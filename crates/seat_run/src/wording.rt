@@ -2,9 +2,9 @@
 ghost use Rattle.std.specs.Prelude.{◌≡◌, ◌≤◌, IfErr, IfOk, length};
 ghost use Rattle.seat_desk.specs.FlightsDesk.{IsText};
 ghost use Rattle.seat_journal.specs.Text.{journal_text};
-ghost use Rattle.seat_scripts.specs.Answering.{AreAllAnswerable};
-ghost use Rattle.seat_scripts.specs.Going.{behind};
-ghost use Rattle.seat_scripts.specs.RunDesk.{AreSessions};
+ghost use Rattle.seat_replies.specs.Answering.{AreAllAnswerable};
+ghost use Rattle.seat_replies.specs.Going.{behind};
+ghost use Rattle.seat_replies.specs.RunDesk.{AreSessions};
 ghost use Rattle.seat_seal.specs.Fronts.{front_of};
 ghost use Rattle.seat_seal.specs.Imprints.{imprint_of};
 
@@ -14,7 +14,7 @@ use airimp_lines::Requests;
 use seat_desk::DeskFault;
 use seat_host::Receipts;
 use seat_journal::Entry;
-use seat_scripts::Past;
+use seat_replies::Past;
 use seat_seal::{Imprint, front_of, imprint_of};
 use ssim_flights::Flights;
 use std::alloc::{AllocError, Global};

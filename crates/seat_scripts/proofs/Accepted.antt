@@ -17,14 +17,14 @@ use Rattle.seat_desk.proofs.Grounds.{loaded_replays_keep_limits}
 use Rattle.seat_scripts.specs.Against.{AgainstRefusal, HasBoth, HasOlder, IsAuditAgainst, IsTooLargeAgainst, IsUnlawfulBeside, AreAsked, AreVeryRequests, IsParted, IsReplayWithin}
 use Rattle.seat_scripts.specs.Replying.{AreRepliesOver, all_wanted, RepliesAreThoseOfTheRun}
 use Rattle.seat_scripts.specs.Audits.{RunsAreAuditedAgainst}
-use Rattle.seat_scripts.specs.Requests.{IsNoScript, IsReadable, most_script_bytes}
-use Rattle.seat_scripts.specs.RunDesk.{IsRun, requests_of}
+use Rattle.seat_replies.specs.Requests.{IsNoScript, IsReadable, most_script_bytes}
+use Rattle.seat_replies.specs.RunDesk.{IsRun, requests_of}
 use Rattle.seat_scripts.proofs.Audits.{loads, one_grid}
-use Rattle.seat_scripts.proofs.Going.{over_count}
-use Rattle.seat_scripts.proofs.Histories.{as_replies, no_more, own_works}
+use Rattle.seat_replies.proofs.Going.{over_count}
+use Rattle.seat_replies.proofs.Histories.{as_replies, no_more, own_works}
 use Rattle.seat_scripts.proofs.Lengths.{text_short}
 use Rattle.seat_scripts.proofs.Unasked.{unasked_is_not_audited}
-use Rattle.seat_scripts.proofs.Very.{commands_agree}
+use Rattle.seat_replies.proofs.Very.{commands_agree}
 
 -- ---- the lines of each session are what its script asks
 

@@ -20,17 +20,17 @@ use Rattle.seat_scripts.proofs.Accepted.{each_of}
 use Rattle.seat_scripts.proofs.Common.{AllByRecursion, Change, Entry, IsHistoryOf, Ladders, Request, Seats, Work, by_session, commands_of, done_by, lists_over, most_journal_bytes}
 use Rattle.seat_scripts.proofs.Comparing.{all_asked, done_append, done_own}
 use Rattle.seat_scripts.proofs.Grown.{all_there, done_all, done_length, nothing_is_left}
-use Rattle.seat_scripts.proofs.Histories.{as_replies, managed}
+use Rattle.seat_replies.proofs.Histories.{as_replies, managed}
 use Rattle.seat_scripts.proofs.Lengths.{text_short}
 use Rattle.seat_scripts.proofs.Rest.{left_count}
-use Rattle.seat_scripts.proofs.Rows.{all_append}
+use Rattle.seat_replies.proofs.Rows.{all_append}
 use Rattle.seat_scripts.proofs.Unasked.{one_schedule, own_added, same_scripts}
 use Rattle.seat_scripts.specs.Against.{AreAsked, AreAskedBelow, IsParted, IsReplayWithin}
-use Rattle.seat_scripts.specs.Changes.{AreChanges, change_of}
+use Rattle.seat_replies.specs.Changes.{AreChanges, change_of}
 use Rattle.seat_scripts.specs.Resumed.{BooksNothing, IsResumed, ResumedAgainIsTheSame, ResumedIsOfTheWhole, ResumedRunIsTheSame}
 use Rattle.seat_scripts.specs.Resuming.{AreAskedOf, AreLeft, HaveBegunBelow, changes_left, left_from}
-use Rattle.seat_scripts.specs.RunDesk.{AreReplies, AreSessions, IsRun, requests_of}
-use Rattle.seat_scripts.specs.VeryRequest.{Agree}
+use Rattle.seat_replies.specs.RunDesk.{AreReplies, AreSessions, IsRun, requests_of}
+use Rattle.seat_replies.specs.VeryRequest.{Agree}
 
 -- ---- what was added is what was left
 

@@ -1,5 +1,5 @@
 -- What an audit with scripts writes or refuses is that of its inputs, where what was read of each is all of it.
-use Rattle.std.proofs.Common.{◌≡◌, ◌≢◌, ⊎_elim, inr, ℕ, List, Option, Some, None, IfSome, subst, sym}
+use Rattle.std.proofs.Common.{◌≡◌, ◌≢◌, ⊎_elim, inr, ℕ, List, Option, Some, None, IfSome, drop, subst, sym, take}
 use Rattle.seat_scripts.proofs.Common.{Request, Ladders, totals_of, audit_line, IsLoaded, DeskFault, Memory, Unasked, AreAskedBehind, IsUnasked, AreScripts, IsRefusedAmong, IsTooLargeAmong}
 use Rattle.ssim_flights.specs.declared.flight.Flight.{Flight as Flown}
 use Rattle.seat_rules.specs.Inventory.{Inventory}
@@ -10,11 +10,12 @@ use Rattle.seat_desk.specs.Sealing.{IsBesideFault}
 use Rattle.seat_seal.specs.declared.beside.Basis.{Basis}
 use Rattle.seat_seal.specs.declared.beside.Beside.{Beside}
 use Rattle.seat_desk.specs.declared.fault.DeskFault.TheVariants.{Flight, Journal, Limit, NoBehind, Replay, Script, Seal, Set}
-use Rattle.seat_scripts.specs.Against.{AreRead, HasBoth, IsAuditAgainst, IsOfReading, IsRefusedAgainst, IsReplayWithin, IsTooLargeAgainst, OfFour}
+use Rattle.seat_scripts.specs.Added.{AreAdded}
+use Rattle.seat_scripts.specs.Against.{AreAsked, AreRead, HasBoth, IsAuditAgainst, IsOfReading, IsParted, IsRefusedAgainst, IsReplayWithin, IsTooLargeAgainst, OfFour}
 use Rattle.seat_scripts.specs.Beside.{IsFaultless, IsRefusedBeside, IsUnsealed}
 use Rattle.seat_scripts.specs.Replying.{AreRepliesBehind, AreRepliesOver}
 use Rattle.seat_scripts.specs.declared.by_session.Wanted.{Wanted}
-use Rattle.seat_scripts.specs.Requests.{IsOfScript}
+use Rattle.seat_replies.specs.Requests.{IsOfScript}
 
 -- what is said of known bytes is said of those that may be known
 pub if_known : (P : List ℕ → List ℕ → Type 0) (A Q : List ℕ → Type 0) (R : List ℕ → List ℕ → List ℕ → List ℕ → Type 0)
@@ -161,6 +162,25 @@ module _ (set limits after journal : Option (List ℕ)) (first days more today :
           scripts = slice;
           are_scripts = here r.are_scripts;
           are_replies = subst (λ (n : ℕ). AreRepliesBehind flights slice older.journal n core.journal wanted text) is_more are;
+        })
+        read
+
+    -- the lines that were added
+    pub added : (past : ℕ) → IsParted older.journal given (take past core.journal) (drop past core.journal) core.journal
+        → AreAsked flights slice (drop past core.journal)
+        → OfFour set limits after journal (λ xs ys old zs. AreAdded xs ys first days old more zs today texts flights scripts (take past core.journal) (drop past core.journal))
+    added past parted asked =
+        if_four (λ xs ys old zs. AreRead xs ys first days old zs today texts flights older core scripts) (λ xs ys old zs. AreAdded xs ys first days old more zs today texts flights scripts (take past core.journal) (drop past core.journal)) set limits after journal
+        (λ xs ys old zs r. record {
+          grid = r.grid;
+          is_loaded = r.is_loaded;
+          older = older;
+          is_older = r.is_older;
+          core = core;
+          is_replay = r.is_replay;
+          are_scripts = r.are_scripts;
+          parted = subst (λ (n : ℕ). IsParted older.journal n (take past core.journal) (drop past core.journal) core.journal) is_more parted;
+          are_asked = subst (λ (l : List (List Request)). AreAsked flights l (drop past core.journal)) same asked;
         })
         read
 

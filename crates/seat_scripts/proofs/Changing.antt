@@ -10,7 +10,7 @@ use Rattle.seat_limits.specs.declared.change_row.ChangeRow.{ChangeRow}
 use Rattle.seat_limits.specs.declared.limit_fault.LimitFault.{LimitFault}
 use Rattle.seat_limits.specs.declared.limit_fault.LimitKind.{LimitKind}
 use Rattle.seat_limits.specs.declared.limit_fault.LimitKind.TheVariants as limit_kinds
-use Rattle.seat_scripts.specs.Changes.{AreServed, IsOnLeg, IsUnchanged, IsUnserved, change_of, change_refusal, change_refusal_of, most_change_bytes, on_leg, on_place, wanted_by}
+use Rattle.seat_replies.specs.Changes.{AreServed, IsOnLeg, IsUnchanged, IsUnserved, change_of, change_refusal, change_refusal_of, most_change_bytes, on_leg, on_place, wanted_by}
 
 -- ---- the first fault
 

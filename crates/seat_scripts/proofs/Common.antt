@@ -19,10 +19,10 @@ pub use Rattle.seat_rules.specs.Histories.{by_session, of_session}
 pub use Rattle.seat_rules.specs.Journal.{IsLegal, IsNext}
 pub use Rattle.seat_rules.specs.Totals.{totals_of}
 pub use Rattle.seat_scripts.specs.Against.{done_by, AreAskedBehind, IsUnasked}
-pub use Rattle.seat_scripts.specs.Asked.{OfThree, HasLoaded}
-pub use Rattle.seat_scripts.specs.Going.{idle, lists_over, behind}
-pub use Rattle.seat_scripts.specs.Requests.{commands_of, AreScripts, IsRefusedAmong, IsTooLargeAmong}
-pub use Rattle.seat_scripts.specs.RunDesk.{IsHistoryOf, works_in}
+pub use Rattle.seat_replies.specs.Asked.{OfThree, HasLoaded}
+pub use Rattle.seat_replies.specs.Going.{idle, lists_over, behind}
+pub use Rattle.seat_replies.specs.Requests.{commands_of, AreScripts, IsRefusedAmong, IsTooLargeAmong}
+pub use Rattle.seat_replies.specs.RunDesk.{IsHistoryOf, works_in}
 unfoldable pub use Rattle.ssim_flights.specs.Places.{place_wanted}
 pub use Rattle.ssim_flights.specs.declared.flight.DatedLeg.{DatedLeg}
 pub use Rattle.std.specs.List.{AllByRecursion}

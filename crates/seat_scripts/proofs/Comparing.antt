@@ -15,13 +15,13 @@ use Rattle.seat_rules.proofs.History.Faults.{place_same, nat_same}
 use Rattle.seat_rules.proofs.History.Legal.{each_legal}
 use Rattle.seat_rules.proofs.Own.{own_append, own_one, own_other}
 use Rattle.seat_scripts.specs.Against.{AreAsked, AreAskedBelow, AreVeryRequests, DifferAt, same_command}
-use Rattle.seat_scripts.specs.RunDesk.{requests_of}
-use Rattle.seat_scripts.specs.VeryRequest.{Agree}
+use Rattle.seat_replies.specs.RunDesk.{requests_of}
+use Rattle.seat_replies.specs.VeryRequest.{Agree}
 use Rattle.ssim_flights.specs.declared.flight.Flight.{Flight as Flown}
-use Rattle.seat_scripts.proofs.Rows.{place_below}
+use Rattle.seat_replies.proofs.Rows.{place_below}
 use Rattle.airline_base.proofs.Tests.{both_true}
 use Rattle.seat_rules.proofs.Step.Apart.{letters_same}
-use Rattle.seat_scripts.proofs.Going.{few_may}
+use Rattle.seat_replies.proofs.Going.{few_may}
 
 -- ---- tests
 

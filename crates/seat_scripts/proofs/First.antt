@@ -3,10 +3,10 @@ use Rattle.std.proofs.Common.{◌≡◌, ℕ, ◌-◌, List, [], ◌++◌, lengt
 use Rattle.seat_scripts.proofs.Common.{Command, Entry, by_session, idle, lists_over, commands_of, IsHistoryOf, works_in}
 use Rattle.std.proofs.lemmas.List.{append-nil}
 use Rattle.seat_journal.proofs.TextLaws.{one_text}
-use Rattle.seat_scripts.proofs.Histories.{as_replies}
+use Rattle.seat_replies.proofs.Histories.{as_replies}
 use Rattle.seat_scripts.specs.First.{RunsFromNoLines}
-use Rattle.seat_scripts.specs.Going.{highest_to}
-use Rattle.seat_scripts.specs.RunDesk.{AreReplies}
+use Rattle.seat_replies.specs.Going.{highest_to}
+use Rattle.seat_replies.specs.RunDesk.{AreReplies}
 
 -- no session is opened but for the lists
 lists_alone : (past : List Entry) (lists : List (List Command)) → past ≡ [] → lists_over past lists ≡ lists

@@ -7,11 +7,11 @@ use Rattle.seat_rules.specs.Journal.{calls_of}
 use Rattle.seat_rules.proofs.Own.{calls_own}
 use Rattle.seat_scripts.proofs.Common.{Entry, Request, Seats, Work, commands_of, done_by, of_session}
 use Rattle.seat_scripts.proofs.Comparing.{AgreeSoFar, all_lines, at_front, done_append}
-use Rattle.seat_scripts.proofs.Very.{commands_are_very_requests}
-use Rattle.seat_scripts.specs.Requests.{command_of}
+use Rattle.seat_replies.proofs.Very.{commands_are_very_requests}
+use Rattle.seat_replies.specs.Requests.{command_of}
 use Rattle.seat_scripts.specs.Resuming.{AreAskedOf, HasBegun, HaveBegunBelow, NothingIsLeft, left_from}
-use Rattle.seat_scripts.specs.RunDesk.{requests_of}
-use Rattle.seat_scripts.specs.VeryRequest.{Agree}
+use Rattle.seat_replies.specs.RunDesk.{requests_of}
+use Rattle.seat_replies.specs.VeryRequest.{Agree}
 use Rattle.ssim_flights.specs.declared.flight.Flight.{Flight as Flown}
 
 -- all lines of the session are the first requests

@@ -2,9 +2,9 @@
 use Rattle.std.proofs.Common.{◌≡◌, ◌⊎◌, inl, inr, ℕ, List, Option, Some, None, IfSome, length, ◌<◌, sym, subst}
 use Rattle.seat_scripts.proofs.Common.{Request, Change, Entry, Ladders, most_journal_bytes, IsFirstTooLargeLoad, IsLoaded, HasLoaded, OfThree, AreScripts, IsTooLargeAmong}
 use Rattle.ssim_flights.specs.declared.flight.Flight.{Flight as Flown}
-use Rattle.seat_scripts.specs.Asked.{HasPast, HasScripts, IsAsked, IsTooLargeRun}
-use Rattle.seat_scripts.specs.Changes.{AreChanges, most_change_bytes}
-use Rattle.seat_scripts.specs.Going.{IsPast}
+use Rattle.seat_replies.specs.Asked.{HasPast, HasScripts, IsAsked, IsTooLargeRun}
+use Rattle.seat_replies.specs.Changes.{AreChanges, most_change_bytes}
+use Rattle.seat_replies.specs.Going.{IsPast}
 
 -- what is said of known bytes is said of those that may be known
 pub if_known : (P : List ℕ → List ℕ → Type 0) (A : List ℕ → Type 0) (Q : List ℕ → List ℕ → List ℕ → Type 0)

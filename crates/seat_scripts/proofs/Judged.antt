@@ -1,19 +1,19 @@
 -- What the runs that a seal knows have against a run that goes on with scripts, as far as the inputs are known.
-use Rattle.std.proofs.Common.{◌≡◌, ◌+◌, ◌||◌, ℕ, Bool, List, Option, Some, None, IfSome, length, subst}
+use Rattle.std.proofs.Common.{◌≡◌, ◌+◌, ◌||◌, ℕ, Bool, List, Option, Some, None, IfSome, length, sym, subst, ◌∙◌}
 use Rattle.seat_rules.specs.Inventory.{Inventory}
 use Rattle.ssim_flights.specs.declared.flight.Flight.{Flight as Flown}
 use Rattle.seat_seal.specs.Known.{IsKnown, runs_known}
 use Rattle.seat_seal.specs.declared.comparing.SealFault.{SealFault}
 use Rattle.seat_seal.specs.declared.seal.Sealed.{Sealed as Belonging}
 use Rattle.seat_desk.specs.Desk.{IsOfInput}
-use Rattle.seat_desk.specs.declared.fault.DeskFault.TheVariants.{Book, NoBehind, Seal, Unasked}
+use Rattle.seat_desk.specs.declared.fault.DeskFault.TheVariants.{Book, Device, NoBehind, Seal, TooLarge, Unasked}
 use Rattle.seat_scripts.proofs.Common.{Change, DeskFault, Entry, Ladders, Request}
 use Rattle.seat_scripts.proofs.Beside.{if_four}
 use Rattle.seat_scripts.proofs.SealedBoth.{both_four}
 use Rattle.seat_scripts.specs.Against.{AreRead, IsOfReading, OfFour}
 use Rattle.seat_scripts.specs.Begun.{IsBehindRuns, IsJudged, IsRefusedByRuns, fault_of_runs}
 use Rattle.seat_scripts.specs.Both.{BothAgree}
-use Rattle.seat_scripts.specs.Changes.{IsOfChanges}
+use Rattle.seat_replies.specs.Changes.{IsOfChanges}
 use Rattle.seat_scripts.specs.Resumed.{IsWholeAsked}
 use Rattle.seat_scripts.specs.Taken.{lines_taken}
 use Rattle.seat_scripts.specs.Repeated.{AreRepeated, IsBookedOf, IsOneBooked}
@@ -124,3 +124,10 @@ never_of_changes P fault of behind = absurd (not_changes fault (of (is_input fau
 
 pub never_of_seal : (P : Type 0) (fault : DeskFault) (s : SealFault) → fault ≡ Seal s → IsBehindRuns fault → P
 never_of_seal P fault s is behind = absurd (subst (λ (f : DeskFault). IsBehindRuns f) is behind)
+
+-- what a seal says against a run is neither
+pub not_large : (fault : DeskFault) (s : SealFault) → fault ≡ Seal s → fault ≡ TooLarge → ⊥
+not_large fault s is large = let both : Seal s ≡ TooLarge = sym is ∙ large in cc both
+
+pub not_device : (fault : DeskFault) (s : SealFault) → fault ≡ Seal s → fault ≡ Device → ⊥
+not_device fault s is device = let both : Seal s ≡ Device = sym is ∙ device in cc both

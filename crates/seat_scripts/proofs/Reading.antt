@@ -5,7 +5,7 @@ use Rattle.std.proofs.lemmas.List.{append-nil, length-map}
 use Rattle.std.proofs.lemmas.List.Sorted.{list_any-IsPermutation}
 use Rattle.std.specs.List.{AllZip, list_any}
 use Rattle.std.specs.List.Sorted.{IsPermutation}
-use Rattle.seat_scripts.specs.Requests.{AreReadOn, AreRight, IsReadable, IsScriptOf}
+use Rattle.seat_replies.specs.Requests.{AreReadOn, AreRight, IsReadable, IsScriptOf}
 use Rattle.seat_scripts.specs.Repeated.{AreFoundOn, IsBookedOf, IsOneBooked}
 use Rattle.seat_scripts.specs.TextImprints.{AreTakenOn, IsImprintOf}
 use Rattle.seat_seal.specs.Booked.{begins_with, is_booked}

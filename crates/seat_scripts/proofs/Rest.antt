@@ -7,8 +7,8 @@ use Rattle.seat_desk.specs.declared.fault.DeskFault.TheVariants.{NoBehind}
 use Rattle.seat_rules.specs.Journal.{calls_of}
 use Rattle.seat_scripts.proofs.Common.{AllByRecursion, Change, Entry, Request, DeskFault, Unasked, done_by}
 use Rattle.seat_scripts.specs.Against.{IsNoPast, IsParted}
-use Rattle.seat_scripts.specs.Changes.{IsOnLeg}
-use Rattle.seat_scripts.specs.Requests.{AreRight}
+use Rattle.seat_replies.specs.Changes.{IsOnLeg}
+use Rattle.seat_replies.specs.Requests.{AreRight}
 use Rattle.seat_scripts.specs.Resuming.{AreLeft, AreMade, IsFirstOther, IsNoRest, IsRestOf, IsUnbegun, IsUnmadeBy, changes_left, left_from}
 
 -- ---- facts that a rest keeps

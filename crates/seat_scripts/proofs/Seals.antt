@@ -16,16 +16,16 @@ use Rattle.seat_desk.specs.Loading.{IsBehind, IsRefusedLoad}
 use Rattle.seat_desk.specs.Sealing.{Agrees, IsBesideFault, basis_of}
 use Rattle.seat_scripts.proofs.Common.{AreScripts, DeskFault, Entry, HasLoaded, IsFirstTooLargeLoad, IsLoaded, IsRefusedAmong, IsTooLargeAmong, Ladders, Memory, OfThree, Request, most_journal_bytes}
 use Rattle.seat_scripts.specs.Beside.{IsCallOnce, IsFaultless, IsRefusedBeside, IsRefusedSealedRun, IsTooLargeSealedRun, IsUnsealed}
-use Rattle.seat_scripts.specs.Changes.{IsOfChanges, IsUnchanged, most_change_bytes}
-use Rattle.seat_scripts.specs.Going.{IsPast}
-use Rattle.seat_scripts.specs.Asked.{IsAsked, IsTooLargeRun}
+use Rattle.seat_replies.specs.Changes.{IsOfChanges, IsUnchanged, most_change_bytes}
+use Rattle.seat_replies.specs.Going.{IsPast}
+use Rattle.seat_replies.specs.Asked.{IsAsked, IsTooLargeRun}
 use Rattle.seat_seal.specs.Known.{IsCarried, IsKnown, carried_by, runs_known}
 use Rattle.seat_seal.specs.declared.known.Carried.{Carried}
 use Rattle.seat_scripts.specs.Repeated.{IsBookedOf, IsOneBooked, IsRepeatedOf}
 use Rattle.seat_seal.specs.Booked.{changes_booked, scripts_booked}
-use Rattle.seat_scripts.specs.RunDesk.{IsRefusedRun}
-use Rattle.seat_scripts.specs.Requests.{IsOfScript}
-use Rattle.seat_scripts.specs.Asked.{HasPast, HasScripts}
+use Rattle.seat_replies.specs.RunDesk.{IsRefusedRun}
+use Rattle.seat_replies.specs.Requests.{IsOfScript}
+use Rattle.seat_replies.specs.Asked.{HasPast, HasScripts}
 use Rattle.seat_scripts.proofs.Inputs.{changes_fail, has_loaded, if_loaded, large_changes, large_script, script_fails}
 use Rattle.seat_scripts.proofs.Written.{run_refused, run_unchanged}
 

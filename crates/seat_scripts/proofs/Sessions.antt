@@ -18,13 +18,13 @@ use Rattle.seat_desk.proofs.Texts.{put_more, text_whole}
 use Rattle.seat_scripts.specs.Against.{AreAsked, IsParted}
 use Rattle.seat_scripts.specs.Replying.{AreRepliesBehind, AreWanted, AreWantedSessions, IsWantedAnswer, all_wanted}
 use Rattle.seat_scripts.specs.declared.by_session.Wanted.{Wanted}
-use Rattle.seat_scripts.specs.Answering.{AreAllAnswerable, AreAnswerable, AreBooked, IsAnswerable, IsBehind, IsRequested}
-use Rattle.seat_scripts.specs.RunDesk.{AreReplies, AreSessions, IsAnswer, requests_of}
-use Rattle.seat_scripts.specs.VeryRequest.{Agree}
-use Rattle.seat_scripts.proofs.Advised.{all_push}
-use Rattle.seat_scripts.proofs.Going.{lines_at, sessions_count}
-use Rattle.seat_scripts.proofs.Histories.{lines_booked}
-use Rattle.seat_scripts.proofs.Rows.{all_kept, each_at}
+use Rattle.seat_replies.specs.Answering.{AreAllAnswerable, AreAnswerable, AreBooked, IsAnswerable, IsBehind, IsRequested}
+use Rattle.seat_replies.specs.RunDesk.{AreReplies, AreSessions, IsAnswer, requests_of}
+use Rattle.seat_replies.specs.VeryRequest.{Agree}
+use Rattle.seat_replies.proofs.Advised.{all_push}
+use Rattle.seat_replies.proofs.Going.{lines_at, sessions_count}
+use Rattle.seat_replies.proofs.Histories.{lines_booked}
+use Rattle.seat_replies.proofs.Rows.{all_kept, each_at}
 
 -- ---- what a session is asked, by its script where it has one
 
@@ -114,7 +114,8 @@ module _ (flights : List Flown) (grid : Ladders) (scripts : List (List Request))
 
 -- ---- session by session
 
-session_there : (n s : ℕ) (added : List Entry) → s < n + 1
+-- the lines of each session stand in their list
+pub session_there : (n s : ℕ) (added : List Entry) → s < n + 1
     → slice_get (by_session n added) s ≡ Some (of_session s added)
 session_there n s added low =
     slice_get-get_or (by_session n added) s [] (omega (arith, low, sessions_count n added)) ∙ ap Some (lines_at n s added (omega (arith, low)))

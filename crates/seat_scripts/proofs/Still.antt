@@ -12,10 +12,10 @@ use Rattle.seat_scripts.proofs.SealedBoth.{both_four, large_as, refused_as}
 use Rattle.seat_scripts.proofs.Common.{Change, DeskFault, Entry, Ladders, Memory, Request, Unasked, commands_of, lists_over}
 use Rattle.seat_scripts.specs.Against.{AreRead, IsOfReading, IsRefusedAgainst, IsTooLargeAgainst, OfFour}
 use Rattle.seat_scripts.specs.Both.{IsRefusedSealed, IsTooLargeSealed}
-use Rattle.seat_scripts.specs.Changes.{AreChanges, IsOfChanges, IsUnchanged, most_change_bytes}
+use Rattle.seat_replies.specs.Changes.{AreChanges, IsOfChanges, IsUnchanged, most_change_bytes}
 use Rattle.seat_scripts.specs.Resumed.{AreReady, HasReady, IsAskedStill, IsAhead, IsRefusedResume, IsTooLargeResume, IsWholeAsked}
 use Rattle.seat_scripts.specs.Resuming.{IsNoRest, IsRestOf}
-use Rattle.seat_scripts.specs.RunDesk.{IsUnbooked}
+use Rattle.seat_replies.specs.RunDesk.{IsUnbooked}
 use Rattle.seat_scripts.specs.Taken.{ForTaken, WithTaken}
 use Rattle.seat_scripts.specs.declared.besides.Besides.{Besides}
 

@@ -1,6 +1,6 @@
 -- What is refused as unasked has no line of an audit.
 use Rattle.std.proofs.Common.{◌≡◌, ⊎_elim, ◌-◌, ◌<◌, ℕ, zero, suc, List, [], ◌∷◌, ◌++◌, length, map, refl, sym, ap, ◌∙◌, subst, arith, Some, drop, zero-add, ◌+◌}
-use Rattle.seat_scripts.specs.RunDesk.{requests_of}
+use Rattle.seat_replies.specs.RunDesk.{requests_of}
 use Rattle.seat_scripts.proofs.Common.{slice_get, Request, Ladders, Entry, Work, DeskFault, Unasked, AreAskedBehind, IsUnasked, done_by, AreScripts}
 use Rattle.std.proofs.lemmas.List.{append_assoc, length-append}
 use Rattle.ssim_records.specs.declared.set.DataSet.{DataSet}

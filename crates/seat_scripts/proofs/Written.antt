@@ -4,11 +4,11 @@ use Rattle.seat_scripts.proofs.Common.{Request, Change, Entry, Ladders, IsLoaded
 use Rattle.ssim_flights.specs.declared.flight.Flight.{Flight as Flown}
 use Rattle.seat_desk.specs.AuditDesk.{IsUnlawful}
 use Rattle.seat_desk.specs.Loading.{IsRefusedLoad}
-use Rattle.seat_scripts.specs.Asked.{IsAsked}
-use Rattle.seat_scripts.specs.Changes.{IsOfChanges, IsUnchanged}
-use Rattle.seat_scripts.specs.Going.{IsPast}
-use Rattle.seat_scripts.specs.Requests.{IsOfScript}
-use Rattle.seat_scripts.specs.RunDesk.{IsRefusedRun, IsUnbooked}
+use Rattle.seat_replies.specs.Asked.{IsAsked}
+use Rattle.seat_replies.specs.Changes.{IsOfChanges, IsUnchanged}
+use Rattle.seat_replies.specs.Going.{IsPast}
+use Rattle.seat_replies.specs.Requests.{IsOfScript}
+use Rattle.seat_replies.specs.RunDesk.{IsRefusedRun, IsUnbooked}
 use Rattle.seat_desk.specs.declared.fault.DeskFault.TheVariants.{Book, Change as BadChange, Flight, Journal, Limit, NoLeg, Replay, Script, Set}
 use Rattle.seat_desk.specs.Desk.{IsOfInput}
 use Rattle.seat_scripts.proofs.Inputs.{if_known, if_loaded}

@@ -21,11 +21,11 @@ use Rattle.seat_desk.specs.Loading.{Bytes, IsLoaded, IsFirstTooLargeLoad, IsRefu
 use Rattle.seat_desk.specs.declared.inputs.Inputs.{Inputs}
 use Rattle.seat_desk.specs.declared.fault.DeskFault.{DeskFault}
 use Rattle.seat_desk.specs.declared.fault.DeskFault.TheVariants.{Flight, Journal, Limit, NoBehind, Replay, Script, Seal, Set, Unasked}
-use Rattle.seat_scripts.specs.Asked.{HasLoaded, OfThree}
-use Rattle.seat_scripts.specs.Requests.{AreScripts, IsRefusedAmong, IsTooLargeAmong}
-use Rattle.seat_scripts.specs.RunDesk.{requests_of, works_in}
+use Rattle.seat_replies.specs.Asked.{HasLoaded, OfThree}
+use Rattle.seat_replies.specs.Requests.{AreScripts, IsRefusedAmong, IsTooLargeAmong}
+use Rattle.seat_replies.specs.RunDesk.{requests_of, works_in}
 use Rattle.seat_scripts.specs.Taken.{WithTaken}
-use Rattle.seat_scripts.specs.VeryRequest.{Agree}
+use Rattle.seat_replies.specs.VeryRequest.{Agree, same_change}
 
 -- ---- what is asked, and what is in the journal
 
@@ -130,11 +130,6 @@ abbrev pub same_command : Command → Command → Bool
 same_command a b =
     pointwise nat_eq a.locator b.locator && option_eq same_place a.place b.place && (a.class == b.class)
     && pointwise nat_eq a.code b.code && (a.seats == b.seats)
-
--- and of two changes
-abbrev pub same_change : Change → Change → Bool
-same_change a b =
-    (a.flight == b.flight) && (a.leg == b.leg) && (a.class == b.class) && (a.limit == b.limit) && (a.wait == b.wait)
 
 -- ---- the whole
 

@@ -9,9 +9,9 @@ use Rattle.seat_rules.specs.Histories.{by_session}
 use Rattle.seat_desk.specs.AuditDesk.{IsAudit, IsRefusedAudit, IsTooLarge, audit_line}
 use Rattle.seat_desk.specs.declared.fault.DeskFault.{DeskFault}
 use Rattle.seat_scripts.specs.Against.{IsAuditAgainst, IsRefusedAgainst, IsTooLargeAgainst}
-use Rattle.seat_scripts.specs.Going.{lists_over}
-use Rattle.seat_scripts.specs.Requests.{commands_of}
-use Rattle.seat_scripts.specs.RunDesk.{IsRun}
+use Rattle.seat_replies.specs.Going.{lists_over}
+use Rattle.seat_replies.specs.Requests.{commands_of}
+use Rattle.seat_replies.specs.RunDesk.{IsRun}
 
 -- the journal is audited with these totals and no others, has no fault, and is not too large
 pub record IsAccepted (set limits : List ℕ) (first days : ℕ) (journal : List ℕ) (totals : Totals) : Type 0 where

@@ -16,9 +16,9 @@ use Rattle.seat_desk.specs.Sealing.{Agrees, IsBesideFault}
 use Rattle.seat_desk.specs.declared.fault.DeskFault.{DeskFault}
 use Rattle.seat_desk.specs.declared.fault.DeskFault.TheVariants.{Book, Seal}
 use Rattle.seat_desk.specs.declared.inputs.Inputs.{Inputs}
-use Rattle.seat_scripts.specs.Asked.{FailsRun, HasLoaded, IsAsked, IsTooLargeRun, OfThree}
+use Rattle.seat_replies.specs.Asked.{FailsRun, HasLoaded, IsAsked, IsTooLargeRun, OfThree}
 use Rattle.seat_scripts.specs.Repeated.{IsRepeated}
-use Rattle.seat_scripts.specs.RunDesk.{IsRefusedRun}
+use Rattle.seat_replies.specs.RunDesk.{IsRefusedRun}
 
 -- ---- one journal, on a basis that is known
 

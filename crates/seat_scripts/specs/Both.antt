@@ -8,7 +8,7 @@ use Rattle.seat_desk.specs.Sealing.{Agrees, IsBesideFault, basis_of}
 use Rattle.seat_desk.specs.declared.fault.DeskFault.{DeskFault}
 use Rattle.seat_desk.specs.declared.inputs.Inputs.{Inputs}
 use Rattle.seat_scripts.specs.Against.{FailsAgainst, HasOlder, IsRefusedAgainst, IsTooLargeAgainst, OfFour}
-use Rattle.seat_scripts.specs.Asked.{OfThree}
+use Rattle.seat_replies.specs.Asked.{OfThree}
 use Rattle.seat_scripts.specs.Beside.{FailsStart}
 use Rattle.seat_scripts.specs.Resumed.{FailsResume, IsRefusedResume, IsTooLargeResume}
 use Rattle.seat_scripts.specs.Taken.{ForTaken}

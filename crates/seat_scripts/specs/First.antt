@@ -11,8 +11,8 @@ use Rattle.seat_rules.specs.Totals.{totals_of}
 use Rattle.seat_rules.specs.Headline.{Headline}
 use Rattle.seat_rules.specs.Histories.{by_session}
 use Rattle.seat_desk.specs.AuditDesk.{most_lines}
-use Rattle.seat_scripts.specs.Requests.{commands_of}
-use Rattle.seat_scripts.specs.RunDesk.{AreReplies, IsRun, works_in, works_of}
+use Rattle.seat_replies.specs.Requests.{commands_of}
+use Rattle.seat_replies.specs.RunDesk.{AreReplies, IsRun, works_in, works_of}
 
 -- the whole history is asked for: its lines of session 0 are the changes, in order, those of session 1 the first list, and so on, and the replies answer all of it
 pub record IsFirst (grid : Ladders) (flights : List Flown) (changes : List Change) (scripts : List (List Request))

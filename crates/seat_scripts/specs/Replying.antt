@@ -12,8 +12,8 @@ use Rattle.seat_desk.specs.FlightsDesk.{IsText}
 use Rattle.seat_desk.specs.Loading.{Bytes, IsLoaded}
 use Rattle.seat_desk.specs.declared.inputs.Inputs.{Inputs}
 use Rattle.seat_scripts.specs.Against.{AreAsked, IsParted, IsReplayWithin, OfFour}
-use Rattle.seat_scripts.specs.Requests.{AreScripts}
-use Rattle.seat_scripts.specs.RunDesk.{IsAnswer, IsRun, requests_of}
+use Rattle.seat_replies.specs.Requests.{AreScripts}
+use Rattle.seat_replies.specs.RunDesk.{IsAnswer, IsRun, requests_of}
 use Rattle.seat_scripts.specs.Taken.{WithTaken}
 use Rattle.seat_scripts.specs.declared.by_session.Wanted.{Wanted}
 

@@ -15,11 +15,11 @@ use Rattle.seat_desk.specs.declared.fault.DeskFault.{DeskFault}
 use Rattle.seat_desk.specs.declared.fault.DeskFault.TheVariants.{Book, Change as BadChange, NoBehind, NoLeg, Unasked}
 use Rattle.seat_desk.specs.declared.inputs.Inputs.{Inputs}
 use Rattle.seat_scripts.specs.Against.{AgainstRefusal, FailsAgainst, IsAuditAgainst, IsTooLargeAgainst, OfFour}
-use Rattle.seat_scripts.specs.Changes.{AreChanges, IsUnchanged, most_change_bytes}
-use Rattle.seat_scripts.specs.Going.{IsPast, lists_over}
-use Rattle.seat_scripts.specs.Requests.{AreScripts, commands_of}
+use Rattle.seat_replies.specs.Changes.{AreChanges, IsUnchanged, most_change_bytes}
+use Rattle.seat_replies.specs.Going.{IsPast, lists_over}
+use Rattle.seat_replies.specs.Requests.{AreScripts, commands_of}
 use Rattle.seat_scripts.specs.Resuming.{IsNoRest, IsRestOf}
-use Rattle.seat_scripts.specs.RunDesk.{IsHistoryOf, IsReplied, IsRun, IsUnbooked}
+use Rattle.seat_replies.specs.RunDesk.{IsHistoryOf, IsReplied, IsRun, IsUnbooked}
 use Rattle.seat_scripts.specs.Taken.{WithTaken}
 
 -- ---- what is asked

@@ -11,9 +11,9 @@ use Rattle.seat_desk.specs.declared.fault.DeskFault.TheVariants.{NoBehind, Unask
 use Rattle.seat_rules.specs.Journal.{calls_of}
 use Rattle.seat_rules.specs.Prefixes.{Begins}
 use Rattle.seat_scripts.specs.Against.{DifferAt, IsNoBeginning, IsParted, IsShort, done_by}
-use Rattle.seat_scripts.specs.Requests.{commands_of}
-use Rattle.seat_scripts.specs.RunDesk.{requests_of}
-use Rattle.seat_scripts.specs.VeryRequest.{Agree}
+use Rattle.seat_replies.specs.Requests.{commands_of}
+use Rattle.seat_replies.specs.RunDesk.{requests_of}
+use Rattle.seat_replies.specs.VeryRequest.{Agree}
 
 -- what a session did is what its script begins with
 pub record HasBegun (flights : List Flown) (requests : List Request) (done : List Work) : Type 0 where

@@ -9,11 +9,11 @@ ghost use Rattle.seat_desk.specs.Desk.{HasFailed, IsOfInput};
 ghost use Rattle.seat_desk.specs.Loading.{HasFirstLoadFailed, IsGridOf};
 ghost use Rattle.seat_desk.specs.Sealing.{IsBasisOf};
 ghost use Rattle.seat_seal.specs.Known.{IsCarried};
-ghost use Rattle.seat_scripts.specs.Asked.{IsAskedOf};
+ghost use Rattle.seat_replies.specs.Asked.{IsAskedOf};
 ghost use Rattle.seat_scripts.specs.Beside.{AgreesOf, FailsSealedRun, IsRefusedSealedRunOf, IsTooLargeSealedRunOf};
-ghost use Rattle.seat_scripts.specs.Changes.{IsOnLeg};
+ghost use Rattle.seat_replies.specs.Changes.{IsOnLeg};
 ghost use Rattle.seat_scripts.specs.Repeated.{IsRepeatedOf};
-ghost use Rattle.seat_scripts.specs.Requests.{AreRight, HasFailedAmong};
+ghost use Rattle.seat_replies.specs.Requests.{AreRight, HasFailedAmong};
 ghost use Rattle.seat_scripts.specs.TextImprints.{AreImprints, IsImprintOf};
 
 use crate::changes::{ReadChanges, limit_changes};
@@ -28,6 +28,7 @@ use seat_journal::Change;
 use seat_seal::{Basis, Beside, Carried, Imprint, carried_by};
 use ssim_flights::Flights;
 use std::alloc::Global;
+use std::thread::Threads;
 
 /// Flights, the inventory that a run goes on from, what its scripts and its changes ask, and what a seal says of all of them.
 #[derive(Drop)]
@@ -45,11 +46,19 @@ pub struct Asked {
     pub earlier: Carried,
 }
 
-/// Reads a data set, limit rows, an older journal, one to eight scripts and changes of limits. What stands beside the older journal
+/// Reads a data set, limit rows, an older journal, which is replayed on all processors, one to eight scripts and changes of limits. What stands beside the older journal
 /// is compared with the set, the limits and that journal ahead of its own faults. Behind all inputs, scripts or changes are refused of
 /// which one begins with what a run booked that its seal knows, unless they are to be booked `again`.
 #[tactic(auto, using(crate::proofs::Inputs::asked_of, crate::proofs::Seals::agrees, crate::proofs::Seals::repeated_of, crate::proofs::Seals::carried_of, crate::proofs::Seals::sealed_again, crate::proofs::Seals::sealed_unloaded, crate::proofs::Seals::sealed_unread, crate::proofs::Seals::sealed_refused, crate::proofs::Seals::sealed_unchanged, crate::proofs::Seals::sealed_large_load, crate::proofs::Seals::sealed_large_past, crate::proofs::Seals::sealed_large_script, crate::proofs::Seals::sealed_large_changes, crate::proofs::Seals::sealed_past_fails, crate::proofs::Seals::sealed_script_fails, crate::proofs::Seals::sealed_changes_fail))]
-pub fn read_asked<S: NotedRead, L: NotedRead, A: NotedRead, C: NotedRead, D: NotedRead>(
+pub fn read_asked<
+    R: Threads + Sync,
+    S: NotedRead,
+    L: NotedRead,
+    A: NotedRead,
+    C: NotedRead,
+    D: NotedRead,
+>(
+    rt: &R,
     alloc: Global,
     inputs: &mut Inputs<S, L>,
     after: &mut A,
@@ -95,7 +104,7 @@ pub fn read_asked<S: NotedRead, L: NotedRead, A: NotedRead, C: NotedRead, D: Not
         grid,
     } = loaded;
     drop(rows);
-    let Known { past, last } = replayed_beside(alloc, grid, after, beside, &basis)?;
+    let Known { past, last } = replayed_beside(rt, alloc, grid, after, beside, &basis)?;
     let ReadScripts {
         scripts,
         imprints,

@@ -3,13 +3,13 @@
 ghost use Rattle.std.specs.Prelude.{◌≡◌, ◌≤◌, IfOk, OnOk, length};
 ghost use Rattle.seat_desk.specs.FlightsDesk.{IsPut, IsText};
 ghost use Rattle.seat_rules.specs.Histories.{by_session, of_session};
-ghost use Rattle.seat_scripts.specs.Answering.{AreAllAnswerable, AreAnswerable, IsAnswerable, IsBehind};
+ghost use Rattle.seat_replies.specs.Answering.{AreAllAnswerable, AreAnswerable, IsAnswerable, IsBehind};
 ghost use Rattle.seat_scripts.specs.Replying.{AreWantedSessions, IsWantedAnswer, is_wanted};
-ghost use Rattle.seat_scripts.specs.RunDesk.{requests_of};
+ghost use Rattle.seat_replies.specs.RunDesk.{requests_of};
 
-use crate::replies::put_answer;
 use airimp_lines::{Request, Requests};
 use seat_journal::Entry;
+use seat_replies::put_answer;
 use ssim_flights::Flights;
 use std::alloc::{AllocError, Global};
 
@@ -22,7 +22,8 @@ pub struct Wanted {
 }
 
 impl Wanted {
-    fn has(&self, entry: &Entry) -> bool
+    /// Whether the reply to a line is.
+    pub fn has(&self, entry: &Entry) -> bool
         ensures { result ≡ is_wanted self.now entry.now }
     {
         let is_of_session = match self.session {

@@ -7,7 +7,7 @@ ghost use Rattle.seat_scripts.specs.Repeated.{IsBookedOf};
 ghost use Rattle.seat_scripts.specs.TextImprints.{IsImprintOf};
 ghost use Rattle.seat_seal.specs.Booked.{changes_booked};
 ghost use Rattle.seat_seal.specs.Known.{runs_known};
-ghost use Rattle.seat_scripts.specs.Changes.{AreChanges, AreServed, IsOfChanges, IsOnLeg, IsUnchanged, change_of, change_refusal, most_change_bytes, wanted_by};
+ghost use Rattle.seat_replies.specs.Changes.{AreChanges, AreServed, IsOfChanges, IsOnLeg, IsUnchanged, change_of, change_refusal, most_change_bytes, wanted_by};
 
 use crate::imprints::text_beside;
 use crate::repeated::changes_known;

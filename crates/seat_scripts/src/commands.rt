@@ -1,7 +1,7 @@
 //! What requests ask of the inventory.
 ghost use Rattle.std.specs.Prelude.{◌≡◌, ◌-◌, ◌++◌, IfOk, OnOk, length, map};
-ghost use Rattle.seat_scripts.specs.Going.{idle, lists_over};
-ghost use Rattle.seat_scripts.specs.Requests.{command_of, commands_of, wanted_of};
+ghost use Rattle.seat_replies.specs.Going.{idle, lists_over};
+ghost use Rattle.seat_replies.specs.Requests.{command_of, commands_of, wanted_of};
 
 use crate::past::highest;
 use airimp_lines::{Request, Requests, Segment};
@@ -26,7 +26,7 @@ pub fn lists_over(
 }
 
 /// Adds lists of nothing, until there are as many lists as this.
-#[tactic(auto, using(crate::proofs::Going::idle_end))]
+#[tactic(auto, using(seat_replies::proofs::Going::idle_end))]
 fn add_idle(alloc: Global, lists: &mut Vec<CommandList>, sessions: u8) -> Result<(), AllocError>
     ensures { OnOk result (lists.new.items ≡ lists.old.items ++ idle (sessions - length lists.old.items)) }
 {

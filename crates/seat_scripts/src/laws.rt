@@ -6,9 +6,7 @@ ghost use Rattle.seat_scripts.specs.KnownAgain.{ChangesAreKnown, ScriptsAreKnown
 ghost use Rattle.seat_scripts.specs.Replying.{RepliesAreThoseOfTheRun};
 ghost use Rattle.seat_scripts.specs.Resumed.{ResumedAgainIsTheSame, ResumedIsOfTheWhole, ResumedRunIsTheSame};
 ghost use Rattle.seat_scripts.specs.Resuming.{NothingIsLeft};
-ghost use Rattle.seat_scripts.specs.Segments.{RequestsAreFlown};
 ghost use Rattle.seat_scripts.specs.Taken.{OneIsTaken};
-ghost use Rattle.seat_scripts.specs.VeryRequest.{CommandsAreVeryRequests};
 
 /// What `run` writes as a journal, `audit` accepts: over the same set, limits and days it finds no fault in it, it is not too
 /// large, and the one line that answers it has the totals of the receipts. Only memory or a device can stop it.
@@ -38,16 +36,6 @@ pub fn unasked_is_not_audited()
 /// the very requests of its script.
 pub fn audits_behind_no_lines()
     ensures { AuditsBehindNoLines }
-{}
-
-/// An advice names what its booking's request named: where a place serves a request, the segment on its flight is the request's own.
-pub fn requests_are_flown()
-    ensures { RequestsAreFlown }
-{}
-
-/// What a request asks of the inventory is that very request, so the day on which a script was first read is none that `audit` needs.
-pub fn commands_are_very_requests()
-    ensures { CommandsAreVeryRequests }
 {}
 
 /// Scripts that were booked whole leave nothing to ask: to go on with the very same scripts once more books nothing.

@@ -1,9 +1,9 @@
-//! The texts of a run: the requests of scripts and what they ask of the inventory, changes of limits, an older journal, and the
-//! replies to each line; and `audit` with scripts, which compares a journal with what they ask, and `replies`, which
+//! The texts of a run: the requests of scripts, changes of limits, an older journal; and `audit` with scripts, which compares a journal with what they ask, and `replies`, which
 //! words the replies to it once more. It knows texts and the order in
 //! which they are read and written, and nothing of sessions, locks or threads.
 #![tactic(auto)]
 
+mod added;
 mod against;
 mod asked;
 mod begun;
@@ -17,15 +17,14 @@ mod making;
 mod past;
 mod readable;
 mod repeated;
-mod replies;
 mod replying;
 mod resumed;
 mod resuming;
 mod scripts;
 mod sealed_run;
 mod taken;
-mod very_request;
 
+pub use added::{Added, read_added};
 pub use against::desk_audit_against;
 pub use asked::{Asked, read_asked};
 pub use besides::Besides;
@@ -33,17 +32,15 @@ pub use by_session::{Wanted, session_replies};
 pub use commands::lists_over;
 pub use imprints::TextImprints;
 pub use laws::{
-    audits_behind_no_lines, changes_are_known, commands_are_very_requests, nothing_is_left,
-    one_number_is_taken, replies_are_those_of_the_run, requests_are_flown,
-    resumed_again_is_the_same, resumed_is_of_the_whole, resumed_run_is_the_same, runs_are_audited,
-    runs_are_audited_against, runs_from_no_lines, scripts_are_known, unasked_is_not_audited,
+    audits_behind_no_lines, changes_are_known, nothing_is_left, one_number_is_taken,
+    replies_are_those_of_the_run, resumed_again_is_the_same, resumed_is_of_the_whole,
+    resumed_run_is_the_same, runs_are_audited, runs_are_audited_against, runs_from_no_lines,
+    scripts_are_known, unasked_is_not_audited,
 };
-pub use past::{Past, past_of};
+pub use past::past_of;
 pub use readable::prove_entries;
-pub use replies::put_answer;
 pub use replying::desk_replies;
 pub use resumed::read_resumed;
 pub use resuming::what_is_left;
 pub use scripts::Scripts;
 pub use sealed_run::{RunBasis, entry_of_run};
-pub use very_request::is_very_request;

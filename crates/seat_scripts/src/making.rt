@@ -4,7 +4,7 @@ ghost use Rattle.std.specs.Prelude.{◌≡◌, ◌≢◌, ◌↔◌, ◌≤◌, 
 ghost use Rattle.std.specs.List.{AllByRecursion};
 ghost use Rattle.seat_desk.specs.AuditDesk.{most_lines};
 ghost use Rattle.seat_journal.specs.declared.entry.Work.TheVariants.{Limit};
-ghost use Rattle.seat_scripts.specs.Changes.{IsOnLeg};
+ghost use Rattle.seat_replies.specs.Changes.{IsOnLeg};
 ghost use Rattle.seat_scripts.specs.Resuming.{AreMade, IsFirstOther, IsUnmadeBy, changes_left};
 
 use crate::against::sets;

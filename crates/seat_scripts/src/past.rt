@@ -5,21 +5,17 @@ ghost use Rattle.seat_desk.specs.AuditDesk.{most_journal_bytes, most_lines};
 ghost use Rattle.seat_desk.specs.Desk.{HasFailed, IsOfInput};
 ghost use Rattle.seat_scripts.specs.Against.{IsReplayWithin};
 ghost use Rattle.seat_scripts.specs.Beside.{IsFaultless, IsRefusedBeside};
-ghost use Rattle.seat_scripts.specs.Going.{IsPast, highest_to, past_of};
+ghost use Rattle.seat_replies.specs.Going.{IsPast, highest_to, past_of};
 ghost use Rattle.seat_seal.specs.Known.{IsKnown};
 
 use airline_base::NotedRead;
 use seat_core::Core;
-use seat_desk::{DeskFault, MOST_JOURNAL_BYTES, agreed, read_input, replayed};
+use seat_desk::{DeskFault, MOST_JOURNAL_BYTES, agreed, read_input, replayed_in_parts};
 use seat_nesting::Grid;
+use seat_replies::Past;
 use seat_seal::{Basis, Beside, Sealed, known_of};
 use std::alloc::Global;
-
-/// How many lines an older journal has of each session: 0, the manager, to 8.
-#[derive(Clone, Copy)]
-pub struct Past {
-    pub calls: [u32; 9],
-}
+use std::thread::Threads;
 
 /// The inventory of a journal, and what the seal beside it knows of it.
 #[derive(Drop)]
@@ -28,9 +24,10 @@ pub(crate) struct Known {
     pub last: Option<Sealed>,
 }
 
-/// The inventory that a journal comes to over these limits, where what stands beside it has no fault on this basis.
+/// The inventory that a journal comes to over these limits, replayed on all processors, where what stands beside it has no fault on this basis.
 #[tactic(auto, using(crate::proofs::Seals::read_last, crate::proofs::Seals::read_faultless, crate::proofs::Seals::read_unsealed, crate::proofs::Seals::read_unlawful))]
-pub(crate) fn replayed_beside<J: NotedRead>(
+pub(crate) fn replayed_beside<R: Threads + Sync, J: NotedRead>(
+    rt: &R,
     alloc: Global,
     grid: Grid,
     journal: &mut J,
@@ -56,7 +53,7 @@ pub(crate) fn replayed_beside<J: NotedRead>(
         return Err(fault);
     }
     let last = known_of(beside, &bytes);
-    match replayed(alloc, grid, bytes) {
+    match replayed_in_parts(rt, alloc, grid, bytes) {
         Ok(past) => Ok(Known { past, last }),
         Err(fault) => Err(fault),
     }
@@ -82,7 +79,7 @@ pub fn past_of(core: &Core) -> Past
 }
 
 /// The highest session that has a line, or 0.
-#[tactic(auto, using(crate::proofs::Going::highest_less, crate::proofs::Going::highest_here))]
+#[tactic(auto, using(seat_replies::proofs::Going::highest_less, seat_replies::proofs::Going::highest_here))]
 pub(crate) fn highest(core: &Core) -> u8
     ensures { result ≡ highest_to 8 core.now.journal }
 {

@@ -5,15 +5,15 @@ ghost use Rattle.std.specs.List.{AllByRecursion};
 ghost use Rattle.seat_desk.specs.AuditDesk.{most_lines};
 ghost use Rattle.seat_rules.specs.Journal.{calls_of};
 ghost use Rattle.seat_scripts.specs.Against.{DifferAt, done_by};
-ghost use Rattle.seat_scripts.specs.Requests.{AreRight};
+ghost use Rattle.seat_replies.specs.Requests.{AreRight};
 ghost use Rattle.seat_scripts.specs.Resuming.{AreLeft, HasBegun, HaveBegunBelow, IsFirstStranger, IsStranger, IsUnbegun, left_from};
-ghost use Rattle.seat_scripts.specs.RunDesk.{requests_of};
+ghost use Rattle.seat_replies.specs.RunDesk.{requests_of};
 
 use crate::scripts::Scripts;
-use crate::very_request::is_asked;
 use airimp_lines::{Request, Requests, requests_behind};
 use seat_desk::DeskFault;
 use seat_journal::Entry;
+use seat_replies::is_asked;
 use ssim_flights::Flights;
 use std::alloc::{AllocError, Global};
 

@@ -7,7 +7,7 @@ ghost use Rattle.seat_scripts.specs.Repeated.{AreFoundOn, IsBookedOf, IsOneBooke
 ghost use Rattle.seat_scripts.specs.TextImprints.{AreImprints, AreTakenOn, IsImprintOf};
 ghost use Rattle.seat_seal.specs.Booked.{scripts_booked};
 ghost use Rattle.seat_seal.specs.Known.{runs_known};
-ghost use Rattle.seat_scripts.specs.Requests.{AreReadOn, AreRight, AreScripts, HasFailedAmong, IsOfScript, IsRefusedAmong, IsRefusedScript, IsScriptOf, IsTooLargeAmong, most_script_bytes, script_refusal};
+ghost use Rattle.seat_replies.specs.Requests.{AreReadOn, AreRight, AreScripts, HasFailedAmong, IsOfScript, IsRefusedAmong, IsRefusedScript, IsScriptOf, IsTooLargeAmong, most_script_bytes, script_refusal};
 
 use crate::imprints::{TextImprints, text_beside};
 use crate::repeated::scripts_known;

@@ -1,7 +1,8 @@
 -- What is refused, or fails, behind a set and limits that are right.
-use Rattle.std.proofs.Common.{◌≡◌, ◌⊎◌, inl, inr, ℕ, List, Option, Some, None, IfSome, map, subst}
+use Rattle.std.proofs.Common.{◌≡◌, ◌≤◌, ◌⊎◌, inl, inr, ℕ, List, Option, Some, None, IfSome, length, map, subst, ap, arith, ◌∙◌}
+use Rattle.std.proofs.lemmas.List.{length-map}
 use Rattle.ssim_flights.specs.declared.flight.Flight.{Flight as Flown}
-use Rattle.seat_limits.specs.Authorised.{authorised_grid}
+use Rattle.seat_limits.specs.Authorised.{authorised_grid, authorised_legs}
 use Rattle.seat_limits.specs.declared.limit_row.LimitRow.{LimitRow}
 use Rattle.seat_nesting.specs.Nesting.{Ladders}
 use Rattle.seat_desk.specs.Loading.{Bytes, HasFirstLoadFailed, IsGround, IsGroundOf}
@@ -12,6 +13,13 @@ use Rattle.seat_shards.specs.declared.fault.ShardFault.TheVariants.{Desk, Journa
 use Rattle.seat_shards.specs.Auditing.{HasFirstFailed, IsFirstFailed, IsRefusedOver, IsRefusedShards, IsRefusedShardsOf}
 use Rattle.seat_shards.specs.Faults.{IsOfJournal, IsOfJournals, IsOfShards}
 use Rattle.seat_shards.specs.Taking.{known, HasFailedAmong, IsFirstRefused}
+
+-- the grid has a row of legs for each flight
+pub as_many : (flights : List Flown) (rows : List LimitRow) (grid : Ladders) → grid ≡ authorised_grid rows flights
+    → length grid ≤ length flights
+as_many flights rows grid is =
+    let same : length grid ≡ length flights = ap length is ∙ length-map flights (authorised_legs rows) in
+    omega (arith, same)
 
 refused_texts : (set limits : List ℕ) (first days : ℕ) (flights : List Flown) (rows : List LimitRow) (grid : Ladders)
     (texts : List (List ℕ)) (fault : ShardFault) → IsGround set limits first days flights rows → grid ≡ authorised_grid rows flights

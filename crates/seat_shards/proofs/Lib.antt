@@ -4,3 +4,4 @@ pub mod Owning
 pub mod Summing
 pub mod Grounds
 pub mod Verdicts
+pub mod Wanting

@@ -1,14 +1,17 @@
 -- Which journal has the lines of a flight, line by line.
-use Rattle.std.proofs.Common.{◌≡◌, ◌≢◌, ◌==◌, ◌||◌, ℕ, zero, suc, ◌+◌, ◌<◌, ◌≤◌, Bool, true, false, List, [], ◌∷◌, ◌++◌, length, replicate, take, get_or, set, Option, Some, None, if◌then◌else◌, arith, refl, ap, sym, subst, ◌∙◌}
+use Rattle.std.proofs.Common.{◌≡◌, ◌≢◌, ◌==◌, ◌||◌, ℕ, zero, suc, ◌+◌, ◌<◌, ◌≤◌, Bool, true, false, List, [], ◌∷◌, ◌++◌, length, replicate, take, get_or, set, Option, Some, None, IfSome, if◌then◌else◌, arith, refl, ap, sym, subst, ◌∙◌}
 use Rattle.std.specs.List.{list_any}
 use Rattle.std.proofs.lemmas.Bool.Decides.{nat_tests}
-use Rattle.std.proofs.lemmas.List.{take_all, take_more, get_or_past, get_or-set_same, get_or-set_other}
+use Rattle.std.proofs.lemmas.List.{take_all, take_more, length-replicate, get_or_past, get_or-set_same, get_or-set_other}
 use Rattle.std.proofs.lemmas.List.Folds.{list_any-append}
 use Rattle.seat_journal.specs.declared.entry.Entry.{Entry}
 use Rattle.seat_journal.specs.declared.entry.Work.{Work}
 use Rattle.seat_rules.specs.Flights.{flight_of, is_flight, is_on}
-use Rattle.seat_parts.proofs.Flights.{nowhere}
-use Rattle.seat_shards.specs.Owners.{has_line, owner_at, OwnsLine, OwnsNone, OwnsToo}
+use Rattle.seat_nesting.specs.Nesting.{Ladders}
+use Rattle.seat_rules.specs.Journal.{FitsWork, IsLegal}
+use Rattle.seat_rules.specs.Prefixes.{Begins}
+use Rattle.seat_parts.proofs.Flights.{fitting_there, nowhere}
+use Rattle.seat_shards.specs.Owners.{has_line, owner_at, AreWithin, IsWithin, OwnsLine, OwnsNone, OwnsToo}
 
 pub or_false : (b : Bool) → (b || false) ≡ b
 or_false true = refl
@@ -52,6 +55,40 @@ owned_whole place old new entries i le k =
     let P : List Entry → Type 0 = λ l. OwnsToo place old new l in
     subst P (take_all i entries le) k
 
+-- ---- lines on flights that there are
+
+begins_at : (entries : List Entry) (i : ℕ) (e : Entry) → i < length entries → e ≡ get_or entries i e
+    → Begins (take i entries ++ e ∷ []) entries
+begins_at [] i e lt same = absurd (omega (arith, lt))
+begins_at (x ∷ entries) zero e lt same = record { rest = entries; is = ap (λ (y : Entry). y ∷ entries) (sym same) }
+begins_at (x ∷ entries) (suc i) e lt same =
+    let b : Begins (take i entries ++ e ∷ []) entries = begins_at entries i e (omega (arith, lt)) same in
+    record { rest = b.rest; is = ap (λ (l : List Entry). x ∷ l) b.is }
+
+pub within_at : (flights n : ℕ) (entries : List Entry) (i : ℕ) (e : Entry) → AreWithin flights entries → i < length entries
+    → e ≡ get_or entries i e → n ≡ flights → IsWithin n e.work
+within_at flights n entries i e all lt is same =
+    let P : ℕ → Type 0 = λ x. IsWithin x e.work in
+    subst P (sym same) (all.each (take i entries) e (begins_at entries i e lt is))
+
+pub is_inside : (flights : ℕ) (w : Work) (flight : ℕ) → IsWithin flights w → flight_of w ≡ Some flight → flight < flights
+is_inside flights w flight is at =
+    let P : Option ℕ → Type 0 = λ o. IfSome o (λ f. f < flights) in
+    subst P at is.below
+
+-- those of a legal history are on flights of its grid
+fits_within : (grid : Ladders) (n : ℕ) (w : Work) → FitsWork grid w → length grid ≤ n → IsWithin n w
+fits_within grid n w fits room = record { below = by (flight_of w) refl } where
+  by : (o : Option ℕ) → flight_of w ≡ o → IfSome o (λ f. f < n)
+  by None at = tt
+  by (Some f) at = omega (arith, fitting_there grid w fits f at, room)
+
+pub legal_within : (grid : Ladders) (n : ℕ) (entries : List Entry) → IsLegal grid entries → length grid ≤ n
+    → AreWithin n entries
+legal_within grid n entries legal room = record {
+  each = λ front e b. fits_within grid n e.work (legal.each front e b).fits room;
+}
+
 -- ---- one line
 
 pub own_nowhere : (place : ℕ) (owners : List ℕ) (w : Work) → flight_of w ≡ None → OwnsLine place owners owners w
@@ -85,6 +122,9 @@ none_at : (n f : ℕ) → owner_at (replicate n 0) f ≡ 0
 none_at zero f = refl
 none_at (suc n) zero = refl
 none_at (suc n) (suc f) = none_at n f
+
+pub as_long : (n : ℕ) (owners : List ℕ) → owners ≡ replicate n 0 → length owners ≡ n
+as_long n owners is = ap length is ∙ length-replicate n 0
 
 pub owns_none : (n : ℕ) (owners : List ℕ) → owners ≡ replicate n 0 → OwnsNone owners
 owns_none n owners is = record { each = λ f. ap (λ (l : List ℕ). owner_at l f) is ∙ none_at n f }

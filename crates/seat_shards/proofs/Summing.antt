@@ -6,6 +6,7 @@ use Rattle.std.specs.List.{list_any, sum_by}
 use Rattle.std.proofs.lemmas.Bool.Decides.{nat_tests}
 use Rattle.std.proofs.lemmas.List.{append-nil, get_or_past}
 use Rattle.std.proofs.lemmas.List.Sums.{sum_by_push}
+use Rattle.airline_base.specs.Noting.{noted}
 use Rattle.seat_nesting.specs.Nesting.{Ladders}
 use Rattle.seat_journal.specs.declared.entry.Entry.{Entry}
 use Rattle.seat_journal.specs.declared.entry.Work.{Work}
@@ -24,7 +25,7 @@ use Rattle.seat_shards.specs.declared.taking.Taken.{Taken}
 use Rattle.seat_shards.specs.Faults.{IsOfJournal}
 use Rattle.seat_shards.specs.Shards.{AreApart, AreShards, IsMix, Tagged, journal_at, merged}
 use Rattle.seat_shards.specs.Owners.{first_owned, first_shared, has_line, is_owned, owner_among, owner_at, owner_from, owner_in, owner_of_flight, AreOwners}
-use Rattle.seat_shards.specs.Taking.{both_of, known, AreTakenOn, AreTexts, AreTotalled, IsFirstRefused, IsLegalWhere, IsNone, IsRefusedOn, IsTakenWith, IsTextOf, Merge, RefusedOn, RefusesBehind, RefusesMore, TakenOn}
+use Rattle.seat_shards.specs.Taking.{both_of, known, AreShardTexts, AreTakenOn, AreTexts, AreTotalled, HasFailedAmong, HasFailedOn, HasRisenBehind, IsFirstRefused, IsNone, IsRefusedOn, IsTakenWith, IsTextOf, Merge, RefusedOn, RefusesBehind, RefusesMore, RisenOn, TakenOn}
 use Rattle.seat_shards.proofs.Merged.{merged_is_legal}
 use Rattle.seat_shards.proofs.Owning.{or_false}
 use Rattle.seat_shards.proofs.Sums.{merged_totals}
@@ -48,10 +49,25 @@ pub refused_later : (grid : Ladders) (text : Option (List ℕ)) (texts : List (O
     → IsRefusedOn grid (text ∷ texts) old fault
 refused_later grid text texts old mid fault one is = record { first = inr (mid, one, is.first) }
 
-pub legal_where : (grid : Ladders) (text : Option (List ℕ)) (old mid : Taken) → IfSome text (IsTakenWith grid old mid)
-    → IsLegalWhere grid text
-legal_where grid None old mid taken = record { entries = []; totals = totals_in []; is_legal = tt }
-legal_where grid (Some bytes) old mid taken = record { entries = taken.entries; totals = taken.own; is_legal = taken.read }
+pub failed_here : {D : Type 0} → (grid : Ladders) (text : Option (List ℕ)) (texts : List (Option (List ℕ))) (taken : Taken)
+    (failures : D → ℕ) (old new : D) (olds news : List D) → failures new ≡ noted (failures old)
+    → HasFailedOn grid (text ∷ texts) taken failures (old ∷ olds) (new ∷ news)
+failed_here grid text texts taken failures old new olds news is = record { first = inl is }
+
+pub failed_later : {D : Type 0} → (grid : Ladders) (text : Option (List ℕ)) (texts : List (Option (List ℕ))) (taken mid : Taken)
+    (failures : D → ℕ) (old new : D) (olds news : List D) → IfSome text (IsTakenWith grid taken mid)
+    → HasFailedOn grid texts mid failures olds news
+    → HasFailedOn grid (text ∷ texts) taken failures (old ∷ olds) (new ∷ news)
+failed_later grid text texts taken mid failures old new olds news one more = record { first = inr (mid, one, more.first) }
+
+-- of devices that are the first and the rest
+pub failed_behind : {D : Type 0} → (grid : Ladders) (remaining : D → Option (List ℕ)) (taken mid : Taken) (failures : D → ℕ)
+    (all : List D) (old new : D) (olds news : List D) → all ≡ old ∷ olds → IfSome (remaining old) (IsTakenWith grid taken mid)
+    → HasFailedOn grid (map remaining olds) mid failures olds news
+    → HasFailedOn grid (map remaining all) taken failures all (new ∷ news)
+failed_behind {D} grid remaining taken mid failures all old new olds news is one more =
+    let P : List D → Type 0 = λ l. HasFailedOn grid (map remaining l) taken failures l (new ∷ news) in
+    subst P (sym is) (failed_later grid (remaining old) (map remaining olds) taken mid failures old new olds news one more)
 
 -- ---- lines on a flight
 
@@ -403,3 +419,69 @@ pub one_refused : (grid : Ladders) (readers : List (Option (List ℕ))) (old : T
     → IsRefusedOn grid readers old fault → IfSome (known readers) (λ texts. IsFirstRefused grid texts fault)
 one_refused grid readers old fault none is =
     refused_among grid readers [] [] old fault tt (sum_none grid old none) is.first
+
+-- ---- the first that failed
+
+-- what is taken comes of these texts
+record IsOf (grid : Ladders) (taken : Taken) (texts : List (List ℕ)) : Type 0 where
+  journals : List (List Entry)
+  are_texts : AreTexts texts journals
+  sum : IsSum grid journals taken
+
+abbrev pushed : Option (List (List ℕ)) → Option (List ℕ) → Option (List (List ℕ))
+pushed None text = None
+pushed (Some texts) None = None
+pushed (Some texts) (Some text) = Some (texts ++ text ∷ [])
+
+known_push : (before : List (Option (List ℕ))) (text : Option (List ℕ)) → known (before ++ text ∷ []) ≡ pushed (known before) text
+known_push [] None = refl
+known_push [] (Some text) = refl
+known_push (None ∷ before) text = refl
+known_push (Some first ∷ before) text =
+    ap (option_map (λ (known : List (List ℕ)). first ∷ known)) (known_push before text) ∙ by (known before) text
+  where
+    by : (o : Option (List (List ℕ))) (text : Option (List ℕ))
+        → option_map (λ (known : List (List ℕ)). first ∷ known) (pushed o text)
+        ≡ pushed (option_map (λ (known : List (List ℕ)). first ∷ known) o) text
+    by None text = refl
+    by (Some texts) None = refl
+    by (Some texts) (Some text) = refl
+
+one_more : (grid : Ladders) (before : List (Option (List ℕ))) (text : Option (List ℕ)) (old mid : Taken)
+    → IfSome (known before) (IsOf grid old) → IfSome text (IsTakenWith grid old mid)
+    → IfSome (known (before ++ text ∷ [])) (IsOf grid mid)
+one_more grid before text old mid are one =
+    let P : Option (List (List ℕ)) → Type 0 = λ o. IfSome o (IsOf grid mid) in
+    subst P (sym (known_push before text)) (by (known before) text are one)
+  where
+    by : (o : Option (List (List ℕ))) (text : Option (List ℕ)) → IfSome o (IsOf grid old) → IfSome text (IsTakenWith grid old mid)
+        → IfSome (pushed o text) (IsOf grid mid)
+    by None text are one = tt
+    by (Some texts) None are one = tt
+    by (Some texts) (Some text) are one = record {
+      journals = are.journals ++ one.entries ∷ [];
+      are_texts = texts_push texts are.journals text one.entries are.are_texts one.read.is_text;
+      sum = sum_more grid are.journals text old mid are.sum one;
+    }
+
+are_right : (grid : Ladders) (taken : Taken) (o : Option (List (List ℕ))) → IfSome o (IsOf grid taken) → IfSome o (AreShardTexts grid)
+are_right grid taken None are = tt
+are_right grid taken (Some texts) are = record { journals = are.journals; are_texts = are.are_texts; shards = are.sum.shards }
+
+risen_behind : (grid : Ladders) (before readers : List (Option (List ℕ))) (taken : Taken) (olds news : List ℕ)
+    → IfSome (known before) (IsOf grid taken) → RisenOn grid readers taken olds news
+    → HasRisenBehind grid before readers olds news
+risen_behind grid before [] taken olds news are is = absurd is
+risen_behind grid before (text ∷ readers) taken [] news are is = absurd is
+risen_behind grid before (text ∷ readers) taken (old ∷ olds) [] are is = absurd is
+risen_behind grid before (text ∷ readers) taken (old ∷ olds) (new ∷ news) are (inl here) = inl (are_right grid taken (known before) are, here)
+risen_behind grid before (text ∷ readers) taken (old ∷ olds) (new ∷ news) are (inr later) =
+    inr (risen_behind grid (before ++ text ∷ []) readers later.0 olds news (one_more grid before text taken later.0 are later.1) later.2)
+
+pub one_failed : {D : Type 0} → (grid : Ladders) (readers : List (Option (List ℕ))) (taken : Taken) (failures : D → ℕ) (olds news : List D)
+    → IsNone taken → HasFailedOn grid readers taken failures olds news → HasFailedAmong grid readers failures olds news
+one_failed grid readers taken failures olds news none failed =
+    risen_behind grid [] readers taken (map failures olds) (map failures news) none_before failed.first
+  where
+    none_before : IfSome (known []) (IsOf grid taken)
+    none_before = record { journals = []; are_texts = tt; sum = sum_none grid taken none }

@@ -1,9 +1,10 @@
 -- Which of some journals has the lines of a flight, by its place among them, counted from 1.
-use Rattle.std.specs.Prelude.{◌≡◌, ℕ, ◌+◌, Bool, nat_lt, List, [], ◌∷◌, find, Option, None, Some, option_map, if◌then◌else◌}
+use Rattle.std.specs.Prelude.{◌≡◌, ◌<◌, ℕ, ◌+◌, Bool, nat_lt, List, [], ◌∷◌, ◌++◌, find, Option, None, Some, IfSome, option_map, if◌then◌else◌}
 use Rattle.std.specs.List.{list_any, slice_index_or}
 use Rattle.seat_journal.specs.declared.entry.Entry.{Entry}
 use Rattle.seat_journal.specs.declared.entry.Work.{Work}
 use Rattle.seat_rules.specs.Flights.{flight_of, is_on}
+use Rattle.seat_rules.specs.Prefixes.{Begins}
 
 -- some line is on the flight
 abbrev pub has_line : ℕ → List Entry → Bool
@@ -43,6 +44,14 @@ is_owned owners work = nat_lt 0 (owner_in owners work)
 abbrev pub first_owned : List ℕ → List Entry → Option (ℕ × ℕ)
 first_owned owners entries =
     option_map (λ e. (e.number, owner_in owners e.work)) (find (λ e. is_owned owners e.work) entries)
+
+-- the work is on one of the first so many flights, or on none
+pub record IsWithin (flights : ℕ) (work : Work) : Type 0 where
+  pub below : IfSome (flight_of work) (λ flight. flight < flights)
+
+-- so is each of these lines
+pub record AreWithin (flights : ℕ) (entries : List Entry) : Type 0 where
+  pub each : (front : List Entry) (e : Entry) → Begins (front ++ e ∷ []) entries → IsWithin flights e.work
 
 -- the list says it of these journals
 pub record AreOwners (journals : List (List Entry)) (owners : List ℕ) : Type 0 where

@@ -3,9 +3,11 @@ use Rattle.std.specs.Prelude.{◌≡◌, ◌≤◌, ◌<◌, ◌⊎◌, ℕ, ◌
 use Rattle.airline_base.specs.Noting.{noted}
 use Rattle.seat_nesting.specs.Nesting.{Ladders}
 use Rattle.seat_journal.specs.declared.entry.Entry.{Entry}
+use Rattle.seat_journal.specs.Reading.{WantsRoom}
 use Rattle.seat_journal.specs.Text.{IsJournalText}
 use Rattle.seat_rules.specs.Agreement.{totals_in}
 use Rattle.seat_rules.specs.Journal.{IsLegal}
+use Rattle.seat_rules.specs.Replaying.{StopsAt}
 use Rattle.seat_rules.specs.Totals.{totals_of}
 use Rattle.seat_rules.specs.declared.totals.Totals.{Totals}
 use Rattle.seat_desk.specs.AuditDesk.{IsUnlawful, most_journal_bytes, most_lines}
@@ -105,6 +107,22 @@ pub record IsTakenWith (grid : Ladders) (old new : Taken) (text : List ℕ) : Ty
   pub count : new.count ≡ old.count + 1
   pub sums : new.totals ≡ both_of old.totals own
 
+-- no line of the text has a fault up to an entry, for which room is wanted
+pub record WantsEntry (text : List ℕ) : Type 0 where
+  pub line : ℕ
+  pub wants : WantsRoom text line
+
+-- the text is that of entries, of which none up to this one has a fault, this one none ahead of its advices
+pub record WantsStep (grid : Ladders) (text : List ℕ) : Type 0 where
+  pub entries : List Entry
+  pub is_text : IsJournalText text entries
+  pub number : ℕ
+  pub stops : StopsAt grid most_lines entries number
+
+-- memory is wanting for an entry of the text, or to carry one out
+abbrev pub IsWanting : Ladders → List ℕ → Type 0
+IsWanting grid text = WantsEntry text ⊎ WantsStep grid text
+
 -- the text is that of a legal history, whose first line on a flight of the others is this one
 pub record IsOwnedText (grid : Ladders) (owners text : List ℕ) (number other : ℕ) : Type 0 where
   pub entries : List Entry
@@ -138,21 +156,33 @@ RefusedOn grid (text ∷ texts) old fault =
 pub record IsRefusedOn (grid : Ladders) (texts : List (Option (List ℕ))) (old : Taken) (fault : ShardFault) : Type 0 where
   pub first : RefusedOn grid texts old fault
 
--- the bytes, where they are known, are the text of a legal history
-pub record IsLegalWhere (grid : Ladders) (text : Option (List ℕ)) : Type 0 where
-  pub entries : List Entry
-  pub totals : Totals
-  pub is_legal : IfSome text (λ bytes. IsLegalText grid bytes entries totals)
+-- one of the counts has risen by a failure, and the journals before it are taken, where their bytes are known
+abbrev pub RisenOn : Ladders → List (Option (List ℕ)) → Taken → List ℕ → List ℕ → Type 0
+RisenOn grid (text ∷ texts) taken (old ∷ olds) (new ∷ news) =
+    (new ≡ noted old) ⊎ ((mid : Taken) × IfSome text (IsTakenWith grid taken mid) × RisenOn grid texts mid olds news)
+RisenOn grid _ taken _ _ = ⊥
 
--- one of the counts has risen by a failure, and the journals before it are legal
-abbrev pub HasRisenAmong : Ladders → List (Option (List ℕ)) → List ℕ → List ℕ → Type 0
-HasRisenAmong grid (text ∷ texts) (old ∷ olds) (new ∷ news) =
-    (new ≡ noted old) ⊎ (IsLegalWhere grid text × HasRisenAmong grid texts olds news)
-HasRisenAmong grid _ _ _ = ⊥
+pub record HasFailedOn {D : Type 0} (grid : Ladders) (texts : List (Option (List ℕ))) (taken : Taken) (failures : D → ℕ)
+    (olds news : List D) : Type 0 where
+  pub first : RisenOn grid texts taken (map failures olds) (map failures news)
 
--- one of these devices has failed, and the journals before it are legal
+-- the texts are those of legal histories over these limits, no two of which have a line of one flight
+pub record AreShardTexts (grid : Ladders) (texts : List (List ℕ)) : Type 0 where
+  pub journals : List (List Entry)
+  pub are_texts : AreTexts texts journals
+  pub shards : AreShards grid most_lines journals
+
+-- behind the journals before, one of these counts has risen by a failure, and all journals ahead of it are legal and apart, where their
+-- bytes are known
+abbrev pub HasRisenBehind : Ladders → List (Option (List ℕ)) → List (Option (List ℕ)) → List ℕ → List ℕ → Type 0
+HasRisenBehind grid before (text ∷ texts) (old ∷ olds) (new ∷ news) =
+    (IfSome (known before) (AreShardTexts grid) × (new ≡ noted old))
+    ⊎ HasRisenBehind grid (before ++ text ∷ []) texts olds news
+HasRisenBehind grid before _ _ _ = ⊥
+
+-- one of these devices has failed, and the journals before it are legal, and no two have a line of one flight
 abbrev pub HasFailedAmong : {D : Type 0} → Ladders → List (Option (List ℕ)) → (D → ℕ) → List D → List D → Type 0
-HasFailedAmong grid texts failures olds news = HasRisenAmong grid texts (map failures olds) (map failures news)
+HasFailedAmong grid texts failures olds news = HasRisenBehind grid [] texts (map failures olds) (map failures news)
 
 -- no journal is taken yet
 pub record IsNone (taken : Taken) : Type 0 where

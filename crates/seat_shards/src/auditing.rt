@@ -1,5 +1,5 @@
 //! `audit --shards`: journals of hosts that have different flights over one set and its limits, and one line with what they come to together.
-ghost use Rattle.std.specs.Prelude.{◌≡◌, ◌≢◌, ◌≤◌, ◌⊎◌, map, IfErr, IfOk, IfSome, OnOk};
+ghost use Rattle.std.specs.Prelude.{◌≡◌, ◌≢◌, ◌≤◌, ◌⊎◌, length, map, IfErr, IfOk, IfSome, OnOk};
 ghost use Rattle.ssim_flights.specs.Right.{IsOfCentury};
 ghost use Rattle.seat_desk.specs.Desk.{InputFailed, IsWritten, OutputFailed};
 ghost use Rattle.seat_desk.specs.Loading.{IsFirstTooLargeLoadOf};
@@ -79,7 +79,7 @@ fn audited<R: Threads + Sync, S: NotedRead, L: NotedRead, J: NotedRead>(
 }
 
 // What the journals come to, each input read and checked before the next.
-#[tactic(auto, using(crate::proofs::Grounds::refused_over_ground, crate::proofs::Grounds::failed_over_ground))]
+#[tactic(auto, using(crate::proofs::Grounds::refused_over_ground, crate::proofs::Grounds::failed_over_ground, crate::proofs::Grounds::as_many))]
 fn totalled<R: Threads + Sync, S: NotedRead, L: NotedRead, J: NotedRead>(
     rt: &R,
     alloc: Global,
@@ -104,13 +104,14 @@ fn totalled<R: Threads + Sync, S: NotedRead, L: NotedRead, J: NotedRead>(
 }
 
 // What the journals come to over the loaded grid. The flights and the rows are dropped first.
-#[tactic(auto, using(crate::proofs::Summing::all_totalled, crate::proofs::Summing::one_refused))]
+#[tactic(auto, using(crate::proofs::Summing::all_totalled, crate::proofs::Summing::one_refused, crate::proofs::Summing::one_failed))]
 fn totalled_over<R: Threads + Sync, J: NotedRead>(
     rt: &R,
     alloc: Global,
     loaded: Loaded,
     journals: &mut [J],
 ) -> Result<Totals, ShardFault>
+    requires room { length loaded.grid ≤ length loaded.flights }
     ensures ok { IfOk result (λ totals. IfSome (known (map J.remaining journals.old)) (λ texts. AreTotalled loaded.grid texts totals)) }
     ensures fault { IfErr result (λ f. IsOfJournal f
         → IfSome (known (map J.remaining journals.old)) (λ texts. IsFirstRefused loaded.grid texts f)) }

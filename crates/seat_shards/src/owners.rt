@@ -1,9 +1,8 @@
 //! Which of the journals so far has the lines of a flight.
 //! It knows which flight a line is on, and nothing of what it is answered.
-ghost use Rattle.std.specs.Prelude.{◌≡◌, OnOk};
-ghost use Rattle.seat_shards.specs.Owners.{first_owned, is_owned, owner_in, OwnsLine, OwnsToo};
+ghost use Rattle.std.specs.Prelude.{◌≡◌, length};
+ghost use Rattle.seat_shards.specs.Owners.{first_owned, is_owned, owner_in, AreWithin, IsWithin, OwnsLine, OwnsToo};
 
-use airline_base::Memory;
 use seat_journal::{Entry, Work};
 use seat_parts::flight_of;
 
@@ -37,29 +36,27 @@ fn owner_of(owners: &[u32], work: &Work) -> u32
     }
 }
 
-/// Notes that the journal at this place has these lines.
-#[tactic(auto, using(crate::proofs::Owning::owned_none, crate::proofs::Owning::owned_next, crate::proofs::Owning::owned_whole))]
-pub(crate) fn own_all(owners: &mut Vec<u32>, entries: &[Entry], place: u32) -> Result<(), Memory>
-    ensures { OnOk result (OwnsToo place owners.old.items owners.new.items entries.now) }
+/// Notes that the journal at this place has these lines, each on one of the flights that there are.
+#[tactic(auto, using(crate::proofs::Owning::owned_none, crate::proofs::Owning::owned_next, crate::proofs::Owning::owned_whole, crate::proofs::Owning::within_at))]
+pub(crate) fn own_all(owners: &mut Vec<u32>, entries: &[Entry], place: u32)
+    requires { AreWithin (length owners.old.items) entries.now }
+    ensures owns { OwnsToo place owners.old.items owners.new.items entries.now }
+    ensures long { length owners.new.items ≡ length owners.old.items }
 {
     for entry in entries {
-        own(owners, &entry.work, place)?;
+        own(owners, &entry.work, place);
     }
-    Ok(())
 }
 
 // Notes that the journal at this place has a line of this work.
-#[tactic(auto, using(crate::proofs::Owning::own_nowhere, crate::proofs::Owning::own_there))]
-fn own(owners: &mut Vec<u32>, work: &Work, place: u32) -> Result<(), Memory>
-    ensures { OnOk result (OwnsLine place owners.old.items owners.new.items work.now) }
+#[tactic(auto, using(crate::proofs::Owning::own_nowhere, crate::proofs::Owning::own_there, crate::proofs::Owning::is_inside))]
+fn own(owners: &mut Vec<u32>, work: &Work, place: u32)
+    requires { IsWithin (length owners.old.items) work.now }
+    ensures owns { OwnsLine place owners.old.items owners.new.items work.now }
+    ensures long { length owners.new.items ≡ length owners.old.items }
 {
     let Some(flight) = flight_of(work) else {
-        return Ok(());
+        return;
     };
-    let flight = flight as usize;
-    if flight >= owners.len() {
-        return Err(Memory);
-    }
-    owners[flight] = place;
-    Ok(())
+    owners[flight as usize] = place;
 }

@@ -5,17 +5,17 @@ use Rattle.clap.specs.Words.{Row, Shape, Text, fault_of, is_simple, is_simple_an
 use Rattle.clap.specs.Walk.{answers_to, rows_after}
 use Rattle.clap.specs.Simple.{argument_words, built, built_leaf}
 use Rattle.clap.proofs.OnLiterals.{clap_on_literals}
-use Rattle.seat_words.specs.CommandLine.{audit_app, bare_app, bookings_app, check_app, cover_app, explain_app, flights_app, history_app, horizon_app, ladder_app, loads_app, named_app, pickup_app, recover_app, replies_app, rooms_app, run_app, seal_app, seatdesk_app, selling_app, serve_app, told_app, waiting_app, why_app, with_verbose}
+use Rattle.seat_words.specs.CommandLine.{audit_app, bare_app, bookings_app, check_app, cover_app, explain_app, flights_app, history_app, horizon_app, ladder_app, loads_app, named_app, pickup_app, recover_app, replies_app, rooms_app, run_app, seal_app, season_app, seatdesk_app, selling_app, serve_app, told_app, waiting_app, why_app, with_verbose}
 use Rattle.seat_words.specs.Jobs.{Line, is_answerable, is_complete}
 use Rattle.seat_words.proofs.Found.{Each, Yields, is_no_help, line_in}
 use Rattle.seat_words.proofs.Values.{Keeps, append_keeps, flag_keeps, has_required, help_keeps, leaf_values, set_keeps}
 
 pub seatdesk_is_simple : is_simple seatdesk_app ≡ true
-unfolding seatdesk_app selling_app bare_app named_app ladder_app check_app flights_app cover_app rooms_app loads_app run_app serve_app bookings_app audit_app seal_app recover_app replies_app told_app waiting_app pickup_app history_app why_app explain_app horizon_app clap_on_literals
+unfolding seatdesk_app selling_app bare_app named_app ladder_app check_app flights_app cover_app rooms_app loads_app run_app serve_app bookings_app audit_app seal_app recover_app replies_app told_app waiting_app pickup_app history_app why_app explain_app season_app horizon_app clap_on_literals
 seatdesk_is_simple = refl
 
 pub seatdesk_is_free : is_simple_and_free seatdesk_app ≡ true
-unfolding seatdesk_app selling_app bare_app named_app ladder_app check_app flights_app cover_app rooms_app loads_app run_app serve_app bookings_app audit_app seal_app recover_app replies_app told_app waiting_app pickup_app history_app why_app explain_app horizon_app clap_on_literals
+unfolding seatdesk_app selling_app bare_app named_app ladder_app check_app flights_app cover_app rooms_app loads_app run_app serve_app bookings_app audit_app seal_app recover_app replies_app told_app waiting_app pickup_app history_app why_app explain_app season_app horizon_app clap_on_literals
 seatdesk_is_free = refl
 
 -- ---- words without a fault give a line of one of the commands
@@ -42,82 +42,87 @@ flights_line = leaf_line is_complete (built_leaf (with_verbose flights_app).top)
 cover_line : Yields is_complete (built_leaf (with_verbose cover_app).top)
 unfolding cover_app horizon_app
 cover_line = leaf_line is_complete (built_leaf (with_verbose cover_app).top)
-    (set_keeps _ refl refl, (set_keeps _ refl refl, (set_keeps _ refl refl, (set_keeps _ refl refl, (flag_keeps _ refl _ refl, (help_keeps _ refl, tt)))))) (λ rows h. h)
+    (set_keeps _ refl refl, (set_keeps _ refl refl, (set_keeps _ refl refl, (set_keeps _ refl refl, (set_keeps _ refl refl, (flag_keeps _ refl _ refl, (help_keeps _ refl, tt))))))) (λ rows h. h)
 
 rooms_line : Yields is_complete (built_leaf (with_verbose rooms_app).top)
 unfolding rooms_app horizon_app
 rooms_line = leaf_line is_complete (built_leaf (with_verbose rooms_app).top)
-    (set_keeps _ refl refl, (set_keeps _ refl refl, (set_keeps _ refl refl, (set_keeps _ refl refl, (set_keeps _ refl refl, (set_keeps _ refl refl, (flag_keeps _ refl _ refl, (flag_keeps _ refl _ refl, (flag_keeps _ refl _ refl, (flag_keeps _ refl _ refl, (set_keeps _ refl refl, (flag_keeps _ refl _ refl, (help_keeps _ refl, tt))))))))))))) (λ rows h. h)
+    (set_keeps _ refl refl, (set_keeps _ refl refl, (set_keeps _ refl refl, (set_keeps _ refl refl, (set_keeps _ refl refl, (set_keeps _ refl refl, (set_keeps _ refl refl, (flag_keeps _ refl _ refl, (flag_keeps _ refl _ refl, (flag_keeps _ refl _ refl, (flag_keeps _ refl _ refl, (set_keeps _ refl refl, (flag_keeps _ refl _ refl, (help_keeps _ refl, tt)))))))))))))) (λ rows h. h)
 
 loads_line : Yields is_complete (built_leaf (with_verbose loads_app).top)
 unfolding loads_app horizon_app
 loads_line = leaf_line is_complete (built_leaf (with_verbose loads_app).top)
-    (set_keeps _ refl refl, (set_keeps _ refl refl, (set_keeps _ refl refl, (set_keeps _ refl refl, (set_keeps _ refl refl, (set_keeps _ refl refl, (set_keeps _ refl refl, (set_keeps _ refl refl, (flag_keeps _ refl _ refl, (flag_keeps _ refl _ refl, (flag_keeps _ refl _ refl, (flag_keeps _ refl _ refl, (set_keeps _ refl refl, (flag_keeps _ refl _ refl, (help_keeps _ refl, tt))))))))))))))) (λ rows h. h)
+    (set_keeps _ refl refl, (set_keeps _ refl refl, (set_keeps _ refl refl, (set_keeps _ refl refl, (set_keeps _ refl refl, (set_keeps _ refl refl, (set_keeps _ refl refl, (set_keeps _ refl refl, (set_keeps _ refl refl, (flag_keeps _ refl _ refl, (flag_keeps _ refl _ refl, (flag_keeps _ refl _ refl, (flag_keeps _ refl _ refl, (flag_keeps _ refl _ refl, (set_keeps _ refl refl, (flag_keeps _ refl _ refl, (help_keeps _ refl, tt))))))))))))))))) (λ rows h. h)
 
 run_line : Yields is_complete (built_leaf (with_verbose run_app).top)
 unfolding run_app horizon_app
 run_line = leaf_line is_complete (built_leaf (with_verbose run_app).top)
-    (set_keeps _ refl refl, (set_keeps _ refl refl, (set_keeps _ refl refl, (set_keeps _ refl refl, (set_keeps _ refl refl, (set_keeps _ refl refl, (set_keeps _ refl refl, (set_keeps _ refl refl, (set_keeps _ refl refl, (set_keeps _ refl refl, (flag_keeps _ refl _ refl, (flag_keeps _ refl _ refl, (append_keeps _ refl refl, (flag_keeps _ refl _ refl, (help_keeps _ refl, tt))))))))))))))) (λ rows h. h)
+    (set_keeps _ refl refl, (set_keeps _ refl refl, (set_keeps _ refl refl, (set_keeps _ refl refl, (set_keeps _ refl refl, (set_keeps _ refl refl, (set_keeps _ refl refl, (set_keeps _ refl refl, (set_keeps _ refl refl, (set_keeps _ refl refl, (set_keeps _ refl refl, (flag_keeps _ refl _ refl, (flag_keeps _ refl _ refl, (append_keeps _ refl refl, (flag_keeps _ refl _ refl, (help_keeps _ refl, tt)))))))))))))))) (λ rows h. h)
 
 serve_line : Yields is_complete (built_leaf (with_verbose serve_app).top)
 unfolding serve_app horizon_app
 serve_line = leaf_line is_complete (built_leaf (with_verbose serve_app).top)
-    (set_keeps _ refl refl, (set_keeps _ refl refl, (set_keeps _ refl refl, (set_keeps _ refl refl, (set_keeps _ refl refl, (set_keeps _ refl refl, (append_keeps _ refl refl, (set_keeps _ refl refl, (set_keeps _ refl refl, (set_keeps _ refl refl, (set_keeps _ refl refl, (set_keeps _ refl refl, (flag_keeps _ refl _ refl, (help_keeps _ refl, tt)))))))))))))) (λ rows h. h)
+    (set_keeps _ refl refl, (set_keeps _ refl refl, (set_keeps _ refl refl, (set_keeps _ refl refl, (set_keeps _ refl refl, (set_keeps _ refl refl, (set_keeps _ refl refl, (append_keeps _ refl refl, (set_keeps _ refl refl, (set_keeps _ refl refl, (set_keeps _ refl refl, (set_keeps _ refl refl, (set_keeps _ refl refl, (flag_keeps _ refl _ refl, (help_keeps _ refl, tt))))))))))))))) (λ rows h. h)
 
 bookings_line : Yields is_complete (built_leaf (with_verbose bookings_app).top)
 unfolding bookings_app horizon_app
 bookings_line = leaf_line is_complete (built_leaf (with_verbose bookings_app).top)
-    (set_keeps _ refl refl, (set_keeps _ refl refl, (set_keeps _ refl refl, (set_keeps _ refl refl, (append_keeps _ refl refl, (set_keeps _ refl refl, (set_keeps _ refl refl, (flag_keeps _ refl _ refl, (flag_keeps _ refl _ refl, (flag_keeps _ refl _ refl, (set_keeps _ refl refl, (flag_keeps _ refl _ refl, (help_keeps _ refl, tt))))))))))))) (λ rows h. h)
+    (set_keeps _ refl refl, (set_keeps _ refl refl, (set_keeps _ refl refl, (set_keeps _ refl refl, (set_keeps _ refl refl, (append_keeps _ refl refl, (set_keeps _ refl refl, (set_keeps _ refl refl, (flag_keeps _ refl _ refl, (flag_keeps _ refl _ refl, (flag_keeps _ refl _ refl, (set_keeps _ refl refl, (flag_keeps _ refl _ refl, (help_keeps _ refl, tt)))))))))))))) (λ rows h. h)
 
 waiting_line : Yields is_complete (built_leaf (with_verbose waiting_app).top)
 unfolding waiting_app horizon_app
 waiting_line = leaf_line is_complete (built_leaf (with_verbose waiting_app).top)
-    (set_keeps _ refl refl, (set_keeps _ refl refl, (set_keeps _ refl refl, (set_keeps _ refl refl, (set_keeps _ refl refl, (set_keeps _ refl refl, (flag_keeps _ refl _ refl, (flag_keeps _ refl _ refl, (flag_keeps _ refl _ refl, (set_keeps _ refl refl, (flag_keeps _ refl _ refl, (help_keeps _ refl, tt)))))))))))) (λ rows h. h)
+    (set_keeps _ refl refl, (set_keeps _ refl refl, (set_keeps _ refl refl, (set_keeps _ refl refl, (set_keeps _ refl refl, (set_keeps _ refl refl, (set_keeps _ refl refl, (flag_keeps _ refl _ refl, (flag_keeps _ refl _ refl, (flag_keeps _ refl _ refl, (set_keeps _ refl refl, (flag_keeps _ refl _ refl, (help_keeps _ refl, tt))))))))))))) (λ rows h. h)
 
 pickup_line : Yields is_complete (built_leaf (with_verbose pickup_app).top)
 unfolding pickup_app horizon_app
 pickup_line = leaf_line is_complete (built_leaf (with_verbose pickup_app).top)
-    (set_keeps _ refl refl, (set_keeps _ refl refl, (set_keeps _ refl refl, (set_keeps _ refl refl, (set_keeps _ refl refl, (set_keeps _ refl refl, (set_keeps _ refl refl, (set_keeps _ refl refl, (flag_keeps _ refl _ refl, (flag_keeps _ refl _ refl, (flag_keeps _ refl _ refl, (set_keeps _ refl refl, (flag_keeps _ refl _ refl, (help_keeps _ refl, tt)))))))))))))) (λ rows h. h)
+    (set_keeps _ refl refl, (set_keeps _ refl refl, (set_keeps _ refl refl, (set_keeps _ refl refl, (set_keeps _ refl refl, (set_keeps _ refl refl, (set_keeps _ refl refl, (set_keeps _ refl refl, (set_keeps _ refl refl, (flag_keeps _ refl _ refl, (flag_keeps _ refl _ refl, (flag_keeps _ refl _ refl, (set_keeps _ refl refl, (flag_keeps _ refl _ refl, (help_keeps _ refl, tt))))))))))))))) (λ rows h. h)
 
 history_line : Yields is_complete (built_leaf (with_verbose history_app).top)
 unfolding history_app horizon_app
 history_line = leaf_line is_complete (built_leaf (with_verbose history_app).top)
-    (set_keeps _ refl refl, (set_keeps _ refl refl, (set_keeps _ refl refl, (set_keeps _ refl refl, (set_keeps _ refl refl, (set_keeps _ refl refl, (set_keeps _ refl refl, (flag_keeps _ refl _ refl, (flag_keeps _ refl _ refl, (flag_keeps _ refl _ refl, (set_keeps _ refl refl, (flag_keeps _ refl _ refl, (help_keeps _ refl, tt))))))))))))) (λ rows h. h)
+    (set_keeps _ refl refl, (set_keeps _ refl refl, (set_keeps _ refl refl, (set_keeps _ refl refl, (set_keeps _ refl refl, (set_keeps _ refl refl, (set_keeps _ refl refl, (set_keeps _ refl refl, (flag_keeps _ refl _ refl, (flag_keeps _ refl _ refl, (flag_keeps _ refl _ refl, (set_keeps _ refl refl, (flag_keeps _ refl _ refl, (help_keeps _ refl, tt)))))))))))))) (λ rows h. h)
 
 audit_line : Yields is_complete (built_leaf (with_verbose audit_app).top)
 unfolding audit_app horizon_app
 audit_line = leaf_line is_complete (built_leaf (with_verbose audit_app).top)
-    (set_keeps _ refl refl, (set_keeps _ refl refl, (set_keeps _ refl refl, (set_keeps _ refl refl, (set_keeps _ refl refl, (set_keeps _ refl refl, (set_keeps _ refl refl, (flag_keeps _ refl _ refl, (flag_keeps _ refl _ refl, (flag_keeps _ refl _ refl, (set_keeps _ refl refl, (append_keeps _ refl refl, (flag_keeps _ refl _ refl, (help_keeps _ refl, tt)))))))))))))) (λ rows h. h)
+    (set_keeps _ refl refl, (set_keeps _ refl refl, (set_keeps _ refl refl, (set_keeps _ refl refl, (set_keeps _ refl refl, (set_keeps _ refl refl, (set_keeps _ refl refl, (set_keeps _ refl refl, (flag_keeps _ refl _ refl, (flag_keeps _ refl _ refl, (flag_keeps _ refl _ refl, (set_keeps _ refl refl, (append_keeps _ refl refl, (flag_keeps _ refl _ refl, (help_keeps _ refl, tt))))))))))))))) (λ rows h. h)
 
 seal_line : Yields is_complete (built_leaf (with_verbose seal_app).top)
 unfolding seal_app horizon_app
 seal_line = leaf_line is_complete (built_leaf (with_verbose seal_app).top)
-    (set_keeps _ refl refl, (set_keeps _ refl refl, (set_keeps _ refl refl, (set_keeps _ refl refl, (set_keeps _ refl refl, (flag_keeps _ refl _ refl, (help_keeps _ refl, tt))))))) (λ rows h. h)
+    (set_keeps _ refl refl, (set_keeps _ refl refl, (set_keeps _ refl refl, (set_keeps _ refl refl, (set_keeps _ refl refl, (set_keeps _ refl refl, (flag_keeps _ refl _ refl, (help_keeps _ refl, tt)))))))) (λ rows h. h)
 
 recover_line : Yields is_complete (built_leaf (with_verbose recover_app).top)
 unfolding recover_app horizon_app
 recover_line = leaf_line is_complete (built_leaf (with_verbose recover_app).top)
-    (set_keeps _ refl refl, (set_keeps _ refl refl, (set_keeps _ refl refl, (set_keeps _ refl refl, (flag_keeps _ refl _ refl, (set_keeps _ refl refl, (flag_keeps _ refl _ refl, (help_keeps _ refl, tt)))))))) (λ rows h. h)
+    (set_keeps _ refl refl, (set_keeps _ refl refl, (set_keeps _ refl refl, (set_keeps _ refl refl, (set_keeps _ refl refl, (flag_keeps _ refl _ refl, (set_keeps _ refl refl, (flag_keeps _ refl _ refl, (help_keeps _ refl, tt))))))))) (λ rows h. h)
 
 replies_line : Yields is_complete (built_leaf (with_verbose replies_app).top)
 unfolding replies_app horizon_app
 replies_line = leaf_line is_complete (built_leaf (with_verbose replies_app).top)
-    (set_keeps _ refl refl, (set_keeps _ refl refl, (set_keeps _ refl refl, (set_keeps _ refl refl, (set_keeps _ refl refl, (set_keeps _ refl refl, (set_keeps _ refl refl, (set_keeps _ refl refl, (set_keeps _ refl refl, (set_keeps _ refl refl, (append_keeps _ refl refl, (flag_keeps _ refl _ refl, (help_keeps _ refl, tt))))))))))))) (λ rows h. h)
+    (set_keeps _ refl refl, (set_keeps _ refl refl, (set_keeps _ refl refl, (set_keeps _ refl refl, (set_keeps _ refl refl, (set_keeps _ refl refl, (set_keeps _ refl refl, (set_keeps _ refl refl, (set_keeps _ refl refl, (set_keeps _ refl refl, (set_keeps _ refl refl, (append_keeps _ refl refl, (flag_keeps _ refl _ refl, (help_keeps _ refl, tt)))))))))))))) (λ rows h. h)
 
 told_line : Yields is_complete (built_leaf (with_verbose told_app).top)
 unfolding told_app horizon_app
 told_line = leaf_line is_complete (built_leaf (with_verbose told_app).top)
-    (set_keeps _ refl refl, (set_keeps _ refl refl, (set_keeps _ refl refl, (set_keeps _ refl refl, (set_keeps _ refl refl, (set_keeps _ refl refl, (flag_keeps _ refl _ refl, (set_keeps _ refl refl, (flag_keeps _ refl _ refl, (help_keeps _ refl, tt)))))))))) (λ rows h. h)
+    (set_keeps _ refl refl, (set_keeps _ refl refl, (set_keeps _ refl refl, (set_keeps _ refl refl, (set_keeps _ refl refl, (set_keeps _ refl refl, (set_keeps _ refl refl, (flag_keeps _ refl _ refl, (set_keeps _ refl refl, (flag_keeps _ refl _ refl, (help_keeps _ refl, tt))))))))))) (λ rows h. h)
 
 why_line : Yields is_complete (built_leaf (with_verbose why_app).top)
 unfolding why_app horizon_app
 why_line = leaf_line is_complete (built_leaf (with_verbose why_app).top)
-    (set_keeps _ refl refl, (set_keeps _ refl refl, (set_keeps _ refl refl, (set_keeps _ refl refl, (set_keeps _ refl refl, (flag_keeps _ refl _ refl, (set_keeps _ refl refl, (flag_keeps _ refl _ refl, (help_keeps _ refl, tt))))))))) (λ rows h. h)
+    (set_keeps _ refl refl, (set_keeps _ refl refl, (set_keeps _ refl refl, (set_keeps _ refl refl, (set_keeps _ refl refl, (set_keeps _ refl refl, (flag_keeps _ refl _ refl, (set_keeps _ refl refl, (flag_keeps _ refl _ refl, (help_keeps _ refl, tt)))))))))) (λ rows h. h)
 
 explain_line : Yields is_complete (built_leaf (with_verbose explain_app).top)
 unfolding explain_app
 explain_line = leaf_line is_complete (built_leaf (with_verbose explain_app).top)
     (set_keeps _ refl refl, (append_keeps _ refl refl, (flag_keeps _ refl _ refl, (help_keeps _ refl, tt)))) (λ rows h. h)
+
+season_line : Yields is_complete (built_leaf (with_verbose season_app).top)
+unfolding season_app
+season_line = leaf_line is_complete (built_leaf (with_verbose season_app).top)
+    (set_keeps _ refl refl, (set_keeps _ refl refl, (flag_keeps _ refl _ refl, (help_keeps _ refl, tt)))) (λ rows h. h)
 
 -- the help that clap adds is met by its own name alone
 no_help : (name : Text) → is_no_help name ≡ true → (answers_to name (codes "help", []) ≡ true) → ⊥
@@ -130,7 +135,7 @@ no_help name o h = let e : name ≡ codes "help" = sym ((bytes_eq-Decides (codes
 
 pub seatdesk_line : (words : List Text) → fault_of seatdesk_app words ≡ []
     → is_answerable (subcommand_of seatdesk_app words) ≡ true
-unfolding seatdesk_app selling_app bare_app named_app ladder_app check_app flights_app cover_app rooms_app loads_app run_app serve_app bookings_app audit_app seal_app recover_app replies_app told_app waiting_app pickup_app history_app why_app explain_app horizon_app
+unfolding seatdesk_app selling_app bare_app named_app ladder_app check_app flights_app cover_app rooms_app loads_app run_app serve_app bookings_app audit_app seal_app recover_app replies_app told_app waiting_app pickup_app history_app why_app explain_app season_app horizon_app
 seatdesk_line words e = line_in is_complete (built seatdesk_app) (argument_words seatdesk_app words) refl refl
     (λ name o. (
       λ _. ladder_line,
@@ -146,7 +151,7 @@ seatdesk_line words e = line_in is_complete (built seatdesk_app) (argument_words
                 λ _. loads_line,
                 (
                   λ _. run_line,
-                  (λ _. serve_line, (λ _. bookings_line, (λ _. waiting_line, (λ _. pickup_line, (λ _. history_line, (λ _. audit_line, (λ _. seal_line, (λ _. recover_line, (λ _. replies_line, (λ _. told_line, (λ _. why_line, (λ _. explain_line, (λ h. absurd (no_help name o h), tt))))))))))))),
+                  (λ _. serve_line, (λ _. bookings_line, (λ _. waiting_line, (λ _. pickup_line, (λ _. history_line, (λ _. audit_line, (λ _. seal_line, (λ _. recover_line, (λ _. replies_line, (λ _. told_line, (λ _. why_line, (λ _. explain_line, (λ _. season_line, (λ h. absurd (no_help name o h), tt)))))))))))))),
                 ),
               ),
             ),

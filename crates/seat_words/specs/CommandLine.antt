@@ -62,11 +62,12 @@ flights_app = with_rule (with_rule (with_rule (with_rule (with_rule (new_app (co
 
 -- what a command asks for that works on the limits of a horizon
 unfoldable pub horizon_app : Text → App
-horizon_app name = with_rule (with_rule (with_rule (with_rule (new_app name)
+horizon_app name = with_rule (with_rule (with_rule (with_rule (with_rule (new_app name)
     (required_option (codes "set")))
     (required_option (codes "limits")))
     (required_option (codes "first")))
-    (required_option (codes "days"))
+    (required_option (codes "days")))
+    (optional (codes "season"))
 
 unfoldable pub cover_app : App
 cover_app = horizon_app (codes "cover")
@@ -82,7 +83,7 @@ rooms_app = with_rule (with_rule (with_rule (with_rule (with_rule (with_rule (wi
     (optional_value (codes "journal"))
 
 unfoldable pub loads_app : App
-loads_app = with_rule (with_rule (with_rule (with_rule (with_rule (with_rule (with_rule (with_rule (with_rule (horizon_app (codes "loads"))
+loads_app = with_rule (with_rule (with_rule (with_rule (with_rule (with_rule (with_rule (with_rule (with_rule (with_rule (horizon_app (codes "loads"))
     (optional (codes "flight")))
     (optional (codes "day")))
     (optional (codes "pair")))
@@ -90,6 +91,7 @@ loads_app = with_rule (with_rule (with_rule (with_rule (with_rule (with_rule (wi
     (flag (codes "bars")))
     (flag (codes "csv")))
     (flag (codes "json")))
+    (flag (codes "html")))
     (flag (codes "open")))
     (optional_value (codes "journal"))
 
@@ -203,6 +205,11 @@ explain_app = with_rule (with_rule (new_app (codes "explain"))
     (required_value (codes "code")))
     (trailing_values (codes "numbers"))
 
+unfoldable pub season_app : App
+season_app = with_rule (with_rule (new_app (codes "season"))
+    (required_value (codes "set")))
+    (required_value (codes "limits"))
+
 -- the program before its options and commands
 unfoldable pub named_app : App
 named_app = record {
@@ -229,8 +236,8 @@ selling_app = with_command (with_command (with_command (with_command (with_comma
 
 -- the program: one of its commands must be named
 unfoldable pub seatdesk_app : App
-seatdesk_app = with_command (with_command (with_command (with_command (with_command (with_command (with_command (with_command (with_command (with_command (with_command
-    selling_app bookings_app) waiting_app) pickup_app) history_app) audit_app) seal_app) recover_app) replies_app) told_app) why_app) explain_app
+seatdesk_app = with_command (with_command (with_command (with_command (with_command (with_command (with_command (with_command (with_command (with_command (with_command (with_command
+    selling_app bookings_app) waiting_app) pickup_app) history_app) audit_app) seal_app) recover_app) replies_app) told_app) why_app) explain_app) season_app
 
 -- the command is read as a, and its options are its own
 pub record IsBuiltAs (a : App) (c : Command) : Type 0 where

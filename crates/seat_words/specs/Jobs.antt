@@ -18,7 +18,7 @@ use Rattle.seat_words.specs.declared.job.HistoryJob.{HistoryJob}
 use Rattle.seat_words.specs.declared.job.AuditJob.{AuditJob}
 use Rattle.seat_words.specs.declared.job.RepliesJob.{RepliesJob}
 use Rattle.seat_words.specs.declared.job.ToldJob.{ToldJob}
-use Rattle.seat_words.specs.declared.job.Job.TheVariants.{Ladder, Check, Flights, Cover, Rooms, Loads, Run, Serve, Bookings, Waiting, Pickup, History, Audit, Seal, Recover, Replies, Told, Why, Explain}
+use Rattle.seat_words.specs.declared.job.Job.TheVariants.{Ladder, Check, Flights, Cover, Rooms, Loads, Run, Serve, Bookings, Waiting, Pickup, History, Audit, Seal, Recover, Replies, Told, Why, Explain, Season}
 
 -- a command that clap found in the words, and what it found of the command's values
 abbrev pub Line : Type 0
@@ -77,6 +77,7 @@ IsLoads rows asked = IsOver rows asked.over
     × MayHave rows (codes "by") (option_map (λ text. text.now) asked.by)
     × HasFlag rows (codes "bars") asked.bars
     × IsShaped rows asked.shape
+    × HasFlag rows (codes "html") asked.html
     × HasFlag rows (codes "open") asked.is_open
     × MayHave rows (codes "journal") (option_map (λ text. text.now) asked.journal)
 
@@ -203,6 +204,9 @@ Asks (Why over line_word is_open journal) line = (line.0 ≡ codes "why")
 Asks (Explain code numbers) line = (line.0 ≡ codes "explain")
     × Has line.1 (codes "code") code.now
     × HasAny line.1 (codes "numbers") numbers
+Asks (Season set limits) line = (line.0 ≡ codes "season")
+    × Has line.1 (codes "set") set.now
+    × Has line.1 (codes "limits") limits.now
 
 -- ---- what the reading itself needs
 
@@ -231,6 +235,7 @@ asked_values = (codes "ladder", [])
     ∷ (codes "told", horizon_values ++ codes "desk" ∷ codes "journal" ∷ [])
     ∷ (codes "why", horizon_values ++ codes "line" ∷ codes "journal" ∷ [])
     ∷ (codes "explain", codes "code" ∷ [])
+    ∷ (codes "season", codes "set" ∷ codes "limits" ∷ [])
     ∷ []
 
 abbrev pub has_values : List Text → List Row → Bool

@@ -1,7 +1,7 @@
 //! The commands, as clap reads them and as their help shows them.
 ghost use Rattle.std.specs.Prelude.{IfOk, IsOkAnd, codes};
 ghost use Rattle.clap.specs.Words.{AddsArg, App, new_app};
-ghost use Rattle.seat_words.specs.CommandLine.{IsBuiltAs, IsReadAlike, IsReadAs, audit_app, bare_app, bookings_app, check_app, cover_app, explain_app, flag, flights_app, history_app, horizon_app, ladder_app, lettered_flag, loads_app, named_app, optional, optional_several, optional_value, optional_values, pickup_app, trailing_values, recover_app, replies_app, required_option, required_value, rooms_app, run_app, seal_app, seatdesk_app, selling_app, serve_app, told_app, waiting_app, why_app, with_command, with_verbose};
+ghost use Rattle.seat_words.specs.CommandLine.{IsBuiltAs, IsReadAlike, IsReadAs, audit_app, bare_app, bookings_app, check_app, cover_app, explain_app, flag, flights_app, history_app, horizon_app, ladder_app, lettered_flag, loads_app, named_app, optional, optional_several, optional_value, optional_values, pickup_app, trailing_values, recover_app, replies_app, required_option, required_value, rooms_app, run_app, seal_app, season_app, seatdesk_app, selling_app, serve_app, told_app, waiting_app, why_app, with_command, with_verbose};
 
 use clap::{Arg, ArgAction, Command};
 use std::alloc::{AllocError, Global};
@@ -20,6 +20,12 @@ const LIMITS_HELP: &str = "The booking limits of the legs, in seats from 0 to 99
 const FIRST_HELP: &str = "The first day of departure, as 2024-06-01, from 2000 to 2099";
 
 const DAYS_HELP: &str = "How many days from the first on, 1 to 366";
+
+const SEASON_HELP: &str =
+    "A season file in place of --set, --limits, --first and --days; it may name the journal and the desks too";
+
+const SEASON_LIMITS_HELP: &str =
+    "The booking limits of the legs (a file, which is named and not read)";
 
 const TODAY_HELP: &str =
     "The day of the run, as 2024-06-01, from 2000 to 2099; it gives the requests their year";
@@ -109,6 +115,9 @@ const CSV_HELP: &str = "Writes the rows as CSV, below a line of the columns' nam
 
 const JSON_HELP: &str = "Writes the rows as JSON, an object a line";
 
+const HTML_HELP: &str =
+    "Writes one page of HTML, which needs nothing else: flights down, days across, a section for each class";
+
 const BY_HELP: &str = "What the loads are summed by: leg, flight, day, pair or class";
 
 const PICKED_HELP: &str =
@@ -142,7 +151,8 @@ const FLIGHT_HELP: &str = "The flights of this name alone, on all their days, as
 
 const HISTORY_LOCATOR_HELP: &str = "The locator: six letters and digits, as W8Y3ZA";
 
-const LOCATOR_HELP: &str = "The bookings of this locator alone: six letters and digits, as B3N6VC";
+const LOCATOR_HELP: &str =
+    "The bookings of this locator alone: six letters and digits, as B3N6VC; more than once, those of any of these";
 
 const LINE_HELP: &str = "The line of the journal, counted from 1";
 
@@ -172,7 +182,8 @@ pub(crate) fn seatdesk_command<'a>(alloc: Global) -> Result<Command<'a>, AllocEr
     let program = with_command(alloc, program, replies_command(alloc));
     let program = with_command(alloc, program, told_command(alloc));
     let program = with_command(alloc, program, why_command(alloc));
-    with_command(alloc, program, explain_command(alloc))
+    let program = with_command(alloc, program, explain_command(alloc));
+    with_command(alloc, program, season_command(alloc))
 }
 
 // The program with the commands that work on a schedule, or on one leg.
@@ -328,6 +339,7 @@ fn loads_command<'a>(alloc: Global) -> Result<Command<'a>, AllocError>
     let loads = with_argument(loads, flag(alloc, "bars", BARS_HELP));
     let loads = with_argument(loads, flag(alloc, "csv", CSV_HELP));
     let loads = with_argument(loads, flag(alloc, "json", JSON_HELP));
+    let loads = with_argument(loads, flag(alloc, "html", HTML_HELP));
     let loads = with_argument(loads, flag(alloc, "open", OPEN_HELP));
     with_argument(
         loads,
@@ -634,6 +646,22 @@ fn explain_command<'a>(alloc: Global) -> Result<Command<'a>, AllocError>
     )
 }
 
+fn season_command<'a>(alloc: Global) -> Result<Command<'a>, AllocError>
+    ensures { IfOk result (IsBuiltAs season_app) }
+{
+    let season = named_command(
+        alloc,
+        "season",
+        "Writes a season file of a set and its limits, with the set's own dates as a beginning",
+        "Save it in the folder in which the command is given: the names of files in it are relative to its own folder. Name it by --season\nin place of --set, --limits, --first and --days.\n\nExample: seatdesk season examples/summer.ssim examples/limits.txt",
+    );
+    let season = with_argument(Ok(season), wanted_value(alloc, "set", "SET", SET_HELP));
+    with_argument(
+        season,
+        wanted_value(alloc, "limits", "LIMITS", SEASON_LIMITS_HELP),
+    )
+}
+
 // A command over the limits of the dated flights.
 fn horizon_command<'a>(
     alloc: Global,
@@ -650,7 +678,11 @@ fn horizon_command<'a>(
         wanted_option(alloc, "limits", "LIMITS", LIMITS_HELP),
     );
     let command = with_argument(command, wanted_option(alloc, "first", "DATE", FIRST_HELP));
-    with_argument(command, wanted_option(alloc, "days", "N", DAYS_HELP))
+    let command = with_argument(command, wanted_option(alloc, "days", "N", DAYS_HELP));
+    with_argument(
+        command,
+        optional_option(alloc, "season", "SEASON", SEASON_HELP),
+    )
 }
 
 // A command with what its help says before and behind its arguments.

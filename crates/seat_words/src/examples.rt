@@ -101,7 +101,7 @@ pub fn examples_are_read()
         ∷ (codes "first", codes "2024-07-01" ∷ []) ∷ (codes "days", codes "31" ∷ [])
         ∷ (codes "day", codes "2024-07-27" ∷ [])
         ∷ (codes "journal", codes "examples/journal.txt" ∷ [])
-        ∷ (codes "bars", codes "false" ∷ []) ∷ (codes "csv", codes "false" ∷ []) ∷ (codes "json", codes "false" ∷ []) ∷ (codes "open", codes "false" ∷ [])
+        ∷ (codes "bars", codes "false" ∷ []) ∷ (codes "csv", codes "false" ∷ []) ∷ (codes "json", codes "false" ∷ []) ∷ (codes "html", codes "false" ∷ []) ∷ (codes "open", codes "false" ∷ [])
         ∷ (codes "verbose", codes "false" ∷ []) ∷ []) }
     ensures bookings { IsReadTo
         (codes "seatdesk bookings --set examples/summer.ssim --limits examples/limits.txt --first 2024-07-01 --days 31 --locator B3N6VC examples/journal.txt")
@@ -241,4 +241,7 @@ pub fn examples_are_read()
         ∷ (codes "verbose", codes "false" ∷ []) ∷ []) }
     ensures verbose { IsReadTo (codes "seatdesk check -v examples/summer.ssim") (codes "check")
         ((codes "verbose", codes "true" ∷ []) ∷ (codes "set", codes "examples/summer.ssim" ∷ []) ∷ []) }
+    ensures season { IsReadTo (codes "seatdesk season examples/summer.ssim examples/limits.txt") (codes "season")
+        ((codes "set", codes "examples/summer.ssim" ∷ []) ∷ (codes "limits", codes "examples/limits.txt" ∷ [])
+        ∷ (codes "verbose", codes "false" ∷ []) ∷ []) }
 {}

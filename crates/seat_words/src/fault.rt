@@ -38,6 +38,8 @@ pub enum WordFault {
     BadShards,
     /// More than one form of the answer is asked for.
     BadForm,
+    /// The page of the legs that are asked for has more than 30,000,000 bytes.
+    LongPage,
     /// A word is not UTF-8.
     BadWords,
 }
@@ -68,6 +70,7 @@ impl fmt::Display for WordFault {
             WordFault::BadBy => "E2 by",
             WordFault::BadShards => "E2 shards",
             WordFault::BadForm => "E2 form",
+            WordFault::LongPage => "E2 html",
             WordFault::BadWords => "E2 words",
         })
     }

@@ -2,7 +2,7 @@
 ghost use Rattle.std.specs.Prelude.{◌≡◌, [], IfOk, IfErr, IsSomeAnd, Some, codes, is_some, option_map, true, unwrap_or};
 ghost use Rattle.clap.specs.Walk.{texts};
 ghost use Rattle.clap.specs.Words.{FailsBy, all_of, fault_of, first_of, found_of, kind_of, matches_of, rows_of, subcommand_of, subcommand_rows_of, takes};
-ghost use Rattle.clap.specs.declared.error.kind.ErrorKind.TheVariants.{InvalidValue, OutOfMemory};
+ghost use Rattle.clap.specs.declared.error.kind.ErrorKind.TheVariants.{ArgumentConflict, InvalidValue, OutOfMemory};
 ghost use Rattle.seat_words.specs.CommandLine.{seatdesk_app};
 ghost use Rattle.seat_words.specs.Jobs.{Asks, IsAudit, IsBookings, IsHistory, IsLoads, IsOver, IsPickup, IsReplies, IsRooms, IsRun, IsServe, IsShaped, IsTold, IsWaiting, has_values, horizon_values, is_answerable, is_complete, is_flagged, is_verbose};
 
@@ -50,8 +50,8 @@ pub enum Job<'a> {
     },
     /// `seatdesk rooms` over a horizon `[--day DATE] [--pair PAIR] [--bars] [--csv] [--json] [--open] [JOURNAL]`
     Rooms(RoomsJob<'a>),
-    /// `seatdesk loads` over a horizon `[--flight FLIGHT] [--day DATE] [--pair PAIR] [--by BY] [--bars] [--csv] [--json] [--open]
-    /// [JOURNAL]`
+    /// `seatdesk loads` over a horizon `[--flight FLIGHT] [--day DATE] [--pair PAIR] [--by BY] [--bars] [--csv] [--json] [--html]
+    /// [--open] [JOURNAL]`
     Loads(LoadsJob<'a>),
     /// `seatdesk run` over a horizon `[--after JOURNAL] [--behind N] [--resume JOURNAL] --today DATE --journal OUT [--changes FILE]
     /// [--no-clobber] [--again] [SCRIPT...]`
@@ -97,6 +97,11 @@ pub enum Job<'a> {
         /// None or more.
         numbers: Several<'a>,
     },
+    /// `seatdesk season SET LIMITS`
+    Season {
+        set: &'a str,
+        limits: &'a str,
+    },
 }
 
 /// What `seatdesk rooms` asks for.
@@ -121,6 +126,7 @@ pub struct LoadsJob<'a> {
     pub by: Option<&'a str>,
     pub bars: bool,
     pub shape: Shape,
+    pub html: bool,
     pub is_open: bool,
     pub journal: Option<&'a str>,
 }
@@ -291,6 +297,14 @@ pub fn wrong_value(alloc: Global, message: &str) -> Result<Error, AllocError>
     command.error(ErrorKind::InvalidValue, message)
 }
 
+/// The fault of a word beside which another may not stand, with the usage of the program. An error is want of memory.
+pub fn words_in_conflict(alloc: Global, message: &str) -> Result<Error, AllocError>
+    ensures { IfOk result (λ e. kind_of e ≡ ArgumentConflict) }
+{
+    let mut command = seatdesk_command(alloc)?;
+    command.error(ErrorKind::ArgumentConflict, message)
+}
+
 #[tactic(auto, using(crate::proofs::Lines::nothing_found, crate::proofs::Lines::line_found))]
 fn job_of<'a>(alloc: Global, matches: &ArgMatches<'a>) -> Result<Job<'a>, AllocError>
     requires { is_answerable (subcommand_rows_of matches.now) ≡ true }
@@ -350,6 +364,10 @@ fn job_named<'a>(alloc: Global, name: &str, matches: &ArgMatches<'a>) -> Result<
             code: value_of(matches, "code"),
             numbers: any_values_of(alloc, matches, "numbers")?,
         }),
+        "season" => Ok(Job::Season {
+            set: value_of(matches, "set"),
+            limits: value_of(matches, "limits"),
+        }),
         _ => unreachable!(),
     }
 }
@@ -381,6 +399,7 @@ fn loads_asked<'a>(matches: &ArgMatches<'a>) -> LoadsJob<'a>
         by: may_value_of(matches, "by"),
         bars: flag_of(matches, "bars"),
         shape: shape_of(matches),
+        html: flag_of(matches, "html"),
         is_open: flag_of(matches, "open"),
         journal: may_value_of(matches, "journal"),
     }

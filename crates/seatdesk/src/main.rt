@@ -2,29 +2,14 @@
 //! It knows the words and the statuses, and nothing of what the commands do.
 #![tactic(auto)]
 
-mod commands;
 mod explain;
-mod feeding;
-mod heard;
-mod listing;
-mod locale;
-mod noting;
-mod piping;
-mod replaced;
-mod replaying;
-mod restoring;
-mod seals;
-mod selling;
-mod serving;
-mod sessions;
-mod shards;
-mod stating;
+mod season;
 mod undone;
 
 use clap::error::ErrorKind;
 use seat_desk::DeskFault;
 use seat_files::Refusal;
-use seat_words::{AuditJob, Job, WordFault, read_words};
+use seat_words::{AuditJob, Job, ServeJob, WordFault, read_words, wrong_value};
 use std::io;
 use std::io::IsTerminal;
 use std::process::ExitCode;
@@ -32,6 +17,10 @@ use std::sync::Wait;
 use std::thread::Threads;
 use std::time::Clock;
 use undone::Undone;
+
+/// What a host lacks whose words name nobody whom it serves.
+const NOBODY: &str =
+    "serve names nobody whom it serves: --desk - takes a desk on standard input, --desk N=IN:OUT and --manager IN:OUT take desks and a manager on pipes, --feed - takes one stream of lines for all";
 
 fn main(rt: HostRuntime) -> ExitCode {
     match start(&rt, &rt) {
@@ -59,7 +48,19 @@ fn start<T: Threads + Wait + Clock + Sync + Copy + Send + 'static>(
     for word in &given {
         words.push(word.as_str())?;
     }
-    let asked = match read_words(rt.alloc(), words.as_slice()) {
+    match season::season_asked(words.as_slice()) {
+        Some(file) => season::started(rt, threads, words.as_slice(), file),
+        None => done_by(rt, threads, words.as_slice()),
+    }
+}
+
+/// Runs the command that these words name, with what their season says among them where they name one.
+pub fn done_by<T: Threads + Wait + Clock + Sync + Copy + Send + 'static>(
+    rt: &HostRuntime,
+    threads: &T,
+    words: &[&str],
+) -> io::Result<ExitCode> {
+    let asked = match read_words(rt.alloc(), words) {
         Ok(asked) => asked,
         Err(error) => return Ok(misread(rt, &error)),
     };
@@ -77,35 +78,38 @@ fn carry_out<'a, T: Threads + Wait + Clock + Sync + Copy + Send + 'static>(
     job: &Job<'a>,
 ) -> Result<(), Undone<'a>> {
     match job {
-        Job::Ladder => done(commands::ladder(rt)),
-        Job::Check { set } => done(commands::check(rt, set)),
+        Job::Ladder => done(question_commands::ladder(rt)),
+        Job::Check { set } => done(question_commands::check(rt, set)),
         Job::Flights {
             set,
             first,
             days,
             shape,
-        } => done(listing::flights(rt, set, first, days, *shape)),
-        Job::Cover { over } => done(commands::cover(rt, threads, over)),
-        Job::Rooms(asked) => done(listing::rooms(rt, threads, asked)),
-        Job::Loads(asked) => done(listing::loads(rt, threads, asked)),
-        Job::Run(asked) => done(selling::run(rt, threads, asked)),
-        Job::Serve(asked) => done(serving::serve(rt, threads, asked)),
-        Job::Bookings(asked) => done(listing::bookings(rt, threads, asked)),
-        Job::Waiting(asked) => done(listing::waiting(rt, threads, asked)),
-        Job::Pickup(asked) => done(listing::pickup(rt, threads, asked)),
-        Job::History(asked) => done(listing::history(rt, threads, asked)),
+        } => done(question_commands::flights(rt, set, first, days, *shape)),
+        Job::Cover { over } => done(question_commands::cover(rt, threads, over)),
+        Job::Rooms(asked) => done(question_commands::rooms(rt, threads, asked)),
+        Job::Loads(asked) => done(question_commands::loads(rt, threads, asked)),
+        Job::Run(asked) => done(sale_commands::run(rt, threads, asked)),
+        Job::Serve(asked) => served(rt, threads, asked),
+        Job::Bookings(asked) => done(question_commands::bookings(rt, threads, asked)),
+        Job::Waiting(asked) => done(question_commands::waiting(rt, threads, asked)),
+        Job::Pickup(asked) => done(question_commands::pickup(rt, threads, asked)),
+        Job::History(asked) => done(question_commands::history(rt, threads, asked)),
         Job::Audit(asked) => done(audited(rt, threads, asked)),
-        Job::Seal { over, journal } => done(commands::seal(rt, threads, over, journal)),
-        Job::Recover { over, cut, journal } => done(restoring::recover(rt, over, *cut, journal)),
-        Job::Replies(asked) => done(replaying::replies(rt, asked)),
-        Job::Told(asked) => done(commands::told_of(rt, threads, asked)),
+        Job::Seal { over, journal } => done(question_commands::seal(rt, threads, over, journal)),
+        Job::Recover { over, cut, journal } => done(host_commands::recover(
+            rt, over, *cut, journal,
+        )),
+        Job::Replies(asked) => done(question_commands::replies(rt, threads, asked)),
+        Job::Told(asked) => done(question_commands::told_of(rt, threads, asked)),
         Job::Why {
             over,
             line,
             is_open,
             journal,
-        } => done(commands::why(rt, threads, over, line, *is_open, journal)),
+        } => done(question_commands::why(rt, threads, over, line, *is_open, journal)),
         Job::Explain { code, numbers } => explain::explain(rt, code, numbers.as_slice()),
+        Job::Season { set, limits } => done(question_commands::season(rt, set, limits)),
     }
 }
 
@@ -116,6 +120,18 @@ fn done<'a>(outcome: Result<(), Refusal<'a>>) -> Result<(), Undone<'a>> {
     }
 }
 
+/// A host, where its words say whom it serves.
+fn served<'a, T: Threads + Wait + Clock + Copy + Send + 'static>(
+    rt: &'a HostRuntime,
+    threads: &T,
+    asked: &ServeJob<'a>,
+) -> Result<(), Undone<'a>> {
+    if asked.desks.as_slice().is_empty() && asked.manager.is_none() && asked.feed.is_none() {
+        return Err(Undone::Word(wrong_value(rt.alloc(), NOBODY)?));
+    }
+    done(host_commands::serve(rt, threads, asked))
+}
+
 /// The journals of hosts that have different flights, or one journal, with the scripts of its run or alone.
 fn audited<'a, T: Threads + Sync>(
     rt: &HostRuntime,
@@ -123,18 +139,19 @@ fn audited<'a, T: Threads + Sync>(
     asked: &AuditJob<'a>,
 ) -> Result<(), Refusal<'a>> {
     if asked.are_shards {
-        return shards::audit(rt, threads, asked);
+        return question_commands::audit_shards(rt, threads, asked);
     }
-    replaying::audit(rt, threads, asked)
+    question_commands::audit(rt, threads, asked)
 }
 
 /// The status of a command that was refused: its fault is one line on standard error, with one more where the words ask for it, or where
 /// a run's journal is in its place and its replies are not out, and with what it means where standard error is a terminal; there it
 /// is said too why a file may not be the journal's. Where the reader of standard output has gone away nothing is said.
-fn refused(rt: &HostRuntime, is_verbose: bool, refusal: &Refusal<'_>) -> ExitCode {
+pub fn refused(rt: &HostRuntime, is_verbose: bool, refusal: &Refusal<'_>) -> ExitCode {
     let fault = refusal.fault;
     if !refusal.is_unheard() {
-        let _ = eprintln!(rt; "seatdesk: {fault}");
+        let behind = refusal.behind();
+        let _ = eprintln!(rt; "seatdesk: {fault}{behind}");
         let is_shown = rt.stderr().is_terminal();
         if is_verbose || is_shown && refusal.is_barred() {
             refusal.tell_more(rt);
@@ -148,7 +165,7 @@ fn refused(rt: &HostRuntime, is_verbose: bool, refusal: &Refusal<'_>) -> ExitCod
 }
 
 /// The status of words that name no command. Help and version are clap's and no fault, unless standard output fails.
-fn misread(rt: &HostRuntime, error: &clap::Error) -> ExitCode {
+pub fn misread(rt: &HostRuntime, error: &clap::Error) -> ExitCode {
     if error.kind() == ErrorKind::OutOfMemory {
         return refused(rt, false, &Refusal::from(DeskFault::Memory));
     }

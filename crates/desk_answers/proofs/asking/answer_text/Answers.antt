@@ -1,6 +1,6 @@
 use Rattle.std.proofs.Common.{[], ◌∷◌, List, sym, subst}
 use Rattle.seat_journal.specs.declared.entry.Entry.{Entry}
-use Rattle.seat_scripts.specs.Answering.{IsAnswerable}
+use Rattle.seat_replies.specs.Answering.{IsAnswerable}
 use Rattle.desk_answers.proofs.Wishes.{answerable}
 use Rattle.desk_answers.proofs.asking.answer_text.Goals as goal
 

@@ -1,6 +1,6 @@
 use Rattle.std.proofs.Common.{◌≡◌, ◌<◌, ◌∷◌, [], Some, arith, get_or, length, rules}
 use Rattle.desk_hall.proofs.Rows.{only_row, row_right}
-use Rattle.seat_scripts.specs.Changes.{change_of}
+use Rattle.seat_replies.specs.Changes.{change_of}
 use Rattle.desk_hall.proofs.orders.rows_order.Goals as goal
 
 pub returns-in-Some-clause-right : goal.returns-in-Some-clause-right

@@ -1,7 +1,7 @@
 -- The lines so far are told.
 use Rattle.std.proofs.Common.{[], take}
 use Rattle.seat_desk.specs.FlightsDesk.{IsPut}
-use Rattle.seat_scripts.specs.RunDesk.{at_any}
+use Rattle.seat_replies.specs.RunDesk.{at_any}
 use Rattle.desk_hall.specs.Telling.{IsTurn}
 use Rattle.desk_hall.proofs.telling.told_of.Given as goal
 

@@ -1,5 +1,6 @@
 use Rattle.desk_talk.proofs.Closed.{ended_named, ended_told}
 use Rattle.desk_serving.proofs.Daily.{names_on}
+use Rattle.desk_streaming.proofs.Sealing.{fed_sealed, fed_unsealed}
 use Rattle.desk_streaming.proofs.serving.serve_feed.Goals as goal
 
 pub returns-in-Ok-seal_closed-clause-accepted : goal.returns-in-Ok-seal_closed-clause-accepted
@@ -24,3 +25,20 @@ pub returns-in-Err-seal_closed-clause-told : goal.returns-in-Err-seal_closed-cla
 returns-in-Err-seal_closed-clause-told g c =
     ended_told c.args.host.serving.kept c.args.host.serving.grid c.args.host.serving.cap c.in-Ok.served.0 (g.D.Tape.seen c.in-Ok.served.1)
     (g.D.Tape.may_leave c.in-Ok.served.1) (g.D.Tape.unsynced c.in-Ok.served.1) c.in-Ok.ensures.front c.in-Ok.ensures.ended
+
+pub returns-in-Err-seal_closed-clause-over : goal.returns-in-Err-seal_closed-clause-over
+returns-in-Err-seal_closed-clause-over g c =
+    fed_unsealed g.K.Replaced.named g.K.Replaced.may_leave g.K.Replaced.kept_may_leave g.K.Failures.failure_count c.args.flights.now
+    c.args.host.serving c.args.behind c.args.host.desk.today c.args.begun c.serve_ended.new.entry c.args.seals.now c.serve_ended.new.seals
+    c.seal_closed.new.seals c.args.basis.now c.args.host.serving.grid c.args.host.serving.cap c.in-Ok.served.0
+    (g.D.Tape.seen c.in-Ok.served.1) (g.D.Tape.may_leave c.in-Ok.served.1) (g.D.Tape.unsynced c.in-Ok.served.1)
+    (g.I.Read.remaining c.args.input.now) (g.W.Write.contents c.args.out.now) (g.W.Write.contents c.serve_ended.new.out)
+    c.in-Err-seal_closed.fault c.in-Ok.ensures.sealed c.seal_closed.ensures.dated c.in-Ok.ensures.fed c.in-Ok.ensures.front
+    c.in-Ok.ensures.ended c.in-Ok.ensures.lived c.in-Err-seal_closed.ensures.large
+
+pub returns-in-Ok-seal_closed-clause-fed : goal.returns-in-Ok-seal_closed-clause-fed
+returns-in-Ok-seal_closed-clause-fed g c =
+    fed_sealed g.K.Replaced.named g.K.Replaced.may_leave g.K.Replaced.kept_may_leave g.K.Failures.failure_count c.args.flights.now
+    c.args.host.serving c.args.behind c.args.host.desk.today c.args.begun c.serve_ended.new.entry c.args.seals.now c.serve_ended.new.seals
+    c.seal_closed.new.seals (g.I.Read.remaining c.args.input.now) (g.W.Write.contents c.args.out.now) (g.W.Write.contents c.serve_ended.new.out)
+    c.in-Ok.served.0.journal c.in-Ok.ensures.sealed c.seal_closed.ensures.dated c.in-Ok.ensures.fed

@@ -1,8 +1,10 @@
 -- What was read so far is answered, and the seal has the day.
-use Rattle.std.proofs.Common.{◌≡◌, []}
+use Rattle.std.proofs.Common.{◌≡◌, ℕ, ◌≤◌, []}
+use Rattle.std.specs.Prelude.{IfSome}
 use Rattle.desk_serving.specs.Daily.{IsSealedOn}
 use Rattle.desk_serving.specs.Going.{GoesOn}
-use Rattle.desk_streaming.specs.Streaming.{Lived, Reads}
+use Rattle.desk_status.specs.Tallies.{Counts}
+use Rattle.desk_streaming.specs.Streaming.{later_day, Lived, Reads}
 use Rattle.desk_streaming.proofs.streaming.stream.Given as goal
 
 abbrev pub invariant-loop : goal.invariant-loop
@@ -11,3 +13,8 @@ invariant-loop g l = Reads l.initial.feed l.initial.line.items l.feed l.line.ite
     × GoesOn g.D.Tape.seen g.D.Tape.may_leave g.D.Tape.unsynced g.D.Failures.failure_count l.initial.feed.serving l.feed.serving
     × IsSealedOn g.K.Replaced.named g.K.Replaced.may_leave g.K.Replaced.kept_may_leave g.K.Failures.failure_count l.day l.initial.entry l.entry l.initial.seals l.seals
     × (l.feed.pending.asked.items ≡ [])
+    × Counts l.tally l.feed.serving.journal
+    × (l.day ≡ later_day l.initial.day l.feed.reading.today)
+    × IfSome l.feed.reading.today (λ (it : ℕ). it ≤ l.day)
+    × (g.I.Failures.failure_count l.input ≡ g.I.Failures.failure_count l.initial.input)
+    × (g.W.Failures.failure_count l.out ≡ g.W.Failures.failure_count l.initial.out)

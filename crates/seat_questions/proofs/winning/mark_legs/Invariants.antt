@@ -1,7 +1,7 @@
 -- The rows of the legs so far are marked.
 use Rattle.std.proofs.Common.{take}
 use Rattle.seat_questions.specs.Winning.{Marks}
-use Rattle.seat_questions.proofs.Winners.{leg_test}
+use Rattle.seat_questions.proofs.Marking.{leg_test}
 use Rattle.seat_questions.proofs.winning.mark_legs.Given as goal
 
 abbrev pub invariant-loop-leg : goal.invariant-loop-leg

@@ -3,7 +3,7 @@ use Rattle.std.proofs.lemmas.List.{get_or_default}
 use Rattle.seat_limits.specs.Authorised.{is_for}
 use Rattle.seat_limits.specs.RowStretches.{slot, last_where, IsFirst}
 use Rattle.seat_limits.proofs.RowSlots.{stretch_row, ahead_of_rows, found_inside}
-use Rattle.seat_questions.proofs.Winners.{no_where}
+use Rattle.seat_questions.proofs.Marking.{no_where}
 use Rattle.seat_questions.proofs.winning.row_on.Goals as goal
 
 pub returns-in_err-number-clause-last : goal.returns-in_err-number-clause-last

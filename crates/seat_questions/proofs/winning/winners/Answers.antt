@@ -1,5 +1,5 @@
 use Rattle.std.proofs.Common.{◌≤◌, length, arith}
-use Rattle.seat_questions.proofs.Winners.{all_marked, flight_marked}
+use Rattle.seat_questions.proofs.Marking.{all_marked, flight_marked}
 use Rattle.seat_questions.proofs.winning.winners.Goals as goal
 
 pub loop-i-preserved : goal.loop-i-preserved

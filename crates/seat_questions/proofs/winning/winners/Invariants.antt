@@ -1,6 +1,6 @@
 -- The rows of the flights so far are marked.
 use Rattle.std.proofs.Common.{take}
-use Rattle.seat_questions.proofs.Winners.{AreMarked}
+use Rattle.seat_questions.proofs.Marking.{AreMarked}
 use Rattle.seat_questions.proofs.winning.winners.Given as goal
 
 abbrev pub invariant-loop-i : goal.invariant-loop-i

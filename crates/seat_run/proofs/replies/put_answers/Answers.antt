@@ -1,8 +1,8 @@
 use Rattle.std.proofs.Common.{arith, subst}
 use Rattle.seat_journal.specs.declared.entry.Entry.{Entry}
-use Rattle.seat_scripts.specs.Answering.{IsBehind}
-use Rattle.seat_scripts.specs.RunDesk.{IsAnswer}
-use Rattle.seat_scripts.proofs.Parts.{answers_more}
+use Rattle.seat_replies.specs.Answering.{IsBehind}
+use Rattle.seat_replies.specs.RunDesk.{IsAnswer}
+use Rattle.seat_replies.proofs.Parts.{answers_more}
 use Rattle.seat_run.proofs.replies.put_answers.Goals as goal
 
 pub loop-place-preserved : goal.loop-place-preserved

@@ -1,5 +1,5 @@
 use Rattle.std.proofs.Common.{arith, []}
-use Rattle.seat_scripts.proofs.Parts.{session_answerable, sessions_more}
+use Rattle.seat_replies.proofs.Parts.{session_answerable, sessions_more}
 use Rattle.seat_run.proofs.replies.replies.Goals as goal
 
 pub put_session-requires : goal.put_session-requires

@@ -1,8 +1,8 @@
 -- The answers to the sessions so far are written.
 use Rattle.std.proofs.Common.{[], take}
 use Rattle.seat_desk.specs.FlightsDesk.{IsPut}
-use Rattle.seat_scripts.specs.Going.{behind}
-use Rattle.seat_scripts.specs.RunDesk.{AreSessions}
+use Rattle.seat_replies.specs.Going.{behind}
+use Rattle.seat_replies.specs.RunDesk.{AreSessions}
 use Rattle.seat_run.proofs.replies.replies.Given as goal
 
 abbrev pub invariant-loop-session : goal.invariant-loop-session

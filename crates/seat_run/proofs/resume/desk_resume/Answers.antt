@@ -2,7 +2,7 @@ use Rattle.std.proofs.Common.{inl, map, ◌∙◌}
 use Rattle.std.proofs.lemmas.Result.{err_from_is_err_and}
 use Rattle.seat_desk.specs.Desk.{HasFailed}
 use Rattle.seat_desk.specs.Loading.{HasFirstLoadFailed}
-use Rattle.seat_scripts.specs.Requests.{HasFailedAmong}
+use Rattle.seat_replies.specs.Requests.{HasFailedAmong}
 use Rattle.seat_scripts.specs.Both.{FailsSealedResume}
 use Rattle.seat_scripts.specs.Resumed.{IsRefusedResume}
 use Rattle.seat_scripts.specs.Taken.{ForTaken}

@@ -4,7 +4,7 @@ use Rattle.seat_desk.specs.Desk.{HasFailed}
 use Rattle.seat_desk.specs.Loading.{HasFirstLoadFailed}
 use Rattle.seat_scripts.specs.Beside.{FailsSealedRun}
 use Rattle.seat_scripts.proofs.Seals.{behind_seal, call_once}
-use Rattle.seat_scripts.specs.Requests.{HasFailedAmong}
+use Rattle.seat_replies.specs.Requests.{HasFailedAmong}
 use Rattle.seat_scripts.proofs.Written.{run_unbooked}
 use Rattle.seat_disk.proofs.Keeping.{keeps_none}
 use Rattle.seat_run.specs.SealedDesk.{AreTexts, IsSealedRunOf}

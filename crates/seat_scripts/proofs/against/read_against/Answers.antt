@@ -1,7 +1,7 @@
 use Rattle.std.proofs.Common.{inl, inr, map}
 use Rattle.std.proofs.lemmas.Result.{err_from_is_err_and}
 use Rattle.seat_scripts.proofs.Beside.{both_known, of_journal, refused_script, too_large_script}
-use Rattle.seat_scripts.proofs.OneTaken.{for_each}
+use Rattle.seat_scripts.proofs.OneTaken.{are_taken, for_each}
 use Rattle.seat_scripts.proofs.SealedBoth.{both_agree, large_behind, large_journal, older_sealed, refused_behind, refused_journal, refused_older}
 use Rattle.seat_scripts.specs.Against.{IsRefusedAgainst, IsTooLargeAgainst}
 use Rattle.seat_scripts.specs.Taken.{ForTaken}
@@ -121,3 +121,7 @@ returns-clause-sealed g c =
     c.args.inputs.now.first c.args.inputs.now.days c.args.besides.now
     c.in_ok-loaded.field-0.loaded.flights c.in_ok-loaded.field-0.loaded.grid c.in_ok-loaded.field-0.basis c.needs_digests-needs.result c.in_ok-loaded.ensures.ok c.in_ok-loaded.ensures.basis c.needs_digests-needs.ensures.older c.needs_digests-needs.ensures.journal
     c.in_ok-older.older c.in_ok-older.ensures.ok c.in_ok-older.ensures.sealed c.in_ok-core.ensures.sealed
+
+pub returns-clause-more : goal.returns-clause-more
+returns-clause-more g c =
+    are_taken c.args.given c.args.besides.now.journal (g.J.Read.remaining c.args.journal.now) c.in_ok-core.field-0.last c.lines_taken-more.result c.in_ok-core.ensures.last c.lines_taken-more.ensures

@@ -1,6 +1,6 @@
 use Rattle.std.proofs.Common.{◌+◌, ℕ, Some, subst, sym, take}
 use Rattle.std.specs.Prelude.{slice_get}
-use Rattle.seat_scripts.specs.VeryRequest.{Agree}
+use Rattle.seat_replies.specs.VeryRequest.{Agree}
 use Rattle.seat_scripts.proofs.Comparing.{AgreeSoFar, agree_end, agree_other, agree_own, differ_end, differ_here, untold}
 use Rattle.seat_scripts.proofs.against.unasked_line.Goals as goal
 use Rattle.seat_scripts.proofs.against.unasked_line.Goals.{then-entry-session+else-not-is_asked, else-entry-session}

@@ -1,5 +1,5 @@
 use Rattle.std.proofs.Common.{take}
-use Rattle.seat_scripts.specs.Changes.{AreServed}
+use Rattle.seat_replies.specs.Changes.{AreServed}
 use Rattle.seat_scripts.proofs.changes.served.Given as goal
 
 abbrev pub invariant-loop-row : goal.invariant-loop-row

@@ -1,6 +1,6 @@
 use Rattle.std.proofs.Common.{List, ◌∷◌, ◌++◌, ◌∙◌, [], ap, arith}
 use Rattle.seat_journal.specs.declared.entry.Command.{Command}
-use Rattle.seat_scripts.proofs.Going.{idle_next}
+use Rattle.seat_replies.proofs.Going.{idle_next}
 use Rattle.seat_scripts.proofs.commands.add_idle.Goals as goal
 
 pub loop-alloc-preserved : goal.loop-alloc-preserved

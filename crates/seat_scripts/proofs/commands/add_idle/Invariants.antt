@@ -1,6 +1,6 @@
 -- The lists so far, with as many of nothing as are left, are all.
 use Rattle.std.proofs.Common.{◌≡◌, ◌++◌, ◌-◌, length}
-use Rattle.seat_scripts.specs.Going.{idle}
+use Rattle.seat_replies.specs.Going.{idle}
 use Rattle.seat_scripts.proofs.commands.add_idle.Given as goal
 
 abbrev pub invariant-loop-alloc : goal.invariant-loop-alloc

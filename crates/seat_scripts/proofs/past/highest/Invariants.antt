@@ -1,6 +1,6 @@
 -- No session above has a line.
 use Rattle.std.proofs.Common.{◌≡◌, ◌≤◌}
-use Rattle.seat_scripts.specs.Going.{highest_to}
+use Rattle.seat_replies.specs.Going.{highest_to}
 use Rattle.seat_scripts.proofs.past.highest.Given as goal
 
 abbrev pub invariant-loop-session : goal.invariant-loop-session

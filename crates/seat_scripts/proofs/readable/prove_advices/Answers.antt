@@ -1,5 +1,5 @@
 use Rattle.seat_journal.specs.Text.{IsAdvice}
-use Rattle.seat_scripts.proofs.Advised.{all_more}
+use Rattle.seat_replies.proofs.Advised.{all_more}
 use Rattle.seat_scripts.proofs.readable.prove_advices.Goals as goal
 
 pub loop-advice-preserved : goal.loop-advice-preserved

@@ -1,5 +1,5 @@
 use Rattle.seat_journal.specs.Text.{IsEntry}
-use Rattle.seat_scripts.proofs.Advised.{all_more}
+use Rattle.seat_replies.proofs.Advised.{all_more}
 use Rattle.seat_scripts.proofs.readable.prove_entries.Goals as goal
 
 pub loop-line-preserved : goal.loop-line-preserved

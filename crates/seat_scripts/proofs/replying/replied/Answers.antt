@@ -1,7 +1,7 @@
 use Rattle.std.proofs.Common.{List, drop, length, subst, sym, take}
 use Rattle.seat_journal.specs.declared.entry.Entry.{Entry}
 use Rattle.seat_rules.specs.Histories.{by_session}
-use Rattle.seat_scripts.specs.Answering.{AreAllAnswerable}
+use Rattle.seat_replies.specs.Answering.{AreAllAnswerable}
 use Rattle.seat_scripts.proofs.Sessions.{added_answerable}
 use Rattle.seat_scripts.proofs.replying.replied.Goals as goal
 

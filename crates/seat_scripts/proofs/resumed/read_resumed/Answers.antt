@@ -1,7 +1,7 @@
 use Rattle.std.proofs.Common.{None, Some, ap, inl, inr, map, refl}
 use Rattle.std.proofs.lemmas.Result.{err_from_is_err_and}
 use Rattle.seat_scripts.proofs.OneTaken.{for_each, for_taken, with_taken}
-use Rattle.seat_scripts.proofs.Judged.{judged, never_of_changes, never_of_reading, never_of_seal, refused_by_runs}
+use Rattle.seat_scripts.proofs.Judged.{judged, never_of_changes, never_of_reading, never_of_seal, not_device, not_large, refused_by_runs}
 use Rattle.seat_scripts.specs.Begun.{IsJudged, IsJudgedOf}
 use Rattle.seat_scripts.proofs.Seals.{carried_of}
 use Rattle.seat_scripts.proofs.SealedBoth.{large_behind, refused_behind}
@@ -147,6 +147,18 @@ returns-in_err-of_runs-clause-fault g c =
     (Some c.lines_ahead.result) (ap Some c.lines_ahead.ensures) c.in-Ok.ensures.booked c.either-is_repeated.ensures
     (Some said.0) said.2)
     said.1))
+
+pub returns-in_err-of_runs-clause-large : goal.returns-in_err-of_runs-clause-large
+returns-in_err-of_runs-clause-large g c =
+    let p = err_from_is_err_and c.from_residual-in_err-of_runs.result c.from_residual-in_err-of_runs.ensures.1 in
+    let said = c.in_err-of_runs.ensures.fault in
+    rw (p.1, p.2) (λ large. absurd (not_large c.in_err-of_runs.field-0.0 said.0 said.1 large))
+
+pub returns-in_err-of_runs-clause-device : goal.returns-in_err-of_runs-clause-device
+returns-in_err-of_runs-clause-device g c =
+    let p = err_from_is_err_and c.from_residual-in_err-of_runs.result c.from_residual-in_err-of_runs.ensures.1 in
+    let said = c.in_err-of_runs.ensures.fault in
+    rw (p.1, p.2) (λ device. absurd (not_device c.in_err-of_runs.field-0.0 said.0 said.1 device))
 
 pub returns-clause-once : goal.returns-clause-once
 returns-clause-once g c =

@@ -1,6 +1,6 @@
 use Rattle.std.proofs.Common.{◌+◌, ℕ, Some, subst, sym, take}
 use Rattle.std.specs.Prelude.{slice_get}
-use Rattle.seat_scripts.specs.VeryRequest.{Agree}
+use Rattle.seat_replies.specs.VeryRequest.{Agree}
 use Rattle.seat_scripts.proofs.Comparing.{AgreeSoFar, agree_other, agree_own, differ_here, line_here, untold}
 use Rattle.seat_scripts.proofs.Grown.{begun_all}
 use Rattle.seat_scripts.proofs.resuming.begins_with.Goals as goal

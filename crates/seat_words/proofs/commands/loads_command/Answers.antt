@@ -12,5 +12,6 @@ returns c =
     let bars = argued _ _ c.with_argument-loads-4.result c.with_argument-loads-5.result c.flag.result by c.flag.ensures c.with_argument-loads-5.ensures in
     let csv = argued _ _ c.with_argument-loads-5.result c.with_argument-loads-6.result c.flag-2.result bars c.flag-2.ensures c.with_argument-loads-6.ensures in
     let json = argued _ _ c.with_argument-loads-6.result c.with_argument-loads-7.result c.flag-3.result csv c.flag-3.ensures c.with_argument-loads-7.ensures in
-    let still = argued _ _ c.with_argument-loads-7.result c.with_argument-loads-8.result c.flag-4.result json c.flag-4.ensures c.with_argument-loads-8.ensures in
-    argued _ _ c.with_argument-loads-8.result c.with_argument.result c.optional_value.result still c.optional_value.ensures c.with_argument.ensures
+    let html = argued _ _ c.with_argument-loads-7.result c.with_argument-loads-8.result c.flag-4.result json c.flag-4.ensures c.with_argument-loads-8.ensures in
+    let still = argued _ _ c.with_argument-loads-8.result c.with_argument-loads-9.result c.flag-5.result html c.flag-5.ensures c.with_argument-loads-9.ensures in
+    argued _ _ c.with_argument-loads-9.result c.with_argument.result c.optional_value.result still c.optional_value.ensures c.with_argument.ensures

@@ -14,4 +14,5 @@ returns c =
     let eight = c.with_command-program-8.ensures _ _ seven c.replies_command.ensures in
     let nine = c.with_command-program-9.ensures _ _ eight c.told_command.ensures in
     let ten = c.with_command-program-10.ensures _ _ nine c.why_command.ensures in
-    c.with_command.ensures _ _ ten c.explain_command.ensures
+    let eleven = c.with_command-program-11.ensures _ _ ten c.explain_command.ensures in
+    c.with_command.ensures _ _ eleven c.season_command.ensures

@@ -4,7 +4,7 @@ use Rattle.desk_hall.specs.Halls.{Hallful}
 use Rattle.desk_hall.specs.Telling.{IsTurn}
 use Rattle.desk_hall.specs.declared.turn.Turn.{Turn}
 use Rattle.seat_desk.specs.FlightsDesk.{IsText}
-use Rattle.seat_scripts.specs.RunDesk.{at_any}
+use Rattle.seat_replies.specs.RunDesk.{at_any}
 use Rattle.desk_hall.proofs.hall.Hall.told.Goals as goal
 
 pub returns-clause-told : goal.returns-clause-told

@@ -4,7 +4,7 @@ use Rattle.desk_stream.specs.Feeds.{Feeding}
 use Rattle.desk_stream.specs.Telling.{IsFeedTurn}
 use Rattle.desk_stream.specs.declared.telling.FeedTurn.{FeedTurn}
 use Rattle.seat_desk.specs.FlightsDesk.{IsText}
-use Rattle.seat_scripts.specs.RunDesk.{at_any}
+use Rattle.seat_replies.specs.RunDesk.{at_any}
 use Rattle.desk_stream.proofs.feed.Feed.told.Goals as goal
 
 pub returns-clause-told : goal.returns-clause-told

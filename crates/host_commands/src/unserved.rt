@@ -1,0 +1,132 @@
+//! Why a host does not begin, or does not end its journal, as the refusal that names the file.
+//! It knows the faults of each kind of host, and nothing of how one is served.
+use airline_base::{Failures, ReadFault};
+use desk_serving::HostedFault;
+use desk_streaming::{FedFault, StreamFault};
+use desk_talk::{DayFault, ServedFault, TalkFault};
+use seat_desk::DeskFault;
+use seat_files::{Input, Output, Refusal};
+use seat_serving::ServeFault;
+use seat_tape::{BesideFile, TapeFile};
+use seat_words::WordFault;
+
+/// Why a journal is not ended and sealed, by whom its host serves.
+pub enum Unserved {
+    /// A desk on standard input.
+    Desk(ServedFault),
+    /// A feed.
+    Feed(FedFault),
+    /// Desks on pipes.
+    Pipes(HostedFault),
+}
+
+/// The refusal that it is.
+pub fn refusal_of<'a>(
+    fault: Unserved,
+    journal: &'a str,
+    tape: TapeFile,
+    input: &Input<'a>,
+    out: &Output<'a>,
+) -> Refusal<'a> {
+    match fault {
+        Unserved::Desk(fault) => untalked(fault, journal, tape, input, out),
+        Unserved::Feed(fault) => unfed(fault, journal, &tape, out),
+        Unserved::Pipes(fault) => unended(fault, journal, &tape),
+    }
+}
+
+/// Why the journal is not read.
+pub fn unread<'a>(fault: ReadFault, journal: &'a str, tape: &TapeFile) -> Refusal<'a> {
+    match fault {
+        ReadFault::Device => failed(journal, tape),
+        ReadFault::TooLarge => Refusal::from(DeskFault::TooLarge).at(journal, None),
+        ReadFault::Memory => Refusal::from(DeskFault::Memory),
+    }
+}
+
+/// Why nothing goes on from the journal.
+pub fn stopped<'a>(
+    refused: (DeskFault, TapeFile),
+    journal: &'a str,
+    beside: &BesideFile<'_>,
+) -> Refusal<'a> {
+    let (fault, tape) = refused;
+    match fault {
+        DeskFault::Memory => Refusal::from(fault),
+        DeskFault::Device if tape.failures() > 0 => failed(journal, &tape),
+        DeskFault::Device if beside.wants_memory() => Refusal::from(DeskFault::Memory),
+        DeskFault::Device if beside.failures() > 0 => Refusal::from(fault).at(
+            journal,
+            beside.reason(),
+        ),
+        // (the seal's file)
+        DeskFault::Device => Refusal::from(fault),
+        _ => Refusal::from(fault).at(journal, None),
+    }
+}
+
+/// Why the journal of desks on pipes is not ended and sealed.
+fn unended<'a>(fault: HostedFault, journal: &'a str, tape: &TapeFile) -> Refusal<'a> {
+    match fault {
+        HostedFault::Day(ServeFault::Device) => failed(journal, tape),
+        HostedFault::Day(ServeFault::Memory) => Refusal::from(DeskFault::Memory),
+        HostedFault::Seal(DeskFault::TooLarge) | HostedFault::Dating(DeskFault::TooLarge) => {
+            Refusal::from(DeskFault::TooLarge).at(journal, None)
+        }
+        HostedFault::Seal(fault) | HostedFault::Dating(fault) => Refusal::from(fault),
+    }
+}
+
+/// Why the journal of a desk on standard input is not ended and sealed.
+fn untalked<'a>(
+    fault: ServedFault,
+    journal: &'a str,
+    tape: TapeFile,
+    input: &Input<'a>,
+    out: &Output<'a>,
+) -> Refusal<'a> {
+    match fault {
+        ServedFault::Day(DayFault::Talk(TalkFault::Input)) => Refusal::unread(input),
+        ServedFault::Day(DayFault::Talk(TalkFault::Output)) => {
+            Refusal::from(DeskFault::Device).noting_output(out)
+        }
+        ServedFault::Day(DayFault::Talk(TalkFault::Journal)) => failed(journal, &tape),
+        ServedFault::Day(DayFault::Talk(TalkFault::Memory)) => Refusal::from(DeskFault::Memory),
+        ServedFault::Day(DayFault::End(ServeFault::Device)) => failed(journal, &tape),
+        ServedFault::Day(DayFault::End(ServeFault::Memory)) => Refusal::from(DeskFault::Memory),
+        ServedFault::Seal(DeskFault::TooLarge) => Refusal::from(DeskFault::TooLarge).at(
+            journal, None,
+        ),
+        ServedFault::Seal(fault) => Refusal::from(fault),
+    }
+}
+
+/// Why the journal of a feed is not ended and sealed.
+fn unfed<'a>(fault: FedFault, journal: &'a str, tape: &TapeFile, out: &Output<'a>) -> Refusal<'a> {
+    match fault {
+        FedFault::Behind => Refusal::from(WordFault::BadBehind),
+        FedFault::Broken(StreamFault::Strange(line, number)) => {
+            Refusal::strange(journal, line, number)
+        }
+        FedFault::Broken(StreamFault::Output) => {
+            Refusal::from(DeskFault::Device).noting_output(out)
+        }
+        FedFault::Broken(StreamFault::Input) => Refusal::from(DeskFault::Device),
+        FedFault::Broken(StreamFault::Memory) => Refusal::from(DeskFault::Memory),
+        FedFault::Broken(StreamFault::Journal) => failed(journal, tape),
+        FedFault::End(ServeFault::Device) => failed(journal, tape),
+        FedFault::End(ServeFault::Memory) => Refusal::from(DeskFault::Memory),
+        FedFault::Seal(DeskFault::TooLarge)
+        | FedFault::Broken(StreamFault::Dating(DeskFault::TooLarge)) => {
+            Refusal::from(DeskFault::TooLarge).at(journal, None)
+        }
+        FedFault::Seal(fault) | FedFault::Broken(StreamFault::Dating(fault)) => {
+            Refusal::from(fault)
+        }
+    }
+}
+
+/// The journal's file failed.
+fn failed<'a>(journal: &'a str, tape: &TapeFile) -> Refusal<'a> {
+    Refusal::from(DeskFault::Device).at(journal, tape.reason())
+}

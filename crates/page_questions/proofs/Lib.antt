@@ -1,0 +1,3 @@
+pub mod Eaching
+pub mod Showing
+pub mod Paging

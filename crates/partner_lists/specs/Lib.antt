@@ -1,0 +1,4 @@
+pub mod FaultText
+pub mod Listed
+pub mod Names
+pub mod Reading

@@ -1,0 +1,5 @@
+mod Compares
+mod Noting
+mod Reconciling
+mod Summing
+mod Wording

@@ -1,0 +1,7 @@
+pub mod Differences
+pub mod DifferenceText
+pub mod Here
+pub mod Noted
+pub mod Reconciled
+pub mod Sums
+pub mod Touches

@@ -1,0 +1,487 @@
+//! The commands that only read, each with its streams and dates.
+//! It knows which stream is which and which words name a day or a name, and nothing of what the commands do with them.
+ghost use Rattle.std.specs.Prelude.{◌≡◌, ◌≤◌, IfOk};
+ghost use Rattle.ssim_flights.specs.Right.{IsOfCentury};
+
+use crate::locale::is_utf_8;
+use airline_base::{Day, Locator};
+use command_inputs::{days_of, inputs_of, tell_replaced};
+use desk_questions::ToldOf;
+use season_reports::desk_season;
+use seat_desk::{DeskFault, Inputs, NO_LINES, Question, answer_question};
+use seat_files::{
+    Input, Output, Refusal, SealFile, SealOut, files_taken, is_moved, opened, standard_input,
+    standard_output, taken, taken_or, told,
+};
+use seat_lists::Designator;
+use seat_open::{OpenAudit, OpenQuestion};
+use seat_questions::{Bars, CityPair, Cover, Why};
+use seat_reports::{desk_audit, desk_check, desk_ladder, desk_seal};
+use seat_words::{
+    Horizon, ToldJob, WordFault, date_word, flight_word, line_word, locator_word, pair_word,
+    session_word,
+};
+use std::alloc::Global;
+use std::thread::Threads;
+
+pub fn ladder<'a>(rt: &HostRuntime) -> Result<(), Refusal<'a>> {
+    let mut input = standard_input(rt);
+    let mut out = standard_output(rt);
+    let outcome = desk_ladder(rt.alloc(), &mut input, &mut out);
+    told(outcome, &[&input], &[&out])
+}
+
+pub fn check<'a>(rt: &HostRuntime, set: &'a str) -> Result<(), Refusal<'a>> {
+    let mut set = taken(rt, set)?;
+    let mut out = standard_output(rt);
+    let outcome = desk_check(rt.alloc(), &mut set, &mut out);
+    told(outcome, &[&set], &[&out])
+}
+
+/// A season file of a set and its limits, of which the set is read.
+pub fn season<'a>(rt: &HostRuntime, set: &'a str, limits: &str) -> Result<(), Refusal<'a>> {
+    let mut input = opened(rt, set)?;
+    let mut out = standard_output(rt);
+    let outcome = desk_season(rt.alloc(), &mut input, set, limits, &mut out);
+    told(outcome, &[&input], &[&out])
+}
+
+pub fn cover<'a, R: Threads + Sync>(
+    rt: &HostRuntime,
+    threads: &R,
+    over: &Horizon<'a>,
+) -> Result<(), Refusal<'a>> {
+    let days = days_of(over.first, over.days)?;
+    answered(rt, threads, over, days, &Cover, None, Looked::PLAIN)
+}
+
+/// What a desk is told of a journal, of its first line or a later one on.
+pub fn told_of<'a, R: Threads + Sync>(
+    rt: &HostRuntime,
+    threads: &R,
+    asked: &ToldJob<'a>,
+) -> Result<(), Refusal<'a>> {
+    let over = &asked.over;
+    let days = days_of(over.first, over.days)?;
+    let Some(desk) = session_word(asked.desk) else {
+        return Err(Refusal::unfit(asked.desk, "Is no session of 0 to 8"));
+    };
+    let from = from_asked(asked.from)?;
+    let question = ToldOf { desk, from };
+    asked_of(
+        rt,
+        threads,
+        over,
+        days,
+        &question,
+        Some(asked.journal),
+        asked.is_open,
+    )
+}
+
+pub fn why<'a, R: Threads + Sync>(
+    rt: &HostRuntime,
+    threads: &R,
+    over: &Horizon<'a>,
+    line: &str,
+    is_open: bool,
+    journal: &'a str,
+) -> Result<(), Refusal<'a>> {
+    let days = days_of(over.first, over.days)?;
+    let Some(line) = line_word(line) else {
+        return Err(Refusal::from(WordFault::BadLine));
+    };
+    asked_of(
+        rt,
+        threads,
+        over,
+        days,
+        &Why { line },
+        Some(journal),
+        is_open,
+    )
+}
+
+/// How a journal alone is looked at.
+#[derive(Clone, Copy)]
+pub struct Looked {
+    /// There must be a seal beside it.
+    pub is_sealed: bool,
+    /// It is still open, and may be written meanwhile.
+    pub is_open: bool,
+    /// It has an answer, and no answer says that it is too long.
+    pub is_page: bool,
+}
+
+impl Looked {
+    const PLAIN: Looked = Looked {
+        is_sealed: false,
+        is_open: false,
+        is_page: false,
+    };
+}
+
+/// The journal alone, without scripts. A long one takes all processors.
+pub fn audit<'a, R: Threads + Sync>(
+    rt: &HostRuntime,
+    threads: &R,
+    over: &Horizon<'a>,
+    days: (Day, u16),
+    journal: &'a str,
+    looked: Looked,
+) -> Result<(), Refusal<'a>>
+    requires first { IsOfCentury days.0 }
+    requires days { (1 ≤ days.1) × (days.1 ≤ 366) }
+{
+    if looked.is_open {
+        return answered(rt, threads, over, days, &OpenAudit, Some(journal), looked);
+    }
+    let answer = match audited_once(rt, threads, over, &days, journal, looked) {
+        Ok(answer) => answer,
+        Err(refusal) => return Err(refusal),
+    };
+    let Answer { outcome, is_moved } = answer;
+    if !is_moved {
+        return outcome;
+    }
+    match audited_once(rt, threads, over, &days, journal, looked) {
+        Ok(answer) => answer.outcome,
+        Err(refusal) => Err(refusal),
+    }
+}
+
+fn audited_once<'a, R: Threads + Sync>(
+    rt: &HostRuntime,
+    threads: &R,
+    over: &Horizon<'a>,
+    days: &(Day, u16),
+    journal: &'a str,
+    looked: Looked,
+) -> Result<Answer<'a>, Refusal<'a>>
+    requires first { IsOfCentury days.now.0 }
+    requires days { (1 ≤ days.now.1) × (days.now.1 ≤ 366) }
+{
+    let texts = match texts_opened(rt, over, days, Some(journal), looked.is_sealed) {
+        Ok(texts) => texts,
+        Err(refusal) => return Err(refusal),
+    };
+    let Texts {
+        mut inputs,
+        mut journal,
+        seal,
+    } = texts;
+    let mut out = standard_output(rt);
+    let outcome = desk_audit(
+        threads,
+        rt.alloc(),
+        &mut inputs,
+        &mut journal,
+        &seal.as_beside(),
+        &mut out,
+    );
+    Ok(answer_of(rt, &inputs, &journal, outcome, &out, looked))
+}
+
+/// What a question reads, open: a journal, or one without lines, with what stands beside it.
+#[derive(Drop)]
+struct Texts<'a> {
+    inputs: Inputs<Input<'a>, Input<'a>>,
+    journal: Input<'a>,
+    seal: SealFile,
+}
+
+fn texts_opened<'a>(
+    rt: &HostRuntime,
+    over: &Horizon<'a>,
+    days: &(Day, u16),
+    journal: Option<&'a str>,
+    is_sealed: bool,
+) -> Result<Texts<'a>, Refusal<'a>>
+    ensures first { IfOk result (λ texts. texts.inputs.first ≡ days.now.0) }
+    ensures days { IfOk result (λ texts. texts.inputs.days ≡ days.now.1) }
+{
+    let inputs = match inputs_of(rt, over, *days) {
+        Ok(inputs) => inputs,
+        Err(refusal) => return Err(refusal),
+    };
+    let journal = taken_or(rt, journal, &NO_LINES)?;
+    let seal = SealFile::beside(rt, &journal, is_sealed)?;
+    Ok(Texts {
+        inputs,
+        journal,
+        seal,
+    })
+}
+
+/// What a question came to over these. A seal that denies an open journal, or one that was replaced since it was opened, may be another's.
+fn answer_of<'a>(
+    rt: &HostRuntime,
+    inputs: &Inputs<Input<'a>, Input<'a>>,
+    journal: &Input<'a>,
+    outcome: Result<(), DeskFault>,
+    out: &Output<'a>,
+    looked: Looked,
+) -> Answer<'a> {
+    match told(outcome, &[&inputs.set, &inputs.limits, journal], &[out]) {
+        Ok(()) if looked.is_page && !out.is_used() => Answer {
+            outcome: Err(Refusal::from(WordFault::LongPage)),
+            is_moved: false,
+        },
+        Ok(()) => Answer {
+            outcome: Ok(()),
+            is_moved: false,
+        },
+        Err(refusal) => Answer {
+            is_moved: refusal.is_of_seal() && (looked.is_open || is_moved(rt, journal)),
+            outcome: Err(refusal.noting_unasked(journal)),
+        },
+    }
+}
+
+/// Writes the seal of a journal that an audit accepts, while the journal is locked. It keeps the runs of a seal that agrees, and tells of a
+/// seal of other bytes that it took the place of.
+pub fn seal<'a, R: Threads + Sync>(
+    rt: &'a HostRuntime,
+    threads: &R,
+    over: &Horizon<'a>,
+    journal: &'a str,
+) -> Result<(), Refusal<'a>> {
+    let days = days_of(over.first, over.days)?;
+    let mut inputs = match inputs_of(rt, over, days) {
+        Ok(inputs) => inputs,
+        Err(refusal) => return Err(refusal),
+    };
+    let files = files_taken(rt, &inputs, &[], &[])?;
+    let (mut out, mut journal) = SealOut::open(rt, journal, files.as_slice())?;
+    let seal = match SealFile::beside(rt, &journal, false) {
+        Ok(seal) => seal,
+        Err(refusal) => {
+            out.leave();
+            return Err(refusal);
+        }
+    };
+    let outcome = desk_seal(
+        threads,
+        rt.alloc(),
+        &mut inputs,
+        &mut journal,
+        &seal.as_beside(),
+        &mut out,
+    );
+    out.leave();
+    match told(outcome, &[&inputs.set, &inputs.limits, &journal], &[]) {
+        Ok(()) => {
+            tell_replaced(rt, journal.name(), &seal, &out);
+            Ok(())
+        }
+        Err(refusal) => Err(refusal.noting_seal(&out)),
+    }
+}
+
+/// The answer to a question about a journal that may be open.
+pub fn asked_of<'a, R: Threads + Sync, Q: Question>(
+    rt: &HostRuntime,
+    threads: &R,
+    over: &Horizon<'a>,
+    days: (Day, u16),
+    question: &Q,
+    journal: Option<&'a str>,
+    is_open: bool,
+) -> Result<(), Refusal<'a>>
+    requires first { IsOfCentury days.0 }
+    requires days { (1 ≤ days.1) × (days.1 ≤ 366) }
+{
+    let looked = Looked {
+        is_sealed: false,
+        is_open,
+        is_page: false,
+    };
+    looked_at(rt, threads, over, days, question, journal, looked)
+}
+
+/// The same of a question whose answer is a page, which is refused where it is too long.
+pub fn page_of<'a, R: Threads + Sync, Q: Question>(
+    rt: &HostRuntime,
+    threads: &R,
+    over: &Horizon<'a>,
+    days: (Day, u16),
+    question: &Q,
+    journal: Option<&'a str>,
+    is_open: bool,
+) -> Result<(), Refusal<'a>>
+    requires first { IsOfCentury days.0 }
+    requires days { (1 ≤ days.1) × (days.1 ≤ 366) }
+{
+    let looked = Looked {
+        is_sealed: false,
+        is_open,
+        is_page: true,
+    };
+    looked_at(rt, threads, over, days, question, journal, looked)
+}
+
+fn looked_at<'a, R: Threads + Sync, Q: Question>(
+    rt: &HostRuntime,
+    threads: &R,
+    over: &Horizon<'a>,
+    days: (Day, u16),
+    question: &Q,
+    journal: Option<&'a str>,
+    looked: Looked,
+) -> Result<(), Refusal<'a>>
+    requires first { IsOfCentury days.0 }
+    requires days { (1 ≤ days.1) × (days.1 ≤ 366) }
+{
+    if looked.is_open {
+        return answered(
+            rt,
+            threads,
+            over,
+            days,
+            &OpenQuestion { question },
+            journal,
+            looked,
+        );
+    }
+    answered(rt, threads, over, days, question, journal, looked)
+}
+
+/// The answer to a question about a journal, or about one without lines, with what stands beside it. A journal that a run has replaced
+/// meanwhile is read once more, with its seal, and so is an open one that the seal denies, to which the first line may just have been added: nothing is
+/// written of one that is refused.
+fn answered<'a, R: Threads + Sync, Q: Question>(
+    rt: &HostRuntime,
+    threads: &R,
+    over: &Horizon<'a>,
+    days: (Day, u16),
+    question: &Q,
+    journal: Option<&'a str>,
+    looked: Looked,
+) -> Result<(), Refusal<'a>>
+    requires first { IsOfCentury days.0 }
+    requires days { (1 ≤ days.1) × (days.1 ≤ 366) }
+{
+    let answer = match answered_once(rt, threads, over, &days, question, journal, looked) {
+        Ok(answer) => answer,
+        Err(refusal) => return Err(refusal),
+    };
+    let Answer { outcome, is_moved } = answer;
+    if !is_moved {
+        return outcome;
+    }
+    match answered_once(rt, threads, over, &days, question, journal, looked) {
+        Ok(answer) => answer.outcome,
+        Err(refusal) => Err(refusal),
+    }
+}
+
+/// What a question came to, and whether its journal was replaced between the reading of the two, so that its seal was another's.
+#[derive(Drop)]
+struct Answer<'a> {
+    outcome: Result<(), Refusal<'a>>,
+    is_moved: bool,
+}
+
+fn answered_once<'a, R: Threads + Sync, Q: Question>(
+    rt: &HostRuntime,
+    threads: &R,
+    over: &Horizon<'a>,
+    days: &(Day, u16),
+    question: &Q,
+    journal: Option<&'a str>,
+    looked: Looked,
+) -> Result<Answer<'a>, Refusal<'a>>
+    requires first { IsOfCentury days.now.0 }
+    requires days { (1 ≤ days.now.1) × (days.now.1 ≤ 366) }
+{
+    let texts = match texts_opened(rt, over, days, journal, looked.is_sealed) {
+        Ok(texts) => texts,
+        Err(refusal) => return Err(refusal),
+    };
+    let Texts {
+        mut inputs,
+        mut journal,
+        seal,
+    } = texts;
+    let mut out = standard_output(rt);
+    let outcome = answer_question(
+        threads,
+        rt.alloc(),
+        question,
+        &mut inputs,
+        &mut journal,
+        &seal.as_beside(),
+        &mut out,
+    );
+    Ok(answer_of(rt, &inputs, &journal, outcome, &out, looked))
+}
+
+/// The line from which on is asked; without one it is the first.
+fn from_asked(from: Option<&str>) -> Result<u32, WordFault> {
+    match from {
+        None => Ok(1),
+        Some(word) => match line_word(word) {
+            Some(line) => Ok(line),
+            None => Err(WordFault::BadLine),
+        },
+    }
+}
+
+pub fn locators_asked<'a>(alloc: Global, words: &[&str]) -> Result<Vec<Locator>, Refusal<'a>> {
+    let mut locators = Vec::new(alloc);
+    for word in words {
+        let Some(locator) = locator_word(word) else {
+            return Err(Refusal::from(WordFault::BadLocator));
+        };
+        if locators.push(locator).is_err() {
+            return Err(Refusal::from(DeskFault::Memory));
+        }
+    }
+    Ok(locators)
+}
+
+pub fn flight_asked(flight: Option<&str>) -> Result<Option<Designator>, WordFault> {
+    match flight {
+        None => Ok(None),
+        Some(word) => match flight_word(word) {
+            Some((airline, number, suffix)) => Ok(Some(Designator {
+                airline,
+                number,
+                suffix,
+            })),
+            None => Err(WordFault::BadFlight),
+        },
+    }
+}
+
+pub fn day_asked(day: Option<&str>) -> Result<Option<Day>, WordFault> {
+    match day {
+        None => Ok(None),
+        Some(word) => match date_word(word) {
+            Some(day) => Ok(Some(day)),
+            None => Err(WordFault::BadDay),
+        },
+    }
+}
+
+pub fn pair_asked(pair: Option<&str>) -> Result<Option<CityPair>, WordFault> {
+    match pair {
+        None => Ok(None),
+        Some(word) => match pair_word(word) {
+            Some((board, off)) => Ok(Some(CityPair { board, off })),
+            None => Err(WordFault::BadPair),
+        },
+    }
+}
+
+/// Bars, where they are asked for: of blocks where the locale is one of UTF-8.
+pub fn bars_asked(rt: &HostRuntime, bars: bool) -> Option<Bars> {
+    if !bars {
+        return None;
+    }
+    if is_utf_8(rt) {
+        Some(Bars::Blocks)
+    } else {
+        Some(Bars::Plain)
+    }
+}

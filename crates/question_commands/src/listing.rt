@@ -1,0 +1,465 @@
+//! The commands whose answer may be a table too, each with its form.
+//! It knows which words name a form, and nothing of what stands in a row.
+ghost use Rattle.std.specs.Prelude.{◌≤◌};
+ghost use Rattle.ssim_flights.specs.Right.{IsOfCentury};
+
+use crate::commands::{
+    asked_of, bars_asked, day_asked, flight_asked, locators_asked, page_of, pair_asked,
+};
+use airline_base::{Day, Locator};
+use command_inputs::{days_of, lines_behind};
+use desk_questions::HistoryOf;
+use page_questions::LoadPage;
+use pickup_questions::{By as PickupBy, PickupOf, read_older};
+use seat_files::{Refusal, opened, standard_output, taken, told};
+use seat_lists::{BookingsOf, WaitingOf, Wanted};
+use seat_loads::LoadsOf;
+use seat_pickup::Past;
+use seat_questions::RoomsOf;
+use seat_reports::desk_flights;
+use seat_tables::Form;
+use seat_words::{
+    BookingsJob, HistoryJob, Horizon, LoadsJob, PickupJob, RoomsJob, Shape, WaitingJob, WordFault,
+};
+use std::alloc::Global;
+use std::thread::Threads;
+use table_questions::{
+    BookingTable, ClassSums, DaySums, FlightSums, HistoryTable, LegSums, LoadTable, PairSums,
+    RoomTable, Table, TableOf, WaitingTable,
+};
+use table_reports::desk_flight_table;
+
+/// The dated flights of a data set.
+pub fn flights<'a>(
+    rt: &HostRuntime,
+    set: &'a str,
+    first: &str,
+    days: &str,
+    shape: Shape,
+) -> Result<(), Refusal<'a>> {
+    let (first, days) = days_of(first, days)?;
+    let form = form_asked(shape, false)?;
+    let mut set = taken(rt, set)?;
+    let mut out = standard_output(rt);
+    let outcome = match form {
+        Some(form) => desk_flight_table(rt.alloc(), form, &mut set, first, days, &mut out),
+        None => desk_flights(rt.alloc(), &mut set, first, days, &mut out),
+    };
+    told(outcome, &[&set], &[&out])
+}
+
+/// The rooms of the places that `--day` and `--pair` keep, with bars where they are asked for. Without a journal they are those
+/// after no line.
+pub fn rooms<'a, R: Threads + Sync>(
+    rt: &HostRuntime,
+    threads: &R,
+    asked: &RoomsJob<'a>,
+) -> Result<(), Refusal<'a>> {
+    let over = &asked.over;
+    let days = days_of(over.first, over.days)?;
+    let rooms = RoomsOf {
+        day: day_asked(asked.day)?,
+        pair: pair_asked(asked.pair)?,
+        bars: bars_asked(rt, asked.bars),
+    };
+    let form = form_asked(asked.shape, asked.bars)?;
+    match form {
+        Some(form) => {
+            let table = RoomTable { rooms };
+            tabled(
+                rt,
+                threads,
+                over,
+                days,
+                &table,
+                form,
+                asked.journal,
+                asked.is_open,
+            )
+        }
+        None => asked_of(
+            rt,
+            threads,
+            over,
+            days,
+            &rooms,
+            asked.journal,
+            asked.is_open,
+        ),
+    }
+}
+
+/// How full the legs are that `--flight`, `--day` and `--pair` keep, with bars where they are asked for, as a page, or the sums that `--by` names. Without a journal that is before the first booking.
+pub fn loads<'a, R: Threads + Sync>(
+    rt: &HostRuntime,
+    threads: &R,
+    asked: &LoadsJob<'a>,
+) -> Result<(), Refusal<'a>> {
+    let over = &asked.over;
+    let days = days_of(over.first, over.days)?;
+    let loads = LoadsOf {
+        flight: flight_asked(asked.flight)?,
+        day: day_asked(asked.day)?,
+        pair: pair_asked(asked.pair)?,
+        bars: bars_asked(rt, asked.bars),
+    };
+    let (journal, is_open) = (asked.journal, asked.is_open);
+    let by = by_asked(asked.by)?;
+    if asked.html {
+        form_of_page(asked.shape, asked.bars, by.is_some())?;
+        let page = LoadPage { loads };
+        return page_of(rt, threads, over, days, &page, journal, is_open);
+    }
+    match by {
+        Some(by) => {
+            let form = sums_form(asked.shape, asked.bars)?;
+            summed(rt, threads, over, days, loads, by, form, journal, is_open)
+        }
+        None => {
+            let form = form_asked(asked.shape, asked.bars)?;
+            loaded(rt, threads, over, days, loads, form, journal, is_open)
+        }
+    }
+}
+
+/// The loads, as text or in a form.
+fn loaded<'a, R: Threads + Sync>(
+    rt: &HostRuntime,
+    threads: &R,
+    over: &Horizon<'a>,
+    days: (Day, u16),
+    loads: LoadsOf,
+    form: Option<Form>,
+    journal: Option<&'a str>,
+    is_open: bool,
+) -> Result<(), Refusal<'a>>
+    requires first { IsOfCentury days.0 }
+    requires days { (1 ≤ days.1) × (days.1 ≤ 366) }
+{
+    match form {
+        Some(form) => {
+            let table = LoadTable { loads };
+            tabled(rt, threads, over, days, &table, form, journal, is_open)
+        }
+        None => asked_of(rt, threads, over, days, &loads, journal, is_open),
+    }
+}
+
+/// What loads are summed by.
+#[derive(Clone, Copy)]
+enum By {
+    EachLeg,
+    EachFlight,
+    EachDay,
+    EachPair,
+    EachClass,
+}
+
+/// Their sums.
+fn summed<'a, R: Threads + Sync>(
+    rt: &HostRuntime,
+    threads: &R,
+    over: &Horizon<'a>,
+    days: (Day, u16),
+    loads: LoadsOf,
+    by: By,
+    form: Form,
+    journal: Option<&'a str>,
+    is_open: bool,
+) -> Result<(), Refusal<'a>>
+    requires first { IsOfCentury days.0 }
+    requires days { (1 ≤ days.1) × (days.1 ≤ 366) }
+{
+    match by {
+        By::EachLeg => {
+            let table = LegSums { loads };
+            tabled(rt, threads, over, days, &table, form, journal, is_open)
+        }
+        By::EachDay => {
+            let table = DaySums { loads };
+            tabled(rt, threads, over, days, &table, form, journal, is_open)
+        }
+        By::EachFlight => {
+            let table = FlightSums { loads };
+            tabled(rt, threads, over, days, &table, form, journal, is_open)
+        }
+        By::EachPair => {
+            let table = PairSums { loads };
+            tabled(rt, threads, over, days, &table, form, journal, is_open)
+        }
+        By::EachClass => {
+            let table = ClassSums { loads };
+            tabled(rt, threads, over, days, &table, form, journal, is_open)
+        }
+    }
+}
+
+/// The live bookings of the locators, the flights and the day that are asked for.
+pub fn bookings<'a, R: Threads + Sync>(
+    rt: &HostRuntime,
+    threads: &R,
+    asked: &BookingsJob<'a>,
+) -> Result<(), Refusal<'a>> {
+    let over = &asked.over;
+    let days = days_of(over.first, over.days)?;
+    let locators = locators_asked(rt.alloc(), asked.locators.as_slice())?;
+    let wanted = Wanted {
+        locators: locators.as_slice(),
+        flight: flight_asked(asked.flight)?,
+        day: day_asked(asked.day)?,
+    };
+    let journal = Some(asked.journal);
+    let form = form_asked(asked.shape, false)?;
+    match form {
+        Some(form) => {
+            let table = BookingTable { wanted };
+            tabled(
+                rt,
+                threads,
+                over,
+                days,
+                &table,
+                form,
+                journal,
+                asked.is_open,
+            )
+        }
+        None => asked_of(
+            rt,
+            threads,
+            over,
+            days,
+            &BookingsOf { wanted },
+            journal,
+            asked.is_open,
+        ),
+    }
+}
+
+/// Who waits, on the flights and the day that are asked for.
+pub fn waiting<'a, R: Threads + Sync>(
+    rt: &HostRuntime,
+    threads: &R,
+    asked: &WaitingJob<'a>,
+) -> Result<(), Refusal<'a>> {
+    let over = &asked.over;
+    let days = days_of(over.first, over.days)?;
+    let wanted = Wanted {
+        locators: &[],
+        flight: flight_asked(asked.flight)?,
+        day: day_asked(asked.day)?,
+    };
+    let journal = Some(asked.journal);
+    let form = form_asked(asked.shape, false)?;
+    match form {
+        Some(form) => {
+            let table = WaitingTable { wanted };
+            tabled(
+                rt,
+                threads,
+                over,
+                days,
+                &table,
+                form,
+                journal,
+                asked.is_open,
+            )
+        }
+        None => asked_of(
+            rt,
+            threads,
+            over,
+            days,
+            &WaitingOf { wanted },
+            journal,
+            asked.is_open,
+        ),
+    }
+}
+
+/// What was held, sold, cancelled and confirmed behind the lines of an older journal, which is opened first, or behind so many.
+pub fn pickup<'a, R: Threads + Sync>(
+    rt: &HostRuntime,
+    threads: &R,
+    asked: &PickupJob<'a>,
+) -> Result<(), Refusal<'a>> {
+    let over = &asked.over;
+    let days = days_of(over.first, over.days)?;
+    let behind = lines_behind(asked.since, asked.behind)?;
+    let Some(lines) = behind else {
+        return Err(Refusal::from(WordFault::BadBehind));
+    };
+    let question = PickupOf {
+        past: Past::Lines(lines),
+        flight: flight_asked(asked.flight)?,
+        by: pickup_by(asked.by)?,
+        form: sums_form(asked.shape, false)?,
+    };
+    match asked.since {
+        Some(older) => pickup_since(rt, threads, asked, days, &question, older),
+        None => {
+            let journal = Some(asked.journal);
+            asked_of(rt, threads, over, days, &question, journal, asked.is_open)
+        }
+    }
+}
+
+/// The same question behind the lines of an older journal.
+fn pickup_since<'a, R: Threads + Sync>(
+    rt: &HostRuntime,
+    threads: &R,
+    asked: &PickupJob<'a>,
+    days: (Day, u16),
+    question: &PickupOf<'_>,
+    older: &'a str,
+) -> Result<(), Refusal<'a>>
+    requires first { IsOfCentury days.0 }
+    requires days { (1 ≤ days.1) × (days.1 ≤ 366) }
+{
+    let mut older = opened(rt, older)?;
+    let lines = match read_older(threads, rt.alloc(), &mut older) {
+        Ok(lines) => lines,
+        Err(fault) => return told(Err(fault), &[&older], &[]),
+    };
+    let question = PickupOf {
+        past: Past::Older(lines.as_slice()),
+        flight: question.flight,
+        by: question.by,
+        form: question.form,
+    };
+    let journal = Some(asked.journal);
+    asked_of(
+        rt,
+        threads,
+        &asked.over,
+        days,
+        &question,
+        journal,
+        asked.is_open,
+    )
+}
+
+fn pickup_by(by: Option<&str>) -> Result<PickupBy, WordFault> {
+    match by {
+        None => Ok(PickupBy::EachRow),
+        Some("flight") => Ok(PickupBy::EachFlight),
+        Some("class") => Ok(PickupBy::EachClass),
+        Some("day") => Ok(PickupBy::EachDay),
+        Some(_) => Err(WordFault::BadBy),
+    }
+}
+
+/// What the lines of a journal did for a locator, or on a flight, on the days that are asked for.
+pub fn history<'a, R: Threads + Sync>(
+    rt: &HostRuntime,
+    threads: &R,
+    asked: &HistoryJob<'a>,
+) -> Result<(), Refusal<'a>> {
+    let over = &asked.over;
+    let days = days_of(over.first, over.days)?;
+    let locators = locator_asked(rt.alloc(), asked.locator)?;
+    let wanted = Wanted {
+        locators: locators.as_slice(),
+        flight: flight_asked(asked.flight)?,
+        day: day_asked(asked.day)?,
+    };
+    if locators.is_empty() && wanted.flight.is_none() {
+        return Err(Refusal::from(WordFault::BadLocator));
+    }
+    let (journal, is_open) = (Some(asked.journal), asked.is_open);
+    let form = form_asked(asked.shape, false)?;
+    match form {
+        Some(form) => {
+            let table = HistoryTable { wanted };
+            tabled(rt, threads, over, days, &table, form, journal, is_open)
+        }
+        None => {
+            let question = HistoryOf { wanted };
+            asked_of(rt, threads, over, days, &question, journal, is_open)
+        }
+    }
+}
+
+/// The locator, if one is asked for.
+fn locator_asked<'a>(alloc: Global, locator: Option<&'a str>) -> Result<Vec<Locator>, Refusal<'a>> {
+    match locator {
+        Some(word) => locators_asked(alloc, &[word]),
+        None => Ok(Vec::new(alloc)),
+    }
+}
+
+/// The answer to a question as a table.
+fn tabled<'a, R: Threads + Sync, T: Table>(
+    rt: &HostRuntime,
+    threads: &R,
+    over: &Horizon<'a>,
+    days: (Day, u16),
+    table: &T,
+    form: Form,
+    journal: Option<&'a str>,
+    is_open: bool,
+) -> Result<(), Refusal<'a>>
+    requires first { IsOfCentury days.0 }
+    requires days { (1 ≤ days.1) × (days.1 ≤ 366) }
+{
+    let question = TableOf { asked: table, form };
+    asked_of(rt, threads, over, days, &question, journal, is_open)
+}
+
+/// The one form that is asked for, of bars, CSV and JSON; none where it is the text, with bars or without.
+fn form_asked(shape: Shape, bars: bool) -> Result<Option<Form>, WordFault> {
+    if shape.csv {
+        if shape.json || bars {
+            return Err(WordFault::BadForm);
+        }
+        return Ok(Some(Form::Csv));
+    }
+    if shape.json {
+        if bars {
+            return Err(WordFault::BadForm);
+        }
+        return Ok(Some(Form::Json));
+    }
+    Ok(None)
+}
+
+/// That of a page, which has no other form, no bars and no sums.
+fn form_of_page(shape: Shape, bars: bool, is_summed: bool) -> Result<(), WordFault> {
+    if shape.csv || shape.json || bars || is_summed {
+        return Err(WordFault::BadForm);
+    }
+    Ok(())
+}
+
+/// That of sums, which have no bars.
+fn sums_form(shape: Shape, bars: bool) -> Result<Form, WordFault> {
+    if bars {
+        return Err(WordFault::BadForm);
+    }
+    let form = form_asked(shape, bars)?;
+    match form {
+        Some(form) => Ok(form),
+        None => Ok(Form::Text),
+    }
+}
+
+fn by_asked(by: Option<&str>) -> Result<Option<By>, WordFault> {
+    match by {
+        None => Ok(None),
+        Some(word) => match by_word(word) {
+            Some(by) => Ok(Some(by)),
+            None => Err(WordFault::BadBy),
+        },
+    }
+}
+
+fn by_word(word: &str) -> Option<By> {
+    match word {
+        "leg" => Some(By::EachLeg),
+        "flight" => Some(By::EachFlight),
+        "day" => Some(By::EachDay),
+        "pair" => Some(By::EachPair),
+        "class" => Some(By::EachClass),
+        _ => None,
+    }
+}

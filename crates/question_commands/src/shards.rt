@@ -1,0 +1,112 @@
+//! `audit --shards`: the journals of hosts that have different flights over one set and its limits.
+//! It knows which words name them, and nothing of what is in them.
+ghost use Rattle.std.specs.Prelude.{◌≡◌, IfOk};
+
+use airline_base::Day;
+use command_inputs::{days_of, inputs_of};
+use seat_desk::{DeskFault, Inputs};
+use seat_files::{Input, Output, Refusal, standard_output, taken};
+use seat_shards::{ShardFault, desk_shards};
+use seat_words::{AuditJob, WordFault};
+use std::thread::Threads;
+
+/// Audits the journals that are named.
+pub fn audit_shards<'a, R: Threads + Sync>(
+    rt: &HostRuntime,
+    threads: &R,
+    asked: &AuditJob<'a>,
+) -> Result<(), Refusal<'a>> {
+    let over = &asked.over;
+    let days = days_of(over.first, over.days)?;
+    if !is_plain(asked) {
+        return Err(Refusal::from(WordFault::BadShards));
+    }
+    let shards = match shards_opened(rt, asked, days) {
+        Ok(shards) => shards,
+        Err(refusal) => return Err(refusal),
+    };
+    let Shards {
+        mut inputs,
+        mut journals,
+    } = shards;
+    let mut out = standard_output(rt);
+    let outcome = desk_shards(
+        threads,
+        rt.alloc(),
+        &mut inputs,
+        journals.as_mut_slice(),
+        &mut out,
+    );
+    noted(outcome, &inputs, journals.as_slice(), &[&out])
+}
+
+/// The inputs and the journals, open.
+#[derive(Drop)]
+struct Shards<'a> {
+    inputs: Inputs<Input<'a>, Input<'a>>,
+    journals: Vec<Input<'a>>,
+}
+
+fn shards_opened<'a>(
+    rt: &HostRuntime,
+    asked: &AuditJob<'a>,
+    days: (Day, u16),
+) -> Result<Shards<'a>, Refusal<'a>>
+    ensures first { IfOk result (λ shards. shards.inputs.first ≡ days.0) }
+    ensures days { IfOk result (λ shards. shards.inputs.days ≡ days.1) }
+{
+    let inputs = match inputs_of(rt, &asked.over, days) {
+        Ok(inputs) => inputs,
+        Err(refusal) => return Err(refusal),
+    };
+    let journals = journals_opened(rt, asked.journal, asked.scripts.as_slice())?;
+    Ok(Shards { inputs, journals })
+}
+
+/// What the audit came to, of the file that it is of.
+fn noted<'a>(
+    outcome: Result<(), ShardFault>,
+    inputs: &Inputs<Input<'a>, Input<'a>>,
+    journals: &[Input<'a>],
+    outs: &[&Output<'a>],
+) -> Result<(), Refusal<'a>> {
+    match outcome {
+        Ok(()) => Ok(()),
+        Err(fault) => Err(
+            Refusal::from(fault)
+                .noting_all(&[&inputs.set, &inputs.limits])
+                .noting_each(journals)
+                .noting_outputs(outs),
+        ),
+    }
+}
+
+/// Whether the words ask for the journals as they stand: ended ones, without scripts, older journals and seals.
+fn is_plain(asked: &AuditJob<'_>) -> bool {
+    asked.after.is_none()
+        && asked.behind.is_none()
+        && asked.today.is_none()
+        && !asked.sealed
+        && !asked.is_open
+}
+
+/// The files of all these words, open.
+fn journals_opened<'a>(
+    rt: &HostRuntime,
+    first: &'a str,
+    others: &[&'a str],
+) -> Result<Vec<Input<'a>>, Refusal<'a>> {
+    let mut files = Vec::new(rt.alloc());
+    push(&mut files, taken(rt, first)?)?;
+    for word in others {
+        push(&mut files, taken(rt, *word)?)?;
+    }
+    Ok(files)
+}
+
+fn push<'a>(files: &mut Vec<Input<'a>>, file: Input<'a>) -> Result<(), Refusal<'a>> {
+    match files.push(file) {
+        Ok(()) => Ok(()),
+        Err(_) => Err(Refusal::from(DeskFault::Memory)),
+    }
+}

@@ -1,0 +1,4 @@
+mod Writing
+mod Answered
+mod Tabled
+mod Whole

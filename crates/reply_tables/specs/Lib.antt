@@ -1,0 +1,2 @@
+pub mod ReplyRows
+pub mod ReplyTable

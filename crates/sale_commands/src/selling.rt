@@ -1,0 +1,540 @@
+//! `run`: the texts that it reads, and OUT, which it locks, with the seal beside it.
+//! It knows which stream is which, and nothing of how seats are sold.
+ghost use Rattle.std.specs.Prelude.{◌≡◌, ◌≤◌, IfOk, IsTrue, length};
+ghost use Rattle.airline_base.specs.Days.{IsCenturyDay};
+ghost use Rattle.seat_seal.specs.Rules.{is_entry};
+ghost use Rattle.ssim_flights.specs.Right.{IsOfCentury};
+
+use crate::heard::Heard;
+use airline_base::Day;
+use command_inputs::{
+    Seals, behind, day_of_run, days_of, inputs_of, last_entry, lines_behind, scripts_opened,
+    seals_of, tell_copies, tell_kept, tell_unsealed,
+};
+use seat_desk::{DeskFault, Inputs, NO_LINES};
+use seat_files::{
+    Guard, Input, JournalFile, NOT_EMPTY, Refusal, SealOut, TOO_LONG, files_taken, is_same,
+    kept_number, lines_in, of, opened_or, pass_once, standard_output, told,
+};
+use seat_run::{desk_resume, desk_run};
+use seat_scripts::Besides;
+use seat_seal::{Beside, SealEntry, is_entry, read_seal};
+use seat_sealing::older_entry;
+use seat_words::{RunJob, WordFault, sessions_of_run};
+use seat_workers::NoGate;
+use std::fs;
+use std::sync::Wait;
+use std::thread::Threads;
+
+/// OUT, the file of the journal, is looked at, locked and made where it is not there, once each input is open and before the first is
+/// read. Without an older journal the run goes on from no line, and without a file of changes there are none. Without changes it needs
+/// a script. How many lines a journal began with is asked only where the run goes on with its scripts.
+pub fn run<'a, T: Threads + Wait + Sync>(
+    rt: &'a HostRuntime,
+    threads: &T,
+    asking: &RunJob<'a>,
+) -> Result<(), Refusal<'a>> {
+    let over = &asking.over;
+    let days = days_of(over.first, over.days)?;
+    let today = day_of_run(asking.today)?;
+    let given = lines_behind(asking.after, asking.behind)?;
+    if asking.resume.is_none() && asking.behind.is_some() {
+        return Err(Refusal::from(WordFault::BadBehind));
+    }
+    let Some(sessions) = sessions_of_run(asking.scripts.as_slice(), asking.changes.is_some()) else {
+        return Err(Refusal::from(WordFault::BadScripts));
+    };
+    let inputs = match inputs_of(rt, over, days) {
+        Ok(inputs) => inputs,
+        Err(refusal) => return Err(refusal),
+    };
+    let mut past = past_opened(rt, asking)?;
+    let scripts = scripts_opened(rt, asking.scripts.as_slice(), sessions)?;
+    let changes = opened_or(rt, asking.changes, b"")?;
+    let mut texts = Texts {
+        inputs,
+        scripts,
+        changes,
+    };
+    run_over(rt, threads, asking, given, today, &mut texts, &mut past)
+}
+
+/// The same with all inputs open.
+fn run_over<'a, T: Threads + Wait + Sync>(
+    rt: &'a HostRuntime,
+    threads: &T,
+    asking: &RunJob<'a>,
+    given: Option<u32>,
+    today: Day,
+    texts: &mut Texts<'a>,
+    past: &mut Past<'a>,
+) -> Result<(), Refusal<'a>>
+    requires first { IsOfCentury texts.old.inputs.first }
+    requires days { (1 ≤ texts.old.inputs.days) × (texts.old.inputs.days ≤ 366) }
+    requires today { IsCenturyDay today }
+    requires scripts { (1 ≤ length texts.old.scripts.items) × (length texts.old.scripts.items ≤ 8) }
+{
+    if is_one_journal(past)? {
+        return Err(Refusal::from(WordFault::BadBehind));
+    }
+    pass_once(rt, texts.scripts.as_slice(), &texts.changes)?;
+    let mut place = locked_out(rt, asking, texts, past)?;
+    let outcome = sell(rt, threads, asking, given, today, texts, past, &mut place);
+    leave(&place);
+    tell_kept(rt, &place.journal, &place.seal);
+    outcome
+}
+
+/// Takes away what was made and is not to stay. A seal that was put ahead of its journal goes first, while OUT is locked.
+fn leave(place: &Place<'_>) {
+    if place.journal.is_to_go() {
+        place.seal.take_away();
+    }
+    place.seal.leave();
+    place.journal.leave();
+}
+
+/// Where a run puts its journal, and the seal of it.
+#[derive(Drop)]
+struct Place<'a> {
+    journal: JournalFile<'a>,
+    seal: SealOut<'a>,
+}
+
+/// What a run reads beside journals.
+#[derive(Drop)]
+struct Texts<'a> {
+    inputs: Inputs<Input<'a>, Input<'a>>,
+    scripts: Vec<Input<'a>>,
+    changes: Input<'a>,
+}
+
+/// The journals that a run may go on from.
+#[derive(Drop)]
+struct Past<'a> {
+    after: Input<'a>,
+    resumed: Input<'a>,
+}
+
+fn past_opened<'a>(rt: &HostRuntime, asking: &RunJob<'a>) -> Result<Past<'a>, Refusal<'a>> {
+    let after = opened_or(rt, asking.after, &NO_LINES)?;
+    let resumed = opened_or(rt, asking.resume, &NO_LINES)?;
+    Ok(Past { after, resumed })
+}
+
+/// Whether the older journal is the very file whose scripts have grown: there would be no line of theirs.
+fn is_one_journal<'a>(past: &Past<'a>) -> Result<bool, Refusal<'a>> {
+    let Some(resumed) = past.resumed.metadata()? else {
+        return Ok(false);
+    };
+    match past.after.metadata()? {
+        Some(older) => Ok(older.is_file() && is_same(&older, &resumed)),
+        None => Ok(false),
+    }
+}
+
+/// OUT under its lock, and its seal. OUT is none of the inputs but a journal that the run goes on from, nor the file of the replies; its
+/// seal is none of these.
+fn locked_out<'a>(
+    rt: &'a HostRuntime,
+    asking: &RunJob<'a>,
+    texts: &Texts<'a>,
+    past: &Past<'a>,
+) -> Result<Place<'a>, Refusal<'a>> {
+    let scripts = texts.scripts.as_slice();
+    let guard = Guard::new(rt, asking.journal)?;
+    guard.pass(&texts.inputs, scripts, &[&texts.changes])?;
+    guard.pass_output(rt)?;
+    if asking.no_clobber {
+        guard.keep()?;
+    }
+    let files = files_taken(
+        rt,
+        &texts.inputs,
+        scripts,
+        &[&texts.changes, &past.after, &past.resumed],
+    )?;
+    let journal = JournalFile::open(rt, asking.journal, files.as_slice())?;
+    match SealOut::beside(rt, &journal, files.as_slice()) {
+        Ok(seal) => Ok(Place { journal, seal }),
+        Err(refusal) => {
+            journal.leave();
+            Err(refusal)
+        }
+    }
+}
+
+/// Books what the texts ask into the file of the journal, which is locked, with its seal. A journal that the run goes on from, and that is a regular
+/// file, is opened once more, since it may be that file.
+fn sell<'a, T: Threads + Wait + Sync>(
+    rt: &'a HostRuntime,
+    threads: &T,
+    asking: &RunJob<'a>,
+    given: Option<u32>,
+    today: Day,
+    texts: &mut Texts<'a>,
+    past: &mut Past<'a>,
+    place: &mut Place<'a>,
+) -> Result<(), Refusal<'a>>
+    requires first { IsOfCentury texts.old.inputs.first }
+    requires days { (1 ≤ texts.old.inputs.days) × (texts.old.inputs.days ≤ 366) }
+    requires today { IsCenturyDay today }
+    requires scripts { (1 ≤ length texts.old.scripts.items) × (length texts.old.scripts.items ≤ 8) }
+{
+    if asking.no_clobber && !place.journal.is_empty()? {
+        return Err(Refusal::barred(asking.journal, NOT_EMPTY));
+    }
+    let older = older_in(place)?;
+    if !is_entry(&older) {
+        return Err(Refusal::barred(asking.journal, TOO_LONG));
+    }
+    open_past_again(rt, asking, past)?;
+    let seals = seals_of(rt, &past.after, &past.resumed, false)?;
+    sell_beside(
+        rt, threads, asking, given, today, texts, past, &seals, older, place,
+    )
+}
+
+/// The same with what stands beside the journals read.
+fn sell_beside<'a, T: Threads + Wait + Sync>(
+    rt: &'a HostRuntime,
+    threads: &T,
+    asking: &RunJob<'a>,
+    given: Option<u32>,
+    today: Day,
+    texts: &mut Texts<'a>,
+    past: &mut Past<'a>,
+    seals: &Seals,
+    older: SealEntry,
+    place: &mut Place<'a>,
+) -> Result<(), Refusal<'a>>
+    requires first { IsOfCentury texts.old.inputs.first }
+    requires days { (1 ≤ texts.old.inputs.days) × (texts.old.inputs.days ≤ 366) }
+    requires today { IsCenturyDay today }
+    requires scripts { (1 ≤ length texts.old.scripts.items) × (length texts.old.scripts.items ≤ 8) }
+    requires older { IsTrue (is_entry older) }
+{
+    let keeps = keeps_both(rt, past, place)?;
+    let mut out = Heard::new(standard_output(rt));
+    let sale = Sale {
+        asking,
+        given,
+        today,
+        keeps,
+    };
+    let besides = seals.as_besides();
+    let outcome = booked(
+        rt, threads, &sale, texts, past, &besides, older, place, &mut out,
+    );
+    match sold(outcome, texts, past) {
+        Ok(()) => {
+            tell_sold(rt, &sale, texts, seals, place, &out);
+            Ok(())
+        }
+        Err(refusal) => unsold(rt, &sale, refusal, texts, past, seals, place, &out),
+    }
+}
+
+/// What a run is asked for, as it was written and as it was read.
+#[derive(Clone, Copy)]
+struct Sale<'a, 'b> {
+    asking: &'b RunJob<'a>,
+    given: Option<u32>,
+    today: Day,
+    /// Whether what OUT and its seal have is to be kept.
+    keeps: bool,
+}
+
+/// What the command came to, of whichever input it is refused for.
+fn sold<'a>(
+    outcome: Result<(), DeskFault>,
+    texts: &Texts<'a>,
+    past: &Past<'a>,
+) -> Result<(), Refusal<'a>> {
+    let inputs = &texts.inputs;
+    let ahead = told(
+        outcome,
+        &[&inputs.set, &inputs.limits, &past.after, &past.resumed],
+        &[],
+    );
+    behind(ahead, texts.scripts.as_slice(), &[&texts.changes], &[])
+}
+
+/// Says what may not be meant so, of a run that booked all.
+fn tell_sold<'a>(
+    rt: &HostRuntime,
+    sale: &Sale<'a, '_>,
+    texts: &Texts<'a>,
+    seals: &Seals,
+    place: &Place<'a>,
+    out: &Heard<'a>,
+) {
+    let have_bytes = texts.scripts.iter().any(|script| script.has_bytes());
+    out.tell(rt, sale.asking.resume.is_some(), have_bytes);
+    tell_compared(rt, sale.asking, sale.given, seals);
+    tell_copies(rt, &place.seal);
+}
+
+/// The refusal of a run, with what is known of its files.
+fn unsold<'a>(
+    rt: &HostRuntime,
+    sale: &Sale<'a, '_>,
+    refusal: Refusal<'a>,
+    texts: &Texts<'a>,
+    past: &Past<'a>,
+    seals: &Seals,
+    place: &mut Place<'a>,
+    out: &Heard<'a>,
+) -> Result<(), Refusal<'a>> {
+    let lines = lines_ahead(rt, sale.asking, sale.given, &past.after, place);
+    let seal = seals.gone_on_from(sale.asking.resume.is_some());
+    let refusal = refusal
+        .noting_booked(rt, seal, lines, texts.scripts.as_slice(), &texts.changes)
+        .noting_unasked(&past.resumed)
+        .noting_journal(&place.journal)
+        .noting_seal(&place.seal)
+        .noting_output(out.output());
+    noting_place(rt, sale.asking, refusal, past, place)
+}
+
+/// Books by the one command or the other: scripts that have grown go on with their journal.
+fn booked<'a, T: Threads + Wait + Sync>(
+    rt: &'a HostRuntime,
+    threads: &T,
+    sale: &Sale<'a, '_>,
+    texts: &mut Texts<'a>,
+    past: &mut Past<'a>,
+    besides: &Besides<'_>,
+    older: SealEntry,
+    place: &mut Place<'a>,
+    out: &mut Heard<'a>,
+) -> Result<(), DeskFault>
+    requires first { IsOfCentury texts.old.inputs.first }
+    requires days { (1 ≤ texts.old.inputs.days) × (texts.old.inputs.days ≤ 366) }
+    requires today { IsCenturyDay sale.now.today }
+    requires scripts { (1 ≤ length texts.old.scripts.items) × (length texts.old.scripts.items ≤ 8) }
+    requires older { IsTrue (is_entry older) }
+{
+    if sale.asking.resume.is_some() {
+        return gone_on(rt, threads, sale, texts, past, besides, older, place, out);
+    }
+    begun(
+        rt,
+        threads,
+        sale,
+        texts,
+        &mut past.after,
+        &besides.older,
+        older,
+        place,
+        out,
+    )
+}
+
+fn gone_on<'a, T: Threads + Wait + Sync>(
+    rt: &'a HostRuntime,
+    threads: &T,
+    sale: &Sale<'a, '_>,
+    texts: &mut Texts<'a>,
+    past: &mut Past<'a>,
+    besides: &Besides<'_>,
+    older: SealEntry,
+    place: &mut Place<'a>,
+    out: &mut Heard<'a>,
+) -> Result<(), DeskFault>
+    requires first { IsOfCentury texts.old.inputs.first }
+    requires days { (1 ≤ texts.old.inputs.days) × (texts.old.inputs.days ≤ 366) }
+    requires today { IsCenturyDay sale.now.today }
+    requires scripts { (1 ≤ length texts.old.scripts.items) × (length texts.old.scripts.items ≤ 8) }
+    requires older { IsTrue (is_entry older) }
+{
+    desk_resume(
+        threads,
+        rt.alloc(),
+        &mut texts.inputs,
+        &mut past.after,
+        sale.given,
+        &mut past.resumed,
+        besides,
+        sale.asking.again,
+        texts.scripts.as_mut_slice(),
+        &mut texts.changes,
+        sale.today,
+        &NoGate,
+        older,
+        sale.keeps,
+        &mut place.journal,
+        &mut place.seal,
+        out,
+    )
+}
+
+fn begun<'a, T: Threads + Wait + Sync>(
+    rt: &'a HostRuntime,
+    threads: &T,
+    sale: &Sale<'a, '_>,
+    texts: &mut Texts<'a>,
+    after: &mut Input<'a>,
+    beside: &Beside<'_>,
+    older: SealEntry,
+    place: &mut Place<'a>,
+    out: &mut Heard<'a>,
+) -> Result<(), DeskFault>
+    requires first { IsOfCentury texts.old.inputs.first }
+    requires days { (1 ≤ texts.old.inputs.days) × (texts.old.inputs.days ≤ 366) }
+    requires today { IsCenturyDay sale.now.today }
+    requires scripts { (1 ≤ length texts.old.scripts.items) × (length texts.old.scripts.items ≤ 8) }
+    requires older { IsTrue (is_entry older) }
+{
+    desk_run(
+        threads,
+        rt.alloc(),
+        &mut texts.inputs,
+        after,
+        beside,
+        sale.asking.again,
+        texts.scripts.as_mut_slice(),
+        &mut texts.changes,
+        sale.today,
+        &NoGate,
+        older,
+        sale.keeps,
+        &mut place.journal,
+        &mut place.seal,
+        out,
+    )
+}
+
+/// What the seal beside OUT has of the journal there, or else which bytes OUT has.
+fn older_in<'a>(place: &Place<'a>) -> Result<SealEntry, Refusal<'a>> {
+    let bytes = place.journal.bytes()?;
+    let seal = match place.seal.text()? {
+        Some(text) => read_seal(&text),
+        None => None,
+    };
+    Ok(older_entry(seal, &bytes))
+}
+
+/// Whether what OUT and its seal have is to be kept: where the run does not go on from it. Under which names is decided here.
+fn keeps_both<'a>(
+    rt: &HostRuntime,
+    past: &Past<'a>,
+    place: &mut Place<'a>,
+) -> Result<bool, Refusal<'a>> {
+    let journal = &place.journal;
+    if is_gone_on_from(&past.after, journal)? || is_gone_on_from(&past.resumed, journal)? {
+        return Ok(false);
+    }
+    if let (Some(path), Some(seal)) = (place.journal.path(), place.seal.path()) {
+        let number = of(place.journal.name(), kept_number(rt, path, seal))?;
+        place.journal.keep_under(number);
+        place.seal.keep_under(number);
+    }
+    Ok(true)
+}
+
+/// The refusal of a run, which says whether the journal is in its place all the same.
+fn noting_place<'a>(
+    rt: &HostRuntime,
+    asking: &RunJob<'a>,
+    refusal: Refusal<'a>,
+    past: &Past<'a>,
+    place: &mut Place<'a>,
+) -> Result<(), Refusal<'a>> {
+    if !place.journal.is_put() {
+        return Err(refusal);
+    }
+    let behind = match lines_sealed(place) {
+        Some(behind) => u64::from(behind),
+        None => lines_of(rt, asking.after, &past.after, &mut place.journal)?,
+    };
+    let from = lines_of(rt, asking.resume, &past.resumed, &mut place.journal)?;
+    Err(refusal.noting_put(asking.journal, behind, from))
+}
+
+/// Says where nothing stood beside the journal that a run went on from. With scripts that have grown the seal would say behind how many
+/// lines they stand; where that was said all the same, nothing was compared with it.
+fn tell_compared(rt: &HostRuntime, asking: &RunJob<'_>, given: Option<u32>, seals: &Seals) {
+    match (asking.resume, asking.after) {
+        (None, Some(name)) => tell_unsealed(rt, name, &seals.older),
+        (Some(name), None) if given.is_some() => tell_unsealed(rt, name, &seals.journal),
+        _ => {}
+    }
+}
+
+/// Ahead of how many lines a run began that may have booked what is asked: of all, where the scripts go behind the whole journal.
+fn lines_ahead<'a>(
+    rt: &HostRuntime,
+    asking: &RunJob<'a>,
+    given: Option<u32>,
+    after: &Input<'a>,
+    place: &mut Place<'a>,
+) -> u64 {
+    if asking.resume.is_none() {
+        return u64::MAX;
+    }
+    if asking.after.is_none() {
+        return u64::from(given.unwrap_or(0));
+    }
+    lines_of(rt, asking.after, after, &mut place.journal).unwrap_or(0)
+}
+
+/// How many lines the new journal went on from, as its seal says.
+fn lines_sealed(place: &Place<'_>) -> Option<u32> {
+    let Ok(Some(text)) = place.seal.text() else {
+        return None;
+    };
+    Some(seat_seal::lines_behind(last_entry(&text)?.runs.as_slice()))
+}
+
+/// How many lines a journal has that a run went on from, which may be the one that had the name of the new one.
+fn lines_of<'a>(
+    rt: &HostRuntime,
+    path: Option<&str>,
+    input: &Input<'a>,
+    journal: &mut JournalFile<'a>,
+) -> Result<u64, Refusal<'a>> {
+    let Some(path) = path else {
+        return Ok(0);
+    };
+    if is_gone_on_from(input, journal)? {
+        return Ok(journal.older_lines().unwrap_or(0));
+    }
+    match fs::open(rt, path) {
+        Ok(mut file) => Ok(lines_in(rt, &mut file).unwrap_or(0)),
+        Err(_) => Ok(0),
+    }
+}
+
+/// Opens the journals once more that are regular files: the name may lead to another file by now.
+fn open_past_again<'a>(
+    rt: &HostRuntime,
+    asking: &RunJob<'a>,
+    past: &mut Past<'a>,
+) -> Result<(), Refusal<'a>> {
+    if is_regular(&past.after)? {
+        past.after = opened_or(rt, asking.after, &NO_LINES)?;
+    }
+    if is_regular(&past.resumed)? {
+        past.resumed = opened_or(rt, asking.resume, &NO_LINES)?;
+    }
+    Ok(())
+}
+
+fn is_regular<'a>(input: &Input<'a>) -> Result<bool, Refusal<'a>> {
+    match input.metadata()? {
+        Some(file) => Ok(file.is_file()),
+        None => Ok(false),
+    }
+}
+
+/// Whether the older journal is the very file that the new one is put into.
+fn is_gone_on_from<'a>(after: &Input<'a>, journal: &JournalFile<'a>) -> Result<bool, Refusal<'a>> {
+    let Some(out) = journal.metadata()? else {
+        return Ok(false);
+    };
+    match after.metadata()? {
+        Some(older) => Ok(is_same(&older, &out)),
+        None => Ok(false),
+    }
+}

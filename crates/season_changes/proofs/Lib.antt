@@ -1,0 +1,7 @@
+mod Becoming
+mod Comparisons
+mod Lines
+mod Numbering
+mod Seating
+mod Summing
+mod TwoSeasons

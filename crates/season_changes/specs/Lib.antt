@@ -1,0 +1,9 @@
+pub mod Changes
+pub mod Comparing
+pub mod Differing
+pub mod Faults
+pub mod Lines
+pub mod Naming
+pub mod Seasons
+pub mod Seats
+pub mod Sums

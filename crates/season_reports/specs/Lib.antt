@@ -1,0 +1,2 @@
+pub mod SeasonFile
+pub mod Span

@@ -1,0 +1,6 @@
+pub mod Partners
+pub mod Statuses
+pub mod Messages
+pub mod Changes
+pub mod Lines
+pub mod Answers

@@ -1,0 +1,26 @@
+//! Where seats are counted: in the class of a booking, or on each of its legs.
+//! It knows no row of counts.
+ghost use Rattle.std.specs.Prelude.{◌≡◌};
+ghost use Rattle.seat_pickup.specs.Moves.{is_at};
+
+use airline_base::{Class, Place};
+use seat_questions::has_leg;
+
+/// What seats are counted by, on each flight.
+#[derive(Clone, Copy)]
+pub enum Split {
+    /// The class, by its letter.
+    Classes,
+    /// The legs, from `A` on: a booking's seats on each leg of its place.
+    Legs,
+}
+
+/// Whether the seats of a place and class count there.
+pub fn is_at(split: Split, place: Place, class: Class, flight: u32, letter: u8) -> bool
+    ensures { result ≡ is_at split place class flight letter }
+{
+    match split {
+        Split::Classes => place.flight == flight && class.letter() == letter,
+        Split::Legs => place.flight == flight && has_leg(place, letter.saturating_sub(b'A')),
+    }
+}

@@ -1,0 +1,9 @@
+pub mod Common
+pub mod Advised
+pub mod Rows
+pub mod Going
+pub mod Parts
+pub mod Serving
+pub mod Histories
+pub mod Segments
+pub mod Very

@@ -1,5 +1,0 @@
-use Rattle.seat_scripts.proofs.Very.{commands_are_very_requests}
-use Rattle.seat_scripts.proofs.laws.commands_are_very_requests.Goals as goal
-
-pub returns : goal.returns
-returns c = commands_are_very_requests

@@ -1,0 +1,3 @@
+mod DeskLaws
+mod FolderLaws
+mod WordLaws

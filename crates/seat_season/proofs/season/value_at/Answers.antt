@@ -1,0 +1,9 @@
+use Rattle.std.proofs.Common.{◌∙◌, ℕ, List, ap}
+use Rattle.toml.specs.Data.{get_member}
+use Rattle.toml.specs.View.{table_view}
+use Rattle.toml.proofs.Views.{table_get}
+use Rattle.seat_season.proofs.season.value_at.Goals as goal
+
+pub returns : goal.returns
+returns c = table_get c.get.result c.text.result.now c.args.table.now.entries c.get.ensures.value
+    ∙ ap (λ (key : List ℕ). get_member key (table_view c.args.table.now)) c.text.ensures

@@ -1,0 +1,9 @@
+pub mod Desks
+pub mod FaultText
+pub mod Folders
+pub mod Keys
+pub mod Line
+pub mod Options
+pub mod Season
+pub mod Text
+pub mod Words

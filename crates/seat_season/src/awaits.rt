@@ -1,0 +1,126 @@
+//! What a word of a command line is, by what the word ahead of it awaits.
+//! It knows how options are written, and nothing of what they mean.
+ghost use Rattle.std.specs.Prelude.{◌≡◌};
+ghost use Rattle.seat_season.specs.Options.{awaited, is_flag, is_free, is_given, is_long, is_option, is_place, next, has_sign};
+
+/// What a word awaits behind it.
+#[derive(Clone, Copy)]
+pub(crate) enum Awaits {
+    /// Nothing: the next word is an option, or a word by its place.
+    Nothing,
+    /// The value of an option.
+    Value,
+    /// A desk, or a session.
+    Desk,
+    /// The name of a season file.
+    Season,
+    /// All words behind `--` are words by their places.
+    Rest,
+}
+
+/// What the next word but one awaits.
+pub(crate) fn next(awaits: Awaits, word: &str) -> Awaits
+    ensures { result ≡ next awaits word.now }
+{
+    match awaits {
+        Awaits::Nothing => awaited(word),
+        Awaits::Value | Awaits::Desk | Awaits::Season => Awaits::Nothing,
+        Awaits::Rest => Awaits::Rest,
+    }
+}
+
+fn awaited(word: &str) -> Awaits
+    ensures { result ≡ awaited word.now }
+{
+    if word == "--" {
+        return Awaits::Rest;
+    }
+    if word == "--season" {
+        return Awaits::Season;
+    }
+    if word == "--desk" || word == "--session" {
+        return Awaits::Desk;
+    }
+    if is_long(word) && !has_sign(word) && !is_flag(word) {
+        return Awaits::Value;
+    }
+    Awaits::Nothing
+}
+
+/// Whether no option awaits this word, and it may be one.
+pub(crate) fn is_free(awaits: Awaits) -> bool
+    ensures { result ≡ is_free awaits }
+{
+    match awaits {
+        Awaits::Nothing => true,
+        _ => false,
+    }
+}
+
+/// Whether the word stands by its place, behind a word that awaits this.
+pub(crate) fn is_place(awaits: Awaits, word: &str) -> bool
+    ensures { result ≡ is_place awaits word.now }
+{
+    match awaits {
+        Awaits::Nothing => !is_option(word),
+        Awaits::Value | Awaits::Desk | Awaits::Season => false,
+        Awaits::Rest => true,
+    }
+}
+
+/// Whether the word begins with `-` and has more behind it.
+pub(crate) fn is_option(word: &str) -> bool
+    ensures { result ≡ is_option word.now }
+{
+    match word.as_bytes() {
+        [first, _, ..] => *first == b'-',
+        _ => false,
+    }
+}
+
+fn is_long(word: &str) -> bool
+    ensures { result ≡ is_long word.now }
+{
+    match word.as_bytes() {
+        [first, second, _, ..] => *first == b'-' && *second == b'-',
+        _ => false,
+    }
+}
+
+#[tactic(auto, using(std::proofs::lemmas::Str::Pattern::split_once_first))]
+fn has_sign(word: &str) -> bool
+    ensures { result ≡ has_sign word.now }
+{
+    match word.split_once('=') {
+        Some(_) => true,
+        None => false,
+    }
+}
+
+/// Whether the word is an option without a value.
+fn is_flag(word: &str) -> bool
+    ensures { result ≡ is_flag word.now }
+{
+    word == "--again"
+        || word == "--bars"
+        || word == "--csv"
+        || word == "--cut"
+        || word == "--html"
+        || word == "--json"
+        || word == "--no-clobber"
+        || word == "--open"
+        || word == "--sealed"
+        || word == "--shards"
+        || word == "--verbose"
+}
+
+/// Whether the word is this option, alone or with its value behind `=`.
+#[tactic(auto, using(std::proofs::lemmas::Str::Pattern::split_once_first, crate::proofs::WordLaws::unsigned))]
+pub(crate) fn is_given(option: &str, word: &str) -> bool
+    ensures { result ≡ is_given option.now word.now }
+{
+    match word.split_once('=') {
+        Some((ahead, _)) => ahead == option,
+        None => word == option,
+    }
+}

@@ -1,0 +1,103 @@
+//! The season that a command line names: its file, its folder, and whether its journal is there.
+//! It knows nothing of what a season says, or of which words stand for it.
+
+use crate::{done_by, misread, refused};
+use seat_desk::{DeskFault, read_input};
+use seat_files::{Refusal, opened, told};
+use seat_season::{
+    Around, MOST_SEASON_BYTES, Season, SeasonKind, TextFault, beside_season, folder_of, path_of,
+    season_named, season_of, season_table, seasoned_words,
+};
+use seat_words::words_in_conflict;
+use std::alloc::AllocError;
+use std::process::ExitCode;
+use std::sync::Wait;
+use std::thread::Threads;
+use std::time::Clock;
+use std::{fs, io};
+use toml::Table;
+
+/// The season file that the words name.
+pub fn season_asked<'a>(words: &[&'a str]) -> Option<&'a str> {
+    season_named(words)
+}
+
+/// Runs the command that the words name, with what their season says.
+pub fn started<T: Threads + Wait + Clock + Sync + Copy + Send + 'static>(
+    rt: &HostRuntime,
+    threads: &T,
+    words: &[&str],
+    file: &str,
+) -> io::Result<ExitCode> {
+    if let Some(option) = beside_season(words) {
+        return Ok(misread(rt, &in_conflict(rt, option)?));
+    }
+    let is_verbose = words
+        .iter()
+        .any(|word| *word == "-v" || *word == "--verbose");
+    let table = match table_of(rt, file) {
+        Ok(table) => table,
+        Err(refusal) => return Ok(refused(rt, is_verbose, &refusal)),
+    };
+    let season = match season_of(&table) {
+        Ok(season) => season,
+        Err(fault) => {
+            let refusal = Refusal::of_season(file, fault.kind(), fault.key());
+            return Ok(refused(rt, is_verbose, &refusal));
+        }
+    };
+    let around = around_of(rt, &season, file)?;
+    let seasoned = seasoned_words(rt.alloc(), words, &season, &around)?;
+    let words = seasoned.texts(rt.alloc())?;
+    done_by(rt, threads, words.as_slice())
+}
+
+/// The fault of an option that a season stands in the place of.
+fn in_conflict(rt: &HostRuntime, option: &str) -> Result<clap::Error, AllocError> {
+    let message = format!(in rt.alloc();
+        "the argument '--season <SEASON>' cannot be used with '{option}'"
+    )?;
+    words_in_conflict(rt.alloc(), message.as_str())
+}
+
+fn table_of<'a>(rt: &HostRuntime, file: &'a str) -> Result<Table, Refusal<'a>> {
+    let mut input = opened(rt, file)?;
+    let text = match read_input(rt.alloc(), &mut input, MOST_SEASON_BYTES) {
+        Ok(text) => text,
+        Err(fault) => {
+            told(Err(fault), &[&input], &[])?;
+            return Err(Refusal::from(fault));
+        }
+    };
+    match season_table(rt.alloc(), &text) {
+        Ok(table) => Ok(table),
+        Err(TextFault::Line(line)) => {
+            Err(Refusal::of_season(file, SeasonKind::Form { line }, None))
+        }
+        Err(TextFault::Memory) => Err(Refusal::from(DeskFault::Memory)),
+    }
+}
+
+/// Where the season lies, and whether its journal is there and not empty. One that can't be looked at is left to the command.
+fn around_of<'a>(
+    rt: &HostRuntime,
+    season: &Season<'_>,
+    file: &'a str,
+) -> Result<Around<'a>, AllocError> {
+    let folder = folder_of(file);
+    let has_lines = match season.journal {
+        Some(journal) => {
+            let path = path_of(rt.alloc(), folder, journal)?;
+            is_begun(rt, path.as_str())
+        }
+        None => false,
+    };
+    Ok(Around { folder, has_lines })
+}
+
+fn is_begun(rt: &HostRuntime, path: &str) -> bool {
+    match fs::metadata(rt, path) {
+        Ok(file) => !file.is_file() || file.len() > 0,
+        Err(error) => error.kind() != io::ErrorKind::NotFound,
+    }
+}
