@@ -15,7 +15,7 @@ _seatdesk() {
     esac
     for ((i = 1; i < COMP_CWORD; i++)); do
         case ${COMP_WORDS[i]} in
-        ladder | check | flights | cover | rooms | loads | run | serve | bookings | waiting | pickup | history | audit | seal | recover | replies | told | why | explain | season | help)
+        ladder | check | flights | cover | rooms | loads | run | serve | bookings | waiting | pickup | history | avs | reconcile | compare | audit | seal | recover | replies | told | why | explain | season | help)
             command=${COMP_WORDS[i]}
             break
             ;;
@@ -23,121 +23,139 @@ _seatdesk() {
     done
     case $command in
     '')
-        words='ladder check flights cover rooms loads run serve bookings waiting pickup history audit seal recover replies told why explain season help -v --verbose -h --help -V --version'
+        words='ladder check flights cover rooms loads run serve bookings waiting pickup history avs reconcile compare audit seal recover replies told why explain season help -v --verbose --quiet -h --help -V --version'
         files=''
         values=''
         place=''
         ;;
     ladder)
-        words='-v --verbose -h --help'
+        words='-v --verbose --quiet -h --help'
         files=''
         values=''
         place=''
         ;;
     check)
-        words='-v --verbose -h --help'
+        words='-v --verbose --quiet -h --help'
         files=''
         values=''
         place='files'
         ;;
     flights)
-        words='--first --days --csv --json -v --verbose -h --help'
+        words='--first --days --csv --json -v --verbose --quiet -h --help'
         files=''
         values='--first --days'
         place='files'
         ;;
     cover)
-        words='--set --limits --first --days --season -v --verbose -h --help'
+        words='--set --limits --first --days --season --csv --json -v --verbose --quiet -h --help'
         files='--set --limits --season'
         values='--first --days'
         place=''
         ;;
     rooms)
-        words='--set --limits --first --days --season --day --pair --bars --csv --json --open -v --verbose -h --help'
+        words='--set --limits --first --days --season --day --pair --bars --csv --json --open -v --verbose --quiet -h --help'
         files='--set --limits --season'
         values='--first --days --day --pair'
         place='files'
         ;;
     loads)
-        words='--set --limits --first --days --season --flight --day --pair --by --bars --csv --json --html --open -v --verbose -h --help'
+        words='--set --limits --first --days --season --flight --day --pair --by --bars --csv --json --html --open -v --verbose --quiet -h --help'
         files='--set --limits --season'
         values='--first --days --flight --day --pair --by'
         place='files'
         ;;
     run)
-        words='--set --limits --first --days --season --after --behind --resume --today --journal --changes --no-clobber --again -v --verbose -h --help'
+        words='--set --limits --first --days --season --after --behind --resume --today --journal --changes --no-clobber --again -v --verbose --quiet -h --help'
         files='--set --limits --season --after --resume --journal --changes'
         values='--first --days --behind --today'
         place='files'
         ;;
     serve)
-        words='--set --limits --first --days --season --today --journal --desk --manager --status --every --feed --behind -v --verbose -h --help'
+        words='--set --limits --first --days --season --today --journal --desk --manager --status --every --feed --behind -v --verbose --quiet -h --help'
         files='--set --limits --season --journal --status'
         values='--first --days --today --desk --manager --every --feed --behind'
         place=''
         ;;
     bookings)
-        words='--set --limits --first --days --season --locator --flight --day --csv --json --open -v --verbose -h --help'
+        words='--set --limits --first --days --season --locator --flight --day --csv --json --open -v --verbose --quiet -h --help'
         files='--set --limits --season'
         values='--first --days --locator --flight --day'
         place='files'
         ;;
     waiting)
-        words='--set --limits --first --days --season --flight --day --csv --json --open -v --verbose -h --help'
+        words='--set --limits --first --days --season --flight --day --csv --json --open -v --verbose --quiet -h --help'
         files='--set --limits --season'
         values='--first --days --flight --day'
         place='files'
         ;;
     pickup)
-        words='--set --limits --first --days --season --behind --since --flight --by --csv --json --open -v --verbose -h --help'
+        words='--set --limits --first --days --season --behind --since --flight --by --csv --json --open -v --verbose --quiet -h --help'
         files='--set --limits --season --since'
         values='--first --days --behind --flight --by'
         place='files'
         ;;
     history)
-        words='--set --limits --first --days --season --locator --flight --day --csv --json --open -v --verbose -h --help'
+        words='--set --limits --first --days --season --locator --flight --day --csv --json --open -v --verbose --quiet -h --help'
         files='--set --limits --season'
         values='--first --days --locator --flight --day'
         place='files'
         ;;
+    avs)
+        words='--set --limits --first --days --season --since --numeric --partner --flight --day --open -v --verbose --quiet -h --help'
+        files='--set --limits --season --since --partner'
+        values='--first --days --flight --day'
+        place='files'
+        ;;
+    reconcile)
+        words='--set --limits --first --days --season --session --all --open -v --verbose --quiet -h --help'
+        files='--set --limits --season'
+        values='--first --days --session'
+        place='files'
+        ;;
+    compare)
+        words='--from --to -v --verbose --quiet -h --help'
+        files='--from --to'
+        values=''
+        place='files'
+        ;;
     audit)
-        words='--set --limits --first --days --season --after --behind --today --sealed --open --shards -v --verbose -h --help'
+        words='--set --limits --first --days --season --after --behind --today --sealed --open --shards -v --verbose --quiet -h --help'
         files='--set --limits --season --after'
         values='--first --days --behind --today'
         place='files'
         ;;
     seal)
-        words='--set --limits --first --days --season -v --verbose -h --help'
+        words='--set --limits --first --days --season -v --verbose --quiet -h --help'
         files='--set --limits --season'
         values='--first --days'
         place='files'
         ;;
     recover)
-        words='--set --limits --first --days --season --cut -v --verbose -h --help'
+        words='--set --limits --first --days --season --cut -v --verbose --quiet -h --help'
         files='--set --limits --season'
         values='--first --days'
         place='files'
         ;;
     replies)
-        words='--set --limits --first --days --season --after --behind --today --session --from -v --verbose -h --help'
+        words='--set --limits --first --days --season --after --behind --today --session --from --csv --json -v --verbose --quiet -h --help'
         files='--set --limits --season --after'
         values='--first --days --behind --today --session --from'
         place='files'
         ;;
     told)
-        words='--set --limits --first --days --season --desk --from --open -v --verbose -h --help'
+        words='--set --limits --first --days --season --desk --from --open -v --verbose --quiet -h --help'
         files='--set --limits --season'
         values='--first --days --desk --from'
         place='files'
         ;;
     why)
-        words='--set --limits --first --days --season --line --open -v --verbose -h --help'
+        words='--set --limits --first --days --season --line --open -v --verbose --quiet -h --help'
         files='--set --limits --season'
         values='--first --days --line'
         place='files'
         ;;
     explain)
-        words='A1 A2 A3 A4 A5 A6 A7 A8 A9 B1 C1 DEVICE E1 E2 F1 F2 F3 F4 F5 F6 F7 F8 F9 FEED H1 H2 H3 H4 H5 H6 J1 J2 J3 J4 L1 L2 L3 L4 M1 M2 M3 M4 M5 M6 M7 MEMORY P1 P2 P3 P4 P5 P6 P7 P8 P9 Q1 Q2 Q3 R2 S1 S2 S3 S4 S5 S6 S7 S8 S9 S10 S11 S12 S13 S14 S15 SEAL SEASON U1 -v --verbose -h --help'
+        words='A1 A2 A3 A4 A5 A6 A7 A8 A9 B1 C1 DEVICE E1 E2 F1 F2 F3 F4 F5 F6 F7 F8 F9 FEED H1 H2 H3 H4 H5 H6 J1 J2 J3 J4 L1 L2 L3 L4 M1 M2 M3 M4 M5 M6 M7 MEMORY P1 P2 P3 P4 P5 P6 P7 P8 P9 Q1 Q2 Q3 R2 S1 S2 S3 S4 S5 S6 S7 S8 S9 S10 S11 S12 S13 S14 S15 SEAL SEASON U1 -v --verbose --quiet -h --help'
         [ "$before" != E2 ] || words='behind by day days desk first flight form html journal line locator pair script session shards status today words'
         [ "$before" != SEAL ] || words='again behind days first form journal limits none runs set'
         [ "$before" != SEASON ] || words='form key missing value'
@@ -146,13 +164,13 @@ _seatdesk() {
         place=''
         ;;
     season)
-        words='-v --verbose -h --help'
+        words='-v --verbose --quiet -h --help'
         files=''
         values=''
         place='files'
         ;;
     help)
-        words='ladder check flights cover rooms loads run serve bookings waiting pickup history audit seal recover replies told why explain season'
+        words='ladder check flights cover rooms loads run serve bookings waiting pickup history avs reconcile compare audit seal recover replies told why explain season'
         files=''
         values=''
         place=''

@@ -2,6 +2,7 @@
 
 complete -c seatdesk -f
 complete -c seatdesk -n __fish_use_subcommand -s v -l verbose -d 'Names the file of a fault, and where in it the fault stands, or the system\'s reason'
+complete -c seatdesk -n __fish_use_subcommand -l quiet -d 'Never says on a terminal how far a long command is'
 complete -c seatdesk -n __fish_use_subcommand -s h -l help -d 'Print help'
 complete -c seatdesk -n __fish_use_subcommand -s V -l version -d 'Print version'
 complete -c seatdesk -n __fish_use_subcommand -a ladder -d 'Sells the seats of one leg: its limits and requests from standard input'
@@ -16,6 +17,9 @@ complete -c seatdesk -n __fish_use_subcommand -a bookings -d 'Writes live bookin
 complete -c seatdesk -n __fish_use_subcommand -a waiting -d 'Writes who waits, in the order in which they would be confirmed, and the seats that they lack'
 complete -c seatdesk -n __fish_use_subcommand -a pickup -d 'Writes what was held, sold, cancelled and confirmed behind a line of a journal, by flight and class'
 complete -c seatdesk -n __fish_use_subcommand -a history -d 'Writes what the lines of a journal did for a locator or on a flight, each with its reply'
+complete -c seatdesk -n __fish_use_subcommand -a avs -d 'Writes what partners are to show as available: the status of each segment and class'
+complete -c seatdesk -n __fish_use_subcommand -a reconcile -d 'Writes where the list of a partner or a desk differs from the bookings of a journal'
+complete -c seatdesk -n __fish_use_subcommand -a compare -d 'Writes what another season changes: flights added and gone, and other legs and limits'
 complete -c seatdesk -n __fish_use_subcommand -a audit -d 'Replays a journal against its schedule and limits, and writes one summary line'
 complete -c seatdesk -n __fish_use_subcommand -a seal -d 'Writes the seal of a journal that audit accepts, which says what the journal belongs to'
 complete -c seatdesk -n __fish_use_subcommand -a recover -d 'Cuts a journal that was left open back to its right lines, writes its END line, and says so'
@@ -27,9 +31,11 @@ complete -c seatdesk -n __fish_use_subcommand -a season -d 'Writes a season file
 complete -c seatdesk -n __fish_use_subcommand -a help -d 'Print this message or the help of the given subcommand(s)'
 
 complete -c seatdesk -n '__fish_seen_subcommand_from ladder' -s v -l verbose -d 'Names the file of a fault, and where in it the fault stands, or the system\'s reason'
+complete -c seatdesk -n '__fish_seen_subcommand_from ladder' -l quiet -d 'Never says on a terminal how far a long command is'
 complete -c seatdesk -n '__fish_seen_subcommand_from ladder' -s h -l help -d 'Print help'
 
 complete -c seatdesk -n '__fish_seen_subcommand_from check' -s v -l verbose -d 'Names the file of a fault, and where in it the fault stands, or the system\'s reason'
+complete -c seatdesk -n '__fish_seen_subcommand_from check' -l quiet -d 'Never says on a terminal how far a long command is'
 complete -c seatdesk -n '__fish_seen_subcommand_from check' -s h -l help -d 'Print help'
 complete -c seatdesk -n '__fish_seen_subcommand_from check' -F
 
@@ -38,6 +44,7 @@ complete -c seatdesk -n '__fish_seen_subcommand_from flights' -l days -x -d 'How
 complete -c seatdesk -n '__fish_seen_subcommand_from flights' -l csv -d 'Writes the rows as CSV, below a line of the columns\' names'
 complete -c seatdesk -n '__fish_seen_subcommand_from flights' -l json -d 'Writes the rows as JSON, an object a line'
 complete -c seatdesk -n '__fish_seen_subcommand_from flights' -s v -l verbose -d 'Names the file of a fault, and where in it the fault stands, or the system\'s reason'
+complete -c seatdesk -n '__fish_seen_subcommand_from flights' -l quiet -d 'Never says on a terminal how far a long command is'
 complete -c seatdesk -n '__fish_seen_subcommand_from flights' -s h -l help -d 'Print help'
 complete -c seatdesk -n '__fish_seen_subcommand_from flights' -F
 
@@ -46,7 +53,10 @@ complete -c seatdesk -n '__fish_seen_subcommand_from cover' -l limits -r -F -d '
 complete -c seatdesk -n '__fish_seen_subcommand_from cover' -l first -x -d 'The first day of departure, as 2024-06-01, from 2000 to 2099'
 complete -c seatdesk -n '__fish_seen_subcommand_from cover' -l days -x -d 'How many days from the first on, 1 to 366'
 complete -c seatdesk -n '__fish_seen_subcommand_from cover' -l season -r -F -d 'A season file in place of --set, --limits, --first and --days; it may name the journal and the desks too'
+complete -c seatdesk -n '__fish_seen_subcommand_from cover' -l csv -d 'Writes the rows as CSV, below a line of the columns\' names'
+complete -c seatdesk -n '__fish_seen_subcommand_from cover' -l json -d 'Writes the rows as JSON, an object a line'
 complete -c seatdesk -n '__fish_seen_subcommand_from cover' -s v -l verbose -d 'Names the file of a fault, and where in it the fault stands, or the system\'s reason'
+complete -c seatdesk -n '__fish_seen_subcommand_from cover' -l quiet -d 'Never says on a terminal how far a long command is'
 complete -c seatdesk -n '__fish_seen_subcommand_from cover' -s h -l help -d 'Print help'
 
 complete -c seatdesk -n '__fish_seen_subcommand_from rooms' -l set -r -F -d 'The data set of the schedule (SSIM chapter 7, a file)'
@@ -61,6 +71,7 @@ complete -c seatdesk -n '__fish_seen_subcommand_from rooms' -l csv -d 'Writes th
 complete -c seatdesk -n '__fish_seen_subcommand_from rooms' -l json -d 'Writes the rows as JSON, an object a line'
 complete -c seatdesk -n '__fish_seen_subcommand_from rooms' -l open -d 'Takes a JOURNAL that is still open: its whole lines count, and it needs no END line'
 complete -c seatdesk -n '__fish_seen_subcommand_from rooms' -s v -l verbose -d 'Names the file of a fault, and where in it the fault stands, or the system\'s reason'
+complete -c seatdesk -n '__fish_seen_subcommand_from rooms' -l quiet -d 'Never says on a terminal how far a long command is'
 complete -c seatdesk -n '__fish_seen_subcommand_from rooms' -s h -l help -d 'Print help'
 complete -c seatdesk -n '__fish_seen_subcommand_from rooms' -F
 
@@ -79,6 +90,7 @@ complete -c seatdesk -n '__fish_seen_subcommand_from loads' -l json -d 'Writes t
 complete -c seatdesk -n '__fish_seen_subcommand_from loads' -l html -d 'Writes one page of HTML, which needs nothing else: flights down, days across, a section for each class'
 complete -c seatdesk -n '__fish_seen_subcommand_from loads' -l open -d 'Takes a JOURNAL that is still open: its whole lines count, and it needs no END line'
 complete -c seatdesk -n '__fish_seen_subcommand_from loads' -s v -l verbose -d 'Names the file of a fault, and where in it the fault stands, or the system\'s reason'
+complete -c seatdesk -n '__fish_seen_subcommand_from loads' -l quiet -d 'Never says on a terminal how far a long command is'
 complete -c seatdesk -n '__fish_seen_subcommand_from loads' -s h -l help -d 'Print help'
 complete -c seatdesk -n '__fish_seen_subcommand_from loads' -F
 
@@ -96,6 +108,7 @@ complete -c seatdesk -n '__fish_seen_subcommand_from run' -l changes -r -F -d 'C
 complete -c seatdesk -n '__fish_seen_subcommand_from run' -l no-clobber -d 'Refuses an OUT that is there and is not empty'
 complete -c seatdesk -n '__fish_seen_subcommand_from run' -l again -d 'Books scripts once more that a run of the journal has booked, as its seal says'
 complete -c seatdesk -n '__fish_seen_subcommand_from run' -s v -l verbose -d 'Names the file of a fault, and where in it the fault stands, or the system\'s reason'
+complete -c seatdesk -n '__fish_seen_subcommand_from run' -l quiet -d 'Never says on a terminal how far a long command is'
 complete -c seatdesk -n '__fish_seen_subcommand_from run' -s h -l help -d 'Print help'
 complete -c seatdesk -n '__fish_seen_subcommand_from run' -F
 
@@ -108,11 +121,12 @@ complete -c seatdesk -n '__fish_seen_subcommand_from serve' -l today -x -d 'The 
 complete -c seatdesk -n '__fish_seen_subcommand_from serve' -l journal -r -F -d 'The journal to go on from (a file, which is locked); it is made where it is not there'
 complete -c seatdesk -n '__fish_seen_subcommand_from serve' -l desk -x -d 'Where a desk is: N=IN:OUT, its session and its two pipes, up to eight times, or - alone, for standard input and standard output as session 1'
 complete -c seatdesk -n '__fish_seen_subcommand_from serve' -l manager -x -d 'The two pipes of the manager, as IN:OUT, whom desks on pipes need'
-complete -c seatdesk -n '__fish_seen_subcommand_from serve' -l status -r -F -d 'The file that says how the host of desks on pipes is doing: lines, groups, desks, seats sold. It is rewritten whole'
+complete -c seatdesk -n '__fish_seen_subcommand_from serve' -l status -r -F -d 'The file that says how a host of desks on pipes, or of a feed, is doing: lines, groups, desks, seats sold. It is rewritten whole'
 complete -c seatdesk -n '__fish_seen_subcommand_from serve' -l every -x -d 'How often that is said, 1 to 3600 seconds; 60 where nothing is said'
 complete -c seatdesk -n '__fish_seen_subcommand_from serve' -l feed -x -d 'Where one stream of lines for all desks comes from, in place of them: -, for standard input; it has its days in it, and what is told of it goes to standard output'
 complete -c seatdesk -n '__fish_seen_subcommand_from serve' -l behind -x -d 'How many lines the journal had where the feed begins, 0 to 999999; 0 where nothing is said'
 complete -c seatdesk -n '__fish_seen_subcommand_from serve' -s v -l verbose -d 'Names the file of a fault, and where in it the fault stands, or the system\'s reason'
+complete -c seatdesk -n '__fish_seen_subcommand_from serve' -l quiet -d 'Never says on a terminal how far a long command is'
 complete -c seatdesk -n '__fish_seen_subcommand_from serve' -s h -l help -d 'Print help'
 
 complete -c seatdesk -n '__fish_seen_subcommand_from bookings' -l set -r -F -d 'The data set of the schedule (SSIM chapter 7, a file)'
@@ -127,6 +141,7 @@ complete -c seatdesk -n '__fish_seen_subcommand_from bookings' -l csv -d 'Writes
 complete -c seatdesk -n '__fish_seen_subcommand_from bookings' -l json -d 'Writes the rows as JSON, an object a line'
 complete -c seatdesk -n '__fish_seen_subcommand_from bookings' -l open -d 'Takes a JOURNAL that is still open: its whole lines count, and it needs no END line'
 complete -c seatdesk -n '__fish_seen_subcommand_from bookings' -s v -l verbose -d 'Names the file of a fault, and where in it the fault stands, or the system\'s reason'
+complete -c seatdesk -n '__fish_seen_subcommand_from bookings' -l quiet -d 'Never says on a terminal how far a long command is'
 complete -c seatdesk -n '__fish_seen_subcommand_from bookings' -s h -l help -d 'Print help'
 complete -c seatdesk -n '__fish_seen_subcommand_from bookings' -F
 
@@ -141,6 +156,7 @@ complete -c seatdesk -n '__fish_seen_subcommand_from waiting' -l csv -d 'Writes 
 complete -c seatdesk -n '__fish_seen_subcommand_from waiting' -l json -d 'Writes the rows as JSON, an object a line'
 complete -c seatdesk -n '__fish_seen_subcommand_from waiting' -l open -d 'Takes a JOURNAL that is still open: its whole lines count, and it needs no END line'
 complete -c seatdesk -n '__fish_seen_subcommand_from waiting' -s v -l verbose -d 'Names the file of a fault, and where in it the fault stands, or the system\'s reason'
+complete -c seatdesk -n '__fish_seen_subcommand_from waiting' -l quiet -d 'Never says on a terminal how far a long command is'
 complete -c seatdesk -n '__fish_seen_subcommand_from waiting' -s h -l help -d 'Print help'
 complete -c seatdesk -n '__fish_seen_subcommand_from waiting' -F
 
@@ -152,11 +168,12 @@ complete -c seatdesk -n '__fish_seen_subcommand_from pickup' -l season -r -F -d 
 complete -c seatdesk -n '__fish_seen_subcommand_from pickup' -l behind -x -d 'How many lines an older JOURNAL had, 0 to 999999; what stands behind them is picked up'
 complete -c seatdesk -n '__fish_seen_subcommand_from pickup' -l since -r -F -d 'An older JOURNAL in place of --behind (a file): what stands behind its lines is picked up'
 complete -c seatdesk -n '__fish_seen_subcommand_from pickup' -l flight -x -d 'The flights of this name alone, on all their days, as LZ601'
-complete -c seatdesk -n '__fish_seen_subcommand_from pickup' -l by -x -d 'What the rows are summed by: flight, day or class'
+complete -c seatdesk -n '__fish_seen_subcommand_from pickup' -l by -x -d 'What the rows are summed by: leg, flight, day or class'
 complete -c seatdesk -n '__fish_seen_subcommand_from pickup' -l csv -d 'Writes the rows as CSV, below a line of the columns\' names'
 complete -c seatdesk -n '__fish_seen_subcommand_from pickup' -l json -d 'Writes the rows as JSON, an object a line'
 complete -c seatdesk -n '__fish_seen_subcommand_from pickup' -l open -d 'Takes a JOURNAL that is still open: its whole lines count, and it needs no END line'
 complete -c seatdesk -n '__fish_seen_subcommand_from pickup' -s v -l verbose -d 'Names the file of a fault, and where in it the fault stands, or the system\'s reason'
+complete -c seatdesk -n '__fish_seen_subcommand_from pickup' -l quiet -d 'Never says on a terminal how far a long command is'
 complete -c seatdesk -n '__fish_seen_subcommand_from pickup' -s h -l help -d 'Print help'
 complete -c seatdesk -n '__fish_seen_subcommand_from pickup' -F
 
@@ -172,8 +189,45 @@ complete -c seatdesk -n '__fish_seen_subcommand_from history' -l csv -d 'Writes 
 complete -c seatdesk -n '__fish_seen_subcommand_from history' -l json -d 'Writes the rows as JSON, an object a line'
 complete -c seatdesk -n '__fish_seen_subcommand_from history' -l open -d 'Takes a JOURNAL that is still open: its whole lines count, and it needs no END line'
 complete -c seatdesk -n '__fish_seen_subcommand_from history' -s v -l verbose -d 'Names the file of a fault, and where in it the fault stands, or the system\'s reason'
+complete -c seatdesk -n '__fish_seen_subcommand_from history' -l quiet -d 'Never says on a terminal how far a long command is'
 complete -c seatdesk -n '__fish_seen_subcommand_from history' -s h -l help -d 'Print help'
 complete -c seatdesk -n '__fish_seen_subcommand_from history' -F
+
+complete -c seatdesk -n '__fish_seen_subcommand_from avs' -l set -r -F -d 'The data set of the schedule (SSIM chapter 7, a file)'
+complete -c seatdesk -n '__fish_seen_subcommand_from avs' -l limits -r -F -d 'The booking limits of the legs, in seats from 0 to 999 (a file)'
+complete -c seatdesk -n '__fish_seen_subcommand_from avs' -l first -x -d 'The first day of departure, as 2024-06-01, from 2000 to 2099'
+complete -c seatdesk -n '__fish_seen_subcommand_from avs' -l days -x -d 'How many days from the first on, 1 to 366'
+complete -c seatdesk -n '__fish_seen_subcommand_from avs' -l season -r -F -d 'A season file in place of --set, --limits, --first and --days; it may name the journal and the desks too'
+complete -c seatdesk -n '__fish_seen_subcommand_from avs' -l since -r -F -d 'An older JOURNAL (a file): only what changed behind its lines is written'
+complete -c seatdesk -n '__fish_seen_subcommand_from avs' -l numeric -d 'Writes the seats of a class that is open, up to 9'
+complete -c seatdesk -n '__fish_seen_subcommand_from avs' -l partner -r -F -d 'The thresholds of a partner (a file), each a class and its seats, as Q 4: where no more are left, the class is closed to it'
+complete -c seatdesk -n '__fish_seen_subcommand_from avs' -l flight -x -d 'The flights of this name alone, on all their days, as LZ601'
+complete -c seatdesk -n '__fish_seen_subcommand_from avs' -l day -x -d 'The segments that depart on this day alone, as 2024-06-01'
+complete -c seatdesk -n '__fish_seen_subcommand_from avs' -l open -d 'Takes a JOURNAL that is still open: its whole lines count, and it needs no END line'
+complete -c seatdesk -n '__fish_seen_subcommand_from avs' -s v -l verbose -d 'Names the file of a fault, and where in it the fault stands, or the system\'s reason'
+complete -c seatdesk -n '__fish_seen_subcommand_from avs' -l quiet -d 'Never says on a terminal how far a long command is'
+complete -c seatdesk -n '__fish_seen_subcommand_from avs' -s h -l help -d 'Print help'
+complete -c seatdesk -n '__fish_seen_subcommand_from avs' -F
+
+complete -c seatdesk -n '__fish_seen_subcommand_from reconcile' -l set -r -F -d 'The data set of the schedule (SSIM chapter 7, a file)'
+complete -c seatdesk -n '__fish_seen_subcommand_from reconcile' -l limits -r -F -d 'The booking limits of the legs, in seats from 0 to 999 (a file)'
+complete -c seatdesk -n '__fish_seen_subcommand_from reconcile' -l first -x -d 'The first day of departure, as 2024-06-01, from 2000 to 2099'
+complete -c seatdesk -n '__fish_seen_subcommand_from reconcile' -l days -x -d 'How many days from the first on, 1 to 366'
+complete -c seatdesk -n '__fish_seen_subcommand_from reconcile' -l season -r -F -d 'A season file in place of --set, --limits, --first and --days; it may name the journal and the desks too'
+complete -c seatdesk -n '__fish_seen_subcommand_from reconcile' -l session -x -d 'The session whose bookings THEIRS is to have, 1 to 8'
+complete -c seatdesk -n '__fish_seen_subcommand_from reconcile' -l all -d 'THEIRS is to have all live bookings'
+complete -c seatdesk -n '__fish_seen_subcommand_from reconcile' -l open -d 'Takes a JOURNAL that is still open: its whole lines count, and it needs no END line'
+complete -c seatdesk -n '__fish_seen_subcommand_from reconcile' -s v -l verbose -d 'Names the file of a fault, and where in it the fault stands, or the system\'s reason'
+complete -c seatdesk -n '__fish_seen_subcommand_from reconcile' -l quiet -d 'Never says on a terminal how far a long command is'
+complete -c seatdesk -n '__fish_seen_subcommand_from reconcile' -s h -l help -d 'Print help'
+complete -c seatdesk -n '__fish_seen_subcommand_from reconcile' -F
+
+complete -c seatdesk -n '__fish_seen_subcommand_from compare' -l from -r -F -d 'The season that holds (a season file)'
+complete -c seatdesk -n '__fish_seen_subcommand_from compare' -l to -r -F -d 'The season that is to come in its place (a season file)'
+complete -c seatdesk -n '__fish_seen_subcommand_from compare' -s v -l verbose -d 'Names the file of a fault, and where in it the fault stands, or the system\'s reason'
+complete -c seatdesk -n '__fish_seen_subcommand_from compare' -l quiet -d 'Never says on a terminal how far a long command is'
+complete -c seatdesk -n '__fish_seen_subcommand_from compare' -s h -l help -d 'Print help'
+complete -c seatdesk -n '__fish_seen_subcommand_from compare' -F
 
 complete -c seatdesk -n '__fish_seen_subcommand_from audit' -l set -r -F -d 'The data set of the schedule (SSIM chapter 7, a file)'
 complete -c seatdesk -n '__fish_seen_subcommand_from audit' -l limits -r -F -d 'The booking limits of the legs, in seats from 0 to 999 (a file)'
@@ -187,6 +241,7 @@ complete -c seatdesk -n '__fish_seen_subcommand_from audit' -l sealed -d 'Refuse
 complete -c seatdesk -n '__fish_seen_subcommand_from audit' -l open -d 'Takes a JOURNAL that is still open: its whole lines count, and it needs no END line; for a JOURNAL alone, without scripts'
 complete -c seatdesk -n '__fish_seen_subcommand_from audit' -l shards -d 'Takes JOURNAL and the words behind it as journals of hosts that have different flights over this set, and sums them up'
 complete -c seatdesk -n '__fish_seen_subcommand_from audit' -s v -l verbose -d 'Names the file of a fault, and where in it the fault stands, or the system\'s reason'
+complete -c seatdesk -n '__fish_seen_subcommand_from audit' -l quiet -d 'Never says on a terminal how far a long command is'
 complete -c seatdesk -n '__fish_seen_subcommand_from audit' -s h -l help -d 'Print help'
 complete -c seatdesk -n '__fish_seen_subcommand_from audit' -F
 
@@ -196,6 +251,7 @@ complete -c seatdesk -n '__fish_seen_subcommand_from seal' -l first -x -d 'The f
 complete -c seatdesk -n '__fish_seen_subcommand_from seal' -l days -x -d 'How many days from the first on, 1 to 366'
 complete -c seatdesk -n '__fish_seen_subcommand_from seal' -l season -r -F -d 'A season file in place of --set, --limits, --first and --days; it may name the journal and the desks too'
 complete -c seatdesk -n '__fish_seen_subcommand_from seal' -s v -l verbose -d 'Names the file of a fault, and where in it the fault stands, or the system\'s reason'
+complete -c seatdesk -n '__fish_seen_subcommand_from seal' -l quiet -d 'Never says on a terminal how far a long command is'
 complete -c seatdesk -n '__fish_seen_subcommand_from seal' -s h -l help -d 'Print help'
 complete -c seatdesk -n '__fish_seen_subcommand_from seal' -F
 
@@ -206,6 +262,7 @@ complete -c seatdesk -n '__fish_seen_subcommand_from recover' -l days -x -d 'How
 complete -c seatdesk -n '__fish_seen_subcommand_from recover' -l season -r -F -d 'A season file in place of --set, --limits, --first and --days; it may name the journal and the desks too'
 complete -c seatdesk -n '__fish_seen_subcommand_from recover' -l cut -d 'Cuts damage too: a whole line that is not right, and what stands behind it'
 complete -c seatdesk -n '__fish_seen_subcommand_from recover' -s v -l verbose -d 'Names the file of a fault, and where in it the fault stands, or the system\'s reason'
+complete -c seatdesk -n '__fish_seen_subcommand_from recover' -l quiet -d 'Never says on a terminal how far a long command is'
 complete -c seatdesk -n '__fish_seen_subcommand_from recover' -s h -l help -d 'Print help'
 complete -c seatdesk -n '__fish_seen_subcommand_from recover' -F
 
@@ -219,7 +276,10 @@ complete -c seatdesk -n '__fish_seen_subcommand_from replies' -l behind -x -d 'H
 complete -c seatdesk -n '__fish_seen_subcommand_from replies' -l today -x -d 'The day of the run, as 2024-06-01, from 2000 to 2099; it gives the requests their year'
 complete -c seatdesk -n '__fish_seen_subcommand_from replies' -l session -x -d 'The replies to this session alone, 1 to 8, or 0 for the manager'
 complete -c seatdesk -n '__fish_seen_subcommand_from replies' -l from -x -d 'The replies to the lines of JOURNAL from this number on'
+complete -c seatdesk -n '__fish_seen_subcommand_from replies' -l csv -d 'Writes the rows as CSV, below a line of the columns\' names'
+complete -c seatdesk -n '__fish_seen_subcommand_from replies' -l json -d 'Writes the rows as JSON, an object a line'
 complete -c seatdesk -n '__fish_seen_subcommand_from replies' -s v -l verbose -d 'Names the file of a fault, and where in it the fault stands, or the system\'s reason'
+complete -c seatdesk -n '__fish_seen_subcommand_from replies' -l quiet -d 'Never says on a terminal how far a long command is'
 complete -c seatdesk -n '__fish_seen_subcommand_from replies' -s h -l help -d 'Print help'
 complete -c seatdesk -n '__fish_seen_subcommand_from replies' -F
 
@@ -232,6 +292,7 @@ complete -c seatdesk -n '__fish_seen_subcommand_from told' -l desk -x -d 'The de
 complete -c seatdesk -n '__fish_seen_subcommand_from told' -l from -x -d 'What the desk is told of the lines of JOURNAL from this number on'
 complete -c seatdesk -n '__fish_seen_subcommand_from told' -l open -d 'Takes a JOURNAL that is still open: its whole lines count, and it needs no END line'
 complete -c seatdesk -n '__fish_seen_subcommand_from told' -s v -l verbose -d 'Names the file of a fault, and where in it the fault stands, or the system\'s reason'
+complete -c seatdesk -n '__fish_seen_subcommand_from told' -l quiet -d 'Never says on a terminal how far a long command is'
 complete -c seatdesk -n '__fish_seen_subcommand_from told' -s h -l help -d 'Print help'
 complete -c seatdesk -n '__fish_seen_subcommand_from told' -F
 
@@ -243,15 +304,18 @@ complete -c seatdesk -n '__fish_seen_subcommand_from why' -l season -r -F -d 'A 
 complete -c seatdesk -n '__fish_seen_subcommand_from why' -l line -x -d 'The line of the journal, counted from 1'
 complete -c seatdesk -n '__fish_seen_subcommand_from why' -l open -d 'Takes a JOURNAL that is still open: its whole lines count, and it needs no END line'
 complete -c seatdesk -n '__fish_seen_subcommand_from why' -s v -l verbose -d 'Names the file of a fault, and where in it the fault stands, or the system\'s reason'
+complete -c seatdesk -n '__fish_seen_subcommand_from why' -l quiet -d 'Never says on a terminal how far a long command is'
 complete -c seatdesk -n '__fish_seen_subcommand_from why' -s h -l help -d 'Print help'
 complete -c seatdesk -n '__fish_seen_subcommand_from why' -F
 
 complete -c seatdesk -n '__fish_seen_subcommand_from explain' -s v -l verbose -d 'Names the file of a fault, and where in it the fault stands, or the system\'s reason'
+complete -c seatdesk -n '__fish_seen_subcommand_from explain' -l quiet -d 'Never says on a terminal how far a long command is'
 complete -c seatdesk -n '__fish_seen_subcommand_from explain' -s h -l help -d 'Print help'
 complete -c seatdesk -n '__fish_seen_subcommand_from explain' -a 'A1 A2 A3 A4 A5 A6 A7 A8 A9 B1 C1 DEVICE E1 E2 F1 F2 F3 F4 F5 F6 F7 F8 F9 FEED H1 H2 H3 H4 H5 H6 J1 J2 J3 J4 L1 L2 L3 L4 M1 M2 M3 M4 M5 M6 M7 MEMORY P1 P2 P3 P4 P5 P6 P7 P8 P9 Q1 Q2 Q3 R2 S1 S2 S3 S4 S5 S6 S7 S8 S9 S10 S11 S12 S13 S14 S15 SEAL SEASON U1'
 
 complete -c seatdesk -n '__fish_seen_subcommand_from season' -s v -l verbose -d 'Names the file of a fault, and where in it the fault stands, or the system\'s reason'
+complete -c seatdesk -n '__fish_seen_subcommand_from season' -l quiet -d 'Never says on a terminal how far a long command is'
 complete -c seatdesk -n '__fish_seen_subcommand_from season' -s h -l help -d 'Print help'
 complete -c seatdesk -n '__fish_seen_subcommand_from season' -F
 
-complete -c seatdesk -n '__fish_seen_subcommand_from help' -a 'ladder check flights cover rooms loads run serve bookings waiting pickup history audit seal recover replies told why explain season'
+complete -c seatdesk -n '__fish_seen_subcommand_from help' -a 'ladder check flights cover rooms loads run serve bookings waiting pickup history avs reconcile compare audit seal recover replies told why explain season'

@@ -4,12 +4,14 @@
 #![tactic(auto)]
 
 mod horizon;
+mod metering;
 mod noting;
 mod replaced;
 mod seals;
 mod sessions;
 
 pub use horizon::{day_of_run, days_of, inputs_of};
+pub use metering::{meter_of, metered, metered_each, metered_inputs};
 pub use noting::{
     last_entry, may_have_lines, tell_copies, tell_found_unsealed, tell_kept, tell_unsealed,
 };

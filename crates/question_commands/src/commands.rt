@@ -4,24 +4,20 @@ ghost use Rattle.std.specs.Prelude.{◌≡◌, ◌≤◌, IfOk};
 ghost use Rattle.ssim_flights.specs.Right.{IsOfCentury};
 
 use crate::locale::is_utf_8;
-use airline_base::{Day, Locator};
-use command_inputs::{days_of, inputs_of, tell_replaced};
+use airline_base::Day;
+use command_inputs::{days_of, inputs_of, metered, metered_inputs, tell_replaced};
 use desk_questions::ToldOf;
+use progress_meter::{Clearing, Lines, Meter};
 use season_reports::desk_season;
 use seat_desk::{DeskFault, Inputs, NO_LINES, Question, answer_question};
 use seat_files::{
     Input, Output, Refusal, SealFile, SealOut, files_taken, is_moved, opened, standard_input,
     standard_output, taken, taken_or, told,
 };
-use seat_lists::Designator;
 use seat_open::{OpenAudit, OpenQuestion};
-use seat_questions::{Bars, CityPair, Cover, Why};
+use seat_questions::{Bars, Why};
 use seat_reports::{desk_audit, desk_check, desk_ladder, desk_seal};
-use seat_words::{
-    Horizon, ToldJob, WordFault, date_word, flight_word, line_word, locator_word, pair_word,
-    session_word,
-};
-use std::alloc::Global;
+use seat_words::{Horizon, ToldJob, WordFault, line_word, session_word};
 use std::thread::Threads;
 
 pub fn ladder<'a>(rt: &HostRuntime) -> Result<(), Refusal<'a>> {
@@ -31,11 +27,22 @@ pub fn ladder<'a>(rt: &HostRuntime) -> Result<(), Refusal<'a>> {
     told(outcome, &[&input], &[&out])
 }
 
-pub fn check<'a>(rt: &HostRuntime, set: &'a str) -> Result<(), Refusal<'a>> {
+pub fn check<'a>(rt: &HostRuntime, meter: &Meter, set: &'a str) -> Result<(), Refusal<'a>> {
     let mut set = taken(rt, set)?;
     let mut out = standard_output(rt);
-    let outcome = desk_check(rt.alloc(), &mut set, &mut out);
+    let outcome = checked(rt, meter, &mut set, &mut out);
     told(outcome, &[&set], &[&out])
+}
+
+fn checked(
+    rt: &HostRuntime,
+    meter: &Meter,
+    set: &mut Input<'_>,
+    out: &mut Output<'_>,
+) -> Result<(), DeskFault> {
+    let mut read = metered(rt, meter, set, Lines::Uncounted);
+    let mut shown = Clearing::new(out, rt, meter);
+    desk_check(rt.alloc(), &mut read, &mut shown)
 }
 
 /// A season file of a set and its limits, of which the set is read.
@@ -46,19 +53,11 @@ pub fn season<'a>(rt: &HostRuntime, set: &'a str, limits: &str) -> Result<(), Re
     told(outcome, &[&input], &[&out])
 }
 
-pub fn cover<'a, R: Threads + Sync>(
-    rt: &HostRuntime,
-    threads: &R,
-    over: &Horizon<'a>,
-) -> Result<(), Refusal<'a>> {
-    let days = days_of(over.first, over.days)?;
-    answered(rt, threads, over, days, &Cover, None, Looked::PLAIN)
-}
-
 /// What a desk is told of a journal, of its first line or a later one on.
 pub fn told_of<'a, R: Threads + Sync>(
     rt: &HostRuntime,
     threads: &R,
+    meter: &Meter,
     asked: &ToldJob<'a>,
 ) -> Result<(), Refusal<'a>> {
     let over = &asked.over;
@@ -71,6 +70,7 @@ pub fn told_of<'a, R: Threads + Sync>(
     asked_of(
         rt,
         threads,
+        meter,
         over,
         days,
         &question,
@@ -82,6 +82,7 @@ pub fn told_of<'a, R: Threads + Sync>(
 pub fn why<'a, R: Threads + Sync>(
     rt: &HostRuntime,
     threads: &R,
+    meter: &Meter,
     over: &Horizon<'a>,
     line: &str,
     is_open: bool,
@@ -94,6 +95,7 @@ pub fn why<'a, R: Threads + Sync>(
     asked_of(
         rt,
         threads,
+        meter,
         over,
         days,
         &Why { line },
@@ -113,18 +115,11 @@ pub struct Looked {
     pub is_page: bool,
 }
 
-impl Looked {
-    const PLAIN: Looked = Looked {
-        is_sealed: false,
-        is_open: false,
-        is_page: false,
-    };
-}
-
 /// The journal alone, without scripts. A long one takes all processors.
 pub fn audit<'a, R: Threads + Sync>(
     rt: &HostRuntime,
     threads: &R,
+    meter: &Meter,
     over: &Horizon<'a>,
     days: (Day, u16),
     journal: &'a str,
@@ -134,9 +129,18 @@ pub fn audit<'a, R: Threads + Sync>(
     requires days { (1 ≤ days.1) × (days.1 ≤ 366) }
 {
     if looked.is_open {
-        return answered(rt, threads, over, days, &OpenAudit, Some(journal), looked);
+        return answered(
+            rt,
+            threads,
+            meter,
+            over,
+            days,
+            &OpenAudit,
+            Some(journal),
+            looked,
+        );
     }
-    let answer = match audited_once(rt, threads, over, &days, journal, looked) {
+    let answer = match audited_once(rt, threads, meter, over, &days, journal, looked) {
         Ok(answer) => answer,
         Err(refusal) => return Err(refusal),
     };
@@ -144,7 +148,7 @@ pub fn audit<'a, R: Threads + Sync>(
     if !is_moved {
         return outcome;
     }
-    match audited_once(rt, threads, over, &days, journal, looked) {
+    match audited_once(rt, threads, meter, over, &days, journal, looked) {
         Ok(answer) => answer.outcome,
         Err(refusal) => Err(refusal),
     }
@@ -153,6 +157,7 @@ pub fn audit<'a, R: Threads + Sync>(
 fn audited_once<'a, R: Threads + Sync>(
     rt: &HostRuntime,
     threads: &R,
+    meter: &Meter,
     over: &Horizon<'a>,
     days: &(Day, u16),
     journal: &'a str,
@@ -174,10 +179,10 @@ fn audited_once<'a, R: Threads + Sync>(
     let outcome = desk_audit(
         threads,
         rt.alloc(),
-        &mut inputs,
-        &mut journal,
+        &mut metered_inputs(rt, meter, &mut inputs),
+        &mut metered(rt, meter, &mut journal, Lines::Ended),
         &seal.as_beside(),
-        &mut out,
+        &mut Clearing::new(&mut out, rt, meter),
     );
     Ok(answer_of(rt, &inputs, &journal, outcome, &out, looked))
 }
@@ -243,6 +248,7 @@ fn answer_of<'a>(
 pub fn seal<'a, R: Threads + Sync>(
     rt: &'a HostRuntime,
     threads: &R,
+    meter: &Meter,
     over: &Horizon<'a>,
     journal: &'a str,
 ) -> Result<(), Refusal<'a>> {
@@ -263,11 +269,12 @@ pub fn seal<'a, R: Threads + Sync>(
     let outcome = desk_seal(
         threads,
         rt.alloc(),
-        &mut inputs,
-        &mut journal,
+        &mut metered_inputs(rt, meter, &mut inputs),
+        &mut metered(rt, meter, &mut journal, Lines::Ended),
         &seal.as_beside(),
         &mut out,
     );
+    meter.end(rt);
     out.leave();
     match told(outcome, &[&inputs.set, &inputs.limits, &journal], &[]) {
         Ok(()) => {
@@ -282,6 +289,7 @@ pub fn seal<'a, R: Threads + Sync>(
 pub fn asked_of<'a, R: Threads + Sync, Q: Question>(
     rt: &HostRuntime,
     threads: &R,
+    meter: &Meter,
     over: &Horizon<'a>,
     days: (Day, u16),
     question: &Q,
@@ -296,13 +304,14 @@ pub fn asked_of<'a, R: Threads + Sync, Q: Question>(
         is_open,
         is_page: false,
     };
-    looked_at(rt, threads, over, days, question, journal, looked)
+    looked_at(rt, threads, meter, over, days, question, journal, looked)
 }
 
 /// The same of a question whose answer is a page, which is refused where it is too long.
 pub fn page_of<'a, R: Threads + Sync, Q: Question>(
     rt: &HostRuntime,
     threads: &R,
+    meter: &Meter,
     over: &Horizon<'a>,
     days: (Day, u16),
     question: &Q,
@@ -317,12 +326,13 @@ pub fn page_of<'a, R: Threads + Sync, Q: Question>(
         is_open,
         is_page: true,
     };
-    looked_at(rt, threads, over, days, question, journal, looked)
+    looked_at(rt, threads, meter, over, days, question, journal, looked)
 }
 
 fn looked_at<'a, R: Threads + Sync, Q: Question>(
     rt: &HostRuntime,
     threads: &R,
+    meter: &Meter,
     over: &Horizon<'a>,
     days: (Day, u16),
     question: &Q,
@@ -336,6 +346,7 @@ fn looked_at<'a, R: Threads + Sync, Q: Question>(
         return answered(
             rt,
             threads,
+            meter,
             over,
             days,
             &OpenQuestion { question },
@@ -343,7 +354,7 @@ fn looked_at<'a, R: Threads + Sync, Q: Question>(
             looked,
         );
     }
-    answered(rt, threads, over, days, question, journal, looked)
+    answered(rt, threads, meter, over, days, question, journal, looked)
 }
 
 /// The answer to a question about a journal, or about one without lines, with what stands beside it. A journal that a run has replaced
@@ -352,6 +363,7 @@ fn looked_at<'a, R: Threads + Sync, Q: Question>(
 fn answered<'a, R: Threads + Sync, Q: Question>(
     rt: &HostRuntime,
     threads: &R,
+    meter: &Meter,
     over: &Horizon<'a>,
     days: (Day, u16),
     question: &Q,
@@ -361,7 +373,7 @@ fn answered<'a, R: Threads + Sync, Q: Question>(
     requires first { IsOfCentury days.0 }
     requires days { (1 ≤ days.1) × (days.1 ≤ 366) }
 {
-    let answer = match answered_once(rt, threads, over, &days, question, journal, looked) {
+    let answer = match answered_once(rt, threads, meter, over, &days, question, journal, looked) {
         Ok(answer) => answer,
         Err(refusal) => return Err(refusal),
     };
@@ -369,7 +381,7 @@ fn answered<'a, R: Threads + Sync, Q: Question>(
     if !is_moved {
         return outcome;
     }
-    match answered_once(rt, threads, over, &days, question, journal, looked) {
+    match answered_once(rt, threads, meter, over, &days, question, journal, looked) {
         Ok(answer) => answer.outcome,
         Err(refusal) => Err(refusal),
     }
@@ -385,6 +397,7 @@ struct Answer<'a> {
 fn answered_once<'a, R: Threads + Sync, Q: Question>(
     rt: &HostRuntime,
     threads: &R,
+    meter: &Meter,
     over: &Horizon<'a>,
     days: &(Day, u16),
     question: &Q,
@@ -408,10 +421,10 @@ fn answered_once<'a, R: Threads + Sync, Q: Question>(
         threads,
         rt.alloc(),
         question,
-        &mut inputs,
-        &mut journal,
+        &mut metered_inputs(rt, meter, &mut inputs),
+        &mut metered(rt, meter, &mut journal, lines_of(looked)),
         &seal.as_beside(),
-        &mut out,
+        &mut Clearing::new(&mut out, rt, meter),
     );
     Ok(answer_of(rt, &inputs, &journal, outcome, &out, looked))
 }
@@ -427,53 +440,6 @@ fn from_asked(from: Option<&str>) -> Result<u32, WordFault> {
     }
 }
 
-pub fn locators_asked<'a>(alloc: Global, words: &[&str]) -> Result<Vec<Locator>, Refusal<'a>> {
-    let mut locators = Vec::new(alloc);
-    for word in words {
-        let Some(locator) = locator_word(word) else {
-            return Err(Refusal::from(WordFault::BadLocator));
-        };
-        if locators.push(locator).is_err() {
-            return Err(Refusal::from(DeskFault::Memory));
-        }
-    }
-    Ok(locators)
-}
-
-pub fn flight_asked(flight: Option<&str>) -> Result<Option<Designator>, WordFault> {
-    match flight {
-        None => Ok(None),
-        Some(word) => match flight_word(word) {
-            Some((airline, number, suffix)) => Ok(Some(Designator {
-                airline,
-                number,
-                suffix,
-            })),
-            None => Err(WordFault::BadFlight),
-        },
-    }
-}
-
-pub fn day_asked(day: Option<&str>) -> Result<Option<Day>, WordFault> {
-    match day {
-        None => Ok(None),
-        Some(word) => match date_word(word) {
-            Some(day) => Ok(Some(day)),
-            None => Err(WordFault::BadDay),
-        },
-    }
-}
-
-pub fn pair_asked(pair: Option<&str>) -> Result<Option<CityPair>, WordFault> {
-    match pair {
-        None => Ok(None),
-        Some(word) => match pair_word(word) {
-            Some((board, off)) => Ok(Some(CityPair { board, off })),
-            None => Err(WordFault::BadPair),
-        },
-    }
-}
-
 /// Bars, where they are asked for: of blocks where the locale is one of UTF-8.
 pub fn bars_asked(rt: &HostRuntime, bars: bool) -> Option<Bars> {
     if !bars {
@@ -483,5 +449,14 @@ pub fn bars_asked(rt: &HostRuntime, bars: bool) -> Option<Bars> {
         Some(Bars::Blocks)
     } else {
         Some(Bars::Plain)
+    }
+}
+
+/// Which lines of a journal are counted: an open one has no END line.
+fn lines_of(looked: Looked) -> Lines {
+    if looked.is_open {
+        Lines::Open
+    } else {
+        Lines::Ended
     }
 }

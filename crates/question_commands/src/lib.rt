@@ -2,13 +2,19 @@
 //! It knows which stream is which and which words name a day, a name or a form, and nothing of what the commands do with them.
 #![tactic(auto)]
 
+mod availing;
 mod commands;
+mod comparing;
 mod listing;
 mod locale;
+mod reconciling;
 mod replaying;
 mod shards;
 
-pub use commands::{check, cover, ladder, seal, season, told_of, why};
-pub use listing::{bookings, flights, history, loads, pickup, rooms, waiting};
+pub use availing::avs;
+pub use commands::{check, ladder, seal, season, told_of, why};
+pub use comparing::compare;
+pub use listing::{bookings, cover, flights, history, loads, pickup, rooms, waiting};
+pub use reconciling::reconcile;
 pub use replaying::{audit, replies};
 pub use shards::audit_shards;

@@ -3,23 +3,29 @@
 ghost use Rattle.std.specs.Prelude.{◌≤◌};
 ghost use Rattle.ssim_flights.specs.Right.{IsOfCentury};
 
-use crate::commands::{
-    asked_of, bars_asked, day_asked, flight_asked, locators_asked, page_of, pair_asked,
-};
-use airline_base::{Day, Locator};
-use command_inputs::{days_of, lines_behind};
+use crate::commands::{asked_of, bars_asked, page_of};
+use airline_base::{Day, Locator, NotedRead, NotedWrite};
+use command_inputs::{days_of, lines_behind, metered};
+use cover_questions::CoverTable;
 use desk_questions::HistoryOf;
 use page_questions::LoadPage;
 use pickup_questions::{By as PickupBy, PickupOf, read_older};
+use progress_meter::{Clearing, Lines, Meter};
+use question_words::{
+    By, LocatorsFault, by_asked, day_asked, flight_asked, form_asked, locators_asked, page_asked,
+    pair_asked, sums_form,
+};
+use seat_desk::DeskFault;
 use seat_files::{Refusal, opened, standard_output, taken, told};
 use seat_lists::{BookingsOf, WaitingOf, Wanted};
 use seat_loads::LoadsOf;
 use seat_pickup::Past;
-use seat_questions::RoomsOf;
+use seat_questions::{Cover, RoomsOf};
 use seat_reports::desk_flights;
 use seat_tables::Form;
 use seat_words::{
-    BookingsJob, HistoryJob, Horizon, LoadsJob, PickupJob, RoomsJob, Shape, WaitingJob, WordFault,
+    BookingsJob, CoverJob, HistoryJob, Horizon, LoadsJob, PickupJob, RoomsJob, Shape, WaitingJob,
+    WordFault,
 };
 use std::alloc::Global;
 use std::thread::Threads;
@@ -32,6 +38,7 @@ use table_reports::desk_flight_table;
 /// The dated flights of a data set.
 pub fn flights<'a>(
     rt: &HostRuntime,
+    meter: &Meter,
     set: &'a str,
     first: &str,
     days: &str,
@@ -41,11 +48,61 @@ pub fn flights<'a>(
     let form = form_asked(shape, false)?;
     let mut set = taken(rt, set)?;
     let mut out = standard_output(rt);
-    let outcome = match form {
-        Some(form) => desk_flight_table(rt.alloc(), form, &mut set, first, days, &mut out),
-        None => desk_flights(rt.alloc(), &mut set, first, days, &mut out),
-    };
+    let outcome = flights_shown(rt, meter, form, &mut set, first, days, &mut out);
     told(outcome, &[&set], &[&out])
+}
+
+fn flights_shown(
+    rt: &HostRuntime,
+    meter: &Meter,
+    form: Option<Form>,
+    set: &mut Input<'_>,
+    first: Day,
+    days: u16,
+    out: &mut Output<'_>,
+) -> Result<(), DeskFault>
+    requires first { IsOfCentury first }
+    requires days { (1 ≤ days) × (days ≤ 366) }
+{
+    let mut read = metered(rt, meter, set, Lines::Uncounted);
+    let mut shown = Clearing::new(out, rt, meter);
+    flights_put(rt, form, &mut read, first, days, &mut shown)
+}
+
+fn flights_put<S: NotedRead, W: NotedWrite>(
+    rt: &HostRuntime,
+    form: Option<Form>,
+    set: &mut S,
+    first: Day,
+    days: u16,
+    out: &mut W,
+) -> Result<(), DeskFault>
+    requires first { IsOfCentury first }
+    requires days { (1 ≤ days) × (days ≤ 366) }
+{
+    match form {
+        Some(form) => desk_flight_table(rt.alloc(), form, set, first, days, out),
+        None => desk_flights(rt.alloc(), set, first, days, out),
+    }
+}
+
+/// The rows that are for no leg or hidden, and the legs without one.
+pub fn cover<'a, R: Threads + Sync>(
+    rt: &HostRuntime,
+    threads: &R,
+    meter: &Meter,
+    asked: &CoverJob<'a>,
+) -> Result<(), Refusal<'a>> {
+    let over = &asked.over;
+    let days = days_of(over.first, over.days)?;
+    let form = form_asked(asked.shape, false)?;
+    match form {
+        Some(form) => {
+            let table = CoverTable { form };
+            asked_of(rt, threads, meter, over, days, &table, None, false)
+        }
+        None => asked_of(rt, threads, meter, over, days, &Cover, None, false),
+    }
 }
 
 /// The rooms of the places that `--day` and `--pair` keep, with bars where they are asked for. Without a journal they are those
@@ -53,6 +110,7 @@ pub fn flights<'a>(
 pub fn rooms<'a, R: Threads + Sync>(
     rt: &HostRuntime,
     threads: &R,
+    meter: &Meter,
     asked: &RoomsJob<'a>,
 ) -> Result<(), Refusal<'a>> {
     let over = &asked.over;
@@ -69,6 +127,7 @@ pub fn rooms<'a, R: Threads + Sync>(
             tabled(
                 rt,
                 threads,
+                meter,
                 over,
                 days,
                 &table,
@@ -80,6 +139,7 @@ pub fn rooms<'a, R: Threads + Sync>(
         None => asked_of(
             rt,
             threads,
+            meter,
             over,
             days,
             &rooms,
@@ -93,6 +153,7 @@ pub fn rooms<'a, R: Threads + Sync>(
 pub fn loads<'a, R: Threads + Sync>(
     rt: &HostRuntime,
     threads: &R,
+    meter: &Meter,
     asked: &LoadsJob<'a>,
 ) -> Result<(), Refusal<'a>> {
     let over = &asked.over;
@@ -106,18 +167,22 @@ pub fn loads<'a, R: Threads + Sync>(
     let (journal, is_open) = (asked.journal, asked.is_open);
     let by = by_asked(asked.by)?;
     if asked.html {
-        form_of_page(asked.shape, asked.bars, by.is_some())?;
+        page_asked(asked.shape, asked.bars, by.is_some())?;
         let page = LoadPage { loads };
-        return page_of(rt, threads, over, days, &page, journal, is_open);
+        return page_of(rt, threads, meter, over, days, &page, journal, is_open);
     }
     match by {
         Some(by) => {
             let form = sums_form(asked.shape, asked.bars)?;
-            summed(rt, threads, over, days, loads, by, form, journal, is_open)
+            summed(
+                rt, threads, meter, over, days, loads, by, form, journal, is_open,
+            )
         }
         None => {
             let form = form_asked(asked.shape, asked.bars)?;
-            loaded(rt, threads, over, days, loads, form, journal, is_open)
+            loaded(
+                rt, threads, meter, over, days, loads, form, journal, is_open,
+            )
         }
     }
 }
@@ -126,6 +191,7 @@ pub fn loads<'a, R: Threads + Sync>(
 fn loaded<'a, R: Threads + Sync>(
     rt: &HostRuntime,
     threads: &R,
+    meter: &Meter,
     over: &Horizon<'a>,
     days: (Day, u16),
     loads: LoadsOf,
@@ -139,26 +205,19 @@ fn loaded<'a, R: Threads + Sync>(
     match form {
         Some(form) => {
             let table = LoadTable { loads };
-            tabled(rt, threads, over, days, &table, form, journal, is_open)
+            tabled(
+                rt, threads, meter, over, days, &table, form, journal, is_open,
+            )
         }
-        None => asked_of(rt, threads, over, days, &loads, journal, is_open),
+        None => asked_of(rt, threads, meter, over, days, &loads, journal, is_open),
     }
-}
-
-/// What loads are summed by.
-#[derive(Clone, Copy)]
-enum By {
-    EachLeg,
-    EachFlight,
-    EachDay,
-    EachPair,
-    EachClass,
 }
 
 /// Their sums.
 fn summed<'a, R: Threads + Sync>(
     rt: &HostRuntime,
     threads: &R,
+    meter: &Meter,
     over: &Horizon<'a>,
     days: (Day, u16),
     loads: LoadsOf,
@@ -173,23 +232,33 @@ fn summed<'a, R: Threads + Sync>(
     match by {
         By::EachLeg => {
             let table = LegSums { loads };
-            tabled(rt, threads, over, days, &table, form, journal, is_open)
+            tabled(
+                rt, threads, meter, over, days, &table, form, journal, is_open,
+            )
         }
         By::EachDay => {
             let table = DaySums { loads };
-            tabled(rt, threads, over, days, &table, form, journal, is_open)
+            tabled(
+                rt, threads, meter, over, days, &table, form, journal, is_open,
+            )
         }
         By::EachFlight => {
             let table = FlightSums { loads };
-            tabled(rt, threads, over, days, &table, form, journal, is_open)
+            tabled(
+                rt, threads, meter, over, days, &table, form, journal, is_open,
+            )
         }
         By::EachPair => {
             let table = PairSums { loads };
-            tabled(rt, threads, over, days, &table, form, journal, is_open)
+            tabled(
+                rt, threads, meter, over, days, &table, form, journal, is_open,
+            )
         }
         By::EachClass => {
             let table = ClassSums { loads };
-            tabled(rt, threads, over, days, &table, form, journal, is_open)
+            tabled(
+                rt, threads, meter, over, days, &table, form, journal, is_open,
+            )
         }
     }
 }
@@ -198,11 +267,12 @@ fn summed<'a, R: Threads + Sync>(
 pub fn bookings<'a, R: Threads + Sync>(
     rt: &HostRuntime,
     threads: &R,
+    meter: &Meter,
     asked: &BookingsJob<'a>,
 ) -> Result<(), Refusal<'a>> {
     let over = &asked.over;
     let days = days_of(over.first, over.days)?;
-    let locators = locators_asked(rt.alloc(), asked.locators.as_slice())?;
+    let locators = locators_of(rt.alloc(), asked.locators.as_slice())?;
     let wanted = Wanted {
         locators: locators.as_slice(),
         flight: flight_asked(asked.flight)?,
@@ -216,6 +286,7 @@ pub fn bookings<'a, R: Threads + Sync>(
             tabled(
                 rt,
                 threads,
+                meter,
                 over,
                 days,
                 &table,
@@ -227,6 +298,7 @@ pub fn bookings<'a, R: Threads + Sync>(
         None => asked_of(
             rt,
             threads,
+            meter,
             over,
             days,
             &BookingsOf { wanted },
@@ -240,6 +312,7 @@ pub fn bookings<'a, R: Threads + Sync>(
 pub fn waiting<'a, R: Threads + Sync>(
     rt: &HostRuntime,
     threads: &R,
+    meter: &Meter,
     asked: &WaitingJob<'a>,
 ) -> Result<(), Refusal<'a>> {
     let over = &asked.over;
@@ -257,6 +330,7 @@ pub fn waiting<'a, R: Threads + Sync>(
             tabled(
                 rt,
                 threads,
+                meter,
                 over,
                 days,
                 &table,
@@ -268,6 +342,7 @@ pub fn waiting<'a, R: Threads + Sync>(
         None => asked_of(
             rt,
             threads,
+            meter,
             over,
             days,
             &WaitingOf { wanted },
@@ -281,6 +356,7 @@ pub fn waiting<'a, R: Threads + Sync>(
 pub fn pickup<'a, R: Threads + Sync>(
     rt: &HostRuntime,
     threads: &R,
+    meter: &Meter,
     asked: &PickupJob<'a>,
 ) -> Result<(), Refusal<'a>> {
     let over = &asked.over;
@@ -296,10 +372,19 @@ pub fn pickup<'a, R: Threads + Sync>(
         form: sums_form(asked.shape, false)?,
     };
     match asked.since {
-        Some(older) => pickup_since(rt, threads, asked, days, &question, older),
+        Some(older) => pickup_since(rt, threads, meter, asked, days, &question, older),
         None => {
             let journal = Some(asked.journal);
-            asked_of(rt, threads, over, days, &question, journal, asked.is_open)
+            asked_of(
+                rt,
+                threads,
+                meter,
+                over,
+                days,
+                &question,
+                journal,
+                asked.is_open,
+            )
         }
     }
 }
@@ -308,6 +393,7 @@ pub fn pickup<'a, R: Threads + Sync>(
 fn pickup_since<'a, R: Threads + Sync>(
     rt: &HostRuntime,
     threads: &R,
+    meter: &Meter,
     asked: &PickupJob<'a>,
     days: (Day, u16),
     question: &PickupOf<'_>,
@@ -317,7 +403,11 @@ fn pickup_since<'a, R: Threads + Sync>(
     requires days { (1 ≤ days.1) × (days.1 ≤ 366) }
 {
     let mut older = opened(rt, older)?;
-    let lines = match read_older(threads, rt.alloc(), &mut older) {
+    let lines = match read_older(
+        threads,
+        rt.alloc(),
+        &mut metered(rt, meter, &mut older, Lines::Ended),
+    ) {
         Ok(lines) => lines,
         Err(fault) => return told(Err(fault), &[&older], &[]),
     };
@@ -331,6 +421,7 @@ fn pickup_since<'a, R: Threads + Sync>(
     asked_of(
         rt,
         threads,
+        meter,
         &asked.over,
         days,
         &question,
@@ -340,12 +431,13 @@ fn pickup_since<'a, R: Threads + Sync>(
 }
 
 fn pickup_by(by: Option<&str>) -> Result<PickupBy, WordFault> {
-    match by {
+    match by_asked(by)? {
         None => Ok(PickupBy::EachRow),
-        Some("flight") => Ok(PickupBy::EachFlight),
-        Some("class") => Ok(PickupBy::EachClass),
-        Some("day") => Ok(PickupBy::EachDay),
-        Some(_) => Err(WordFault::BadBy),
+        Some(By::EachLeg) => Ok(PickupBy::EachLeg),
+        Some(By::EachFlight) => Ok(PickupBy::EachFlight),
+        Some(By::EachDay) => Ok(PickupBy::EachDay),
+        Some(By::EachPair) => Err(WordFault::BadBy),
+        Some(By::EachClass) => Ok(PickupBy::EachClass),
     }
 }
 
@@ -353,11 +445,15 @@ fn pickup_by(by: Option<&str>) -> Result<PickupBy, WordFault> {
 pub fn history<'a, R: Threads + Sync>(
     rt: &HostRuntime,
     threads: &R,
+    meter: &Meter,
     asked: &HistoryJob<'a>,
 ) -> Result<(), Refusal<'a>> {
     let over = &asked.over;
     let days = days_of(over.first, over.days)?;
-    let locators = locator_asked(rt.alloc(), asked.locator)?;
+    let locators = match asked.locator {
+        Some(word) => locators_of(rt.alloc(), &[word])?,
+        None => Vec::new(rt.alloc()),
+    };
     let wanted = Wanted {
         locators: locators.as_slice(),
         flight: flight_asked(asked.flight)?,
@@ -371,20 +467,23 @@ pub fn history<'a, R: Threads + Sync>(
     match form {
         Some(form) => {
             let table = HistoryTable { wanted };
-            tabled(rt, threads, over, days, &table, form, journal, is_open)
+            tabled(
+                rt, threads, meter, over, days, &table, form, journal, is_open,
+            )
         }
         None => {
             let question = HistoryOf { wanted };
-            asked_of(rt, threads, over, days, &question, journal, is_open)
+            asked_of(rt, threads, meter, over, days, &question, journal, is_open)
         }
     }
 }
 
-/// The locator, if one is asked for.
-fn locator_asked<'a>(alloc: Global, locator: Option<&'a str>) -> Result<Vec<Locator>, Refusal<'a>> {
-    match locator {
-        Some(word) => locators_asked(alloc, &[word]),
-        None => Ok(Vec::new(alloc)),
+/// The locators that the words name.
+fn locators_of<'a>(alloc: Global, words: &[&str]) -> Result<Vec<Locator>, Refusal<'a>> {
+    match locators_asked(alloc, words) {
+        Ok(locators) => Ok(locators),
+        Err(LocatorsFault::Word(fault)) => Err(Refusal::from(fault)),
+        Err(LocatorsFault::Memory) => Err(Refusal::from(DeskFault::Memory)),
     }
 }
 
@@ -392,6 +491,7 @@ fn locator_asked<'a>(alloc: Global, locator: Option<&'a str>) -> Result<Vec<Loca
 fn tabled<'a, R: Threads + Sync, T: Table>(
     rt: &HostRuntime,
     threads: &R,
+    meter: &Meter,
     over: &Horizon<'a>,
     days: (Day, u16),
     table: &T,
@@ -403,63 +503,5 @@ fn tabled<'a, R: Threads + Sync, T: Table>(
     requires days { (1 ≤ days.1) × (days.1 ≤ 366) }
 {
     let question = TableOf { asked: table, form };
-    asked_of(rt, threads, over, days, &question, journal, is_open)
-}
-
-/// The one form that is asked for, of bars, CSV and JSON; none where it is the text, with bars or without.
-fn form_asked(shape: Shape, bars: bool) -> Result<Option<Form>, WordFault> {
-    if shape.csv {
-        if shape.json || bars {
-            return Err(WordFault::BadForm);
-        }
-        return Ok(Some(Form::Csv));
-    }
-    if shape.json {
-        if bars {
-            return Err(WordFault::BadForm);
-        }
-        return Ok(Some(Form::Json));
-    }
-    Ok(None)
-}
-
-/// That of a page, which has no other form, no bars and no sums.
-fn form_of_page(shape: Shape, bars: bool, is_summed: bool) -> Result<(), WordFault> {
-    if shape.csv || shape.json || bars || is_summed {
-        return Err(WordFault::BadForm);
-    }
-    Ok(())
-}
-
-/// That of sums, which have no bars.
-fn sums_form(shape: Shape, bars: bool) -> Result<Form, WordFault> {
-    if bars {
-        return Err(WordFault::BadForm);
-    }
-    let form = form_asked(shape, bars)?;
-    match form {
-        Some(form) => Ok(form),
-        None => Ok(Form::Text),
-    }
-}
-
-fn by_asked(by: Option<&str>) -> Result<Option<By>, WordFault> {
-    match by {
-        None => Ok(None),
-        Some(word) => match by_word(word) {
-            Some(by) => Ok(Some(by)),
-            None => Err(WordFault::BadBy),
-        },
-    }
-}
-
-fn by_word(word: &str) -> Option<By> {
-    match word {
-        "leg" => Some(By::EachLeg),
-        "flight" => Some(By::EachFlight),
-        "day" => Some(By::EachDay),
-        "pair" => Some(By::EachPair),
-        "class" => Some(By::EachClass),
-        _ => None,
-    }
+    asked_of(rt, threads, meter, over, days, &question, journal, is_open)
 }

@@ -6,13 +6,18 @@ ghost use Rattle.ssim_flights.specs.Right.{IsOfCentury};
 
 use crate::commands;
 use crate::commands::Looked;
-use airline_base::Day;
+use airline_base::{Day, NotedRead, NotedWrite};
 use command_inputs::{
-    behind, day_of_run, days_of, inputs_of, lines_behind, scripts_opened, seals_of,
+    behind, day_of_run, days_of, inputs_of, lines_behind, metered, metered_each, metered_inputs,
+    scripts_opened, seals_of,
 };
+use progress_meter::{Clearing, Lines, Meter};
+use question_words::form_asked;
+use reply_tables::desk_reply_table;
 use seat_desk::{DeskFault, Inputs, NO_LINES};
 use seat_files::{Input, Output, Refusal, is_moved, opened_or, standard_output, taken, told};
-use seat_scripts::{Wanted, desk_audit_against, desk_replies};
+use seat_scripts::{Besides, Wanted, desk_audit_against, desk_replies};
+use seat_tables::Form;
 use seat_words::{
     AuditJob, Horizon, RepliesJob, WordFault, audit_lacks, line_word, session_word, sessions_of_run,
 };
@@ -22,6 +27,7 @@ use std::thread::Threads;
 pub fn audit<'a, R: Threads + Sync>(
     rt: &HostRuntime,
     threads: &R,
+    meter: &Meter,
     asked: &AuditJob<'a>,
 ) -> Result<(), Refusal<'a>> {
     let over = &asked.over;
@@ -45,7 +51,7 @@ pub fn audit<'a, R: Threads + Sync>(
             is_open: asked.is_open,
             is_page: false,
         };
-        return commands::audit(rt, threads, over, days, asked.journal, looked);
+        return commands::audit(rt, threads, meter, over, days, asked.journal, looked);
     };
     let replayed = Replayed {
         after: asked.after,
@@ -55,7 +61,7 @@ pub fn audit<'a, R: Threads + Sync>(
         is_sealed: asked.sealed,
         scripts,
     };
-    audit_against(rt, threads, over, days, &replayed)
+    audit_against(rt, threads, meter, over, days, &replayed)
 }
 
 /// What is read beside the set and the limits, as it was written: two journals, the day of the run, and the scripts.
@@ -81,6 +87,7 @@ struct Attempt<'a> {
 fn audit_against<'a, R: Threads + Sync>(
     rt: &HostRuntime,
     threads: &R,
+    meter: &Meter,
     over: &Horizon<'a>,
     days: (Day, u16),
     replayed: &Replayed<'a, '_>,
@@ -89,7 +96,7 @@ fn audit_against<'a, R: Threads + Sync>(
     requires days { (1 ≤ days.1) × (days.1 ≤ 366) }
     requires today { IsCenturyDay replayed.now.today }
 {
-    let attempt = match audited_once(rt, threads, over, &days, replayed) {
+    let attempt = match audited_once(rt, threads, meter, over, &days, replayed) {
         Ok(attempt) => attempt,
         Err(refusal) => return Err(refusal),
     };
@@ -97,7 +104,7 @@ fn audit_against<'a, R: Threads + Sync>(
     if !is_moved {
         return outcome;
     }
-    match audited_once(rt, threads, over, &days, replayed) {
+    match audited_once(rt, threads, meter, over, &days, replayed) {
         Ok(looked) => looked.outcome,
         Err(refusal) => Err(refusal),
     }
@@ -106,6 +113,7 @@ fn audit_against<'a, R: Threads + Sync>(
 fn audited_once<'a, R: Threads + Sync>(
     rt: &HostRuntime,
     threads: &R,
+    meter: &Meter,
     over: &Horizon<'a>,
     days: &(Day, u16),
     replayed: &Replayed<'a, '_>,
@@ -126,18 +134,21 @@ fn audited_once<'a, R: Threads + Sync>(
         mut journal,
         mut scripts,
     } = files;
-    let outcome = desk_audit_against(
-        threads,
-        rt.alloc(),
-        &mut inputs,
-        &mut after,
-        replayed.given,
-        &mut journal,
-        &seals.as_besides(),
-        scripts.as_mut_slice(),
-        replayed.today,
-        &mut out,
-    );
+    let outcome = match metered_each(rt, meter, scripts.as_mut_slice(), Lines::Uncounted) {
+        Ok(mut scripts) => desk_audit_against(
+            threads,
+            rt.alloc(),
+            &mut metered_inputs(rt, meter, &mut inputs),
+            &mut metered(rt, meter, &mut after, Lines::Ended),
+            replayed.given,
+            &mut metered(rt, meter, &mut journal, Lines::Ended),
+            &seals.as_besides(),
+            scripts.as_mut_slice(),
+            replayed.today,
+            &mut Clearing::new(&mut out, rt, meter),
+        ),
+        Err(fault) => Err(fault),
+    };
     let files = Files {
         inputs,
         after,
@@ -241,6 +252,7 @@ fn wanted_of(asked: &RepliesJob<'_>) -> Result<Wanted, WordFault> {
 pub fn replies<'a, R: Threads + Sync>(
     rt: &HostRuntime,
     threads: &R,
+    meter: &Meter,
     asked: &RepliesJob<'a>,
 ) -> Result<(), Refusal<'a>> {
     let over = &asked.over;
@@ -248,6 +260,7 @@ pub fn replies<'a, R: Threads + Sync>(
     let today = day_of_run(asked.today)?;
     let given = lines_behind(asked.after, asked.behind)?;
     let wanted = wanted_of(asked)?;
+    let form = form_asked(asked.shape, false)?;
     let replayed = Replayed {
         after: asked.after,
         given,
@@ -256,7 +269,7 @@ pub fn replies<'a, R: Threads + Sync>(
         is_sealed: false,
         scripts: asked.scripts.as_slice(),
     };
-    let attempt = match replied_once(rt, threads, over, &days, &replayed, wanted) {
+    let attempt = match replied_once(rt, threads, meter, over, &days, &replayed, wanted, form) {
         Ok(attempt) => attempt,
         Err(refusal) => return Err(refusal),
     };
@@ -264,7 +277,7 @@ pub fn replies<'a, R: Threads + Sync>(
     if !is_moved {
         return outcome;
     }
-    match replied_once(rt, threads, over, &days, &replayed, wanted) {
+    match replied_once(rt, threads, meter, over, &days, &replayed, wanted, form) {
         Ok(looked) => looked.outcome,
         Err(refusal) => Err(refusal),
     }
@@ -273,10 +286,12 @@ pub fn replies<'a, R: Threads + Sync>(
 fn replied_once<'a, R: Threads + Sync>(
     rt: &HostRuntime,
     threads: &R,
+    meter: &Meter,
     over: &Horizon<'a>,
     days: &(Day, u16),
     replayed: &Replayed<'a, '_>,
     wanted: Wanted,
+    form: Option<Form>,
 ) -> Result<Attempt<'a>, Refusal<'a>>
     requires first { IsOfCentury days.now.0 }
     requires days { (1 ≤ days.now.1) × (days.now.1 ≤ 366) }
@@ -294,19 +309,22 @@ fn replied_once<'a, R: Threads + Sync>(
         mut journal,
         mut scripts,
     } = files;
-    let outcome = desk_replies(
-        threads,
-        rt.alloc(),
-        &mut inputs,
-        &mut after,
-        replayed.given,
-        &mut journal,
-        &seals.as_besides(),
-        scripts.as_mut_slice(),
-        replayed.today,
-        wanted,
-        &mut out,
-    );
+    let outcome = match metered_each(rt, meter, scripts.as_mut_slice(), Lines::Uncounted) {
+        Ok(mut scripts) => replies_put(
+            rt,
+            threads,
+            form,
+            &mut metered_inputs(rt, meter, &mut inputs),
+            &mut metered(rt, meter, &mut after, Lines::Ended),
+            replayed,
+            &mut metered(rt, meter, &mut journal, Lines::Ended),
+            &seals.as_besides(),
+            scripts.as_mut_slice(),
+            wanted,
+            &mut Clearing::new(&mut out, rt, meter),
+        ),
+        Err(fault) => Err(fault),
+    };
     let files = Files {
         inputs,
         after,
@@ -314,4 +332,64 @@ fn replied_once<'a, R: Threads + Sync>(
         scripts,
     };
     Ok(attempt_of(rt, &files, outcome, &out))
+}
+
+/// The replies as text, or in a form.
+fn replies_put<
+    R: Threads + Sync,
+    S: NotedRead,
+    L: NotedRead,
+    A: NotedRead,
+    J: NotedRead,
+    C: NotedRead,
+    W: NotedWrite,
+>(
+    rt: &HostRuntime,
+    threads: &R,
+    form: Option<Form>,
+    inputs: &mut Inputs<S, L>,
+    after: &mut A,
+    replayed: &Replayed<'_, '_>,
+    journal: &mut J,
+    besides: &Besides<'_>,
+    scripts: &mut [C],
+    wanted: Wanted,
+    out: &mut W,
+) -> Result<(), DeskFault>
+    requires first { IsOfCentury inputs.old.first }
+    requires days { (1 ≤ inputs.old.days) × (inputs.old.days ≤ 366) }
+    requires today { IsCenturyDay replayed.now.today }
+    requires scripts { (1 ≤ length scripts.old) × (length scripts.old ≤ 8) }
+{
+    let given = replayed.given;
+    let today = replayed.today;
+    match form {
+        Some(form) => desk_reply_table(
+            threads,
+            rt.alloc(),
+            form,
+            inputs,
+            after,
+            given,
+            journal,
+            besides,
+            scripts,
+            today,
+            wanted,
+            out,
+        ),
+        None => desk_replies(
+            threads,
+            rt.alloc(),
+            inputs,
+            after,
+            given,
+            journal,
+            besides,
+            scripts,
+            today,
+            wanted,
+            out,
+        ),
+    }
 }

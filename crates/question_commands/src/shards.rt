@@ -1,9 +1,11 @@
 //! `audit --shards`: the journals of hosts that have different flights over one set and its limits.
 //! It knows which words name them, and nothing of what is in them.
-ghost use Rattle.std.specs.Prelude.{◌≡◌, IfOk};
+ghost use Rattle.std.specs.Prelude.{◌≡◌, ◌≤◌, IfOk};
+ghost use Rattle.ssim_flights.specs.Right.{IsOfCentury};
 
 use airline_base::Day;
-use command_inputs::{days_of, inputs_of};
+use command_inputs::{days_of, inputs_of, metered_each, metered_inputs};
+use progress_meter::{Clearing, Lines, Meter};
 use seat_desk::{DeskFault, Inputs};
 use seat_files::{Input, Output, Refusal, standard_output, taken};
 use seat_shards::{ShardFault, desk_shards};
@@ -14,6 +16,7 @@ use std::thread::Threads;
 pub fn audit_shards<'a, R: Threads + Sync>(
     rt: &HostRuntime,
     threads: &R,
+    meter: &Meter,
     asked: &AuditJob<'a>,
 ) -> Result<(), Refusal<'a>> {
     let over = &asked.over;
@@ -30,14 +33,39 @@ pub fn audit_shards<'a, R: Threads + Sync>(
         mut journals,
     } = shards;
     let mut out = standard_output(rt);
-    let outcome = desk_shards(
+    let outcome = shards_audited(
+        rt,
         threads,
-        rt.alloc(),
+        meter,
         &mut inputs,
         journals.as_mut_slice(),
         &mut out,
     );
     noted(outcome, &inputs, journals.as_slice(), &[&out])
+}
+
+fn shards_audited<'a, R: Threads + Sync>(
+    rt: &HostRuntime,
+    threads: &R,
+    meter: &Meter,
+    inputs: &mut Inputs<Input<'a>, Input<'a>>,
+    journals: &mut [Input<'a>],
+    out: &mut Output<'a>,
+) -> Result<(), ShardFault>
+    requires first { IsOfCentury inputs.old.first }
+    requires days { (1 ≤ inputs.old.days) × (inputs.old.days ≤ 366) }
+{
+    let mut journals = match metered_each(rt, meter, journals, Lines::Ended) {
+        Ok(journals) => journals,
+        Err(fault) => return Err(ShardFault::Desk(fault)),
+    };
+    desk_shards(
+        threads,
+        rt.alloc(),
+        &mut metered_inputs(rt, meter, inputs),
+        journals.as_mut_slice(),
+        &mut Clearing::new(out, rt, meter),
+    )
 }
 
 /// The inputs and the journals, open.

@@ -8,9 +8,10 @@ ghost use Rattle.ssim_flights.specs.Right.{IsOfCentury};
 use crate::heard::Heard;
 use airline_base::Day;
 use command_inputs::{
-    Seals, behind, day_of_run, days_of, inputs_of, last_entry, lines_behind, scripts_opened,
-    seals_of, tell_copies, tell_kept, tell_unsealed,
+    Seals, behind, day_of_run, days_of, inputs_of, last_entry, lines_behind, metered, metered_each,
+    metered_inputs, scripts_opened, seals_of, tell_copies, tell_kept, tell_unsealed,
 };
+use progress_meter::{Clearing, Lines, Meter};
 use seat_desk::{DeskFault, Inputs, NO_LINES};
 use seat_files::{
     Guard, Input, JournalFile, NOT_EMPTY, Refusal, SealOut, TOO_LONG, files_taken, is_same,
@@ -32,6 +33,7 @@ use std::thread::Threads;
 pub fn run<'a, T: Threads + Wait + Sync>(
     rt: &'a HostRuntime,
     threads: &T,
+    meter: &Meter,
     asking: &RunJob<'a>,
 ) -> Result<(), Refusal<'a>> {
     let over = &asking.over;
@@ -56,30 +58,35 @@ pub fn run<'a, T: Threads + Wait + Sync>(
         scripts,
         changes,
     };
-    run_over(rt, threads, asking, given, today, &mut texts, &mut past)
+    let sale = Sale {
+        asking,
+        meter,
+        given,
+        today,
+        keeps: true,
+    };
+    run_over(rt, threads, &sale, &mut texts, &mut past)
 }
 
 /// The same with all inputs open.
 fn run_over<'a, T: Threads + Wait + Sync>(
     rt: &'a HostRuntime,
     threads: &T,
-    asking: &RunJob<'a>,
-    given: Option<u32>,
-    today: Day,
+    sale: &Sale<'a, '_>,
     texts: &mut Texts<'a>,
     past: &mut Past<'a>,
 ) -> Result<(), Refusal<'a>>
     requires first { IsOfCentury texts.old.inputs.first }
     requires days { (1 ≤ texts.old.inputs.days) × (texts.old.inputs.days ≤ 366) }
-    requires today { IsCenturyDay today }
+    requires today { IsCenturyDay sale.now.today }
     requires scripts { (1 ≤ length texts.old.scripts.items) × (length texts.old.scripts.items ≤ 8) }
 {
     if is_one_journal(past)? {
         return Err(Refusal::from(WordFault::BadBehind));
     }
     pass_once(rt, texts.scripts.as_slice(), &texts.changes)?;
-    let mut place = locked_out(rt, asking, texts, past)?;
-    let outcome = sell(rt, threads, asking, given, today, texts, past, &mut place);
+    let mut place = locked_out(rt, sale.asking, texts, past)?;
+    let outcome = sell(rt, threads, sale, texts, past, &mut place);
     leave(&place);
     tell_kept(rt, &place.journal, &place.seal);
     outcome
@@ -169,18 +176,17 @@ fn locked_out<'a>(
 fn sell<'a, T: Threads + Wait + Sync>(
     rt: &'a HostRuntime,
     threads: &T,
-    asking: &RunJob<'a>,
-    given: Option<u32>,
-    today: Day,
+    sale: &Sale<'a, '_>,
     texts: &mut Texts<'a>,
     past: &mut Past<'a>,
     place: &mut Place<'a>,
 ) -> Result<(), Refusal<'a>>
     requires first { IsOfCentury texts.old.inputs.first }
     requires days { (1 ≤ texts.old.inputs.days) × (texts.old.inputs.days ≤ 366) }
-    requires today { IsCenturyDay today }
+    requires today { IsCenturyDay sale.now.today }
     requires scripts { (1 ≤ length texts.old.scripts.items) × (length texts.old.scripts.items ≤ 8) }
 {
+    let asking = sale.asking;
     if asking.no_clobber && !place.journal.is_empty()? {
         return Err(Refusal::barred(asking.journal, NOT_EMPTY));
     }
@@ -190,18 +196,22 @@ fn sell<'a, T: Threads + Wait + Sync>(
     }
     open_past_again(rt, asking, past)?;
     let seals = seals_of(rt, &past.after, &past.resumed, false)?;
-    sell_beside(
-        rt, threads, asking, given, today, texts, past, &seals, older, place,
-    )
+    let keeps = keeps_both(rt, past, place)?;
+    let sale = Sale {
+        asking,
+        meter: sale.meter,
+        given: sale.given,
+        today: sale.today,
+        keeps,
+    };
+    sell_beside(rt, threads, &sale, texts, past, &seals, older, place)
 }
 
 /// The same with what stands beside the journals read.
 fn sell_beside<'a, T: Threads + Wait + Sync>(
     rt: &'a HostRuntime,
     threads: &T,
-    asking: &RunJob<'a>,
-    given: Option<u32>,
-    today: Day,
+    sale: &Sale<'a, '_>,
     texts: &mut Texts<'a>,
     past: &mut Past<'a>,
     seals: &Seals,
@@ -210,28 +220,22 @@ fn sell_beside<'a, T: Threads + Wait + Sync>(
 ) -> Result<(), Refusal<'a>>
     requires first { IsOfCentury texts.old.inputs.first }
     requires days { (1 ≤ texts.old.inputs.days) × (texts.old.inputs.days ≤ 366) }
-    requires today { IsCenturyDay today }
+    requires today { IsCenturyDay sale.now.today }
     requires scripts { (1 ≤ length texts.old.scripts.items) × (length texts.old.scripts.items ≤ 8) }
     requires older { IsTrue (is_entry older) }
 {
-    let keeps = keeps_both(rt, past, place)?;
     let mut out = Heard::new(standard_output(rt));
-    let sale = Sale {
-        asking,
-        given,
-        today,
-        keeps,
-    };
     let besides = seals.as_besides();
     let outcome = booked(
-        rt, threads, &sale, texts, past, &besides, older, place, &mut out,
+        rt, threads, sale, texts, past, &besides, older, place, &mut out,
     );
+    sale.meter.end(rt);
     match sold(outcome, texts, past) {
         Ok(()) => {
-            tell_sold(rt, &sale, texts, seals, place, &out);
+            tell_sold(rt, sale, texts, seals, place, &out);
             Ok(())
         }
-        Err(refusal) => unsold(rt, &sale, refusal, texts, past, seals, place, &out),
+        Err(refusal) => unsold(rt, sale, refusal, texts, past, seals, place, &out),
     }
 }
 
@@ -239,6 +243,7 @@ fn sell_beside<'a, T: Threads + Wait + Sync>(
 #[derive(Clone, Copy)]
 struct Sale<'a, 'b> {
     asking: &'b RunJob<'a>,
+    meter: &'b Meter,
     given: Option<u32>,
     today: Day,
     /// Whether what OUT and its seal have is to be kept.
@@ -348,24 +353,28 @@ fn gone_on<'a, T: Threads + Wait + Sync>(
     requires scripts { (1 ≤ length texts.old.scripts.items) × (length texts.old.scripts.items ≤ 8) }
     requires older { IsTrue (is_entry older) }
 {
+    let meter = sale.meter;
+    let mut inputs = metered_inputs(rt, meter, &mut texts.inputs);
+    let mut scripts = metered_each(rt, meter, texts.scripts.as_mut_slice(), Lines::Uncounted)?;
+    let mut shown = Clearing::new(out, rt, meter);
     desk_resume(
         threads,
         rt.alloc(),
-        &mut texts.inputs,
-        &mut past.after,
+        &mut inputs,
+        &mut metered(rt, meter, &mut past.after, Lines::Ended),
         sale.given,
-        &mut past.resumed,
+        &mut metered(rt, meter, &mut past.resumed, Lines::Ended),
         besides,
         sale.asking.again,
-        texts.scripts.as_mut_slice(),
-        &mut texts.changes,
+        scripts.as_mut_slice(),
+        &mut metered(rt, meter, &mut texts.changes, Lines::Uncounted),
         sale.today,
         &NoGate,
         older,
         sale.keeps,
         &mut place.journal,
         &mut place.seal,
-        out,
+        &mut shown,
     )
 }
 
@@ -386,22 +395,26 @@ fn begun<'a, T: Threads + Wait + Sync>(
     requires scripts { (1 ≤ length texts.old.scripts.items) × (length texts.old.scripts.items ≤ 8) }
     requires older { IsTrue (is_entry older) }
 {
+    let meter = sale.meter;
+    let mut inputs = metered_inputs(rt, meter, &mut texts.inputs);
+    let mut scripts = metered_each(rt, meter, texts.scripts.as_mut_slice(), Lines::Uncounted)?;
+    let mut shown = Clearing::new(out, rt, meter);
     desk_run(
         threads,
         rt.alloc(),
-        &mut texts.inputs,
-        after,
+        &mut inputs,
+        &mut metered(rt, meter, after, Lines::Ended),
         beside,
         sale.asking.again,
-        texts.scripts.as_mut_slice(),
-        &mut texts.changes,
+        scripts.as_mut_slice(),
+        &mut metered(rt, meter, &mut texts.changes, Lines::Uncounted),
         sale.today,
         &NoGate,
         older,
         sale.keeps,
         &mut place.journal,
         &mut place.seal,
-        out,
+        &mut shown,
     )
 }
 

@@ -19,6 +19,8 @@ pub fn answer_row(word: &str) -> Option<&'static Explanation>
         .or(first_named(desks(), word))
         .or(first_named(requests(), word))
         .or(first_named(files(), word))
+        .or(first_named(partners(), word))
+        .or(first_named(changes(), word))
 }
 
 fn first_named<'a>(rows: &'a [Explanation], word: &str) -> Option<&'a Explanation>
@@ -57,6 +59,14 @@ fn desks() -> &'static [Explanation] {
 
 fn requests() -> &'static [Explanation] {
     REQUESTS
+}
+
+fn partners() -> &'static [Explanation] {
+    PARTNERS
+}
+
+fn changes() -> &'static [Explanation] {
+    CHANGES
 }
 
 fn files() -> &'static [Explanation] {
@@ -107,7 +117,7 @@ const ROOMS: &[Explanation] = &[
         behind: "",
         code: "SUMS",
         numbers: NONE,
-        text: "Of loads: the legs above it, the seats held on them of the sum of their highest limits, what part of that is held,\nper mille, the passengers who hold seats there, and those who wait, each booking once.\nOf pickup: the sums of the columns above it.",
+        text: "Of loads: the legs above it, the seats held on them of the sum of their highest limits, what part of that is held,\nper mille, the passengers who hold seats there, and those who wait, each booking once.\nOf pickup: the sums of the columns above it.\nOf compare: how many flights are gone, added, have other legs or other limits, and how many are not compared, since only one of the\nseasons has their day; held, waiting: the seats on those with a line.",
     },
 ];
 
@@ -294,5 +304,73 @@ const FILES: &[Explanation] = &[
         code: "END",
         numbers: NONE,
         text: "The last line of a journal, with the number of its entries; a journal that is open has none. Of a seal: the end of an entry.",
+    },
+];
+
+// What reconcile says of a list, and avs of a class.
+const PARTNERS: &[Explanation] = &[
+    Explanation {
+        behind: "",
+        code: "RECONCILED",
+        numbers: NONE,
+        text: "Of reconcile, its last line. same: the bookings that the list and the journal have alike. differ: those of which a line stands above;\nwhere there is one the status is 1.",
+    },
+    Explanation {
+        behind: "",
+        code: "DIFFERS",
+        numbers: NONE,
+        text: "Of reconcile: the list and the journal differ on this locator and segment. theirs: what the list has, here: what the journal has, HK with seats that\nare held, HL with seats that wait, or NONE. line: the line of the journal that last touched it, - where none did.",
+    },
+    Explanation {
+        behind: "",
+        code: "AS",
+        numbers: NONE,
+        text: "Of avs: open, seats of the class are for sale on the segment. With --numeric their number stands behind it, up to 9.",
+    },
+    Explanation {
+        behind: "",
+        code: "CL",
+        numbers: NONE,
+        text: "Of avs: closed, and the waiting list of the class is open on the segment.",
+    },
+    Explanation {
+        behind: "",
+        code: "CC",
+        numbers: NONE,
+        text: "Of avs: closed, and so is the waiting list of the class on the segment.",
+    },
+    Explanation {
+        behind: "",
+        code: "CX",
+        numbers: NONE,
+        text: "Of avs: not operated. On a leg of the segment no class has a seat: its highest limit is 0, or it has no limits.",
+    },
+];
+
+// What compare says of a flight.
+const CHANGES: &[Explanation] = &[
+    Explanation {
+        behind: "",
+        code: "GONE",
+        numbers: NONE,
+        text: "Of compare: the season of --to has no flight of this name on this day. held, waiting: the seats of the journal on it.",
+    },
+    Explanation {
+        behind: "",
+        code: "ADDED",
+        numbers: NONE,
+        text: "Of compare: the season of --from has no flight of this name on this day.",
+    },
+    Explanation {
+        behind: "",
+        code: "LEGS",
+        numbers: NONE,
+        text: "Of compare: the legs of the flight have other stations, another order or other local days in the season of --to.",
+    },
+    Explanation {
+        behind: "",
+        code: "LIMITS",
+        numbers: NONE,
+        text: "Of compare: a leg of the flight has another ladder in the season of --to: other classes, limits or seats that may wait.",
     },
 ];

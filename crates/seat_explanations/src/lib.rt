@@ -6,9 +6,15 @@ mod answers;
 mod asked;
 mod counted;
 mod explanations;
+mod journals;
+mod limits;
 mod meaning;
 mod notes;
+mod options;
+mod partners;
 mod replies;
+mod schedules;
+mod scripts;
 mod sealed;
 mod seasons;
 

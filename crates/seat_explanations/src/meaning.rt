@@ -9,11 +9,12 @@ ghost use Rattle.seat_explanations.specs.Words.{filled, first_word, line_of, unn
 
 use crate::answers::answer_row;
 use crate::asked::asked_row;
-use crate::counted::{DESK, NAMED_KEY};
+use crate::counted::{DESK, NAMED_KEY, OTHER_KEY};
 use crate::explanations::{
-    Explanation, is_of_rows, row_behind, row_of, row_of_note, row_of_reason,
+    Explanation, is_listed, is_of_rows, row_behind, row_of, row_of_note, row_of_reason,
 };
 use crate::replies::reply_row;
+use crate::seasons::is_key;
 use std::alloc::{AllocError, Global};
 
 /// What stands ahead of a fault in its line.
@@ -155,6 +156,10 @@ fn put_details<'a>(
 {
     let numbers = put_behind(text, code, behind)?;
     let counted = counted(row, code, behind, numbers);
+    if is_of_other_key(counted) {
+        put_key(text, numbers)?;
+        return Ok(None);
+    }
     if let Some(word) = no_number(counted, numbers) {
         return Ok(Some(word));
     }
@@ -240,7 +245,7 @@ fn without_name<'a, 'b>(line: &'b [&'a str]) -> &'b [&'a str]
     }
 }
 
-/// The line without the place of one of several journals, or the session that a feed's line is for, which stand ahead of the fault.
+/// The line without the place of one of several journals or of two seasons, or the session that a feed's line is for, which stand ahead of the fault.
 fn without_place<'a, 'b>(line: &'b [&'a str]) -> &'b [&'a str]
     ensures { IsUnplaced (map (λ word. word.now) line.now) (map (λ word. word.now) result.now) }
 {
@@ -291,13 +296,13 @@ fn put_behind<'b, 'c>(
     Ok(more)
 }
 
-/// What the numbers of a line count: what the code behind the first one says of them, where it does, or else the first one.
+/// What the numbers of a line count: what the code behind the first one says of them, where it does and is no list's, or else the first one.
 fn counted_by(first: &'static Explanation, code: &str, behind: &[&str]) -> &'static [&'static str] {
     let Some(word) = behind.first() else {
         return first.numbers;
     };
     match row_behind(code, word) {
-        Some(second) if !second.numbers.is_empty() => second.numbers,
+        Some(second) if !second.numbers.is_empty() && !is_listed(code) => second.numbers,
         _ => first.numbers,
     }
 }
@@ -312,9 +317,43 @@ fn no_number<'a>(counted: &[&str], numbers: &[&'a str]) -> Option<&'a str> {
     None
 }
 
-/// Whether a word may stand for what is counted so: a number, or the name of a key.
+/// Whether a word may stand for what is counted so: a number, or the name of a key of a season.
 fn is_right(what: &str, word: &str) -> bool {
-    what == NAMED_KEY || is_number(word)
+    if what == NAMED_KEY {
+        is_key(word)
+    } else {
+        is_number(word)
+    }
+}
+
+/// Whether all that stands behind is one key, which no season has.
+fn is_of_other_key(counted: &[&str]) -> bool {
+    match counted {
+        [what] => *what == OTHER_KEY,
+        _ => false,
+    }
+}
+
+/// Adds a key that no season has, which may be of several words.
+fn put_key(text: &mut String, words: &[&str]) -> Result<(), AllocError>
+    ensures { OnOk result (Begins (string_bytes text.old) (string_bytes text.new)) }
+{
+    if words.is_empty() {
+        return Ok(());
+    }
+    text.push_str(NAMED_KEY)?;
+    text.push_str(":")?;
+    for word in words {
+        put_blank_and(text, word)?;
+    }
+    text.push_str("\n")
+}
+
+fn put_blank_and(text: &mut String, word: &str) -> Result<(), AllocError>
+    ensures { OnOk result (string_bytes text.new ≡ string_bytes text.old ++ (codes " " ++ word.now)) }
+{
+    text.push_str(" ")?;
+    text.push_str(word)
 }
 
 /// Whether a word is a number, as it is printed of a line or, behind @, of a call.

@@ -1,6 +1,6 @@
 //! What the faults of a season file say.
 
-use crate::counted::{KEY, LINE, NONE};
+use crate::counted::{KEY, LINE, NONE, OTHER};
 use crate::explanations::Explanation;
 
 // The file of --season.
@@ -20,7 +20,7 @@ pub(crate) const SEASONS: &[Explanation] = &[
     Explanation {
         behind: "SEASON",
         code: "key",
-        numbers: KEY,
+        numbers: OTHER,
         text: "A season has no such key. Its keys are set, limits, first and days, and where it has them journal and desks.",
     },
     Explanation {
@@ -36,3 +36,11 @@ pub(crate) const SEASONS: &[Explanation] = &[
         text: "A season says this, and this one does not. Each has set, limits, first and days.",
     },
 ];
+
+/// The keys that a season may have.
+const KEYS: &[&str] = &["set", "limits", "first", "days", "journal", "desks"];
+
+/// Whether a season may have this key.
+pub(crate) fn is_key(word: &str) -> bool {
+    KEYS.iter().any(|key| key.eq_ignore_ascii_case(word))
+}

@@ -92,7 +92,7 @@ impl<'a> Guard<'a> {
     {
         let is_named = !self.path.is_empty() && input.name() == self.path;
         if is_named || self.is_same(input)? {
-            return Err(Refusal::barred(self.path, "Is an input"));
+            return Err(Refusal::barred(self.path, "Is another file of the command"));
         }
         Ok(())
     }

@@ -1,6 +1,6 @@
 //! What a command is refused with, and the file that it is refused for.
 ghost use Rattle.std.specs.Prelude.{◌≡◌, IfErr, IsErrAnd, IsOk, IsTrue};
-ghost use Rattle.seat_files.specs.Faults.{exit_status, printed};
+ghost use Rattle.seat_files.specs.Faults.{exit_status, list_text, printed};
 ghost use Rattle.seat_files.specs.Refusals.{is_failure, is_of_seal};
 ghost use Rattle.seat_shards.specs.Faults.{shard_text, status_of_shards};
 
@@ -8,6 +8,7 @@ use crate::fault::Fault;
 use crate::journal_file::{JournalFile, is_link};
 use crate::seal_out::SealOut;
 use crate::streams::{Input, Output};
+use airimp_lines::LineFault;
 use airline_base::Failures;
 use seat_desk::DeskFault;
 use seat_seal::SealFault;
@@ -112,6 +113,15 @@ impl<'a> Refusal<'a> {
         let mut refusal = Refusal::of(Fault::Season(kind)).at(file, None);
         refusal.key = key;
         refusal
+    }
+
+    /// A line of a partner's list, or of its thresholds, that is none: its code, what is wrong in the segment line where that is why, and
+    /// the line.
+    pub fn of_list(code: &'static str, inner: Option<LineFault>, line: u32) -> Refusal<'a>
+        ensures text { printed result.fault ≡ list_text code.now inner line }
+        ensures status { exit_status result.fault ≡ 1 }
+    {
+        Refusal::of(Fault::Listed { code, inner, line })
     }
 
     /// What stands behind the fault in its line.
@@ -532,6 +542,7 @@ fn is_of_input(fault: &Fault) -> bool {
         Fault::Feed { .. } => false,
         Fault::Word(_) => false,
         Fault::Season(_) => false,
+        Fault::Listed { .. } => true,
     }
 }
 
@@ -543,6 +554,7 @@ fn place_of(fault: &Fault) -> Option<(&'static str, u32)> {
         Fault::Shards(ShardFault::Shared { number, .. }) => Some(("entry", *number)),
         Fault::Feed { number, .. } => Some(("entry", *number)),
         Fault::Season(SeasonKind::Form { line }) => Some(("line", *line)),
+        Fault::Listed { line, .. } => Some(("line", *line)),
         _ => None,
     }
 }

@@ -1,6 +1,7 @@
 -- A command line, and the season that it names.
-use Rattle.std.specs.Prelude.{ℕ, ◌+◌, ◌||◌, if◌then◌else◌, Bool, List, map, take, drop, slice_get, Option, Some, None, option_map, option_and_then, codes}
+use Rattle.std.specs.Prelude.{ℕ, ◌+◌, ◌&&◌, ◌||◌, not, if◌then◌else◌, Bool, false, List, map, take, drop, slice_get, Option, Some, None, is_some, option_map, option_and_then, codes}
 use Rattle.std.specs.List.{prefix_len}
+use Rattle.std.specs.Option.{option_map_or}
 use Rattle.std.specs.Str.{bytes_eq}
 use denote.Ref.{Bor}
 use Rattle.seat_season.specs.Options.{Text, has_option, is_option, season_from}
@@ -31,12 +32,14 @@ is_over command = bytes_eq command (codes "cover")
     || (bytes_eq command (codes "waiting")
     || (bytes_eq command (codes "pickup")
     || (bytes_eq command (codes "history")
+    || (bytes_eq command (codes "avs")
+    || (bytes_eq command (codes "reconcile")
     || (bytes_eq command (codes "audit")
     || (bytes_eq command (codes "seal")
     || (bytes_eq command (codes "recover")
     || (bytes_eq command (codes "replies")
     || (bytes_eq command (codes "told")
-    || bytes_eq command (codes "why"))))))))))))))
+    || bytes_eq command (codes "why"))))))))))))))))
 
 -- the season that a command line names, where its command takes one
 abbrev pub season_named : List Text → Option Text
@@ -54,3 +57,9 @@ beside_in behind =
 
 abbrev pub beside_season : List Text → Option Text
 beside_season words = option_and_then (λ line. beside_in line.1.1) (line_in words)
+
+-- the command takes one, and the line names neither it nor what it stands in the place of
+abbrev pub lacks_horizon : List Text → Bool
+lacks_horizon words = option_map_or
+    (λ line. is_over line.1.0 && (not (is_some (season_from Nothing line.1.1)) && not (is_some (beside_in line.1.1))))
+    (line_in words) false

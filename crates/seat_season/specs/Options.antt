@@ -28,16 +28,19 @@ is_long _ = false
 -- the options without a value
 abbrev pub is_flag : Text → Bool
 is_flag word = bytes_eq word (codes "--again")
+    || (bytes_eq word (codes "--all")
     || (bytes_eq word (codes "--bars")
     || (bytes_eq word (codes "--csv")
     || (bytes_eq word (codes "--cut")
     || (bytes_eq word (codes "--html")
     || (bytes_eq word (codes "--json")
     || (bytes_eq word (codes "--no-clobber")
+    || (bytes_eq word (codes "--numeric")
     || (bytes_eq word (codes "--open")
+    || (bytes_eq word (codes "--quiet")
     || (bytes_eq word (codes "--sealed")
     || (bytes_eq word (codes "--shards")
-    || bytes_eq word (codes "--verbose"))))))))))
+    || bytes_eq word (codes "--verbose")))))))))))))
 
 -- what a word awaits that no option awaits
 abbrev pub awaited : Text → Awaits

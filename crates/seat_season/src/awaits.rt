@@ -102,13 +102,16 @@ fn is_flag(word: &str) -> bool
     ensures { result ≡ is_flag word.now }
 {
     word == "--again"
+        || word == "--all"
         || word == "--bars"
         || word == "--csv"
         || word == "--cut"
         || word == "--html"
         || word == "--json"
         || word == "--no-clobber"
+        || word == "--numeric"
         || word == "--open"
+        || word == "--quiet"
         || word == "--sealed"
         || word == "--shards"
         || word == "--verbose"

@@ -18,7 +18,7 @@ mod words;
 pub use fault::{SeasonFault, SeasonKind, TextFault};
 pub use folder::folder_of;
 pub use key::Key;
-pub use line::{beside_season, season_named};
+pub use line::{beside_season, lacks_horizon, season_named};
 pub use paths::path_of;
 pub use season::{Season, season_of};
 pub use text::{MOST_SEASON_BYTES, season_table};

@@ -1,7 +1,7 @@
 //! A command line, where it may have a season: the command, the words ahead of it and those behind it.
 ghost use Rattle.std.specs.Prelude.{◌≡◌, ◌≤◌, length, option_map};
 ghost use Rattle.std.specs.List.{prefix_len};
-ghost use Rattle.seat_season.specs.Line.{beside_in, beside_season, is_over, line_in, season_named, texts};
+ghost use Rattle.seat_season.specs.Line.{beside_in, beside_season, is_over, lacks_horizon, line_in, season_named, texts};
 ghost use Rattle.seat_season.specs.Options.{is_option};
 
 use crate::awaits::is_option;
@@ -65,6 +65,8 @@ fn is_over(command: &str) -> bool
         || command == "waiting"
         || command == "pickup"
         || command == "history"
+        || command == "avs"
+        || command == "reconcile"
         || command == "audit"
         || command == "seal"
         || command == "recover"
@@ -91,6 +93,20 @@ pub fn beside_season(words: &[&str]) -> Option<&'static str>
 {
     let line = line_of(words)?;
     beside_in(line.behind)
+}
+
+/// Whether the command works over a set, its limits and its days, and the words name none of these and no season.
+pub fn lacks_horizon(words: &[&str]) -> bool
+    ensures { result ≡ lacks_horizon (texts words.now) }
+{
+    match line_of(words) {
+        Some(line) => {
+            is_over(line.command)
+                && season_behind(line.behind).is_none()
+                && beside_in(line.behind).is_none()
+        }
+        None => false,
+    }
 }
 
 fn beside_in(behind: &[&str]) -> Option<&'static str>

@@ -42,9 +42,9 @@ optional_values id = record (optional_value id) { action = Some Append }
 abbrev pub trailing_values : Text → Rule
 trailing_values id = record (optional_values id) { trailing_var_arg = true }
 
--- with the option -v, which stands ahead of a command or behind it
-abbrev pub with_verbose : App → App
-with_verbose a = with_rule a (lettered_flag (codes "verbose") 118)
+-- with the switches of each command, -v and --quiet, which stand ahead of it or behind it
+abbrev pub with_switches : App → App
+with_switches a = with_rule (with_rule a (lettered_flag (codes "verbose") 118)) (flag (codes "quiet"))
 
 unfoldable pub ladder_app : App
 ladder_app = new_app (codes "ladder")
@@ -70,7 +70,9 @@ horizon_app name = with_rule (with_rule (with_rule (with_rule (with_rule (new_ap
     (optional (codes "season"))
 
 unfoldable pub cover_app : App
-cover_app = horizon_app (codes "cover")
+cover_app = with_rule (with_rule (horizon_app (codes "cover"))
+    (flag (codes "csv")))
+    (flag (codes "json"))
 
 unfoldable pub rooms_app : App
 rooms_app = with_rule (with_rule (with_rule (with_rule (with_rule (with_rule (with_rule (horizon_app (codes "rooms"))
@@ -148,12 +150,14 @@ recover_app = with_rule (with_rule (horizon_app (codes "recover"))
     (required_value (codes "journal"))
 
 unfoldable pub replies_app : App
-replies_app = with_rule (with_rule (with_rule (with_rule (with_rule (with_rule (with_rule (horizon_app (codes "replies"))
+replies_app = with_rule (with_rule (with_rule (with_rule (with_rule (with_rule (with_rule (with_rule (with_rule (horizon_app (codes "replies"))
     (optional (codes "after")))
     (optional (codes "behind")))
     (required_option (codes "today")))
     (optional (codes "session")))
     (optional (codes "from")))
+    (flag (codes "csv")))
+    (flag (codes "json")))
     (required_value (codes "journal")))
     (optional_values (codes "scripts"))
 
@@ -186,6 +190,30 @@ history_app = with_rule (with_rule (with_rule (with_rule (with_rule (with_rule (
     (flag (codes "json")))
     (flag (codes "open")))
     (required_value (codes "journal"))
+
+unfoldable pub avs_app : App
+avs_app = with_rule (with_rule (with_rule (with_rule (with_rule (with_rule (with_rule (horizon_app (codes "avs"))
+    (optional (codes "since")))
+    (flag (codes "numeric")))
+    (optional (codes "partner")))
+    (optional (codes "flight")))
+    (optional (codes "day")))
+    (flag (codes "open")))
+    (required_value (codes "journal"))
+
+unfoldable pub reconcile_app : App
+reconcile_app = with_rule (with_rule (with_rule (with_rule (with_rule (horizon_app (codes "reconcile"))
+    (optional (codes "session")))
+    (flag (codes "all")))
+    (flag (codes "open")))
+    (required_value (codes "theirs")))
+    (required_value (codes "journal"))
+
+unfoldable pub compare_app : App
+compare_app = with_rule (with_rule (with_rule (new_app (codes "compare"))
+    (required_option (codes "from")))
+    (required_option (codes "to")))
+    (optional_value (codes "journal"))
 
 unfoldable pub told_app : App
 told_app = with_rule (with_rule (with_rule (with_rule (horizon_app (codes "told"))
@@ -223,21 +251,26 @@ named_app = record {
 
 -- the program before its commands
 unfoldable pub bare_app : App
-bare_app = with_verbose named_app
+bare_app = with_switches named_app
 
--- with one more command, which has the option -v too
+-- with one more command, which has the switches too
 abbrev pub with_command : App → App → App
-with_command program command = with_subcommand program (with_verbose command).top
+with_command program command = with_subcommand program (with_switches command).top
 
 -- the commands that work on a schedule, or on one leg
 unfoldable pub selling_app : App
 selling_app = with_command (with_command (with_command (with_command (with_command (with_command (with_command (with_command
     bare_app ladder_app) check_app) flights_app) cover_app) rooms_app) loads_app) run_app) serve_app
 
+-- and those that ask what a journal comes to
+unfoldable pub asking_app : App
+asking_app = with_command (with_command (with_command (with_command (with_command (with_command (with_command
+    selling_app bookings_app) waiting_app) pickup_app) history_app) avs_app) reconcile_app) compare_app
+
 -- the program: one of its commands must be named
 unfoldable pub seatdesk_app : App
-seatdesk_app = with_command (with_command (with_command (with_command (with_command (with_command (with_command (with_command (with_command (with_command (with_command (with_command
-    selling_app bookings_app) waiting_app) pickup_app) history_app) audit_app) seal_app) recover_app) replies_app) told_app) why_app) explain_app) season_app
+seatdesk_app = with_command (with_command (with_command (with_command (with_command (with_command (with_command (with_command
+    asking_app audit_app) seal_app) recover_app) replies_app) told_app) why_app) explain_app) season_app
 
 -- the command is read as a, and its options are its own
 pub record IsBuiltAs (a : App) (c : Command) : Type 0 where

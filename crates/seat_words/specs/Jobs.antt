@@ -7,6 +7,7 @@ use Rattle.clap.specs.Words.{Row, Text, all_of, first_of}
 use Rattle.seat_words.specs.declared.job.Horizon.{Horizon}
 use Rattle.seat_words.specs.declared.job.Job.{Job}
 use Rattle.seat_words.specs.declared.job.Shape.{Shape}
+use Rattle.seat_words.specs.declared.job.CoverJob.{CoverJob}
 use Rattle.seat_words.specs.declared.job.RoomsJob.{RoomsJob}
 use Rattle.seat_words.specs.declared.job.LoadsJob.{LoadsJob}
 use Rattle.seat_words.specs.declared.job.RunJob.{RunJob}
@@ -15,10 +16,13 @@ use Rattle.seat_words.specs.declared.job.BookingsJob.{BookingsJob}
 use Rattle.seat_words.specs.declared.job.WaitingJob.{WaitingJob}
 use Rattle.seat_words.specs.declared.job.PickupJob.{PickupJob}
 use Rattle.seat_words.specs.declared.job.HistoryJob.{HistoryJob}
+use Rattle.seat_words.specs.declared.job.AvsJob.{AvsJob}
+use Rattle.seat_words.specs.declared.job.ReconcileJob.{ReconcileJob}
+use Rattle.seat_words.specs.declared.job.CompareJob.{CompareJob}
 use Rattle.seat_words.specs.declared.job.AuditJob.{AuditJob}
 use Rattle.seat_words.specs.declared.job.RepliesJob.{RepliesJob}
 use Rattle.seat_words.specs.declared.job.ToldJob.{ToldJob}
-use Rattle.seat_words.specs.declared.job.Job.TheVariants.{Ladder, Check, Flights, Cover, Rooms, Loads, Run, Serve, Bookings, Waiting, Pickup, History, Audit, Seal, Recover, Replies, Told, Why, Explain, Season}
+use Rattle.seat_words.specs.declared.job.Job.TheVariants.{Ladder, Check, Flights, Cover, Rooms, Loads, Run, Serve, Bookings, Waiting, Pickup, History, Avs, Reconcile, Compare, Audit, Seal, Recover, Replies, Told, Why, Explain, Season}
 
 -- a command that clap found in the words, and what it found of the command's values
 abbrev pub Line : Type 0
@@ -43,10 +47,17 @@ is_flagged id rows = option_map_or (λ text. bytes_eq text (codes "true")) (firs
 abbrev pub HasFlag : List Row → Text → Bool → Type 0
 HasFlag rows id is_there = is_flagged id rows ≡ is_there
 
--- -v is among the words ahead of the command, or behind it
+-- the switch is among the words ahead of the command, or behind it
+abbrev pub is_switched : Text → List Row → Option Line → Bool
+is_switched id ahead line = is_flagged id ahead || option_map_or (λ behind. is_flagged id behind.1) line false
+
+-- -v is among the words
 abbrev pub is_verbose : List Row → Option Line → Bool
-is_verbose ahead line =
-    is_flagged (codes "verbose") ahead || option_map_or (λ behind. is_flagged (codes "verbose") behind.1) line false
+is_verbose = is_switched (codes "verbose")
+
+-- and so is --quiet
+abbrev pub is_quiet : List Row → Option Line → Bool
+is_quiet = is_switched (codes "quiet")
 
 -- the flights and limits over which the command works
 abbrev pub IsOver : List Row → Horizon → Type 0
@@ -60,6 +71,9 @@ abbrev pub IsShaped : List Row → Shape → Type 0
 IsShaped rows shape = (is_flagged (codes "csv") rows ≡ shape.csv) × (is_flagged (codes "json") rows ≡ shape.json)
 
 -- what each of the longer commands asks for
+abbrev pub IsCover : List Row → CoverJob → Type 0
+IsCover rows asked = IsOver rows asked.over × IsShaped rows asked.shape
+
 abbrev pub IsRooms : List Row → RoomsJob → Type 0
 IsRooms rows asked = IsOver rows asked.over
     × MayHave rows (codes "day") (option_map (λ text. text.now) asked.day)
@@ -140,6 +154,29 @@ IsHistory rows asked = IsOver rows asked.over
     × HasFlag rows (codes "open") asked.is_open
     × Has rows (codes "journal") asked.journal.now
 
+abbrev pub IsAvs : List Row → AvsJob → Type 0
+IsAvs rows asked = IsOver rows asked.horizon
+    × MayHave rows (codes "since") (option_map (λ text. text.now) asked.since)
+    × HasFlag rows (codes "numeric") asked.numeric
+    × MayHave rows (codes "partner") (option_map (λ text. text.now) asked.partner)
+    × MayHave rows (codes "flight") (option_map (λ text. text.now) asked.flight)
+    × MayHave rows (codes "day") (option_map (λ text. text.now) asked.day)
+    × Has rows (codes "journal") asked.journal.now
+    × HasFlag rows (codes "open") asked.is_open
+
+abbrev pub IsReconcile : List Row → ReconcileJob → Type 0
+IsReconcile rows asked = IsOver rows asked.horizon
+    × MayHave rows (codes "session") (option_map (λ text. text.now) asked.session)
+    × HasFlag rows (codes "all") asked.all
+    × Has rows (codes "theirs") asked.theirs.now
+    × Has rows (codes "journal") asked.journal.now
+    × HasFlag rows (codes "open") asked.is_open
+
+abbrev pub IsCompare : List Row → CompareJob → Type 0
+IsCompare rows asked = Has rows (codes "from") asked.from.now
+    × Has rows (codes "to") asked.to.now
+    × MayHave rows (codes "journal") (option_map (λ text. text.now) asked.journal)
+
 abbrev pub IsAudit : List Row → AuditJob → Type 0
 IsAudit rows asked = IsOver rows asked.over
     × MayHave rows (codes "after") (option_map (λ text. text.now) asked.after)
@@ -158,6 +195,7 @@ IsReplies rows asked = IsOver rows asked.over
     × Has rows (codes "today") asked.today.now
     × MayHave rows (codes "session") (option_map (λ text. text.now) asked.session)
     × MayHave rows (codes "from") (option_map (λ text. text.now) asked.from)
+    × IsShaped rows asked.shape
     × Has rows (codes "journal") asked.journal.now
     × HasAny rows (codes "scripts") asked.scripts
 
@@ -177,7 +215,7 @@ Asks (Flights set first days shape) line = (line.0 ≡ codes "flights")
     × Has line.1 (codes "first") first.now
     × Has line.1 (codes "days") days.now
     × IsShaped line.1 shape
-Asks (Cover over) line = (line.0 ≡ codes "cover") × IsOver line.1 over
+Asks (Cover asked) line = (line.0 ≡ codes "cover") × IsCover line.1 asked
 Asks (Rooms asked) line = (line.0 ≡ codes "rooms") × IsRooms line.1 asked
 Asks (Loads asked) line = (line.0 ≡ codes "loads") × IsLoads line.1 asked
 Asks (Run asked) line = (line.0 ≡ codes "run") × IsRun line.1 asked
@@ -186,6 +224,9 @@ Asks (Bookings asked) line = (line.0 ≡ codes "bookings") × IsBookings line.1 
 Asks (Waiting asked) line = (line.0 ≡ codes "waiting") × IsWaiting line.1 asked
 Asks (Pickup asked) line = (line.0 ≡ codes "pickup") × IsPickup line.1 asked
 Asks (History asked) line = (line.0 ≡ codes "history") × IsHistory line.1 asked
+Asks (Avs asked) line = (line.0 ≡ codes "avs") × IsAvs line.1 asked
+Asks (Reconcile asked) line = (line.0 ≡ codes "reconcile") × IsReconcile line.1 asked
+Asks (Compare asked) line = (line.0 ≡ codes "compare") × IsCompare line.1 asked
 Asks (Audit asked) line = (line.0 ≡ codes "audit") × IsAudit line.1 asked
 Asks (Seal over journal) line = (line.0 ≡ codes "seal")
     × IsOver line.1 over
@@ -228,6 +269,9 @@ asked_values = (codes "ladder", [])
     ∷ (codes "waiting", horizon_values ++ codes "journal" ∷ [])
     ∷ (codes "pickup", horizon_values ++ codes "journal" ∷ [])
     ∷ (codes "history", horizon_values ++ codes "journal" ∷ [])
+    ∷ (codes "avs", horizon_values ++ codes "journal" ∷ [])
+    ∷ (codes "reconcile", horizon_values ++ codes "theirs" ∷ codes "journal" ∷ [])
+    ∷ (codes "compare", codes "from" ∷ codes "to" ∷ [])
     ∷ (codes "audit", horizon_values ++ codes "journal" ∷ [])
     ∷ (codes "seal", horizon_values ++ codes "journal" ∷ [])
     ∷ (codes "recover", horizon_values ++ codes "journal" ∷ [])

@@ -5,16 +5,16 @@ ghost use Rattle.seat_words.specs.Examples.{IsReadTo};
 /// Each command's example is taken, with the values that stand in it.
 pub fn examples_are_read()
     ensures ladder { IsReadTo (codes "seatdesk ladder") (codes "ladder")
-        ((codes "verbose", codes "false" ∷ []) ∷ []) }
+        ((codes "verbose", codes "false" ∷ []) ∷ (codes "quiet", codes "false" ∷ []) ∷ []) }
     ensures check { IsReadTo (codes "seatdesk check examples/summer.ssim") (codes "check")
         ((codes "set", codes "examples/summer.ssim" ∷ [])
-        ∷ (codes "verbose", codes "false" ∷ []) ∷ []) }
+        ∷ (codes "verbose", codes "false" ∷ []) ∷ (codes "quiet", codes "false" ∷ []) ∷ []) }
     ensures flights { IsReadTo (codes "seatdesk flights --first 2024-07-01 --days 31 examples/summer.ssim")
         (codes "flights")
         ((codes "first", codes "2024-07-01" ∷ []) ∷ (codes "days", codes "31" ∷ [])
         ∷ (codes "set", codes "examples/summer.ssim" ∷ [])
         ∷ (codes "csv", codes "false" ∷ []) ∷ (codes "json", codes "false" ∷ [])
-        ∷ (codes "verbose", codes "false" ∷ []) ∷ []) }
+        ∷ (codes "verbose", codes "false" ∷ []) ∷ (codes "quiet", codes "false" ∷ []) ∷ []) }
     ensures audit { IsReadTo
         (codes "seatdesk audit --set examples/summer.ssim --limits examples/limits.txt --first 2024-07-01 --days 31 examples/journal.txt")
         (codes "audit")
@@ -22,7 +22,7 @@ pub fn examples_are_read()
         ∷ (codes "first", codes "2024-07-01" ∷ []) ∷ (codes "days", codes "31" ∷ [])
         ∷ (codes "journal", codes "examples/journal.txt" ∷ [])
         ∷ (codes "sealed", codes "false" ∷ []) ∷ (codes "open", codes "false" ∷ []) ∷ (codes "shards", codes "false" ∷ [])
-        ∷ (codes "verbose", codes "false" ∷ []) ∷ []) }
+        ∷ (codes "verbose", codes "false" ∷ []) ∷ (codes "quiet", codes "false" ∷ []) ∷ []) }
     ensures run { IsReadTo
         (codes "seatdesk run --set examples/summer.ssim --limits examples/limits.txt --first 2024-07-01 --days 31 --today 2024-06-20 --journal journal.txt examples/london.txt examples/lisbon.txt")
         (codes "run")
@@ -31,7 +31,7 @@ pub fn examples_are_read()
         ∷ (codes "today", codes "2024-06-20" ∷ []) ∷ (codes "journal", codes "journal.txt" ∷ [])
         ∷ (codes "scripts", codes "examples/london.txt" ∷ codes "examples/lisbon.txt" ∷ [])
         ∷ (codes "no-clobber", codes "false" ∷ []) ∷ (codes "again", codes "false" ∷ [])
-        ∷ (codes "verbose", codes "false" ∷ []) ∷ []) }
+        ∷ (codes "verbose", codes "false" ∷ []) ∷ (codes "quiet", codes "false" ∷ []) ∷ []) }
     ensures changes { IsReadTo
         (codes "seatdesk run --set examples/summer.ssim --limits examples/limits.txt --first 2024-07-01 --days 31 --today 2024-06-20 --journal journal.txt --changes examples/changes.txt examples/london.txt examples/lisbon.txt")
         (codes "run")
@@ -41,7 +41,7 @@ pub fn examples_are_read()
         ∷ (codes "changes", codes "examples/changes.txt" ∷ [])
         ∷ (codes "scripts", codes "examples/london.txt" ∷ codes "examples/lisbon.txt" ∷ [])
         ∷ (codes "no-clobber", codes "false" ∷ []) ∷ (codes "again", codes "false" ∷ [])
-        ∷ (codes "verbose", codes "false" ∷ []) ∷ []) }
+        ∷ (codes "verbose", codes "false" ∷ []) ∷ (codes "quiet", codes "false" ∷ []) ∷ []) }
     ensures desks { IsReadTo
         (codes "seatdesk run --set examples/summer.ssim --limits examples/limits.txt --first 2024-07-01 --days 31 --today 2024-06-20 --journal journal.txt 1=examples/london.txt 3=examples/lisbon.txt")
         (codes "run")
@@ -50,7 +50,7 @@ pub fn examples_are_read()
         ∷ (codes "today", codes "2024-06-20" ∷ []) ∷ (codes "journal", codes "journal.txt" ∷ [])
         ∷ (codes "scripts", codes "1=examples/london.txt" ∷ codes "3=examples/lisbon.txt" ∷ [])
         ∷ (codes "no-clobber", codes "false" ∷ []) ∷ (codes "again", codes "false" ∷ [])
-        ∷ (codes "verbose", codes "false" ∷ []) ∷ []) }
+        ∷ (codes "verbose", codes "false" ∷ []) ∷ (codes "quiet", codes "false" ∷ []) ∷ []) }
     ensures manager { IsReadTo
         (codes "seatdesk run --set examples/summer.ssim --limits examples/limits.txt --first 2024-07-01 --days 31 --today 2024-06-20 --journal journal.txt --changes examples/changes.txt")
         (codes "run")
@@ -59,7 +59,7 @@ pub fn examples_are_read()
         ∷ (codes "today", codes "2024-06-20" ∷ []) ∷ (codes "journal", codes "journal.txt" ∷ [])
         ∷ (codes "changes", codes "examples/changes.txt" ∷ [])
         ∷ (codes "no-clobber", codes "false" ∷ []) ∷ (codes "again", codes "false" ∷ [])
-        ∷ (codes "verbose", codes "false" ∷ []) ∷ []) }
+        ∷ (codes "verbose", codes "false" ∷ []) ∷ (codes "quiet", codes "false" ∷ []) ∷ []) }
     ensures after { IsReadTo
         (codes "seatdesk run --set examples/summer.ssim --limits examples/limits.txt --first 2024-07-01 --days 31 --after examples/journal.txt --today 2024-06-21 --journal journal-2.txt examples/london-2.txt")
         (codes "run")
@@ -68,7 +68,7 @@ pub fn examples_are_read()
         ∷ (codes "after", codes "examples/journal.txt" ∷ []) ∷ (codes "today", codes "2024-06-21" ∷ [])
         ∷ (codes "journal", codes "journal-2.txt" ∷ []) ∷ (codes "scripts", codes "examples/london-2.txt" ∷ [])
         ∷ (codes "no-clobber", codes "false" ∷ []) ∷ (codes "again", codes "false" ∷ [])
-        ∷ (codes "verbose", codes "false" ∷ []) ∷ []) }
+        ∷ (codes "verbose", codes "false" ∷ []) ∷ (codes "quiet", codes "false" ∷ []) ∷ []) }
     ensures resume { IsReadTo
         (codes "seatdesk run --set examples/summer.ssim --limits examples/limits.txt --first 2024-07-01 --days 31 --resume examples/journal.txt --today 2024-06-20 --journal journal.txt examples/london.txt examples/lisbon.txt")
         (codes "run")
@@ -78,13 +78,14 @@ pub fn examples_are_read()
         ∷ (codes "journal", codes "journal.txt" ∷ [])
         ∷ (codes "scripts", codes "examples/london.txt" ∷ codes "examples/lisbon.txt" ∷ [])
         ∷ (codes "no-clobber", codes "false" ∷ []) ∷ (codes "again", codes "false" ∷ [])
-        ∷ (codes "verbose", codes "false" ∷ []) ∷ []) }
+        ∷ (codes "verbose", codes "false" ∷ []) ∷ (codes "quiet", codes "false" ∷ []) ∷ []) }
     ensures cover { IsReadTo
         (codes "seatdesk cover --set examples/summer.ssim --limits examples/limits.txt --first 2024-07-01 --days 31")
         (codes "cover")
         ((codes "set", codes "examples/summer.ssim" ∷ []) ∷ (codes "limits", codes "examples/limits.txt" ∷ [])
         ∷ (codes "first", codes "2024-07-01" ∷ []) ∷ (codes "days", codes "31" ∷ [])
-        ∷ (codes "verbose", codes "false" ∷ []) ∷ []) }
+        ∷ (codes "csv", codes "false" ∷ []) ∷ (codes "json", codes "false" ∷ [])
+        ∷ (codes "verbose", codes "false" ∷ []) ∷ (codes "quiet", codes "false" ∷ []) ∷ []) }
     ensures rooms { IsReadTo
         (codes "seatdesk rooms --set examples/summer.ssim --limits examples/limits.txt --first 2024-07-01 --days 31 --day 2024-07-27 --pair LHRKEF examples/journal.txt")
         (codes "rooms")
@@ -93,7 +94,7 @@ pub fn examples_are_read()
         ∷ (codes "day", codes "2024-07-27" ∷ []) ∷ (codes "pair", codes "LHRKEF" ∷ [])
         ∷ (codes "journal", codes "examples/journal.txt" ∷ [])
         ∷ (codes "bars", codes "false" ∷ []) ∷ (codes "csv", codes "false" ∷ []) ∷ (codes "json", codes "false" ∷ []) ∷ (codes "open", codes "false" ∷ [])
-        ∷ (codes "verbose", codes "false" ∷ []) ∷ []) }
+        ∷ (codes "verbose", codes "false" ∷ []) ∷ (codes "quiet", codes "false" ∷ []) ∷ []) }
     ensures loads { IsReadTo
         (codes "seatdesk loads --set examples/summer.ssim --limits examples/limits.txt --first 2024-07-01 --days 31 --day 2024-07-27 examples/journal.txt")
         (codes "loads")
@@ -102,7 +103,7 @@ pub fn examples_are_read()
         ∷ (codes "day", codes "2024-07-27" ∷ [])
         ∷ (codes "journal", codes "examples/journal.txt" ∷ [])
         ∷ (codes "bars", codes "false" ∷ []) ∷ (codes "csv", codes "false" ∷ []) ∷ (codes "json", codes "false" ∷ []) ∷ (codes "html", codes "false" ∷ []) ∷ (codes "open", codes "false" ∷ [])
-        ∷ (codes "verbose", codes "false" ∷ []) ∷ []) }
+        ∷ (codes "verbose", codes "false" ∷ []) ∷ (codes "quiet", codes "false" ∷ []) ∷ []) }
     ensures bookings { IsReadTo
         (codes "seatdesk bookings --set examples/summer.ssim --limits examples/limits.txt --first 2024-07-01 --days 31 --locator B3N6VC examples/journal.txt")
         (codes "bookings")
@@ -110,7 +111,7 @@ pub fn examples_are_read()
         ∷ (codes "first", codes "2024-07-01" ∷ []) ∷ (codes "days", codes "31" ∷ [])
         ∷ (codes "locator", codes "B3N6VC" ∷ []) ∷ (codes "journal", codes "examples/journal.txt" ∷ [])
         ∷ (codes "csv", codes "false" ∷ []) ∷ (codes "json", codes "false" ∷ []) ∷ (codes "open", codes "false" ∷ [])
-        ∷ (codes "verbose", codes "false" ∷ []) ∷ []) }
+        ∷ (codes "verbose", codes "false" ∷ []) ∷ (codes "quiet", codes "false" ∷ []) ∷ []) }
     ensures waiting { IsReadTo
         (codes "seatdesk waiting --set examples/summer.ssim --limits examples/limits.txt --first 2024-07-01 --days 31 --flight LZ601 --day 2024-07-27 examples/journal.txt")
         (codes "waiting")
@@ -119,7 +120,7 @@ pub fn examples_are_read()
         ∷ (codes "flight", codes "LZ601" ∷ []) ∷ (codes "day", codes "2024-07-27" ∷ [])
         ∷ (codes "journal", codes "examples/journal.txt" ∷ [])
         ∷ (codes "csv", codes "false" ∷ []) ∷ (codes "json", codes "false" ∷ []) ∷ (codes "open", codes "false" ∷ [])
-        ∷ (codes "verbose", codes "false" ∷ []) ∷ []) }
+        ∷ (codes "verbose", codes "false" ∷ []) ∷ (codes "quiet", codes "false" ∷ []) ∷ []) }
     ensures pickup { IsReadTo
         (codes "seatdesk pickup --set examples/summer.ssim --limits examples/limits.txt --first 2024-07-01 --days 31 --behind 8 examples/journal.txt")
         (codes "pickup")
@@ -128,7 +129,7 @@ pub fn examples_are_read()
         ∷ (codes "behind", codes "8" ∷ [])
         ∷ (codes "journal", codes "examples/journal.txt" ∷ [])
         ∷ (codes "csv", codes "false" ∷ []) ∷ (codes "json", codes "false" ∷ []) ∷ (codes "open", codes "false" ∷ [])
-        ∷ (codes "verbose", codes "false" ∷ []) ∷ []) }
+        ∷ (codes "verbose", codes "false" ∷ []) ∷ (codes "quiet", codes "false" ∷ []) ∷ []) }
     ensures history { IsReadTo
         (codes "seatdesk history --set examples/summer.ssim --limits examples/limits.txt --first 2024-07-01 --days 31 --locator W8Y3ZA examples/journal.txt")
         (codes "history")
@@ -137,7 +138,39 @@ pub fn examples_are_read()
         ∷ (codes "locator", codes "W8Y3ZA" ∷ [])
         ∷ (codes "journal", codes "examples/journal.txt" ∷ [])
         ∷ (codes "csv", codes "false" ∷ []) ∷ (codes "json", codes "false" ∷ []) ∷ (codes "open", codes "false" ∷ [])
-        ∷ (codes "verbose", codes "false" ∷ []) ∷ []) }
+        ∷ (codes "verbose", codes "false" ∷ []) ∷ (codes "quiet", codes "false" ∷ []) ∷ []) }
+    ensures avs { IsReadTo
+        (codes "seatdesk avs --set examples/summer.ssim --limits examples/limits.txt --first 2024-07-01 --days 31 examples/journal.txt")
+        (codes "avs")
+        ((codes "set", codes "examples/summer.ssim" ∷ []) ∷ (codes "limits", codes "examples/limits.txt" ∷ [])
+        ∷ (codes "first", codes "2024-07-01" ∷ []) ∷ (codes "days", codes "31" ∷ [])
+        ∷ (codes "journal", codes "examples/journal.txt" ∷ [])
+        ∷ (codes "numeric", codes "false" ∷ []) ∷ (codes "open", codes "false" ∷ [])
+        ∷ (codes "verbose", codes "false" ∷ []) ∷ (codes "quiet", codes "false" ∷ []) ∷ []) }
+    ensures since { IsReadTo
+        (codes "seatdesk avs --set examples/summer.ssim --limits examples/limits.txt --first 2024-07-01 --days 31 --since examples/journal.txt --numeric journal-2.txt")
+        (codes "avs")
+        ((codes "set", codes "examples/summer.ssim" ∷ []) ∷ (codes "limits", codes "examples/limits.txt" ∷ [])
+        ∷ (codes "first", codes "2024-07-01" ∷ []) ∷ (codes "days", codes "31" ∷ [])
+        ∷ (codes "since", codes "examples/journal.txt" ∷ []) ∷ (codes "numeric", codes "true" ∷ [])
+        ∷ (codes "journal", codes "journal-2.txt" ∷ [])
+        ∷ (codes "open", codes "false" ∷ [])
+        ∷ (codes "verbose", codes "false" ∷ []) ∷ (codes "quiet", codes "false" ∷ []) ∷ []) }
+    ensures reconcile { IsReadTo
+        (codes "seatdesk reconcile --set examples/summer.ssim --limits examples/limits.txt --first 2024-07-01 --days 31 --session 2 theirs.txt examples/journal.txt")
+        (codes "reconcile")
+        ((codes "set", codes "examples/summer.ssim" ∷ []) ∷ (codes "limits", codes "examples/limits.txt" ∷ [])
+        ∷ (codes "first", codes "2024-07-01" ∷ []) ∷ (codes "days", codes "31" ∷ [])
+        ∷ (codes "session", codes "2" ∷ [])
+        ∷ (codes "theirs", codes "theirs.txt" ∷ []) ∷ (codes "journal", codes "examples/journal.txt" ∷ [])
+        ∷ (codes "all", codes "false" ∷ []) ∷ (codes "open", codes "false" ∷ [])
+        ∷ (codes "verbose", codes "false" ∷ []) ∷ (codes "quiet", codes "false" ∷ []) ∷ []) }
+    ensures compare { IsReadTo
+        (codes "seatdesk compare --from examples/summer.toml --to winter.toml examples/journal.txt")
+        (codes "compare")
+        ((codes "from", codes "examples/summer.toml" ∷ []) ∷ (codes "to", codes "winter.toml" ∷ [])
+        ∷ (codes "journal", codes "examples/journal.txt" ∷ [])
+        ∷ (codes "verbose", codes "false" ∷ []) ∷ (codes "quiet", codes "false" ∷ []) ∷ []) }
     ensures told { IsReadTo
         (codes "seatdesk told --set examples/summer.ssim --limits examples/limits.txt --first 2024-07-01 --days 31 --desk 2 examples/journal.txt")
         (codes "told")
@@ -145,7 +178,7 @@ pub fn examples_are_read()
         ∷ (codes "first", codes "2024-07-01" ∷ []) ∷ (codes "days", codes "31" ∷ [])
         ∷ (codes "desk", codes "2" ∷ []) ∷ (codes "journal", codes "examples/journal.txt" ∷ [])
         ∷ (codes "open", codes "false" ∷ [])
-        ∷ (codes "verbose", codes "false" ∷ []) ∷ []) }
+        ∷ (codes "verbose", codes "false" ∷ []) ∷ (codes "quiet", codes "false" ∷ []) ∷ []) }
     ensures against { IsReadTo
         (codes "seatdesk audit --set examples/summer.ssim --limits examples/limits.txt --first 2024-07-01 --days 31 --today 2024-06-20 examples/journal.txt examples/london.txt examples/lisbon.txt")
         (codes "audit")
@@ -154,7 +187,7 @@ pub fn examples_are_read()
         ∷ (codes "today", codes "2024-06-20" ∷ []) ∷ (codes "journal", codes "examples/journal.txt" ∷ [])
         ∷ (codes "scripts", codes "examples/london.txt" ∷ codes "examples/lisbon.txt" ∷ [])
         ∷ (codes "sealed", codes "false" ∷ []) ∷ (codes "open", codes "false" ∷ []) ∷ (codes "shards", codes "false" ∷ [])
-        ∷ (codes "verbose", codes "false" ∷ []) ∷ []) }
+        ∷ (codes "verbose", codes "false" ∷ []) ∷ (codes "quiet", codes "false" ∷ []) ∷ []) }
     ensures behind { IsReadTo
         (codes "seatdesk audit --set examples/summer.ssim --limits examples/limits.txt --first 2024-07-01 --days 31 --after examples/journal.txt --today 2024-06-21 journal-2.txt examples/london-2.txt")
         (codes "audit")
@@ -163,7 +196,7 @@ pub fn examples_are_read()
         ∷ (codes "after", codes "examples/journal.txt" ∷ []) ∷ (codes "today", codes "2024-06-21" ∷ [])
         ∷ (codes "journal", codes "journal-2.txt" ∷ []) ∷ (codes "scripts", codes "examples/london-2.txt" ∷ [])
         ∷ (codes "sealed", codes "false" ∷ []) ∷ (codes "open", codes "false" ∷ []) ∷ (codes "shards", codes "false" ∷ [])
-        ∷ (codes "verbose", codes "false" ∷ []) ∷ []) }
+        ∷ (codes "verbose", codes "false" ∷ []) ∷ (codes "quiet", codes "false" ∷ []) ∷ []) }
     ensures shards { IsReadTo
         (codes "seatdesk audit --set examples/summer.ssim --limits examples/limits.txt --first 2024-07-01 --days 31 --shards examples/journal.txt journal-3.txt")
         (codes "audit")
@@ -172,14 +205,14 @@ pub fn examples_are_read()
         ∷ (codes "shards", codes "true" ∷ []) ∷ (codes "journal", codes "examples/journal.txt" ∷ [])
         ∷ (codes "scripts", codes "journal-3.txt" ∷ [])
         ∷ (codes "sealed", codes "false" ∷ []) ∷ (codes "open", codes "false" ∷ [])
-        ∷ (codes "verbose", codes "false" ∷ []) ∷ []) }
+        ∷ (codes "verbose", codes "false" ∷ []) ∷ (codes "quiet", codes "false" ∷ []) ∷ []) }
     ensures seal { IsReadTo
         (codes "seatdesk seal --set examples/summer.ssim --limits examples/limits.txt --first 2024-07-01 --days 31 journal.txt")
         (codes "seal")
         ((codes "set", codes "examples/summer.ssim" ∷ []) ∷ (codes "limits", codes "examples/limits.txt" ∷ [])
         ∷ (codes "first", codes "2024-07-01" ∷ []) ∷ (codes "days", codes "31" ∷ [])
         ∷ (codes "journal", codes "journal.txt" ∷ [])
-        ∷ (codes "verbose", codes "false" ∷ []) ∷ []) }
+        ∷ (codes "verbose", codes "false" ∷ []) ∷ (codes "quiet", codes "false" ∷ []) ∷ []) }
     ensures serve { IsReadTo
         (codes "seatdesk serve --set examples/summer.ssim --limits examples/limits.txt --first 2024-07-01 --days 31 --today 2024-06-20 --journal journal.txt --desk -")
         (codes "serve")
@@ -187,7 +220,7 @@ pub fn examples_are_read()
         ∷ (codes "first", codes "2024-07-01" ∷ []) ∷ (codes "days", codes "31" ∷ [])
         ∷ (codes "today", codes "2024-06-20" ∷ []) ∷ (codes "journal", codes "journal.txt" ∷ [])
         ∷ (codes "desk", codes "-" ∷ [])
-        ∷ (codes "verbose", codes "false" ∷ []) ∷ []) }
+        ∷ (codes "verbose", codes "false" ∷ []) ∷ (codes "quiet", codes "false" ∷ []) ∷ []) }
     ensures pipes { IsReadTo
         (codes "seatdesk serve --set examples/summer.ssim --limits examples/limits.txt --first 2024-07-01 --days 31 --today 2024-06-20 --journal journal.txt --desk 1=london.in:london.out --desk 2=lisbon.in:lisbon.out --manager m.in:m.out")
         (codes "serve")
@@ -196,7 +229,7 @@ pub fn examples_are_read()
         ∷ (codes "today", codes "2024-06-20" ∷ []) ∷ (codes "journal", codes "journal.txt" ∷ [])
         ∷ (codes "desk", codes "1=london.in:london.out" ∷ codes "2=lisbon.in:lisbon.out" ∷ [])
         ∷ (codes "manager", codes "m.in:m.out" ∷ [])
-        ∷ (codes "verbose", codes "false" ∷ []) ∷ []) }
+        ∷ (codes "verbose", codes "false" ∷ []) ∷ (codes "quiet", codes "false" ∷ []) ∷ []) }
     ensures feed { IsReadTo
         (codes "seatdesk serve --set examples/summer.ssim --limits examples/limits.txt --first 2024-07-01 --days 31 --journal journal.txt --feed -")
         (codes "serve")
@@ -204,7 +237,7 @@ pub fn examples_are_read()
         ∷ (codes "first", codes "2024-07-01" ∷ []) ∷ (codes "days", codes "31" ∷ [])
         ∷ (codes "journal", codes "journal.txt" ∷ [])
         ∷ (codes "feed", codes "-" ∷ [])
-        ∷ (codes "verbose", codes "false" ∷ []) ∷ []) }
+        ∷ (codes "verbose", codes "false" ∷ []) ∷ (codes "quiet", codes "false" ∷ []) ∷ []) }
     ensures recover { IsReadTo
         (codes "seatdesk recover --set examples/summer.ssim --limits examples/limits.txt --first 2024-07-01 --days 31 journal.txt")
         (codes "recover")
@@ -212,7 +245,7 @@ pub fn examples_are_read()
         ∷ (codes "first", codes "2024-07-01" ∷ []) ∷ (codes "days", codes "31" ∷ [])
         ∷ (codes "journal", codes "journal.txt" ∷ [])
         ∷ (codes "cut", codes "false" ∷ [])
-        ∷ (codes "verbose", codes "false" ∷ []) ∷ []) }
+        ∷ (codes "verbose", codes "false" ∷ []) ∷ (codes "quiet", codes "false" ∷ []) ∷ []) }
     ensures replies { IsReadTo
         (codes "seatdesk replies --set examples/summer.ssim --limits examples/limits.txt --first 2024-07-01 --days 31 --today 2024-06-20 examples/journal.txt examples/london.txt examples/lisbon.txt")
         (codes "replies")
@@ -220,7 +253,8 @@ pub fn examples_are_read()
         ∷ (codes "first", codes "2024-07-01" ∷ []) ∷ (codes "days", codes "31" ∷ [])
         ∷ (codes "today", codes "2024-06-20" ∷ []) ∷ (codes "journal", codes "examples/journal.txt" ∷ [])
         ∷ (codes "scripts", codes "examples/london.txt" ∷ codes "examples/lisbon.txt" ∷ [])
-        ∷ (codes "verbose", codes "false" ∷ []) ∷ []) }
+        ∷ (codes "csv", codes "false" ∷ []) ∷ (codes "json", codes "false" ∷ [])
+        ∷ (codes "verbose", codes "false" ∷ []) ∷ (codes "quiet", codes "false" ∷ []) ∷ []) }
     ensures why { IsReadTo
         (codes "seatdesk why --set examples/summer.ssim --limits examples/limits.txt --first 2024-07-01 --days 31 --line 6 examples/journal.txt")
         (codes "why")
@@ -228,20 +262,24 @@ pub fn examples_are_read()
         ∷ (codes "first", codes "2024-07-01" ∷ []) ∷ (codes "days", codes "31" ∷ [])
         ∷ (codes "line", codes "6" ∷ []) ∷ (codes "journal", codes "examples/journal.txt" ∷ [])
         ∷ (codes "open", codes "false" ∷ [])
-        ∷ (codes "verbose", codes "false" ∷ []) ∷ []) }
+        ∷ (codes "verbose", codes "false" ∷ []) ∷ (codes "quiet", codes "false" ∷ []) ∷ []) }
     ensures explain { IsReadTo (codes "seatdesk explain Q2 A5 1 2") (codes "explain")
         ((codes "code", codes "Q2" ∷ []) ∷ (codes "numbers", codes "A5" ∷ codes "1" ∷ codes "2" ∷ [])
-        ∷ (codes "verbose", codes "false" ∷ []) ∷ []) }
+        ∷ (codes "verbose", codes "false" ∷ []) ∷ (codes "quiet", codes "false" ∷ []) ∷ []) }
     ensures pasted { IsReadTo (codes "seatdesk explain seatdesk: Q2 A5 1 2") (codes "explain")
         ((codes "code", codes "seatdesk:" ∷ [])
         ∷ (codes "numbers", codes "Q2" ∷ codes "A5" ∷ codes "1" ∷ codes "2" ∷ [])
-        ∷ (codes "verbose", codes "false" ∷ []) ∷ []) }
+        ∷ (codes "verbose", codes "false" ∷ []) ∷ (codes "quiet", codes "false" ∷ []) ∷ []) }
     ensures noted { IsReadTo (codes "seatdesk explain kept day.txt --after") (codes "explain")
         ((codes "code", codes "kept" ∷ []) ∷ (codes "numbers", codes "day.txt" ∷ codes "--after" ∷ [])
-        ∷ (codes "verbose", codes "false" ∷ []) ∷ []) }
+        ∷ (codes "verbose", codes "false" ∷ []) ∷ (codes "quiet", codes "false" ∷ []) ∷ []) }
     ensures verbose { IsReadTo (codes "seatdesk check -v examples/summer.ssim") (codes "check")
-        ((codes "verbose", codes "true" ∷ []) ∷ (codes "set", codes "examples/summer.ssim" ∷ []) ∷ []) }
+        ((codes "verbose", codes "true" ∷ []) ∷ (codes "set", codes "examples/summer.ssim" ∷ [])
+        ∷ (codes "quiet", codes "false" ∷ []) ∷ []) }
+    ensures quiet { IsReadTo (codes "seatdesk check --quiet examples/summer.ssim") (codes "check")
+        ((codes "quiet", codes "true" ∷ []) ∷ (codes "set", codes "examples/summer.ssim" ∷ [])
+        ∷ (codes "verbose", codes "false" ∷ []) ∷ []) }
     ensures season { IsReadTo (codes "seatdesk season examples/summer.ssim examples/limits.txt") (codes "season")
         ((codes "set", codes "examples/summer.ssim" ∷ []) ∷ (codes "limits", codes "examples/limits.txt" ∷ [])
-        ∷ (codes "verbose", codes "false" ∷ []) ∷ []) }
+        ∷ (codes "verbose", codes "false" ∷ []) ∷ (codes "quiet", codes "false" ∷ []) ∷ []) }
 {}

@@ -4,7 +4,7 @@ ghost use Rattle.clap.specs.Walk.{texts};
 ghost use Rattle.clap.specs.Words.{FailsBy, all_of, fault_of, first_of, found_of, kind_of, matches_of, rows_of, subcommand_of, subcommand_rows_of, takes};
 ghost use Rattle.clap.specs.declared.error.kind.ErrorKind.TheVariants.{ArgumentConflict, InvalidValue, OutOfMemory};
 ghost use Rattle.seat_words.specs.CommandLine.{seatdesk_app};
-ghost use Rattle.seat_words.specs.Jobs.{Asks, IsAudit, IsBookings, IsHistory, IsLoads, IsOver, IsPickup, IsReplies, IsRooms, IsRun, IsServe, IsShaped, IsTold, IsWaiting, has_values, horizon_values, is_answerable, is_complete, is_flagged, is_verbose};
+ghost use Rattle.seat_words.specs.Jobs.{Asks, IsAudit, IsAvs, IsBookings, IsCompare, IsCover, IsHistory, IsLoads, IsOver, IsPickup, IsReconcile, IsReplies, IsRooms, IsRun, IsServe, IsShaped, IsTold, IsWaiting, has_values, horizon_values, is_answerable, is_complete, is_flagged, is_quiet, is_switched, is_verbose};
 
 use super::commands::seatdesk_command;
 use super::several::Several;
@@ -44,10 +44,8 @@ pub enum Job<'a> {
         days: &'a str,
         shape: Shape,
     },
-    /// `seatdesk cover` over a horizon
-    Cover {
-        over: Horizon<'a>,
-    },
+    /// `seatdesk cover` over a horizon `[--csv] [--json]`
+    Cover(CoverJob<'a>),
     /// `seatdesk rooms` over a horizon `[--day DATE] [--pair PAIR] [--bars] [--csv] [--json] [--open] [JOURNAL]`
     Rooms(RoomsJob<'a>),
     /// `seatdesk loads` over a horizon `[--flight FLIGHT] [--day DATE] [--pair PAIR] [--by BY] [--bars] [--csv] [--json] [--html]
@@ -67,6 +65,12 @@ pub enum Job<'a> {
     Pickup(PickupJob<'a>),
     /// `seatdesk history` over a horizon `[--locator LOCATOR] [--flight FLIGHT] [--day DATE] [--csv] [--json] [--open] JOURNAL`
     History(HistoryJob<'a>),
+    /// `seatdesk avs` over a horizon `[--since OLDER] [--numeric] [--partner FILE] [--flight FLIGHT] [--day DATE] [--open] JOURNAL`
+    Avs(AvsJob<'a>),
+    /// `seatdesk reconcile` over a horizon `[--session N] [--all] [--open] THEIRS JOURNAL`
+    Reconcile(ReconcileJob<'a>),
+    /// `seatdesk compare --from SEASON --to SEASON [JOURNAL]`
+    Compare(CompareJob<'a>),
     /// `seatdesk audit` over a horizon `[--after JOURNAL] [--behind N] [--today DATE] [--sealed] [--open] [--shards] JOURNAL [SCRIPT...]`
     Audit(AuditJob<'a>),
     /// `seatdesk seal` over a horizon `JOURNAL`
@@ -80,7 +84,8 @@ pub enum Job<'a> {
         cut: bool,
         journal: &'a str,
     },
-    /// `seatdesk replies` over a horizon `[--after JOURNAL] [--behind N] --today DATE [--session N] [--from LINE] JOURNAL [SCRIPT...]`
+    /// `seatdesk replies` over a horizon `[--after JOURNAL] [--behind N] --today DATE [--session N] [--from LINE] [--csv] [--json]
+    /// JOURNAL [SCRIPT...]`
     Replies(RepliesJob<'a>),
     /// `seatdesk told` over a horizon `--desk N [--from LINE] [--open] JOURNAL`
     Told(ToldJob<'a>),
@@ -102,6 +107,13 @@ pub enum Job<'a> {
         set: &'a str,
         limits: &'a str,
     },
+}
+
+/// What `seatdesk cover` asks for.
+#[derive(Clone, Copy)]
+pub struct CoverJob<'a> {
+    pub over: Horizon<'a>,
+    pub shape: Shape,
 }
 
 /// What `seatdesk rooms` asks for.
@@ -214,6 +226,41 @@ pub struct HistoryJob<'a> {
     pub journal: &'a str,
 }
 
+/// What `seatdesk avs` asks for.
+#[derive(Clone, Copy)]
+pub struct AvsJob<'a> {
+    pub horizon: Horizon<'a>,
+    /// An older journal, behind whose lines only changes are written.
+    pub since: Option<&'a str>,
+    pub numeric: bool,
+    /// The file of a partner's thresholds.
+    pub partner: Option<&'a str>,
+    pub flight: Option<&'a str>,
+    pub day: Option<&'a str>,
+    pub journal: &'a str,
+    pub is_open: bool,
+}
+
+/// What `seatdesk reconcile` asks for: of the session or of all, one of which is named.
+#[derive(Clone, Copy)]
+pub struct ReconcileJob<'a> {
+    pub horizon: Horizon<'a>,
+    pub session: Option<&'a str>,
+    pub all: bool,
+    /// The list of a partner or a desk.
+    pub theirs: &'a str,
+    pub journal: &'a str,
+    pub is_open: bool,
+}
+
+/// What `seatdesk compare` asks for: two season files, and the journal of the first.
+#[derive(Clone, Copy)]
+pub struct CompareJob<'a> {
+    pub from: &'a str,
+    pub to: &'a str,
+    pub journal: Option<&'a str>,
+}
+
 /// What `seatdesk audit` asks for.
 #[derive(Drop)]
 pub struct AuditJob<'a> {
@@ -239,6 +286,7 @@ pub struct RepliesJob<'a> {
     pub today: &'a str,
     pub session: Option<&'a str>,
     pub from: Option<&'a str>,
+    pub shape: Shape,
     pub journal: &'a str,
     /// None or more.
     pub scripts: Several<'a>,
@@ -254,11 +302,12 @@ pub struct ToldJob<'a> {
     pub journal: &'a str,
 }
 
-/// A command line: the command that it names, and whether `-v` or `--verbose` stands ahead of it or behind it.
+/// A command line: the command that it names, and whether `-v` or `--verbose`, or `--quiet`, stands ahead of it or behind it.
 #[derive(Drop)]
 pub struct CommandLine<'a> {
     pub job: Job<'a>,
     pub is_verbose: bool,
+    pub is_quiet: bool,
 }
 
 /// The command that the words name; the first word is the program's own name.
@@ -268,24 +317,31 @@ pub fn read_words<'a>(alloc: Global, words: &'a [&'a str]) -> Result<CommandLine
         IsSomeAnd (subcommand_of seatdesk_app (texts words.entry.now)) (Asks asked.job)) }
     ensures verbose { IfOk result (λ asked. is_verbose (matches_of seatdesk_app (texts words.entry.now))
         (subcommand_of seatdesk_app (texts words.entry.now)) ≡ asked.is_verbose) }
+    ensures quiet { IfOk result (λ asked. is_quiet (matches_of seatdesk_app (texts words.entry.now))
+        (subcommand_of seatdesk_app (texts words.entry.now)) ≡ asked.is_quiet) }
     ensures passes { IfErr result (λ e.
         takes seatdesk_app (texts words.entry.now) ≡ true → kind_of e ≡ OutOfMemory) }
     ensures kinds { FailsBy (fault_of seatdesk_app (texts words.entry.now)) result }
 {
     let command = seatdesk_command(alloc)?;
     let matches = command.try_get_matches_from(words)?;
-    let is_verbose = is_verbose(&matches);
+    let is_verbose = is_switched(&matches, "verbose");
+    let is_quiet = is_switched(&matches, "quiet");
     let job = job_of(alloc, &matches)?;
-    Ok(CommandLine { job, is_verbose })
+    Ok(CommandLine {
+        job,
+        is_verbose,
+        is_quiet,
+    })
 }
 
-// Whether -v or --verbose stands ahead of the command or behind it.
-fn is_verbose(matches: &ArgMatches<'_>) -> bool
-    ensures { is_verbose (rows_of (found_of matches.now)) (subcommand_rows_of matches.now) ≡ result }
+// Whether a switch stands ahead of the command or behind it.
+fn is_switched(matches: &ArgMatches<'_>, id: &str) -> bool
+    ensures { is_switched id.now (rows_of (found_of matches.now)) (subcommand_rows_of matches.now) ≡ result }
 {
     match matches.subcommand() {
-        Some((_, inner)) => flag_of(matches, "verbose") || flag_of(inner, "verbose"),
-        None => flag_of(matches, "verbose"),
+        Some((_, inner)) => flag_of(matches, id) || flag_of(inner, id),
+        None => flag_of(matches, id),
     }
 }
 
@@ -331,9 +387,7 @@ fn job_named<'a>(alloc: Global, name: &str, matches: &ArgMatches<'a>) -> Result<
             days: value_of(matches, "days"),
             shape: shape_of(matches),
         }),
-        "cover" => Ok(Job::Cover {
-            over: horizon_of(matches),
-        }),
+        "cover" => Ok(Job::Cover(cover_asked(matches))),
         "rooms" => Ok(Job::Rooms(rooms_asked(matches))),
         "loads" => Ok(Job::Loads(loads_asked(matches))),
         "run" => Ok(Job::Run(run_asked(alloc, matches)?)),
@@ -342,6 +396,9 @@ fn job_named<'a>(alloc: Global, name: &str, matches: &ArgMatches<'a>) -> Result<
         "waiting" => Ok(Job::Waiting(waiting_asked(matches))),
         "pickup" => Ok(Job::Pickup(pickup_asked(matches))),
         "history" => Ok(Job::History(history_asked(matches))),
+        "avs" => Ok(Job::Avs(avs_asked(matches))),
+        "reconcile" => Ok(Job::Reconcile(reconcile_asked(matches))),
+        "compare" => Ok(Job::Compare(compare_asked(matches))),
         "audit" => Ok(Job::Audit(audit_asked(alloc, matches)?)),
         "seal" => Ok(Job::Seal {
             over: horizon_of(matches),
@@ -369,6 +426,16 @@ fn job_named<'a>(alloc: Global, name: &str, matches: &ArgMatches<'a>) -> Result<
             limits: value_of(matches, "limits"),
         }),
         _ => unreachable!(),
+    }
+}
+
+fn cover_asked<'a>(matches: &ArgMatches<'a>) -> CoverJob<'a>
+    requires { is_complete (codes "cover", rows_of (found_of matches.now)) ≡ true }
+    ensures { IsCover (rows_of (found_of matches.now)) result }
+{
+    CoverJob {
+        over: horizon_of(matches),
+        shape: shape_of(matches),
     }
 }
 
@@ -503,6 +570,47 @@ fn history_asked<'a>(matches: &ArgMatches<'a>) -> HistoryJob<'a>
     }
 }
 
+fn avs_asked<'a>(matches: &ArgMatches<'a>) -> AvsJob<'a>
+    requires { is_complete (codes "avs", rows_of (found_of matches.now)) ≡ true }
+    ensures { IsAvs (rows_of (found_of matches.now)) result }
+{
+    AvsJob {
+        horizon: horizon_of(matches),
+        since: may_value_of(matches, "since"),
+        numeric: flag_of(matches, "numeric"),
+        partner: may_value_of(matches, "partner"),
+        flight: may_value_of(matches, "flight"),
+        day: may_value_of(matches, "day"),
+        journal: value_of(matches, "journal"),
+        is_open: flag_of(matches, "open"),
+    }
+}
+
+fn reconcile_asked<'a>(matches: &ArgMatches<'a>) -> ReconcileJob<'a>
+    requires { is_complete (codes "reconcile", rows_of (found_of matches.now)) ≡ true }
+    ensures { IsReconcile (rows_of (found_of matches.now)) result }
+{
+    ReconcileJob {
+        horizon: horizon_of(matches),
+        session: may_value_of(matches, "session"),
+        all: flag_of(matches, "all"),
+        theirs: value_of(matches, "theirs"),
+        journal: value_of(matches, "journal"),
+        is_open: flag_of(matches, "open"),
+    }
+}
+
+fn compare_asked<'a>(matches: &ArgMatches<'a>) -> CompareJob<'a>
+    requires { is_complete (codes "compare", rows_of (found_of matches.now)) ≡ true }
+    ensures { IsCompare (rows_of (found_of matches.now)) result }
+{
+    CompareJob {
+        from: value_of(matches, "from"),
+        to: value_of(matches, "to"),
+        journal: may_value_of(matches, "journal"),
+    }
+}
+
 fn audit_asked<'a>(alloc: Global, matches: &ArgMatches<'a>) -> Result<AuditJob<'a>, AllocError>
     requires { is_complete (codes "audit", rows_of (found_of matches.now)) ≡ true }
     ensures { IfOk result (IsAudit (rows_of (found_of matches.now))) }
@@ -531,6 +639,7 @@ fn replies_asked<'a>(alloc: Global, matches: &ArgMatches<'a>) -> Result<RepliesJ
         today: value_of(matches, "today"),
         session: may_value_of(matches, "session"),
         from: may_value_of(matches, "from"),
+        shape: shape_of(matches),
         journal: value_of(matches, "journal"),
         scripts: any_values_of(alloc, matches, "scripts")?,
     })

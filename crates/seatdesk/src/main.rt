@@ -7,9 +7,15 @@ mod season;
 mod undone;
 
 use clap::error::ErrorKind;
+use command_inputs::meter_of;
+use progress_meter::{Meter, Stage};
 use seat_desk::DeskFault;
 use seat_files::Refusal;
-use seat_words::{AuditJob, Job, ServeJob, WordFault, read_words, wrong_value};
+use seat_season::lacks_horizon;
+use seat_words::{
+    AuditJob, CommandLine, Job, ReconcileJob, ServeJob, WordFault, read_words, words_in_conflict,
+    wrong_value,
+};
 use std::io;
 use std::io::IsTerminal;
 use std::process::ExitCode;
@@ -21,6 +27,22 @@ use undone::Undone;
 /// What a host lacks whose words name nobody whom it serves.
 const NOBODY: &str =
     "serve names nobody whom it serves: --desk - takes a desk on standard input, --desk N=IN:OUT and --manager IN:OUT take desks and a manager on pipes, --feed - takes one stream of lines for all";
+
+/// What stands for what a command over a horizon lacks.
+const SEASON: &str =
+    "A season file stands in the place of --set, --limits, --first and --days: --season SEASON";
+
+/// What stands behind `season` and names no file.
+const NO_LIMITS: &str = "invalid value '' for '<LIMITS>': it names no file";
+
+/// What says whose bookings a list is to have: one of two, and not both.
+const WHOSE: &str =
+    "reconcile lacks whose bookings the list is to have: --session N says those that this session made, --all all live ones";
+
+const BOTH: &str = "the argument '--session <N>' cannot be used with '--all'";
+
+/// The status of a command that was done, and found a difference.
+const DIFFERS: u8 = 1;
 
 fn main(rt: HostRuntime) -> ExitCode {
     match start(&rt, &rt) {
@@ -62,60 +84,124 @@ pub fn done_by<T: Threads + Wait + Clock + Sync + Copy + Send + 'static>(
 ) -> io::Result<ExitCode> {
     let asked = match read_words(rt.alloc(), words) {
         Ok(asked) => asked,
-        Err(error) => return Ok(misread(rt, &error)),
+        Err(error) => {
+            let status = misread(rt, &error);
+            tell_of_season(rt, words, &error);
+            return Ok(status);
+        }
     };
-    Ok(match carry_out(rt, threads, &asked.job) {
-        Ok(()) => ExitCode::SUCCESS,
+    let meter = meter_for(rt, threads, &asked);
+    let outcome = carry_out(rt, threads, &meter, &asked);
+    meter.end(rt);
+    Ok(match outcome {
+        Ok(status) => status,
         Err(Undone::Word(error)) => misread(rt, &error),
         Err(Undone::Refused(refusal)) => refused(rt, asked.is_verbose, &refusal),
     })
+}
+
+/// Says that a season may stand for what is lacking, where nothing of it is there.
+fn tell_of_season(rt: &HostRuntime, words: &[&str], error: &clap::Error) {
+    if error.kind() == ErrorKind::MissingRequiredArgument && lacks_horizon(words) {
+        let _ = eprintln!(rt; "\n{SEASON}");
+    }
 }
 
 /// Does what the command line asks for.
 fn carry_out<'a, T: Threads + Wait + Clock + Sync + Copy + Send + 'static>(
     rt: &'a HostRuntime,
     threads: &T,
-    job: &Job<'a>,
-) -> Result<(), Undone<'a>> {
-    match job {
+    meter: &Meter,
+    asked: &CommandLine<'a>,
+) -> Result<ExitCode, Undone<'a>> {
+    match &asked.job {
         Job::Ladder => done(question_commands::ladder(rt)),
-        Job::Check { set } => done(question_commands::check(rt, set)),
+        Job::Check { set } => done(question_commands::check(rt, meter, set)),
         Job::Flights {
             set,
             first,
             days,
             shape,
-        } => done(question_commands::flights(rt, set, first, days, *shape)),
-        Job::Cover { over } => done(question_commands::cover(rt, threads, over)),
-        Job::Rooms(asked) => done(question_commands::rooms(rt, threads, asked)),
-        Job::Loads(asked) => done(question_commands::loads(rt, threads, asked)),
-        Job::Run(asked) => done(sale_commands::run(rt, threads, asked)),
+        } => done(question_commands::flights(rt, meter, set, first, days, *shape)),
+        Job::Cover(asked) => done(question_commands::cover(rt, threads, meter, asked)),
+        Job::Rooms(asked) => done(question_commands::rooms(rt, threads, meter, asked)),
+        Job::Loads(asked) => done(question_commands::loads(rt, threads, meter, asked)),
+        Job::Run(asked) => done(sale_commands::run(rt, threads, meter, asked)),
         Job::Serve(asked) => served(rt, threads, asked),
-        Job::Bookings(asked) => done(question_commands::bookings(rt, threads, asked)),
-        Job::Waiting(asked) => done(question_commands::waiting(rt, threads, asked)),
-        Job::Pickup(asked) => done(question_commands::pickup(rt, threads, asked)),
-        Job::History(asked) => done(question_commands::history(rt, threads, asked)),
-        Job::Audit(asked) => done(audited(rt, threads, asked)),
-        Job::Seal { over, journal } => done(question_commands::seal(rt, threads, over, journal)),
+        Job::Bookings(asked) => done(question_commands::bookings(rt, threads, meter, asked)),
+        Job::Waiting(asked) => done(question_commands::waiting(rt, threads, meter, asked)),
+        Job::Pickup(asked) => done(question_commands::pickup(rt, threads, meter, asked)),
+        Job::History(asked) => done(question_commands::history(rt, threads, meter, asked)),
+        Job::Avs(asked) => done(question_commands::avs(rt, threads, meter, asked)),
+        Job::Reconcile(asked) => reconciled(rt, threads, meter, asked),
+        Job::Compare(seasons) => season::compared(rt, threads, meter, seasons, asked.is_verbose),
+        Job::Audit(asked) => done(audited(rt, threads, meter, asked)),
+        Job::Seal { over, journal } => done(question_commands::seal(
+            rt, threads, meter, over, journal,
+        )),
         Job::Recover { over, cut, journal } => done(host_commands::recover(
             rt, over, *cut, journal,
         )),
-        Job::Replies(asked) => done(question_commands::replies(rt, threads, asked)),
-        Job::Told(asked) => done(question_commands::told_of(rt, threads, asked)),
+        Job::Replies(asked) => done(question_commands::replies(rt, threads, meter, asked)),
+        Job::Told(asked) => done(question_commands::told_of(rt, threads, meter, asked)),
         Job::Why {
             over,
             line,
             is_open,
             journal,
-        } => done(question_commands::why(rt, threads, over, line, *is_open, journal)),
-        Job::Explain { code, numbers } => explain::explain(rt, code, numbers.as_slice()),
-        Job::Season { set, limits } => done(question_commands::season(rt, set, limits)),
+        } => done(question_commands::why(rt, threads, meter, over, line, *is_open, journal)),
+        Job::Explain { code, numbers } => {
+            explain::explain(rt, code, numbers.as_slice())?;
+            Ok(ExitCode::SUCCESS)
+        }
+        Job::Season { set, limits } => seasoned(rt, set, limits),
     }
 }
 
-fn done<'a>(outcome: Result<(), Refusal<'a>>) -> Result<(), Undone<'a>> {
+/// The meter of a command: none of one that is typed, or that stays open.
+fn meter_for<T: Threads>(rt: &HostRuntime, threads: &T, asked: &CommandLine<'_>) -> Meter {
+    match &asked.job {
+        Job::Ladder
+        | Job::Serve(_)
+        | Job::Recover { .. }
+        | Job::Explain { .. }
+        | Job::Season { .. } => Meter::none(),
+        Job::Run(_) => meter_of(rt, threads, Stage::Booking, asked.is_quiet),
+        _ => meter_of(rt, threads, Stage::Replaying, asked.is_quiet),
+    }
+}
+
+fn done<'a>(outcome: Result<(), Refusal<'a>>) -> Result<ExitCode, Undone<'a>> {
     match outcome {
-        Ok(()) => Ok(()),
+        Ok(()) => Ok(ExitCode::SUCCESS),
+        Err(refusal) => Err(Undone::Refused(refusal)),
+    }
+}
+
+/// A season file of a set and of limits that have a name.
+fn seasoned<'a>(rt: &HostRuntime, set: &'a str, limits: &str) -> Result<ExitCode, Undone<'a>> {
+    if limits.is_empty() {
+        return Err(Undone::Word(wrong_value(rt.alloc(), NO_LIMITS)?));
+    }
+    done(question_commands::season(rt, set, limits))
+}
+
+/// A list against a journal, where the words say whose bookings it is to have.
+fn reconciled<'a, T: Threads + Sync>(
+    rt: &HostRuntime,
+    threads: &T,
+    meter: &Meter,
+    asked: &ReconcileJob<'a>,
+) -> Result<ExitCode, Undone<'a>> {
+    if asked.all && asked.session.is_some() {
+        return Err(Undone::Word(words_in_conflict(rt.alloc(), BOTH)?));
+    }
+    if !asked.all && asked.session.is_none() {
+        return Err(Undone::Word(wrong_value(rt.alloc(), WHOSE)?));
+    }
+    match question_commands::reconcile(rt, threads, meter, asked) {
+        Ok(0) => Ok(ExitCode::SUCCESS),
+        Ok(_) => Ok(ExitCode::from(DIFFERS)),
         Err(refusal) => Err(Undone::Refused(refusal)),
     }
 }
@@ -125,7 +211,7 @@ fn served<'a, T: Threads + Wait + Clock + Copy + Send + 'static>(
     rt: &'a HostRuntime,
     threads: &T,
     asked: &ServeJob<'a>,
-) -> Result<(), Undone<'a>> {
+) -> Result<ExitCode, Undone<'a>> {
     if asked.desks.as_slice().is_empty() && asked.manager.is_none() && asked.feed.is_none() {
         return Err(Undone::Word(wrong_value(rt.alloc(), NOBODY)?));
     }
@@ -136,12 +222,13 @@ fn served<'a, T: Threads + Wait + Clock + Copy + Send + 'static>(
 fn audited<'a, T: Threads + Sync>(
     rt: &HostRuntime,
     threads: &T,
+    meter: &Meter,
     asked: &AuditJob<'a>,
 ) -> Result<(), Refusal<'a>> {
     if asked.are_shards {
-        return question_commands::audit_shards(rt, threads, asked);
+        return question_commands::audit_shards(rt, threads, meter, asked);
     }
-    question_commands::audit(rt, threads, asked)
+    question_commands::audit(rt, threads, meter, asked)
 }
 
 /// The status of a command that was refused: its fault is one line on standard error, with one more where the words ask for it, or where

@@ -1,14 +1,16 @@
-//! The season that a command line names: its file, its folder, and whether its journal is there.
+//! The season that a command line names, or the two of `compare`: its file, its folder, and whether its journal is there.
 //! It knows nothing of what a season says, or of which words stand for it.
 
+use crate::undone::Undone;
 use crate::{done_by, misread, refused};
+use progress_meter::Meter;
 use seat_desk::{DeskFault, read_input};
 use seat_files::{Refusal, opened, told};
 use seat_season::{
-    Around, MOST_SEASON_BYTES, Season, SeasonKind, TextFault, beside_season, folder_of, path_of,
-    season_named, season_of, season_table, seasoned_words,
+    Around, MOST_SEASON_BYTES, Season, SeasonKind, TextFault, Words, beside_season, folder_of,
+    path_of, season_named, season_of, season_table, seasoned_words,
 };
-use seat_words::words_in_conflict;
+use seat_words::{CompareJob, Horizon, Job, WordFault, read_words, words_in_conflict};
 use std::alloc::AllocError;
 use std::process::ExitCode;
 use std::sync::Wait;
@@ -16,6 +18,9 @@ use std::thread::Threads;
 use std::time::Clock;
 use std::{fs, io};
 use toml::Table;
+
+/// The words of a command over a season, and over nothing else.
+const OVER: [&str; 2] = ["seatdesk", "cover"];
 
 /// The season file that the words name.
 pub fn season_asked<'a>(words: &[&'a str]) -> Option<&'a str> {
@@ -35,21 +40,95 @@ pub fn started<T: Threads + Wait + Clock + Sync + Copy + Send + 'static>(
     let is_verbose = words
         .iter()
         .any(|word| *word == "-v" || *word == "--verbose");
+    let seasoned = match words_over(rt, words, file, is_verbose)? {
+        Ok(seasoned) => seasoned,
+        Err(status) => return Ok(status),
+    };
+    let words = seasoned.texts(rt.alloc())?;
+    done_by(rt, threads, words.as_slice())
+}
+
+/// The words with what a season says; or the status of one that is refused, which is told.
+fn words_over(
+    rt: &HostRuntime,
+    words: &[&str],
+    file: &str,
+    is_verbose: bool,
+) -> Result<Result<Words, ExitCode>, AllocError> {
     let table = match table_of(rt, file) {
         Ok(table) => table,
-        Err(refusal) => return Ok(refused(rt, is_verbose, &refusal)),
+        Err(refusal) => return Ok(Err(refused(rt, is_verbose, &refusal))),
     };
     let season = match season_of(&table) {
         Ok(season) => season,
         Err(fault) => {
             let refusal = Refusal::of_season(file, fault.kind(), fault.key());
-            return Ok(refused(rt, is_verbose, &refusal));
+            return Ok(Err(refused(rt, is_verbose, &refusal)));
         }
     };
     let around = around_of(rt, &season, file)?;
-    let seasoned = seasoned_words(rt.alloc(), words, &season, &around)?;
-    let words = seasoned.texts(rt.alloc())?;
-    done_by(rt, threads, words.as_slice())
+    Ok(Ok(seasoned_words(rt.alloc(), words, &season, &around)?))
+}
+
+/// Runs `compare` over what two seasons say of a set, its limits and its days.
+pub fn compared<'a, T: Threads + Sync>(
+    rt: &HostRuntime,
+    threads: &T,
+    meter: &Meter,
+    asked: &CompareJob<'a>,
+    is_verbose: bool,
+) -> Result<ExitCode, Undone<'a>> {
+    let from = match words_over(rt, &OVER, asked.from, is_verbose)? {
+        Ok(words) => words,
+        Err(status) => return Ok(status),
+    };
+    let to = match words_over(rt, &OVER, asked.to, is_verbose)? {
+        Ok(words) => words,
+        Err(status) => return Ok(status),
+    };
+    let from = from.texts(rt.alloc())?;
+    let to = to.texts(rt.alloc())?;
+    match compared_over(
+        rt,
+        threads,
+        meter,
+        from.as_slice(),
+        to.as_slice(),
+        asked.journal,
+    ) {
+        Ok(()) => Ok(ExitCode::SUCCESS),
+        Err(Undone::Word(error)) => Err(Undone::Word(error)),
+        Err(Undone::Refused(refusal)) => {
+            meter.end(rt);
+            Ok(refused(rt, is_verbose, &refusal))
+        }
+    }
+}
+
+fn compared_over<'a, T: Threads + Sync>(
+    rt: &HostRuntime,
+    threads: &T,
+    meter: &Meter,
+    from: &'a [&'a str],
+    to: &'a [&'a str],
+    journal: Option<&'a str>,
+) -> Result<(), Undone<'a>> {
+    let from = horizon_in(rt, from)?;
+    let to = horizon_in(rt, to)?;
+    question_commands::compare(rt, threads, meter, &from, &to, journal)?;
+    Ok(())
+}
+
+/// Over what the words of a command work that has nothing else.
+fn horizon_in<'a>(rt: &HostRuntime, words: &'a [&'a str]) -> Result<Horizon<'a>, Undone<'a>> {
+    let line = match read_words(rt.alloc(), words) {
+        Ok(line) => line,
+        Err(error) => return Err(Undone::Word(error)),
+    };
+    match &line.job {
+        Job::Cover(asked) => Ok(asked.over),
+        _ => Err(Undone::Refused(Refusal::from(WordFault::BadWords))),
+    }
 }
 
 /// The fault of an option that a season stands in the place of.

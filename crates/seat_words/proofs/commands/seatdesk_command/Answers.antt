@@ -4,15 +4,11 @@ use Rattle.seat_words.proofs.commands.seatdesk_command.Goals as goal
 pub returns : goal.returns
 unfolding seatdesk_app
 returns c =
-    let one = c.with_command-program.ensures _ _ c.selling_command-program.ensures c.bookings_command.ensures in
-    let two = c.with_command-program-2.ensures _ _ one c.waiting_command.ensures in
-    let three = c.with_command-program-3.ensures _ _ two c.pickup_command.ensures in
-    let four = c.with_command-program-4.ensures _ _ three c.history_command.ensures in
-    let five = c.with_command-program-5.ensures _ _ four c.audit_command.ensures in
-    let six = c.with_command-program-6.ensures _ _ five c.seal_command.ensures in
-    let seven = c.with_command-program-7.ensures _ _ six c.recover_command.ensures in
-    let eight = c.with_command-program-8.ensures _ _ seven c.replies_command.ensures in
-    let nine = c.with_command-program-9.ensures _ _ eight c.told_command.ensures in
-    let ten = c.with_command-program-10.ensures _ _ nine c.why_command.ensures in
-    let eleven = c.with_command-program-11.ensures _ _ ten c.explain_command.ensures in
-    c.with_command.ensures _ _ eleven c.season_command.ensures
+    let one = c.with_command-program.ensures _ _ c.asking_command-program.ensures c.audit_command.ensures in
+    let two = c.with_command-program-2.ensures _ _ one c.seal_command.ensures in
+    let three = c.with_command-program-3.ensures _ _ two c.recover_command.ensures in
+    let four = c.with_command-program-4.ensures _ _ three c.replies_command.ensures in
+    let five = c.with_command-program-5.ensures _ _ four c.told_command.ensures in
+    let six = c.with_command-program-6.ensures _ _ five c.why_command.ensures in
+    let seven = c.with_command-program-7.ensures _ _ six c.explain_command.ensures in
+    c.with_command.ensures _ _ seven c.season_command.ensures

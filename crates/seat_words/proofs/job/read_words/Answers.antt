@@ -7,7 +7,7 @@ use Rattle.clap.specs.declared.parser.matches.ArgMatches.{ArgMatches}
 use Rattle.clap.proofs.TakesLemmas.{passed_up}
 use Rattle.clap.proofs.FaultLemmas.{failed_up}
 use Rattle.seat_words.specs.CommandLine.{seatdesk_app}
-use Rattle.seat_words.specs.Jobs.{Line, Asks, is_answerable, is_verbose}
+use Rattle.seat_words.specs.Jobs.{Line, Asks, is_answerable, is_quiet, is_verbose}
 use Rattle.seat_words.proofs.Taken.{seatdesk_is_simple, seatdesk_is_free, seatdesk_line}
 use Rattle.seat_words.proofs.job.read_words.Goals as goal
 
@@ -50,7 +50,12 @@ returns-clause-asks c =
 pub returns-clause-verbose : goal.returns-clause-verbose
 returns-clause-verbose c =
     let found = matched _ _ (texts c.args.words.now) c.in_ok-command.ensures.app c.in_ok-matches.ensures.matches c.in_ok-matches.ensures.kinds in
-    ap₂ is_verbose (sym found.0) (sym found.1) ∙ c.is_verbose-is_verbose.ensures
+    ap₂ is_verbose (sym found.0) (sym found.1) ∙ c.is_switched-is_verbose.ensures
+
+pub returns-clause-quiet : goal.returns-clause-quiet
+returns-clause-quiet c =
+    let found = matched _ _ (texts c.args.words.now) c.in_ok-command.ensures.app c.in_ok-matches.ensures.matches c.in_ok-matches.ensures.kinds in
+    ap₂ is_quiet (sym found.0) (sym found.1) ∙ c.is_switched-is_quiet.ensures
 
 pub returns-clause-kinds : goal.returns-clause-kinds
 returns-clause-kinds c =

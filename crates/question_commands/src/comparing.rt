@@ -1,0 +1,116 @@
+//! `compare`: two seasons, and a journal over the old one.
+//! It knows which stream is which, and nothing of what the command does with them.
+ghost use Rattle.std.specs.Prelude.{◌≡◌, ◌≤◌, IfOk};
+ghost use Rattle.ssim_flights.specs.Right.{IsOfCentury};
+
+use airline_base::Day;
+use command_inputs::{days_of, inputs_of, metered, metered_inputs};
+use progress_meter::{Clearing, Lines, Meter};
+use season_changes::{SeasonFault, desk_compare};
+use seat_desk::{Inputs, NO_LINES};
+use seat_files::{Input, Output, Refusal, SealFile, is_moved, standard_output, taken_or};
+use seat_words::Horizon;
+use std::thread::Threads;
+
+/// What a new season makes of the flights of an old one, with the seats of a journal over the old one, if one is named. A journal that a run
+/// has replaced meanwhile is read once more, with its seal and both seasons.
+pub fn compare<'a, R: Threads + Sync>(
+    rt: &HostRuntime,
+    threads: &R,
+    meter: &Meter,
+    from: &Horizon<'a>,
+    to: &Horizon<'a>,
+    journal: Option<&'a str>,
+) -> Result<(), Refusal<'a>> {
+    let from_days = days_of(from.first, from.days)?;
+    let to_days = days_of(to.first, to.days)?;
+    let attempt = match compared_once(rt, threads, meter, from, &from_days, to, &to_days, journal) {
+        Ok(attempt) => attempt,
+        Err(refusal) => return Err(refusal),
+    };
+    let Attempt { outcome, is_moved } = attempt;
+    if !is_moved {
+        return outcome;
+    }
+    match compared_once(rt, threads, meter, from, &from_days, to, &to_days, journal) {
+        Ok(attempt) => attempt.outcome,
+        Err(refusal) => Err(refusal),
+    }
+}
+
+/// What a comparison came to, and whether its journal was replaced between its opening and the reading of its seal.
+#[derive(Drop)]
+struct Attempt<'a> {
+    outcome: Result<(), Refusal<'a>>,
+    is_moved: bool,
+}
+
+fn compared_once<'a, R: Threads + Sync>(
+    rt: &HostRuntime,
+    threads: &R,
+    meter: &Meter,
+    from: &Horizon<'a>,
+    from_days: &(Day, u16),
+    to: &Horizon<'a>,
+    to_days: &(Day, u16),
+    journal: Option<&'a str>,
+) -> Result<Attempt<'a>, Refusal<'a>>
+    requires from_first { IsOfCentury from_days.now.0 }
+    requires from_days { (1 ≤ from_days.now.1) × (from_days.now.1 ≤ 366) }
+    requires to_first { IsOfCentury to_days.now.0 }
+    requires to_days { (1 ≤ to_days.now.1) × (to_days.now.1 ≤ 366) }
+{
+    let mut to_inputs = match inputs_of(rt, to, *to_days) {
+        Ok(inputs) => inputs,
+        Err(refusal) => return Err(refusal),
+    };
+    let mut from_inputs = match inputs_of(rt, from, *from_days) {
+        Ok(inputs) => inputs,
+        Err(refusal) => return Err(refusal),
+    };
+    let has_journal = journal.is_some();
+    let mut journal = taken_or(rt, journal, &NO_LINES)?;
+    let seal = SealFile::beside(rt, &journal, false)?;
+    let mut out = standard_output(rt);
+    let mut old = metered_inputs(rt, meter, &mut from_inputs);
+    let mut new = metered_inputs(rt, meter, &mut to_inputs);
+    let mut read = metered(rt, meter, &mut journal, Lines::Ended);
+    let mut shown = Clearing::new(&mut out, rt, meter);
+    let outcome = desk_compare(
+        threads,
+        rt.alloc(),
+        &mut old,
+        &mut new,
+        has_journal,
+        &mut read,
+        &seal.as_beside(),
+        &mut shown,
+    );
+    Ok(attempt_of(rt, outcome, &to_inputs, &from_inputs, &journal, &out))
+}
+
+/// What it came to, of the file that its fault is of: in the order in which they are read.
+fn attempt_of<'a>(
+    rt: &HostRuntime,
+    outcome: Result<(), SeasonFault>,
+    to: &Inputs<Input<'a>, Input<'a>>,
+    from: &Inputs<Input<'a>, Input<'a>>,
+    journal: &Input<'a>,
+    out: &Output<'a>,
+) -> Attempt<'a> {
+    match outcome {
+        Ok(()) => Attempt {
+            outcome: Ok(()),
+            is_moved: false,
+        },
+        Err(fault) => {
+            let refusal = Refusal::from(fault.shown())
+                .noting_all(&[&to.set, &to.limits, &from.set, &from.limits, journal])
+                .noting_outputs(&[out]);
+            Attempt {
+                is_moved: refusal.is_of_seal() && is_moved(rt, journal),
+                outcome: Err(refusal),
+            }
+        }
+    }
+}

@@ -1,0 +1,201 @@
+//! What a command is made of: its name, its help, its options and its other words.
+ghost use Rattle.std.specs.Prelude.{IfOk, IsOkAnd};
+ghost use Rattle.clap.specs.Words.{AddsArg, new_app};
+ghost use Rattle.seat_words.specs.CommandLine.{IsBuiltAs, IsReadAlike, IsReadAs, flag, horizon_app, lettered_flag, optional, optional_several, optional_value, optional_values, trailing_values, required_option, required_value};
+
+use clap::{Arg, ArgAction, Command};
+use std::alloc::{AllocError, Global};
+
+pub(super) const SET_HELP: &str = "The data set of the schedule (SSIM chapter 7, a file)";
+
+pub(super) const FIRST_HELP: &str = "The first day of departure, as 2024-06-01, from 2000 to 2099";
+
+pub(super) const DAYS_HELP: &str = "How many days from the first on, 1 to 366";
+
+pub(super) const TODAY_HELP: &str =
+    "The day of the run, as 2024-06-01, from 2000 to 2099; it gives the requests their year";
+
+pub(super) const JOURNAL_HELP: &str =
+    "The journal to replay: a file that run wrote, or - for standard input";
+
+pub(super) const SCRIPTS_HELP: &str =
+    "The scripts of the sessions, up to 8 files of AIRIMP messages; 3=FILE is that of session 3";
+
+pub(super) const CSV_HELP: &str = "Writes the rows as CSV, below a line of the columns' names";
+
+pub(super) const JSON_HELP: &str = "Writes the rows as JSON, an object a line";
+
+pub(super) const OPEN_HELP: &str =
+    "Takes a JOURNAL that is still open: its whole lines count, and it needs no END line";
+
+pub(super) const FLIGHT_HELP: &str = "The flights of this name alone, on all their days, as LZ601";
+
+const LIMITS_HELP: &str = "The booking limits of the legs, in seats from 0 to 999 (a file)";
+
+const SEASON_HELP: &str =
+    "A season file in place of --set, --limits, --first and --days; it may name the journal and the desks too";
+
+// A command over the limits of the dated flights.
+pub(super) fn horizon_command<'a>(
+    alloc: Global,
+    name: &'a str,
+    about: &'a str,
+    more: &'a str,
+) -> Result<Command<'a>, AllocError>
+    ensures { IfOk result (IsBuiltAs (horizon_app name.entry.now)) }
+{
+    let command = named_command(alloc, name, about, more);
+    let command = with_argument(Ok(command), wanted_option(alloc, "set", "SET", SET_HELP));
+    let command = with_argument(
+        command,
+        wanted_option(alloc, "limits", "LIMITS", LIMITS_HELP),
+    );
+    let command = with_argument(command, wanted_option(alloc, "first", "DATE", FIRST_HELP));
+    let command = with_argument(command, wanted_option(alloc, "days", "N", DAYS_HELP));
+    with_argument(
+        command,
+        optional_option(alloc, "season", "SEASON", SEASON_HELP),
+    )
+}
+
+// A command with what its help says before and behind its arguments.
+#[tactic(auto, using(crate::proofs::Building::alike))]
+pub(super) fn named_command<'a>(
+    alloc: Global,
+    name: &'a str,
+    about: &'a str,
+    more: &'a str,
+) -> Command<'a>
+    ensures { IsBuiltAs (new_app name.entry.now) result }
+{
+    let command = new_command(alloc, name);
+    let command = with_about(command, about);
+    with_more(command, more)
+}
+
+fn new_command<'a>(alloc: Global, name: &'a str) -> Command<'a>
+    ensures { IsBuiltAs (new_app name.entry.now) result }
+{
+    Command::new(alloc, name)
+}
+
+fn with_about<'a>(command: Command<'a>, about: &'a str) -> Command<'a>
+    ensures { IsReadAlike command.entry result }
+{
+    command.about(about)
+}
+
+fn with_more<'a>(command: Command<'a>, more: &'a str) -> Command<'a>
+    ensures { IsReadAlike command.entry result }
+{
+    command.after_help(more)
+}
+
+// The command with one more argument, if it could be made.
+pub(super) fn with_argument<'a>(
+    command: Result<Command<'a>, AllocError>,
+    argument: Arg<'a>,
+) -> Result<Command<'a>, AllocError>
+    ensures { IfOk result (λ new. IsOkAnd command.entry (λ old. AddsArg old argument.entry new)) }
+{
+    command?.arg(argument)
+}
+
+// A value by its place, which must be there.
+pub(super) fn wanted_value<'a>(alloc: Global, id: &'a str, value: &'a str, help: &'a str) -> Arg<'a>
+    ensures { IsReadAs (required_value id.entry.now) result }
+{
+    Arg::new(alloc, id)
+        .value_name(value)
+        .required(true)
+        .help(help)
+}
+
+// An option whose value must be there.
+pub(super) fn wanted_option<'a>(
+    alloc: Global,
+    id: &'a str,
+    value: &'a str,
+    help: &'a str,
+) -> Arg<'a>
+    ensures { IsReadAs (required_option id.entry.now) result }
+{
+    wanted_value(alloc, id, value, help).long(id)
+}
+
+// An option whose value may be left out.
+pub(super) fn optional_option<'a>(
+    alloc: Global,
+    id: &'a str,
+    value: &'a str,
+    help: &'a str,
+) -> Arg<'a>
+    ensures { IsReadAs (optional id.entry.now) result }
+{
+    Arg::new(alloc, id).value_name(value).help(help).long(id)
+}
+
+// An option whose value may be left out, or given more than once.
+pub(super) fn several_option<'a>(
+    alloc: Global,
+    id: &'a str,
+    value: &'a str,
+    help: &'a str,
+) -> Arg<'a>
+    ensures { IsReadAs (optional_several id.entry.now) result }
+{
+    optional_option(alloc, id, value, help).action(ArgAction::Append)
+}
+
+// A value by its place, which may be left out.
+pub(super) fn optional_value<'a>(
+    alloc: Global,
+    id: &'a str,
+    value: &'a str,
+    help: &'a str,
+) -> Arg<'a>
+    ensures { IsReadAs (optional_value id.entry.now) result }
+{
+    Arg::new(alloc, id).value_name(value).help(help)
+}
+
+// A value by its place, of which there may be none or more.
+pub(super) fn optional_values<'a>(
+    alloc: Global,
+    id: &'a str,
+    value: &'a str,
+    help: &'a str,
+) -> Arg<'a>
+    ensures { IsReadAs (optional_values id.entry.now) result }
+{
+    optional_value(alloc, id, value, help).action(ArgAction::Append)
+}
+
+// The same, where all behind its first word are words of it, as those of a note that has an option in it.
+pub(super) fn trailing_values<'a>(
+    alloc: Global,
+    id: &'a str,
+    value: &'a str,
+    help: &'a str,
+) -> Arg<'a>
+    ensures { IsReadAs (trailing_values id.entry.now) result }
+{
+    optional_values(alloc, id, value, help).trailing_var_arg(true)
+}
+
+// An option without a value.
+pub(super) fn flag<'a>(alloc: Global, id: &'a str, help: &'a str) -> Arg<'a>
+    ensures { IsReadAs (flag id.entry.now) result }
+{
+    Arg::new(alloc, id)
+        .help(help)
+        .long(id)
+        .action(ArgAction::SetTrue)
+}
+
+// An option without a value, which has a letter too.
+pub(super) fn lettered_flag<'a>(alloc: Global, id: &'a str, letter: char, help: &'a str) -> Arg<'a>
+    ensures { IsReadAs (lettered_flag id.entry.now letter) result }
+{
+    flag(alloc, id, help).short(letter)
+}

@@ -1,0 +1,132 @@
+//! The commands that look at a journal's lines: whether they are right, and whom they tell of what.
+ghost use Rattle.std.specs.Prelude.{IfOk};
+ghost use Rattle.seat_words.specs.CommandLine.{IsBuiltAs, audit_app, replies_app, told_app, why_app};
+
+use crate::commands::arguments::{
+    CSV_HELP, JOURNAL_HELP, JSON_HELP, OPEN_HELP, SCRIPTS_HELP, TODAY_HELP, flag, horizon_command,
+    optional_option, optional_values, wanted_option, wanted_value, with_argument,
+};
+use clap::Command;
+use std::alloc::{AllocError, Global};
+
+const OLDER_HELP: &str =
+    "The journal that JOURNAL goes on from (a file); the scripts ask for the lines behind its own";
+
+const REPLIED_HELP: &str =
+    "The journal that JOURNAL goes on from (a file); the replies are those to the lines behind its own";
+
+const BEHIND_HELP: &str =
+    "How many lines JOURNAL began with, 0 to 999999, in place of --after; the scripts ask for the lines behind them";
+
+const SESSION_HELP: &str = "The replies to this session alone, 1 to 8, or 0 for the manager";
+
+const FROM_HELP: &str = "The replies to the lines of JOURNAL from this number on";
+
+const DESK_HELP: &str = "The desk, by its session, 1 to 8, or 0 for the manager";
+
+const TOLD_HELP: &str = "What the desk is told of the lines of JOURNAL from this number on";
+
+const SEALED_HELP: &str = "Refuses a JOURNAL without a seal beside it";
+
+const ASKED_HELP: &str =
+    "The scripts that the journal must be of, up to 8 files of AIRIMP messages, as run has them; they need --today";
+
+const OPEN_AUDIT_HELP: &str =
+    "Takes a JOURNAL that is still open: its whole lines count, and it needs no END line; for a JOURNAL alone, without scripts";
+
+const SHARDS_HELP: &str =
+    "Takes JOURNAL and the words behind it as journals of hosts that have different flights over this set, and sums them up";
+
+const LINE_HELP: &str = "The line of the journal, counted from 1";
+
+pub(super) fn audit_command<'a>(alloc: Global) -> Result<Command<'a>, AllocError>
+    ensures { IfOk result (IsBuiltAs audit_app) }
+{
+    let audit = horizon_command(
+        alloc,
+        "audit",
+        "Replays a journal against its schedule and limits, and writes one summary line",
+        "A journal belongs to its set, limits, first day and days. With the scripts audit sees whether they are those: over\nanother first day its lines are not what the scripts ask (P8). Where JOURNAL.seal stands beside JOURNAL, it is compared.\n\nExample: seatdesk audit --set examples/summer.ssim --limits examples/limits.txt --first 2024-07-01 --days 31 examples/journal.txt\n\nAgainst its scripts: seatdesk audit --set examples/summer.ssim --limits examples/limits.txt --first 2024-07-01 --days 31 --today 2024-06-20 examples/journal.txt examples/london.txt examples/lisbon.txt\n\nThe day after: seatdesk audit --set examples/summer.ssim --limits examples/limits.txt --first 2024-07-01 --days 31 --after examples/journal.txt --today 2024-06-21 journal-2.txt examples/london-2.txt\n\nOf several hosts: seatdesk audit --set examples/summer.ssim --limits examples/limits.txt --first 2024-07-01 --days 31 --shards examples/journal.txt journal-3.txt",
+    );
+    let audit = with_argument(
+        audit,
+        optional_option(alloc, "after", "JOURNAL", OLDER_HELP),
+    );
+    let audit = with_argument(audit, optional_option(alloc, "behind", "N", BEHIND_HELP));
+    let audit = with_argument(audit, optional_option(alloc, "today", "DATE", TODAY_HELP));
+    let audit = with_argument(audit, flag(alloc, "sealed", SEALED_HELP));
+    let audit = with_argument(audit, flag(alloc, "open", OPEN_AUDIT_HELP));
+    let audit = with_argument(audit, flag(alloc, "shards", SHARDS_HELP));
+    let audit = with_argument(
+        audit,
+        wanted_value(alloc, "journal", "JOURNAL", JOURNAL_HELP),
+    );
+    with_argument(
+        audit,
+        optional_values(alloc, "scripts", "SCRIPT", ASKED_HELP),
+    )
+}
+
+pub(super) fn replies_command<'a>(alloc: Global) -> Result<Command<'a>, AllocError>
+    ensures { IfOk result (IsBuiltAs replies_app) }
+{
+    let replies = horizon_command(
+        alloc,
+        "replies",
+        "Writes the replies of a run once more, from its journal and its scripts",
+        "It writes what run wrote to standard output, and refuses what audit refuses with the same words.\n\nExample: seatdesk replies --set examples/summer.ssim --limits examples/limits.txt --first 2024-07-01 --days 31 --today 2024-06-20 examples/journal.txt examples/london.txt examples/lisbon.txt",
+    );
+    let replies = with_argument(
+        replies,
+        optional_option(alloc, "after", "JOURNAL", REPLIED_HELP),
+    );
+    let replies = with_argument(replies, optional_option(alloc, "behind", "N", BEHIND_HELP));
+    let replies = with_argument(replies, wanted_option(alloc, "today", "DATE", TODAY_HELP));
+    let replies = with_argument(
+        replies,
+        optional_option(alloc, "session", "N", SESSION_HELP),
+    );
+    let replies = with_argument(replies, optional_option(alloc, "from", "LINE", FROM_HELP));
+    let replies = with_argument(replies, flag(alloc, "csv", CSV_HELP));
+    let replies = with_argument(replies, flag(alloc, "json", JSON_HELP));
+    let replies = with_argument(
+        replies,
+        wanted_value(alloc, "journal", "JOURNAL", JOURNAL_HELP),
+    );
+    with_argument(
+        replies,
+        optional_values(alloc, "scripts", "SCRIPT", SCRIPTS_HELP),
+    )
+}
+
+pub(super) fn told_command<'a>(alloc: Global) -> Result<Command<'a>, AllocError>
+    ensures { IfOk result (IsBuiltAs told_app) }
+{
+    let told = horizon_command(
+        alloc,
+        "told",
+        "Writes what a desk is told of a journal: the replies to its lines, and the advices to its bookings",
+        "A desk is told of its own alone, each under its own session and the number of the line that is told of.\n\nExample: seatdesk told --set examples/summer.ssim --limits examples/limits.txt --first 2024-07-01 --days 31 --desk 2 examples/journal.txt",
+    );
+    let told = with_argument(told, wanted_option(alloc, "desk", "N", DESK_HELP));
+    let told = with_argument(told, optional_option(alloc, "from", "LINE", TOLD_HELP));
+    let told = with_argument(told, flag(alloc, "open", OPEN_HELP));
+    with_argument(
+        told,
+        wanted_value(alloc, "journal", "JOURNAL", JOURNAL_HELP),
+    )
+}
+
+pub(super) fn why_command<'a>(alloc: Global) -> Result<Command<'a>, AllocError>
+    ensures { IfOk result (IsBuiltAs why_app) }
+{
+    let why = horizon_command(
+        alloc,
+        "why",
+        "Writes the reason of one reply of a journal: what the limits left, and the right answer",
+        "Only the lines before it need be right, so it explains the line that audit refuses.\n\nExample: seatdesk why --set examples/summer.ssim --limits examples/limits.txt --first 2024-07-01 --days 31 --line 6 examples/journal.txt",
+    );
+    let why = with_argument(why, wanted_option(alloc, "line", "N", LINE_HELP));
+    let why = with_argument(why, flag(alloc, "open", OPEN_HELP));
+    with_argument(why, wanted_value(alloc, "journal", "JOURNAL", JOURNAL_HELP))
+}
