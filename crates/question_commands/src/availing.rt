@@ -9,9 +9,11 @@ use command_inputs::{days_of, metered};
 use pickup_questions::read_older;
 use progress_meter::{Lines, Meter};
 use question_words::{day_asked, flight_asked};
-use seat_availability::{Asked, AvailabilityOf, PartnerKind, Thresholds, read_thresholds};
+use seat_availability::{
+    Asked, AvailabilityOf, PartnerFault, PartnerKind, Thresholds, read_thresholds,
+};
 use seat_desk::{DeskFault, read_input};
-use seat_files::{Refusal, opened, told};
+use seat_files::{ListKind, Refusal, opened, told};
 use seat_pickup::Past;
 use seat_words::AvsJob;
 use std::thread::Threads;
@@ -122,9 +124,17 @@ fn thresholds_of<'a>(
     };
     match read_thresholds(rt.alloc(), &bytes) {
         Ok(thresholds) => Ok(thresholds),
-        Err(fault) => match fault.kind {
-            PartnerKind::Memory => Err(Refusal::from(DeskFault::Memory)),
-            kind => Err(Refusal::of_list(kind.code(), None, fault.line).noting_all(&[&file])),
-        },
+        Err(fault) => Err(refusal_of(fault).noting_all(&[&file])),
+    }
+}
+
+/// The refusal of thresholds. Want of memory says nothing about them.
+fn refusal_of<'a>(fault: PartnerFault) -> Refusal<'a> {
+    let line = fault.line;
+    match fault.kind {
+        PartnerKind::Class => Refusal::of_list(ListKind::Class, line),
+        PartnerKind::Twice => Refusal::of_list(ListKind::ClassAgain, line),
+        PartnerKind::Seats => Refusal::of_list(ListKind::Seats, line),
+        PartnerKind::Memory => Refusal::from(DeskFault::Memory),
     }
 }

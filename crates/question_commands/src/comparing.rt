@@ -72,19 +72,15 @@ fn compared_once<'a, R: Threads + Sync>(
     let mut journal = taken_or(rt, journal, &NO_LINES)?;
     let seal = SealFile::beside(rt, &journal, false)?;
     let mut out = standard_output(rt);
-    let mut old = metered_inputs(rt, meter, &mut from_inputs);
-    let mut new = metered_inputs(rt, meter, &mut to_inputs);
-    let mut read = metered(rt, meter, &mut journal, Lines::Ended);
-    let mut shown = Clearing::new(&mut out, rt, meter);
     let outcome = desk_compare(
         threads,
         rt.alloc(),
-        &mut old,
-        &mut new,
+        &mut metered_inputs(rt, meter, &mut from_inputs),
+        &mut metered_inputs(rt, meter, &mut to_inputs),
         has_journal,
-        &mut read,
+        &mut metered(rt, meter, &mut journal, Lines::Ended),
         &seal.as_beside(),
-        &mut shown,
+        &mut Clearing::new(&mut out, rt, meter),
     );
     Ok(attempt_of(rt, outcome, &to_inputs, &from_inputs, &journal, &out))
 }

@@ -16,7 +16,7 @@ use question_words::{
     pair_asked, sums_form,
 };
 use seat_desk::DeskFault;
-use seat_files::{Refusal, opened, standard_output, taken, told};
+use seat_files::{Input, Output, Refusal, opened, standard_output, taken, told};
 use seat_lists::{BookingsOf, WaitingOf, Wanted};
 use seat_loads::LoadsOf;
 use seat_pickup::Past;

@@ -10,7 +10,7 @@ use partner_lists::{PartnerFault, PartnerKind, read_list};
 use partner_questions::ReconcileOf;
 use progress_meter::Meter;
 use seat_desk::{DeskFault, MOST_JOURNAL_BYTES, read_input};
-use seat_files::{Refusal, opened};
+use seat_files::{ListKind, Refusal, opened};
 use seat_words::{ReconcileJob, WordFault, session_word};
 use std::cell::Cell;
 use std::thread::Threads;
@@ -81,10 +81,10 @@ fn theirs_of<'a>(rt: &HostRuntime, name: &'a str, first: Day) -> Result<Requests
 fn refusal_of<'a>(fault: PartnerFault) -> Refusal<'a> {
     let line = fault.line;
     match fault.kind {
-        PartnerKind::Locator => Refusal::of_list("T1", None, line),
-        PartnerKind::Line(inner) => Refusal::of_list("T2", Some(inner), line),
-        PartnerKind::Status => Refusal::of_list("T3", None, line),
-        PartnerKind::Twice => Refusal::of_list("T4", None, line),
+        PartnerKind::Locator => Refusal::of_list(ListKind::Locator, line),
+        PartnerKind::Line(inner) => Refusal::of_list(ListKind::Segment(inner), line),
+        PartnerKind::Status => Refusal::of_list(ListKind::Status, line),
+        PartnerKind::Twice => Refusal::of_list(ListKind::Again, line),
         PartnerKind::Memory => Refusal::from(DeskFault::Memory),
     }
 }

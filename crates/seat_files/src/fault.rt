@@ -20,13 +20,51 @@ pub enum Fault {
     Word(WordFault),
     /// A season file is none.
     Season(SeasonKind),
-    /// A line of a partner's list, or of its thresholds, is none: the code, what is wrong in the segment line where that is why, and the
-    /// line, from 1.
+    /// A line of a partner's list, or of its thresholds, is none; lines count from 1.
     Listed {
-        code: &'static str,
-        inner: Option<LineFault>,
+        kind: ListKind,
         line: u32,
     },
+}
+
+/// What is wrong with a line of a partner's list, or of its thresholds.
+#[derive(Clone, Copy, Debug, PartialEq, Eq)]
+pub enum ListKind {
+    /// No locator stands in its place, or no blank behind it.
+    Locator,
+    /// What stands behind the locator is no segment line.
+    Segment(LineFault),
+    /// The code of the segment is neither HK nor HL.
+    Status,
+    /// A line ahead of it has the same locator and segment.
+    Again,
+    /// A threshold does not begin with a class.
+    Class,
+    /// An earlier threshold has that class.
+    ClassAgain,
+    /// A blank and one to three digits do not follow the class.
+    Seats,
+}
+
+impl fmt::Display for ListKind {
+    ghost use Rattle.std.specs.Prelude.{Some};
+    ghost use Rattle.seat_files.specs.Faults.{list_code};
+
+    ghost output = { λ kind. Some (list_code kind) };
+
+    /// The code, T1 to T4 or V1 to V3, and behind T2 that of the segment line.
+    fn fmt<W: fmt::Write>(&self, f: &mut fmt::Formatter<W>) -> fmt::Result {
+        let kind = *self;
+        match kind {
+            ListKind::Locator => f.write_str("T1"),
+            ListKind::Segment(fault) => write!(f, "T2 {fault}"),
+            ListKind::Status => f.write_str("T3"),
+            ListKind::Again => f.write_str("T4"),
+            ListKind::Class => f.write_str("V1"),
+            ListKind::ClassAgain => f.write_str("V2"),
+            ListKind::Seats => f.write_str("V3"),
+        }
+    }
 }
 
 impl fmt::Display for Fault {
@@ -43,16 +81,7 @@ impl fmt::Display for Fault {
             Fault::Feed { line, number } => write!(f, "FEED {line} {number}"),
             Fault::Word(fault) => fault.fmt(f),
             Fault::Season(fault) => fault.fmt(f),
-            Fault::Listed {
-                code,
-                inner: Some(fault),
-                line,
-            } => write!(f, "{code} {fault} {line}"),
-            Fault::Listed {
-                code,
-                inner: None,
-                line,
-            } => write!(f, "{code} {line}"),
+            Fault::Listed { kind, line } => write!(f, "{kind} {line}"),
         }
     }
 }

@@ -4,11 +4,10 @@ ghost use Rattle.seat_files.specs.Faults.{exit_status, list_text, printed};
 ghost use Rattle.seat_files.specs.Refusals.{is_failure, is_of_seal};
 ghost use Rattle.seat_shards.specs.Faults.{shard_text, status_of_shards};
 
-use crate::fault::Fault;
+use crate::fault::{Fault, ListKind};
 use crate::journal_file::{JournalFile, is_link};
 use crate::seal_out::SealOut;
 use crate::streams::{Input, Output};
-use airimp_lines::LineFault;
 use airline_base::Failures;
 use seat_desk::DeskFault;
 use seat_seal::SealFault;
@@ -115,13 +114,12 @@ impl<'a> Refusal<'a> {
         refusal
     }
 
-    /// A line of a partner's list, or of its thresholds, that is none: its code, what is wrong in the segment line where that is why, and
-    /// the line.
-    pub fn of_list(code: &'static str, inner: Option<LineFault>, line: u32) -> Refusal<'a>
-        ensures text { printed result.fault ≡ list_text code.now inner line }
+    /// A line of a partner's list, or of its thresholds, that is none.
+    pub fn of_list(kind: ListKind, line: u32) -> Refusal<'a>
+        ensures text { printed result.fault ≡ list_text kind line }
         ensures status { exit_status result.fault ≡ 1 }
     {
-        Refusal::of(Fault::Listed { code, inner, line })
+        Refusal::of(Fault::Listed { kind, line })
     }
 
     /// What stands behind the fault in its line.
