@@ -72,17 +72,51 @@ fn compared_once<'a, R: Threads + Sync>(
     let mut journal = taken_or(rt, journal, &NO_LINES)?;
     let seal = SealFile::beside(rt, &journal, false)?;
     let mut out = standard_output(rt);
-    let outcome = desk_compare(
+    let outcome = compared(
+        rt,
         threads,
-        rt.alloc(),
-        &mut metered_inputs(rt, meter, &mut from_inputs),
-        &mut metered_inputs(rt, meter, &mut to_inputs),
+        meter,
+        &mut from_inputs,
+        &mut to_inputs,
         has_journal,
-        &mut metered(rt, meter, &mut journal, Lines::Ended),
-        &seal.as_beside(),
-        &mut Clearing::new(&mut out, rt, meter),
+        &mut journal,
+        &seal,
+        &mut out,
     );
     Ok(attempt_of(rt, outcome, &to_inputs, &from_inputs, &journal, &out))
+}
+
+/// The comparison of the two, with what is read counted.
+fn compared<'r, 'm, 'a, R: Threads + Sync>(
+    rt: &HostRuntime,
+    threads: &R,
+    meter: &'m Meter,
+    from: &'r mut Inputs<Input<'a>, Input<'a>>,
+    to: &'r mut Inputs<Input<'a>, Input<'a>>,
+    has_journal: bool,
+    journal: &mut Input<'a>,
+    seal: &SealFile,
+    out: &mut Output<'a>,
+) -> Result<(), SeasonFault>
+    requires from_first { IsOfCentury from.old.first }
+    requires from_days { (1 ≤ from.old.days) × (from.old.days ≤ 366) }
+    requires to_first { IsOfCentury to.old.first }
+    requires to_days { (1 ≤ to.old.days) × (to.old.days ≤ 366) }
+{
+    let mut old = metered_inputs(rt, meter, from);
+    let mut new = metered_inputs(rt, meter, to);
+    let mut read = metered(rt, meter, journal, Lines::Ended);
+    let mut shown = Clearing::new(out, rt, meter);
+    desk_compare(
+        threads,
+        rt.alloc(),
+        &mut old,
+        &mut new,
+        has_journal,
+        &mut read,
+        &seal.as_beside(),
+        &mut shown,
+    )
 }
 
 /// What it came to, of the file that its fault is of: in the order in which they are read.
