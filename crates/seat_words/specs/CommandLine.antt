@@ -215,6 +215,15 @@ compare_app = with_rule (with_rule (with_rule (new_app (codes "compare"))
     (required_option (codes "to")))
     (optional_value (codes "journal"))
 
+unfoldable pub changes_app : App
+changes_app = with_rule (with_rule (with_rule (with_rule (with_rule (with_rule (horizon_app (codes "changes"))
+    (required_option (codes "to")))
+    (optional (codes "flight")))
+    (optional (codes "day")))
+    (optional (codes "pair")))
+    (flag (codes "open")))
+    (required_value (codes "journal"))
+
 unfoldable pub told_app : App
 told_app = with_rule (with_rule (with_rule (with_rule (horizon_app (codes "told"))
     (required_option (codes "desk")))
@@ -264,8 +273,8 @@ selling_app = with_command (with_command (with_command (with_command (with_comma
 
 -- and those that ask what a journal comes to
 unfoldable pub asking_app : App
-asking_app = with_command (with_command (with_command (with_command (with_command (with_command (with_command
-    selling_app bookings_app) waiting_app) pickup_app) history_app) avs_app) reconcile_app) compare_app
+asking_app = with_command (with_command (with_command (with_command (with_command (with_command (with_command (with_command
+    selling_app bookings_app) waiting_app) pickup_app) history_app) avs_app) reconcile_app) compare_app) changes_app
 
 -- the program: one of its commands must be named
 unfoldable pub seatdesk_app : App

@@ -19,10 +19,11 @@ use Rattle.seat_words.specs.declared.job.HistoryJob.{HistoryJob}
 use Rattle.seat_words.specs.declared.job.AvsJob.{AvsJob}
 use Rattle.seat_words.specs.declared.job.ReconcileJob.{ReconcileJob}
 use Rattle.seat_words.specs.declared.job.CompareJob.{CompareJob}
+use Rattle.seat_words.specs.declared.job.ChangesJob.{ChangesJob}
 use Rattle.seat_words.specs.declared.job.AuditJob.{AuditJob}
 use Rattle.seat_words.specs.declared.job.RepliesJob.{RepliesJob}
 use Rattle.seat_words.specs.declared.job.ToldJob.{ToldJob}
-use Rattle.seat_words.specs.declared.job.Job.TheVariants.{Ladder, Check, Flights, Cover, Rooms, Loads, Run, Serve, Bookings, Waiting, Pickup, History, Avs, Reconcile, Compare, Audit, Seal, Recover, Replies, Told, Why, Explain, Season}
+use Rattle.seat_words.specs.declared.job.Job.TheVariants.{Ladder, Check, Flights, Cover, Rooms, Loads, Run, Serve, Bookings, Waiting, Pickup, History, Avs, Reconcile, Compare, Changes, Audit, Seal, Recover, Replies, Told, Why, Explain, Season}
 
 -- a command that clap found in the words, and what it found of the command's values
 abbrev pub Line : Type 0
@@ -177,6 +178,15 @@ IsCompare rows asked = Has rows (codes "from") asked.from.now
     × Has rows (codes "to") asked.to.now
     × MayHave rows (codes "journal") (option_map (λ text. text.now) asked.journal)
 
+abbrev pub IsChanges : List Row → ChangesJob → Type 0
+IsChanges rows asked = IsOver rows asked.over
+    × Has rows (codes "to") asked.wanted.now
+    × MayHave rows (codes "flight") (option_map (λ text. text.now) asked.flight)
+    × MayHave rows (codes "day") (option_map (λ text. text.now) asked.day)
+    × MayHave rows (codes "pair") (option_map (λ text. text.now) asked.pair)
+    × HasFlag rows (codes "open") asked.is_open
+    × Has rows (codes "journal") asked.journal.now
+
 abbrev pub IsAudit : List Row → AuditJob → Type 0
 IsAudit rows asked = IsOver rows asked.over
     × MayHave rows (codes "after") (option_map (λ text. text.now) asked.after)
@@ -227,6 +237,7 @@ Asks (History asked) line = (line.0 ≡ codes "history") × IsHistory line.1 ask
 Asks (Avs asked) line = (line.0 ≡ codes "avs") × IsAvs line.1 asked
 Asks (Reconcile asked) line = (line.0 ≡ codes "reconcile") × IsReconcile line.1 asked
 Asks (Compare asked) line = (line.0 ≡ codes "compare") × IsCompare line.1 asked
+Asks (Changes asked) line = (line.0 ≡ codes "changes") × IsChanges line.1 asked
 Asks (Audit asked) line = (line.0 ≡ codes "audit") × IsAudit line.1 asked
 Asks (Seal over journal) line = (line.0 ≡ codes "seal")
     × IsOver line.1 over
@@ -272,6 +283,7 @@ asked_values = (codes "ladder", [])
     ∷ (codes "avs", horizon_values ++ codes "journal" ∷ [])
     ∷ (codes "reconcile", horizon_values ++ codes "theirs" ∷ codes "journal" ∷ [])
     ∷ (codes "compare", codes "from" ∷ codes "to" ∷ [])
+    ∷ (codes "changes", horizon_values ++ codes "to" ∷ codes "journal" ∷ [])
     ∷ (codes "audit", horizon_values ++ codes "journal" ∷ [])
     ∷ (codes "seal", horizon_values ++ codes "journal" ∷ [])
     ∷ (codes "recover", horizon_values ++ codes "journal" ∷ [])

@@ -4,6 +4,7 @@ ghost use Rattle.clap.specs.Words.{App};
 ghost use Rattle.seat_words.specs.CommandLine.{IsBuiltAs, asking_app, bare_app, named_app, seatdesk_app, selling_app, with_command, with_switches};
 
 mod arguments;
+mod controllers;
 mod journals;
 mod partners;
 mod questions;
@@ -12,6 +13,7 @@ mod schedules;
 
 use arguments::{flag, lettered_flag, with_argument};
 use clap::Command;
+use controllers::changes_command;
 use journals::{audit_command, replies_command, told_command, why_command};
 use partners::{avs_command, reconcile_command};
 use questions::{
@@ -63,7 +65,8 @@ fn asking_command<'a>(alloc: Global) -> Result<Command<'a>, AllocError>
     let program = with_command(alloc, program, history_command(alloc));
     let program = with_command(alloc, program, avs_command(alloc));
     let program = with_command(alloc, program, reconcile_command(alloc));
-    with_command(alloc, program, compare_command(alloc))
+    let program = with_command(alloc, program, compare_command(alloc));
+    with_command(alloc, program, changes_command(alloc))
 }
 
 // The program with the commands that work on a schedule, or on one leg.

@@ -171,6 +171,14 @@ pub fn examples_are_read()
         ((codes "from", codes "examples/summer.toml" ∷ []) ∷ (codes "to", codes "winter.toml" ∷ [])
         ∷ (codes "journal", codes "examples/journal.txt" ∷ [])
         ∷ (codes "verbose", codes "false" ∷ []) ∷ (codes "quiet", codes "false" ∷ []) ∷ []) }
+    ensures wanted { IsReadTo
+        (codes "seatdesk changes --set examples/summer.ssim --limits examples/limits.txt --first 2024-07-01 --days 31 --to examples/wanted.txt examples/journal.txt")
+        (codes "changes")
+        ((codes "set", codes "examples/summer.ssim" ∷ []) ∷ (codes "limits", codes "examples/limits.txt" ∷ [])
+        ∷ (codes "first", codes "2024-07-01" ∷ []) ∷ (codes "days", codes "31" ∷ [])
+        ∷ (codes "to", codes "examples/wanted.txt" ∷ []) ∷ (codes "journal", codes "examples/journal.txt" ∷ [])
+        ∷ (codes "open", codes "false" ∷ [])
+        ∷ (codes "verbose", codes "false" ∷ []) ∷ (codes "quiet", codes "false" ∷ []) ∷ []) }
     ensures told { IsReadTo
         (codes "seatdesk told --set examples/summer.ssim --limits examples/limits.txt --first 2024-07-01 --days 31 --desk 2 examples/journal.txt")
         (codes "told")

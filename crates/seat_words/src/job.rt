@@ -4,7 +4,7 @@ ghost use Rattle.clap.specs.Walk.{texts};
 ghost use Rattle.clap.specs.Words.{FailsBy, all_of, fault_of, first_of, found_of, kind_of, matches_of, rows_of, subcommand_of, subcommand_rows_of, takes};
 ghost use Rattle.clap.specs.declared.error.kind.ErrorKind.TheVariants.{ArgumentConflict, InvalidValue, OutOfMemory};
 ghost use Rattle.seat_words.specs.CommandLine.{seatdesk_app};
-ghost use Rattle.seat_words.specs.Jobs.{Asks, IsAudit, IsAvs, IsBookings, IsCompare, IsCover, IsHistory, IsLoads, IsOver, IsPickup, IsReconcile, IsReplies, IsRooms, IsRun, IsServe, IsShaped, IsTold, IsWaiting, has_values, horizon_values, is_answerable, is_complete, is_flagged, is_quiet, is_switched, is_verbose};
+ghost use Rattle.seat_words.specs.Jobs.{Asks, IsAudit, IsAvs, IsBookings, IsChanges, IsCompare, IsCover, IsHistory, IsLoads, IsOver, IsPickup, IsReconcile, IsReplies, IsRooms, IsRun, IsServe, IsShaped, IsTold, IsWaiting, has_values, horizon_values, is_answerable, is_complete, is_flagged, is_quiet, is_switched, is_verbose};
 
 use super::commands::seatdesk_command;
 use super::several::Several;
@@ -71,6 +71,8 @@ pub enum Job<'a> {
     Reconcile(ReconcileJob<'a>),
     /// `seatdesk compare --from SEASON --to SEASON [JOURNAL]`
     Compare(CompareJob<'a>),
+    /// `seatdesk changes` over a horizon `--to WANTED [--flight FLIGHT] [--day DATE] [--pair PAIR] [--open] JOURNAL`
+    Changes(ChangesJob<'a>),
     /// `seatdesk audit` over a horizon `[--after JOURNAL] [--behind N] [--today DATE] [--sealed] [--open] [--shards] JOURNAL [SCRIPT...]`
     Audit(AuditJob<'a>),
     /// `seatdesk seal` over a horizon `JOURNAL`
@@ -261,6 +263,19 @@ pub struct CompareJob<'a> {
     pub journal: Option<&'a str>,
 }
 
+/// What `seatdesk changes` asks for.
+#[derive(Clone, Copy)]
+pub struct ChangesJob<'a> {
+    pub over: Horizon<'a>,
+    /// The file of the limits that are wanted.
+    pub wanted: &'a str,
+    pub flight: Option<&'a str>,
+    pub day: Option<&'a str>,
+    pub pair: Option<&'a str>,
+    pub is_open: bool,
+    pub journal: &'a str,
+}
+
 /// What `seatdesk audit` asks for.
 #[derive(Drop)]
 pub struct AuditJob<'a> {
@@ -399,6 +414,7 @@ fn job_named<'a>(alloc: Global, name: &str, matches: &ArgMatches<'a>) -> Result<
         "avs" => Ok(Job::Avs(avs_asked(matches))),
         "reconcile" => Ok(Job::Reconcile(reconcile_asked(matches))),
         "compare" => Ok(Job::Compare(compare_asked(matches))),
+        "changes" => Ok(Job::Changes(changes_asked(matches))),
         "audit" => Ok(Job::Audit(audit_asked(alloc, matches)?)),
         "seal" => Ok(Job::Seal {
             over: horizon_of(matches),
@@ -608,6 +624,21 @@ fn compare_asked<'a>(matches: &ArgMatches<'a>) -> CompareJob<'a>
         from: value_of(matches, "from"),
         to: value_of(matches, "to"),
         journal: may_value_of(matches, "journal"),
+    }
+}
+
+fn changes_asked<'a>(matches: &ArgMatches<'a>) -> ChangesJob<'a>
+    requires { is_complete (codes "changes", rows_of (found_of matches.now)) ≡ true }
+    ensures { IsChanges (rows_of (found_of matches.now)) result }
+{
+    ChangesJob {
+        over: horizon_of(matches),
+        wanted: value_of(matches, "to"),
+        flight: may_value_of(matches, "flight"),
+        day: may_value_of(matches, "day"),
+        pair: may_value_of(matches, "pair"),
+        is_open: flag_of(matches, "open"),
+        journal: value_of(matches, "journal"),
     }
 }
 

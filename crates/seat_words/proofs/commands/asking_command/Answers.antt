@@ -10,4 +10,5 @@ returns c =
     let four = c.with_command-program-4.ensures _ _ three c.history_command.ensures in
     let five = c.with_command-program-5.ensures _ _ four c.avs_command.ensures in
     let six = c.with_command-program-6.ensures _ _ five c.reconcile_command.ensures in
-    c.with_command.ensures _ _ six c.compare_command.ensures
+    let seven = c.with_command-program-7.ensures _ _ six c.compare_command.ensures in
+    c.with_command.ensures _ _ seven c.changes_command.ensures
