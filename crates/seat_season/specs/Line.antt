@@ -34,12 +34,13 @@ is_over command = bytes_eq command (codes "cover")
     || (bytes_eq command (codes "history")
     || (bytes_eq command (codes "avs")
     || (bytes_eq command (codes "reconcile")
+    || (bytes_eq command (codes "changes")
     || (bytes_eq command (codes "audit")
     || (bytes_eq command (codes "seal")
     || (bytes_eq command (codes "recover")
     || (bytes_eq command (codes "replies")
     || (bytes_eq command (codes "told")
-    || bytes_eq command (codes "why"))))))))))))))))
+    || bytes_eq command (codes "why")))))))))))))))))
 
 -- the season that a command line names, where its command takes one
 abbrev pub season_named : List Text → Option Text

@@ -67,6 +67,7 @@ fn is_over(command: &str) -> bool
         || command == "history"
         || command == "avs"
         || command == "reconcile"
+        || command == "changes"
         || command == "audit"
         || command == "seal"
         || command == "recover"
