@@ -1,0 +1,54 @@
+-- The legs that are asked for, part by part.
+use Rattle.std.proofs.Common.{◌≡◌, ℕ, ◌+◌, ◌<◌, ◌≤◌, Bool, true, false, List, [], ◌∷◌, ◌++◌, length, drop, get_or, arith, if◌then◌else◌, sym, ap, ◌∙◌, append_assoc}
+use Rattle.std.proofs.Math.ListN.{drop_of_length-le}
+use Rattle.std.proofs.lemmas.List.{append-nil}
+use Rattle.ssim_flights.proofs.Walks.{drop_step}
+use Rattle.ssim_flights.specs.declared.flight.DatedLeg.{DatedLeg}
+use Rattle.ssim_flights.specs.declared.flight.Flight.{Flight as Flown}
+use Rattle.seat_lists.specs.Picking.{keeps_flight}
+use Rattle.limit_changes.specs.Legs.{each_from, is_kept, kept_leg, kept_on, named_leg}
+use Rattle.limit_changes.specs.declared.legs.LegsAsked.{LegsAsked}
+use Rattle.limit_changes.specs.declared.legs.NamedLeg.{NamedLeg}
+
+module _ {A B : Type 0} where
+  -- the part of one item more
+  pub part_more : (part : ℕ → A → List B) (k next i : ℕ) (xs : List A) (x : A) (mid new whole : List B)
+      → mid ++ each_from part k (drop i xs) ≡ whole → i < length xs → x ≡ get_or xs i x
+      → new ≡ mid ++ part k x → next ≡ k + 1 → new ++ each_from part next (drop (i + 1) xs) ≡ whole
+  part_more part k next i xs x mid new whole so_far inside is put is_next =
+      let rest : drop i xs ≡ x ∷ drop (i + 1) xs = drop_step xs i x inside is in
+      ap (λ (l : List B). l ++ each_from part next (drop (i + 1) xs)) put
+      ∙ append_assoc mid (part k x) (each_from part next (drop (i + 1) xs))
+      ∙ ap (λ (n : ℕ). mid ++ (part k x ++ each_from part n (drop (i + 1) xs))) is_next
+      ∙ ap (λ (l : List A). mid ++ each_from part k l) (sym rest)
+      ∙ so_far
+
+  pub parts_whole : (part : ℕ → A → List B) (k i count : ℕ) (xs : List A) (all whole : List B)
+      → all ++ each_from part k (drop i xs) ≡ whole → count ≡ length xs → count ≤ i → all ≡ whole
+  parts_whole part k i count xs all whole so_far counted over =
+      let past : length xs ≤ i = omega (arith, counted, over) in
+      sym (append-nil all) ∙ ap (λ (l : List A). all ++ each_from part k l) (sym (drop_of_length-le xs past)) ∙ so_far
+
+-- ---- a flight
+
+pub flight_left : (asked : LegsAsked) (i : ℕ) (flight : Flown) (all : List NamedLeg) → keeps_flight asked.flight flight ≡ false
+    → all ≡ all ++ kept_on asked i flight
+flight_left asked i flight all e =
+    sym (append-nil all) ∙ ap (λ (b : Bool). all ++ (if b then each_from (kept_leg asked i flight) 0 flight.legs else [])) (sym e)
+
+pub flight_kept : (asked : LegsAsked) (i : ℕ) (flight : Flown) (old new : List NamedLeg) → keeps_flight asked.flight flight ≡ true
+    → new ≡ old ++ each_from (kept_leg asked i flight) 0 flight.legs → new ≡ old ++ kept_on asked i flight
+flight_kept asked i flight old new e put =
+    put ∙ ap (λ (b : Bool). old ++ (if b then each_from (kept_leg asked i flight) 0 flight.legs else [])) (sym e)
+
+-- ---- a leg
+
+pub leg_left : (asked : LegsAsked) (i : ℕ) (flight : Flown) (j : ℕ) (leg : DatedLeg) (all : List NamedLeg) → is_kept asked leg ≡ false
+    → all ≡ all ++ kept_leg asked i flight j leg
+leg_left asked i flight j leg all e =
+    sym (append-nil all) ∙ ap (λ (b : Bool). all ++ (if b then named_leg i flight j leg ∷ [] else [])) (sym e)
+
+pub leg_kept : (asked : LegsAsked) (i : ℕ) (flight : Flown) (j : ℕ) (leg : DatedLeg) (x : NamedLeg) (old new : List NamedLeg)
+    → is_kept asked leg ≡ true → x ≡ named_leg i flight j leg → new ≡ old ++ x ∷ [] → new ≡ old ++ kept_leg asked i flight j leg
+leg_kept asked i flight j leg x old new e is put =
+    put ∙ ap (λ (y : NamedLeg). old ++ y ∷ []) is ∙ ap (λ (b : Bool). old ++ (if b then named_leg i flight j leg ∷ [] else [])) (sym e)

@@ -1,0 +1,13 @@
+mod Keeping
+mod Ranks
+mod Ranking
+mod Listing
+mod Written
+mod Answering
+mod Quiet
+mod Walking
+mod Apart
+mod Arriving
+mod Falling
+mod Held
+mod Lawful
