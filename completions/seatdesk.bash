@@ -15,7 +15,7 @@ _seatdesk() {
     esac
     for ((i = 1; i < COMP_CWORD; i++)); do
         case ${COMP_WORDS[i]} in
-        ladder | check | flights | cover | rooms | loads | run | serve | bookings | waiting | pickup | history | avs | reconcile | compare | audit | seal | recover | replies | told | why | explain | season | help)
+        ladder | check | flights | cover | rooms | loads | run | serve | bookings | waiting | pickup | history | avs | reconcile | compare | changes | audit | seal | recover | replies | told | why | explain | season | help)
             command=${COMP_WORDS[i]}
             break
             ;;
@@ -23,7 +23,7 @@ _seatdesk() {
     done
     case $command in
     '')
-        words='ladder check flights cover rooms loads run serve bookings waiting pickup history avs reconcile compare audit seal recover replies told why explain season help -v --verbose --quiet -h --help -V --version'
+        words='ladder check flights cover rooms loads run serve bookings waiting pickup history avs reconcile compare changes audit seal recover replies told why explain season help -v --verbose --quiet -h --help -V --version'
         files=''
         values=''
         place=''
@@ -118,6 +118,12 @@ _seatdesk() {
         values=''
         place='files'
         ;;
+    changes)
+        words='--set --limits --first --days --season --to --flight --day --pair --open -v --verbose --quiet -h --help'
+        files='--set --limits --season --to'
+        values='--first --days --flight --day --pair'
+        place='files'
+        ;;
     audit)
         words='--set --limits --first --days --season --after --behind --today --sealed --open --shards -v --verbose --quiet -h --help'
         files='--set --limits --season --after'
@@ -170,7 +176,7 @@ _seatdesk() {
         place='files'
         ;;
     help)
-        words='ladder check flights cover rooms loads run serve bookings waiting pickup history avs reconcile compare audit seal recover replies told why explain season'
+        words='ladder check flights cover rooms loads run serve bookings waiting pickup history avs reconcile compare changes audit seal recover replies told why explain season'
         files=''
         values=''
         place=''

@@ -20,6 +20,7 @@ complete -c seatdesk -n __fish_use_subcommand -a history -d 'Writes what the lin
 complete -c seatdesk -n __fish_use_subcommand -a avs -d 'Writes what partners are to show as available: the status of each segment and class'
 complete -c seatdesk -n __fish_use_subcommand -a reconcile -d 'Writes where the list of a partner or a desk differs from the bookings of a journal'
 complete -c seatdesk -n __fish_use_subcommand -a compare -d 'Writes what another season changes: flights added and gone, and other legs and limits'
+complete -c seatdesk -n __fish_use_subcommand -a changes -d 'Writes the changes that bring the limits after a journal to those that are wanted'
 complete -c seatdesk -n __fish_use_subcommand -a audit -d 'Replays a journal against its schedule and limits, and writes one summary line'
 complete -c seatdesk -n __fish_use_subcommand -a seal -d 'Writes the seal of a journal that audit accepts, which says what the journal belongs to'
 complete -c seatdesk -n __fish_use_subcommand -a recover -d 'Cuts a journal that was left open back to its right lines, writes its END line, and says so'
@@ -229,6 +230,21 @@ complete -c seatdesk -n '__fish_seen_subcommand_from compare' -l quiet -d 'Never
 complete -c seatdesk -n '__fish_seen_subcommand_from compare' -s h -l help -d 'Print help'
 complete -c seatdesk -n '__fish_seen_subcommand_from compare' -F
 
+complete -c seatdesk -n '__fish_seen_subcommand_from changes' -l set -r -F -d 'The data set of the schedule (SSIM chapter 7, a file)'
+complete -c seatdesk -n '__fish_seen_subcommand_from changes' -l limits -r -F -d 'The booking limits of the legs, in seats from 0 to 999 (a file)'
+complete -c seatdesk -n '__fish_seen_subcommand_from changes' -l first -x -d 'The first day of departure, as 2024-06-01, from 2000 to 2099'
+complete -c seatdesk -n '__fish_seen_subcommand_from changes' -l days -x -d 'How many days from the first on, 1 to 366'
+complete -c seatdesk -n '__fish_seen_subcommand_from changes' -l season -r -F -d 'A season file in place of --set, --limits, --first and --days; it may name the journal and the desks too'
+complete -c seatdesk -n '__fish_seen_subcommand_from changes' -l to -r -F -d 'The limits that are wanted, in rows as those of LIMITS (a file)'
+complete -c seatdesk -n '__fish_seen_subcommand_from changes' -l flight -x -d 'The flights of this name alone, on all their days, as LZ601'
+complete -c seatdesk -n '__fish_seen_subcommand_from changes' -l day -x -d 'The legs that depart on this day alone, as 2024-06-01'
+complete -c seatdesk -n '__fish_seen_subcommand_from changes' -l pair -x -d 'The legs between these two stations alone, as LHRJFK'
+complete -c seatdesk -n '__fish_seen_subcommand_from changes' -l open -d 'Takes a JOURNAL that is still open: its whole lines count, and it needs no END line'
+complete -c seatdesk -n '__fish_seen_subcommand_from changes' -s v -l verbose -d 'Names the file of a fault, and where in it the fault stands, or the system\'s reason'
+complete -c seatdesk -n '__fish_seen_subcommand_from changes' -l quiet -d 'Never says on a terminal how far a long command is'
+complete -c seatdesk -n '__fish_seen_subcommand_from changes' -s h -l help -d 'Print help'
+complete -c seatdesk -n '__fish_seen_subcommand_from changes' -F
+
 complete -c seatdesk -n '__fish_seen_subcommand_from audit' -l set -r -F -d 'The data set of the schedule (SSIM chapter 7, a file)'
 complete -c seatdesk -n '__fish_seen_subcommand_from audit' -l limits -r -F -d 'The booking limits of the legs, in seats from 0 to 999 (a file)'
 complete -c seatdesk -n '__fish_seen_subcommand_from audit' -l first -x -d 'The first day of departure, as 2024-06-01, from 2000 to 2099'
@@ -318,4 +334,4 @@ complete -c seatdesk -n '__fish_seen_subcommand_from season' -l quiet -d 'Never 
 complete -c seatdesk -n '__fish_seen_subcommand_from season' -s h -l help -d 'Print help'
 complete -c seatdesk -n '__fish_seen_subcommand_from season' -F
 
-complete -c seatdesk -n '__fish_seen_subcommand_from help' -a 'ladder check flights cover rooms loads run serve bookings waiting pickup history avs reconcile compare audit seal recover replies told why explain season'
+complete -c seatdesk -n '__fish_seen_subcommand_from help' -a 'ladder check flights cover rooms loads run serve bookings waiting pickup history avs reconcile compare changes audit seal recover replies told why explain season'

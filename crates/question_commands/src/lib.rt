@@ -3,6 +3,7 @@
 #![tactic(auto)]
 
 mod availing;
+mod changing;
 mod commands;
 mod comparing;
 mod listing;
@@ -12,6 +13,7 @@ mod replaying;
 mod shards;
 
 pub use availing::avs;
+pub use changing::changes;
 pub use commands::{check, ladder, seal, season, told_of, why};
 pub use comparing::compare;
 pub use listing::{bookings, cover, flights, history, loads, pickup, rooms, waiting};

@@ -21,6 +21,7 @@ pub fn answer_row(word: &str) -> Option<&'static Explanation>
         .or(first_named(files(), word))
         .or(first_named(partners(), word))
         .or(first_named(changes(), word))
+        .or(first_named(wanted(), word))
 }
 
 fn first_named<'a>(rows: &'a [Explanation], word: &str) -> Option<&'a Explanation>
@@ -63,6 +64,10 @@ fn requests() -> &'static [Explanation] {
 
 fn partners() -> &'static [Explanation] {
     PARTNERS
+}
+
+fn wanted() -> &'static [Explanation] {
+    WANTED
 }
 
 fn changes() -> &'static [Explanation] {
@@ -167,7 +172,7 @@ const REASONS: &[Explanation] = &[
         behind: "",
         code: "HELD",
         numbers: NONE,
-        text: "Of why: each class of the leg with the seats held in it and in those below it, ahead of the line.",
+        text: "Of why: each class of the leg with the seats held in it and in those below it, ahead of the line.\nOf changes: more seats are held in the class and those below it than are wanted, and its limit comes to so many.",
     },
     Explanation {
         behind: "",
@@ -344,6 +349,28 @@ const PARTNERS: &[Explanation] = &[
         code: "CX",
         numbers: NONE,
         text: "Of avs: not operated. On a leg of the segment no class has a seat: its highest limit is 0, or it has no limits.",
+    },
+];
+
+// What changes says of a class.
+const WANTED: &[Explanation] = &[
+    Explanation {
+        behind: "",
+        code: "SHORT",
+        numbers: NONE,
+        text: "Of changes: the limit of this class does not come to what is wanted, which stands behind WANTED, and why. The changes are right as they are.",
+    },
+    Explanation {
+        behind: "",
+        code: "WANTED",
+        numbers: NONE,
+        text: "Of changes: the limit that is wanted of the class.",
+    },
+    Explanation {
+        behind: "",
+        code: "NESTED",
+        numbers: NONE,
+        text: "Of changes: the limit to which the class comes, between those of the classes above it and below it. The wanted limits leave out a class of the leg,\nor rank its classes otherwise.",
     },
 ];
 

@@ -134,6 +134,7 @@ fn carry_out<'a, T: Threads + Wait + Clock + Sync + Copy + Send + 'static>(
         Job::History(asked) => done(question_commands::history(rt, threads, meter, asked)),
         Job::Avs(asked) => done(question_commands::avs(rt, threads, meter, asked)),
         Job::Reconcile(asked) => reconciled(rt, threads, meter, asked),
+        Job::Changes(asked) => done(question_commands::changes(rt, threads, meter, asked)),
         Job::Compare(seasons) => season::compared(rt, threads, meter, seasons, asked.is_verbose),
         Job::Audit(asked) => done(audited(rt, threads, meter, asked)),
         Job::Seal { over, journal } => done(question_commands::seal(
