@@ -3,7 +3,7 @@ use Rattle.std.proofs.Common.{◌≡◌, ◌==◌, ◌&&◌, ℕ, ◌+◌, ◌-�
 use Rattle.std.specs.Cmp.Lexicographic.{pointwise}
 use Rattle.std.proofs.lemmas.List.Sums.{sum_by_push, sum_by-append}
 use Rattle.airline_base.proofs.Tests.{both_true}
-use Rattle.seat_rules.proofs.Common.{Place, Ladders, Command, Work, Seats, Limit, Entry, IsLegal, is_for, is_held, is_waiting, State, Outcome, answer, advice_of, changed_by, confirmed, pass, reduced, booking_of, refused, booked, replay, next_line}
+use Rattle.seat_rules.proofs.Common.{Place, Ladders, Command, Work, Seats, Limit, Entry, IsLegal, is_for, is_held, is_waiting, State, Outcome, answer, changed_by, pass, reduced, booking_of, refused, booked, replay, next_line}
 use Rattle.seat_rules.specs.Bookings.{same_place}
 use Rattle.seat_rules.specs.declared.booking.Booking.{Booking}
 use Rattle.seat_rules.specs.declared.booking.Status.{Status}
@@ -17,7 +17,6 @@ use Rattle.seat_rules.proofs.History.Legal.{each_legal, legal_prefix}
 use Rattle.seat_rules.proofs.History.Lines.{replay_next}
 use Rattle.seat_rules.proofs.History.Prefixes.{begins_longer}
 use Rattle.seat_rules.proofs.Passes.Weights.{pass_weighs, reduced_weighs, found_passes}
-use Rattle.seat_rules.specs.Sequential.{booking_for}
 use Rattle.seat_pickup.specs.Moves.{Where, advised, asked, cancelled_by, confirmed_by, held_in, holds, placed, sold_by, sum_of, those}
 use Rattle.seat_pickup.specs.Pickups.{MovesBalance}
 
@@ -146,7 +145,7 @@ balanced_next on f k grid past session call w h =
       sum_by_push (λ (x : Entry). confirmed_by on x f k) past e,
     )
 
-balanced : (on : Where) (f k : ℕ) (grid : Ladders) (journal : List Entry) → IsLegal grid journal → IsBalanced on f k grid journal
+pub balanced : (on : Where) (f k : ℕ) (grid : Ladders) (journal : List Entry) → IsLegal grid journal → IsBalanced on f k grid journal
 balanced on f k grid journal legal =
     each_legal grid (IsBalanced on f k grid)
     (λ past e l next h. let P : Entry → Type 0 = λ x. IsBalanced on f k grid (past ++ x ∷ []) in subst P (sym next.line) (balanced_next on f k grid past e.session e.call e.work h))

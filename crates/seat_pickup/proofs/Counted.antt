@@ -1,8 +1,7 @@
 -- Counts in a row.
-use Rattle.std.proofs.Common.{◌≡◌, ◌≢◌, ◌⊎◌, ◌==◌, ◌&&◌, ℕ, ◌+◌, ◌-◌, ◌*◌, ◌<◌, ◌≤◌, Bool, true, false, List, [], ◌∷◌, length, take, set, replicate, get_or, Option, Some, None, inl, inr, refl, sym, ap, subst, ◌∙◌, arith, eq-eqb, ne_eqb, if◌then◌else◌}
+use Rattle.std.proofs.Common.{◌≡◌, ◌≢◌, ◌⊎◌, ◌==◌, ◌&&◌, ℕ, ◌+◌, ◌-◌, ◌*◌, ◌<◌, ◌≤◌, Bool, true, false, List, length, take, set, replicate, get_or, Option, Some, None, inl, inr, refl, sym, ap, subst, ◌∙◌, arith, eq-eqb, ne_eqb, if◌then◌else◌}
 use Rattle.std.specs.Prelude.{IsTrue, nat_lt}
 use Rattle.std.specs.Char.{is_ascii_uppercase}
-use Rattle.std.specs.List.{sum_by}
 use Rattle.std.proofs.lemmas.Bool.{cases_lt, eqb-true}
 use Rattle.std.proofs.lemmas.Bool.Decides.{nat_tests}
 use Rattle.std.proofs.lemmas.List.{length-set, length-replicate, get_or-replicate, get_or-set_same, get_or-set_other, get_or_default, take_all}
@@ -79,7 +78,7 @@ there place seats was more old new lt is sum put = record {
 -- ---- a flight and class
 
 -- two have one place where both are the same
-same_spot : (flight class f c : ℕ) → 65 ≤ class → class ≤ 90 → 65 ≤ c → c ≤ 90
+pub same_spot : (flight class f c : ℕ) → 65 ≤ class → class ≤ 90 → 65 ≤ c → c ≤ 90
     → (spot f c == spot flight class) ≡ ((flight == f) && (class == c))
 same_spot flight class f c low_class high_class low_c high_c = of (flight == f) (class == c) refl refl where
   of : (s t : Bool) → (flight == f) ≡ s → (class == c) ≡ t → (spot f c == spot flight class) ≡ (s && t)
@@ -118,7 +117,7 @@ on_legs split place class seats old new is adds = subst (λ (s : Split). Adds (t
 -- ---- sums of counts
 
 -- none is added
-nothing : (more : Counts) (row : List ℕ) → ((f c : ℕ) → more f c ≡ 0) → Adds more row row
+pub nothing : (more : Counts) (row : List ℕ) → ((f c : ℕ) → more f c ≡ 0) → Adds more row row
 nothing more row none = record {
   counted = refl;
   each = λ f c low_c high_c inside. let zero_here : more f c ≡ 0 = none f c in omega (arith, zero_here);

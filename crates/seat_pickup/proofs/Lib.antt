@@ -1,4 +1,5 @@
 pub mod Counted
 pub mod Balancing
 pub mod Picking
+pub mod Between
 pub mod Parting

@@ -1,5 +1,5 @@
 -- What is picked up, class by class and flight by flight.
-use Rattle.std.proofs.Common.{◌≡◌, ◌==◌, ◌&&◌, ◌||◌, ℕ, suc, ◌+◌, ◌-◌, ◌*◌, ◌<◌, ◌≤◌, Bool, true, false, List, [], ◌∷◌, ◌++◌, length, take, drop, get_or, Option, Some, None, refl, sym, ap, subst, ◌∙◌, arith, if◌then◌else◌, append_assoc}
+use Rattle.std.proofs.Common.{◌≡◌, ◌==◌, ◌&&◌, ◌||◌, ℕ, suc, ◌+◌, ◌-◌, ◌<◌, ◌≤◌, Bool, true, false, List, [], ◌∷◌, ◌++◌, length, take, drop, get_or, Option, Some, None, refl, sym, ap, subst, ◌∙◌, arith, if◌then◌else◌, append_assoc}
 use Rattle.std.specs.Prelude.{nat_lt}
 use Rattle.std.specs.Char.{is_ascii_uppercase}
 use Rattle.std.proofs.Math.ListN.{drop_of_length-le}
@@ -66,7 +66,7 @@ pub spot_within : (flights f k : ℕ) (of : ℕ → ℕ → ℕ) (row : List ℕ
     → spot f k < length row
 spot_within flights f k of row are inside from to = omega (arith, are.counted, inside, from, to)
 
-same_sums : (a b : MoveSums) → a.before ≡ b.before → a.sold ≡ b.sold → a.cancelled ≡ b.cancelled → a.confirmed ≡ b.confirmed
+pub same_sums : (a b : MoveSums) → a.before ≡ b.before → a.sold ≡ b.sold → a.cancelled ≡ b.cancelled → a.confirmed ≡ b.confirmed
     → a.held ≡ b.held → a ≡ b
 same_sums a b e f g h k = λ i. record { before = e i; sold = f i; cancelled = g i; confirmed = h i; held = k i }
 

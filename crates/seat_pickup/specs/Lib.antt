@@ -1,4 +1,5 @@
 pub mod Moves
 pub mod Counting
 pub mod Pickups
+pub mod Pairs
 pub mod Older

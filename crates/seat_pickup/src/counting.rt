@@ -1,11 +1,13 @@
-//! Seats, counted by flight and class or leg in one row: 26 counts for each flight.
+//! Seats, counted by flight and class or leg in one row: 26 counts for each flight. By pair of stations the first of 26 counts.
 //! It knows no line of a journal.
 ghost use Rattle.std.specs.Prelude.{◌≡◌, ◌<◌, ◌≤◌, ◌+◌, ◌*◌, IfOk, OnOk, length, replicate};
 ghost use Rattle.seat_pickup.specs.Counting.{Adds, AddsAt, count_at, spot};
 ghost use Rattle.seat_pickup.specs.Moves.{is_at, on_leg, those};
+ghost use Rattle.seat_pickup.specs.Pairs.{pairs_at, tally_at};
 ghost use Rattle.seat_pickup.specs.declared.split.Split.TheVariants.{Classes, Legs};
 
-use crate::split::Split;
+use crate::pairing::{Pairing, number_of};
+use crate::split::{Split, Tally};
 use airline_base::{Class, Memory, Place};
 use seat_questions::has_leg;
 use std::alloc::Global;
@@ -18,9 +20,29 @@ pub fn no_counts(alloc: Global, flights: u32) -> Result<Vec<u64>, Memory>
     Ok(row)
 }
 
-/// Adds the seats of a place and class where they count. A flight beyond the row counts nowhere.
-#[tactic(auto, using(crate::proofs::Counted::in_class, crate::proofs::Counted::on_legs))]
+/// Adds the seats of a place and class where they count. A flight or pair beyond the row counts nowhere.
+#[tactic(auto, using(crate::proofs::Between::no_seats, crate::proofs::Between::on_flights, crate::proofs::Between::between_pairs))]
 pub fn add(
+    row: &mut Vec<u64>,
+    tally: &Tally<'_>,
+    place: Place,
+    class: Class,
+    seats: u16,
+) -> Result<(), Memory>
+    ensures { OnOk result (Adds (those (tally_at tally.now) place class seats) row.old.items row.new.items) }
+{
+    if seats == 0 {
+        return Ok(());
+    }
+    match tally {
+        Tally::OnFlights(split) => add_on_flight(row, *split, place, class, seats),
+        Tally::Between(pairing) => add_between(row, pairing, place, class, seats),
+    }
+}
+
+/// Adds them on the flight of the place.
+#[tactic(auto, using(crate::proofs::Counted::in_class, crate::proofs::Counted::on_legs))]
+fn add_on_flight(
     row: &mut Vec<u64>,
     split: Split,
     place: Place,
@@ -33,6 +55,26 @@ pub fn add(
         Split::Classes => add_in_class(row, place, class, seats),
         Split::Legs => add_on_legs(row, place, class, seats),
     }
+}
+
+/// Adds them at the number of the place's pair, if it has one.
+#[tactic(auto, using(crate::proofs::Between::pair_away, crate::proofs::Between::pair_added))]
+fn add_between(
+    row: &mut Vec<u64>,
+    pairing: &Pairing<'_>,
+    place: Place,
+    class: Class,
+    seats: u16,
+) -> Result<(), Memory>
+    ensures { OnOk result (Adds (those (pairs_at pairing.now) place class seats) row.old.items row.new.items) }
+{
+    let Some(number) = number_of(pairing, place) else {
+        return Ok(());
+    };
+    let Some(at) = number.checked_mul(26) else {
+        return Err(Memory);
+    };
+    add_at(row, at, u64::from(seats))
 }
 
 #[tactic(auto, using(crate::proofs::Counted::added))]

@@ -9,7 +9,8 @@ ghost use Rattle.seat_pickup.specs.Pickups.{AreMoves, has_any, moved_behind};
 
 use crate::counting::count_at;
 use crate::moves::{cancelled_in, confirmed_in, sold_in};
-use crate::split::{Split, is_at};
+use crate::pairing::Pairing;
+use crate::split::{Split, Tally, is_at};
 use airline_base::Memory;
 use seat_core::Core;
 use seat_rules::Booking;
@@ -53,13 +54,15 @@ pub fn moves_behind(
     ensures flights { IfOk result (λ moves. moves.flights ≡ flights) }
     ensures moved { IfOk result (AreMoves (drop lines core.now.journal)) }
 {
+    let _pairing: Option<Pairing<'_>> = None;
     let since = &core.journal()[lines..];
+    let tally = Tally::OnFlights(split);
     Ok(Moves {
         split,
         flights,
-        sold: sold_in(alloc, split, flights, since)?,
-        cancelled: cancelled_in(alloc, split, flights, since)?,
-        confirmed: confirmed_in(alloc, split, flights, since)?,
+        sold: sold_in(alloc, &tally, flights, since)?,
+        cancelled: cancelled_in(alloc, &tally, flights, since)?,
+        confirmed: confirmed_in(alloc, &tally, flights, since)?,
     })
 }
 
