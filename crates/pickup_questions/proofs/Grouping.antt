@@ -18,14 +18,14 @@ use Rattle.pickup_questions.specs.declared.groups.Groups.TheVariants.{Flights, C
 use Rattle.seat_pickup.specs.declared.moved.MoveSums.{MoveSums}
 
 -- the row of these sums, or none
-group_left : (names : List (List ℕ)) (cells : MoveSums → List Cell) (sums right : MoveSums) (any : Bool) (sheet : Sheet)
+pub group_left : (names : List (List ℕ)) (cells : MoveSums → List Cell) (sums right : MoveSums) (any : Bool) (sheet : Sheet)
     → sums ≡ right → any ≡ has_any sums → any ≡ false → IsReady sheet
     → ArePut names (kept_rows (has_any right) (cells right ∷ [])) sheet sheet
 group_left names cells sums right any sheet same is e ready =
     subst (λ (s : MoveSums). ArePut names (kept_rows (has_any s) (cells s ∷ [])) sheet sheet) same
     (rows_left names (cells sums ∷ []) (has_any sums) sheet (sym is ∙ e) ready)
 
-group_kept : (names : List (List ℕ)) (cells : MoveSums → List Cell) (sums right : MoveSums) (any : Bool) (old new : Sheet)
+pub group_kept : (names : List (List ℕ)) (cells : MoveSums → List Cell) (sums right : MoveSums) (any : Bool) (old new : Sheet)
     → sums ≡ right → any ≡ has_any sums → any ≡ true → ArePut names (cells sums ∷ []) old new
     → ArePut names (kept_rows (has_any right) (cells right ∷ [])) old new
 group_kept names cells sums right any old new same is e put =

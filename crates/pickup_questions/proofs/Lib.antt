@@ -3,4 +3,5 @@ pub mod Moving
 pub mod Grouping
 pub mod Lettering
 pub mod Starting
+pub mod Pairing
 pub mod PickedUp

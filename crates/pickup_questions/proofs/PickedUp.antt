@@ -22,8 +22,9 @@ use Rattle.seat_tables.specs.declared.sheet.Form.TheVariants.{Text, Csv, Json}
 use Rattle.pickup_questions.specs.PickupRows.{IsPickupOver, IsPickupRefused, IsPickupText, names_by, pickup_names, rows_by, rows_of_pickup, sums_part, sums_text}
 use Rattle.pickup_questions.specs.GroupRows.{class_names, class_rows, day_names, day_rows, flight_names, flight_rows}
 use Rattle.pickup_questions.specs.LegRows.{leg_names, leg_rows}
+use Rattle.pickup_questions.specs.PairRows.{pair_names, pair_rows}
 use Rattle.pickup_questions.specs.declared.pickup.By.{By}
-use Rattle.pickup_questions.specs.declared.pickup.By.TheVariants.{EachRow, EachFlight, EachLeg, EachClass, EachDay}
+use Rattle.pickup_questions.specs.declared.pickup.By.TheVariants.{EachRow, EachFlight, EachLeg, EachClass, EachDay, EachPair}
 use Rattle.pickup_questions.specs.declared.pickup.PickupOf.{PickupOf}
 
 pub summed : (by : By) (form : Form) (asked : Option Designator) (flights : List Flown) (all : List Pickup) (moved : Where → ℕ → ℕ → MoveSums)
@@ -49,6 +50,9 @@ module _ (by : By) (form : Form) (asked : Option Designator) (flights : List Flo
 
   pub each_day : by ≡ EachDay → IsTable form day_names (day_rows flights all) text → IsTable form (names_by by) (rows_by by asked flights all moved) text
   each_day is table = subst (λ (b : By). IsTable form (names_by b) (rows_by b asked flights all moved) text) (sym is) table
+
+  pub each_pair : by ≡ EachPair → IsTable form pair_names (pair_rows asked flights moved) text → IsTable form (names_by by) (rows_by by asked flights all moved) text
+  each_pair is table = subst (λ (b : By). IsTable form (names_by b) (rows_by b asked flights all moved) text) (sym is) table
 
 -- ---- the sums
 

@@ -2,4 +2,5 @@ pub mod OlderText
 pub mod Groups
 pub mod GroupRows
 pub mod LegRows
+pub mod PairRows
 pub mod PickupRows

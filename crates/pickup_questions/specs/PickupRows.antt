@@ -24,10 +24,11 @@ use Rattle.seat_tables.specs.declared.sheet.Form.TheVariants.{Text, Csv, Json}
 use Rattle.pickup_questions.specs.Groups.{move_of}
 use Rattle.pickup_questions.specs.GroupRows.{class_names, class_rows, day_names, day_rows, flight_names, flight_rows}
 use Rattle.pickup_questions.specs.LegRows.{leg_names, leg_rows}
+use Rattle.pickup_questions.specs.PairRows.{pair_names, pair_rows}
 use Rattle.pickup_questions.specs.declared.groups.Move.{Move}
 use Rattle.pickup_questions.specs.declared.groups.Move.TheVariants.{Before, Sold, Cancelled, Confirmed, Held}
 use Rattle.pickup_questions.specs.declared.pickup.By.{By}
-use Rattle.pickup_questions.specs.declared.pickup.By.TheVariants.{EachRow, EachFlight, EachLeg, EachClass, EachDay}
+use Rattle.pickup_questions.specs.declared.pickup.By.TheVariants.{EachRow, EachFlight, EachLeg, EachClass, EachDay, EachPair}
 use Rattle.pickup_questions.specs.declared.pickup.PickupOf.{PickupOf}
 
 abbrev pub pickup_names : List (List ℕ)
@@ -50,14 +51,16 @@ names_by EachFlight = flight_names
 names_by EachLeg = leg_names
 names_by EachClass = class_names
 names_by EachDay = day_names
+names_by EachPair = pair_names
 
--- the rows of classes, or their sums; or those of legs of flights that are kept, of what moved there
+-- the rows of classes, or their sums; or those of legs of flights that are kept, or of pairs on them, of what moved there
 abbrev pub rows_by : By → Option Designator → List Flown → List Pickup → (Where → ℕ → ℕ → MoveSums) → List (List Cell)
 rows_by EachRow asked flights all moved = rows_from rows_of_pickup 0 all
 rows_by EachFlight asked flights all moved = flight_rows flights all
 rows_by EachLeg asked flights all moved = leg_rows asked (moved (is_at Legs)) flights
 rows_by EachClass asked flights all moved = class_rows all
 rows_by EachDay asked flights all moved = day_rows flights all
+rows_by EachPair asked flights all moved = pair_rows asked flights moved
 
 -- words, and a sum
 abbrev pub sum_text : List ℕ → Move → List Pickup → List ℕ

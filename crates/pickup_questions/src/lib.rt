@@ -1,4 +1,5 @@
-//! What the lines of a journal behind older ones made of the seats, as tables: class by class or leg by leg, or the sums by flight, by class or by day.
+//! What the lines of a journal behind older ones made of the seats, as tables: class by class, leg by leg or pair by pair, or the sums by flight, by
+//! class or by day.
 //! It knows what a row says, and leaves how one is spelled, and every number, to the crates below.
 #![tactic(auto)]
 
@@ -6,9 +7,11 @@ mod by_class;
 mod by_day;
 mod by_flight;
 mod by_leg;
+mod by_pair;
 mod groups;
 mod moved;
 mod older;
+mod pairs;
 mod pickup;
 
 pub use groups::{Groups, Move};

@@ -14,6 +14,7 @@ use crate::by_class::class_table;
 use crate::by_day::day_table;
 use crate::by_flight::flight_table;
 use crate::by_leg::leg_table;
+use crate::by_pair::pair_table;
 use crate::groups::{Move, move_of};
 use airline_base::Memory;
 use seat_core::Core;
@@ -49,6 +50,8 @@ pub enum By {
     EachClass,
     /// The flights whose first leg departs on a day.
     EachDay,
+    /// Two stations between which bookings' places run, whatever the flight: a booking counts once.
+    EachPair,
 }
 
 impl<'a> Question for PickupOf<'a> {
@@ -146,7 +149,7 @@ fn text_of(
     Ok(text)
 }
 
-#[tactic(auto, using(crate::proofs::PickedUp::each_row, crate::proofs::PickedUp::each_flight, crate::proofs::PickedUp::each_leg, crate::proofs::PickedUp::each_class, crate::proofs::PickedUp::each_day))]
+#[tactic(auto, using(crate::proofs::PickedUp::each_row, crate::proofs::PickedUp::each_flight, crate::proofs::PickedUp::each_leg, crate::proofs::PickedUp::each_class, crate::proofs::PickedUp::each_day, crate::proofs::PickedUp::each_pair))]
 fn table_by(
     alloc: Global,
     by: By,
@@ -168,6 +171,7 @@ fn table_by(
         By::EachLeg => leg_table(alloc, form, flights, core, lines, asked),
         By::EachClass => class_table(alloc, form, all),
         By::EachDay => day_table(alloc, form, flights, all),
+        By::EachPair => pair_table(alloc, form, flights, core, lines, asked),
     }
 }
 

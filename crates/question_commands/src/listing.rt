@@ -436,7 +436,7 @@ fn pickup_by(by: Option<&str>) -> Result<PickupBy, WordFault> {
         Some(By::EachLeg) => Ok(PickupBy::EachLeg),
         Some(By::EachFlight) => Ok(PickupBy::EachFlight),
         Some(By::EachDay) => Ok(PickupBy::EachDay),
-        Some(By::EachPair) => Err(WordFault::BadBy),
+        Some(By::EachPair) => Ok(PickupBy::EachPair),
         Some(By::EachClass) => Ok(PickupBy::EachClass),
     }
 }
