@@ -169,7 +169,7 @@ complete -c seatdesk -n '__fish_seen_subcommand_from pickup' -l season -r -F -d 
 complete -c seatdesk -n '__fish_seen_subcommand_from pickup' -l behind -x -d 'How many lines an older JOURNAL had, 0 to 999999; what stands behind them is picked up'
 complete -c seatdesk -n '__fish_seen_subcommand_from pickup' -l since -r -F -d 'An older JOURNAL in place of --behind (a file): what stands behind its lines is picked up'
 complete -c seatdesk -n '__fish_seen_subcommand_from pickup' -l flight -x -d 'The flights of this name alone, on all their days, as LZ601'
-complete -c seatdesk -n '__fish_seen_subcommand_from pickup' -l by -x -d 'What the rows are summed by: leg, flight, day or class'
+complete -c seatdesk -n '__fish_seen_subcommand_from pickup' -l by -x -d 'What the rows are summed by: leg, flight, day, pair or class'
 complete -c seatdesk -n '__fish_seen_subcommand_from pickup' -l csv -d 'Writes the rows as CSV, below a line of the columns\' names'
 complete -c seatdesk -n '__fish_seen_subcommand_from pickup' -l json -d 'Writes the rows as JSON, an object a line'
 complete -c seatdesk -n '__fish_seen_subcommand_from pickup' -l open -d 'Takes a JOURNAL that is still open: its whole lines count, and it needs no END line'

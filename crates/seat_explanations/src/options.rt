@@ -99,7 +99,7 @@ pub(crate) const WORDS: &[Explanation] = &[
         behind: "E2",
         code: "by",
         numbers: NONE,
-        text: "--by of loads is not leg, flight, day, pair or class, or that of pickup not leg, flight, day or class.",
+        text: "--by of loads or of pickup is not leg, flight, day, pair or class.",
     },
     Explanation {
         behind: "E2",

@@ -26,7 +26,7 @@ const PICKED_HELP: &str =
 const SINCE_HELP: &str =
     "An older JOURNAL in place of --behind (a file): what stands behind its lines is picked up";
 
-const PICKED_BY_HELP: &str = "What the rows are summed by: leg, flight, day or class";
+const PICKED_BY_HELP: &str = "What the rows are summed by: leg, flight, day, pair or class";
 
 const LEG_DAY_HELP: &str = "The legs that depart on this day alone, as 2024-06-01";
 
