@@ -36,7 +36,7 @@ fn put_light(text: &mut Vec<u8>) -> Result<(), AllocError>
 {
     put(
         text,
-        b"body{margin:1em;font:14px system-ui,sans-serif;background:#fff;color:#111}div{overflow-x:auto}table{border-collapse:collapse}th,td{padding:.2em .4em;border:1px solid #ccc;text-align:right;white-space:nowrap}th[scope=row]{position:sticky;left:0;text-align:left;background:#fff}.s0{--n:0}.s1{--n:1}.s2{--n:2}.s3{--n:3}.s4{--n:4}.s5{--n:5}.s6{--n:6}.s7{--n:7}.s8{--n:8}.s9{--n:9}.s10{--n:10}td[class]{background:hsl(210 70% calc(97% - var(--n)*6.5%))}.s8,.s9,.s10{color:#fff}",
+        b"body{margin:1em;font:14px system-ui,sans-serif;background:#fff;color:#111}div{overflow-x:auto}table{border-spacing:0;border:solid #ccc;border-width:1px 0 0 1px}th,td{padding:.2em .4em;border:solid #ccc;border-width:0 1px 1px 0;text-align:right;white-space:nowrap}th:first-child{position:sticky;left:0;text-align:left;background:#fff}.s0{--n:0}.s1{--n:1}.s2{--n:2}.s3{--n:3}.s4{--n:4}.s5{--n:5}.s6{--n:6}.s7{--n:7}.s8{--n:8}.s9{--n:9}.s10{--n:10}td[class]{background:hsl(210 70% calc(97% - var(--n)*6.5%))}.s8,.s9,.s10{color:#fff}",
     )
 }
 
@@ -46,7 +46,7 @@ fn put_dark(text: &mut Vec<u8>) -> Result<(), AllocError>
 {
     put(
         text,
-        b"@media screen and (prefers-color-scheme:dark){body,th[scope=row]{background:#111;color:#eee}th,td{border-color:#444}td[class]{background:hsl(210 60% calc(14% + var(--n)*4.5%))}.s8,.s9,.s10{color:#000}}",
+        b"@media screen and (prefers-color-scheme:dark){body,th:first-child{background:#111;color:#eee}table,th,td{border-color:#444}td[class]{background:hsl(210 60% calc(15% + var(--n)*4%))}.s8,.s9,.s10{color:#000}}",
     )
 }
 
@@ -56,7 +56,7 @@ fn put_print(text: &mut Vec<u8>) -> Result<(), AllocError>
 {
     put(
         text,
-        b"@media print{section+section{break-before:page}div{overflow:visible}table{font-size:60%}tr{break-inside:avoid}td{-webkit-print-color-adjust:exact;print-color-adjust:exact}}",
+        b"@media print{@page{size:landscape}section+section{break-before:page}div{overflow:visible}table{font-size:60%}tr{break-inside:avoid}td{-webkit-print-color-adjust:exact;print-color-adjust:exact;padding:.1em;min-width:3.4em;white-space:normal}th[scope=col]+th{writing-mode:vertical-rl}}",
     )
 }
 
