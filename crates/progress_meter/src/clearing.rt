@@ -14,11 +14,7 @@ pub struct Clearing<'r, 'c, 'm, C, W> {
 }
 
 impl<'r, 'c, 'm, C, W> Clearing<'r, 'c, 'm, C, W> {
-    pub fn new(
-        out: &'r mut W,
-        clock: &'c C,
-        meter: &'m Meter,
-    ) -> Clearing<'r, 'c, 'm, C, W> {
+    pub fn new(out: &'r mut W, clock: &'c C, meter: &'m Meter) -> Clearing<'r, 'c, 'm, C, W> {
         Clearing { out, clock, meter }
     }
 }

@@ -75,7 +75,7 @@ module _ {A : Type 0} (now : A → List ℕ) (xs : List A) where
   pub spreads : (i : ℕ) (d : A) (so_far : List (List ℕ)) (fault : LocatorsFault) → AreLocators (map now (take i xs)) so_far → i < length xs
       → IsLocatorFault (now (get_or xs i d)) fault → IsLocatorsFault (map now xs) fault
   spreads i d so_far (Word fault) are lt one =
-      record { told = one.told; some = list_all-map is_locator now xs ∙ list_all_at (λ (y : A). is_locator (now y)) xs i d lt one.none; }
+      record { told = one.told; some = list_all-map is_locator now xs ∙ list_all_at (λ (y : A). is_locator (now y)) xs i d lt one.none }
   spreads i d so_far Memory are lt one = record {
     number = i;
     within = subst (λ (n : ℕ). i < n) (sym (length-map xs now)) lt;

@@ -13,18 +13,12 @@ pub enum Fault {
     /// A fault of one of several journals.
     Shards(ShardFault),
     /// A feed is not that of its journal: its line of this number asks for something else than the journal's line of that.
-    Feed {
-        line: u32,
-        number: u32,
-    },
+    Feed { line: u32, number: u32 },
     Word(WordFault),
     /// A season file is none.
     Season(SeasonKind),
     /// A line of a partner's list, or of its thresholds, is none; lines count from 1.
-    Listed {
-        kind: ListKind,
-        line: u32,
-    },
+    Listed { kind: ListKind, line: u32 },
 }
 
 /// What is wrong with a line of a partner's list, or of its thresholds.
