@@ -1,5 +1,5 @@
 -- A partner's thresholds: how they are written, and what they say of a class.
-use Rattle.std.specs.Prelude.{ℕ, ◌+◌, ◌==◌, ◌&&◌, nat_le, nat_lt, Bool, true, false, List, [], ◌∷◌, ◌++◌, length, codes, Option, Some, None, Result, Ok, Err, if◌then◌else◌}
+use Rattle.std.specs.Prelude.{ℕ, ◌+◌, ◌==◌, ◌&&◌, nat_le, nat_lt, Bool, true, false, List, [], ◌∷◌, ◌++◌, length, Option, Some, None, Result, Ok, Err, if◌then◌else◌}
 use Rattle.std.specs.Char.{is_ascii_digit, is_ascii_uppercase}
 use Rattle.std.specs.List.{list_all}
 use Rattle.std.specs.Str.Lines.{lines}
@@ -7,7 +7,7 @@ use Rattle.std.specs.Str.Parse.{digits_value}
 use Rattle.seat_availability.specs.declared.partner.Threshold.{Threshold}
 use Rattle.seat_availability.specs.declared.partner_fault.PartnerFault.{PartnerFault}
 use Rattle.seat_availability.specs.declared.partner_fault.PartnerKind.{PartnerKind}
-use Rattle.seat_availability.specs.declared.partner_fault.PartnerKind.TheVariants.{Class, Twice, Seats, Memory}
+use Rattle.seat_availability.specs.declared.partner_fault.PartnerKind.TheVariants.{Class, Twice, Seats}
 
 -- the most room at which a class counts as closed; 0 where the partner has no row of it
 abbrev pub threshold_of : List Threshold → ℕ → ℕ
@@ -57,12 +57,3 @@ thresholds_from n rows (line ∷ texts) = behind n (with_line rows line) (λ mor
 
 unfoldable pub thresholds_in : List ℕ → Result (List Threshold) PartnerFault
 thresholds_in bytes = thresholds_from 1 [] (lines bytes)
-
--- ---- what is printed
-
--- the code, which stands ahead of the line
-abbrev pub kind_code : PartnerKind → List ℕ
-kind_code Class = codes "V1"
-kind_code Twice = codes "V2"
-kind_code Seats = codes "V3"
-kind_code Memory = codes "MEMORY"

@@ -24,23 +24,6 @@ impl From<AllocError> for PartnerKind {
     }
 }
 
-impl PartnerKind {
-    ghost use Rattle.std.specs.Prelude.{◌≡◌};
-    ghost use Rattle.seat_availability.specs.Partners.{kind_code};
-
-    /// The code; of want of memory the program's word for it.
-    pub fn code(self) -> &'static str
-        ensures { result.now ≡ kind_code self }
-    {
-        match self {
-            PartnerKind::Class => "V1",
-            PartnerKind::Twice => "V2",
-            PartnerKind::Seats => "V3",
-            PartnerKind::Memory => "MEMORY",
-        }
-    }
-}
-
 /// The first line with a fault, counted from 1, and its first fault.
 #[derive(Clone, Copy, Debug, PartialEq, Eq)]
 pub struct PartnerFault {
