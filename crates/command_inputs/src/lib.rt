@@ -11,7 +11,7 @@ mod seals;
 mod sessions;
 
 pub use horizon::{day_of_run, days_of, inputs_of};
-pub use metering::{meter_of, metered, metered_each, metered_inputs};
+pub use metering::{meter_each, meter_input, meter_inputs, meter_of};
 pub use noting::{
     last_entry, may_have_lines, tell_copies, tell_found_unsealed, tell_kept, tell_unsealed,
 };

@@ -1,9 +1,9 @@
 //! The line on standard error that says how far a command is, and the inputs that are counted for it.
 //! It knows terminals and inputs, and nothing of what a command does with what it reads.
-ghost use Rattle.std.specs.Prelude.{◌≡◌, IfErr, IfOk, length};
+ghost use Rattle.std.specs.Prelude.{◌≡◌, length};
 
-use progress_meter::{Gauge, Lines, Meter, Metered, Screen, Stage};
-use seat_desk::{DeskFault, Inputs};
+use progress_meter::{Lines, Meter, Screen, Stage, Tally};
+use seat_desk::Inputs;
 use seat_files::Input;
 use std::io::{IsTerminal, Write};
 use std::thread::Threads;
@@ -70,28 +70,16 @@ fn is_listened_to(told: &str) -> bool {
     }
 }
 
-/// An input, with what it gives counted: the lines of a journal too. A text of the program's own isn't. An input that is typed has no
-/// meter, which would stand in the midst of what is typed.
-pub fn metered<'r, 'm, 'a>(
-    rt: &HostRuntime,
-    meter: &'m Meter,
-    input: &'r mut Input<'a>,
-    lines: Lines,
-) -> Metered<'r, 'm, Input<'a>> {
-    let gauge = gauge_of(rt, meter, input);
-    Metered::new(input, gauge, lines)
-}
-
-fn gauge_of<'m>(rt: &HostRuntime, meter: &'m Meter, input: &Input<'_>) -> Option<&'m Gauge> {
+/// What an input gives is counted from here on: the lines of a journal too. A text of the program's own isn't. Where an input is typed the
+/// meter ends, which would stand in the midst of what is typed.
+pub fn meter_input(rt: &HostRuntime, meter: &Meter, input: &mut Input<'_>, lines: Lines) {
     if input.name().is_empty() {
-        return None;
+        return;
     }
-    let gauge = meter.gauge()?;
-    gauge.expect(size_of(input));
+    input.count_by(Tally::new(meter, size_of(input), lines));
     if input.name() == STANDARD_INPUT && rt.stdin().is_terminal() {
         meter.end(rt);
     }
-    Some(gauge)
 }
 
 /// How many bytes there are to read of a regular file.
@@ -102,41 +90,24 @@ fn size_of(input: &Input<'_>) -> Option<u64> {
     }
 }
 
-/// The set and the limits, counted.
-pub fn metered_inputs<'r, 'm, 'a>(
+/// The set and the limits are counted.
+pub fn meter_inputs(
     rt: &HostRuntime,
-    meter: &'m Meter,
-    inputs: &'r mut Inputs<Input<'a>, Input<'a>>,
-) -> Inputs<Metered<'r, 'm, Input<'a>>, Metered<'r, 'm, Input<'a>>>
-    ensures first { result.first ≡ inputs.old.first }
-    ensures days { result.days ≡ inputs.old.days }
+    meter: &Meter,
+    inputs: &mut Inputs<Input<'_>, Input<'_>>,
+)
+    ensures first { inputs.new.first ≡ inputs.old.first }
+    ensures days { inputs.new.days ≡ inputs.old.days }
 {
-    let first = inputs.first;
-    let days = inputs.days;
-    Inputs {
-        set: metered(rt, meter, &mut inputs.set, Lines::Uncounted),
-        limits: metered(rt, meter, &mut inputs.limits, Lines::Uncounted),
-        first,
-        days,
-    }
+    meter_input(rt, meter, &mut inputs.set, Lines::Uncounted);
+    meter_input(rt, meter, &mut inputs.limits, Lines::Uncounted);
 }
 
-/// Scripts or journals, counted.
-pub fn metered_each<'r, 'm, 'a>(
-    rt: &HostRuntime,
-    meter: &'m Meter,
-    inputs: &'r mut [Input<'a>],
-    lines: Lines,
-) -> Result<Vec<Metered<'r, 'm, Input<'a>>>, DeskFault>
-    ensures each { IfOk result (λ files. length files.items ≡ length inputs.old) }
-    ensures memory { IfErr result (λ fault. fault ≡ DeskFault.Memory) }
+/// Scripts or journals are counted.
+pub fn meter_each(rt: &HostRuntime, meter: &Meter, inputs: &mut Vec<Input<'_>>, lines: Lines)
+    ensures { length inputs.new.items ≡ length inputs.old.items }
 {
-    let mut files = Vec::new(rt.alloc());
-    let each = inputs.iter_mut();
-    for input in each {
-        if files.push(metered(rt, meter, input, lines)).is_err() {
-            return Err(DeskFault::Memory);
-        }
+    for input in inputs.iter_mut() {
+        meter_input(rt, meter, input, lines);
     }
-    Ok(files)
 }

@@ -2,8 +2,8 @@
 use Rattle.std.specs.Prelude.{ℕ, ◌-◌, ◌==◌, nat_le, Bool, true, false, Option, None, Some, List, if◌then◌else◌}
 use Rattle.std.specs.List.{count_by}
 use Rattle.airline_base.specs.Lines.{is_line_feed}
-use Rattle.progress_meter.specs.declared.metered.Lines.{Lines}
-use Rattle.progress_meter.specs.declared.metered.Lines.TheVariants.{Uncounted, Ended, Open}
+use Rattle.progress_meter.specs.declared.tally.Lines.{Lines}
+use Rattle.progress_meter.specs.declared.tally.Lines.TheVariants.{Uncounted, Ended, Open}
 use Rattle.progress_meter.specs.declared.stand.Stage.{Stage}
 use Rattle.progress_meter.specs.declared.stand.Stage.TheVariants.{Reading}
 

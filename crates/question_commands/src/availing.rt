@@ -5,7 +5,7 @@ ghost use Rattle.ssim_flights.specs.Right.{IsOfCentury};
 
 use crate::commands::asked_of;
 use airline_base::Day;
-use command_inputs::{days_of, metered};
+use command_inputs::{days_of, meter_input};
 use pickup_questions::read_older;
 use progress_meter::{Lines, Meter};
 use question_words::{day_asked, flight_asked};
@@ -79,11 +79,8 @@ fn avs_since<'a, R: Threads + Sync>(
     requires days { (1 ≤ days.1) × (days.1 ≤ 366) }
 {
     let mut older = opened(rt, older)?;
-    let lines = match read_older(
-        threads,
-        rt.alloc(),
-        &mut metered(rt, meter, &mut older, Lines::Ended),
-    ) {
+    meter_input(rt, meter, &mut older, Lines::Ended);
+    let lines = match read_older(threads, rt.alloc(), &mut older) {
         Ok(lines) => lines,
         Err(fault) => return told(Err(fault), &[&older], &[]),
     };

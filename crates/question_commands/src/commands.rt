@@ -5,14 +5,14 @@ ghost use Rattle.ssim_flights.specs.Right.{IsOfCentury};
 
 use crate::locale::is_utf_8;
 use airline_base::Day;
-use command_inputs::{days_of, inputs_of, metered, metered_inputs, tell_replaced};
+use command_inputs::{days_of, inputs_of, meter_input, meter_inputs, tell_replaced};
 use desk_questions::ToldOf;
-use progress_meter::{Clearing, Lines, Meter};
+use progress_meter::{Lines, Meter};
 use season_reports::desk_season;
 use seat_desk::{DeskFault, Inputs, NO_LINES, Question, answer_question};
 use seat_files::{
-    Input, Output, Refusal, SealFile, SealOut, files_taken, is_moved, opened, standard_input,
-    standard_output, taken, taken_or, told,
+    Input, Output, Refusal, SealFile, SealOut, files_taken, is_moved, metered_output, opened,
+    standard_input, standard_output, taken, taken_or, told,
 };
 use seat_open::{OpenAudit, OpenQuestion};
 use seat_questions::{Bars, Why};
@@ -29,20 +29,10 @@ pub fn ladder<'a>(rt: &HostRuntime) -> Result<(), Refusal<'a>> {
 
 pub fn check<'a>(rt: &HostRuntime, meter: &Meter, set: &'a str) -> Result<(), Refusal<'a>> {
     let mut set = taken(rt, set)?;
-    let mut out = standard_output(rt);
-    let outcome = checked(rt, meter, &mut set, &mut out);
+    meter_input(rt, meter, &mut set, Lines::Uncounted);
+    let mut out = metered_output(rt, meter);
+    let outcome = desk_check(rt.alloc(), &mut set, &mut out);
     told(outcome, &[&set], &[&out])
-}
-
-fn checked(
-    rt: &HostRuntime,
-    meter: &Meter,
-    set: &mut Input<'_>,
-    out: &mut Output<'_>,
-) -> Result<(), DeskFault> {
-    let mut read = metered(rt, meter, set, Lines::Uncounted);
-    let mut shown = Clearing::new(out, rt, meter);
-    desk_check(rt.alloc(), &mut read, &mut shown)
 }
 
 /// A season file of a set and its limits, of which the set is read.
@@ -175,14 +165,16 @@ fn audited_once<'a, R: Threads + Sync>(
         mut journal,
         seal,
     } = texts;
-    let mut out = standard_output(rt);
+    meter_inputs(rt, meter, &mut inputs);
+    meter_input(rt, meter, &mut journal, Lines::Ended);
+    let mut out = metered_output(rt, meter);
     let outcome = desk_audit(
         threads,
         rt.alloc(),
-        &mut metered_inputs(rt, meter, &mut inputs),
-        &mut metered(rt, meter, &mut journal, Lines::Ended),
+        &mut inputs,
+        &mut journal,
         &seal.as_beside(),
-        &mut Clearing::new(&mut out, rt, meter),
+        &mut out,
     );
     Ok(answer_of(rt, &inputs, &journal, outcome, &out, looked))
 }
@@ -266,11 +258,13 @@ pub fn seal<'a, R: Threads + Sync>(
             return Err(refusal);
         }
     };
+    meter_inputs(rt, meter, &mut inputs);
+    meter_input(rt, meter, &mut journal, Lines::Ended);
     let outcome = desk_seal(
         threads,
         rt.alloc(),
-        &mut metered_inputs(rt, meter, &mut inputs),
-        &mut metered(rt, meter, &mut journal, Lines::Ended),
+        &mut inputs,
+        &mut journal,
         &seal.as_beside(),
         &mut out,
     );
@@ -416,15 +410,17 @@ fn answered_once<'a, R: Threads + Sync, Q: Question>(
         mut journal,
         seal,
     } = texts;
-    let mut out = standard_output(rt);
+    meter_inputs(rt, meter, &mut inputs);
+    meter_input(rt, meter, &mut journal, lines_of(looked));
+    let mut out = metered_output(rt, meter);
     let outcome = answer_question(
         threads,
         rt.alloc(),
         question,
-        &mut metered_inputs(rt, meter, &mut inputs),
-        &mut metered(rt, meter, &mut journal, lines_of(looked)),
+        &mut inputs,
+        &mut journal,
         &seal.as_beside(),
-        &mut Clearing::new(&mut out, rt, meter),
+        &mut out,
     );
     Ok(answer_of(rt, &inputs, &journal, outcome, &out, looked))
 }

@@ -4,11 +4,11 @@ ghost use Rattle.std.specs.Prelude.{◌≡◌, ◌≤◌, IfOk};
 ghost use Rattle.ssim_flights.specs.Right.{IsOfCentury};
 
 use airline_base::Day;
-use command_inputs::{days_of, inputs_of, metered, metered_inputs};
-use progress_meter::{Clearing, Lines, Meter};
+use command_inputs::{days_of, inputs_of, meter_input, meter_inputs};
+use progress_meter::{Lines, Meter};
 use season_changes::{SeasonFault, desk_compare};
 use seat_desk::{Inputs, NO_LINES};
-use seat_files::{Input, Output, Refusal, SealFile, is_moved, standard_output, taken_or};
+use seat_files::{Input, Output, Refusal, SealFile, is_moved, metered_output, taken_or};
 use seat_words::Horizon;
 use std::thread::Threads;
 
@@ -71,7 +71,7 @@ fn compared_once<'a, R: Threads + Sync>(
     let has_journal = journal.is_some();
     let mut journal = taken_or(rt, journal, &NO_LINES)?;
     let seal = SealFile::beside(rt, &journal, false)?;
-    let mut out = standard_output(rt);
+    let mut out = metered_output(rt, meter);
     let outcome = compared(
         rt,
         threads,
@@ -87,12 +87,12 @@ fn compared_once<'a, R: Threads + Sync>(
 }
 
 /// The comparison of the two, with what is read counted.
-fn compared<'r, 'm, 'a, R: Threads + Sync>(
+fn compared<'a, R: Threads + Sync>(
     rt: &HostRuntime,
     threads: &R,
-    meter: &'m Meter,
-    from: &'r mut Inputs<Input<'a>, Input<'a>>,
-    to: &'r mut Inputs<Input<'a>, Input<'a>>,
+    meter: &Meter,
+    from: &mut Inputs<Input<'a>, Input<'a>>,
+    to: &mut Inputs<Input<'a>, Input<'a>>,
     has_journal: bool,
     journal: &mut Input<'a>,
     seal: &SealFile,
@@ -103,19 +103,18 @@ fn compared<'r, 'm, 'a, R: Threads + Sync>(
     requires to_first { IsOfCentury to.old.first }
     requires to_days { (1 ≤ to.old.days) × (to.old.days ≤ 366) }
 {
-    let mut old = metered_inputs(rt, meter, from);
-    let mut new = metered_inputs(rt, meter, to);
-    let mut read = metered(rt, meter, journal, Lines::Ended);
-    let mut shown = Clearing::new(out, rt, meter);
+    meter_inputs(rt, meter, from);
+    meter_inputs(rt, meter, to);
+    meter_input(rt, meter, journal, Lines::Ended);
     desk_compare(
         threads,
         rt.alloc(),
-        &mut old,
-        &mut new,
+        from,
+        to,
         has_journal,
-        &mut read,
+        journal,
         &seal.as_beside(),
-        &mut shown,
+        out,
     )
 }
 

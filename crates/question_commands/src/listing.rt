@@ -4,19 +4,19 @@ ghost use Rattle.std.specs.Prelude.{◌≤◌};
 ghost use Rattle.ssim_flights.specs.Right.{IsOfCentury};
 
 use crate::commands::{asked_of, bars_asked, page_of};
-use airline_base::{Day, Locator, NotedRead, NotedWrite};
-use command_inputs::{days_of, lines_behind, metered};
+use airline_base::{Day, Locator};
+use command_inputs::{days_of, lines_behind, meter_input};
 use cover_questions::CoverTable;
 use desk_questions::HistoryOf;
 use page_questions::LoadPage;
 use pickup_questions::{By as PickupBy, PickupOf, read_older};
-use progress_meter::{Clearing, Lines, Meter};
+use progress_meter::{Lines, Meter};
 use question_words::{
     By, LocatorsFault, by_asked, day_asked, flight_asked, form_asked, locators_asked, page_asked,
     pair_asked, sums_form,
 };
 use seat_desk::DeskFault;
-use seat_files::{Input, Output, Refusal, opened, standard_output, taken, told};
+use seat_files::{Input, Output, Refusal, metered_output, opened, taken, told};
 use seat_lists::{BookingsOf, WaitingOf, Wanted};
 use seat_loads::LoadsOf;
 use seat_pickup::Past;
@@ -47,35 +47,19 @@ pub fn flights<'a>(
     let (first, days) = days_of(first, days)?;
     let form = form_asked(shape, false)?;
     let mut set = taken(rt, set)?;
-    let mut out = standard_output(rt);
-    let outcome = flights_shown(rt, meter, form, &mut set, first, days, &mut out);
+    meter_input(rt, meter, &mut set, Lines::Uncounted);
+    let mut out = metered_output(rt, meter);
+    let outcome = flights_put(rt, form, &mut set, first, days, &mut out);
     told(outcome, &[&set], &[&out])
 }
 
-fn flights_shown(
+fn flights_put(
     rt: &HostRuntime,
-    meter: &Meter,
     form: Option<Form>,
     set: &mut Input<'_>,
     first: Day,
     days: u16,
     out: &mut Output<'_>,
-) -> Result<(), DeskFault>
-    requires first { IsOfCentury first }
-    requires days { (1 ≤ days) × (days ≤ 366) }
-{
-    let mut read = metered(rt, meter, set, Lines::Uncounted);
-    let mut shown = Clearing::new(out, rt, meter);
-    flights_put(rt, form, &mut read, first, days, &mut shown)
-}
-
-fn flights_put<S: NotedRead, W: NotedWrite>(
-    rt: &HostRuntime,
-    form: Option<Form>,
-    set: &mut S,
-    first: Day,
-    days: u16,
-    out: &mut W,
 ) -> Result<(), DeskFault>
     requires first { IsOfCentury first }
     requires days { (1 ≤ days) × (days ≤ 366) }
@@ -403,11 +387,8 @@ fn pickup_since<'a, R: Threads + Sync>(
     requires days { (1 ≤ days.1) × (days.1 ≤ 366) }
 {
     let mut older = opened(rt, older)?;
-    let lines = match read_older(
-        threads,
-        rt.alloc(),
-        &mut metered(rt, meter, &mut older, Lines::Ended),
-    ) {
+    meter_input(rt, meter, &mut older, Lines::Ended);
+    let lines = match read_older(threads, rt.alloc(), &mut older) {
         Ok(lines) => lines,
         Err(fault) => return told(Err(fault), &[&older], &[]),
     };

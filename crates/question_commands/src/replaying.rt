@@ -6,16 +6,16 @@ ghost use Rattle.ssim_flights.specs.Right.{IsOfCentury};
 
 use crate::commands;
 use crate::commands::Looked;
-use airline_base::{Day, NotedRead, NotedWrite};
+use airline_base::Day;
 use command_inputs::{
-    behind, day_of_run, days_of, inputs_of, lines_behind, metered, metered_each, metered_inputs,
+    behind, day_of_run, days_of, inputs_of, lines_behind, meter_each, meter_input, meter_inputs,
     scripts_opened, seals_of,
 };
-use progress_meter::{Clearing, Lines, Meter};
+use progress_meter::{Lines, Meter};
 use question_words::form_asked;
 use reply_tables::desk_reply_table;
 use seat_desk::{DeskFault, Inputs, NO_LINES};
-use seat_files::{Input, Output, Refusal, is_moved, opened_or, standard_output, taken, told};
+use seat_files::{Input, Output, Refusal, is_moved, metered_output, opened_or, taken, told};
 use seat_scripts::{Besides, Wanted, desk_audit_against, desk_replies};
 use seat_tables::Form;
 use seat_words::{
@@ -127,28 +127,29 @@ fn audited_once<'a, R: Threads + Sync>(
         Err(refusal) => return Err(refusal),
     };
     let seals = seals_of(rt, &files.after, &files.journal, replayed.is_sealed)?;
-    let mut out = standard_output(rt);
+    let mut out = metered_output(rt, meter);
     let Files {
         mut inputs,
         mut after,
         mut journal,
         mut scripts,
     } = files;
-    let outcome = match metered_each(rt, meter, scripts.as_mut_slice(), Lines::Uncounted) {
-        Ok(mut scripts) => desk_audit_against(
-            threads,
-            rt.alloc(),
-            &mut metered_inputs(rt, meter, &mut inputs),
-            &mut metered(rt, meter, &mut after, Lines::Ended),
-            replayed.given,
-            &mut metered(rt, meter, &mut journal, Lines::Ended),
-            &seals.as_besides(),
-            scripts.as_mut_slice(),
-            replayed.today,
-            &mut Clearing::new(&mut out, rt, meter),
-        ),
-        Err(fault) => Err(fault),
-    };
+    meter_inputs(rt, meter, &mut inputs);
+    meter_each(rt, meter, &mut scripts, Lines::Uncounted);
+    meter_input(rt, meter, &mut after, Lines::Ended);
+    meter_input(rt, meter, &mut journal, Lines::Ended);
+    let outcome = desk_audit_against(
+        threads,
+        rt.alloc(),
+        &mut inputs,
+        &mut after,
+        replayed.given,
+        &mut journal,
+        &seals.as_besides(),
+        scripts.as_mut_slice(),
+        replayed.today,
+        &mut out,
+    );
     let files = Files {
         inputs,
         after,
@@ -302,29 +303,30 @@ fn replied_once<'a, R: Threads + Sync>(
         Err(refusal) => return Err(refusal),
     };
     let seals = seals_of(rt, &files.after, &files.journal, replayed.is_sealed)?;
-    let mut out = standard_output(rt);
+    let mut out = metered_output(rt, meter);
     let Files {
         mut inputs,
         mut after,
         mut journal,
         mut scripts,
     } = files;
-    let outcome = match metered_each(rt, meter, scripts.as_mut_slice(), Lines::Uncounted) {
-        Ok(mut scripts) => replies_put(
-            rt,
-            threads,
-            form,
-            &mut metered_inputs(rt, meter, &mut inputs),
-            &mut metered(rt, meter, &mut after, Lines::Ended),
-            replayed,
-            &mut metered(rt, meter, &mut journal, Lines::Ended),
-            &seals.as_besides(),
-            scripts.as_mut_slice(),
-            wanted,
-            &mut Clearing::new(&mut out, rt, meter),
-        ),
-        Err(fault) => Err(fault),
-    };
+    meter_inputs(rt, meter, &mut inputs);
+    meter_each(rt, meter, &mut scripts, Lines::Uncounted);
+    meter_input(rt, meter, &mut after, Lines::Ended);
+    meter_input(rt, meter, &mut journal, Lines::Ended);
+    let outcome = replies_put(
+        rt,
+        threads,
+        form,
+        &mut inputs,
+        &mut after,
+        replayed,
+        &mut journal,
+        &seals.as_besides(),
+        scripts.as_mut_slice(),
+        wanted,
+        &mut out,
+    );
     let files = Files {
         inputs,
         after,
@@ -335,26 +337,18 @@ fn replied_once<'a, R: Threads + Sync>(
 }
 
 /// The replies as text, or in a form.
-fn replies_put<
-    R: Threads + Sync,
-    S: NotedRead,
-    L: NotedRead,
-    A: NotedRead,
-    J: NotedRead,
-    C: NotedRead,
-    W: NotedWrite,
->(
+fn replies_put<'a, R: Threads + Sync>(
     rt: &HostRuntime,
     threads: &R,
     form: Option<Form>,
-    inputs: &mut Inputs<S, L>,
-    after: &mut A,
+    inputs: &mut Inputs<Input<'a>, Input<'a>>,
+    after: &mut Input<'a>,
     replayed: &Replayed<'_, '_>,
-    journal: &mut J,
+    journal: &mut Input<'a>,
     besides: &Besides<'_>,
-    scripts: &mut [C],
+    scripts: &mut [Input<'a>],
     wanted: Wanted,
-    out: &mut W,
+    out: &mut Output<'a>,
 ) -> Result<(), DeskFault>
     requires first { IsOfCentury inputs.old.first }
     requires days { (1 ≤ inputs.old.days) × (inputs.old.days ≤ 366) }

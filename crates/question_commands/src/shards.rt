@@ -4,10 +4,10 @@ ghost use Rattle.std.specs.Prelude.{◌≡◌, ◌≤◌, IfOk};
 ghost use Rattle.ssim_flights.specs.Right.{IsOfCentury};
 
 use airline_base::Day;
-use command_inputs::{days_of, inputs_of, metered_each, metered_inputs};
-use progress_meter::{Clearing, Lines, Meter};
+use command_inputs::{days_of, inputs_of, meter_each, meter_inputs};
+use progress_meter::{Lines, Meter};
 use seat_desk::{DeskFault, Inputs};
-use seat_files::{Input, Output, Refusal, standard_output, taken};
+use seat_files::{Input, Output, Refusal, metered_output, taken};
 use seat_shards::{ShardFault, desk_shards};
 use seat_words::{AuditJob, WordFault};
 use std::thread::Threads;
@@ -32,13 +32,13 @@ pub fn audit_shards<'a, R: Threads + Sync>(
         mut inputs,
         mut journals,
     } = shards;
-    let mut out = standard_output(rt);
+    let mut out = metered_output(rt, meter);
     let outcome = shards_audited(
         rt,
         threads,
         meter,
         &mut inputs,
-        journals.as_mut_slice(),
+        &mut journals,
         &mut out,
     );
     noted(outcome, &inputs, journals.as_slice(), &[&out])
@@ -49,23 +49,15 @@ fn shards_audited<'a, R: Threads + Sync>(
     threads: &R,
     meter: &Meter,
     inputs: &mut Inputs<Input<'a>, Input<'a>>,
-    journals: &mut [Input<'a>],
+    journals: &mut Vec<Input<'a>>,
     out: &mut Output<'a>,
 ) -> Result<(), ShardFault>
     requires first { IsOfCentury inputs.old.first }
     requires days { (1 ≤ inputs.old.days) × (inputs.old.days ≤ 366) }
 {
-    let mut journals = match metered_each(rt, meter, journals, Lines::Ended) {
-        Ok(journals) => journals,
-        Err(fault) => return Err(ShardFault::Desk(fault)),
-    };
-    desk_shards(
-        threads,
-        rt.alloc(),
-        &mut metered_inputs(rt, meter, inputs),
-        journals.as_mut_slice(),
-        &mut Clearing::new(out, rt, meter),
-    )
+    meter_inputs(rt, meter, inputs);
+    meter_each(rt, meter, journals, Lines::Ended);
+    desk_shards(threads, rt.alloc(), inputs, journals.as_mut_slice(), out)
 }
 
 /// The inputs and the journals, open.

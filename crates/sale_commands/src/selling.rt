@@ -8,14 +8,14 @@ ghost use Rattle.ssim_flights.specs.Right.{IsOfCentury};
 use crate::heard::Heard;
 use airline_base::Day;
 use command_inputs::{
-    Seals, behind, day_of_run, days_of, inputs_of, last_entry, lines_behind, metered, metered_each,
-    metered_inputs, scripts_opened, seals_of, tell_copies, tell_kept, tell_unsealed,
+    Seals, behind, day_of_run, days_of, inputs_of, last_entry, lines_behind, meter_each, meter_input,
+    meter_inputs, scripts_opened, seals_of, tell_copies, tell_kept, tell_unsealed,
 };
-use progress_meter::{Clearing, Lines, Meter};
+use progress_meter::{Lines, Meter};
 use seat_desk::{DeskFault, Inputs, NO_LINES};
 use seat_files::{
     Guard, Input, JournalFile, NOT_EMPTY, Refusal, SealOut, TOO_LONG, files_taken, is_same,
-    kept_number, lines_in, of, opened_or, pass_once, standard_output, told,
+    kept_number, lines_in, metered_output, of, opened_or, pass_once, told,
 };
 use seat_run::{desk_resume, desk_run};
 use seat_scripts::Besides;
@@ -224,7 +224,7 @@ fn sell_beside<'a, T: Threads + Wait + Sync>(
     requires scripts { (1 ≤ length texts.old.scripts.items) × (length texts.old.scripts.items ≤ 8) }
     requires older { IsTrue (is_entry older) }
 {
-    let mut out = Heard::new(standard_output(rt));
+    let mut out = Heard::new(metered_output(rt, sale.meter));
     let besides = seals.as_besides();
     let outcome = booked(
         rt, threads, sale, texts, past, &besides, older, place, &mut out,
@@ -353,28 +353,27 @@ fn gone_on<'a, T: Threads + Wait + Sync>(
     requires scripts { (1 ≤ length texts.old.scripts.items) × (length texts.old.scripts.items ≤ 8) }
     requires older { IsTrue (is_entry older) }
 {
-    let meter = sale.meter;
-    let mut inputs = metered_inputs(rt, meter, &mut texts.inputs);
-    let mut scripts = metered_each(rt, meter, texts.scripts.as_mut_slice(), Lines::Uncounted)?;
-    let mut shown = Clearing::new(out, rt, meter);
+    meter_texts(rt, sale.meter, texts);
+    meter_input(rt, sale.meter, &mut past.after, Lines::Ended);
+    meter_input(rt, sale.meter, &mut past.resumed, Lines::Ended);
     desk_resume(
         threads,
         rt.alloc(),
-        &mut inputs,
-        &mut metered(rt, meter, &mut past.after, Lines::Ended),
+        &mut texts.inputs,
+        &mut past.after,
         sale.given,
-        &mut metered(rt, meter, &mut past.resumed, Lines::Ended),
+        &mut past.resumed,
         besides,
         sale.asking.again,
-        scripts.as_mut_slice(),
-        &mut metered(rt, meter, &mut texts.changes, Lines::Uncounted),
+        texts.scripts.as_mut_slice(),
+        &mut texts.changes,
         sale.today,
         &NoGate,
         older,
         sale.keeps,
         &mut place.journal,
         &mut place.seal,
-        &mut shown,
+        out,
     )
 }
 
@@ -395,27 +394,36 @@ fn begun<'a, T: Threads + Wait + Sync>(
     requires scripts { (1 ≤ length texts.old.scripts.items) × (length texts.old.scripts.items ≤ 8) }
     requires older { IsTrue (is_entry older) }
 {
-    let meter = sale.meter;
-    let mut inputs = metered_inputs(rt, meter, &mut texts.inputs);
-    let mut scripts = metered_each(rt, meter, texts.scripts.as_mut_slice(), Lines::Uncounted)?;
-    let mut shown = Clearing::new(out, rt, meter);
+    meter_texts(rt, sale.meter, texts);
+    meter_input(rt, sale.meter, after, Lines::Ended);
     desk_run(
         threads,
         rt.alloc(),
-        &mut inputs,
-        &mut metered(rt, meter, after, Lines::Ended),
+        &mut texts.inputs,
+        after,
         beside,
         sale.asking.again,
-        scripts.as_mut_slice(),
-        &mut metered(rt, meter, &mut texts.changes, Lines::Uncounted),
+        texts.scripts.as_mut_slice(),
+        &mut texts.changes,
         sale.today,
         &NoGate,
         older,
         sale.keeps,
         &mut place.journal,
         &mut place.seal,
-        &mut shown,
+        out,
     )
+}
+
+/// What both ways read is counted.
+fn meter_texts(rt: &HostRuntime, meter: &Meter, texts: &mut Texts<'_>)
+    ensures first { texts.new.inputs.first ≡ texts.old.inputs.first }
+    ensures days { texts.new.inputs.days ≡ texts.old.inputs.days }
+    ensures scripts { length texts.new.scripts.items ≡ length texts.old.scripts.items }
+{
+    meter_inputs(rt, meter, &mut texts.inputs);
+    meter_each(rt, meter, &mut texts.scripts, Lines::Uncounted);
+    meter_input(rt, meter, &mut texts.changes, Lines::Uncounted);
 }
 
 /// What the seal beside OUT has of the journal there, or else which bytes OUT has.

@@ -25,5 +25,6 @@ pub use seal_file::{SEAL, SealFile, is_moved};
 pub use seal_out::SealOut;
 pub use status_file::StatusFile;
 pub use streams::{
-    Input, Output, opened, opened_or, standard_input, standard_output, taken, taken_or,
+    Input, Output, metered_output, opened, opened_or, standard_input, standard_output, taken,
+    taken_or,
 };
