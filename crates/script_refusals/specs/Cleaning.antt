@@ -1,0 +1,99 @@
+-- A script without its wrong lines: what stands in the place of each, and why it is refused. It has as many lines.
+use Rattle.std.specs.Prelude.{ℕ, ◌+◌, ◌++◌, if◌then◌else◌, List, [], ◌∷◌, Option, Some, None, Result, Ok, Err}
+use Rattle.std.specs.List.{concat, onto_first}
+use Rattle.airline_base.specs.Lines.{is_line_feed, line_at}
+use Rattle.airimp_lines.specs.Steps.{Message, step}
+use Rattle.airimp_lines.specs.declared.fault.ScriptFault.{ScriptFault}
+use Rattle.airimp_lines.specs.declared.fault.ScriptKind.{ScriptKind}
+use Rattle.script_refusals.specs.declared.cleaning.Passage.{Passage}
+use Rattle.script_refusals.specs.declared.cleaning.Passage.TheVariants.{Right, Refused}
+
+-- ---- lines
+
+-- the lines of a text, each with its end
+abbrev pub whole_lines : List ℕ → List (List ℕ)
+whole_lines [] = []
+whole_lines (c ∷ rest) = if is_line_feed c then (c ∷ []) ∷ whole_lines rest else onto_first c (whole_lines rest)
+
+-- such a line without its end
+abbrev pub text_of : List ℕ → List ℕ
+text_of line = (line_at line).0
+
+-- ---- one line
+
+-- a wrong first line refuses its message, a wrong line in a message itself alone
+abbrev pub passage_refused : Message → Passage
+passage_refused None = Refused
+passage_refused (Some locator) = Right (Some locator)
+
+-- behind a line of a script
+abbrev pub passage_after : Message → Result Message ScriptKind → Passage
+passage_after message (Ok next) = Right next
+passage_after message (Err kind) = passage_refused message
+
+-- a message that is refused ends with the first empty line
+abbrev pub passage_behind : Passage → List ℕ → Passage
+passage_behind (Right message) text = passage_after message (step message text)
+passage_behind Refused [] = Right None
+passage_behind Refused (c ∷ text) = Refused
+
+-- a name line, which asks for nothing: 1 and LF
+abbrev pub name_line : List ℕ
+name_line = 49 ∷ 10 ∷ []
+
+-- LF
+abbrev pub empty_line : List ℕ
+empty_line = 10 ∷ []
+
+-- what stands in the place of a wrong line
+abbrev pub line_refused : Message → List ℕ
+line_refused None = empty_line
+line_refused (Some locator) = name_line
+
+-- and of any line
+abbrev pub kept_after : Message → List ℕ → Result Message ScriptKind → List ℕ
+kept_after message line (Ok next) = line
+kept_after message line (Err kind) = line_refused message
+
+abbrev pub kept : Passage → List ℕ → List ℕ
+kept (Right message) line = kept_after message line (step message (text_of line))
+kept Refused line = empty_line
+
+-- the line is refused for this
+abbrev pub refused_for : Result Message ScriptKind → Option ScriptKind
+refused_for (Ok next) = None
+refused_for (Err kind) = Some kind
+
+-- in a message that is refused no line is refused by itself
+abbrev pub fault_in : Passage → List ℕ → Option ScriptKind
+fault_in (Right message) text = refused_for (step message text)
+fault_in Refused text = None
+
+abbrev pub own_refusal : ℕ → Option ScriptKind → List ScriptFault
+own_refusal number None = []
+own_refusal number (Some kind) = record { line = number; kind = kind } ∷ []
+
+-- ---- all lines
+
+abbrev pub cleaned_lines : Passage → List (List ℕ) → List (List ℕ)
+cleaned_lines passage [] = []
+cleaned_lines passage (line ∷ lines) = kept passage line ∷ cleaned_lines (passage_behind passage (text_of line)) lines
+
+-- the lines count from this number
+abbrev pub refusals_from : Passage → ℕ → List (List ℕ) → List ScriptFault
+refusals_from passage number [] = []
+refusals_from passage number (line ∷ lines) =
+    own_refusal number (fault_in passage (text_of line))
+    ++ refusals_from (passage_behind passage (text_of line)) (number + 1) lines
+
+-- ---- a script
+
+-- no message is open at its beginning
+abbrev pub at_start : Passage
+at_start = Right None
+
+abbrev pub cleaned_text : List ℕ → List ℕ
+cleaned_text bytes = concat (cleaned_lines at_start (whole_lines bytes))
+
+abbrev pub refusals_of : List ℕ → List ScriptFault
+refusals_of bytes = refusals_from at_start 1 (whole_lines bytes)

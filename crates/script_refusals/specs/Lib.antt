@@ -1,0 +1,4 @@
+pub mod Asking
+pub mod Cleaning
+pub mod Listing
+pub mod Sorting
