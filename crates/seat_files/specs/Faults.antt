@@ -20,6 +20,7 @@ list_code kinds.Again = codes "T4"
 list_code kinds.Class = codes "V1"
 list_code kinds.ClassAgain = codes "V2"
 list_code kinds.Seats = codes "V3"
+list_code kinds.Refused = codes "W1"
 
 -- the code, a blank and the line
 abbrev pub list_text : ListKind → ℕ → List ℕ
@@ -33,7 +34,7 @@ printed (Word fault) = word_text fault
 printed (Season fault) = season_text fault
 printed (Listed kind line) = list_text kind line
 
--- 2 for the command line, 1 for a feed, a season or a partner's list, else that of the command
+-- 2 for the command line, 1 for a feed, a season or a list, else that of the command
 abbrev pub exit_status : Fault → ℕ
 exit_status (Desk fault) = status_of fault
 exit_status (Shards fault) = status_of_shards fault

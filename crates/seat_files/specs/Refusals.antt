@@ -1,7 +1,7 @@
 -- With which faults a file of a command is refused.
 use Rattle.std.specs.Prelude.{Bool, true, false}
 use Rattle.seat_desk.specs.declared.fault.DeskFault.TheVariants.{Device, Memory, Seal}
-use Rattle.seat_words.specs.declared.fault.WordFault.TheVariants.{BadJournal, BadScripts}
+use Rattle.seat_words.specs.declared.fault.WordFault.TheVariants.{BadJournal, BadRefused, BadScripts}
 use Rattle.seat_files.specs.declared.fault.Fault.{Fault}
 use Rattle.seat_files.specs.declared.fault.Fault.TheVariants.{Desk, Word}
 
@@ -15,6 +15,16 @@ is_failure _ = false
 abbrev pub is_of_file : Fault → Bool
 is_of_file (Word BadJournal) = true
 is_of_file fault = is_failure fault
+
+-- the fault of a file that may not be that of the refused lines
+abbrev pub unlisted : Fault → Fault
+unlisted (Word BadJournal) = Word BadRefused
+unlisted fault = fault
+
+-- a failure, or a file that may not be that of the refused lines
+abbrev pub is_of_list : Fault → Bool
+is_of_list (Word BadRefused) = true
+is_of_list fault = is_failure fault
 
 -- a failure, or one file as two scripts
 abbrev pub is_of_scripts : Fault → Bool

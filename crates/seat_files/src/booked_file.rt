@@ -73,14 +73,21 @@ fn begins_with_one(
     lines: u64,
     what: Booked,
 ) -> bool {
-    let Some(bytes) = bytes_again(rt, input) else {
-        return false;
-    };
-    if is_of_entry(rt, &bytes, &seal.first, lines, what) {
+    if let Some(text) = input.held() {
+        return is_of_one(rt, text, seal, lines, what);
+    }
+    match bytes_again(rt, input) {
+        Some(bytes) => is_of_one(rt, &bytes, seal, lines, what),
+        None => false,
+    }
+}
+
+fn is_of_one(rt: &HostRuntime, bytes: &[u8], seal: &Seal, lines: u64, what: Booked) -> bool {
+    if is_of_entry(rt, bytes, &seal.first, lines, what) {
         return true;
     }
     match &seal.second {
-        Some(second) => is_of_entry(rt, &bytes, second, lines, what),
+        Some(second) => is_of_entry(rt, bytes, second, lines, what),
         None => false,
     }
 }

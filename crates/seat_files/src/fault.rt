@@ -17,11 +17,11 @@ pub enum Fault {
     Word(WordFault),
     /// A season file is none.
     Season(SeasonKind),
-    /// A line of a partner's list, or of its thresholds, is none; lines count from 1.
+    /// A line of a partner's list, or of its thresholds, is none, or a row of a list of refused lines is another; they count from 1.
     Listed { kind: ListKind, line: u32 },
 }
 
-/// What is wrong with a line of a partner's list, or of its thresholds.
+/// What is wrong with a line of a partner's list, of its thresholds, or of a list of refused lines.
 #[derive(Clone, Copy, Debug, PartialEq, Eq)]
 pub enum ListKind {
     /// No locator stands in its place, or no blank behind it.
@@ -38,6 +38,8 @@ pub enum ListKind {
     ClassAgain,
     /// A blank and one to three digits do not follow the class.
     Seats,
+    /// A row of a list of refused lines is not that of the scripts.
+    Refused,
 }
 
 impl fmt::Display for ListKind {
@@ -46,7 +48,7 @@ impl fmt::Display for ListKind {
 
     ghost output = { λ kind. Some (list_code kind) };
 
-    /// The code, T1 to T4 or V1 to V3, and behind T2 that of the segment line.
+    /// The code, T1 to T4, V1 to V3 or W1, and behind T2 that of the segment line.
     fn fmt<W: fmt::Write>(&self, f: &mut fmt::Formatter<W>) -> fmt::Result {
         let kind = *self;
         match kind {
@@ -57,6 +59,7 @@ impl fmt::Display for ListKind {
             ListKind::Class => f.write_str("V1"),
             ListKind::ClassAgain => f.write_str("V2"),
             ListKind::Seats => f.write_str("V3"),
+            ListKind::Refused => f.write_str("W1"),
         }
     }
 }
@@ -84,7 +87,7 @@ impl Fault {
     ghost use Rattle.std.specs.Prelude.{◌≡◌};
     ghost use Rattle.seat_files.specs.Faults.{exit_status};
 
-    /// The exit status: 2 for the command line, 1 for a feed, a season or a partner's list, else that of the command's fault.
+    /// The exit status: 2 for the command line, 1 for a feed, a season or a list, else that of the command's fault.
     pub fn status(&self) -> u8
         ensures { result ≡ exit_status self.now }
     {

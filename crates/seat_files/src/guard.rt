@@ -133,16 +133,51 @@ pub fn files_taken<'b>(
     ensures refused { IfErr result (λ refusal. IsTrue (is_failure refusal.fault)) }
 {
     let mut files = Vec::new(rt.alloc());
-    add_file(&mut files, inputs.set.metadata()?)?;
-    add_file(&mut files, inputs.limits.metadata()?)?;
-    for script in scripts {
-        add_file(&mut files, script.metadata()?)?;
-    }
-    for input in more {
-        add_file(&mut files, input.metadata()?)?;
-    }
-    add_file(&mut files, fs::metadata(rt, STANDARD_OUTPUT).ok())?;
+    add_all(rt, &mut files, inputs, scripts, more)?;
     Ok(files)
+}
+
+fn add_all<'b>(
+    rt: &HostRuntime,
+    files: &mut Vec<Metadata>,
+    inputs: &Inputs<Input<'b>, Input<'b>>,
+    scripts: &[Input<'b>],
+    more: &[&Input<'b>],
+) -> Result<(), Refusal<'b>>
+    ensures refused { IfErr result (λ refusal. IsTrue (is_failure refusal.fault)) }
+{
+    add_loaded(files, inputs)?;
+    add_inputs(files, scripts)?;
+    for input in more {
+        add_input(files, input)?;
+    }
+    add_file(files, fs::metadata(rt, STANDARD_OUTPUT).ok())
+}
+
+fn add_loaded<'b>(
+    files: &mut Vec<Metadata>,
+    inputs: &Inputs<Input<'b>, Input<'b>>,
+) -> Result<(), Refusal<'b>>
+    ensures refused { IfErr result (λ refusal. IsTrue (is_failure refusal.fault)) }
+{
+    add_input(files, &inputs.set)?;
+    add_input(files, &inputs.limits)
+}
+
+fn add_inputs<'b>(files: &mut Vec<Metadata>, inputs: &[Input<'b>]) -> Result<(), Refusal<'b>>
+    ensures refused { IfErr result (λ refusal. IsTrue (is_failure refusal.fault)) }
+{
+    for input in inputs {
+        add_input(files, input)?;
+    }
+    Ok(())
+}
+
+fn add_input<'b>(files: &mut Vec<Metadata>, input: &Input<'b>) -> Result<(), Refusal<'b>>
+    ensures refused { IfErr result (λ refusal. IsTrue (is_failure refusal.fault)) }
+{
+    let file = input.metadata()?;
+    add_file(files, file)
 }
 
 fn add_file<'b>(files: &mut Vec<Metadata>, file: Option<Metadata>) -> Result<(), Refusal<'b>>

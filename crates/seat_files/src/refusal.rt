@@ -1,7 +1,7 @@
 //! What a command is refused with, and the file that it is refused for.
 ghost use Rattle.std.specs.Prelude.{◌≡◌, IfErr, IsErrAnd, IsOk, IsTrue};
 ghost use Rattle.seat_files.specs.Faults.{exit_status, list_text, printed};
-ghost use Rattle.seat_files.specs.Refusals.{is_failure, is_of_seal};
+ghost use Rattle.seat_files.specs.Refusals.{is_failure, is_of_seal, unlisted};
 ghost use Rattle.seat_shards.specs.Faults.{shard_text, status_of_shards};
 
 use crate::fault::{Fault, ListKind};
@@ -114,7 +114,7 @@ impl<'a> Refusal<'a> {
         refusal
     }
 
-    /// A line of a partner's list, or of its thresholds, that is none.
+    /// A line of a partner's list, or of its thresholds, that is none, or a row of a list of refused lines that is another.
     pub fn of_list(kind: ListKind, line: u32) -> Refusal<'a>
         ensures text { printed result.fault ≡ list_text kind line }
         ensures status { exit_status result.fault ≡ 1 }
@@ -190,6 +190,17 @@ impl<'a> Refusal<'a> {
     {
         let mut refusal = self;
         refusal.fault = Fault::Word(WordFault::BadStatus);
+        refusal
+    }
+
+    /// The same, for the same reason, of what may not be the file of the refused lines as it may not be a journal's.
+    pub fn as_unlisted(self) -> Refusal<'a>
+        ensures { result.fault ≡ unlisted self.entry.fault }
+    {
+        let mut refusal = self;
+        if let Fault::Word(WordFault::BadJournal) = self.fault {
+            refusal.fault = Fault::Word(WordFault::BadRefused);
+        }
         refusal
     }
 
@@ -322,13 +333,13 @@ impl<'a> Refusal<'a> {
         refusal
     }
 
-    /// The same for the file of a journal.
+    /// The same for the file of a journal, and for the list that is put ahead of it.
     pub fn noting_journal(self, journal: &JournalFile<'a>) -> Refusal<'a>
         ensures { result.fault ≡ self.entry.fault }
     {
         match self.fault {
             Fault::Desk(DeskFault::Device) if journal.failures() > 0 => {
-                let refusal = self.at(journal.name(), journal.reason());
+                let refusal = self.at(journal.failed(), journal.reason());
                 refusal.beside(journal.ending())
             }
             _ => self,

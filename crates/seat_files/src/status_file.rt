@@ -56,9 +56,23 @@ fn pass<'a>(
     journal: &'a str,
 ) -> Result<(), Refusal<'a>> {
     let guard = Guard::new(rt, path)?;
-    let lines = opened(rt, journal)?;
-    guard.pass(inputs, &[], &[&lines])?;
+    pass_inputs(rt, &guard, inputs, journal)?;
     guard.pass_output(rt)?;
+    is_regular(rt, path)
+}
+
+fn pass_inputs<'a>(
+    rt: &HostRuntime,
+    guard: &Guard<'a>,
+    inputs: &Inputs<Input<'a>, Input<'a>>,
+    journal: &'a str,
+) -> Result<(), Refusal<'a>> {
+    let lines = opened(rt, journal)?;
+    guard.pass(inputs, &[], &[&lines])
+}
+
+// What stands there, if anything does, is a regular file.
+fn is_regular<'a>(rt: &HostRuntime, path: &'a str) -> Result<(), Refusal<'a>> {
     match fs::metadata(rt, path) {
         Ok(there) if !there.is_file() => Err(Refusal::unsaid(path, "Is no regular file")),
         _ => Ok(()),
