@@ -98,13 +98,14 @@ loads_app = with_rule (with_rule (with_rule (with_rule (with_rule (with_rule (wi
     (optional_value (codes "journal"))
 
 unfoldable pub run_app : App
-run_app = with_rule (with_rule (with_rule (with_rule (with_rule (with_rule (with_rule (with_rule (with_rule (horizon_app (codes "run"))
+run_app = with_rule (with_rule (with_rule (with_rule (with_rule (with_rule (with_rule (with_rule (with_rule (with_rule (horizon_app (codes "run"))
     (optional (codes "after")))
     (optional (codes "behind")))
     (optional (codes "resume")))
     (required_option (codes "today")))
     (required_option (codes "journal")))
     (optional (codes "changes")))
+    (optional (codes "refused")))
     (flag (codes "no-clobber")))
     (flag (codes "again")))
     (optional_values (codes "scripts"))
@@ -131,10 +132,11 @@ bookings_app = with_rule (with_rule (with_rule (with_rule (with_rule (with_rule 
     (required_value (codes "journal"))
 
 unfoldable pub audit_app : App
-audit_app = with_rule (with_rule (with_rule (with_rule (with_rule (with_rule (with_rule (with_rule (horizon_app (codes "audit"))
+audit_app = with_rule (with_rule (with_rule (with_rule (with_rule (with_rule (with_rule (with_rule (with_rule (horizon_app (codes "audit"))
     (optional (codes "after")))
     (optional (codes "behind")))
     (optional (codes "today")))
+    (optional (codes "refused")))
     (flag (codes "sealed")))
     (flag (codes "open")))
     (flag (codes "shards")))
@@ -150,10 +152,11 @@ recover_app = with_rule (with_rule (horizon_app (codes "recover"))
     (required_value (codes "journal"))
 
 unfoldable pub replies_app : App
-replies_app = with_rule (with_rule (with_rule (with_rule (with_rule (with_rule (with_rule (with_rule (with_rule (horizon_app (codes "replies"))
+replies_app = with_rule (with_rule (with_rule (with_rule (with_rule (with_rule (with_rule (with_rule (with_rule (with_rule (horizon_app (codes "replies"))
     (optional (codes "after")))
     (optional (codes "behind")))
     (required_option (codes "today")))
+    (optional (codes "refused")))
     (optional (codes "session")))
     (optional (codes "from")))
     (flag (codes "csv")))

@@ -104,6 +104,7 @@ IsRun rows asked = IsOver rows asked.over
     × Has rows (codes "today") asked.today.now
     × Has rows (codes "journal") asked.journal.now
     × MayHave rows (codes "changes") (option_map (λ text. text.now) asked.changes)
+    × MayHave rows (codes "refused") (option_map (λ text. text.now) asked.refused)
     × HasFlag rows (codes "no-clobber") asked.no_clobber
     × HasFlag rows (codes "again") asked.again
     × HasAny rows (codes "scripts") asked.scripts
@@ -192,6 +193,7 @@ IsAudit rows asked = IsOver rows asked.over
     × MayHave rows (codes "after") (option_map (λ text. text.now) asked.after)
     × MayHave rows (codes "behind") (option_map (λ text. text.now) asked.behind)
     × MayHave rows (codes "today") (option_map (λ text. text.now) asked.today)
+    × MayHave rows (codes "refused") (option_map (λ text. text.now) asked.refused)
     × HasFlag rows (codes "sealed") asked.sealed
     × HasFlag rows (codes "open") asked.is_open
     × HasFlag rows (codes "shards") asked.are_shards
@@ -203,6 +205,7 @@ IsReplies rows asked = IsOver rows asked.over
     × MayHave rows (codes "after") (option_map (λ text. text.now) asked.after)
     × MayHave rows (codes "behind") (option_map (λ text. text.now) asked.behind)
     × Has rows (codes "today") asked.today.now
+    × MayHave rows (codes "refused") (option_map (λ text. text.now) asked.refused)
     × MayHave rows (codes "session") (option_map (λ text. text.now) asked.session)
     × MayHave rows (codes "from") (option_map (λ text. text.now) asked.from)
     × IsShaped rows asked.shape

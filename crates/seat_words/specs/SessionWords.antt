@@ -78,7 +78,7 @@ abbrev pub sessions_of_run : List Text → Bool → Option ℕ
 sessions_of_run [] has_changes = if has_changes then Some 1 else None
 sessions_of_run (word ∷ words) has_changes = sessions_in (word ∷ words)
 
--- what an audit lacks: scripts need the day of the run, and that day and an older journal need scripts
+-- what an audit lacks: scripts need the day of the run, and that day, an older journal and a list of refused lines need scripts
 abbrev pub audit_lacks : Bool → Bool → Bool → Option WordFault
 audit_lacks true has_older has_day = if has_day then None else Some faults.BadToday
 audit_lacks false has_older has_day = if has_older || has_day then Some faults.BadScripts else None

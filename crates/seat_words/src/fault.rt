@@ -32,6 +32,8 @@ pub enum WordFault {
     BadStatus,
     /// The file of the journal is an input or that of the replies, is another run's, or may not be replaced.
     BadJournal,
+    /// The file of the refused lines is an input, the journal or that of the replies, is another run's, or may not be replaced.
+    BadRefused,
     /// What the loads are summed by is none of those that they may be.
     BadBy,
     /// Journals of several hosts are audited as they stand: ended, without scripts, older journals and seals.
@@ -67,6 +69,7 @@ impl fmt::Display for WordFault {
             WordFault::BadDesk => "E2 desk",
             WordFault::BadStatus => "E2 status",
             WordFault::BadJournal => "E2 journal",
+            WordFault::BadRefused => "E2 refused",
             WordFault::BadBy => "E2 by",
             WordFault::BadShards => "E2 shards",
             WordFault::BadForm => "E2 form",

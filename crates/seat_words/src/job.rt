@@ -52,7 +52,7 @@ pub enum Job<'a> {
     /// [--open] [JOURNAL]`
     Loads(LoadsJob<'a>),
     /// `seatdesk run` over a horizon `[--after JOURNAL] [--behind N] [--resume JOURNAL] --today DATE --journal OUT [--changes FILE]
-    /// [--no-clobber] [--again] [SCRIPT...]`
+    /// [--refused FILE] [--no-clobber] [--again] [SCRIPT...]`
     Run(RunJob<'a>),
     /// `seatdesk serve` over a horizon `[--today DATE] --journal JOURNAL [--desk DESK]... [--manager PIPES] [--status FILE]
     /// [--every SECONDS] [--feed FEED] [--behind N]`
@@ -73,7 +73,8 @@ pub enum Job<'a> {
     Compare(CompareJob<'a>),
     /// `seatdesk changes` over a horizon `--to WANTED [--flight FLIGHT] [--day DATE] [--pair PAIR] [--open] JOURNAL`
     Changes(ChangesJob<'a>),
-    /// `seatdesk audit` over a horizon `[--after JOURNAL] [--behind N] [--today DATE] [--sealed] [--open] [--shards] JOURNAL [SCRIPT...]`
+    /// `seatdesk audit` over a horizon `[--after JOURNAL] [--behind N] [--today DATE] [--refused FILE] [--sealed] [--open] [--shards]
+    /// JOURNAL [SCRIPT...]`
     Audit(AuditJob<'a>),
     /// `seatdesk seal` over a horizon `JOURNAL`
     Seal {
@@ -86,8 +87,8 @@ pub enum Job<'a> {
         cut: bool,
         journal: &'a str,
     },
-    /// `seatdesk replies` over a horizon `[--after JOURNAL] [--behind N] --today DATE [--session N] [--from LINE] [--csv] [--json]
-    /// JOURNAL [SCRIPT...]`
+    /// `seatdesk replies` over a horizon `[--after JOURNAL] [--behind N] --today DATE [--refused FILE] [--session N] [--from LINE]
+    /// [--csv] [--json] JOURNAL [SCRIPT...]`
     Replies(RepliesJob<'a>),
     /// `seatdesk told` over a horizon `--desk N [--from LINE] [--open] JOURNAL`
     Told(ToldJob<'a>),
@@ -156,6 +157,8 @@ pub struct RunJob<'a> {
     pub today: &'a str,
     pub journal: &'a str,
     pub changes: Option<&'a str>,
+    /// The list of the lines that are refused, where they are passed over.
+    pub refused: Option<&'a str>,
     pub no_clobber: bool,
     /// Books what a run that the journal's seal knows has booked.
     pub again: bool,
@@ -283,6 +286,8 @@ pub struct AuditJob<'a> {
     pub after: Option<&'a str>,
     pub behind: Option<&'a str>,
     pub today: Option<&'a str>,
+    /// The list of the lines that the run refused.
+    pub refused: Option<&'a str>,
     pub sealed: bool,
     pub is_open: bool,
     /// The words behind JOURNAL are journals too.
@@ -299,6 +304,8 @@ pub struct RepliesJob<'a> {
     pub after: Option<&'a str>,
     pub behind: Option<&'a str>,
     pub today: &'a str,
+    /// The list of the lines that the run refused.
+    pub refused: Option<&'a str>,
     pub session: Option<&'a str>,
     pub from: Option<&'a str>,
     pub shape: Shape,
@@ -500,6 +507,7 @@ fn run_asked<'a>(alloc: Global, matches: &ArgMatches<'a>) -> Result<RunJob<'a>, 
         today: value_of(matches, "today"),
         journal: value_of(matches, "journal"),
         changes: may_value_of(matches, "changes"),
+        refused: may_value_of(matches, "refused"),
         no_clobber: flag_of(matches, "no-clobber"),
         again: flag_of(matches, "again"),
         scripts: any_values_of(alloc, matches, "scripts")?,
@@ -651,6 +659,7 @@ fn audit_asked<'a>(alloc: Global, matches: &ArgMatches<'a>) -> Result<AuditJob<'
         after: may_value_of(matches, "after"),
         behind: may_value_of(matches, "behind"),
         today: may_value_of(matches, "today"),
+        refused: may_value_of(matches, "refused"),
         sealed: flag_of(matches, "sealed"),
         is_open: flag_of(matches, "open"),
         are_shards: flag_of(matches, "shards"),
@@ -668,6 +677,7 @@ fn replies_asked<'a>(alloc: Global, matches: &ArgMatches<'a>) -> Result<RepliesJ
         after: may_value_of(matches, "after"),
         behind: may_value_of(matches, "behind"),
         today: value_of(matches, "today"),
+        refused: may_value_of(matches, "refused"),
         session: may_value_of(matches, "session"),
         from: may_value_of(matches, "from"),
         shape: shape_of(matches),

@@ -48,7 +48,7 @@ pub fn sessions_of_run(words: &[&str], has_changes: bool) -> Option<usize>
     if has_changes { Some(1) } else { None }
 }
 
-/// What an audit lacks of its words, if anything: scripts need the day of the run, and that day and an older journal need scripts.
+/// What an audit lacks of its words, if anything: scripts need the day of the run, and that day, an older journal and a list of refused lines need scripts.
 pub fn audit_lacks(has_scripts: bool, has_older: bool, has_day: bool) -> Option<WordFault>
     ensures { result ≡ audit_lacks has_scripts has_older has_day }
 {

@@ -26,6 +26,9 @@ const DESK_HELP: &str = "The desk, by its session, 1 to 8, or 0 for the manager"
 
 const TOLD_HELP: &str = "What the desk is told of the lines of JOURNAL from this number on";
 
+const REFUSED_HELP: &str =
+    "The list that run --refused wrote: the scripts are read without these lines, which must be all that are wrong";
+
 const SEALED_HELP: &str = "Refuses a JOURNAL without a seal beside it";
 
 const ASKED_HELP: &str =
@@ -54,6 +57,10 @@ pub(super) fn audit_command<'a>(alloc: Global) -> Result<Command<'a>, AllocError
     );
     let audit = with_argument(audit, optional_option(alloc, "behind", "N", BEHIND_HELP));
     let audit = with_argument(audit, optional_option(alloc, "today", "DATE", TODAY_HELP));
+    let audit = with_argument(
+        audit,
+        optional_option(alloc, "refused", "FILE", REFUSED_HELP),
+    );
     let audit = with_argument(audit, flag(alloc, "sealed", SEALED_HELP));
     let audit = with_argument(audit, flag(alloc, "open", OPEN_AUDIT_HELP));
     let audit = with_argument(audit, flag(alloc, "shards", SHARDS_HELP));
@@ -82,6 +89,10 @@ pub(super) fn replies_command<'a>(alloc: Global) -> Result<Command<'a>, AllocErr
     );
     let replies = with_argument(replies, optional_option(alloc, "behind", "N", BEHIND_HELP));
     let replies = with_argument(replies, wanted_option(alloc, "today", "DATE", TODAY_HELP));
+    let replies = with_argument(
+        replies,
+        optional_option(alloc, "refused", "FILE", REFUSED_HELP),
+    );
     let replies = with_argument(
         replies,
         optional_option(alloc, "session", "N", SESSION_HELP),

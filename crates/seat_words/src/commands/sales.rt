@@ -52,6 +52,9 @@ const SEALED_JOURNAL_HELP: &str = "The journal to seal: a file that run wrote";
 const CHANGES_HELP: &str =
     "Changes of the limits, made beside the sessions (a file); without it no limit changes";
 
+const REFUSED_HELP: &str =
+    "Passes over each wrong line of the scripts and lists it in this file, by its code, session and line; without it a wrong line refuses the run";
+
 const NO_CLOBBER_HELP: &str = "Refuses an OUT that is there and is not empty";
 
 const AGAIN_HELP: &str =
@@ -64,7 +67,7 @@ pub(super) fn run_command<'a>(alloc: Global) -> Result<Command<'a>, AllocError>
         alloc,
         "run",
         "Books the requests of scripts, one session on a thread for each script, and writes the replies",
-        "OUT has its old bytes until the new journal is whole and takes its name; a refused run leaves it as it was.\nWhat it had is kept beside it, as OUT.kept-1, unless --after or --resume names OUT itself, as the daily command does.\nThe journal of --after belongs to its set, limits, first day and days: name the same ones.\n\nExample: seatdesk run --set examples/summer.ssim --limits examples/limits.txt --first 2024-07-01 --days 31 --today 2024-06-20 --journal journal.txt examples/london.txt examples/lisbon.txt\n\nWith changes of the limits: seatdesk run --set examples/summer.ssim --limits examples/limits.txt --first 2024-07-01 --days 31 --today 2024-06-20 --journal journal.txt --changes examples/changes.txt examples/london.txt examples/lisbon.txt\n\nChanges alone: seatdesk run --set examples/summer.ssim --limits examples/limits.txt --first 2024-07-01 --days 31 --today 2024-06-20 --journal journal.txt --changes examples/changes.txt\n\nDesks that keep their numbers, as sessions 1 and 3: seatdesk run --set examples/summer.ssim --limits examples/limits.txt --first 2024-07-01 --days 31 --today 2024-06-20 --journal journal.txt 1=examples/london.txt 3=examples/lisbon.txt\n\nThe day after: seatdesk run --set examples/summer.ssim --limits examples/limits.txt --first 2024-07-01 --days 31 --after examples/journal.txt --today 2024-06-21 --journal journal-2.txt examples/london-2.txt\n\nScripts to which requests were added: seatdesk run --set examples/summer.ssim --limits examples/limits.txt --first 2024-07-01 --days 31 --resume examples/journal.txt --today 2024-06-20 --journal journal.txt examples/london.txt examples/lisbon.txt",
+        "OUT has its old bytes until the new journal is whole and takes its name; a refused run leaves it as it was.\nWhat it had is kept beside it, as OUT.kept-1, unless --after or --resume names OUT itself, as the daily command does.\nThe journal of --after belongs to its set, limits, first day and days: name the same ones.\n\nExample: seatdesk run --set examples/summer.ssim --limits examples/limits.txt --first 2024-07-01 --days 31 --today 2024-06-20 --journal journal.txt examples/london.txt examples/lisbon.txt\n\nWith changes of the limits: seatdesk run --set examples/summer.ssim --limits examples/limits.txt --first 2024-07-01 --days 31 --today 2024-06-20 --journal journal.txt --changes examples/changes.txt examples/london.txt examples/lisbon.txt\n\nChanges alone: seatdesk run --set examples/summer.ssim --limits examples/limits.txt --first 2024-07-01 --days 31 --today 2024-06-20 --journal journal.txt --changes examples/changes.txt\n\nDesks that keep their numbers, as sessions 1 and 3: seatdesk run --set examples/summer.ssim --limits examples/limits.txt --first 2024-07-01 --days 31 --today 2024-06-20 --journal journal.txt 1=examples/london.txt 3=examples/lisbon.txt\n\nThe day after: seatdesk run --set examples/summer.ssim --limits examples/limits.txt --first 2024-07-01 --days 31 --after examples/journal.txt --today 2024-06-21 --journal journal-2.txt examples/london-2.txt\n\nScripts to which requests were added: seatdesk run --set examples/summer.ssim --limits examples/limits.txt --first 2024-07-01 --days 31 --resume examples/journal.txt --today 2024-06-20 --journal journal.txt examples/london.txt examples/lisbon.txt\n\nA wrong line stops no desk: seatdesk run --set examples/summer.ssim --limits examples/limits.txt --first 2024-07-01 --days 31 --today 2024-06-20 --journal journal.txt --refused refused.txt examples/london.txt examples/lisbon.txt",
     );
     let run = with_argument(run, optional_option(alloc, "after", "JOURNAL", AFTER_HELP));
     let run = with_argument(run, optional_option(alloc, "behind", "N", BEGUN_HELP));
@@ -75,6 +78,7 @@ pub(super) fn run_command<'a>(alloc: Global) -> Result<Command<'a>, AllocError>
     let run = with_argument(run, wanted_option(alloc, "today", "DATE", TODAY_HELP));
     let run = with_argument(run, wanted_option(alloc, "journal", "OUT", OUT_HELP));
     let run = with_argument(run, optional_option(alloc, "changes", "FILE", CHANGES_HELP));
+    let run = with_argument(run, optional_option(alloc, "refused", "FILE", REFUSED_HELP));
     let run = with_argument(run, flag(alloc, "no-clobber", NO_CLOBBER_HELP));
     let run = with_argument(run, flag(alloc, "again", AGAIN_HELP));
     with_argument(

@@ -35,6 +35,10 @@ pub returns-clause-resume : goal.returns-clause-resume
 unfolding seatdesk_app asking_app selling_app bare_app named_app ladder_app check_app flights_app cover_app rooms_app loads_app run_app serve_app bookings_app audit_app seal_app recover_app replies_app told_app waiting_app pickup_app history_app avs_app reconcile_app compare_app changes_app why_app explain_app season_app horizon_app clap_on_literals
 returns-clause-resume c = record { taken = refl; found = refl }
 
+pub returns-clause-refused : goal.returns-clause-refused
+unfolding seatdesk_app asking_app selling_app bare_app named_app ladder_app check_app flights_app cover_app rooms_app loads_app run_app serve_app bookings_app audit_app seal_app recover_app replies_app told_app waiting_app pickup_app history_app avs_app reconcile_app compare_app changes_app why_app explain_app season_app horizon_app clap_on_literals
+returns-clause-refused c = record { taken = refl; found = refl }
+
 pub returns-clause-cover : goal.returns-clause-cover
 unfolding seatdesk_app asking_app selling_app bare_app named_app ladder_app check_app flights_app cover_app rooms_app loads_app run_app serve_app bookings_app audit_app seal_app recover_app replies_app told_app waiting_app pickup_app history_app avs_app reconcile_app compare_app changes_app why_app explain_app season_app horizon_app clap_on_literals
 returns-clause-cover c = record { taken = refl; found = refl }

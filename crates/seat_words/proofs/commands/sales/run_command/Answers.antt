@@ -11,6 +11,7 @@ returns c =
     let today = argued _ _ c.with_argument-run-3.result c.with_argument-run-4.result c.wanted_option.result resume c.wanted_option.ensures c.with_argument-run-4.ensures in
     let journal = argued _ _ c.with_argument-run-4.result c.with_argument-run-5.result c.wanted_option-2.result today c.wanted_option-2.ensures c.with_argument-run-5.ensures in
     let changes = argued _ _ c.with_argument-run-5.result c.with_argument-run-6.result c.optional_option-4.result journal c.optional_option-4.ensures c.with_argument-run-6.ensures in
-    let clobber = argued _ _ c.with_argument-run-6.result c.with_argument-run-7.result c.flag.result changes c.flag.ensures c.with_argument-run-7.ensures in
-    let again = argued _ _ c.with_argument-run-7.result c.with_argument-run-8.result c.flag-2.result clobber c.flag-2.ensures c.with_argument-run-8.ensures in
-    argued _ _ c.with_argument-run-8.result c.with_argument.result c.optional_values.result again c.optional_values.ensures c.with_argument.ensures
+    let refused = argued _ _ c.with_argument-run-6.result c.with_argument-run-7.result c.optional_option-5.result changes c.optional_option-5.ensures c.with_argument-run-7.ensures in
+    let clobber = argued _ _ c.with_argument-run-7.result c.with_argument-run-8.result c.flag.result refused c.flag.ensures c.with_argument-run-8.ensures in
+    let again = argued _ _ c.with_argument-run-8.result c.with_argument-run-9.result c.flag-2.result clobber c.flag-2.ensures c.with_argument-run-9.ensures in
+    argued _ _ c.with_argument-run-9.result c.with_argument.result c.optional_values.result again c.optional_values.ensures c.with_argument.ensures
