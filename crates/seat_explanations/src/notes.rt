@@ -44,6 +44,12 @@ pub(crate) const NOTES: &[Explanation] = &[
         text: "The seal of the journal names no run, or none of its first lines, so nothing says which scripts these have: one that was booked is\nbooked once more, and no SEAL again comes. That is so of a journal that recover or serve found without its seal, as a copy to which its seal was not copied,\nof one whose seal was of an older version or did not agree with it when seatdesk seal wrote it anew, of one that a desk alone wrote, and of one that more than 128\nruns wrote, of which a seal names the last.\nAn older seal is put back only ahead of a run: below run this one is made, and an older seal would forget it. seatdesk history and told\nsay whether the journal has what a script asks.",
     },
     Explanation {
+        behind: "refused",
+        code: "note",
+        numbers: NONE,
+        text: "Lines of the scripts were wrong, and are not booked: all others are. Each is in the file of --refused, by its code, its session and its line.\nWrite what it was to ask, mended, at the script's end, and run with --resume and --refused; leave the line itself as it is.\naudit, replies and run --resume want the file beside the scripts.",
+    },
+    Explanation {
         behind: "same",
         code: "note",
         numbers: NONE,

@@ -21,7 +21,7 @@ pub(crate) const WORDS: &[Explanation] = &[
         behind: "E2",
         code: "shards",
         numbers: NONE,
-        text: "--shards takes journals as they stand: it is beside none of --after, --behind, --today, --sealed and --open.",
+        text: "--shards takes journals as they stand: it is beside none of --after, --behind, --today, --refused, --sealed and --open.",
     },
     Explanation {
         behind: "E2",
@@ -31,9 +31,15 @@ pub(crate) const WORDS: &[Explanation] = &[
     },
     Explanation {
         behind: "E2",
+        code: "refused",
+        numbers: NONE,
+        text: "The file of --refused, which run writes, is one of the inputs, or OUT, or that of standard output or of standard error (where nothing is said\nof it, since that would stand in the file), or another run has it, or its name is - or ends in .seal, .unfinished or .kept-N, or it is no\nregular file. Nothing was written. seatdesk -v says which of these it is.",
+    },
+    Explanation {
+        behind: "E2",
         code: "script",
         numbers: NONE,
-        text: "There are more than 8 scripts, or some have a number ahead of their file, as 3=lisbon.txt, and some have none,\nor a number is not one digit of 1 to 8, stands twice or has no file behind it. A file whose name begins so is ./3=lisbon.txt.\nOr one file, by whatever names, is the script of two sessions, or a script and the file of --changes: run would book twice\nwhat it asks. seatdesk -v says which.\nOr there is no script: run needs one unless it has --changes, and audit where it has --after, --behind or --today.",
+        text: "There are more than 8 scripts, or some have a number ahead of their file, as 3=lisbon.txt, and some have none,\nor a number is not one digit of 1 to 8, stands twice or has no file behind it. A file whose name begins so is ./3=lisbon.txt.\nOr one file, by whatever names, is the script of two sessions, or a script and the file of --changes: run would book twice\nwhat it asks. seatdesk -v says which.\nOr there is no script: run needs one unless it has --changes, and audit where it has --after, --behind, --today or --refused.",
     },
     Explanation {
         behind: "E2",

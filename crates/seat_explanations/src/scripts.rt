@@ -25,6 +25,12 @@ pub(crate) const SCRIPTS: &[Explanation] = &[
     },
     Explanation {
         behind: "",
+        code: "W1",
+        numbers: LINE,
+        text: "The row of the file of --refused is not what the scripts are refused for there: a wrong line of a script was mended or another was added\nin its midst, a script was left out, or the file is that of another run. What was refused is asked again at a script's end, never in its place:\nput the line back as it was. seatdesk run --refused without --resume writes the file anew.",
+    },
+    Explanation {
+        behind: "",
         code: "H1",
         numbers: DESK,
         text: "A line of the desk has more than 256 bytes, its end with them. It was passed over up to its end.\nWhere it should begin a message, the message is passed over up to the next empty line.",
