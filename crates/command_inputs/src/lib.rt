@@ -6,6 +6,7 @@
 mod horizon;
 mod metering;
 mod noting;
+mod refused;
 mod replaced;
 mod seals;
 mod sessions;
@@ -15,6 +16,7 @@ pub use metering::{meter_each, meter_input, meter_inputs, meter_of};
 pub use noting::{
     last_entry, may_have_lines, tell_copies, tell_found_unsealed, tell_kept, tell_unsealed,
 };
+pub use refused::{sort_out_as, sort_out_into, tell_refused};
 pub use replaced::tell_replaced;
 pub use seals::{Seals, lines_behind, seals_of};
 pub use sessions::{behind, scripts_opened};

@@ -1,0 +1,142 @@
+//! Scripts whose wrong lines are passed over, and the list of these lines.
+//! It knows which file is the list, and nothing of what the scripts ask for.
+ghost use Rattle.std.specs.Prelude.{◌≡◌, ◌<◌, ◌≤◌, ◌^◌, IfErr, IfOk, IsOk, IsSomeAnd, None, length, map};
+ghost use Rattle.script_refusals.specs.Listing.{other_row, stray_row};
+ghost use Rattle.seat_files.specs.Faults.{list_text, printed};
+ghost use Rattle.seat_files.specs.declared.fault.ListKind.{ListKind};
+
+use script_refusals::{list_of, other_row, sort_out, stray_row};
+use seat_desk::{DeskFault, read_input};
+use seat_files::{Input, ListFile, ListKind, Refusal, Shown};
+
+/// The most bytes of a script.
+const MOST_SCRIPT_BYTES: u64 = 16_777_216;
+
+/// The most bytes of a list: each that a run writes has less.
+const MOST_LIST_BYTES: u64 = 2_147_483_647;
+
+/// Reads the scripts and the list of their refused lines, and refuses another list. What is read of a script from here on is what is left of
+/// it without these lines.
+pub fn sort_out_as<'a>(
+    rt: &HostRuntime,
+    scripts: &mut Vec<Input<'a>>,
+    list: &mut Input<'a>,
+) -> Result<(), Refusal<'a>>
+    requires few { length scripts.old.items ≤ 8 }
+    ensures each { length scripts.new.items ≡ length scripts.old.items }
+{
+    let sessions = sort_out_each(rt, scripts)?;
+    let rows = listed(rt, &sessions)?;
+    let found = list_in(rt, list)?;
+    is_list(list.name(), &found, &rows)
+}
+
+/// Reads the scripts of a run, and has their list put with its journal. Where they go on from those of an earlier run the list that stands there
+/// is to have what they are refused for alone, session by session. What is read of a script from here on is what is left of it.
+pub fn sort_out_into<'a>(
+    rt: &HostRuntime,
+    scripts: &mut Vec<Input<'a>>,
+    list: &mut ListFile<'a>,
+    goes_on: bool,
+) -> Result<(), Refusal<'a>>
+    requires few { length scripts.old.items ≤ 8 }
+    ensures each { length scripts.new.items ≡ length scripts.old.items }
+{
+    let sessions = sort_out_each(rt, scripts)?;
+    if goes_on {
+        let mut standing = list.standing(rt)?;
+        let found = list_in(rt, &mut standing)?;
+        is_begun(list.name(), &found, &sessions)?;
+    }
+    list.hold(listed(rt, &sessions)?);
+    Ok(())
+}
+
+/// Says that lines were refused, and where they stand.
+pub fn tell_refused(rt: &HostRuntime, list: &ListFile<'_>) {
+    let rows = list.rows_put();
+    if rows > 0 {
+        let file = Shown { name: list.name() };
+        let _ = eprintln!(rt; "seatdesk: note: refused lines of the scripts: {rows}, in {file}");
+    }
+}
+
+/// Sorts out each script, and answers the rows of each session.
+fn sort_out_each<'a>(
+    rt: &HostRuntime,
+    scripts: &mut Vec<Input<'a>>,
+) -> Result<Vec<Vec<u8>>, Refusal<'a>>
+    requires few { length scripts.old.items ≤ 8 }
+    ensures each { length scripts.new.items ≡ length scripts.old.items }
+{
+    let mut sessions = Vec::new(rt.alloc());
+    let mut session = 0u8;
+    for script in scripts.iter_mut() {
+        session = session.saturating_add(1);
+        let rows = sort_out_one(rt, script, session)?;
+        if sessions.push(rows).is_err() {
+            return Err(Refusal::from(DeskFault::Memory));
+        }
+    }
+    Ok(sessions)
+}
+
+fn sort_out_one<'a>(
+    rt: &HostRuntime,
+    script: &mut Input<'a>,
+    session: u8,
+) -> Result<Vec<u8>, Refusal<'a>> {
+    let bytes = match read_input(rt.alloc(), script, MOST_SCRIPT_BYTES) {
+        Ok(bytes) => bytes,
+        Err(fault) => return Err(Refusal::from(fault).noting_all(&[&*script])),
+    };
+    match sort_out(rt.alloc(), &bytes, session) {
+        Ok(sorted) => {
+            script.hold(sorted.text);
+            Ok(sorted.rows)
+        }
+        Err(_) => Err(Refusal::from(DeskFault::Memory)),
+    }
+}
+
+fn listed<'a>(rt: &HostRuntime, sessions: &[Vec<u8>]) -> Result<Vec<u8>, Refusal<'a>> {
+    match list_of(rt.alloc(), sessions) {
+        Ok(list) => Ok(list),
+        Err(_) => Err(Refusal::from(DeskFault::Memory)),
+    }
+}
+
+fn list_in<'a>(rt: &HostRuntime, list: &mut Input<'a>) -> Result<Vec<u8>, Refusal<'a>>
+    ensures within { IfOk result (λ found. length found.items < 2 ^ 31) }
+{
+    match read_input(rt.alloc(), list, MOST_LIST_BYTES) {
+        Ok(found) => Ok(found),
+        Err(fault) => Err(Refusal::from(fault).noting_all(&[&*list])),
+    }
+}
+
+/// Whether a list is these rows.
+fn is_list<'a>(name: &'a str, found: &[u8], rows: &[u8]) -> Result<(), Refusal<'a>>
+    requires size { length found.now < 2 ^ 31 }
+    ensures same { IsOk result → found.now ≡ rows.now }
+    ensures row { IfErr result (λ refusal. IsSomeAnd (other_row found.now rows.now)
+        (λ row. printed refusal.fault ≡ list_text ListKind.Refused row)) }
+{
+    match other_row(found, rows) {
+        None => Ok(()),
+        Some(row) => Err(Refusal::of_list(ListKind::Refused, row).at(name, None)),
+    }
+}
+
+/// Whether a list has rows of the sessions alone, those with which each begins, one session after the other.
+fn is_begun<'a>(name: &'a str, found: &[u8], sessions: &[Vec<u8>]) -> Result<(), Refusal<'a>>
+    requires size { length found.now < 2 ^ 31 }
+    ensures none { IsOk result → stray_row found.now (map (λ rows. rows.items) sessions.now) ≡ None }
+    ensures row { IfErr result (λ refusal. IsSomeAnd (stray_row found.now (map (λ rows. rows.items) sessions.now))
+        (λ row. printed refusal.fault ≡ list_text ListKind.Refused row)) }
+{
+    match stray_row(found, sessions) {
+        None => Ok(()),
+        Some(row) => Err(Refusal::of_list(ListKind::Refused, row).at(name, None)),
+    }
+}
