@@ -70,10 +70,10 @@ fn is_listened_to(told: &str) -> bool {
     }
 }
 
-/// What an input gives is counted from here on: the lines of a journal too. A text of the program's own isn't. Where an input is typed the
+/// What an input gives is counted from here on: the lines of a journal too. A text of the program's own isn't, nor one that is held. Where an input is typed the
 /// meter ends, which would stand in the midst of what is typed.
 pub fn meter_input(rt: &HostRuntime, meter: &Meter, input: &mut Input<'_>, lines: Lines) {
-    if input.name().is_empty() {
+    if input.name().is_empty() || input.held().is_some() {
         return;
     }
     input.count_by(Tally::new(meter, size_of(input), lines));
@@ -91,11 +91,7 @@ fn size_of(input: &Input<'_>) -> Option<u64> {
 }
 
 /// The set and the limits are counted.
-pub fn meter_inputs(
-    rt: &HostRuntime,
-    meter: &Meter,
-    inputs: &mut Inputs<Input<'_>, Input<'_>>,
-)
+pub fn meter_inputs(rt: &HostRuntime, meter: &Meter, inputs: &mut Inputs<Input<'_>, Input<'_>>)
     ensures first { inputs.new.first ≡ inputs.old.first }
     ensures days { inputs.new.days ≡ inputs.old.days }
 {

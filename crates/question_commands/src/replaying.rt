@@ -9,13 +9,15 @@ use crate::commands::Looked;
 use airline_base::Day;
 use command_inputs::{
     behind, day_of_run, days_of, inputs_of, lines_behind, meter_each, meter_input, meter_inputs,
-    scripts_opened, seals_of,
+    scripts_opened, seals_of, sort_out_as,
 };
 use progress_meter::{Lines, Meter};
 use question_words::form_asked;
 use reply_tables::desk_reply_table;
 use seat_desk::{DeskFault, Inputs, NO_LINES};
-use seat_files::{Input, Output, Refusal, is_moved, metered_output, opened_or, taken, told};
+use seat_files::{
+    Input, Output, Refusal, is_moved, metered_output, opened, opened_or, taken, told,
+};
 use seat_scripts::{Besides, Wanted, desk_audit_against, desk_replies};
 use seat_tables::Form;
 use seat_words::{
@@ -38,7 +40,7 @@ pub fn audit<'a, R: Threads + Sync>(
     };
     let given = lines_behind(asked.after, asked.behind)?;
     let scripts = asked.scripts.as_slice();
-    let has_older = asked.after.is_some() || asked.behind.is_some();
+    let has_older = asked.after.is_some() || asked.behind.is_some() || asked.refused.is_some();
     if let Some(fault) = audit_lacks(!scripts.is_empty(), has_older, today.is_some()) {
         return Err(Refusal::from(fault));
     }
@@ -60,6 +62,7 @@ pub fn audit<'a, R: Threads + Sync>(
         journal: asked.journal,
         is_sealed: asked.sealed,
         scripts,
+        refused: asked.refused,
     };
     audit_against(rt, threads, meter, over, days, &replayed)
 }
@@ -73,6 +76,8 @@ struct Replayed<'a, 'b> {
     journal: &'a str,
     is_sealed: bool,
     scripts: &'b [&'a str],
+    /// The list of the lines that the scripts are read without.
+    refused: Option<&'a str>,
 }
 
 /// What one attempt at two journals came to, and whether one of them was replaced between its opening and the reading of its
@@ -122,7 +127,7 @@ fn audited_once<'a, R: Threads + Sync>(
     requires days { (1 ≤ days.now.1) × (days.now.1 ≤ 366) }
     requires today { IsCenturyDay replayed.now.today }
 {
-    let files = match files_opened(rt, over, days, replayed, false) {
+    let files = match files_opened(rt, meter, over, days, replayed, false) {
         Ok(files) => files,
         Err(refusal) => return Err(refusal),
     };
@@ -171,6 +176,7 @@ struct Files<'a> {
 /// Without a script there are none where a run without one had changes alone.
 fn files_opened<'a>(
     rt: &HostRuntime,
+    meter: &Meter,
     over: &Horizon<'a>,
     days: &(Day, u16),
     replayed: &Replayed<'a, '_>,
@@ -189,13 +195,33 @@ fn files_opened<'a>(
         Err(refusal) => return Err(refusal),
     };
     let (after, journal) = journals_opened(rt, replayed)?;
-    let scripts = scripts_opened(rt, replayed.scripts, sessions)?;
+    let mut scripts = scripts_opened(rt, replayed.scripts, sessions)?;
+    sort_out_beside(rt, meter, replayed.refused, &mut scripts)?;
     Ok(Files {
         inputs,
         after,
         journal,
         scripts,
     })
+}
+
+/// Sorts the scripts out where a list of their wrong lines is named, which must be that.
+fn sort_out_beside<'a>(
+    rt: &HostRuntime,
+    meter: &Meter,
+    refused: Option<&'a str>,
+    scripts: &mut Vec<Input<'a>>,
+) -> Result<(), Refusal<'a>>
+    requires few { length scripts.old.items ≤ 8 }
+    ensures each { length scripts.new.items ≡ length scripts.old.items }
+{
+    let Some(name) = refused else {
+        return Ok(());
+    };
+    let mut list = opened(rt, name)?;
+    meter_each(rt, meter, scripts, Lines::Uncounted);
+    meter_input(rt, meter, &mut list, Lines::Uncounted);
+    sort_out_as(rt, scripts, &mut list)
 }
 
 fn journals_opened<'a>(
@@ -269,6 +295,7 @@ pub fn replies<'a, R: Threads + Sync>(
         journal: asked.journal,
         is_sealed: false,
         scripts: asked.scripts.as_slice(),
+        refused: asked.refused,
     };
     let attempt = match replied_once(rt, threads, meter, over, &days, &replayed, wanted, form) {
         Ok(attempt) => attempt,
@@ -298,7 +325,7 @@ fn replied_once<'a, R: Threads + Sync>(
     requires days { (1 ≤ days.now.1) × (days.now.1 ≤ 366) }
     requires today { IsCenturyDay replayed.now.today }
 {
-    let files = match files_opened(rt, over, days, replayed, true) {
+    let files = match files_opened(rt, meter, over, days, replayed, true) {
         Ok(files) => files,
         Err(refusal) => return Err(refusal),
     };

@@ -33,14 +33,7 @@ pub fn audit_shards<'a, R: Threads + Sync>(
         mut journals,
     } = shards;
     let mut out = metered_output(rt, meter);
-    let outcome = shards_audited(
-        rt,
-        threads,
-        meter,
-        &mut inputs,
-        &mut journals,
-        &mut out,
-    );
+    let outcome = shards_audited(rt, threads, meter, &mut inputs, &mut journals, &mut out);
     noted(outcome, &inputs, journals.as_slice(), &[&out])
 }
 
@@ -106,6 +99,7 @@ fn is_plain(asked: &AuditJob<'_>) -> bool {
     asked.after.is_none()
         && asked.behind.is_none()
         && asked.today.is_none()
+        && asked.refused.is_none()
         && !asked.sealed
         && !asked.is_open
 }

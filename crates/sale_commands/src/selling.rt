@@ -8,14 +8,15 @@ ghost use Rattle.ssim_flights.specs.Right.{IsOfCentury};
 use crate::heard::Heard;
 use airline_base::Day;
 use command_inputs::{
-    Seals, behind, day_of_run, days_of, inputs_of, last_entry, lines_behind, meter_each, meter_input,
-    meter_inputs, scripts_opened, seals_of, tell_copies, tell_kept, tell_unsealed,
+    Seals, behind, day_of_run, days_of, inputs_of, last_entry, lines_behind, meter_each,
+    meter_input, meter_inputs, scripts_opened, seals_of, sort_out_into, tell_copies, tell_kept,
+    tell_refused, tell_unsealed,
 };
 use progress_meter::{Lines, Meter};
 use seat_desk::{DeskFault, Inputs, NO_LINES};
 use seat_files::{
-    Guard, Input, JournalFile, NOT_EMPTY, Refusal, SealOut, TOO_LONG, files_taken, is_same,
-    kept_number, lines_in, metered_output, of, opened_or, pass_once, told,
+    Guard, Input, JournalFile, ListFile, NOT_EMPTY, Refusal, SealOut, TOO_LONG, files_taken,
+    is_same, kept_number, lines_in, metered_output, of, opened_or, pass_once, told,
 };
 use seat_run::{desk_resume, desk_run};
 use seat_scripts::Besides;
@@ -86,10 +87,63 @@ fn run_over<'a, T: Threads + Wait + Sync>(
     }
     pass_once(rt, texts.scripts.as_slice(), &texts.changes)?;
     let mut place = locked_out(rt, sale.asking, texts, past)?;
-    let outcome = sell(rt, threads, sale, texts, past, &mut place);
+    let outcome = sell_sorted(rt, threads, sale, texts, past, &mut place);
     leave(&place);
     tell_kept(rt, &place.journal, &place.seal);
     outcome
+}
+
+/// The same with OUT under its lock: where wrong lines are passed over, the scripts are sorted out first.
+fn sell_sorted<'a, T: Threads + Wait + Sync>(
+    rt: &'a HostRuntime,
+    threads: &T,
+    sale: &Sale<'a, '_>,
+    texts: &mut Texts<'a>,
+    past: &mut Past<'a>,
+    place: &mut Place<'a>,
+) -> Result<(), Refusal<'a>>
+    requires first { IsOfCentury texts.old.inputs.first }
+    requires days { (1 ≤ texts.old.inputs.days) × (texts.old.inputs.days ≤ 366) }
+    requires today { IsCenturyDay sale.now.today }
+    requires scripts { (1 ≤ length texts.old.scripts.items) × (length texts.old.scripts.items ≤ 8) }
+{
+    begin_list(rt, sale, texts, past, place)?;
+    sell(rt, threads, sale, texts, past, place)
+}
+
+/// Begins the list of the wrong lines, where one is named, and sorts the scripts out into it. It is put with the journal, and goes with it.
+fn begin_list<'a>(
+    rt: &HostRuntime,
+    sale: &Sale<'a, '_>,
+    texts: &mut Texts<'a>,
+    past: &Past<'a>,
+    place: &mut Place<'a>,
+) -> Result<(), Refusal<'a>>
+    requires few { length texts.old.scripts.items ≤ 8 }
+    ensures first { texts.new.inputs.first ≡ texts.old.inputs.first }
+    ensures days { texts.new.inputs.days ≡ texts.old.inputs.days }
+    ensures scripts { length texts.new.scripts.items ≡ length texts.old.scripts.items }
+{
+    let Some(name) = sale.asking.refused else {
+        return Ok(());
+    };
+    let mut list = ListFile::begun(
+        rt,
+        name,
+        &texts.inputs,
+        texts.scripts.as_slice(),
+        &[&texts.changes, &past.after, &past.resumed],
+        sale.asking.journal,
+    )?;
+    meter_each(rt, sale.meter, &mut texts.scripts, Lines::Uncounted);
+    let sorted = sort_out_into(
+        rt,
+        &mut texts.scripts,
+        &mut list,
+        sale.asking.resume.is_some(),
+    );
+    place.journal.put_behind(list);
+    sorted
 }
 
 /// Takes away what was made and is not to stay. A seal that was put ahead of its journal goes first, while OUT is locked.
@@ -274,6 +328,9 @@ fn tell_sold<'a>(
     place: &Place<'a>,
     out: &Heard<'a>,
 ) {
+    if let Some(list) = place.journal.list() {
+        tell_refused(rt, list);
+    }
     let have_bytes = texts.scripts.iter().any(|script| script.has_bytes());
     out.tell(rt, sale.asking.resume.is_some(), have_bytes);
     tell_compared(rt, sale.asking, sale.given, seals);
