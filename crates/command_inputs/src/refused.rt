@@ -1,16 +1,19 @@
 //! Scripts whose wrong lines are passed over, and the list of these lines.
 //! It knows which file is the list, and nothing of what the scripts ask for.
-ghost use Rattle.std.specs.Prelude.{◌≡◌, ◌<◌, ◌≤◌, ◌^◌, IfErr, IfOk, IsOk, IsSomeAnd, None, length, map};
-ghost use Rattle.script_refusals.specs.Listing.{other_row, stray_row};
+ghost use Rattle.std.specs.Prelude.{◌≡◌, ◌<◌, ◌≤◌, ◌^◌, IfErr, IfOk, IsOk, IsSomeAnd, IsTrue, None, length, map};
+ghost use Rattle.script_refusals.specs.Listing.{is_list, other_row, stray_row};
 ghost use Rattle.seat_files.specs.Faults.{list_text, printed};
 ghost use Rattle.seat_files.specs.declared.fault.ListKind.{ListKind};
 
-use script_refusals::{list_of, other_row, sort_out, stray_row};
+use script_refusals::{is_list, list_of, other_row, sort_out, stray_row};
 use seat_desk::{DeskFault, read_input};
 use seat_files::{Input, ListFile, ListKind, Refusal, Shown};
 
 /// The most bytes of a script.
 const MOST_SCRIPT_BYTES: u64 = 16_777_216;
+
+/// Why a file is refused that would be lost.
+const NO_LIST: &str = "Has something else than refused lines";
 
 /// The most bytes of a list: each that a run writes has less.
 const MOST_LIST_BYTES: u64 = 2_147_483_647;
@@ -28,10 +31,10 @@ pub fn sort_out_as<'a>(
     let sessions = sort_out_each(rt, scripts)?;
     let rows = listed(rt, &sessions)?;
     let found = list_in(rt, list)?;
-    is_list(list.name(), &found, &rows)
+    pass_list(list.name(), &found, &rows)
 }
 
-/// Reads the scripts of a run, and has their list put with its journal. Where they go on from those of an earlier run the list that stands there
+/// Reads the scripts of a run, and has their list put with its journal. What stands in its place is a list too. Where they go on from those of an earlier run the list that stands there
 /// is to have what they are refused for alone, session by session. What is read of a script from here on is what is left of it.
 pub fn sort_out_into<'a>(
     rt: &HostRuntime,
@@ -42,14 +45,27 @@ pub fn sort_out_into<'a>(
     requires few { length scripts.old.items ≤ 8 }
     ensures each { length scripts.new.items ≡ length scripts.old.items }
 {
+    let found = standing_in(rt, list)?;
     let sessions = sort_out_each(rt, scripts)?;
     if goes_on {
-        let mut standing = list.standing(rt)?;
-        let found = list_in(rt, &mut standing)?;
-        is_begun(list.name(), &found, &sessions)?;
+        pass_begun(list.name(), &found, &sessions)?;
     }
     list.hold(listed(rt, &sessions)?);
     Ok(())
+}
+
+/// What stands in the place of a list, which is a list too, or nothing: nothing else is replaced.
+fn standing_in<'a>(rt: &HostRuntime, list: &ListFile<'a>) -> Result<Vec<u8>, Refusal<'a>>
+    ensures within { IfOk result (λ found. length found.items < 2 ^ 31) }
+    ensures list { IfOk result (λ found. IsTrue (is_list found.items)) }
+{
+    let mut standing = list.standing(rt)?;
+    let found = list_in(rt, &mut standing)?;
+    if is_list(&found) {
+        return Ok(found);
+    }
+    let refusal = Refusal::barred(list.name(), NO_LIST);
+    Err(refusal.as_unlisted())
 }
 
 /// Says that lines were refused, and where they stand.
@@ -116,7 +132,7 @@ fn list_in<'a>(rt: &HostRuntime, list: &mut Input<'a>) -> Result<Vec<u8>, Refusa
 }
 
 /// Whether a list is these rows.
-fn is_list<'a>(name: &'a str, found: &[u8], rows: &[u8]) -> Result<(), Refusal<'a>>
+fn pass_list<'a>(name: &'a str, found: &[u8], rows: &[u8]) -> Result<(), Refusal<'a>>
     requires size { length found.now < 2 ^ 31 }
     ensures same { IsOk result → found.now ≡ rows.now }
     ensures row { IfErr result (λ refusal. IsSomeAnd (other_row found.now rows.now)
@@ -129,7 +145,7 @@ fn is_list<'a>(name: &'a str, found: &[u8], rows: &[u8]) -> Result<(), Refusal<'
 }
 
 /// Whether a list has rows of the sessions alone, those with which each begins, one session after the other.
-fn is_begun<'a>(name: &'a str, found: &[u8], sessions: &[Vec<u8>]) -> Result<(), Refusal<'a>>
+fn pass_begun<'a>(name: &'a str, found: &[u8], sessions: &[Vec<u8>]) -> Result<(), Refusal<'a>>
     requires size { length found.now < 2 ^ 31 }
     ensures none { IsOk result → stray_row found.now (map (λ rows. rows.items) sessions.now) ≡ None }
     ensures row { IfErr result (λ refusal. IsSomeAnd (stray_row found.now (map (λ rows. rows.items) sessions.now))

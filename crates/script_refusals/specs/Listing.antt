@@ -1,7 +1,8 @@
 -- The list of refused lines, and how a list that was written before stands to it.
-use Rattle.std.specs.Prelude.{◌≡◌, ◌==◌, nat_eq, ℕ, Bool, false, ◌+◌, ◌-◌, ◌++◌, if◌then◌else◌, List, [], ◌∷◌, Option, Some, None, length, take, codes, decimal}
+use Rattle.std.specs.Prelude.{◌≡◌, ◌==◌, ◌&&◌, ◌||◌, nat_eq, ℕ, Bool, false, ◌+◌, ◌-◌, ◌++◌, if◌then◌else◌, List, [], ◌∷◌, Option, Some, None, length, take, codes, decimal}
 use Rattle.std.specs.Cmp.Lexicographic.{pointwise}
-use Rattle.std.specs.List.{count_by}
+use Rattle.std.specs.List.{count_by, list_all}
+use Rattle.std.specs.Str.Lines.{lines}
 use Rattle.airline_base.specs.Lines.{is_line_feed}
 use Rattle.airimp_lines.specs.FaultText.{kind_text}
 use Rattle.airimp_lines.specs.declared.fault.ScriptFault.{ScriptFault}
@@ -65,3 +66,14 @@ stray_in listed (c ∷ rest) = Some (row_number listed (c ∷ rest))
 -- the first row of a list that is none of those with which each session's begin, one session after the other
 abbrev pub stray_row : List ℕ → List (List ℕ) → Option ℕ
 stray_row listed sessions = stray_in listed (rows_behind_all listed sessions)
+
+-- Q1 or Q2, and a blank: so a row begins, and no right line of a script does
+abbrev pub is_row : List ℕ → Bool
+is_row [] = false
+is_row (letter ∷ []) = false
+is_row (letter ∷ digit ∷ []) = false
+is_row (letter ∷ digit ∷ blank ∷ rest) = (letter == 81) && ((digit == 49 || digit == 50) && blank == 32)
+
+-- each line of the text begins so
+abbrev pub is_list : List ℕ → Bool
+is_list bytes = list_all is_row (lines bytes)

@@ -8,5 +8,5 @@ mod listing;
 mod sorting;
 
 pub use cleaning::{Cleaned, Passage, without_wrong_lines};
-pub use listing::{other_row, put_refusals, row_number, rows_behind, stray_row};
+pub use listing::{is_list, other_row, put_refusals, row_number, rows_behind, stray_row};
 pub use sorting::{Sorted, list_of, sort_out};

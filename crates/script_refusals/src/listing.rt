@@ -2,10 +2,11 @@
 ghost use Rattle.std.specs.Prelude.{◌≡◌, ◌<◌, ◌≤◌, ◌^◌, ◌++◌, IfOk, IsTrue, None, OnOk, length, map};
 ghost use Rattle.std.specs.List.{count_by};
 ghost use Rattle.airline_base.specs.Lines.{is_line_feed};
-ghost use Rattle.script_refusals.specs.Listing.{IsBehind, begin_alike, other_row, row_number, row_on, row_text, rows_behind, rows_text, stray_row};
+ghost use Rattle.script_refusals.specs.Listing.{IsBehind, begin_alike, is_list, is_row, other_row, row_number, row_on, row_text, rows_behind, rows_text, stray_row};
 
 use airimp_lines::ScriptFault;
 use airline_base::Memory;
+use airline_base::lines::cut_line;
 use std::alloc::Global;
 
 /// Adds a row for each refused line of a session's script: what a run without a list is refused with, as `Q2 A5 1 2`, which is the code, the
@@ -123,4 +124,30 @@ fn line_feeds(bytes: &[u8]) -> u32
     ensures most { result < 2 ^ 31 }
 {
     bytes.iter().filter(|byte| **byte == b'\n').count() as u32
+}
+
+/// Whether each line of a text begins as a row of a list does, with a code of a script.
+pub fn is_list(bytes: &[u8]) -> bool
+    ensures { result ≡ is_list bytes.now }
+{
+    let mut rest = bytes;
+    while !rest.is_empty() {
+        let (text, after) = cut_line(rest);
+        if !is_row(text) {
+            return false;
+        }
+        rest = after;
+    }
+    true
+}
+
+fn is_row(text: &[u8]) -> bool
+    ensures { result ≡ is_row text.now }
+{
+    match text {
+        [letter, digit, blank, ..] => {
+            *letter == b'Q' && (*digit == b'1' || *digit == b'2') && *blank == b' '
+        }
+        _ => false,
+    }
 }

@@ -33,7 +33,7 @@ pub(crate) const WORDS: &[Explanation] = &[
         behind: "E2",
         code: "refused",
         numbers: NONE,
-        text: "The file of --refused, which run writes, is one of the inputs, or OUT, or that of standard output or of standard error (where nothing is said\nof it, since that would stand in the file), or another run has it, or its name is - or ends in .seal, .unfinished or .kept-N, or it is no\nregular file. Nothing was written. seatdesk -v says which of these it is.",
+        text: "The file of --refused, which run writes, is one of the inputs, or OUT, or that of standard output or of standard error (where nothing is said\nof it, since that would stand in the file), or another run has it, or its name is - or ends in .seal, .unfinished or .kept-N, or it is no\nregular file, or it has something else than such a list, which would be lost. Nothing was written. seatdesk -v says which of these it is.",
     },
     Explanation {
         behind: "E2",
