@@ -5,7 +5,7 @@ use Rattle.desk_answers.specs.Looks.{IsLooked}
 use Rattle.desk_answers.specs.Saying.{HasHeard}
 use Rattle.desk_lines.specs.declared.desk.Desk.{Desk}
 use Rattle.desk_lines.specs.declared.desk.Meaning.{Meaning}
-use Rattle.desk_lines.specs.declared.desk.Meaning.TheVariants.{Look, Hello}
+use Rattle.desk_lines.specs.declared.desk.Meaning.TheVariants.{Look, Hello, Wrong}
 use Rattle.desk_pipes.specs.declared.watch.Watched.{Watched}
 use Rattle.desk_pipes.specs.declared.watch.Watched.TheVariants.{Told, Heard, Awaited}
 use Rattle.ssim_flights.specs.declared.flight.Flight.{Flight}
@@ -45,10 +45,12 @@ IsWatchedLook flown old new lines look (Told text) =
 IsWatchedLook flown old new lines look Heard = IsUnanswered old new lines
 IsWatchedLook flown old new lines look Awaited = ⊥
 
--- a hello waits for the host, and all behind it for its answer; any other line waits for the host
+-- a hello waits for the host, and all behind it for its answer; so does a wrong word, which may be one of the manager's, as a day is; any other line waits
+-- for the host
 abbrev pub IsWatchedBy : Meaning → Looking → Looking → ℕ → Watched → Type 0
 IsWatchedBy (Look look) old new lines watched = IsWatchedLook new.flown old.window new.window lines look watched
 IsWatchedBy (Hello name named) old new lines watched = (watched ≡ Awaited) × (new.window ≡ old.window)
+IsWatchedBy (Wrong wrong) old new lines watched = (watched ≡ Awaited) × (new.window ≡ old.window)
 IsWatchedBy meaning old new lines watched = (watched ≡ Heard) × (new.window ≡ old.window)
 
 -- by what it means on this day

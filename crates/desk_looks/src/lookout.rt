@@ -95,7 +95,8 @@ impl<'a> Lookout<'a> {
             Meaning::Call(_, _) => Watched::Heard,
             Meaning::Again(_) => Watched::Heard,
             Meaning::Leave => Watched::Heard,
-            Meaning::Wrong(_) => Watched::Heard,
+            // It may be a day of the manager's, on which what stands behind it is looked at.
+            Meaning::Wrong(_) => Watched::Awaited,
             Meaning::WrongCall(_, _) => Watched::Heard,
         }
     }

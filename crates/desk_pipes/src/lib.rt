@@ -17,10 +17,10 @@ pub use cutting::HeldLine;
 pub use inbox::{Inbox, Said, room_for_lines};
 pub use mark::Mark;
 pub use outbox::Outbox;
-pub use outlook::Outlook;
+pub use outlook::{LooksGoBy, Outlook};
 pub use pipe_file::{
     PipeFault, PipeId, Role, Unopened, are_swapped, fault_of, open_pipe, pass_pair,
 };
-pub use post::Post;
+pub use post::{Delivered, Post};
 pub use threads::{mark_pipe, read_desk, start_writer, write_desk};
 pub use watch::{Unwatched, Watch, Watched};

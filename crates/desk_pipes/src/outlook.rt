@@ -44,11 +44,28 @@ impl Outlook {
         self.lines
     }
 
-    pub(crate) fn set(&mut self, today: Day, lines: u32)
+    pub(crate) fn set(&mut self, today: Day, lines: u32) -> LooksGoBy
         requires today { IsCenturyDay today }
-        ensures { (self.new.today ≡ today) × (self.new.lines ≡ lines) }
+        ensures set { (self.new.today ≡ today) × (self.new.lines ≡ lines) }
+        ensures by { (result.today ≡ today) × (result.lines ≡ lines) }
     {
         self.today = today;
         self.lines = lines;
+        LooksGoBy { today, lines }
     }
+}
+
+/// That looks go by a day and a count of lines. Only who sets them has it.
+#[derive(Drop)]
+pub struct LooksGoBy {
+    today: Day,
+    lines: u32,
+}
+
+impl Model for LooksGoBy {
+    ghost use Rattle.desk_pipes.specs.Watching.{Outlooked};
+
+    ghost Value = { Outlooked };
+
+    ghost view = { λ s. record { today = s.today; lines = s.lines } };
 }

@@ -1,14 +1,29 @@
 //! The inbox of all desks and the outbox of each: that of a session stands at its number, and the manager's first.
-ghost use Rattle.std.specs.Prelude.{◌≡◌, ◌+◌, IfOk, IfNone, IfSome, None, Some, length, slice_get};
+ghost use Rattle.std.specs.Prelude.{◌≡◌, ◌+◌, IfOk, IfNone, IfSome, None, Some, length, map, slice_get};
 ghost use Rattle.airline_base.specs.Days.{IsCenturyDay};
 
 use crate::inbox::Inbox;
 use crate::outbox::Outbox;
-use crate::outlook::Outlook;
+use crate::outlook::{LooksGoBy, Outlook};
 use crate::watch::{Watch, Watched};
 use airline_base::{Day, Memory};
 use std::alloc::Global;
+use std::marker::Model;
 use std::sync::{Mutex, Wait};
+
+/// Texts that wait to be read, the manager's first and each session's at its number. Only who delivers them has it.
+#[derive(Drop)]
+pub struct Delivered {
+    texts: Vec<Vec<u8>>,
+}
+
+impl Model for Delivered {
+    ghost use Rattle.std.specs.Prelude.{ℕ, List, map};
+
+    ghost Value = { List (List ℕ) };
+
+    ghost view = { λ s. map (λ t. t.items) s.texts.items };
+}
 
 /// What the host and the desks share.
 #[derive(Drop)]
@@ -83,12 +98,28 @@ impl Post {
     }
 
     /// From then on looks go by this day of the years 2000 to 2099, and by so many lines, which are visible and not told yet.
-    pub fn look_on<R: Wait>(&self, rt: &R, today: Day, lines: u32)
+    pub fn look_on<R: Wait>(&self, rt: &R, today: Day, lines: u32) -> LooksGoBy
         requires today { IsCenturyDay today }
+        ensures by { (result.today ≡ today) × (result.lines ≡ lines) }
     {
         let mut outlook = self.outlook.lock(rt);
-        outlook.set(today, lines);
+        let by = outlook.set(today, lines);
         drop(outlook);
+        by
+    }
+
+    /// Lets these wait to be read, each in the outbox at its place. They come back as delivered.
+    pub fn deliver<R: Wait>(&self, rt: &R, texts: Vec<Vec<u8>>) -> Delivered
+        ensures { result ≡ map (λ t. t.items) texts.items }
+    {
+        let mut session = 0u8;
+        for text in &texts {
+            if !text.is_empty() {
+                self.tell(rt, session, text.as_slice());
+            }
+            session = session.saturating_add(1);
+        }
+        Delivered { texts }
     }
 
     /// A client of a session's desk begins.

@@ -8,7 +8,11 @@ use Rattle.seat_disk.proofs.Keeping.{no_more, no_more_on}
 use Rattle.seat_journal.specs.declared.entry.Entry.{Entry}
 use Rattle.seat_desk.specs.Desk.{HasFailed}
 use Rattle.seat_restoring.specs.Dating.{AreOfEra, IsDated, NamesStill, Stands, TakesPlace}
-use Rattle.seat_restoring.specs.Serving.{IsEndedEntry, IsSealedEnd, NamesAll}
+use Rattle.seat_restoring.specs.Serving.{IsEndedEntry, IsNoEnd, IsSealedEnd, NamesAll}
+use Rattle.seat_nesting.specs.Nesting.{Ladders}
+use Rattle.seat_rules.specs.Prefixes.{Begins}
+use Rattle.seat_serving.specs.declared.serving.ending.Ended.{Ended}
+use Rattle.desk_talk.specs.Ending.{IsEnded}
 use Rattle.seat_restoring.proofs.Dated.{dated as are_of}
 use Rattle.seat_seal.specs.declared.beside.Basis.{Basis}
 use Rattle.seat_seal.specs.declared.run.Run.{Run}
@@ -17,17 +21,18 @@ use Rattle.seat_seal.specs.Rules.{is_sealed}
 use Rattle.seat_seal.specs.declared.seal.Sealed.{Sealed as Belonging}
 use Rattle.seat_sealing.specs.Steps.{alone_text}
 use Rattle.seat_serving.specs.Served.{Served}
-use Rattle.desk_serving.specs.Daily.{CountsSeal, FailsBy, IsOfEpoch, IsOnDay, IsSealedOn, IsSealedStill, StaysNamed, hosted_by}
+use Rattle.desk_serving.specs.Daily.{CountsSeal, FailsBy, IsOfEpoch, IsOnDay, IsSealedOn, IsSealedStill, IsUnsealed, StaysNamed, hosted_by}
+use Rattle.desk_serving.specs.declared.serving.HostedFault.{HostedFault}
 use Rattle.desk_serving.specs.Going.{Fails, GoesOn}
 use Rattle.desk_serving.specs.declared.day.GroupFault.{GroupFault}
 use Rattle.desk_serving.specs.declared.day.GroupFault.TheVariants.{Serve, Seal}
-use Rattle.desk_serving.specs.declared.serving.HostedFault.TheVariants.{Dating, Day}
+use Rattle.desk_serving.specs.declared.serving.HostedFault.TheVariants.{Dating, Day, Seal as Unended}
 use Rattle.seat_disk.specs.Growing.{KeepsFront}
 use Rattle.seat_recovery.specs.OpenText.{open_text}
 use Rattle.desk_hall.specs.Halls.{Hallful, IsPassed, IsSameHall, IsUnheard, IsUnordered}
 use Rattle.desk_serving.proofs.Goes.{begins_on, told_ready}
 use Rattle.seat_desk.specs.declared.fault.DeskFault.{DeskFault}
-use Rattle.seat_desk.specs.declared.fault.DeskFault.TheVariants.{Device as NoFile}
+use Rattle.seat_desk.specs.declared.fault.DeskFault.TheVariants.{Device as NoFile, TooLarge}
 use Rattle.seat_serving.proofs.Holding.{seen_kept}
 use Rattle.seat_serving.specs.declared.serving.ServeFault.{ServeFault}
 
@@ -170,6 +175,20 @@ module _ {K : Type 0} (named : K → Option (List ℕ)) (leaves : K → List ℕ
       → HasFailed failures between after → HasFailed failures before after
   failed_behind old mid before between after still failed = failed ∙ ap noted still.sealed.counted
 
+  -- the journal is ended, and the closed seal is not there
+  pub unsealed_by : (basis : Basis) (lines : List Entry) (grid : Ladders) (cap : ℕ) (ended : Ended) (seen : Option (List ℕ)) (journals : List ℕ → Type 0)
+      (unsynced : ℕ) (old mid : Belonging) (before between after : K) (fault : DeskFault)
+      → IsSealedStill named leaves kept failures old mid before between → Begins lines ended.journal → IsEnded grid cap ended seen journals unsynced
+      → (fault ≡ TooLarge → IsNoEnd basis mid.runs ended.journal) → ((fault ≡ NoFile → ⊥) → after ≡ between)
+      → (e : DeskFault) → Unended fault ≡ Unended e → IsUnsealed lines basis old.runs e seen journals unsynced (leaves after)
+  unsealed_by basis lines grid cap ended seen journals unsynced old mid before between after fault still front is large stays e same =
+      subst (λ (x : DeskFault). IsUnsealed lines basis old.runs x seen journals unsynced (leaves after)) (cc same)
+      (record {
+        over = record { journal = ended.journal; front = front; text = is.text; disk = is.disk; synced = is.synced };
+        large = λ it. subst (λ (r : List Run). IsNoEnd basis r ended.journal) still.sealed.runs_are (large it);
+        still = λ other. record { entry = mid; only = subst (λ (k : K). Only (alone_text mid) (leaves k)) (sym (stays other)) still.sealed.on_day.only };
+      })
+
   -- a failure of its file is counted behind what was sealed
   pub counts_behind : (day : ℕ) (old mid : Belonging) (before between after : K) (fault : GroupFault)
       → IsSealedOn named leaves kept failures day old mid before between → CountsSeal failures between after fault → CountsSeal failures before after fault
@@ -193,6 +212,13 @@ pub dating_failed : {K : Type 0} (failures : K → ℕ) (before after : K) (faul
     → hosted_by fault ≡ Dating NoFile → HasFailed failures before after
 dating_failed {K} failures before after (Serve f) counts is = absurd (cc is)
 dating_failed {K} failures before after (Seal f) counts is = counts.counted (ap Seal (cc is))
+
+-- a host that does not go on has no closed seal that failed
+pub no_closed_seal : (lines : List Entry) (basis : Basis) (runs : List Run) (seen : Option (List ℕ)) (journals : List ℕ → Type 0) (unsynced : ℕ)
+    (seals : List ℕ → Type 0) (fault : GroupFault) (f : HostedFault) → f ≡ hosted_by fault → (e : DeskFault) → f ≡ Unended e
+    → IsUnsealed lines basis runs e seen journals unsynced seals
+no_closed_seal lines basis runs seen journals unsynced seals (Serve fault) f is e same = absurd (cc (sym is ∙ same))
+no_closed_seal lines basis runs seen journals unsynced seals (Seal fault) f is e same = absurd (cc (sym is ∙ same))
 
 module _ {D : Type 0} (seen : D → Option (List ℕ)) (leaves : D → List ℕ → Type 0) (unsynced failures : D → ℕ) where
   -- by the inventory

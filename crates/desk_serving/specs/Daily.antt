@@ -2,7 +2,12 @@
 use Rattle.std.specs.Prelude.{◌≡◌, ℕ, List, Option, true}
 use Rattle.seat_disk.specs.Keeping.{KeepsNoMore}
 use Rattle.seat_disk.specs.Leaving.{Only, replaced_by}
+use Rattle.seat_journal.specs.declared.entry.Entry.{Entry}
 use Rattle.seat_restoring.specs.Dating.{AreOfEra, IsDated, NamesStill, TakesPlace}
+use Rattle.seat_restoring.specs.Serving.{IsNoEnd}
+use Rattle.seat_seal.specs.declared.beside.Basis.{Basis}
+use Rattle.seat_seal.specs.declared.run.Run.{Run}
+use Rattle.desk_talk.specs.Closing.{IsEndedUnsealed}
 use Rattle.seat_seal.specs.Rules.{is_sealed}
 use Rattle.seat_seal.specs.declared.era.Era.{Era}
 use Rattle.seat_seal.specs.declared.seal.Sealed.{Sealed as Belonging}
@@ -11,7 +16,8 @@ use Rattle.seat_serving.specs.Served.{Served}
 use Rattle.airline_base.specs.Noting.{noted}
 use Rattle.desk_answers.specs.Hosts.{IsReady}
 use Rattle.seat_desk.specs.Desk.{HasFailed}
-use Rattle.seat_desk.specs.declared.fault.DeskFault.TheVariants.{Device as NoFile}
+use Rattle.seat_desk.specs.declared.fault.DeskFault.{DeskFault}
+use Rattle.seat_desk.specs.declared.fault.DeskFault.TheVariants.{Device as NoFile, TooLarge}
 use Rattle.seat_disk.specs.Growing.{KeepsFront}
 use Rattle.seat_recovery.specs.OpenText.{open_text}
 use Rattle.seat_rules.specs.Prefixes.{Begins}
@@ -57,6 +63,19 @@ pub record IsOfEpoch (epoch : ℕ) (seals : List ℕ → Type 0) : Type 0 where
   pub day : ℕ
   pub dated : IsDated day era
   pub are : AreOfEra era seals
+
+-- whatever a crash leaves of the seal is that of one entry
+pub record IsOneSeal (seals : List ℕ → Type 0) : Type 0 where
+  pub entry : Belonging
+  pub only : Only (alone_text entry) seals
+
+-- the journal is ended, and its closed seal is not there: where it is too large no seal may have that journal's entry, and but where its file failed the open
+-- one stands there as it stood
+pub record IsUnsealed (kept : List Entry) (basis : Basis) (runs : List Run) (fault : DeskFault) (seen : Option (List ℕ)) (leaves : List ℕ → Type 0)
+    (unsynced : ℕ) (seals : List ℕ → Type 0) : Type 0 where
+  pub over : IsEndedUnsealed kept seen leaves unsynced
+  pub large : fault ≡ TooLarge → IsNoEnd basis runs over.journal
+  pub still : (fault ≡ NoFile → ⊥) → IsOneSeal seals
 
 -- the host does not go on, by the inventory or by the seal: what was kept is still there. Where memory was wanting its lines are on the disk, and where
 -- the journal's file failed a call of it was counted

@@ -1,3 +1,4 @@
 pub mod Daily
 pub mod Going
+pub mod Groups
 pub mod Silence

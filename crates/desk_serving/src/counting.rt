@@ -1,8 +1,9 @@
 //! What a host has come to, counted behind each group that is answered.
-ghost use Rattle.std.specs.Prelude.{◌≡◌, IfErr, OnOk};
+ghost use Rattle.std.specs.Prelude.{◌≡◌, IfErr, IfOk, OnOk};
 ghost use Rattle.desk_answers.specs.Hosts.{IsReady};
 ghost use Rattle.desk_serving.specs.Daily.{CountsSeal, FailsBy, IsOnDay, IsSealedOn, StaysNamed};
 ghost use Rattle.desk_serving.specs.Going.{GoesOn};
+ghost use Rattle.desk_serving.specs.Groups.{IsGroup};
 ghost use Rattle.desk_status.specs.Tallies.{added, groups_behind, Counts, CountsFront};
 
 use crate::day::GroupFault;
@@ -39,6 +40,7 @@ pub(crate) fn answer_counted<R: Wait, D: Tape, K: Replaced>(
     requires ready { IsReady D.seen D.may_leave D.unsynced hall.old.serving }
     requires dated { IsOnDay hall.old.today entry.old (K.may_leave seals.old) }
     requires counts { Counts tally.old hall.old.serving.journal }
+    ensures group { IfOk result (IsGroup hall.old said.now hall.new) }
     ensures goes { OnOk result (GoesOn D.seen D.may_leave D.unsynced D.failure_count hall.old.serving hall.new.serving) }
     ensures fails { IfErr result (FailsBy D.seen D.may_leave D.unsynced D.failure_count hall.old.serving hall.new.serving) }
     ensures sealed { OnOk result (IsSealedOn K.named K.may_leave K.kept_may_leave K.failure_count hall.new.today entry.old entry.new seals.old seals.new) }

@@ -1,10 +1,12 @@
 //! The lines that wait, answered as a group.
-ghost use Rattle.std.specs.Prelude.{◌≡◌, ◌≤◌, ◌==◌, false, true, IfErr, IfOk, OnErr, OnOk, length};
+ghost use Rattle.std.specs.Prelude.{◌≡◌, ◌≤◌, ◌==◌, ◌&&◌, false, true, IfErr, IfOk, OnErr, OnOk, length};
 ghost use Rattle.desk_answers.specs.Hosts.{IsReady};
 ghost use Rattle.desk_serving.specs.Daily.{CountsSeal, FailsBy, IsOnDay, IsSealedOn, StaysNamed};
 ghost use Rattle.desk_serving.specs.Going.{is_apart, Fails, GoesOn, IsHeardBehind};
+ghost use Rattle.desk_serving.specs.Groups.{IsForgotten, IsGroup, IsOne, IsTaken, IsTakenApart};
 
 use crate::day::{GroupFault, keep_day};
+use crate::telling::answer_heard;
 use airline_base::Memory;
 use desk_answers::memory_line;
 use desk_hall::Hall;
@@ -17,7 +19,7 @@ use std::sync::Wait;
 
 /// Hears these lines in their order, books what they ask for, and tells each desk what concerns it. A word to the host that is no look is
 /// answered behind all ahead of it and ahead of all behind it. Whether the host goes on.
-#[tactic(auto, using(crate::proofs::Goes::goes_same, crate::proofs::Goes::goes_further, crate::proofs::Goes::fails_behind, crate::proofs::Daily::fails_by_behind, crate::proofs::Daily::sealed_same, crate::proofs::Daily::sealed_further, crate::proofs::Daily::sealed_as, crate::proofs::Daily::stays_behind, crate::proofs::Daily::stays_on, crate::proofs::Daily::on_day_of, crate::proofs::Daily::by_inventory, crate::proofs::Daily::counts_none))]
+#[tactic(auto, using(crate::proofs::Goes::goes_same, crate::proofs::Goes::goes_further, crate::proofs::Goes::fails_behind, crate::proofs::Daily::fails_by_behind, crate::proofs::Daily::sealed_same, crate::proofs::Daily::sealed_further, crate::proofs::Daily::sealed_as, crate::proofs::Daily::stays_behind, crate::proofs::Daily::stays_on, crate::proofs::Daily::on_day_of, crate::proofs::Daily::by_inventory, crate::proofs::Daily::counts_none, crate::proofs::Groups::none_taken, crate::proofs::Groups::is_group))]
 pub(crate) fn answer_group<R: Wait, D: Tape, K: Replaced>(
     rt: &R,
     alloc: Global,
@@ -29,6 +31,7 @@ pub(crate) fn answer_group<R: Wait, D: Tape, K: Replaced>(
 ) -> Result<bool, GroupFault>
     requires ready { IsReady D.seen D.may_leave D.unsynced hall.old.serving }
     requires dated { IsOnDay hall.old.today entry.old (K.may_leave seals.old) }
+    ensures group { IfOk result (IsGroup hall.old said.now hall.new) }
     ensures goes { OnOk result (GoesOn D.seen D.may_leave D.unsynced D.failure_count hall.old.serving hall.new.serving) }
     ensures fails { IfErr result (FailsBy D.seen D.may_leave D.unsynced D.failure_count hall.old.serving hall.new.serving) }
     ensures sealed { OnOk result (IsSealedOn K.named K.may_leave K.kept_may_leave K.failure_count hall.new.today entry.old entry.new seals.old seals.new) }
@@ -38,7 +41,7 @@ pub(crate) fn answer_group<R: Wait, D: Tape, K: Replaced>(
     let mut goes_on = true;
     for one in said {
         match answer_one(rt, alloc, hall, post, one, entry, seals) {
-            Ok(more) => goes_on = more && goes_on,
+            Ok(more) => goes_on = both(goes_on, more),
             Err(fault) => return Err(fault),
         }
     }
@@ -48,8 +51,14 @@ pub(crate) fn answer_group<R: Wait, D: Tape, K: Replaced>(
     }
 }
 
+fn both(one: bool, other: bool) -> bool
+    ensures { result ≡ (one && other) }
+{
+    one && other
+}
+
 // Hears a line.
-#[tactic(auto, using(crate::proofs::Goes::goes_same, crate::proofs::Goes::goes_further, crate::proofs::Goes::fails_behind, crate::proofs::Daily::fails_by_behind, crate::proofs::Daily::stays_same, crate::proofs::Daily::day_as, crate::proofs::Daily::by_inventory, crate::proofs::Daily::counts_none))]
+#[tactic(auto, using(crate::proofs::Goes::goes_same, crate::proofs::Goes::goes_further, crate::proofs::Goes::fails_behind, crate::proofs::Daily::fails_by_behind, crate::proofs::Daily::stays_same, crate::proofs::Daily::day_as, crate::proofs::Daily::by_inventory, crate::proofs::Daily::counts_none, crate::proofs::Groups::one_plain))]
 fn answer_one<R: Wait, D: Tape, K: Replaced>(
     rt: &R,
     alloc: Global,
@@ -61,6 +70,7 @@ fn answer_one<R: Wait, D: Tape, K: Replaced>(
 ) -> Result<bool, GroupFault>
     requires ready { IsReady D.seen D.may_leave D.unsynced hall.old.serving }
     requires dated { IsOnDay hall.old.today entry.old (K.may_leave seals.old) }
+    ensures one { IfOk result (IsOne hall.old hall.new one.now) }
     ensures goes { OnOk result (GoesOn D.seen D.may_leave D.unsynced D.failure_count hall.old.serving hall.new.serving) }
     ensures fails { IfErr result (FailsBy D.seen D.may_leave D.unsynced D.failure_count hall.old.serving hall.new.serving) }
     ensures sealed { OnOk result (IsSealedOn K.named K.may_leave K.kept_may_leave K.failure_count hall.new.today entry.old entry.new seals.old seals.new) }
@@ -80,7 +90,7 @@ fn answer_one<R: Wait, D: Tape, K: Replaced>(
 }
 
 // Hears a line, and answers it ahead of all behind it.
-#[tactic(auto, using(crate::proofs::Goes::goes_further, crate::proofs::Goes::fails_behind, crate::proofs::Daily::fails_by_behind, crate::proofs::Daily::sealed_as, crate::proofs::Daily::stays_on, crate::proofs::Daily::on_day_of, crate::proofs::Daily::by_inventory, crate::proofs::Daily::counts_none))]
+#[tactic(auto, using(crate::proofs::Goes::goes_further, crate::proofs::Goes::fails_behind, crate::proofs::Daily::fails_by_behind, crate::proofs::Daily::sealed_as, crate::proofs::Daily::stays_on, crate::proofs::Daily::on_day_of, crate::proofs::Daily::by_inventory, crate::proofs::Daily::counts_none, crate::proofs::Groups::apart))]
 fn hear_apart<R: Wait, D: Tape, K: Replaced>(
     rt: &R,
     alloc: Global,
@@ -92,6 +102,7 @@ fn hear_apart<R: Wait, D: Tape, K: Replaced>(
 ) -> Result<bool, GroupFault>
     requires ready { IsReady D.seen D.may_leave D.unsynced hall.old.serving }
     requires dated { IsOnDay hall.old.today entry.old (K.may_leave seals.old) }
+    ensures apart { IfOk result (IsTakenApart hall.old hall.new one.now) }
     ensures goes { OnOk result (GoesOn D.seen D.may_leave D.unsynced D.failure_count hall.old.serving hall.new.serving) }
     ensures fails { IfErr result (FailsBy D.seen D.may_leave D.unsynced D.failure_count hall.old.serving hall.new.serving) }
     ensures sealed { OnOk result (IsSealedOn K.named K.may_leave K.kept_may_leave K.failure_count hall.new.today entry.old entry.new seals.old seals.new) }
@@ -121,6 +132,7 @@ fn hear_dated<R: Wait, D: Tape, K: Replaced>(
 ) -> Result<bool, GroupFault>
     requires ready { IsReady D.seen D.may_leave D.unsynced hall.old.serving }
     requires dated { IsOnDay hall.old.today entry.old (K.may_leave seals.old) }
+    ensures taken { IfOk result (IsTaken hall.old hall.new one.now) }
     ensures goes { OnOk result (GoesOn D.seen D.may_leave D.unsynced D.failure_count hall.old.serving hall.new.serving) }
     ensures fails { IfErr result (FailsBy D.seen D.may_leave D.unsynced D.failure_count hall.old.serving hall.new.serving) }
     ensures sealed { OnOk result (IsSealedOn K.named K.may_leave K.kept_may_leave K.failure_count hall.new.today entry.old entry.new seals.old seals.new) }
@@ -148,7 +160,7 @@ fn is_apart(line: &[u8]) -> bool
 }
 
 // Hears a line, or says that memory is wanting for it.
-#[tactic(auto, using(crate::proofs::Goes::goes_same, crate::proofs::Goes::goes_further, crate::proofs::Goes::fails_behind, crate::proofs::Goes::ready_as, crate::proofs::Daily::day_as))]
+#[tactic(auto, using(crate::proofs::Goes::goes_same, crate::proofs::Goes::goes_further, crate::proofs::Goes::fails_behind, crate::proofs::Goes::ready_as, crate::proofs::Daily::day_as, crate::proofs::Groups::nobodys, crate::proofs::Groups::is_heard, crate::proofs::Groups::wanting))]
 fn hear_one<R: Wait, D: Tape, K: Replaced>(
     rt: &R,
     alloc: Global,
@@ -160,6 +172,7 @@ fn hear_one<R: Wait, D: Tape, K: Replaced>(
 ) -> Result<bool, ServeFault>
     requires ready { IsReady D.seen D.may_leave D.unsynced hall.old.serving }
     requires dated { IsOnDay hall.old.today entry.now (K.may_leave seals.now) }
+    ensures taken { IfOk result (IsTaken hall.old hall.new one.now) }
     ensures goes { OnOk result (GoesOn D.seen D.may_leave D.unsynced D.failure_count hall.old.serving hall.new.serving) }
     ensures fails { IfErr result (Fails D.seen D.may_leave D.unsynced D.failure_count hall.old.serving hall.new.serving) }
     ensures memory { IfErr result (λ f. hall.new.today ≡ hall.old.today) }
@@ -189,7 +202,7 @@ fn hear_one<R: Wait, D: Tape, K: Replaced>(
 }
 
 // A line of the manager, or of a session's desk, behind those that were answered where they were read.
-#[tactic(auto, using(crate::proofs::Daily::unordered_day, crate::proofs::Daily::unheard_day, crate::proofs::Daily::passed_day, crate::proofs::Passes::ordered_behind, crate::proofs::Passes::heard_behind))]
+#[tactic(auto, using(crate::proofs::Daily::unordered_day, crate::proofs::Daily::unheard_day, crate::proofs::Daily::passed_day, crate::proofs::Passes::ordered_behind, crate::proofs::Passes::heard_behind, crate::proofs::Groups::unordered, crate::proofs::Groups::unheard))]
 fn hear<D: Tape>(
     alloc: Global,
     hall: &mut Hall<'_, D>,
@@ -200,6 +213,7 @@ fn hear<D: Tape>(
 ) -> Result<bool, Memory>
     requires session { session ≤ length hall.old.desks }
     ensures heard { IfOk result (IsHeardBehind is_earlier hall.old hall.new session passed line.now) }
+    ensures forgotten { OnErr result (IsForgotten hall.old hall.new) }
     ensures same { hall.new.serving ≡ hall.old.serving }
     ensures count { length hall.new.desks ≡ length hall.old.desks }
     ensures memory { OnErr result (hall.new.today ≡ hall.old.today) }
@@ -210,102 +224,4 @@ fn hear<D: Tape>(
     }
     hall.hear(session, line)?;
     Ok(true)
-}
-
-// Books what was heard, and tells each desk. Where memory is wanting, what has its line is told all the same.
-#[tactic(auto, using(crate::proofs::Goes::goes_further, crate::proofs::Goes::fails_behind, crate::proofs::Goes::fails_as, crate::proofs::Daily::day_as))]
-fn answer_heard<R: Wait, D: Tape, K: Replaced>(
-    rt: &R,
-    alloc: Global,
-    hall: &mut Hall<'_, D>,
-    post: &Post,
-    entry: &Sealed,
-    seals: &K,
-) -> Result<(), ServeFault>
-    requires ready { IsReady D.seen D.may_leave D.unsynced hall.old.serving }
-    requires dated { IsOnDay hall.old.today entry.now (K.may_leave seals.now) }
-    ensures goes { OnOk result (GoesOn D.seen D.may_leave D.unsynced D.failure_count hall.old.serving hall.new.serving) }
-    ensures fails { IfErr result (Fails D.seen D.may_leave D.unsynced D.failure_count hall.old.serving hall.new.serving) }
-    ensures day { hall.new.today ≡ hall.old.today }
-{
-    match book_heard(rt, alloc, hall) {
-        Ok(()) => tell_heard(rt, alloc, hall, post, entry, seals),
-        Err(fault) => {
-            if let ServeFault::Memory = fault {
-                let _ = tell_all(rt, alloc, hall, post, entry, seals);
-            }
-            Err(fault)
-        }
-    }
-}
-
-// Tells each desk what was heard. Looks go by it from then on.
-#[tactic(auto, using(crate::proofs::Goes::goes_same, crate::proofs::Goes::fails_same))]
-fn tell_heard<R: Wait, D: Tape, K: Replaced>(
-    rt: &R,
-    alloc: Global,
-    hall: &mut Hall<'_, D>,
-    post: &Post,
-    entry: &Sealed,
-    seals: &K,
-) -> Result<(), ServeFault>
-    requires ready { IsReady D.seen D.may_leave D.unsynced hall.old.serving }
-    requires dated { IsOnDay hall.old.today entry.now (K.may_leave seals.now) }
-    ensures goes { OnOk result (GoesOn D.seen D.may_leave D.unsynced D.failure_count hall.old.serving hall.new.serving) }
-    ensures fails { IfErr result (Fails D.seen D.may_leave D.unsynced D.failure_count hall.old.serving hall.new.serving) }
-    ensures day { hall.new.today ≡ hall.old.today }
-{
-    post.look_on(rt, hall.today(), lines_kept(hall));
-    if tell_all(rt, alloc, hall, post, entry, seals).is_err() {
-        return Err(ServeFault::Memory);
-    }
-    hall.end_turns();
-    Ok(())
-}
-
-// How many lines the journal has. All of them are on the disk, and visible.
-fn lines_kept<D: Tape>(hall: &Hall<'_, D>) -> u32
-    ensures { result ≡ length hall.now.serving.journal }
-{
-    hall.serving().journal().len() as u32
-}
-
-// Books what was heard.
-#[tactic(auto, using(crate::proofs::Goes::goes_answered, crate::proofs::Goes::fails_answered, crate::proofs::Daily::answered_day))]
-fn book_heard<R: Wait, D: Tape>(
-    rt: &R,
-    alloc: Global,
-    hall: &mut Hall<'_, D>,
-) -> Result<(), ServeFault>
-    requires ready { IsReady D.seen D.may_leave D.unsynced hall.old.serving }
-    ensures goes { OnOk result (GoesOn D.seen D.may_leave D.unsynced D.failure_count hall.old.serving hall.new.serving) }
-    ensures fails { IfErr result (Fails D.seen D.may_leave D.unsynced D.failure_count hall.old.serving hall.new.serving) }
-    ensures day { hall.new.today ≡ hall.old.today }
-{
-    match hall.answer(rt, alloc) {
-        Ok(()) => Ok(()),
-        Err(fault) => Err(fault),
-    }
-}
-
-// Tells the manager and each desk what concerns it.
-fn tell_all<R: Wait, D: Tape, K: Replaced>(
-    rt: &R,
-    alloc: Global,
-    hall: &mut Hall<'_, D>,
-    post: &Post,
-    entry: &Sealed,
-    seals: &K,
-) -> Result<(), Memory>
-    requires dated { IsOnDay hall.old.today entry.now (K.may_leave seals.now) }
-    ensures same { hall.new ≡ hall.old }
-{
-    let count = hall.count();
-    for session in 0..count + 1 {
-        let text = hall.told(alloc, session)?;
-        if !text.is_empty() {
-            post.tell(rt, session, text.as_slice());
-        }
-    }
-    Ok(())
 }

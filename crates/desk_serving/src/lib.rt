@@ -8,5 +8,6 @@ mod day;
 mod group;
 mod opening;
 mod serving;
+mod telling;
 
 pub use serving::{HostedFault, serve_desks};

@@ -2,6 +2,7 @@
 ghost use Rattle.std.specs.Prelude.{◌≡◌, ◌+◌, [], length, All, IfErr, IfOk, OnOk};
 ghost use Rattle.airline_base.specs.Days.{IsCenturyDay};
 ghost use Rattle.seat_desk.specs.Loading.{IsGridOf};
+ghost use Rattle.desk_serving.specs.Groups.{IsHallOver};
 ghost use Rattle.desk_serving.specs.Silence.{IsSilentAt};
 
 use airline_base::{Day, Memory};
@@ -15,7 +16,7 @@ use std::alloc::Global;
 use std::sync::Wait;
 
 /// The same host for eight desks and a manager, whose lines are read on its day, at a journal of its epoch. Nobody has said hello.
-#[tactic(auto, using(crate::proofs::Silence::silent_manager, crate::proofs::Silence::silent_hall))]
+#[tactic(auto, using(crate::proofs::Silence::silent_manager, crate::proofs::Silence::silent_hall, crate::proofs::Groups::hall_over))]
 pub(crate) fn hall_over<'a, R: Wait, D: Tape>(
     rt: &R,
     alloc: Global,
@@ -24,11 +25,9 @@ pub(crate) fn hall_over<'a, R: Wait, D: Tape>(
 ) -> Result<Hall<'a, D>, D>
     requires grid { IsGridOf flights.now host.serving.grid }
     requires today { IsCenturyDay host.desk.today }
+    ensures over { IfOk result (IsHallOver flights.now host.entry.serving host.entry.desk.today host.entry.desk.epoch) }
     ensures serving { IfOk result (λ hall. hall.serving ≡ host.entry.serving) }
     ensures today { IfOk result (λ hall. hall.today ≡ host.entry.desk.today) }
-    ensures desks { IfOk result (λ hall. length hall.desks ≡ 8) }
-    ensures manager { IfOk result (λ hall. IsSilentAt host.entry.desk.epoch hall.manager) }
-    ensures silent { IfOk result (λ hall. All (IsSilentAt host.entry.desk.epoch) hall.desks) }
     ensures tape { IfErr result (λ tape. tape ≡ host.entry.serving.tape) }
 {
     let today = host.today();

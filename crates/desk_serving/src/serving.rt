@@ -14,11 +14,11 @@ ghost use Rattle.seat_restoring.specs.Dating.{IsDated, Stands};
 ghost use Rattle.seat_restoring.specs.Serving.{IsSealedEnd, NamesAll};
 ghost use Rattle.seat_serving.specs.declared.serving.ServeFault.TheVariants.{Device, Memory as NoMemory};
 ghost use Rattle.desk_answers.specs.Hosts.{IsReady};
-ghost use Rattle.desk_serving.specs.Daily.{CountsSeal, FailsBy, IsOfEpoch, IsOnDay, IsSealedOn, IsSealedStill, StaysNamed, hosted_by};
+ghost use Rattle.desk_serving.specs.Daily.{CountsSeal, FailsBy, IsOfEpoch, IsOnDay, IsSealedOn, IsSealedStill, IsUnsealed, StaysNamed, hosted_by};
 ghost use Rattle.desk_serving.specs.declared.day.GroupFault.TheVariants.{Serve};
 ghost use Rattle.desk_serving.specs.Going.{GoesOn};
+ghost use Rattle.desk_serving.specs.Groups.{IsServed, IsServedTo};
 ghost use Rattle.desk_serving.specs.declared.serving.HostedFault.TheVariants.{Dating, Day, Seal};
-ghost use Rattle.desk_talk.specs.Closing.{IsEndedUnsealed};
 ghost use Rattle.desk_talk.specs.Ending.{IsEnded, IsLeftOpen};
 
 use crate::counting::{answer_counted, begun};
@@ -51,7 +51,7 @@ pub enum HostedFault {
 /// Serves eight desks to the manager's end and ends the journal, while the open seal of the lines that the host began with stands in the file
 /// `seals`, on the host's day: a later day of the manager's is in it, on its disk, before a line is told under that day. Then the closed seal of all lines takes its place, of this basis, and with the day and the
 /// runs of the open one. Whatever a crash leaves of the two files, the seal has the journal's entry. What the host has come to stands on the board behind each group.
-#[tactic(auto, using(desk_talk::proofs::Closed::still_named, desk_talk::proofs::Closed::ended_named, desk_talk::proofs::Closed::ended_told, desk_talk::proofs::Closed::ended_unsealed, desk_talk::proofs::Closed::few_ended, crate::proofs::Daily::on_day, crate::proofs::Daily::stays_still, crate::proofs::Daily::names_on, crate::proofs::Daily::sealed_end, crate::proofs::Daily::of_epoch, crate::proofs::Daily::no_more_behind, crate::proofs::Daily::failed_behind, crate::proofs::Daily::dating_failed))]
+#[tactic(auto, using(desk_talk::proofs::Closed::still_named, desk_talk::proofs::Closed::ended_named, desk_talk::proofs::Closed::ended_told, desk_talk::proofs::Closed::few_ended, crate::proofs::Daily::on_day, crate::proofs::Daily::stays_still, crate::proofs::Daily::names_on, crate::proofs::Daily::sealed_end, crate::proofs::Daily::of_epoch, crate::proofs::Daily::no_more_behind, crate::proofs::Daily::failed_behind, crate::proofs::Daily::dating_failed, crate::proofs::Daily::no_closed_seal))]
 pub fn serve_desks<R: Wait, D: Tape, K: Replaced>(
     rt: &R,
     alloc: Global,
@@ -70,6 +70,7 @@ pub fn serve_desks<R: Wait, D: Tape, K: Replaced>(
     requires named { NamesAll host.serving.kept (K.may_leave seals.old) }
     requires stands { Stands begun host.serving.kept (K.may_leave seals.old) }
     requires dated { IsDated host.desk.today begun.era }
+    ensures served { IfOk result (λ r. IsServedTo flights.now host.entry.serving host.entry.desk.today host.entry.desk.epoch r.0.journal) }
     ensures ended { IfOk result (λ r. IsEnded host.entry.serving.grid host.entry.serving.cap r.0 (D.seen r.1)
         (D.may_leave r.1) (D.unsynced r.1)) }
     ensures front { IfOk result (λ r. Begins host.entry.serving.kept r.0.journal) }
@@ -85,8 +86,8 @@ pub fn serve_desks<R: Wait, D: Tape, K: Replaced>(
     ensures journal { IfErr result (λ f. f.0 ≡ Day Device
         → D.failure_count f.1 ≡ noted (D.failure_count host.entry.serving.tape)) }
     ensures unsealed { IfErr result (λ f. (e : ServeFault) → f.0 ≡ Day e → NamesAll host.entry.serving.kept (K.may_leave seals.new)) }
-    ensures over { IfErr result (λ f. (e : DeskFault) → f.0 ≡ Seal e → IsEndedUnsealed host.entry.serving.kept (D.seen f.1)
-        (D.may_leave f.1) (D.unsynced f.1)) }
+    ensures over { IfErr result (λ f. (e : DeskFault) → f.0 ≡ Seal e → IsUnsealed host.entry.serving.kept basis.now begun.runs e
+        (D.seen f.1) (D.may_leave f.1) (D.unsynced f.1) (K.may_leave seals.new)) }
     ensures device { IfErr result (λ f. f.0 ≡ Seal DeskFault.Device → HasFailed K.failure_count seals.old seals.new) }
     ensures dating { IfErr result (λ f. f.0 ≡ Dating DeskFault.Device → HasFailed K.failure_count seals.old seals.new) }
 {
@@ -123,7 +124,7 @@ fn hosted_fault<R: Wait>(rt: &R, post: &Post, fault: GroupFault) -> HostedFault
 }
 
 // Serves the desks to the manager's end, and ends the journal. Where the host fails the journal is left open.
-#[tactic(auto, using(crate::proofs::Goes::ready_as, crate::proofs::Goes::goes_from, crate::proofs::Goes::fails_from, crate::proofs::Ended::ended_so, crate::proofs::Ended::ended_front, crate::proofs::Ended::lost_none, crate::proofs::Ended::left_open, crate::proofs::Ended::told_at_once, crate::proofs::Ended::left_at_once, crate::proofs::Daily::day_as, crate::proofs::Daily::stays_same, crate::proofs::Daily::stays_on, crate::proofs::Daily::some_day, crate::proofs::Daily::by_inventory, crate::proofs::Daily::fails_by_from, crate::proofs::Daily::counts_none))]
+#[tactic(auto, using(crate::proofs::Goes::ready_as, crate::proofs::Goes::goes_from, crate::proofs::Goes::fails_from, crate::proofs::Ended::ended_so, crate::proofs::Ended::ended_front, crate::proofs::Ended::lost_none, crate::proofs::Ended::left_open, crate::proofs::Ended::told_at_once, crate::proofs::Ended::left_at_once, crate::proofs::Daily::day_as, crate::proofs::Daily::stays_same, crate::proofs::Daily::stays_on, crate::proofs::Daily::some_day, crate::proofs::Daily::by_inventory, crate::proofs::Daily::fails_by_from, crate::proofs::Daily::counts_none, crate::proofs::Groups::served_to))]
 fn serve_ended<R: Wait, D: Tape, K: Replaced>(
     rt: &R,
     alloc: Global,
@@ -138,6 +139,7 @@ fn serve_ended<R: Wait, D: Tape, K: Replaced>(
     requires today { IsCenturyDay host.desk.today }
     requires ready { IsReady D.seen D.may_leave D.unsynced host.serving }
     requires dated { IsOnDay host.desk.today entry.old (K.may_leave seals.old) }
+    ensures served { IfOk result (λ r. IsServedTo flights.now host.entry.serving host.entry.desk.today host.entry.desk.epoch r.0.journal) }
     ensures ended { IfOk result (λ r. IsEnded host.entry.serving.grid host.entry.serving.cap r.0 (D.seen r.1)
         (D.may_leave r.1) (D.unsynced r.1)) }
     ensures front { IfOk result (λ r. Begins host.entry.serving.kept r.0.journal) }
@@ -170,7 +172,7 @@ fn serve_ended<R: Wait, D: Tape, K: Replaced>(
 }
 
 // Answers what waits, one group behind the other, up to the manager's end.
-#[tactic(auto, using(crate::proofs::Goes::goes_same, crate::proofs::Goes::goes_further, crate::proofs::Goes::fails_behind, crate::proofs::Goes::fails_ready, crate::proofs::Daily::fails_by_behind, crate::proofs::Daily::sealed_same, crate::proofs::Daily::sealed_further, crate::proofs::Daily::stays_behind, crate::proofs::Daily::stays_same, crate::proofs::Daily::stays_on, crate::proofs::Daily::on_day_of, crate::proofs::Daily::by_inventory, crate::proofs::Daily::counts_none))]
+#[tactic(auto, using(crate::proofs::Goes::goes_same, crate::proofs::Goes::goes_further, crate::proofs::Goes::fails_behind, crate::proofs::Goes::fails_ready, crate::proofs::Daily::fails_by_behind, crate::proofs::Daily::sealed_same, crate::proofs::Daily::sealed_further, crate::proofs::Daily::stays_behind, crate::proofs::Daily::stays_same, crate::proofs::Daily::stays_on, crate::proofs::Daily::on_day_of, crate::proofs::Daily::by_inventory, crate::proofs::Daily::counts_none, crate::proofs::Groups::no_groups, crate::proofs::Groups::is_served))]
 fn serve<R: Wait, D: Tape, K: Replaced>(
     rt: &R,
     alloc: Global,
@@ -182,6 +184,7 @@ fn serve<R: Wait, D: Tape, K: Replaced>(
 ) -> Result<(), GroupFault>
     requires ready { IsReady D.seen D.may_leave D.unsynced hall.old.serving }
     requires dated { IsOnDay hall.old.today entry.old (K.may_leave seals.old) }
+    ensures served { OnOk result (IsServed hall.old hall.new) }
     ensures goes { OnOk result (GoesOn D.seen D.may_leave D.unsynced D.failure_count hall.old.serving hall.new.serving) }
     ensures fails { IfErr result (FailsBy D.seen D.may_leave D.unsynced D.failure_count hall.old.serving hall.new.serving) }
     ensures sealed { OnOk result (IsSealedOn K.named K.may_leave K.kept_may_leave K.failure_count hall.new.today entry.old entry.new seals.old seals.new) }

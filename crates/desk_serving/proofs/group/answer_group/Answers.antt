@@ -1,5 +1,7 @@
+use Rattle.std.proofs.Common.{arith}
 use Rattle.desk_serving.proofs.Daily.{by_inventory, counts_behind, fails_by_behind, sealed_further, stays_behind}
 use Rattle.desk_serving.proofs.Goes.{fails_behind, goes_further}
+use Rattle.desk_serving.proofs.Groups.{is_group, taken_more}
 use Rattle.desk_serving.proofs.group.answer_group.Goals as goal
 
 pub returns-in-Err-clause-fails : goal.returns-in-Err-clause-fails
@@ -31,4 +33,11 @@ loop-one-preserved g c = (
   sealed_further g.K.Replaced.named g.K.Replaced.may_leave g.K.Replaced.kept_may_leave g.K.Failures.failure_count c.loop-one.hall.today
       c.answer_one.new.hall.today c.args.entry.now c.loop-one.entry c.answer_one.new.entry c.args.seals.now c.loop-one.seals
       c.answer_one.new.seals c.loop-one.invariant.1 c.in-Ok.ensures.sealed,
+  taken_more c.args.hall.now c.loop-one.hall c.answer_one.new.hall c.args.said.now c.loop-one.one-index c.one-item.result c.loop-one.goes_on c.in-Ok.more
+      c.both-goes_on.result c.loop-one.invariant.2 (omega (arith, c.loop-one-test.true)) c.in-Ok.ensures.one c.one-item.is c.both-goes_on.ensures,
 )
+
+pub returns-in-Ok-answer_heard-clause-group : goal.returns-in-Ok-answer_heard-clause-group
+returns-in-Ok-answer_heard-clause-group g c =
+    is_group c.args.hall.now c.loop-one.hall c.answer_heard.new.hall c.args.said.now c.loop-one.one-index c.loop-one.goes_on c.loop-one.invariant.2
+    (omega (arith, c.loop-one-test.false)) c.in-Ok-answer_heard.ensures.answered

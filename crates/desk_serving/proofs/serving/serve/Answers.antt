@@ -1,5 +1,7 @@
+use Rattle.std.proofs.Common.{rules}
 use Rattle.desk_serving.proofs.Daily.{counts_behind, fails_by_behind, sealed_further, stays_behind}
 use Rattle.desk_serving.proofs.Goes.{goes_further}
+use Rattle.desk_serving.proofs.Groups.{group_more, is_served}
 use Rattle.desk_serving.proofs.serving.serve.Goals as goal
 
 pub returns-in-Err-clause-fails : goal.returns-in-Err-clause-fails
@@ -26,4 +28,9 @@ loop-preserved g c = (
       c.answer_counted.new.hall.today c.args.entry.now c.loop.entry c.answer_counted.new.entry c.args.seals.now c.loop.seals
       c.answer_counted.new.seals c.loop.invariant.1 c.in-Ok-true.ensures.sealed,
   c.in-Ok-true.ensures.counts,
+  group_more c.args.hall.now c.loop.hall c.answer_counted.new.hall _ _ c.loop.invariant.3 c.in-Ok-true.ensures.group (search rules),
 )
+
+pub returns-in-Ok-false-clause-served : goal.returns-in-Ok-false-clause-served
+returns-in-Ok-false-clause-served g c =
+    is_served c.args.hall.now c.loop.hall c.answer_counted.new.hall _ _ c.loop.invariant.3 c.in-Ok-false.ensures.group (search rules)

@@ -1,0 +1,224 @@
+-- The lines of a group, and what each desk is told of them.
+use Rattle.std.proofs.Common.{◌≡◌, ◌<◌, ◌≤◌, ℕ, suc, ◌+◌, ◌&&◌, Bool, true, false, List, [], ◌∷◌, ◌++◌, length, map, take, get_or, inl, inr, refl, sym, ap, ◌∙◌, subst, arith, length-append}
+use Rattle.std.proofs.Math.Bool.{and-true, and_assoc}
+use Rattle.std.proofs.lemmas.List.{map-append, take_all, take_more}
+use Rattle.std.specs.Prelude.{All, Result, Ok, Err, IfOk}
+use Rattle.desk_hall.specs.Halls.{Hallful, IsPassed, IsSameHall, IsUnheard, IsUnordered}
+use Rattle.desk_hall.specs.Telling.{IsTurn}
+use Rattle.desk_lines.specs.declared.desk.Desk.{Desk}
+use Rattle.desk_pipes.specs.declared.inbox.Said.{Said}
+use Rattle.desk_serving.specs.Going.{is_apart, IsHeardBehind}
+use Rattle.desk_serving.specs.Groups.{AreFrom, AreGroups, AreTaken, AreTexts, AreTold, GoesThrough, IsAnswered, IsBooked, IsForgotten, IsGroup, IsHallOver, IsOne, IsOneBy, IsServed, IsServedTo, IsTaken, IsTakenApart, IsTold}
+use Rattle.desk_serving.specs.Silence.{IsSilentAt}
+use Rattle.seat_desk.specs.FlightsDesk.{IsText}
+use Rattle.seat_journal.specs.declared.entry.Entry.{Entry}
+use Rattle.seat_replies.specs.RunDesk.{at_any}
+use Rattle.seat_serving.specs.Answering.{behind}
+use Rattle.seat_serving.specs.Served.{Served}
+use Rattle.ssim_flights.specs.declared.flight.Flight.{Flight as Flown}
+
+-- by what each of a list has, behind one more
+pub map_more : {X Y : Type 0} (f : X → Y) (before after : List X) (x : X) → after ≡ before ++ x ∷ [] → map f after ≡ map f before ++ f x ∷ []
+map_more f before after x is = ap (map f) is ∙ map-append f before (x ∷ [])
+
+true_and : (b : Bool) → b ≡ (true && b)
+true_and true = refl
+true_and false = refl
+
+module _ {D : Type 0} where
+  -- ---- answers
+
+  pub booked : (old new : Hallful D) → new.serving.journal ≡ behind old.serving.grid old.serving.journal old.asked → new.asked ≡ []
+      → IsSameHall old new → IsBooked old new
+  booked old new journal none same = record { journal_is = journal; none_asked = none; same = same }
+
+  pub told : (old new : Hallful D) (texts : List (List ℕ)) → AreTold old texts → new.turns ≡ []
+      → (new.serving ≡ old.serving) × (new.desks ≡ old.desks) × (new.manager ≡ old.manager) × (new.asked ≡ old.asked)
+      × (new.today ≡ old.today) × (new.flights ≡ old.flights) → IsTold old new
+  told old new texts are none same = record {
+    texts = texts;
+    told = are;
+    none_told = none;
+    serving_is = same.0;
+    asked_is = same.3;
+    desks_are = same.1;
+    manager_is = same.2;
+    today_is = same.4;
+    flights_are = same.5;
+  }
+
+  pub answered : (old mid new : Hallful D) → IsBooked old mid → IsTold mid new → IsAnswered old new
+  answered old mid new a b = record { mid = mid; booked = a; told = b }
+
+  -- ---- texts
+
+  pub no_texts : (hall : Hallful D) → AreTexts hall 0 []
+  no_texts hall = record { each = tt; count_is = refl }
+
+  abbrev pub IsFor : Hallful D → ℕ → List ℕ → Type 0
+  IsFor hall session text = IsText (at_any (IsTurn hall.flights hall.serving.grid hall.serving.journal session)) 0 hall.turns text
+
+  one_more : (hall : Hallful D) (session : ℕ) (texts : List (List ℕ)) (text : List ℕ) → AreFrom hall session texts
+      → IsFor hall (session + length texts) text → AreFrom hall session (texts ++ text ∷ [])
+  one_more hall session [] text are is =
+      let none : session + 0 ≡ session = omega arith in (subst (λ (n : ℕ). IsFor hall n text) none is, tt)
+  one_more hall session (t ∷ texts) text are is =
+      let same : session + suc (length texts) ≡ suc session + length texts = omega arith in
+      (are.0, one_more hall (suc session) texts text are.1 (subst (λ (n : ℕ). IsFor hall n text) same is))
+
+  pub text_more : (hall : Hallful D) (session : ℕ) (texts : List (List ℕ)) (text : List ℕ) → AreTexts hall session texts
+      → IsFor hall session text → AreTexts hall (session + 1) (texts ++ text ∷ [])
+  text_more hall session texts text are is =
+      let here : session ≡ 0 + length texts = omega (arith, are.count_is) in
+      record {
+        each = one_more hall 0 texts text are.each (subst (λ (n : ℕ). IsFor hall n text) here is);
+        count_is = length-append texts (text ∷ []) ∙ ap (λ (n : ℕ). n + 1) are.count_is;
+      }
+
+  -- the next of them has its own, and the hall is the same
+  pub text_told : (start hall new : Hallful D) (session : ℕ) (before after : List (List ℕ)) (text : List ℕ) → hall ≡ start → new ≡ hall
+      → AreTexts start session before → IsFor hall session text → after ≡ before ++ text ∷ []
+      → (new ≡ start) × AreTexts start (session + 1) after
+  text_told start hall new session before after text same still are is longer = (
+    still ∙ same,
+    subst (AreTexts start (session + 1)) (sym longer)
+        (text_more start session before text are (subst (λ (h : Hallful D). IsFor h session text) same is)),
+  )
+
+  pub all_texts : (hall : Hallful D) (count session : ℕ) (texts : List (List ℕ)) → AreTexts hall session texts → session ≡ count + 1
+      → count ≡ length hall.desks → AreTold hall texts
+  all_texts hall count session texts are is desks =
+      subst (λ (n : ℕ). AreTexts hall n texts) (is ∙ ap (λ (n : ℕ). n + 1) desks) are
+
+  -- ---- a line
+
+  pub nobodys : (old : Hallful D) (one : Said) → length old.desks < one.session → IsTaken old old one true
+  nobodys old one beyond = record { taken = inl (record { nobodys = beyond; same = refl; goes_on = refl }) }
+
+  pub is_heard : (old new : Hallful D) (one : Said) (goes : Bool)
+      → IsHeardBehind one.is_earlier old new one.session one.passed one.line.items goes → IsTaken old new one goes
+  is_heard old new one goes is = record { taken = inr (inl is) }
+
+  pub wanting : (old mid new : Hallful D) (one : Said) → IsForgotten old mid → IsAnswered mid new → IsTaken old new one true
+  wanting old mid new one a b = record { taken = inr (inr (record { mid = mid; forgotten = a; answered = b; goes_on = refl })) }
+
+  pub unordered : (old mid new : Hallful D) (session more : ℕ) → IsPassed old mid session more → IsUnordered mid new → IsForgotten old new
+  unordered old mid new session more a b = record {
+    asked_is = b.asked_is ∙ a.asked_is;
+    turns_are = b.turns_are ∙ a.turns_are;
+    serving_is = b.same_host.serving_is ∙ a.same_host.serving_is;
+    today_is = b.same_host.today_is ∙ a.same_host.today_is;
+    flights_are = b.same_host.flights_are ∙ a.same_host.flights_are;
+    count_is = ap length b.desks_are ∙ a.count_is;
+  }
+
+  pub unheard : (old mid new : Hallful D) (session more : ℕ) (line : List ℕ) → IsPassed old mid session more → IsUnheard mid new session line
+      → length new.desks ≡ length mid.desks → IsForgotten old new
+  unheard old mid new session more line a b count = record {
+    asked_is = b.asked_is ∙ a.asked_is;
+    turns_are = b.turns_are ∙ a.turns_are;
+    serving_is = b.same_host.serving_is ∙ a.same_host.serving_is;
+    today_is = b.same_host.today_is ∙ a.same_host.today_is;
+    flights_are = b.same_host.flights_are ∙ a.same_host.flights_are;
+    count_is = count ∙ a.count_is;
+  }
+
+  pub apart : (old mid new : Hallful D) (one : Said) (goes : Bool) → IsTaken old mid one goes → IsAnswered mid new → IsTakenApart old new one goes
+  apart old mid new one goes a b = record { mid = mid; taken = a; answered = b }
+
+  pub one_apart : {E : Type 0} (old first new : Hallful D) (one : Said) (r : Result Bool E) → is_apart one.line.items ≡ true
+      → IsAnswered old first → IfOk r (IsTakenApart first new one) → IfOk r (IsOne old new one)
+  one_apart old first new one (Ok goes) is a b =
+      subst (λ (x : Bool). IsOneBy x old new one goes) (sym is) (record { first = first; ahead = a; apart = b })
+  one_apart old first new one (Err e) is a b = tt
+
+  pub one_plain : {E : Type 0} (old new : Hallful D) (one : Said) (r : Result Bool E) → is_apart one.line.items ≡ false
+      → IfOk r (IsTaken old new one) → IfOk r (IsOne old new one)
+  one_plain old new one (Ok goes) is a = subst (λ (x : Bool). IsOneBy x old new one goes) (sym is) a
+  one_plain old new one (Err e) is a = tt
+
+  -- ---- groups
+
+  pub none_taken : (hall : Hallful D) → AreTaken hall [] hall true
+  none_taken hall = (refl, refl)
+
+  taken_on : (old mid new : Hallful D) (said : List Said) (one : Said) (goes more : Bool) → AreTaken old said mid goes → IsOne mid new one more
+      → AreTaken old (said ++ one ∷ []) new (goes && more)
+  taken_on old mid new [] one goes more a b = (
+    new,
+    more,
+    true,
+    subst (λ (h : Hallful D). IsOne h new one more) a.0 b,
+    (refl, refl),
+    ap (λ (x : Bool). x && more) a.1 ∙ sym (true_and more) ∙ sym (and-true more),
+  )
+  taken_on old mid new (x ∷ said) one goes more a b = (
+    a.0,
+    a.1,
+    a.2 && more,
+    a.3,
+    taken_on a.0 mid new said one a.2 more a.4 b,
+    ap (λ (x : Bool). x && more) a.5 ∙ and_assoc a.1 a.2 more,
+  )
+
+  pub taken_more : (old mid new : Hallful D) (said : List Said) (i : ℕ) (one : Said) (goes more both : Bool) → AreTaken old (take i said) mid goes
+      → i < length said → IsOne mid new one more → one ≡ get_or said i one → both ≡ (goes && more) → AreTaken old (take (i + 1) said) new both
+  taken_more old mid new said i one goes more both a in_range b here is =
+      let longer : take (i + 1) said ≡ take i said ++ one ∷ [] =
+      take_more said i one in_range ∙ ap (λ (x : Said). take i said ++ x ∷ []) (sym here) in
+      subst (λ (l : List Said). AreTaken old l new both) (sym longer)
+      (subst (λ (x : Bool). AreTaken old (take i said ++ one ∷ []) new x) (sym is) (taken_on old mid new (take i said) one goes more a b))
+
+  pub is_group : (old mid new : Hallful D) (said : List Said) (i : ℕ) (goes : Bool) → AreTaken old (take i said) mid goes → length said ≤ i
+      → IsAnswered mid new → IsGroup old said new goes
+  is_group old mid new said i goes a over b = record {
+    mid = mid;
+    taken = subst (λ (l : List Said). AreTaken old l mid goes) (take_all i said over) a;
+    answered = b;
+  }
+
+  -- ---- a service
+
+  pub hall_over : (flights : List Flown) (serving s : Served D) (today epoch day : ℕ) (desks : List Desk) (manager : Desk) (hall : Hallful D)
+      → (hall.flights ≡ flights) × (hall.serving ≡ s) × (hall.today ≡ day) × (hall.desks ≡ desks) × (hall.manager ≡ manager)
+      → (hall.asked ≡ []) × (hall.turns ≡ []) → s ≡ serving → day ≡ today → length desks ≡ 8 → IsSilentAt epoch hall.manager
+      → All (IsSilentAt epoch) hall.desks → IsHallOver flights serving today epoch hall
+  hall_over flights serving s today epoch day desks manager hall parts none same on eight quiet silent = record {
+    flights_are = parts.0;
+    serving_is = parts.1 ∙ same;
+    today_is = parts.2 ∙ on;
+    none_asked = none.0;
+    none_told = none.1;
+    eight = ap length parts.3 ∙ eight;
+    manager = quiet;
+    silent = silent;
+  }
+
+  pub no_groups : (hall : Hallful D) → GoesThrough hall hall
+  no_groups hall = record { groups = []; are = refl }
+
+  groups_on : (old mid new : Hallful D) (groups : List (List Said)) (said : List Said) → AreGroups old groups mid → IsGroup mid said new true
+      → AreGroups old (groups ++ said ∷ []) new
+  groups_on old mid new [] said a b = (new, subst (λ (h : Hallful D). IsGroup h said new true) a b, refl)
+  groups_on old mid new (x ∷ groups) said a b = (a.0, a.1, groups_on a.0 mid new groups said a.2 b)
+
+  pub group_more : (old mid new : Hallful D) (said : List Said) (goes : Bool) → GoesThrough old mid → IsGroup mid said new goes → goes ≡ true
+      → GoesThrough old new
+  group_more old mid new said goes a b is =
+      let on : IsGroup mid said new true = subst (IsGroup mid said new) is b in
+      record { groups = a.groups ++ said ∷ []; are = groups_on old mid new a.groups said a.are on }
+
+  pub is_served : (old mid new : Hallful D) (said : List Said) (goes : Bool) → GoesThrough old mid → IsGroup mid said new goes → goes ≡ false
+      → IsServed old new
+  is_served old mid new said goes a b is = record { mid = mid; goes = a; last = said; ends = subst (IsGroup mid said new) is b }
+
+  pub served_to : (flights : List Flown) (serving s : Served D) (today epoch : ℕ) (old new : Hallful D) (journal : List Entry)
+      → IsHallOver flights serving today epoch old → IsServed old new → s ≡ new.serving → journal ≡ s.journal
+      → IsServedTo flights serving today epoch journal
+  served_to flights serving s today epoch old new journal over served same is = record {
+    old = old;
+    new = new;
+    over = over;
+    served = served;
+    journal_is = is ∙ ap (λ (x : Served D). x.journal) same;
+  }

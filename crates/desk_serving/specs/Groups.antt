@@ -1,0 +1,152 @@
+-- The lines of a group, heard one by one, and what each desk is told of them.
+use Rattle.std.specs.Prelude.{◌≡◌, ◌⊎◌, ◌<◌, ◌+◌, ◌&&◌, ℕ, suc, Bool, true, false, List, [], ◌∷◌, length, All}
+use Rattle.desk_hall.specs.Halls.{Hallful, IsSameHall}
+use Rattle.desk_hall.specs.Telling.{IsTurn}
+use Rattle.desk_pipes.specs.declared.inbox.Said.{Said}
+use Rattle.desk_serving.specs.Going.{is_apart, IsHeardBehind}
+use Rattle.desk_serving.specs.Silence.{IsSilentAt}
+use Rattle.seat_desk.specs.FlightsDesk.{IsText}
+use Rattle.seat_journal.specs.declared.entry.Entry.{Entry}
+use Rattle.seat_replies.specs.RunDesk.{at_any}
+use Rattle.seat_serving.specs.Answering.{behind}
+use Rattle.seat_serving.specs.Served.{Served}
+use Rattle.ssim_flights.specs.declared.flight.Flight.{Flight as Flown}
+
+-- ---- answers
+
+-- what was heard is booked: the journal has its lines
+pub record IsBooked {D : Type 0} (old new : Hallful D) : Type 0 where
+  pub journal_is : new.serving.journal ≡ behind old.serving.grid old.serving.journal old.asked
+  pub none_asked : new.asked ≡ []
+  pub same : IsSameHall old new
+
+-- these are the texts of this session and of those behind it
+abbrev pub AreFrom : {D : Type 0} → Hallful D → ℕ → List (List ℕ) → Type 0
+AreFrom hall session [] = Unit {0}
+AreFrom hall session (text ∷ texts) =
+    IsText (at_any (IsTurn hall.flights hall.serving.grid hall.serving.journal session)) 0 hall.turns text × AreFrom hall (suc session) texts
+
+-- so many of them, the manager's first, have what is told of the lines that were heard
+pub record AreTexts {D : Type 0} (hall : Hallful D) (count : ℕ) (texts : List (List ℕ)) : Type 0 where
+  pub each : AreFrom hall 0 texts
+  pub count_is : length texts ≡ count
+
+-- the manager and each session's desk has its own
+abbrev pub AreTold : {D : Type 0} → Hallful D → List (List ℕ) → Type 0
+AreTold hall texts = AreTexts hall (length hall.desks + 1) texts
+
+-- it is told, and all else is the same
+pub record IsTold {D : Type 0} (old new : Hallful D) : Type 0 where
+  pub texts : List (List ℕ)
+  pub told : AreTold old texts
+  pub none_told : new.turns ≡ []
+  pub serving_is : new.serving ≡ old.serving
+  pub asked_is : new.asked ≡ old.asked
+  pub desks_are : new.desks ≡ old.desks
+  pub manager_is : new.manager ≡ old.manager
+  pub today_is : new.today ≡ old.today
+  pub flights_are : new.flights ≡ old.flights
+
+-- booked, and then told
+pub record IsAnswered {D : Type 0} (old new : Hallful D) : Type 0 where
+  pub mid : Hallful D
+  pub booked : IsBooked old mid
+  pub told : IsTold mid new
+
+-- ---- a line
+
+-- a line of a session that no desk has is passed over
+pub record IsNobodys {D : Type 0} (old new : Hallful D) (one : Said) (goes : Bool) : Type 0 where
+  pub nobodys : length old.desks < one.session
+  pub same : new ≡ old
+  pub goes_on : goes ≡ true
+
+-- memory was wanting for a line: nothing comes of it
+pub record IsForgotten {D : Type 0} (old new : Hallful D) : Type 0 where
+  pub asked_is : new.asked ≡ old.asked
+  pub turns_are : new.turns ≡ old.turns
+  pub serving_is : new.serving ≡ old.serving
+  pub today_is : new.today ≡ old.today
+  pub flights_are : new.flights ≡ old.flights
+  pub count_is : length new.desks ≡ length old.desks
+
+-- and all ahead of it is answered
+pub record IsWanting {D : Type 0} (old new : Hallful D) (goes : Bool) : Type 0 where
+  pub mid : Hallful D
+  pub forgotten : IsForgotten old mid
+  pub answered : IsAnswered mid new
+  pub goes_on : goes ≡ true
+
+-- a line is heard, and the host goes on or not
+pub record IsTaken {D : Type 0} (old new : Hallful D) (one : Said) (goes : Bool) : Type 0 where
+  pub taken : IsNobodys old new one goes
+      ⊎ (IsHeardBehind one.is_earlier old new one.session one.passed one.line.items goes ⊎ IsWanting old new goes)
+
+-- a word to the host that is no look is heard behind the answers to all ahead of it, and answered ahead of all behind it
+pub record IsTakenApart {D : Type 0} (old new : Hallful D) (one : Said) (goes : Bool) : Type 0 where
+  pub mid : Hallful D
+  pub taken : IsTaken old mid one goes
+  pub answered : IsAnswered mid new
+
+pub record IsBetween {D : Type 0} (old new : Hallful D) (one : Said) (goes : Bool) : Type 0 where
+  pub first : Hallful D
+  pub ahead : IsAnswered old first
+  pub apart : IsTakenApart first new one goes
+
+abbrev pub IsOneBy : {D : Type 0} → Bool → Hallful D → Hallful D → Said → Bool → Type 0
+IsOneBy true old new one goes = IsBetween old new one goes
+IsOneBy false old new one goes = IsTaken old new one goes
+
+abbrev pub IsOne : {D : Type 0} → Hallful D → Hallful D → Said → Bool → Type 0
+IsOne old new one goes = IsOneBy (is_apart one.line.items) old new one goes
+
+-- ---- groups
+
+-- one line behind the other; the host goes on where none of them ends it
+abbrev pub AreTaken : {D : Type 0} → Hallful D → List Said → Hallful D → Bool → Type 0
+AreTaken {D} old [] new goes = (new ≡ old) × (goes ≡ true)
+AreTaken {D} old (one ∷ said) new goes =
+    (mid : Hallful D) × (first more : Bool) × IsOne old mid one first × AreTaken mid said new more × (goes ≡ (first && more))
+
+-- each line of a group is taken once, in their order, and all of them are answered
+pub record IsGroup {D : Type 0} (old : Hallful D) (said : List Said) (new : Hallful D) (goes : Bool) : Type 0 where
+  pub mid : Hallful D
+  pub taken : AreTaken old said mid goes
+  pub answered : IsAnswered mid new
+
+-- one group behind the other, none of which ends the host
+abbrev pub AreGroups : {D : Type 0} → Hallful D → List (List Said) → Hallful D → Type 0
+AreGroups {D} old [] new = new ≡ old
+AreGroups {D} old (said ∷ groups) new = (mid : Hallful D) × IsGroup old said mid true × AreGroups mid groups new
+
+pub record GoesThrough {D : Type 0} (old new : Hallful D) : Type 0 where
+  pub groups : List (List Said)
+  pub are : AreGroups old groups new
+
+-- and the last ends it
+pub record IsServed {D : Type 0} (old new : Hallful D) : Type 0 where
+  pub mid : Hallful D
+  pub goes : GoesThrough old mid
+  pub last : List Said
+  pub ends : IsGroup mid last new false
+
+-- ---- a whole service
+
+-- eight desks and a manager over this inventory, of whom nobody has said hello
+pub record IsHallOver {D : Type 0} (flights : List Flown) (serving : Served D) (today epoch : ℕ) (hall : Hallful D) : Type 0 where
+  pub flights_are : hall.flights ≡ flights
+  pub serving_is : hall.serving ≡ serving
+  pub today_is : hall.today ≡ today
+  pub none_asked : hall.asked ≡ []
+  pub none_told : hall.turns ≡ []
+  pub eight : length hall.desks ≡ 8
+  pub manager : IsSilentAt epoch hall.manager
+  pub silent : All (IsSilentAt epoch) hall.desks
+
+-- the journal is that of the groups that were answered up to the manager's end
+pub record IsServedTo {D : Type 0} (flights : List Flown) (serving : Served D) (today epoch : ℕ) (journal : List Entry) : Type 0 where
+  pub old : Hallful D
+  pub new : Hallful D
+  pub over : IsHallOver flights serving today epoch old
+  pub served : IsServed old new
+  pub journal_is : journal ≡ new.serving.journal
