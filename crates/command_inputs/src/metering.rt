@@ -72,7 +72,12 @@ fn is_listened_to(told: &str) -> bool {
 
 /// What an input gives is counted from here on: the lines of a journal too. A text of the program's own isn't, nor one that is held. Where an input is typed the
 /// meter ends, which would stand in the midst of what is typed.
-pub fn meter_input(rt: &HostRuntime, meter: &Meter, input: &mut Input<'_>, lines: Lines) {
+pub fn meter_input<'a>(
+    rt: &HostRuntime,
+    meter: &'a Meter,
+    input: &mut Input<'a>,
+    lines: Lines,
+) {
     if input.name().is_empty() || input.held().is_some() {
         return;
     }
@@ -91,7 +96,11 @@ fn size_of(input: &Input<'_>) -> Option<u64> {
 }
 
 /// The set and the limits are counted.
-pub fn meter_inputs(rt: &HostRuntime, meter: &Meter, inputs: &mut Inputs<Input<'_>, Input<'_>>)
+pub fn meter_inputs<'a>(
+    rt: &HostRuntime,
+    meter: &'a Meter,
+    inputs: &mut Inputs<Input<'a>, Input<'a>>,
+)
     ensures first { inputs.new.first ≡ inputs.old.first }
     ensures days { inputs.new.days ≡ inputs.old.days }
 {
@@ -100,7 +109,12 @@ pub fn meter_inputs(rt: &HostRuntime, meter: &Meter, inputs: &mut Inputs<Input<'
 }
 
 /// Scripts or journals are counted.
-pub fn meter_each(rt: &HostRuntime, meter: &Meter, inputs: &mut Vec<Input<'_>>, lines: Lines)
+pub fn meter_each<'a>(
+    rt: &HostRuntime,
+    meter: &'a Meter,
+    inputs: &mut Vec<Input<'a>>,
+    lines: Lines,
+)
     ensures { length inputs.new.items ≡ length inputs.old.items }
 {
     for input in inputs.iter_mut() {

@@ -96,16 +96,6 @@ impl Meter {
         Meter { dial: Some(dial) }
     }
 
-    /// The same meter once more: what either counts, both have.
-    pub fn share(&self) -> Meter {
-        match &self.dial {
-            Some(dial) => Meter {
-                dial: Arc::try_clone(dial).ok(),
-            },
-            None => Meter::none(),
-        }
-    }
-
     /// What is counted.
     pub fn gauge(&self) -> Option<&Gauge> {
         match &self.dial {

@@ -2,6 +2,7 @@
 ghost use Rattle.std.specs.Prelude.{◌≡◌};
 ghost use Rattle.progress_meter.specs.Reading.{feeds, lines_of};
 
+use crate::gauge::Gauge;
 use crate::meter::Meter;
 
 /// Which lines of an input are counted.
@@ -15,33 +16,34 @@ pub enum Lines {
     Open,
 }
 
-/// The count of one input. Whoever reads the input owns it.
+/// The count of one input, on a gauge or on none.
 #[derive(Drop)]
-pub struct Tally {
-    meter: Meter,
+pub struct Tally<'m> {
+    gauge: Option<&'m Gauge>,
     lines: Lines,
     /// The lines that ended.
     ends: u64,
     is_over: bool,
 }
 
-impl Tally {
+impl<'m> Tally<'m> {
     /// Nothing is counted.
-    pub fn none() -> Tally {
-        Tally::of(Meter::none(), Lines::Uncounted)
+    pub fn none() -> Tally<'m> {
+        Tally::on(None, Lines::Uncounted)
     }
 
     /// An input is to be read, of so many bytes where that is known.
-    pub fn new(meter: &Meter, size: Option<u64>, lines: Lines) -> Tally {
-        if let Some(gauge) = meter.gauge() {
+    pub fn new(meter: &'m Meter, size: Option<u64>, lines: Lines) -> Tally<'m> {
+        let gauge = meter.gauge();
+        if let Some(gauge) = gauge {
             gauge.expect(size);
         }
-        Tally::of(meter.share(), lines)
+        Tally::on(gauge, lines)
     }
 
-    fn of(meter: Meter, lines: Lines) -> Tally {
+    fn on(gauge: Option<&'m Gauge>, lines: Lines) -> Tally<'m> {
         Tally {
-            meter,
+            gauge,
             lines,
             ends: 0,
             is_over: false,
@@ -50,7 +52,7 @@ impl Tally {
 
     /// A read gave these bytes. One that gave none is the end of its input, once.
     pub fn count(&mut self, bytes: &[u8]) {
-        let Some(gauge) = self.meter.gauge() else {
+        let Some(gauge) = self.gauge else {
             return;
         };
         if !bytes.is_empty() {

@@ -26,7 +26,7 @@ const MOST_PARTNER_BYTES: u64 = 65_536;
 pub fn avs<'a, R: Threads + Sync>(
     rt: &HostRuntime,
     threads: &R,
-    meter: &Meter,
+    meter: &'a Meter,
     asked: &AvsJob<'a>,
 ) -> Result<(), Refusal<'a>> {
     let over = &asked.horizon;
@@ -69,7 +69,7 @@ pub fn avs<'a, R: Threads + Sync>(
 fn avs_since<'a, R: Threads + Sync>(
     rt: &HostRuntime,
     threads: &R,
-    meter: &Meter,
+    meter: &'a Meter,
     asked: &AvsJob<'a>,
     days: (Day, u16),
     wanted: &Asked<'_>,

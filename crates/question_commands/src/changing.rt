@@ -18,7 +18,7 @@ use std::thread::Threads;
 pub fn changes<'a, R: Threads + Sync>(
     rt: &HostRuntime,
     threads: &R,
-    meter: &Meter,
+    meter: &'a Meter,
     asked: &ChangesJob<'a>,
 ) -> Result<(), Refusal<'a>> {
     let over = &asked.over;

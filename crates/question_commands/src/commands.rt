@@ -27,7 +27,7 @@ pub fn ladder<'a>(rt: &HostRuntime) -> Result<(), Refusal<'a>> {
     told(outcome, &[&input], &[&out])
 }
 
-pub fn check<'a>(rt: &HostRuntime, meter: &Meter, set: &'a str) -> Result<(), Refusal<'a>> {
+pub fn check<'a>(rt: &HostRuntime, meter: &'a Meter, set: &'a str) -> Result<(), Refusal<'a>> {
     let mut set = taken(rt, set)?;
     meter_input(rt, meter, &mut set, Lines::Uncounted);
     let mut out = metered_output(rt, meter);
@@ -47,7 +47,7 @@ pub fn season<'a>(rt: &HostRuntime, set: &'a str, limits: &str) -> Result<(), Re
 pub fn told_of<'a, R: Threads + Sync>(
     rt: &HostRuntime,
     threads: &R,
-    meter: &Meter,
+    meter: &'a Meter,
     asked: &ToldJob<'a>,
 ) -> Result<(), Refusal<'a>> {
     let over = &asked.over;
@@ -72,7 +72,7 @@ pub fn told_of<'a, R: Threads + Sync>(
 pub fn why<'a, R: Threads + Sync>(
     rt: &HostRuntime,
     threads: &R,
-    meter: &Meter,
+    meter: &'a Meter,
     over: &Horizon<'a>,
     line: &str,
     is_open: bool,
@@ -109,7 +109,7 @@ pub struct Looked {
 pub fn audit<'a, R: Threads + Sync>(
     rt: &HostRuntime,
     threads: &R,
-    meter: &Meter,
+    meter: &'a Meter,
     over: &Horizon<'a>,
     days: (Day, u16),
     journal: &'a str,
@@ -147,7 +147,7 @@ pub fn audit<'a, R: Threads + Sync>(
 fn audited_once<'a, R: Threads + Sync>(
     rt: &HostRuntime,
     threads: &R,
-    meter: &Meter,
+    meter: &'a Meter,
     over: &Horizon<'a>,
     days: &(Day, u16),
     journal: &'a str,
@@ -240,7 +240,7 @@ fn answer_of<'a>(
 pub fn seal<'a, R: Threads + Sync>(
     rt: &'a HostRuntime,
     threads: &R,
-    meter: &Meter,
+    meter: &'a Meter,
     over: &Horizon<'a>,
     journal: &'a str,
 ) -> Result<(), Refusal<'a>> {
@@ -283,7 +283,7 @@ pub fn seal<'a, R: Threads + Sync>(
 pub fn asked_of<'a, R: Threads + Sync, Q: Question>(
     rt: &HostRuntime,
     threads: &R,
-    meter: &Meter,
+    meter: &'a Meter,
     over: &Horizon<'a>,
     days: (Day, u16),
     question: &Q,
@@ -305,7 +305,7 @@ pub fn asked_of<'a, R: Threads + Sync, Q: Question>(
 pub fn page_of<'a, R: Threads + Sync, Q: Question>(
     rt: &HostRuntime,
     threads: &R,
-    meter: &Meter,
+    meter: &'a Meter,
     over: &Horizon<'a>,
     days: (Day, u16),
     question: &Q,
@@ -326,7 +326,7 @@ pub fn page_of<'a, R: Threads + Sync, Q: Question>(
 fn looked_at<'a, R: Threads + Sync, Q: Question>(
     rt: &HostRuntime,
     threads: &R,
-    meter: &Meter,
+    meter: &'a Meter,
     over: &Horizon<'a>,
     days: (Day, u16),
     question: &Q,
@@ -357,7 +357,7 @@ fn looked_at<'a, R: Threads + Sync, Q: Question>(
 fn answered<'a, R: Threads + Sync, Q: Question>(
     rt: &HostRuntime,
     threads: &R,
-    meter: &Meter,
+    meter: &'a Meter,
     over: &Horizon<'a>,
     days: (Day, u16),
     question: &Q,
@@ -391,7 +391,7 @@ struct Answer<'a> {
 fn answered_once<'a, R: Threads + Sync, Q: Question>(
     rt: &HostRuntime,
     threads: &R,
-    meter: &Meter,
+    meter: &'a Meter,
     over: &Horizon<'a>,
     days: &(Day, u16),
     question: &Q,

@@ -17,7 +17,7 @@ use std::thread::Threads;
 pub fn compare<'a, R: Threads + Sync>(
     rt: &HostRuntime,
     threads: &R,
-    meter: &Meter,
+    meter: &'a Meter,
     from: &Horizon<'a>,
     to: &Horizon<'a>,
     journal: Option<&'a str>,
@@ -48,7 +48,7 @@ struct Attempt<'a> {
 fn compared_once<'a, R: Threads + Sync>(
     rt: &HostRuntime,
     threads: &R,
-    meter: &Meter,
+    meter: &'a Meter,
     from: &Horizon<'a>,
     from_days: &(Day, u16),
     to: &Horizon<'a>,
@@ -90,7 +90,7 @@ fn compared_once<'a, R: Threads + Sync>(
 fn compared<'a, R: Threads + Sync>(
     rt: &HostRuntime,
     threads: &R,
-    meter: &Meter,
+    meter: &'a Meter,
     from: &mut Inputs<Input<'a>, Input<'a>>,
     to: &mut Inputs<Input<'a>, Input<'a>>,
     has_journal: bool,

@@ -38,7 +38,7 @@ use table_reports::desk_flight_table;
 /// The dated flights of a data set.
 pub fn flights<'a>(
     rt: &HostRuntime,
-    meter: &Meter,
+    meter: &'a Meter,
     set: &'a str,
     first: &str,
     days: &str,
@@ -74,7 +74,7 @@ fn flights_put(
 pub fn cover<'a, R: Threads + Sync>(
     rt: &HostRuntime,
     threads: &R,
-    meter: &Meter,
+    meter: &'a Meter,
     asked: &CoverJob<'a>,
 ) -> Result<(), Refusal<'a>> {
     let over = &asked.over;
@@ -94,7 +94,7 @@ pub fn cover<'a, R: Threads + Sync>(
 pub fn rooms<'a, R: Threads + Sync>(
     rt: &HostRuntime,
     threads: &R,
-    meter: &Meter,
+    meter: &'a Meter,
     asked: &RoomsJob<'a>,
 ) -> Result<(), Refusal<'a>> {
     let over = &asked.over;
@@ -137,7 +137,7 @@ pub fn rooms<'a, R: Threads + Sync>(
 pub fn loads<'a, R: Threads + Sync>(
     rt: &HostRuntime,
     threads: &R,
-    meter: &Meter,
+    meter: &'a Meter,
     asked: &LoadsJob<'a>,
 ) -> Result<(), Refusal<'a>> {
     let over = &asked.over;
@@ -175,7 +175,7 @@ pub fn loads<'a, R: Threads + Sync>(
 fn loaded<'a, R: Threads + Sync>(
     rt: &HostRuntime,
     threads: &R,
-    meter: &Meter,
+    meter: &'a Meter,
     over: &Horizon<'a>,
     days: (Day, u16),
     loads: LoadsOf,
@@ -201,7 +201,7 @@ fn loaded<'a, R: Threads + Sync>(
 fn summed<'a, R: Threads + Sync>(
     rt: &HostRuntime,
     threads: &R,
-    meter: &Meter,
+    meter: &'a Meter,
     over: &Horizon<'a>,
     days: (Day, u16),
     loads: LoadsOf,
@@ -251,7 +251,7 @@ fn summed<'a, R: Threads + Sync>(
 pub fn bookings<'a, R: Threads + Sync>(
     rt: &HostRuntime,
     threads: &R,
-    meter: &Meter,
+    meter: &'a Meter,
     asked: &BookingsJob<'a>,
 ) -> Result<(), Refusal<'a>> {
     let over = &asked.over;
@@ -296,7 +296,7 @@ pub fn bookings<'a, R: Threads + Sync>(
 pub fn waiting<'a, R: Threads + Sync>(
     rt: &HostRuntime,
     threads: &R,
-    meter: &Meter,
+    meter: &'a Meter,
     asked: &WaitingJob<'a>,
 ) -> Result<(), Refusal<'a>> {
     let over = &asked.over;
@@ -340,7 +340,7 @@ pub fn waiting<'a, R: Threads + Sync>(
 pub fn pickup<'a, R: Threads + Sync>(
     rt: &HostRuntime,
     threads: &R,
-    meter: &Meter,
+    meter: &'a Meter,
     asked: &PickupJob<'a>,
 ) -> Result<(), Refusal<'a>> {
     let over = &asked.over;
@@ -377,7 +377,7 @@ pub fn pickup<'a, R: Threads + Sync>(
 fn pickup_since<'a, R: Threads + Sync>(
     rt: &HostRuntime,
     threads: &R,
-    meter: &Meter,
+    meter: &'a Meter,
     asked: &PickupJob<'a>,
     days: (Day, u16),
     question: &PickupOf<'_>,
@@ -426,7 +426,7 @@ fn pickup_by(by: Option<&str>) -> Result<PickupBy, WordFault> {
 pub fn history<'a, R: Threads + Sync>(
     rt: &HostRuntime,
     threads: &R,
-    meter: &Meter,
+    meter: &'a Meter,
     asked: &HistoryJob<'a>,
 ) -> Result<(), Refusal<'a>> {
     let over = &asked.over;
@@ -472,7 +472,7 @@ fn locators_of<'a>(alloc: Global, words: &[&str]) -> Result<Vec<Locator>, Refusa
 fn tabled<'a, R: Threads + Sync, T: Table>(
     rt: &HostRuntime,
     threads: &R,
-    meter: &Meter,
+    meter: &'a Meter,
     over: &Horizon<'a>,
     days: (Day, u16),
     table: &T,

@@ -19,7 +19,7 @@ use std::thread::Threads;
 pub fn reconcile<'a, R: Threads + Sync>(
     rt: &HostRuntime,
     threads: &R,
-    meter: &Meter,
+    meter: &'a Meter,
     asked: &ReconcileJob<'a>,
 ) -> Result<usize, Refusal<'a>> {
     let over = &asked.horizon;

@@ -29,7 +29,7 @@ use std::thread::Threads;
 pub fn audit<'a, R: Threads + Sync>(
     rt: &HostRuntime,
     threads: &R,
-    meter: &Meter,
+    meter: &'a Meter,
     asked: &AuditJob<'a>,
 ) -> Result<(), Refusal<'a>> {
     let over = &asked.over;
@@ -92,7 +92,7 @@ struct Attempt<'a> {
 fn audit_against<'a, R: Threads + Sync>(
     rt: &HostRuntime,
     threads: &R,
-    meter: &Meter,
+    meter: &'a Meter,
     over: &Horizon<'a>,
     days: (Day, u16),
     replayed: &Replayed<'a, '_>,
@@ -118,7 +118,7 @@ fn audit_against<'a, R: Threads + Sync>(
 fn audited_once<'a, R: Threads + Sync>(
     rt: &HostRuntime,
     threads: &R,
-    meter: &Meter,
+    meter: &'a Meter,
     over: &Horizon<'a>,
     days: &(Day, u16),
     replayed: &Replayed<'a, '_>,
@@ -176,7 +176,7 @@ struct Files<'a> {
 /// Without a script there are none where a run without one had changes alone.
 fn files_opened<'a>(
     rt: &HostRuntime,
-    meter: &Meter,
+    meter: &'a Meter,
     over: &Horizon<'a>,
     days: &(Day, u16),
     replayed: &Replayed<'a, '_>,
@@ -208,7 +208,7 @@ fn files_opened<'a>(
 /// Sorts the scripts out where a list of their wrong lines is named, which must be that.
 fn sort_out_beside<'a>(
     rt: &HostRuntime,
-    meter: &Meter,
+    meter: &'a Meter,
     refused: Option<&'a str>,
     scripts: &mut Vec<Input<'a>>,
 ) -> Result<(), Refusal<'a>>
@@ -279,7 +279,7 @@ fn wanted_of(asked: &RepliesJob<'_>) -> Result<Wanted, WordFault> {
 pub fn replies<'a, R: Threads + Sync>(
     rt: &HostRuntime,
     threads: &R,
-    meter: &Meter,
+    meter: &'a Meter,
     asked: &RepliesJob<'a>,
 ) -> Result<(), Refusal<'a>> {
     let over = &asked.over;
@@ -314,7 +314,7 @@ pub fn replies<'a, R: Threads + Sync>(
 fn replied_once<'a, R: Threads + Sync>(
     rt: &HostRuntime,
     threads: &R,
-    meter: &Meter,
+    meter: &'a Meter,
     over: &Horizon<'a>,
     days: &(Day, u16),
     replayed: &Replayed<'a, '_>,

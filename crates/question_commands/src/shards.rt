@@ -16,7 +16,7 @@ use std::thread::Threads;
 pub fn audit_shards<'a, R: Threads + Sync>(
     rt: &HostRuntime,
     threads: &R,
-    meter: &Meter,
+    meter: &'a Meter,
     asked: &AuditJob<'a>,
 ) -> Result<(), Refusal<'a>> {
     let over = &asked.over;
@@ -40,7 +40,7 @@ pub fn audit_shards<'a, R: Threads + Sync>(
 fn shards_audited<'a, R: Threads + Sync>(
     rt: &HostRuntime,
     threads: &R,
-    meter: &Meter,
+    meter: &'a Meter,
     inputs: &mut Inputs<Input<'a>, Input<'a>>,
     journals: &mut Vec<Input<'a>>,
     out: &mut Output<'a>,

@@ -34,7 +34,7 @@ use std::thread::Threads;
 pub fn run<'a, T: Threads + Wait + Sync>(
     rt: &'a HostRuntime,
     threads: &T,
-    meter: &Meter,
+    meter: &'a Meter,
     asking: &RunJob<'a>,
 ) -> Result<(), Refusal<'a>> {
     let over = &asking.over;
@@ -297,7 +297,7 @@ fn sell_beside<'a, T: Threads + Wait + Sync>(
 #[derive(Clone, Copy)]
 struct Sale<'a, 'b> {
     asking: &'b RunJob<'a>,
-    meter: &'b Meter,
+    meter: &'a Meter,
     given: Option<u32>,
     today: Day,
     /// Whether what OUT and its seal have is to be kept.
@@ -473,7 +473,7 @@ fn begun<'a, T: Threads + Wait + Sync>(
 }
 
 /// What both ways read is counted.
-fn meter_texts(rt: &HostRuntime, meter: &Meter, texts: &mut Texts<'_>)
+fn meter_texts<'a>(rt: &HostRuntime, meter: &'a Meter, texts: &mut Texts<'a>)
     ensures first { texts.new.inputs.first ≡ texts.old.inputs.first }
     ensures days { texts.new.inputs.days ≡ texts.old.inputs.days }
     ensures scripts { length texts.new.scripts.items ≡ length texts.old.scripts.items }

@@ -111,7 +111,7 @@ fn tell_of_season(rt: &HostRuntime, words: &[&str], error: &clap::Error) {
 fn carry_out<'a, T: Threads + Wait + Clock + Sync + Copy + Send + 'static>(
     rt: &'a HostRuntime,
     threads: &T,
-    meter: &Meter,
+    meter: &'a Meter,
     asked: &CommandLine<'a>,
 ) -> Result<ExitCode, Undone<'a>> {
     match &asked.job {
@@ -191,7 +191,7 @@ fn seasoned<'a>(rt: &HostRuntime, set: &'a str, limits: &str) -> Result<ExitCode
 fn reconciled<'a, T: Threads + Sync>(
     rt: &HostRuntime,
     threads: &T,
-    meter: &Meter,
+    meter: &'a Meter,
     asked: &ReconcileJob<'a>,
 ) -> Result<ExitCode, Undone<'a>> {
     if asked.all && asked.session.is_some() {
@@ -223,7 +223,7 @@ fn served<'a, T: Threads + Wait + Clock + Copy + Send + 'static>(
 fn audited<'a, T: Threads + Sync>(
     rt: &HostRuntime,
     threads: &T,
-    meter: &Meter,
+    meter: &'a Meter,
     asked: &AuditJob<'a>,
 ) -> Result<(), Refusal<'a>> {
     if asked.are_shards {

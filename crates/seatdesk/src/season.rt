@@ -74,7 +74,7 @@ fn words_over(
 pub fn compared<'a, T: Threads + Sync>(
     rt: &HostRuntime,
     threads: &T,
-    meter: &Meter,
+    meter: &'a Meter,
     asked: &CompareJob<'a>,
     is_verbose: bool,
 ) -> Result<ExitCode, Undone<'a>> {
@@ -108,7 +108,7 @@ pub fn compared<'a, T: Threads + Sync>(
 fn compared_over<'a, T: Threads + Sync>(
     rt: &HostRuntime,
     threads: &T,
-    meter: &Meter,
+    meter: &'a Meter,
     from: &'a [&'a str],
     to: &'a [&'a str],
     journal: Option<&'a str>,
