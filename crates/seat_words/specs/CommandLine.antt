@@ -1,10 +1,12 @@
 -- The command line of seatdesk, as clap reads it: its commands, each with the values that it asks for.
-use Rattle.std.specs.Prelude.{◌≡◌, ℕ, Some, [], codes, true, false}
+use Rattle.std.specs.Prelude.{◌≡◌, ℕ, List, Some, [], ◌∷◌, codes, true, false}
 use Rattle.clap.specs.Words.{App, Rule, Text, app_of, new_app, new_rule, rule_of, with_rule, with_subcommand}
 use Rattle.clap.specs.declared.builder.action.ArgAction.TheVariants.{Append, SetTrue}
 use Rattle.clap.specs.declared.builder.arg.Arg.{Arg}
 use Rattle.clap.specs.declared.builder.command.Command.{Command}
 use Rattle.clap.specs.declared.builder.command.Command.TheViews.{out-Command as fields_of}
+use Rattle.seat_words.specs.declared.commands.arguments.Argument.{Argument}
+use Rattle.seat_words.specs.declared.commands.arguments.Argument.TheVariants.{Flag, Optional, OptionalWord, Rest, Several, Wanted, WantedWord, Words}
 
 -- an option with a value, which must be there
 abbrev pub required_option : Text → Rule
@@ -41,6 +43,22 @@ optional_values id = record (optional_value id) { action = Some Append }
 -- the same, where what stands behind the first of them is one of them too, whatever it begins with
 abbrev pub trailing_values : Text → Rule
 trailing_values id = record (optional_values id) { trailing_var_arg = true }
+
+-- what is read of an argument
+abbrev pub rule_as : Argument → Rule
+rule_as (Wanted id value help) = required_option id.now
+rule_as (Optional id value help) = optional id.now
+rule_as (Several id value help) = optional_several id.now
+rule_as (Flag id help) = flag id.now
+rule_as (WantedWord id value help) = required_value id.now
+rule_as (OptionalWord id value help) = optional_value id.now
+rule_as (Words id value help) = optional_values id.now
+rule_as (Rest id value help) = trailing_values id.now
+
+-- with these arguments, one after the other
+abbrev pub with_arguments : App → List Argument → App
+with_arguments a [] = a
+with_arguments a (x ∷ xs) = with_arguments (with_rule a (rule_as x)) xs
 
 -- with the switches of each command, -v and --quiet, which stand ahead of it or behind it
 abbrev pub with_switches : App → App

@@ -1,7 +1,7 @@
 //! What a command is made of: its name, its help, its options and its other words.
 ghost use Rattle.std.specs.Prelude.{IfOk, IsOkAnd};
-ghost use Rattle.clap.specs.Words.{AddsArg, new_app};
-ghost use Rattle.seat_words.specs.CommandLine.{IsBuiltAs, IsReadAlike, IsReadAs, flag, horizon_app, lettered_flag, optional, optional_several, optional_value, optional_values, trailing_values, required_option, required_value};
+ghost use Rattle.clap.specs.Words.{AddsArg, App, new_app};
+ghost use Rattle.seat_words.specs.CommandLine.{IsBuiltAs, IsReadAlike, IsReadAs, flag, horizon_app, lettered_flag, optional, optional_several, optional_value, optional_values, trailing_values, required_option, required_value, rule_as, with_arguments};
 
 use clap::{Arg, ArgAction, Command};
 use std::alloc::{AllocError, Global};
@@ -35,6 +35,34 @@ const LIMITS_HELP: &str = "The booking limits of the legs, in seats from 0 to 99
 const SEASON_HELP: &str =
     "A season file in place of --set, --limits, --first and --days; it may name the journal and the desks too";
 
+/// One argument of a command: what it is called, what its value is called where it has one, and its help.
+pub(super) enum Argument {
+    /// An option whose value must be there.
+    Wanted(&'static str, &'static str, &'static str),
+    /// An option whose value may be left out.
+    Optional(&'static str, &'static str, &'static str),
+    /// An option whose value may be left out, or given more than once.
+    Several(&'static str, &'static str, &'static str),
+    /// An option without a value.
+    Flag(&'static str, &'static str),
+    /// A value by its place, which must be there.
+    WantedWord(&'static str, &'static str, &'static str),
+    /// A value by its place, which may be left out.
+    OptionalWord(&'static str, &'static str, &'static str),
+    /// A value by its place, of which there may be none or more.
+    Words(&'static str, &'static str, &'static str),
+    /// The same, where all behind its first word are words of it.
+    Rest(&'static str, &'static str, &'static str),
+}
+
+const HORIZON: &[Argument] = &[
+    Argument::Wanted("set", "SET", SET_HELP),
+    Argument::Wanted("limits", "LIMITS", LIMITS_HELP),
+    Argument::Wanted("first", "DATE", FIRST_HELP),
+    Argument::Wanted("days", "N", DAYS_HELP),
+    Argument::Optional("season", "SEASON", SEASON_HELP),
+];
+
 // A command over the limits of the dated flights.
 pub(super) fn horizon_command<'a>(
     alloc: Global,
@@ -45,17 +73,37 @@ pub(super) fn horizon_command<'a>(
     ensures { IfOk result (IsBuiltAs (horizon_app name.entry.now)) }
 {
     let command = named_command(alloc, name, about, more);
-    let command = with_argument(Ok(command), wanted_option(alloc, "set", "SET", SET_HELP));
-    let command = with_argument(
-        command,
-        wanted_option(alloc, "limits", "LIMITS", LIMITS_HELP),
-    );
-    let command = with_argument(command, wanted_option(alloc, "first", "DATE", FIRST_HELP));
-    let command = with_argument(command, wanted_option(alloc, "days", "N", DAYS_HELP));
-    with_argument(
-        command,
-        optional_option(alloc, "season", "SEASON", SEASON_HELP),
-    )
+    with_arguments(alloc, Ok(command), HORIZON)
+}
+
+// The command with these arguments, one after the other, if it could be made.
+pub(super) fn with_arguments<'a>(
+    alloc: Global,
+    command: Result<Command<'a>, AllocError>,
+    arguments: &[Argument],
+) -> Result<Command<'a>, AllocError>
+    ensures { (a : App) → IfOk command.entry (IsBuiltAs a) → IfOk result (IsBuiltAs (with_arguments a arguments.now)) }
+{
+    let [argument, more @ ..] = arguments else {
+        return command;
+    };
+    let command = with_argument(command, argument_of(alloc, argument));
+    with_arguments(alloc, command, more)
+}
+
+fn argument_of<'a>(alloc: Global, argument: &Argument) -> Arg<'a>
+    ensures { IsReadAs (rule_as argument.now) result }
+{
+    match *argument {
+        Argument::Wanted(id, value, help) => wanted_option(alloc, id, value, help),
+        Argument::Optional(id, value, help) => optional_option(alloc, id, value, help),
+        Argument::Several(id, value, help) => several_option(alloc, id, value, help),
+        Argument::Flag(id, help) => flag(alloc, id, help),
+        Argument::WantedWord(id, value, help) => wanted_value(alloc, id, value, help),
+        Argument::OptionalWord(id, value, help) => optional_value(alloc, id, value, help),
+        Argument::Words(id, value, help) => optional_values(alloc, id, value, help),
+        Argument::Rest(id, value, help) => trailing_values(alloc, id, value, help),
+    }
 }
 
 // A command with what its help says before and behind its arguments.
@@ -102,7 +150,7 @@ pub(super) fn with_argument<'a>(
 }
 
 // A value by its place, which must be there.
-pub(super) fn wanted_value<'a>(alloc: Global, id: &'a str, value: &'a str, help: &'a str) -> Arg<'a>
+fn wanted_value<'a>(alloc: Global, id: &'a str, value: &'a str, help: &'a str) -> Arg<'a>
     ensures { IsReadAs (required_value id.entry.now) result }
 {
     Arg::new(alloc, id)
@@ -112,72 +160,42 @@ pub(super) fn wanted_value<'a>(alloc: Global, id: &'a str, value: &'a str, help:
 }
 
 // An option whose value must be there.
-pub(super) fn wanted_option<'a>(
-    alloc: Global,
-    id: &'a str,
-    value: &'a str,
-    help: &'a str,
-) -> Arg<'a>
+fn wanted_option<'a>(alloc: Global, id: &'a str, value: &'a str, help: &'a str) -> Arg<'a>
     ensures { IsReadAs (required_option id.entry.now) result }
 {
     wanted_value(alloc, id, value, help).long(id)
 }
 
 // An option whose value may be left out.
-pub(super) fn optional_option<'a>(
-    alloc: Global,
-    id: &'a str,
-    value: &'a str,
-    help: &'a str,
-) -> Arg<'a>
+fn optional_option<'a>(alloc: Global, id: &'a str, value: &'a str, help: &'a str) -> Arg<'a>
     ensures { IsReadAs (optional id.entry.now) result }
 {
     Arg::new(alloc, id).value_name(value).help(help).long(id)
 }
 
 // An option whose value may be left out, or given more than once.
-pub(super) fn several_option<'a>(
-    alloc: Global,
-    id: &'a str,
-    value: &'a str,
-    help: &'a str,
-) -> Arg<'a>
+fn several_option<'a>(alloc: Global, id: &'a str, value: &'a str, help: &'a str) -> Arg<'a>
     ensures { IsReadAs (optional_several id.entry.now) result }
 {
     optional_option(alloc, id, value, help).action(ArgAction::Append)
 }
 
 // A value by its place, which may be left out.
-pub(super) fn optional_value<'a>(
-    alloc: Global,
-    id: &'a str,
-    value: &'a str,
-    help: &'a str,
-) -> Arg<'a>
+fn optional_value<'a>(alloc: Global, id: &'a str, value: &'a str, help: &'a str) -> Arg<'a>
     ensures { IsReadAs (optional_value id.entry.now) result }
 {
     Arg::new(alloc, id).value_name(value).help(help)
 }
 
 // A value by its place, of which there may be none or more.
-pub(super) fn optional_values<'a>(
-    alloc: Global,
-    id: &'a str,
-    value: &'a str,
-    help: &'a str,
-) -> Arg<'a>
+fn optional_values<'a>(alloc: Global, id: &'a str, value: &'a str, help: &'a str) -> Arg<'a>
     ensures { IsReadAs (optional_values id.entry.now) result }
 {
     optional_value(alloc, id, value, help).action(ArgAction::Append)
 }
 
 // The same, where all behind its first word are words of it, as those of a note that has an option in it.
-pub(super) fn trailing_values<'a>(
-    alloc: Global,
-    id: &'a str,
-    value: &'a str,
-    help: &'a str,
-) -> Arg<'a>
+fn trailing_values<'a>(alloc: Global, id: &'a str, value: &'a str, help: &'a str) -> Arg<'a>
     ensures { IsReadAs (trailing_values id.entry.now) result }
 {
     optional_values(alloc, id, value, help).trailing_var_arg(true)

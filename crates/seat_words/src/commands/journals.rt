@@ -2,9 +2,10 @@
 ghost use Rattle.std.specs.Prelude.{IfOk};
 ghost use Rattle.seat_words.specs.CommandLine.{IsBuiltAs, audit_app, replies_app, told_app, why_app};
 
+use crate::commands::arguments::Argument::{Flag, Optional, Wanted, WantedWord, Words};
 use crate::commands::arguments::{
-    CSV_HELP, JOURNAL_HELP, JSON_HELP, OPEN_HELP, SCRIPTS_HELP, TODAY_HELP, flag, horizon_command,
-    optional_option, optional_values, wanted_option, wanted_value, with_argument,
+    Argument, CSV_HELP, JOURNAL_HELP, JSON_HELP, OPEN_HELP, SCRIPTS_HELP, TODAY_HELP,
+    horizon_command, with_arguments,
 };
 use clap::Command;
 use std::alloc::{AllocError, Global};
@@ -42,6 +43,18 @@ const SHARDS_HELP: &str =
 
 const LINE_HELP: &str = "The line of the journal, counted from 1";
 
+const AUDIT: &[Argument] = &[
+    Optional("after", "JOURNAL", OLDER_HELP),
+    Optional("behind", "N", BEHIND_HELP),
+    Optional("today", "DATE", TODAY_HELP),
+    Optional("refused", "FILE", REFUSED_HELP),
+    Flag("sealed", SEALED_HELP),
+    Flag("open", OPEN_AUDIT_HELP),
+    Flag("shards", SHARDS_HELP),
+    WantedWord("journal", "JOURNAL", JOURNAL_HELP),
+    Words("scripts", "SCRIPT", ASKED_HELP),
+];
+
 pub(super) fn audit_command<'a>(alloc: Global) -> Result<Command<'a>, AllocError>
     ensures { IfOk result (IsBuiltAs audit_app) }
 {
@@ -51,28 +64,21 @@ pub(super) fn audit_command<'a>(alloc: Global) -> Result<Command<'a>, AllocError
         "Replays a journal against its schedule and limits, and writes one summary line",
         "A journal belongs to its set, limits, first day and days. With the scripts audit sees whether they are those: over\nanother first day its lines are not what the scripts ask (P8). Where JOURNAL.seal stands beside JOURNAL, it is compared.\n\nExample: seatdesk audit --set examples/summer.ssim --limits examples/limits.txt --first 2024-07-01 --days 31 examples/journal.txt\n\nAgainst its scripts: seatdesk audit --set examples/summer.ssim --limits examples/limits.txt --first 2024-07-01 --days 31 --today 2024-06-20 examples/journal.txt examples/london.txt examples/lisbon.txt\n\nThe day after: seatdesk audit --set examples/summer.ssim --limits examples/limits.txt --first 2024-07-01 --days 31 --after examples/journal.txt --today 2024-06-21 journal-2.txt examples/london-2.txt\n\nOf several hosts: seatdesk audit --set examples/summer.ssim --limits examples/limits.txt --first 2024-07-01 --days 31 --shards examples/journal.txt journal-3.txt",
     );
-    let audit = with_argument(
-        audit,
-        optional_option(alloc, "after", "JOURNAL", OLDER_HELP),
-    );
-    let audit = with_argument(audit, optional_option(alloc, "behind", "N", BEHIND_HELP));
-    let audit = with_argument(audit, optional_option(alloc, "today", "DATE", TODAY_HELP));
-    let audit = with_argument(
-        audit,
-        optional_option(alloc, "refused", "FILE", REFUSED_HELP),
-    );
-    let audit = with_argument(audit, flag(alloc, "sealed", SEALED_HELP));
-    let audit = with_argument(audit, flag(alloc, "open", OPEN_AUDIT_HELP));
-    let audit = with_argument(audit, flag(alloc, "shards", SHARDS_HELP));
-    let audit = with_argument(
-        audit,
-        wanted_value(alloc, "journal", "JOURNAL", JOURNAL_HELP),
-    );
-    with_argument(
-        audit,
-        optional_values(alloc, "scripts", "SCRIPT", ASKED_HELP),
-    )
+    with_arguments(alloc, audit, AUDIT)
 }
+
+const REPLIES: &[Argument] = &[
+    Optional("after", "JOURNAL", REPLIED_HELP),
+    Optional("behind", "N", BEHIND_HELP),
+    Wanted("today", "DATE", TODAY_HELP),
+    Optional("refused", "FILE", REFUSED_HELP),
+    Optional("session", "N", SESSION_HELP),
+    Optional("from", "LINE", FROM_HELP),
+    Flag("csv", CSV_HELP),
+    Flag("json", JSON_HELP),
+    WantedWord("journal", "JOURNAL", JOURNAL_HELP),
+    Words("scripts", "SCRIPT", SCRIPTS_HELP),
+];
 
 pub(super) fn replies_command<'a>(alloc: Global) -> Result<Command<'a>, AllocError>
     ensures { IfOk result (IsBuiltAs replies_app) }
@@ -83,32 +89,15 @@ pub(super) fn replies_command<'a>(alloc: Global) -> Result<Command<'a>, AllocErr
         "Writes the replies of a run once more, from its journal and its scripts",
         "It writes what run wrote to standard output, and refuses what audit refuses with the same words.\n\nExample: seatdesk replies --set examples/summer.ssim --limits examples/limits.txt --first 2024-07-01 --days 31 --today 2024-06-20 examples/journal.txt examples/london.txt examples/lisbon.txt",
     );
-    let replies = with_argument(
-        replies,
-        optional_option(alloc, "after", "JOURNAL", REPLIED_HELP),
-    );
-    let replies = with_argument(replies, optional_option(alloc, "behind", "N", BEHIND_HELP));
-    let replies = with_argument(replies, wanted_option(alloc, "today", "DATE", TODAY_HELP));
-    let replies = with_argument(
-        replies,
-        optional_option(alloc, "refused", "FILE", REFUSED_HELP),
-    );
-    let replies = with_argument(
-        replies,
-        optional_option(alloc, "session", "N", SESSION_HELP),
-    );
-    let replies = with_argument(replies, optional_option(alloc, "from", "LINE", FROM_HELP));
-    let replies = with_argument(replies, flag(alloc, "csv", CSV_HELP));
-    let replies = with_argument(replies, flag(alloc, "json", JSON_HELP));
-    let replies = with_argument(
-        replies,
-        wanted_value(alloc, "journal", "JOURNAL", JOURNAL_HELP),
-    );
-    with_argument(
-        replies,
-        optional_values(alloc, "scripts", "SCRIPT", SCRIPTS_HELP),
-    )
+    with_arguments(alloc, replies, REPLIES)
 }
+
+const TOLD: &[Argument] = &[
+    Wanted("desk", "N", DESK_HELP),
+    Optional("from", "LINE", TOLD_HELP),
+    Flag("open", OPEN_HELP),
+    WantedWord("journal", "JOURNAL", JOURNAL_HELP),
+];
 
 pub(super) fn told_command<'a>(alloc: Global) -> Result<Command<'a>, AllocError>
     ensures { IfOk result (IsBuiltAs told_app) }
@@ -119,14 +108,14 @@ pub(super) fn told_command<'a>(alloc: Global) -> Result<Command<'a>, AllocError>
         "Writes what a desk is told of a journal: the replies to its lines, and the advices to its bookings",
         "A desk is told of its own alone, each under its own session and the number of the line that is told of.\n\nExample: seatdesk told --set examples/summer.ssim --limits examples/limits.txt --first 2024-07-01 --days 31 --desk 2 examples/journal.txt",
     );
-    let told = with_argument(told, wanted_option(alloc, "desk", "N", DESK_HELP));
-    let told = with_argument(told, optional_option(alloc, "from", "LINE", TOLD_HELP));
-    let told = with_argument(told, flag(alloc, "open", OPEN_HELP));
-    with_argument(
-        told,
-        wanted_value(alloc, "journal", "JOURNAL", JOURNAL_HELP),
-    )
+    with_arguments(alloc, told, TOLD)
 }
+
+const WHY: &[Argument] = &[
+    Wanted("line", "N", LINE_HELP),
+    Flag("open", OPEN_HELP),
+    WantedWord("journal", "JOURNAL", JOURNAL_HELP),
+];
 
 pub(super) fn why_command<'a>(alloc: Global) -> Result<Command<'a>, AllocError>
     ensures { IfOk result (IsBuiltAs why_app) }
@@ -137,7 +126,5 @@ pub(super) fn why_command<'a>(alloc: Global) -> Result<Command<'a>, AllocError>
         "Writes the reason of one reply of a journal: what the limits left, and the right answer",
         "Only the lines before it need be right, so it explains the line that audit refuses.\n\nExample: seatdesk why --set examples/summer.ssim --limits examples/limits.txt --first 2024-07-01 --days 31 --line 6 examples/journal.txt",
     );
-    let why = with_argument(why, wanted_option(alloc, "line", "N", LINE_HELP));
-    let why = with_argument(why, flag(alloc, "open", OPEN_HELP));
-    with_argument(why, wanted_value(alloc, "journal", "JOURNAL", JOURNAL_HELP))
+    with_arguments(alloc, why, WHY)
 }

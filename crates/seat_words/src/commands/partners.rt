@@ -2,9 +2,9 @@
 ghost use Rattle.std.specs.Prelude.{IfOk};
 ghost use Rattle.seat_words.specs.CommandLine.{IsBuiltAs, avs_app, reconcile_app};
 
+use crate::commands::arguments::Argument::{Flag, Optional, WantedWord};
 use crate::commands::arguments::{
-    FLIGHT_HELP, JOURNAL_HELP, OPEN_HELP, flag, horizon_command, optional_option, wanted_value,
-    with_argument,
+    Argument, FLIGHT_HELP, JOURNAL_HELP, OPEN_HELP, horizon_command, with_arguments,
 };
 use clap::Command;
 use std::alloc::{AllocError, Global};
@@ -24,6 +24,16 @@ const ALL_HELP: &str = "THEIRS is to have all live bookings";
 
 const THEIRS_HELP: &str = "The list of a partner or a desk, as bookings writes one (a file)";
 
+const AVS: &[Argument] = &[
+    Optional("since", "OLDER", SINCE_HELP),
+    Flag("numeric", NUMERIC_HELP),
+    Optional("partner", "FILE", PARTNER_HELP),
+    Optional("flight", "FLIGHT", FLIGHT_HELP),
+    Optional("day", "DATE", SEGMENT_DAY_HELP),
+    Flag("open", OPEN_HELP),
+    WantedWord("journal", "JOURNAL", JOURNAL_HELP),
+];
+
 pub(super) fn avs_command<'a>(alloc: Global) -> Result<Command<'a>, AllocError>
     ensures { IfOk result (IsBuiltAs avs_app) }
 {
@@ -33,14 +43,16 @@ pub(super) fn avs_command<'a>(alloc: Global) -> Result<Command<'a>, AllocError>
         "Writes what partners are to show as available: the status of each segment and class",
         "Example: seatdesk avs --set examples/summer.ssim --limits examples/limits.txt --first 2024-07-01 --days 31 examples/journal.txt\n\nWhat a night changed: seatdesk avs --set examples/summer.ssim --limits examples/limits.txt --first 2024-07-01 --days 31 --since examples/journal.txt --numeric journal-2.txt",
     );
-    let avs = with_argument(avs, optional_option(alloc, "since", "OLDER", SINCE_HELP));
-    let avs = with_argument(avs, flag(alloc, "numeric", NUMERIC_HELP));
-    let avs = with_argument(avs, optional_option(alloc, "partner", "FILE", PARTNER_HELP));
-    let avs = with_argument(avs, optional_option(alloc, "flight", "FLIGHT", FLIGHT_HELP));
-    let avs = with_argument(avs, optional_option(alloc, "day", "DATE", SEGMENT_DAY_HELP));
-    let avs = with_argument(avs, flag(alloc, "open", OPEN_HELP));
-    with_argument(avs, wanted_value(alloc, "journal", "JOURNAL", JOURNAL_HELP))
+    with_arguments(alloc, avs, AVS)
 }
+
+const RECONCILE: &[Argument] = &[
+    Optional("session", "N", SESSION_HELP),
+    Flag("all", ALL_HELP),
+    Flag("open", OPEN_HELP),
+    WantedWord("theirs", "THEIRS", THEIRS_HELP),
+    WantedWord("journal", "JOURNAL", JOURNAL_HELP),
+];
 
 pub(super) fn reconcile_command<'a>(alloc: Global) -> Result<Command<'a>, AllocError>
     ensures { IfOk result (IsBuiltAs reconcile_app) }
@@ -51,18 +63,5 @@ pub(super) fn reconcile_command<'a>(alloc: Global) -> Result<Command<'a>, AllocE
         "Writes where the list of a partner or a desk differs from the bookings of a journal",
         "One of --session and --all says whose bookings the list is to have. The status is 1 where anything differs.\n\nExample: seatdesk reconcile --set examples/summer.ssim --limits examples/limits.txt --first 2024-07-01 --days 31 --session 2 theirs.txt examples/journal.txt",
     );
-    let reconcile = with_argument(
-        reconcile,
-        optional_option(alloc, "session", "N", SESSION_HELP),
-    );
-    let reconcile = with_argument(reconcile, flag(alloc, "all", ALL_HELP));
-    let reconcile = with_argument(reconcile, flag(alloc, "open", OPEN_HELP));
-    let reconcile = with_argument(
-        reconcile,
-        wanted_value(alloc, "theirs", "THEIRS", THEIRS_HELP),
-    );
-    with_argument(
-        reconcile,
-        wanted_value(alloc, "journal", "JOURNAL", JOURNAL_HELP),
-    )
+    with_arguments(alloc, reconcile, RECONCILE)
 }

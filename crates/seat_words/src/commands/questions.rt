@@ -2,9 +2,10 @@
 ghost use Rattle.std.specs.Prelude.{IfOk};
 ghost use Rattle.seat_words.specs.CommandLine.{IsBuiltAs, bookings_app, history_app, loads_app, pickup_app, rooms_app, waiting_app};
 
+use crate::commands::arguments::Argument::{Flag, Optional, OptionalWord, Several, WantedWord};
 use crate::commands::arguments::{
-    CSV_HELP, FLIGHT_HELP, JOURNAL_HELP, JSON_HELP, OPEN_HELP, flag, horizon_command,
-    optional_option, optional_value, several_option, wanted_value, with_argument,
+    Argument, CSV_HELP, FLIGHT_HELP, JOURNAL_HELP, JSON_HELP, OPEN_HELP, horizon_command,
+    with_arguments,
 };
 use clap::Command;
 use std::alloc::{AllocError, Global};
@@ -43,6 +44,16 @@ const HISTORY_LOCATOR_HELP: &str = "The locator: six letters and digits, as W8Y3
 const LOCATOR_HELP: &str =
     "The bookings of this locator alone: six letters and digits, as B3N6VC; more than once, those of any of these";
 
+const ROOMS: &[Argument] = &[
+    Optional("day", "DATE", DAY_HELP),
+    Optional("pair", "PAIR", PAIR_HELP),
+    Flag("bars", BARS_HELP),
+    Flag("csv", CSV_HELP),
+    Flag("json", JSON_HELP),
+    Flag("open", OPEN_HELP),
+    OptionalWord("journal", "JOURNAL", OPENING_HELP),
+];
+
 pub(super) fn rooms_command<'a>(alloc: Global) -> Result<Command<'a>, AllocError>
     ensures { IfOk result (IsBuiltAs rooms_app) }
 {
@@ -52,17 +63,21 @@ pub(super) fn rooms_command<'a>(alloc: Global) -> Result<Command<'a>, AllocError
         "Writes the seats that are left on each place of a flight, by class",
         "Example: seatdesk rooms --set examples/summer.ssim --limits examples/limits.txt --first 2024-07-01 --days 31 --day 2024-07-27 --pair LHRKEF examples/journal.txt",
     );
-    let rooms = with_argument(rooms, optional_option(alloc, "day", "DATE", DAY_HELP));
-    let rooms = with_argument(rooms, optional_option(alloc, "pair", "PAIR", PAIR_HELP));
-    let rooms = with_argument(rooms, flag(alloc, "bars", BARS_HELP));
-    let rooms = with_argument(rooms, flag(alloc, "csv", CSV_HELP));
-    let rooms = with_argument(rooms, flag(alloc, "json", JSON_HELP));
-    let rooms = with_argument(rooms, flag(alloc, "open", OPEN_HELP));
-    with_argument(
-        rooms,
-        optional_value(alloc, "journal", "JOURNAL", OPENING_HELP),
-    )
+    with_arguments(alloc, rooms, ROOMS)
 }
+
+const LOADS: &[Argument] = &[
+    Optional("flight", "FLIGHT", FLIGHT_HELP),
+    Optional("day", "DATE", LEG_DAY_HELP),
+    Optional("pair", "PAIR", LEG_PAIR_HELP),
+    Optional("by", "BY", BY_HELP),
+    Flag("bars", BARS_HELP),
+    Flag("csv", CSV_HELP),
+    Flag("json", JSON_HELP),
+    Flag("html", HTML_HELP),
+    Flag("open", OPEN_HELP),
+    OptionalWord("journal", "JOURNAL", OPENING_LOADS_HELP),
+];
 
 pub(super) fn loads_command<'a>(alloc: Global) -> Result<Command<'a>, AllocError>
     ensures { IfOk result (IsBuiltAs loads_app) }
@@ -73,23 +88,18 @@ pub(super) fn loads_command<'a>(alloc: Global) -> Result<Command<'a>, AllocError
         "Writes how full each dated leg is, by class, and what all of them come to",
         "Example: seatdesk loads --set examples/summer.ssim --limits examples/limits.txt --first 2024-07-01 --days 31 --day 2024-07-27 examples/journal.txt",
     );
-    let loads = with_argument(
-        loads,
-        optional_option(alloc, "flight", "FLIGHT", FLIGHT_HELP),
-    );
-    let loads = with_argument(loads, optional_option(alloc, "day", "DATE", LEG_DAY_HELP));
-    let loads = with_argument(loads, optional_option(alloc, "pair", "PAIR", LEG_PAIR_HELP));
-    let loads = with_argument(loads, optional_option(alloc, "by", "BY", BY_HELP));
-    let loads = with_argument(loads, flag(alloc, "bars", BARS_HELP));
-    let loads = with_argument(loads, flag(alloc, "csv", CSV_HELP));
-    let loads = with_argument(loads, flag(alloc, "json", JSON_HELP));
-    let loads = with_argument(loads, flag(alloc, "html", HTML_HELP));
-    let loads = with_argument(loads, flag(alloc, "open", OPEN_HELP));
-    with_argument(
-        loads,
-        optional_value(alloc, "journal", "JOURNAL", OPENING_LOADS_HELP),
-    )
+    with_arguments(alloc, loads, LOADS)
 }
+
+const BOOKINGS: &[Argument] = &[
+    Several("locator", "LOCATOR", LOCATOR_HELP),
+    Optional("flight", "FLIGHT", FLIGHT_HELP),
+    Optional("day", "DATE", DAY_HELP),
+    Flag("csv", CSV_HELP),
+    Flag("json", JSON_HELP),
+    Flag("open", OPEN_HELP),
+    WantedWord("journal", "JOURNAL", JOURNAL_HELP),
+];
 
 pub(super) fn bookings_command<'a>(alloc: Global) -> Result<Command<'a>, AllocError>
     ensures { IfOk result (IsBuiltAs bookings_app) }
@@ -100,23 +110,17 @@ pub(super) fn bookings_command<'a>(alloc: Global) -> Result<Command<'a>, AllocEr
         "Writes live bookings, of locators or of a flight, in the codes of AIRIMP",
         "Example: seatdesk bookings --set examples/summer.ssim --limits examples/limits.txt --first 2024-07-01 --days 31 --locator B3N6VC examples/journal.txt",
     );
-    let bookings = with_argument(
-        bookings,
-        several_option(alloc, "locator", "LOCATOR", LOCATOR_HELP),
-    );
-    let bookings = with_argument(
-        bookings,
-        optional_option(alloc, "flight", "FLIGHT", FLIGHT_HELP),
-    );
-    let bookings = with_argument(bookings, optional_option(alloc, "day", "DATE", DAY_HELP));
-    let bookings = with_argument(bookings, flag(alloc, "csv", CSV_HELP));
-    let bookings = with_argument(bookings, flag(alloc, "json", JSON_HELP));
-    let bookings = with_argument(bookings, flag(alloc, "open", OPEN_HELP));
-    with_argument(
-        bookings,
-        wanted_value(alloc, "journal", "JOURNAL", JOURNAL_HELP),
-    )
+    with_arguments(alloc, bookings, BOOKINGS)
 }
+
+const WAITING: &[Argument] = &[
+    Optional("flight", "FLIGHT", FLIGHT_HELP),
+    Optional("day", "DATE", DAY_HELP),
+    Flag("csv", CSV_HELP),
+    Flag("json", JSON_HELP),
+    Flag("open", OPEN_HELP),
+    WantedWord("journal", "JOURNAL", JOURNAL_HELP),
+];
 
 pub(super) fn waiting_command<'a>(alloc: Global) -> Result<Command<'a>, AllocError>
     ensures { IfOk result (IsBuiltAs waiting_app) }
@@ -127,19 +131,19 @@ pub(super) fn waiting_command<'a>(alloc: Global) -> Result<Command<'a>, AllocErr
         "Writes who waits, in the order in which they would be confirmed, and the seats that they lack",
         "Example: seatdesk waiting --set examples/summer.ssim --limits examples/limits.txt --first 2024-07-01 --days 31 --flight LZ601 --day 2024-07-27 examples/journal.txt",
     );
-    let waiting = with_argument(
-        waiting,
-        optional_option(alloc, "flight", "FLIGHT", FLIGHT_HELP),
-    );
-    let waiting = with_argument(waiting, optional_option(alloc, "day", "DATE", DAY_HELP));
-    let waiting = with_argument(waiting, flag(alloc, "csv", CSV_HELP));
-    let waiting = with_argument(waiting, flag(alloc, "json", JSON_HELP));
-    let waiting = with_argument(waiting, flag(alloc, "open", OPEN_HELP));
-    with_argument(
-        waiting,
-        wanted_value(alloc, "journal", "JOURNAL", JOURNAL_HELP),
-    )
+    with_arguments(alloc, waiting, WAITING)
 }
+
+const PICKUP: &[Argument] = &[
+    Optional("behind", "N", PICKED_HELP),
+    Optional("since", "OLDER", SINCE_HELP),
+    Optional("flight", "FLIGHT", FLIGHT_HELP),
+    Optional("by", "BY", PICKED_BY_HELP),
+    Flag("csv", CSV_HELP),
+    Flag("json", JSON_HELP),
+    Flag("open", OPEN_HELP),
+    WantedWord("journal", "JOURNAL", JOURNAL_HELP),
+];
 
 pub(super) fn pickup_command<'a>(alloc: Global) -> Result<Command<'a>, AllocError>
     ensures { IfOk result (IsBuiltAs pickup_app) }
@@ -150,21 +154,18 @@ pub(super) fn pickup_command<'a>(alloc: Global) -> Result<Command<'a>, AllocErro
         "Writes what was held, sold, cancelled and confirmed behind a line of a journal, by flight and class",
         "One of --behind and --since says what stands ahead.\n\nExample: seatdesk pickup --set examples/summer.ssim --limits examples/limits.txt --first 2024-07-01 --days 31 --behind 8 examples/journal.txt",
     );
-    let pickup = with_argument(pickup, optional_option(alloc, "behind", "N", PICKED_HELP));
-    let pickup = with_argument(pickup, optional_option(alloc, "since", "OLDER", SINCE_HELP));
-    let pickup = with_argument(
-        pickup,
-        optional_option(alloc, "flight", "FLIGHT", FLIGHT_HELP),
-    );
-    let pickup = with_argument(pickup, optional_option(alloc, "by", "BY", PICKED_BY_HELP));
-    let pickup = with_argument(pickup, flag(alloc, "csv", CSV_HELP));
-    let pickup = with_argument(pickup, flag(alloc, "json", JSON_HELP));
-    let pickup = with_argument(pickup, flag(alloc, "open", OPEN_HELP));
-    with_argument(
-        pickup,
-        wanted_value(alloc, "journal", "JOURNAL", JOURNAL_HELP),
-    )
+    with_arguments(alloc, pickup, PICKUP)
 }
+
+const HISTORY: &[Argument] = &[
+    Optional("locator", "LOCATOR", HISTORY_LOCATOR_HELP),
+    Optional("flight", "FLIGHT", FLIGHT_HELP),
+    Optional("day", "DATE", DAY_HELP),
+    Flag("csv", CSV_HELP),
+    Flag("json", JSON_HELP),
+    Flag("open", OPEN_HELP),
+    WantedWord("journal", "JOURNAL", JOURNAL_HELP),
+];
 
 pub(super) fn history_command<'a>(alloc: Global) -> Result<Command<'a>, AllocError>
     ensures { IfOk result (IsBuiltAs history_app) }
@@ -175,20 +176,5 @@ pub(super) fn history_command<'a>(alloc: Global) -> Result<Command<'a>, AllocErr
         "Writes what the lines of a journal did for a locator or on a flight, each with its reply",
         "One of --locator and --flight says whose.\n\nExample: seatdesk history --set examples/summer.ssim --limits examples/limits.txt --first 2024-07-01 --days 31 --locator W8Y3ZA examples/journal.txt",
     );
-    let history = with_argument(
-        history,
-        optional_option(alloc, "locator", "LOCATOR", HISTORY_LOCATOR_HELP),
-    );
-    let history = with_argument(
-        history,
-        optional_option(alloc, "flight", "FLIGHT", FLIGHT_HELP),
-    );
-    let history = with_argument(history, optional_option(alloc, "day", "DATE", DAY_HELP));
-    let history = with_argument(history, flag(alloc, "csv", CSV_HELP));
-    let history = with_argument(history, flag(alloc, "json", JSON_HELP));
-    let history = with_argument(history, flag(alloc, "open", OPEN_HELP));
-    with_argument(
-        history,
-        wanted_value(alloc, "journal", "JOURNAL", JOURNAL_HELP),
-    )
+    with_arguments(alloc, history, HISTORY)
 }

@@ -2,9 +2,9 @@
 ghost use Rattle.std.specs.Prelude.{IfOk};
 ghost use Rattle.seat_words.specs.CommandLine.{IsBuiltAs, recover_app, run_app, seal_app, serve_app};
 
+use crate::commands::arguments::Argument::{Flag, Optional, Several, Wanted, WantedWord, Words};
 use crate::commands::arguments::{
-    SCRIPTS_HELP, TODAY_HELP, flag, horizon_command, optional_option, optional_values,
-    several_option, wanted_option, wanted_value, with_argument,
+    Argument, SCRIPTS_HELP, TODAY_HELP, horizon_command, with_arguments,
 };
 use clap::Command;
 use std::alloc::{AllocError, Global};
@@ -60,6 +60,19 @@ const NO_CLOBBER_HELP: &str = "Refuses an OUT that is there and is not empty";
 const AGAIN_HELP: &str =
     "Books scripts once more that a run of the journal has booked, as its seal says";
 
+const RUN: &[Argument] = &[
+    Optional("after", "JOURNAL", AFTER_HELP),
+    Optional("behind", "N", BEGUN_HELP),
+    Optional("resume", "JOURNAL", RESUME_HELP),
+    Wanted("today", "DATE", TODAY_HELP),
+    Wanted("journal", "OUT", OUT_HELP),
+    Optional("changes", "FILE", CHANGES_HELP),
+    Optional("refused", "FILE", REFUSED_HELP),
+    Flag("no-clobber", NO_CLOBBER_HELP),
+    Flag("again", AGAIN_HELP),
+    Words("scripts", "SCRIPT", SCRIPTS_HELP),
+];
+
 pub(super) fn run_command<'a>(alloc: Global) -> Result<Command<'a>, AllocError>
     ensures { IfOk result (IsBuiltAs run_app) }
 {
@@ -69,23 +82,19 @@ pub(super) fn run_command<'a>(alloc: Global) -> Result<Command<'a>, AllocError>
         "Books the requests of scripts, one session on a thread for each script, and writes the replies",
         "OUT has its old bytes until the new journal is whole and takes its name; a refused run leaves it as it was.\nWhat it had is kept beside it, as OUT.kept-1, unless --after or --resume names OUT itself, as the daily command does.\nThe journal of --after belongs to its set, limits, first day and days: name the same ones.\n\nExample: seatdesk run --set examples/summer.ssim --limits examples/limits.txt --first 2024-07-01 --days 31 --today 2024-06-20 --journal journal.txt examples/london.txt examples/lisbon.txt\n\nWith changes of the limits: seatdesk run --set examples/summer.ssim --limits examples/limits.txt --first 2024-07-01 --days 31 --today 2024-06-20 --journal journal.txt --changes examples/changes.txt examples/london.txt examples/lisbon.txt\n\nChanges alone: seatdesk run --set examples/summer.ssim --limits examples/limits.txt --first 2024-07-01 --days 31 --today 2024-06-20 --journal journal.txt --changes examples/changes.txt\n\nDesks that keep their numbers, as sessions 1 and 3: seatdesk run --set examples/summer.ssim --limits examples/limits.txt --first 2024-07-01 --days 31 --today 2024-06-20 --journal journal.txt 1=examples/london.txt 3=examples/lisbon.txt\n\nThe day after: seatdesk run --set examples/summer.ssim --limits examples/limits.txt --first 2024-07-01 --days 31 --after examples/journal.txt --today 2024-06-21 --journal journal-2.txt examples/london-2.txt\n\nScripts to which requests were added: seatdesk run --set examples/summer.ssim --limits examples/limits.txt --first 2024-07-01 --days 31 --resume examples/journal.txt --today 2024-06-20 --journal journal.txt examples/london.txt examples/lisbon.txt\n\nA wrong line stops no desk: seatdesk run --set examples/summer.ssim --limits examples/limits.txt --first 2024-07-01 --days 31 --today 2024-06-20 --journal journal.txt --refused refused.txt examples/london.txt examples/lisbon.txt",
     );
-    let run = with_argument(run, optional_option(alloc, "after", "JOURNAL", AFTER_HELP));
-    let run = with_argument(run, optional_option(alloc, "behind", "N", BEGUN_HELP));
-    let run = with_argument(
-        run,
-        optional_option(alloc, "resume", "JOURNAL", RESUME_HELP),
-    );
-    let run = with_argument(run, wanted_option(alloc, "today", "DATE", TODAY_HELP));
-    let run = with_argument(run, wanted_option(alloc, "journal", "OUT", OUT_HELP));
-    let run = with_argument(run, optional_option(alloc, "changes", "FILE", CHANGES_HELP));
-    let run = with_argument(run, optional_option(alloc, "refused", "FILE", REFUSED_HELP));
-    let run = with_argument(run, flag(alloc, "no-clobber", NO_CLOBBER_HELP));
-    let run = with_argument(run, flag(alloc, "again", AGAIN_HELP));
-    with_argument(
-        run,
-        optional_values(alloc, "scripts", "SCRIPT", SCRIPTS_HELP),
-    )
+    with_arguments(alloc, run, RUN)
 }
+
+const SERVE: &[Argument] = &[
+    Optional("today", "DATE", SERVED_DAY_HELP),
+    Wanted("journal", "JOURNAL", SERVED_HELP),
+    Several("desk", "DESK", DESK_PLACE_HELP),
+    Optional("manager", "PIPES", MANAGER_HELP),
+    Optional("status", "FILE", STATUS_HELP),
+    Optional("every", "SECONDS", EVERY_HELP),
+    Optional("feed", "FEED", FEED_HELP),
+    Optional("behind", "N", FED_HELP),
+];
 
 pub(super) fn serve_command<'a>(alloc: Global) -> Result<Command<'a>, AllocError>
     ensures { IfOk result (IsBuiltAs serve_app) }
@@ -96,30 +105,10 @@ pub(super) fn serve_command<'a>(alloc: Global) -> Result<Command<'a>, AllocError
         "Stays open for desks: answers each line of a message once it is on the disk",
         "Type the lines of a message, as in a script: the reply to each segment line stands below it. ? LZ601Q27JUL LHRKEF shows the seats\nthat are left in a class. The end of the input, or ?BYE, ends the journal; a host that is killed loses no reply that it gave,\nand goes on from its journal when it is started again.\n\nExample: seatdesk serve --set examples/summer.ssim --limits examples/limits.txt --first 2024-07-01 --days 31 --today 2024-06-20 --journal journal.txt --desk -\n\nTwo desks and a manager on pipes: seatdesk serve --set examples/summer.ssim --limits examples/limits.txt --first 2024-07-01 --days 31 --today 2024-06-20 --journal journal.txt --desk 1=london.in:london.out --desk 2=lisbon.in:lisbon.out --manager m.in:m.out\n\nOne stream of lines for all desks: seatdesk serve --set examples/summer.ssim --limits examples/limits.txt --first 2024-07-01 --days 31 --journal journal.txt --feed -",
     );
-    let serve = with_argument(
-        serve,
-        optional_option(alloc, "today", "DATE", SERVED_DAY_HELP),
-    );
-    let serve = with_argument(
-        serve,
-        wanted_option(alloc, "journal", "JOURNAL", SERVED_HELP),
-    );
-    let serve = with_argument(
-        serve,
-        several_option(alloc, "desk", "DESK", DESK_PLACE_HELP),
-    );
-    let serve = with_argument(
-        serve,
-        optional_option(alloc, "manager", "PIPES", MANAGER_HELP),
-    );
-    let serve = with_argument(serve, optional_option(alloc, "status", "FILE", STATUS_HELP));
-    let serve = with_argument(
-        serve,
-        optional_option(alloc, "every", "SECONDS", EVERY_HELP),
-    );
-    let serve = with_argument(serve, optional_option(alloc, "feed", "FEED", FEED_HELP));
-    with_argument(serve, optional_option(alloc, "behind", "N", FED_HELP))
+    with_arguments(alloc, serve, SERVE)
 }
+
+const SEAL: &[Argument] = &[WantedWord("journal", "JOURNAL", SEALED_JOURNAL_HELP)];
 
 pub(super) fn seal_command<'a>(alloc: Global) -> Result<Command<'a>, AllocError>
     ensures { IfOk result (IsBuiltAs seal_app) }
@@ -130,11 +119,13 @@ pub(super) fn seal_command<'a>(alloc: Global) -> Result<Command<'a>, AllocError>
         "Writes the seal of a journal that audit accepts, which says what the journal belongs to",
         "The seal is JOURNAL.seal beside JOURNAL. Every command that replays JOURNAL compares it, and audit --sealed wants it.\n\nExample: seatdesk seal --set examples/summer.ssim --limits examples/limits.txt --first 2024-07-01 --days 31 journal.txt",
     );
-    with_argument(
-        seal,
-        wanted_value(alloc, "journal", "JOURNAL", SEALED_JOURNAL_HELP),
-    )
+    with_arguments(alloc, seal, SEAL)
 }
+
+const RECOVER: &[Argument] = &[
+    Flag("cut", CUT_HELP),
+    WantedWord("journal", "JOURNAL", LEFT_JOURNAL_HELP),
+];
 
 pub(super) fn recover_command<'a>(alloc: Global) -> Result<Command<'a>, AllocError>
     ensures { IfOk result (IsBuiltAs recover_app) }
@@ -145,9 +136,5 @@ pub(super) fn recover_command<'a>(alloc: Global) -> Result<Command<'a>, AllocErr
         "Cuts a journal that was left open back to its right lines, writes its END line, and says so",
         "A torn line behind the right ones is kept beside JOURNAL, as JOURNAL.torn-1, and cut. A whole line that is not right is refused\nas audit --open refuses it: it may be the wrong set or limits. With --cut it is kept and cut too, with all behind it, where\nthat is no more than a crash leaves: 4096 lines and 256 KiB.\n\nExample: seatdesk recover --set examples/summer.ssim --limits examples/limits.txt --first 2024-07-01 --days 31 journal.txt",
     );
-    let recover = with_argument(recover, flag(alloc, "cut", CUT_HELP));
-    with_argument(
-        recover,
-        wanted_value(alloc, "journal", "JOURNAL", LEFT_JOURNAL_HELP),
-    )
+    with_arguments(alloc, recover, RECOVER)
 }

@@ -2,9 +2,10 @@
 ghost use Rattle.std.specs.Prelude.{IfOk};
 ghost use Rattle.seat_words.specs.CommandLine.{IsBuiltAs, check_app, compare_app, cover_app, explain_app, flights_app, ladder_app, season_app};
 
+use crate::commands::arguments::Argument::{Flag, OptionalWord, Rest, Wanted, WantedWord};
 use crate::commands::arguments::{
-    CSV_HELP, DAYS_HELP, FIRST_HELP, JSON_HELP, SET_HELP, flag, horizon_command, named_command,
-    optional_value, trailing_values, wanted_option, wanted_value, with_argument,
+    Argument, CSV_HELP, DAYS_HELP, FIRST_HELP, JSON_HELP, SET_HELP, horizon_command, named_command,
+    with_arguments,
 };
 use clap::Command;
 use std::alloc::{AllocError, Global};
@@ -39,6 +40,8 @@ pub(super) fn ladder_command<'a>(alloc: Global) -> Command<'a>
     )
 }
 
+const CHECK: &[Argument] = &[WantedWord("set", "SET", SET_INPUT_HELP)];
+
 pub(super) fn check_command<'a>(alloc: Global) -> Result<Command<'a>, AllocError>
     ensures { IfOk result (IsBuiltAs check_app) }
 {
@@ -48,8 +51,16 @@ pub(super) fn check_command<'a>(alloc: Global) -> Result<Command<'a>, AllocError
         "Reads a data set and writes one summary line",
         "Example: seatdesk check examples/summer.ssim",
     );
-    with_argument(Ok(check), wanted_value(alloc, "set", "SET", SET_INPUT_HELP))
+    with_arguments(alloc, Ok(check), CHECK)
 }
+
+const FLIGHTS: &[Argument] = &[
+    Wanted("first", "DATE", FIRST_HELP),
+    Wanted("days", "N", DAYS_HELP),
+    Flag("csv", CSV_HELP),
+    Flag("json", JSON_HELP),
+    WantedWord("set", "SET", SET_INPUT_HELP),
+];
 
 pub(super) fn flights_command<'a>(alloc: Global) -> Result<Command<'a>, AllocError>
     ensures { IfOk result (IsBuiltAs flights_app) }
@@ -60,15 +71,10 @@ pub(super) fn flights_command<'a>(alloc: Global) -> Result<Command<'a>, AllocErr
         "Writes one line for each dated flight",
         "Example: seatdesk flights --first 2024-07-01 --days 31 examples/summer.ssim",
     );
-    let flights = with_argument(
-        Ok(flights),
-        wanted_option(alloc, "first", "DATE", FIRST_HELP),
-    );
-    let flights = with_argument(flights, wanted_option(alloc, "days", "N", DAYS_HELP));
-    let flights = with_argument(flights, flag(alloc, "csv", CSV_HELP));
-    let flights = with_argument(flights, flag(alloc, "json", JSON_HELP));
-    with_argument(flights, wanted_value(alloc, "set", "SET", SET_INPUT_HELP))
+    with_arguments(alloc, Ok(flights), FLIGHTS)
 }
+
+const COVER: &[Argument] = &[Flag("csv", CSV_HELP), Flag("json", JSON_HELP)];
 
 pub(super) fn cover_command<'a>(alloc: Global) -> Result<Command<'a>, AllocError>
     ensures { IfOk result (IsBuiltAs cover_app) }
@@ -79,9 +85,14 @@ pub(super) fn cover_command<'a>(alloc: Global) -> Result<Command<'a>, AllocError
         "Writes the limits that are for no leg, and the legs that have no limits",
         "Example: seatdesk cover --set examples/summer.ssim --limits examples/limits.txt --first 2024-07-01 --days 31",
     );
-    let cover = with_argument(cover, flag(alloc, "csv", CSV_HELP));
-    with_argument(cover, flag(alloc, "json", JSON_HELP))
+    with_arguments(alloc, cover, COVER)
 }
+
+const COMPARE: &[Argument] = &[
+    Wanted("from", "SEASON", FROM_SEASON_HELP),
+    Wanted("to", "SEASON", TO_SEASON_HELP),
+    OptionalWord("journal", "JOURNAL", COMPARED_HELP),
+];
 
 pub(super) fn compare_command<'a>(alloc: Global) -> Result<Command<'a>, AllocError>
     ensures { IfOk result (IsBuiltAs compare_app) }
@@ -92,19 +103,13 @@ pub(super) fn compare_command<'a>(alloc: Global) -> Result<Command<'a>, AllocErr
         "Writes what another season changes: flights added and gone, and other legs and limits",
         "With JOURNAL each line has the seats that are held and that wait on the flight.\n\nExample: seatdesk compare --from examples/summer.toml --to winter.toml examples/journal.txt",
     );
-    let compare = with_argument(
-        Ok(compare),
-        wanted_option(alloc, "from", "SEASON", FROM_SEASON_HELP),
-    );
-    let compare = with_argument(
-        compare,
-        wanted_option(alloc, "to", "SEASON", TO_SEASON_HELP),
-    );
-    with_argument(
-        compare,
-        optional_value(alloc, "journal", "JOURNAL", COMPARED_HELP),
-    )
+    with_arguments(alloc, Ok(compare), COMPARE)
 }
+
+const SEASON: &[Argument] = &[
+    WantedWord("set", "SET", SET_HELP),
+    WantedWord("limits", "LIMITS", SEASON_LIMITS_HELP),
+];
 
 pub(super) fn season_command<'a>(alloc: Global) -> Result<Command<'a>, AllocError>
     ensures { IfOk result (IsBuiltAs season_app) }
@@ -115,12 +120,13 @@ pub(super) fn season_command<'a>(alloc: Global) -> Result<Command<'a>, AllocErro
         "Writes a season file of a set and its limits, with the set's own dates as a beginning",
         "Save it in the folder in which the command is given: the names of files in it are relative to its own folder. Name it by --season\nin place of --set, --limits, --first and --days.\n\nExample: seatdesk season examples/summer.ssim examples/limits.txt",
     );
-    let season = with_argument(Ok(season), wanted_value(alloc, "set", "SET", SET_HELP));
-    with_argument(
-        season,
-        wanted_value(alloc, "limits", "LIMITS", SEASON_LIMITS_HELP),
-    )
+    with_arguments(alloc, Ok(season), SEASON)
 }
+
+const EXPLAIN: &[Argument] = &[
+    WantedWord("code", "CODE", CODE_HELP),
+    Rest("numbers", "NUMBER", NUMBERS_HELP),
+];
 
 pub(super) fn explain_command<'a>(alloc: Global) -> Result<Command<'a>, AllocError>
     ensures { IfOk result (IsBuiltAs explain_app) }
@@ -131,9 +137,5 @@ pub(super) fn explain_command<'a>(alloc: Global) -> Result<Command<'a>, AllocErr
         "Says what a fault line means, or the code of a reply",
         "Example: seatdesk explain Q2 A5 1 2\n\nAs it was printed: seatdesk explain seatdesk: Q2 A5 1 2",
     );
-    let explain = with_argument(Ok(explain), wanted_value(alloc, "code", "CODE", CODE_HELP));
-    with_argument(
-        explain,
-        trailing_values(alloc, "numbers", "NUMBER", NUMBERS_HELP),
-    )
+    with_arguments(alloc, Ok(explain), EXPLAIN)
 }

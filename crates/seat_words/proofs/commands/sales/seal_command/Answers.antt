@@ -1,8 +1,7 @@
-use Rattle.seat_words.specs.CommandLine.{seal_app}
-use Rattle.seat_words.proofs.Building.{argued}
+use Rattle.std.specs.Prelude.{codes}
+use Rattle.seat_words.specs.CommandLine.{horizon_app, seal_app}
 use Rattle.seat_words.proofs.commands.sales.seal_command.Goals as goal
 
 pub returns : goal.returns
 unfolding seal_app
-returns c =
-    argued _ _ c.horizon_command-seal.result c.with_argument.result c.wanted_value.result c.horizon_command-seal.ensures c.wanted_value.ensures c.with_argument.ensures
+returns c = c.with_arguments.ensures (horizon_app (codes "seal")) c.horizon_command-seal.ensures
