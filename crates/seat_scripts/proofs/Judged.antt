@@ -93,7 +93,7 @@ module _ (set limits after journal : Option (List ℕ)) (first days today : ℕ)
 
 -- ---- faults that stand behind what they have against it
 
-is_input : (fault : DeskFault) → IsBehindRuns fault → IsOfInput fault
+pub is_input : (fault : DeskFault) → IsBehindRuns fault → IsOfInput fault
 is_input (Unasked session call) behind = tt
 is_input NoBehind behind = tt
 is_input (Book session call) behind = tt

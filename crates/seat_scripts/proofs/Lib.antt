@@ -21,5 +21,6 @@ mod Rest
 pub mod Still
 mod Again
 pub mod Judged
+pub mod GoneOn
 pub mod Sessions
 mod KnownAgain

@@ -5,7 +5,10 @@ pub mod Begun
 pub mod Beside
 pub mod Both
 pub mod First
+pub mod GoneOn
 pub mod KnownAgain
+pub mod ReadAgainst
+pub mod ReadAsked
 pub mod Repeated
 pub mod Replying
 pub mod Resumed

@@ -12,6 +12,7 @@ ghost use Rattle.seat_seal.specs.Known.{IsCarried};
 ghost use Rattle.seat_replies.specs.Asked.{IsAskedOf};
 ghost use Rattle.seat_scripts.specs.Beside.{AgreesOf, FailsSealedRun, IsRefusedSealedRunOf, IsTooLargeSealedRunOf};
 ghost use Rattle.seat_replies.specs.Changes.{IsOnLeg};
+ghost use Rattle.seat_scripts.specs.ReadAsked.{IsReadAsked};
 ghost use Rattle.seat_scripts.specs.Repeated.{IsRepeatedOf};
 ghost use Rattle.seat_replies.specs.Requests.{AreRight, HasFailedAmong};
 ghost use Rattle.seat_scripts.specs.TextImprints.{AreImprints, IsImprintOf};
@@ -49,7 +50,6 @@ pub struct Asked {
 /// Reads a data set, limit rows, an older journal, which is replayed on all processors, one to eight scripts and changes of limits. What stands beside the older journal
 /// is compared with the set, the limits and that journal ahead of its own faults. Behind all inputs, scripts or changes are refused of
 /// which one begins with what a run booked that its seal knows, unless they are to be booked `again`.
-#[tactic(auto, using(crate::proofs::Inputs::asked_of, crate::proofs::Seals::agrees, crate::proofs::Seals::repeated_of, crate::proofs::Seals::carried_of, crate::proofs::Seals::sealed_again, crate::proofs::Seals::sealed_unloaded, crate::proofs::Seals::sealed_unread, crate::proofs::Seals::sealed_refused, crate::proofs::Seals::sealed_unchanged, crate::proofs::Seals::sealed_large_load, crate::proofs::Seals::sealed_large_past, crate::proofs::Seals::sealed_large_script, crate::proofs::Seals::sealed_large_changes, crate::proofs::Seals::sealed_past_fails, crate::proofs::Seals::sealed_script_fails, crate::proofs::Seals::sealed_changes_fail))]
 pub fn read_asked<
     R: Threads + Sync,
     S: NotedRead,
@@ -88,6 +88,48 @@ pub fn read_asked<
     ensures changed { IfOk result (λ a. IsImprintOf (D.remaining changes.old) a.changes_imprint) }
     ensures behind { IfOk result (λ a. a.behind ≡ length a.past.journal) }
     ensures earlier { IfOk result (λ a. IfSome (A.remaining after.old) (λ bytes. IsCarried beside.now bytes a.earlier)) }
+    ensures fault { IfErr result (λ f. IsOfInput f →
+        IsRefusedSealedRunOf beside.now again S.remaining L.remaining inputs.old today (A.remaining after.old) (map C.remaining scripts.old) (D.remaining changes.old) f) }
+    ensures large { IfErr result (λ f. f ≡ DeskFault.TooLarge →
+        IsTooLargeSealedRunOf beside.now S.remaining L.remaining inputs.old today (A.remaining after.old) (map C.remaining scripts.old) (D.remaining changes.old)) }
+    ensures device { IfErr result (λ f. f ≡ DeskFault.Device →
+        FailsSealedRun beside.now S.remaining L.remaining inputs.old today (A.remaining after.old) (map C.remaining scripts.old)
+        (HasFirstLoadFailed S.remaining S.failure_count L.failure_count inputs.old inputs.new) (HasFailed A.failure_count after.old after.new)
+        (HasFailedAmong today (map C.remaining scripts.old) C.failure_count scripts.old scripts.new) (HasFailed D.failure_count changes.old changes.new)) }
+{
+    let asked = asked_once(
+        rt, alloc, inputs, after, beside, again, scripts, changes, today,
+    )?;
+    Ok(asked)
+}
+
+/// Reads the set, the limits, the older journal, the scripts and the changes, in this order.
+#[tactic(auto, using(crate::proofs::Seals::sealed_again, crate::proofs::Seals::sealed_unloaded, crate::proofs::Seals::sealed_unread, crate::proofs::Seals::sealed_refused, crate::proofs::Seals::sealed_unchanged, crate::proofs::Seals::sealed_large_load, crate::proofs::Seals::sealed_large_past, crate::proofs::Seals::sealed_large_script, crate::proofs::Seals::sealed_large_changes, crate::proofs::Seals::sealed_past_fails, crate::proofs::Seals::sealed_script_fails, crate::proofs::Seals::sealed_changes_fail))]
+fn asked_once<
+    R: Threads + Sync,
+    S: NotedRead,
+    L: NotedRead,
+    A: NotedRead,
+    C: NotedRead,
+    D: NotedRead,
+>(
+    rt: &R,
+    alloc: Global,
+    inputs: &mut Inputs<S, L>,
+    after: &mut A,
+    beside: &Beside<'_>,
+    again: bool,
+    scripts: &mut [C],
+    changes: &mut D,
+    today: Day,
+) -> Result<Asked, DeskFault>
+    requires first { IsOfCentury inputs.old.first }
+    requires days { (1 ≤ inputs.old.days) × (inputs.old.days ≤ 366) }
+    requires today { IsCenturyDay today }
+    requires scripts { length scripts.old ≤ 8 }
+    ensures ok { IfOk result (IsReadAsked beside.now again S.remaining L.remaining inputs.old today (A.remaining after.old) (map C.remaining scripts.old) (D.remaining changes.old)) }
+    ensures count { IfOk result (λ a. length a.scripts ≡ length scripts.old) }
+    ensures behind { IfOk result (λ a. a.behind ≡ length a.past.journal) }
     ensures fault { IfErr result (λ f. IsOfInput f →
         IsRefusedSealedRunOf beside.now again S.remaining L.remaining inputs.old today (A.remaining after.old) (map C.remaining scripts.old) (D.remaining changes.old) f) }
     ensures large { IfErr result (λ f. f ≡ DeskFault.TooLarge →

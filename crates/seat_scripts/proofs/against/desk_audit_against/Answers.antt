@@ -1,47 +1,12 @@
-use Rattle.std.proofs.Common.{ℕ, List, inr, map, refl, subst}
-use Rattle.std.proofs.lemmas.Result.{err_from_is_err_and}
+use Rattle.std.proofs.Common.{ℕ, List, inr, subst}
 use Rattle.std.specs.Io.KnownBytes.{Appends}
 use Rattle.airline_base.specs.Noting.{TookFront}
-use Rattle.seat_scripts.proofs.Beside.{audited, refused_unasked}
-use Rattle.seat_scripts.proofs.OneTaken.{for_taken, with_taken}
-use Rattle.seat_scripts.proofs.SealedBoth.{refused_behind}
-use Rattle.seat_scripts.specs.Against.{IsAuditAgainst, IsRefusedAgainst}
-use Rattle.seat_scripts.specs.Taken.{ForTaken}
 use Rattle.seat_scripts.proofs.against.desk_audit_against.Goals as goal
-
-pub returns-in_err-line-clause-fault : goal.returns-in_err-line-clause-fault
-returns-in_err-line-clause-fault g c =
-    let p = err_from_is_err_and c.from_residual-in_err-line.result c.from_residual-in_err-line.ensures.1 in
-    let set = g.S.Read.remaining c.args.inputs.now.set in
-    let limits = g.L.Read.remaining c.args.inputs.now.limits in
-    let after = g.A.Read.remaining c.args.after.now in
-    let journal = g.J.Read.remaining c.args.journal.now in
-    let first = c.args.inputs.now.first in
-    let days = c.args.inputs.now.days in
-    let texts = map g.C.Read.remaining c.args.scripts.now in
-    let fault = c.in_err-line.field-0.0 in
-    rw (p.1, p.2) (λ input. refused_behind set limits after journal first days c.args.besides.now
-    (λ xs ys older zs. ForTaken c.args.given c.args.besides.now.journal zs (λ more. IsRefusedAgainst xs ys first days older more zs c.args.today texts fault)) fault c.in_ok-read.ensures.sealed
-    (for_taken (λ more xs ys older zs. IsRefusedAgainst xs ys first days older more zs c.args.today texts fault) set limits after journal c.args.given c.args.besides.now.journal c.in_ok-read.read.more c.in_ok-read.ensures.more (refused_unasked set limits after journal first days c.in_ok-read.read.more c.args.today texts
-    c.in_ok-read.read.flights c.in_ok-read.read.older c.in_ok-read.read.core c.in_ok-read.read.scripts c.as_slice.result.now c.as_slice.ensures c.in_ok-read.read.more refl c.in_ok-read.ensures.ok fault c.in_err-line.ensures.fault input)))
-
-pub returns-in_err-line-clause-large : goal.returns-in_err-line-clause-large
-returns-in_err-line-clause-large g c =
-    let p = err_from_is_err_and c.from_residual-in_err-line.result c.from_residual-in_err-line.ensures.1 in
-    rw (p.1, p.2) (λ large. absurd (c.in_err-line.ensures.kind.1 large))
-
-pub returns-in_err-line-clause-device : goal.returns-in_err-line-clause-device
-returns-in_err-line-clause-device g c =
-    let p = err_from_is_err_and c.from_residual-in_err-line.result c.from_residual-in_err-line.ensures.1 in
-    rw (p.1, p.2) (λ device. absurd (c.in_err-line.ensures.kind.0 device))
 
 pub returns-in-Ok-clause-ok : goal.returns-in-Ok-clause-ok
 returns-in-Ok-clause-ok g c = record {
   text = c.in_ok-line.line.items;
-  right = with_taken (λ more xs ys older zs. IsAuditAgainst xs ys c.args.inputs.now.first c.args.inputs.now.days older more zs c.args.today (map g.C.Read.remaining c.args.scripts.now) c.in_ok-line.line.items) (g.S.Read.remaining c.args.inputs.now.set) (g.L.Read.remaining c.args.inputs.now.limits) (g.A.Read.remaining c.args.after.now) (g.J.Read.remaining c.args.journal.now) c.args.given c.args.besides.now.journal c.in_ok-read.read.more c.in_ok-read.ensures.more
-      (audited (g.S.Read.remaining c.args.inputs.now.set) (g.L.Read.remaining c.args.inputs.now.limits) (g.A.Read.remaining c.args.after.now) (g.J.Read.remaining c.args.journal.now)
-      c.args.inputs.now.first c.args.inputs.now.days c.in_ok-read.read.more c.args.today (map g.C.Read.remaining c.args.scripts.now)
-      c.in_ok-read.read.flights c.in_ok-read.read.older c.in_ok-read.read.core c.in_ok-read.read.scripts c.as_slice.result.now c.as_slice.ensures c.in_ok-read.read.more refl c.in_ok-read.ensures.ok c.in_ok-line.line.items c.in_ok-line.ensures.ok c.in_ok-line.ensures.asked);
+  right = c.in_ok-line.ensures.ok;
   written = subst (λ (l : List ℕ). Appends (g.W.Write.contents c.args.out.now) (g.W.Write.contents c.put_all.new.out) l) c.deref.ensures.value c.in-Ok.ensures.ok;
 }
 
@@ -49,9 +14,6 @@ pub returns-clause-device : goal.returns-clause-device
 returns-clause-device g c = λ _. inr (record {
   counted = c.in-Err.ensures.device;
   text = c.in_ok-line.line.items;
-  right = with_taken (λ more xs ys older zs. IsAuditAgainst xs ys c.args.inputs.now.first c.args.inputs.now.days older more zs c.args.today (map g.C.Read.remaining c.args.scripts.now) c.in_ok-line.line.items) (g.S.Read.remaining c.args.inputs.now.set) (g.L.Read.remaining c.args.inputs.now.limits) (g.A.Read.remaining c.args.after.now) (g.J.Read.remaining c.args.journal.now) c.args.given c.args.besides.now.journal c.in_ok-read.read.more c.in_ok-read.ensures.more
-      (audited (g.S.Read.remaining c.args.inputs.now.set) (g.L.Read.remaining c.args.inputs.now.limits) (g.A.Read.remaining c.args.after.now) (g.J.Read.remaining c.args.journal.now)
-      c.args.inputs.now.first c.args.inputs.now.days c.in_ok-read.read.more c.args.today (map g.C.Read.remaining c.args.scripts.now)
-      c.in_ok-read.read.flights c.in_ok-read.read.older c.in_ok-read.read.core c.in_ok-read.read.scripts c.as_slice.result.now c.as_slice.ensures c.in_ok-read.read.more refl c.in_ok-read.ensures.ok c.in_ok-line.line.items c.in_ok-line.ensures.ok c.in_ok-line.ensures.asked);
+  right = c.in_ok-line.ensures.ok;
   begun = subst (λ (l : List ℕ). TookFront (g.W.Write.contents c.args.out.now) (g.W.Write.contents c.put_all.new.out) l) c.deref.ensures.value c.in-Err.ensures.front;
 })

@@ -1,44 +1,43 @@
-use Rattle.std.proofs.Common.{true, false, map, refl, sym, ◌∙◌}
-use Rattle.std.proofs.lemmas.Result.{err_from_is_err_and}
-use Rattle.seat_scripts.proofs.Inputs.{asked_of}
-use Rattle.seat_scripts.proofs.Seals.{agrees, repeated_of, sealed_again, sealed_changes_fail, sealed_large_changes}
 use Rattle.seat_scripts.proofs.asked.read_asked.Goals as goal
 
-pub returns-in-Err-limit_changes-clause-large : goal.returns-in-Err-limit_changes-clause-large
-returns-in-Err-limit_changes-clause-large g c = λ large.
-    sealed_large_changes (g.S.Read.remaining c.args.inputs.now.set) (g.L.Read.remaining c.args.inputs.now.limits) (g.A.Read.remaining c.args.after.now) c.args.inputs.now.first c.args.inputs.now.days c.args.today
-    (map g.C.Read.remaining c.args.scripts.now) (g.D.Read.remaining c.args.changes.now) c.args.beside.now c.args.again
-    c.in_ok-loaded.field-0.loaded.flights c.in_ok-loaded.field-0.loaded.grid c.in_ok-loaded.field-0.basis c.in_ok-loaded.ensures.ok (c.in_ok-loaded.ensures.basis refl)
-    c.in_ok-past.ensures.sealed c.in_ok-past.field-0.past.journal c.in_ok-past.ensures.past c.in-Ok.scripts.scripts c.in-Ok.ensures.ok (c.in-Err-limit_changes.ensures.large large)
+pub returns-clause-ok : goal.returns-clause-ok
+returns-clause-ok g c = c.in_ok-asked.ensures.ok.is_asked
 
-pub returns-in-Err-limit_changes-clause-device : goal.returns-in-Err-limit_changes-clause-device
-returns-in-Err-limit_changes-clause-device g c = λ device.
-    sealed_changes_fail (g.S.Read.remaining c.args.inputs.now.set) (g.L.Read.remaining c.args.inputs.now.limits) (g.A.Read.remaining c.args.after.now) c.args.inputs.now.first c.args.inputs.now.days c.args.today
-    (map g.C.Read.remaining c.args.scripts.now) (g.D.Read.remaining c.args.changes.now) c.args.beside.now c.args.again
-    c.in_ok-loaded.field-0.loaded.flights c.in_ok-loaded.field-0.loaded.grid c.in_ok-loaded.field-0.basis c.in_ok-loaded.ensures.ok (c.in_ok-loaded.ensures.basis refl)
-    c.in_ok-past.ensures.sealed c.in_ok-past.field-0.past.journal c.in_ok-past.ensures.past c.in-Ok.scripts.scripts c.in-Ok.ensures.ok _ _ _ _ _ (c.in-Err-limit_changes.ensures.device device)
-
-pub returns-in_err-once-clause-fault : goal.returns-in_err-once-clause-fault
-returns-in_err-once-clause-fault g c =
-    let p = err_from_is_err_and c.from_residual-in_err-once.result c.from_residual-in_err-once.ensures.1 in
-    let set = g.S.Read.remaining c.args.inputs.now.set in
-    let limits = g.L.Read.remaining c.args.inputs.now.limits in
-    let after = g.A.Read.remaining c.args.after.now in
-    let texts = map g.C.Read.remaining c.args.scripts.now in
-    let changing = g.D.Read.remaining c.args.changes.now in
-    let read = c.in-Ok.scripts in
-    let made = c.in-Ok-limit_changes.changes in
-    let loaded = c.in_ok-loaded.field-0 in
-    let known = c.in_ok-past.field-0 in
-    rw (p.1, p.2) (λ input. sealed_again set limits after c.args.inputs.now.first c.args.inputs.now.days c.args.today texts changing c.args.beside.now c.args.again
-    loaded.loaded.flights known.past.grid known.past.journal read.scripts made.changes.items c.in_err-once.field-0.0
-    (agrees set limits after c.args.inputs.now.first c.args.inputs.now.days loaded.loaded.flights loaded.loaded.grid c.args.beside.now loaded.basis c.in_ok-loaded.ensures.ok (c.in_ok-loaded.ensures.basis refl) c.in_ok-past.ensures.sealed)
-    (asked_of set limits after c.args.inputs.now.first c.args.inputs.now.days c.args.today texts changing loaded.loaded.flights loaded.loaded.grid c.in_ok-loaded.ensures.ok known.past.journal c.in_ok-past.ensures.past read.scripts c.in-Ok.ensures.ok
-    known.past.grid made.changes.items c.in_ok-past.ensures.grid c.in-Ok-limit_changes.ensures.ok)
-    (repeated_of true c.args.beside.now after texts changing known.last read.is_booked made.are_booked c.in_ok-past.ensures.last c.in-Ok.ensures.booked c.in-Ok-limit_changes.ensures.booked (sym c.in_err-once.ensures.repeated ∙ c.either.ensures))
-    c.in_err-once.ensures.given c.in_err-once.ensures.fault)
+pub returns-clause-sealed : goal.returns-clause-sealed
+returns-clause-sealed g c = c.in_ok-asked.ensures.ok.agree
 
 pub returns-clause-once : goal.returns-clause-once
-returns-clause-once g c = λ given.
-    repeated_of false c.args.beside.now (g.A.Read.remaining c.args.after.now) (map g.C.Read.remaining c.args.scripts.now) (g.D.Read.remaining c.args.changes.now) c.in_ok-past.field-0.last
-    c.in-Ok.scripts.is_booked c.in-Ok-limit_changes.changes.are_booked c.in_ok-past.ensures.last c.in-Ok.ensures.booked c.in-Ok-limit_changes.ensures.booked (sym (c.in_ok-once.ensures.ok given) ∙ c.either.ensures)
+returns-clause-once g c = c.in_ok-asked.ensures.ok.is_once
+
+pub returns-clause-basis : goal.returns-clause-basis
+returns-clause-basis g c = c.in_ok-asked.ensures.ok.is_basis
+
+pub returns-clause-grid : goal.returns-clause-grid
+returns-clause-grid g c = c.in_ok-asked.ensures.ok.is_grid
+
+pub returns-clause-legal : goal.returns-clause-legal
+returns-clause-legal g c = c.in_ok-asked.ensures.ok.is_legal
+
+pub returns-clause-most : goal.returns-clause-most
+returns-clause-most g c = c.in_ok-asked.ensures.ok.most
+
+pub returns-clause-right : goal.returns-clause-right
+returns-clause-right g c = c.in_ok-asked.ensures.ok.are_right
+
+pub returns-clause-legs : goal.returns-clause-legs
+returns-clause-legs g c = c.in_ok-asked.ensures.ok.on_legs
+
+pub returns-clause-imprints : goal.returns-clause-imprints
+returns-clause-imprints g c = c.in_ok-asked.ensures.ok.are_imprints
+
+pub returns-clause-changed : goal.returns-clause-changed
+returns-clause-changed g c = c.in_ok-asked.ensures.ok.is_imprint
+
+pub returns-clause-earlier : goal.returns-clause-earlier
+returns-clause-earlier g c = c.in_ok-asked.ensures.ok.is_carried
+
+pub returns-clause-count : goal.returns-clause-count
+returns-clause-count g c = c.in_ok-asked.ensures.count
+
+pub returns-clause-behind : goal.returns-clause-behind
+returns-clause-behind g c = c.in_ok-asked.ensures.behind

@@ -1,17 +1,46 @@
-use Rattle.std.proofs.Common.{None, Some, ap, inl, inr, map, refl}
+use Rattle.std.proofs.Common.{List, None, Option, ap, inl, inr, map, refl, subst, sym, ◌∙◌}
 use Rattle.std.proofs.lemmas.Result.{err_from_is_err_and}
-use Rattle.seat_scripts.proofs.OneTaken.{for_each, for_taken, with_taken}
-use Rattle.seat_scripts.proofs.Judged.{judged, never_of_changes, never_of_reading, never_of_seal, not_device, not_large, refused_by_runs}
-use Rattle.seat_scripts.specs.Begun.{IsJudged, IsJudgedOf}
-use Rattle.seat_scripts.proofs.Seals.{carried_of}
-use Rattle.seat_scripts.proofs.SealedBoth.{large_behind, refused_behind}
-use Rattle.seat_scripts.proofs.Still.{asked_still, behind_still, has_ready, large_still, no_rest_still, still_large, still_read, unchanged_still, whole_still}
-use Rattle.seat_scripts.specs.Resumed.{IsAhead, IsAskedStill, IsRefusedResume, IsTooLargeResume}
-use Rattle.seat_scripts.specs.Taken.{ForTaken}
+use Rattle.ssim_flights.specs.declared.flight.Flight.{Flight as Flown}
+use Rattle.seat_rules.specs.Inventory.{Inventory}
+use Rattle.seat_rules.specs.Journal.{IsLegal}
+use Rattle.seat_seal.specs.declared.beside.Basis.{Basis}
+use Rattle.seat_seal.specs.declared.imprint.Imprint.{Imprint}
+use Rattle.seat_desk.specs.Loading.{IsGridOf}
+use Rattle.seat_desk.specs.Sealing.{IsBasisOf}
+use Rattle.seat_scripts.proofs.GoneOn.{gone_behind, gone_earlier, gone_legs, gone_on, gone_once, stopped, stopped_behind}
+use Rattle.seat_scripts.proofs.Judged.{never_of_reading}
+use Rattle.seat_scripts.proofs.Rest.{rest_count, rest_right}
+use Rattle.seat_scripts.proofs.SealedBoth.{large_behind}
+use Rattle.seat_scripts.proofs.Still.{has_ready, large_still, still_large, still_read}
+use Rattle.seat_scripts.specs.Begun.{IsJudged}
+use Rattle.seat_scripts.specs.Resumed.{IsTooLargeResume}
+use Rattle.seat_scripts.specs.TextImprints.{AreImprints, IsImprintOf}
 use Rattle.seat_scripts.proofs.resumed.read_resumed.Goals as goal
 
-pub returns-in-Err-clause-fault : goal.returns-in-Err-clause-fault
-returns-in-Err-clause-fault g c =
+pub returns-in_err-read-clause-fault : goal.returns-in_err-read-clause-fault
+returns-in_err-read-clause-fault g c =
+    let p = err_from_is_err_and c.from_residual.result c.from_residual.ensures.1 in
+    rw (p.1, p.2) (λ input. inl (still_read (g.S.Read.remaining c.args.inputs.now.set) (g.L.Read.remaining c.args.inputs.now.limits) (g.A.Read.remaining c.args.after.now) (g.J.Read.remaining c.args.journal.now)
+    c.args.inputs.now.first c.args.inputs.now.days c.args.today (map g.C.Read.remaining c.args.scripts.now) (g.D.Read.remaining c.args.changes.now)
+    c.args.besides.now c.args.given c.in_err-read.field-0.0 c.in_err-read.ensures.fault c.in_err-read.ensures.read input))
+
+pub returns-in_err-read-clause-large : goal.returns-in_err-read-clause-large
+returns-in_err-read-clause-large g c =
+    let p = err_from_is_err_and c.from_residual.result c.from_residual.ensures.1 in
+    rw (p.1, p.2) (λ large. still_large (g.S.Read.remaining c.args.inputs.now.set) (g.L.Read.remaining c.args.inputs.now.limits) (g.A.Read.remaining c.args.after.now) (g.J.Read.remaining c.args.journal.now)
+    c.args.inputs.now.first c.args.inputs.now.days c.args.today (map g.C.Read.remaining c.args.scripts.now) (g.D.Read.remaining c.args.changes.now)
+    c.args.besides.now (c.in_err-read.ensures.large large))
+
+pub returns-in_err-read-clause-judged : goal.returns-in_err-read-clause-judged
+returns-in_err-read-clause-judged g c =
+    let p = err_from_is_err_and c.from_residual.result c.from_residual.ensures.1 in
+    rw (p.1, p.2) (λ behind. never_of_reading (λ xs ys older zs. IsJudged None c.args.again c.args.given c.args.besides.now.journal older zs (map g.C.Read.remaining c.args.scripts.now) (g.D.Read.remaining c.args.changes.now))
+    (g.S.Read.remaining c.args.inputs.now.set) (g.L.Read.remaining c.args.inputs.now.limits) (g.A.Read.remaining c.args.after.now) (g.J.Read.remaining c.args.journal.now)
+    c.in_err-read.field-0.0 c.in_err-read.ensures.read behind)
+
+pub returns-in_err-asked-clause-fault : goal.returns-in_err-asked-clause-fault
+returns-in_err-asked-clause-fault g c =
+    let p = err_from_is_err_and c.from_residual-in_err-asked.result c.from_residual-in_err-asked.ensures.1 in
     let set = g.S.Read.remaining c.args.inputs.now.set in
     let limits = g.L.Read.remaining c.args.inputs.now.limits in
     let after = g.A.Read.remaining c.args.after.now in
@@ -20,14 +49,15 @@ returns-in-Err-clause-fault g c =
     let days = c.args.inputs.now.days in
     let texts = map g.C.Read.remaining c.args.scripts.now in
     let changing = g.D.Read.remaining c.args.changes.now in
-    λ input. inl (refused_behind set limits after journal first days c.args.besides.now
-    (λ xs ys older zs. ForTaken c.args.given c.args.besides.now.journal zs (λ more. IsRefusedResume xs ys first days c.args.today older more zs texts changing c.in-Err.fault)) c.in-Err.fault c.in_ok-flights.ensures.sealed
-    (for_each (λ more xs ys older zs. IsRefusedResume xs ys first days c.args.today older more zs texts changing c.in-Err.fault) set limits after journal c.args.given c.args.besides.now.journal (λ more. unchanged_still set limits after journal first days c.args.today more texts changing
-    c.in_ok-flights.field-0.flights c.in_ok-flights.field-0.older c.in_ok-flights.field-0.core c.in_ok-flights.field-0.scripts c.in_ok-flights.ensures.ok
-    c.in-Err.fault c.in-Err.ensures.changes c.in-Err.ensures.fault input)))
+    let read = c.in_ok-read.read in
+    let e = c.in_ok-read.ensures.ok in
+    let fault = c.in_err-asked.field-0.0 in
+    rw (p.1, p.2) (λ input. stopped set limits after journal first days c.args.today texts changing c.args.given c.args.besides.now c.args.again read e.are_read e.agree e.is_known e.more_is e.is_booked
+    fault (c.in_err-asked.ensures.fault input) input)
 
-pub returns-in-Err-clause-large : goal.returns-in-Err-clause-large
-returns-in-Err-clause-large g c =
+pub returns-in_err-asked-clause-judged : goal.returns-in_err-asked-clause-judged
+returns-in_err-asked-clause-judged g c =
+    let p = err_from_is_err_and c.from_residual-in_err-asked.result c.from_residual-in_err-asked.ensures.1 in
     let set = g.S.Read.remaining c.args.inputs.now.set in
     let limits = g.L.Read.remaining c.args.inputs.now.limits in
     let after = g.A.Read.remaining c.args.after.now in
@@ -36,26 +66,15 @@ returns-in-Err-clause-large g c =
     let days = c.args.inputs.now.days in
     let texts = map g.C.Read.remaining c.args.scripts.now in
     let changing = g.D.Read.remaining c.args.changes.now in
-    λ large. large_behind set limits after journal first days c.args.besides.now
-    (λ xs ys older zs. IsTooLargeResume xs ys first days c.args.today older zs texts changing) c.in_ok-flights.ensures.sealed
-    (large_still set limits after journal first days c.args.today c.in_ok-flights.field-0.more texts changing
-    c.in_ok-flights.field-0.flights c.in_ok-flights.field-0.older c.in_ok-flights.field-0.core c.in_ok-flights.field-0.scripts c.in_ok-flights.ensures.ok
-    (c.in-Err.ensures.large large))
+    let read = c.in_ok-read.read in
+    let e = c.in_ok-read.ensures.ok in
+    let fault = c.in_err-asked.field-0.0 in
+    rw (p.1, p.2) (λ behind. stopped_behind set limits after journal first days c.args.today texts changing c.args.given c.args.besides.now c.args.again read e.are_read e.agree e.is_known e.more_is e.is_booked
+    fault c.in_err-asked.ensures.fault behind)
 
-pub returns-in-Err-clause-device : goal.returns-in-Err-clause-device
-returns-in-Err-clause-device g c = λ device. inr (inr (record {
-  ahead = c.in_ok-flights.ensures.sealed;
-  here = inr (
-    has_ready (g.S.Read.remaining c.args.inputs.now.set) (g.L.Read.remaining c.args.inputs.now.limits) (g.A.Read.remaining c.args.after.now) (g.J.Read.remaining c.args.journal.now)
-        c.args.inputs.now.first c.args.inputs.now.days c.args.today c.in_ok-flights.field-0.more (map g.C.Read.remaining c.args.scripts.now) (g.D.Read.remaining c.args.changes.now)
-        c.in_ok-flights.field-0.flights c.in_ok-flights.field-0.older c.in_ok-flights.field-0.core c.in_ok-flights.field-0.scripts c.in_ok-flights.ensures.ok,
-    c.in-Err.ensures.device device,
-  );
-}))
-
-pub returns-in_err-rest-clause-fault : goal.returns-in_err-rest-clause-fault
-returns-in_err-rest-clause-fault g c =
-    let p = err_from_is_err_and c.from_residual-in_err-rest.result c.from_residual-in_err-rest.ensures.1 in
+pub returns-in_err-asked-clause-large : goal.returns-in_err-asked-clause-large
+returns-in_err-asked-clause-large g c =
+    let p = err_from_is_err_and c.from_residual-in_err-asked.result c.from_residual-in_err-asked.ensures.1 in
     let set = g.S.Read.remaining c.args.inputs.now.set in
     let limits = g.L.Read.remaining c.args.inputs.now.limits in
     let after = g.A.Read.remaining c.args.after.now in
@@ -64,13 +83,33 @@ returns-in_err-rest-clause-fault g c =
     let days = c.args.inputs.now.days in
     let texts = map g.C.Read.remaining c.args.scripts.now in
     let changing = g.D.Read.remaining c.args.changes.now in
-    let fault = c.in_err-rest.field-0.0 in
-    rw (p.1, p.2) (λ input. inl (refused_behind set limits after journal first days c.args.besides.now
-    (λ xs ys older zs. ForTaken c.args.given c.args.besides.now.journal zs (λ more. IsRefusedResume xs ys first days c.args.today older more zs texts changing fault)) fault c.in_ok-flights.ensures.sealed
-    (for_taken (λ more xs ys older zs. IsRefusedResume xs ys first days c.args.today older more zs texts changing fault) set limits after journal c.args.given c.args.besides.now.journal c.in_ok-flights.field-0.more c.in_ok-flights.ensures.more (no_rest_still set limits after journal first days c.args.today c.in_ok-flights.field-0.more texts changing
-    c.in_ok-flights.field-0.flights c.in_ok-flights.field-0.older c.in_ok-flights.field-0.core c.in_ok-flights.field-0.scripts c.in_ok-flights.ensures.ok
-    c.in-Ok.changes.changes.items c.in-Ok.ensures.ok c.as_slice.result.now c.deref.result.now c.in_ok-flights.field-0.more c.as_slice.ensures c.deref.ensures.value refl
-    fault c.in_err-rest.ensures.fault input))))
+    let read = c.in_ok-read.read in
+    let e = c.in_ok-read.ensures.ok in
+    rw (p.1, p.2) (λ large. large_behind set limits after journal first days c.args.besides.now
+    (λ xs ys older zs. IsTooLargeResume xs ys first days c.args.today older zs texts changing) e.agree
+    (large_still set limits after journal first days c.args.today read.more texts changing read.flights read.older read.core read.scripts e.are_read
+    (c.in_err-asked.ensures.large large)))
+
+pub returns-in_err-asked-clause-device : goal.returns-in_err-asked-clause-device
+returns-in_err-asked-clause-device g c =
+    let p = err_from_is_err_and c.from_residual-in_err-asked.result c.from_residual-in_err-asked.ensures.1 in
+    let set = g.S.Read.remaining c.args.inputs.now.set in
+    let limits = g.L.Read.remaining c.args.inputs.now.limits in
+    let after = g.A.Read.remaining c.args.after.now in
+    let journal = g.J.Read.remaining c.args.journal.now in
+    let first = c.args.inputs.now.first in
+    let days = c.args.inputs.now.days in
+    let texts = map g.C.Read.remaining c.args.scripts.now in
+    let changing = g.D.Read.remaining c.args.changes.now in
+    let read = c.in_ok-read.read in
+    let e = c.in_ok-read.ensures.ok in
+    rw (p.1, p.2) (λ device. inr (inr (record {
+      ahead = e.agree;
+      here = inr (
+        has_ready set limits after journal first days c.args.today read.more texts changing read.flights read.older read.core read.scripts e.are_read,
+        c.in_err-asked.ensures.device device,
+      );
+    })))
 
 pub returns-clause-ok : goal.returns-clause-ok
 returns-clause-ok g c =
@@ -82,14 +121,12 @@ returns-clause-ok g c =
     let days = c.args.inputs.now.days in
     let texts = map g.C.Read.remaining c.args.scripts.now in
     let changing = g.D.Read.remaining c.args.changes.now in
-    let more = c.in_ok-flights.field-0.more in
-    with_taken
-    (λ n xs ys older zs. IsAskedStill xs ys first days c.args.today older n zs texts changing c.in_ok-flights.field-0.flights c.in_ok-flights.field-0.core.grid c.in_ok-flights.field-0.core.journal c.in_ok-rest.rest.scripts c.in_ok-rest.rest.changes.items)
-    set limits after journal c.args.given c.args.besides.now.journal more c.in_ok-flights.ensures.more
-    (asked_still set limits after journal first days c.args.today more texts changing
-    c.in_ok-flights.field-0.flights c.in_ok-flights.field-0.older c.in_ok-flights.field-0.core c.in_ok-flights.field-0.scripts c.in_ok-flights.ensures.ok
-    c.in-Ok.changes.changes.items c.in-Ok.ensures.ok c.as_slice.result.now c.deref.result.now more c.in_ok-rest.rest.scripts c.in_ok-rest.rest.changes.items
-    c.as_slice.ensures c.deref.ensures.value refl c.in_ok-rest.ensures.ok)
+    let read = c.in_ok-read.read in
+    let e = c.in_ok-read.ensures.ok in
+    let asked = c.in_ok-asked.asked in
+    let is = c.in_ok-asked.ensures.ok in
+    gone_on set limits after journal first days c.args.today texts changing c.args.given c.args.besides.now c.args.again read e.are_read e.agree e.is_known e.more_is e.is_booked
+    asked is
 
 pub returns-clause-behind : goal.returns-clause-behind
 returns-clause-behind g c =
@@ -101,64 +138,12 @@ returns-clause-behind g c =
     let days = c.args.inputs.now.days in
     let texts = map g.C.Read.remaining c.args.scripts.now in
     let changing = g.D.Read.remaining c.args.changes.now in
-    let more = c.in_ok-flights.field-0.more in
-    with_taken (λ n xs ys older zs. IsAhead n older c.in_ok-rest.rest.behind)
-    set limits after journal c.args.given c.args.besides.now.journal more c.in_ok-flights.ensures.more
-    (behind_still set limits after journal first days c.args.today more texts changing
-    c.in_ok-flights.field-0.flights c.in_ok-flights.field-0.older c.in_ok-flights.field-0.core c.in_ok-flights.field-0.scripts c.in_ok-flights.ensures.ok
-    more c.in_ok-rest.rest.behind refl c.in_ok-rest.ensures.behind)
-
-pub returns-in_err-flights-clause-fault : goal.returns-in_err-flights-clause-fault
-returns-in_err-flights-clause-fault g c =
-    let p = err_from_is_err_and c.from_residual.result c.from_residual.ensures.1 in
-    rw (p.1, p.2) (λ input. inl (still_read (g.S.Read.remaining c.args.inputs.now.set) (g.L.Read.remaining c.args.inputs.now.limits) (g.A.Read.remaining c.args.after.now) (g.J.Read.remaining c.args.journal.now)
-    c.args.inputs.now.first c.args.inputs.now.days c.args.today (map g.C.Read.remaining c.args.scripts.now) (g.D.Read.remaining c.args.changes.now)
-    c.args.besides.now c.args.given c.in_err-flights.field-0.0 c.in_err-flights.ensures.fault c.in_err-flights.ensures.read input))
-
-pub returns-in_err-flights-clause-large : goal.returns-in_err-flights-clause-large
-returns-in_err-flights-clause-large g c =
-    let p = err_from_is_err_and c.from_residual.result c.from_residual.ensures.1 in
-    rw (p.1, p.2) (λ large. still_large (g.S.Read.remaining c.args.inputs.now.set) (g.L.Read.remaining c.args.inputs.now.limits) (g.A.Read.remaining c.args.after.now) (g.J.Read.remaining c.args.journal.now)
-    c.args.inputs.now.first c.args.inputs.now.days c.args.today (map g.C.Read.remaining c.args.scripts.now) (g.D.Read.remaining c.args.changes.now)
-    c.args.besides.now (c.in_err-flights.ensures.large large))
-
-pub returns-in_err-of_runs-clause-fault : goal.returns-in_err-of_runs-clause-fault
-returns-in_err-of_runs-clause-fault g c =
-    let p = err_from_is_err_and c.from_residual-in_err-of_runs.result c.from_residual-in_err-of_runs.ensures.1 in
-    let set = g.S.Read.remaining c.args.inputs.now.set in
-    let limits = g.L.Read.remaining c.args.inputs.now.limits in
-    let after = g.A.Read.remaining c.args.after.now in
-    let journal = g.J.Read.remaining c.args.journal.now in
-    let first = c.args.inputs.now.first in
-    let days = c.args.inputs.now.days in
-    let texts = map g.C.Read.remaining c.args.scripts.now in
-    let changing = g.D.Read.remaining c.args.changes.now in
-    let said = c.in_err-of_runs.ensures.fault in
-    rw (p.1, p.2) (λ input. inr (refused_by_runs set limits after journal first days c.args.today texts changing c.args.given c.args.besides.now c.args.again
-    c.in_ok-flights.field-0.flights c.in_ok-flights.field-0.core.grid c.in_ok-flights.field-0.older.journal c.in_ok-flights.field-0.core.journal c.in_ok-flights.field-0.scripts c.in-Ok.changes.changes.items
-    c.in_err-of_runs.field-0.0 said.0 c.in_ok-flights.ensures.sealed
-    (whole_still set limits after journal first days c.args.today c.in_ok-flights.field-0.more texts changing
-    c.in_ok-flights.field-0.flights c.in_ok-flights.field-0.older c.in_ok-flights.field-0.core c.in_ok-flights.field-0.scripts c.in_ok-flights.ensures.ok
-    c.in-Ok.changes.changes.items c.in-Ok.ensures.ok)
-    (judged set limits after journal first days c.args.today texts changing c.args.given c.args.besides.now c.args.again
-    c.in_ok-flights.field-0.flights c.in_ok-flights.field-0.older c.in_ok-flights.field-0.core c.in_ok-flights.field-0.scripts c.in_ok-flights.ensures.ok
-    c.in_ok-flights.field-0.known c.in_ok-flights.ensures.known c.in_ok-flights.field-0.more c.in_ok-flights.ensures.taken
-    c.in_ok-flights.field-0.is_booked c.in-Ok.changes.are_booked c.either-is_repeated.result c.in_ok-flights.ensures.booked
-    (Some c.lines_ahead.result) (ap Some c.lines_ahead.ensures) c.in-Ok.ensures.booked c.either-is_repeated.ensures
-    (Some said.0) said.2)
-    said.1))
-
-pub returns-in_err-of_runs-clause-large : goal.returns-in_err-of_runs-clause-large
-returns-in_err-of_runs-clause-large g c =
-    let p = err_from_is_err_and c.from_residual-in_err-of_runs.result c.from_residual-in_err-of_runs.ensures.1 in
-    let said = c.in_err-of_runs.ensures.fault in
-    rw (p.1, p.2) (λ large. absurd (not_large c.in_err-of_runs.field-0.0 said.0 said.1 large))
-
-pub returns-in_err-of_runs-clause-device : goal.returns-in_err-of_runs-clause-device
-returns-in_err-of_runs-clause-device g c =
-    let p = err_from_is_err_and c.from_residual-in_err-of_runs.result c.from_residual-in_err-of_runs.ensures.1 in
-    let said = c.in_err-of_runs.ensures.fault in
-    rw (p.1, p.2) (λ device. absurd (not_device c.in_err-of_runs.field-0.0 said.0 said.1 device))
+    let read = c.in_ok-read.read in
+    let e = c.in_ok-read.ensures.ok in
+    let asked = c.in_ok-asked.asked in
+    let is = c.in_ok-asked.ensures.ok in
+    gone_behind set limits after journal first days c.args.today texts changing c.args.given c.args.besides.now c.args.again read e.are_read e.agree e.is_known e.more_is e.is_booked
+    asked is
 
 pub returns-clause-once : goal.returns-clause-once
 returns-clause-once g c =
@@ -170,40 +155,15 @@ returns-clause-once g c =
     let days = c.args.inputs.now.days in
     let texts = map g.C.Read.remaining c.args.scripts.now in
     let changing = g.D.Read.remaining c.args.changes.now in
-    judged set limits after journal first days c.args.today texts changing c.args.given c.args.besides.now c.args.again
-    c.in_ok-flights.field-0.flights c.in_ok-flights.field-0.older c.in_ok-flights.field-0.core c.in_ok-flights.field-0.scripts c.in_ok-flights.ensures.ok
-    c.in_ok-flights.field-0.known c.in_ok-flights.ensures.known c.in_ok-flights.field-0.more c.in_ok-flights.ensures.taken
-    c.in_ok-flights.field-0.is_booked c.in-Ok.changes.are_booked c.either-is_repeated.result c.in_ok-flights.ensures.booked
-    (Some c.lines_ahead.result) (ap Some c.lines_ahead.ensures) c.in-Ok.ensures.booked c.either-is_repeated.ensures
-    None c.in_ok-of_runs.ensures.ok
+    let read = c.in_ok-read.read in
+    let e = c.in_ok-read.ensures.ok in
+    let asked = c.in_ok-asked.asked in
+    let is = c.in_ok-asked.ensures.ok in
+    gone_once set limits after journal first days c.args.today texts changing c.args.given c.args.besides.now c.args.again read e.are_read e.agree e.is_known e.more_is e.is_booked
+    asked is
 
 pub returns-clause-earlier : goal.returns-clause-earlier
 returns-clause-earlier g c =
-    carried_of c.args.besides.now.journal (g.J.Read.remaining c.args.journal.now) c.in_ok-flights.field-0.known c.carried_by.result c.in_ok-flights.ensures.known c.carried_by.ensures
-
-pub returns-in_err-flights-clause-judged : goal.returns-in_err-flights-clause-judged
-returns-in_err-flights-clause-judged g c =
-    let p = err_from_is_err_and c.from_residual.result c.from_residual.ensures.1 in
-    rw (p.1, p.2) (λ behind. never_of_reading (λ xs ys older zs. IsJudged None c.args.again c.args.given c.args.besides.now.journal older zs (map g.C.Read.remaining c.args.scripts.now) (g.D.Read.remaining c.args.changes.now))
-    (g.S.Read.remaining c.args.inputs.now.set) (g.L.Read.remaining c.args.inputs.now.limits) (g.A.Read.remaining c.args.after.now) (g.J.Read.remaining c.args.journal.now)
-    c.in_err-flights.field-0.0 c.in_err-flights.ensures.read behind)
-
-pub returns-in-Err-clause-judged : goal.returns-in-Err-clause-judged
-returns-in-Err-clause-judged g c = λ behind. never_of_changes
-    (IsJudgedOf None c.args.again c.args.besides.now.journal (g.S.Read.remaining) (g.L.Read.remaining) c.args.inputs.now (g.A.Read.remaining c.args.after.now) c.args.given (g.J.Read.remaining c.args.journal.now) (map g.C.Read.remaining c.args.scripts.now) (g.D.Read.remaining c.args.changes.now))
-    c.in-Err.fault c.in-Err.ensures.changes behind
-
-pub returns-in_err-of_runs-clause-judged : goal.returns-in_err-of_runs-clause-judged
-returns-in_err-of_runs-clause-judged g c =
-    let p = err_from_is_err_and c.from_residual-in_err-of_runs.result c.from_residual-in_err-of_runs.ensures.1 in
-    let said = c.in_err-of_runs.ensures.fault in
-    rw (p.1, p.2) (λ behind. never_of_seal
-    (IsJudgedOf None c.args.again c.args.besides.now.journal (g.S.Read.remaining) (g.L.Read.remaining) c.args.inputs.now (g.A.Read.remaining c.args.after.now) c.args.given (g.J.Read.remaining c.args.journal.now) (map g.C.Read.remaining c.args.scripts.now) (g.D.Read.remaining c.args.changes.now))
-    c.in_err-of_runs.field-0.0 said.0 said.1 behind)
-
-pub returns-in_err-rest-clause-judged : goal.returns-in_err-rest-clause-judged
-returns-in_err-rest-clause-judged g c =
-    let p = err_from_is_err_and c.from_residual-in_err-rest.result c.from_residual-in_err-rest.ensures.1 in
     let set = g.S.Read.remaining c.args.inputs.now.set in
     let limits = g.L.Read.remaining c.args.inputs.now.limits in
     let after = g.A.Read.remaining c.args.after.now in
@@ -212,9 +172,97 @@ returns-in_err-rest-clause-judged g c =
     let days = c.args.inputs.now.days in
     let texts = map g.C.Read.remaining c.args.scripts.now in
     let changing = g.D.Read.remaining c.args.changes.now in
-    rw (p.1, p.2) (λ behind. judged set limits after journal first days c.args.today texts changing c.args.given c.args.besides.now c.args.again
-    c.in_ok-flights.field-0.flights c.in_ok-flights.field-0.older c.in_ok-flights.field-0.core c.in_ok-flights.field-0.scripts c.in_ok-flights.ensures.ok
-    c.in_ok-flights.field-0.known c.in_ok-flights.ensures.known c.in_ok-flights.field-0.more c.in_ok-flights.ensures.taken
-    c.in_ok-flights.field-0.is_booked c.in-Ok.changes.are_booked c.either-is_repeated.result c.in_ok-flights.ensures.booked
-    (Some c.lines_ahead.result) (ap Some c.lines_ahead.ensures) c.in-Ok.ensures.booked c.either-is_repeated.ensures
-    None c.in_ok-of_runs.ensures.ok)
+    let read = c.in_ok-read.read in
+    let e = c.in_ok-read.ensures.ok in
+    let asked = c.in_ok-asked.asked in
+    let is = c.in_ok-asked.ensures.ok in
+    gone_earlier set limits after journal first days c.args.today texts changing c.args.given c.args.besides.now c.args.again read e.are_read e.agree e.is_known e.more_is e.is_booked
+    asked is
+
+pub returns-clause-legs : goal.returns-clause-legs
+returns-clause-legs g c =
+    let set = g.S.Read.remaining c.args.inputs.now.set in
+    let limits = g.L.Read.remaining c.args.inputs.now.limits in
+    let after = g.A.Read.remaining c.args.after.now in
+    let journal = g.J.Read.remaining c.args.journal.now in
+    let first = c.args.inputs.now.first in
+    let days = c.args.inputs.now.days in
+    let texts = map g.C.Read.remaining c.args.scripts.now in
+    let changing = g.D.Read.remaining c.args.changes.now in
+    let read = c.in_ok-read.read in
+    let e = c.in_ok-read.ensures.ok in
+    let asked = c.in_ok-asked.asked in
+    let is = c.in_ok-asked.ensures.ok in
+    gone_legs set limits after journal first days c.args.today texts changing c.args.given c.args.besides.now c.args.again read e.are_read e.agree e.is_known e.more_is e.is_booked
+    asked is
+
+pub returns-clause-count : goal.returns-clause-count
+returns-clause-count g c =
+    let read = c.in_ok-read.read in
+    let e = c.in_ok-read.ensures.ok in
+    let asked = c.in_ok-asked.asked in
+    let is = c.in_ok-asked.ensures.ok in
+    rest_count read.flights read.scripts is.made.changes.items read.older.journal read.more read.core.journal asked.scripts asked.changes.items is.is_rest ∙ c.in_ok-read.ensures.count
+
+pub returns-clause-right : goal.returns-clause-right
+returns-clause-right g c =
+    let read = c.in_ok-read.read in
+    let e = c.in_ok-read.ensures.ok in
+    let asked = c.in_ok-asked.asked in
+    let is = c.in_ok-asked.ensures.ok in
+    rest_right read.flights read.scripts is.made.changes.items read.older.journal read.more read.core.journal asked.scripts asked.changes.items is.is_rest e.are_right
+
+pub returns-clause-grid : goal.returns-clause-grid
+returns-clause-grid g c =
+    let read = c.in_ok-read.read in
+    let e = c.in_ok-read.ensures.ok in
+    let asked = c.in_ok-asked.asked in
+    let is = c.in_ok-asked.ensures.ok in
+    subst (λ (f : List Flown). IsGridOf f asked.past.grid) (sym is.flights_are)
+    (subst (λ (p : Inventory). IsGridOf read.flights p.grid) (sym is.past_is) e.is_grid)
+
+pub returns-clause-legal : goal.returns-clause-legal
+returns-clause-legal g c =
+    let e = c.in_ok-read.ensures.ok in
+    let is = c.in_ok-asked.ensures.ok in
+    subst (λ (p : Inventory). IsLegal p.grid p.journal) (sym is.past_is) e.is_legal
+
+pub returns-clause-most : goal.returns-clause-most
+returns-clause-most g c =
+    let e = c.in_ok-read.ensures.ok in
+    let is = c.in_ok-asked.ensures.ok in
+    ap (λ (p : Inventory). p.cap) is.past_is ∙ e.most
+
+pub returns-clause-basis : goal.returns-clause-basis
+returns-clause-basis g c =
+    let e = c.in_ok-read.ensures.ok in
+    let is = c.in_ok-asked.ensures.ok in
+    subst (λ (b : Basis). IsBasisOf g.S.Read.remaining g.L.Read.remaining c.args.inputs.now b) (sym is.basis_is) (e.is_basis refl)
+
+pub returns-clause-imprints : goal.returns-clause-imprints
+returns-clause-imprints g c =
+    let texts = map g.C.Read.remaining c.args.scripts.now in
+    let e = c.in_ok-read.ensures.ok in
+    let is = c.in_ok-asked.ensures.ok in
+    subst (λ (i : List (Option Imprint)). AreImprints texts i) (sym is.imprints_are) e.are_imprints
+
+pub returns-clause-changed : goal.returns-clause-changed
+returns-clause-changed g c =
+    let changing = g.D.Read.remaining c.args.changes.now in
+    let is = c.in_ok-asked.ensures.ok in
+    subst (λ (i : Option Imprint). IsImprintOf changing i) (sym is.imprint_is) is.are_beside.is_imprint
+
+pub asked_beside-requires-clause-grid : goal.asked_beside-requires-clause-grid
+asked_beside-requires-clause-grid g c = c.in_ok-read.ensures.ok.one_grid
+
+pub asked_beside-requires-clause-few : goal.asked_beside-requires-clause-few
+asked_beside-requires-clause-few g c = c.in_ok-read.ensures.ok.few
+
+pub asked_beside-requires-clause-older : goal.asked_beside-requires-clause-older
+asked_beside-requires-clause-older g c = c.in_ok-read.ensures.ok.few_older
+
+pub asked_beside-requires-clause-lines : goal.asked_beside-requires-clause-lines
+asked_beside-requires-clause-lines g c = c.in_ok-read.ensures.ok.few_lines
+
+pub returns-clause-sealed : goal.returns-clause-sealed
+returns-clause-sealed g c = c.in_ok-read.ensures.ok.agree
