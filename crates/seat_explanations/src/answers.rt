@@ -328,12 +328,6 @@ const PARTNERS: &[Explanation] = &[
     },
     Explanation {
         behind: "",
-        code: "AS",
-        numbers: NONE,
-        text: "Of avs: open, seats of the class are for sale on the segment. With --numeric their number stands behind it, up to 9.",
-    },
-    Explanation {
-        behind: "",
         code: "CL",
         numbers: NONE,
         text: "Of avs: closed, and the waiting list of the class is open on the segment.",

@@ -33,7 +33,7 @@ pub(crate) const JOURNALS: &[Explanation] = &[
         behind: "",
         code: "R2",
         numbers: NONE,
-        text: "An input is too large: a data set or a journal has at most 256 MiB, a season file 64 KiB, any other input 16 MiB.\nOr what stands behind the lines of a journal that is to be recovered is a line without an end, of more than 256 KiB.\nseatdesk -v names the file.",
+        text: "An input is too large: a data set, a journal or a partner's list has at most 256 MiB, a season file or thresholds 64 KiB, any other input 16 MiB.\nOr what stands behind the lines of a journal that is to be recovered is a line without an end, of more than 256 KiB.\nseatdesk -v names the file.",
     },
     Explanation {
         behind: "",

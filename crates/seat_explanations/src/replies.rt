@@ -1,4 +1,4 @@
-//! What each code of a reply or an advice says, and when it is given, in one table.
+//! What each code of a reply or an advice says, and when it is given, in one table, and the code of avs that may have seats behind it.
 //! It knows the codes of AIRIMP, and nothing of how an answer is found.
 ghost use Rattle.std.specs.Prelude.{IfSome, IsTrue};
 ghost use Rattle.seat_explanations.specs.Rows.{is_of};
@@ -20,7 +20,7 @@ fn rows() -> &'static [Explanation] {
 
 const NONE: &[&str] = &[];
 
-// In the order of the rows of the reply table, and behind them those of a change and of an advice.
+// In the order of the rows of the reply table, and behind them those of a change, of an advice and of a class that is open.
 const REPLIES: &[Explanation] = &[
     Explanation {
         behind: "",
@@ -87,5 +87,11 @@ const REPLIES: &[Explanation] = &[
         code: "KL",
         numbers: NONE,
         text: "An advice: the seats of a booking that waited are confirmed, behind an HL, an HX or the OK of a change.",
+    },
+    Explanation {
+        behind: "",
+        code: "AS",
+        numbers: NONE,
+        text: "Of avs: open, seats of the class are for sale on the segment. With --numeric their number stands behind it, up to 9.",
     },
 ];
