@@ -57,7 +57,7 @@ loads_line = leaf_line is_complete (built_leaf (with_switches loads_app).top)
 run_line : Yields is_complete (built_leaf (with_switches run_app).top)
 unfolding run_app horizon_app
 run_line = leaf_line is_complete (built_leaf (with_switches run_app).top)
-    (set_keeps _ refl refl, (set_keeps _ refl refl, (set_keeps _ refl refl, (set_keeps _ refl refl, (set_keeps _ refl refl, (set_keeps _ refl refl, (set_keeps _ refl refl, (set_keeps _ refl refl, (set_keeps _ refl refl, (set_keeps _ refl refl, (set_keeps _ refl refl, (flag_keeps _ refl _ refl, (flag_keeps _ refl _ refl, (append_keeps _ refl refl, (flag_keeps _ refl _ refl, (flag_keeps _ refl _ refl, (help_keeps _ refl, tt))))))))))))))))) (λ rows h. h)
+    (set_keeps _ refl refl, (set_keeps _ refl refl, (set_keeps _ refl refl, (set_keeps _ refl refl, (set_keeps _ refl refl, (set_keeps _ refl refl, (set_keeps _ refl refl, (set_keeps _ refl refl, (set_keeps _ refl refl, (set_keeps _ refl refl, (set_keeps _ refl refl, (set_keeps _ refl refl, (flag_keeps _ refl _ refl, (flag_keeps _ refl _ refl, (append_keeps _ refl refl, (flag_keeps _ refl _ refl, (flag_keeps _ refl _ refl, (help_keeps _ refl, tt)))))))))))))))))) (λ rows h. h)
 
 serve_line : Yields is_complete (built_leaf (with_switches serve_app).top)
 unfolding serve_app horizon_app
@@ -107,7 +107,7 @@ changes_line = leaf_line is_complete (built_leaf (with_switches changes_app).top
 audit_line : Yields is_complete (built_leaf (with_switches audit_app).top)
 unfolding audit_app horizon_app
 audit_line = leaf_line is_complete (built_leaf (with_switches audit_app).top)
-    (set_keeps _ refl refl, (set_keeps _ refl refl, (set_keeps _ refl refl, (set_keeps _ refl refl, (set_keeps _ refl refl, (set_keeps _ refl refl, (set_keeps _ refl refl, (set_keeps _ refl refl, (flag_keeps _ refl _ refl, (flag_keeps _ refl _ refl, (flag_keeps _ refl _ refl, (set_keeps _ refl refl, (append_keeps _ refl refl, (flag_keeps _ refl _ refl, (flag_keeps _ refl _ refl, (help_keeps _ refl, tt)))))))))))))))) (λ rows h. h)
+    (set_keeps _ refl refl, (set_keeps _ refl refl, (set_keeps _ refl refl, (set_keeps _ refl refl, (set_keeps _ refl refl, (set_keeps _ refl refl, (set_keeps _ refl refl, (set_keeps _ refl refl, (set_keeps _ refl refl, (flag_keeps _ refl _ refl, (flag_keeps _ refl _ refl, (flag_keeps _ refl _ refl, (set_keeps _ refl refl, (append_keeps _ refl refl, (flag_keeps _ refl _ refl, (flag_keeps _ refl _ refl, (help_keeps _ refl, tt))))))))))))))))) (λ rows h. h)
 
 seal_line : Yields is_complete (built_leaf (with_switches seal_app).top)
 unfolding seal_app horizon_app
@@ -122,7 +122,7 @@ recover_line = leaf_line is_complete (built_leaf (with_switches recover_app).top
 replies_line : Yields is_complete (built_leaf (with_switches replies_app).top)
 unfolding replies_app horizon_app
 replies_line = leaf_line is_complete (built_leaf (with_switches replies_app).top)
-    (set_keeps _ refl refl, (set_keeps _ refl refl, (set_keeps _ refl refl, (set_keeps _ refl refl, (set_keeps _ refl refl, (set_keeps _ refl refl, (set_keeps _ refl refl, (set_keeps _ refl refl, (set_keeps _ refl refl, (set_keeps _ refl refl, (flag_keeps _ refl _ refl, (flag_keeps _ refl _ refl, (set_keeps _ refl refl, (append_keeps _ refl refl, (flag_keeps _ refl _ refl, (flag_keeps _ refl _ refl, (help_keeps _ refl, tt))))))))))))))))) (λ rows h. h)
+    (set_keeps _ refl refl, (set_keeps _ refl refl, (set_keeps _ refl refl, (set_keeps _ refl refl, (set_keeps _ refl refl, (set_keeps _ refl refl, (set_keeps _ refl refl, (set_keeps _ refl refl, (set_keeps _ refl refl, (set_keeps _ refl refl, (set_keeps _ refl refl, (flag_keeps _ refl _ refl, (flag_keeps _ refl _ refl, (set_keeps _ refl refl, (append_keeps _ refl refl, (flag_keeps _ refl _ refl, (flag_keeps _ refl _ refl, (help_keeps _ refl, tt)))))))))))))))))) (λ rows h. h)
 
 told_line : Yields is_complete (built_leaf (with_switches told_app).top)
 unfolding told_app horizon_app
