@@ -1,10 +1,12 @@
 -- How a command is built up.
-use Rattle.std.proofs.Common.{◌≡◌, ◌∙◌, ap, ap₂, sym, subst, refl, Bool, ◌||◌, false, true, Some, Result, Ok, Err, IfOk, IsOkAnd}
+use Rattle.std.proofs.Common.{◌≡◌, ◌∙◌, ap, ap₂, sym, subst, refl, ◌-◌, ◌≤◌, arith, Bool, ◌||◌, false, true, List, [], ◌∷◌, length, get_or, take, drop, Some, Result, Ok, Err, IfOk, IsOkAnd}
+use Rattle.std.proofs.lemmas.List.{take_all}
 use Rattle.clap.specs.Words.{AddsArg, AddsSubcommand, App, Rule, with_rule, with_subcommand}
 use Rattle.clap.specs.declared.builder.action.ArgAction.TheVariants.{Append}
 use Rattle.clap.specs.declared.builder.arg.Arg.{Arg}
 use Rattle.clap.specs.declared.builder.command.Command.{Command}
-use Rattle.seat_words.specs.CommandLine.{IsBuiltAs, IsReadAlike, IsReadAs}
+use Rattle.seat_words.specs.declared.commands.arguments.Argument.{Argument}
+use Rattle.seat_words.specs.CommandLine.{IsBuiltAs, IsReadAlike, IsReadAs, rule_as, with_arguments}
 
 -- what is added has no global arguments
 or_false : (x y : Bool) → y ≡ false → (x || y) ≡ x
@@ -26,6 +28,21 @@ pub argued : {E : Type 0} (a : App) (r : Rule) (old new : Result Command E) (arg
 argued a r (Ok x) (Ok y) arg was has adds = argued_on a r x arg y was has adds
 argued a r (Err e) (Ok y) arg was has adds = absurd adds
 argued a r old (Err e) arg was has adds = tt
+
+-- arguments are their first one and those behind it
+pub parts : (xs : List Argument) (d : Argument) → 1 ≤ length xs → xs ≡ get_or xs 0 d ∷ take (length xs - 1) (drop 1 xs)
+parts [] d some = absurd (omega (arith, some))
+parts (x ∷ xs) d some = ap (λ (l : List Argument). x ∷ l) (sym (take_all (length (x ∷ xs) - 1) xs (omega arith)))
+
+-- a command with several more, the first of which is added ahead of the others
+pub added : {E : Type 0} (a : App) (xs rest : List Argument) (x : Argument) (old mid new : Result Command E) (arg : Arg)
+    → xs ≡ x ∷ rest → IfOk old (IsBuiltAs a) → IsReadAs (rule_as x) arg
+    → IfOk mid (λ n. IsOkAnd old (λ o. AddsArg o arg n))
+    → ((b : App) → IfOk mid (IsBuiltAs b) → IfOk new (IsBuiltAs (with_arguments b rest)))
+    → IfOk new (IsBuiltAs (with_arguments a xs))
+added a xs rest x old mid new arg e was has adds more =
+    subst (λ (l : List Argument). IfOk new (IsBuiltAs (with_arguments a l))) (sym e)
+    (more (with_rule a (rule_as x)) (argued a (rule_as x) old mid arg was has adds))
 
 -- a command with one more subcommand
 joined_on : (a s : App) (old new sub : Command) → IsBuiltAs a old → IsBuiltAs s sub → AddsSubcommand old sub new
