@@ -269,6 +269,30 @@ Asks (Season set limits) line = (line.0 ≡ codes "season")
 abbrev pub horizon_values : List Text
 horizon_values = codes "set" ∷ codes "limits" ∷ codes "first" ∷ codes "days" ∷ []
 
+-- the values that each command on a journal and what stands beside it asks for, and each of the last commands
+abbrev pub journal_values : List (Text × List Text)
+journal_values = (codes "audit", horizon_values ++ codes "journal" ∷ [])
+    ∷ (codes "seal", horizon_values ++ codes "journal" ∷ [])
+    ∷ (codes "recover", horizon_values ++ codes "journal" ∷ [])
+    ∷ (codes "replies", horizon_values ++ codes "today" ∷ codes "journal" ∷ [])
+    ∷ (codes "told", horizon_values ++ codes "desk" ∷ codes "journal" ∷ [])
+    ∷ (codes "why", horizon_values ++ codes "line" ∷ codes "journal" ∷ [])
+    ∷ (codes "explain", codes "code" ∷ [])
+    ∷ (codes "season", codes "set" ∷ codes "limits" ∷ [])
+    ∷ []
+
+-- ahead of them those of each command that asks what a journal comes to
+abbrev pub asking_values : List (Text × List Text)
+asking_values = (codes "bookings", horizon_values ++ codes "journal" ∷ [])
+    ∷ (codes "waiting", horizon_values ++ codes "journal" ∷ [])
+    ∷ (codes "pickup", horizon_values ++ codes "journal" ∷ [])
+    ∷ (codes "history", horizon_values ++ codes "journal" ∷ [])
+    ∷ (codes "avs", horizon_values ++ codes "journal" ∷ [])
+    ∷ (codes "reconcile", horizon_values ++ codes "theirs" ∷ codes "journal" ∷ [])
+    ∷ (codes "compare", codes "from" ∷ codes "to" ∷ [])
+    ∷ (codes "changes", horizon_values ++ codes "to" ∷ codes "journal" ∷ [])
+    ∷ journal_values
+
 -- the values that each command asks for
 abbrev pub asked_values : List (Text × List Text)
 asked_values = (codes "ladder", [])
@@ -279,31 +303,19 @@ asked_values = (codes "ladder", [])
     ∷ (codes "loads", horizon_values)
     ∷ (codes "run", horizon_values ++ codes "today" ∷ codes "journal" ∷ [])
     ∷ (codes "serve", horizon_values ++ codes "journal" ∷ [])
-    ∷ (codes "bookings", horizon_values ++ codes "journal" ∷ [])
-    ∷ (codes "waiting", horizon_values ++ codes "journal" ∷ [])
-    ∷ (codes "pickup", horizon_values ++ codes "journal" ∷ [])
-    ∷ (codes "history", horizon_values ++ codes "journal" ∷ [])
-    ∷ (codes "avs", horizon_values ++ codes "journal" ∷ [])
-    ∷ (codes "reconcile", horizon_values ++ codes "theirs" ∷ codes "journal" ∷ [])
-    ∷ (codes "compare", codes "from" ∷ codes "to" ∷ [])
-    ∷ (codes "changes", horizon_values ++ codes "to" ∷ codes "journal" ∷ [])
-    ∷ (codes "audit", horizon_values ++ codes "journal" ∷ [])
-    ∷ (codes "seal", horizon_values ++ codes "journal" ∷ [])
-    ∷ (codes "recover", horizon_values ++ codes "journal" ∷ [])
-    ∷ (codes "replies", horizon_values ++ codes "today" ∷ codes "journal" ∷ [])
-    ∷ (codes "told", horizon_values ++ codes "desk" ∷ codes "journal" ∷ [])
-    ∷ (codes "why", horizon_values ++ codes "line" ∷ codes "journal" ∷ [])
-    ∷ (codes "explain", codes "code" ∷ [])
-    ∷ (codes "season", codes "set" ∷ codes "limits" ∷ [])
-    ∷ []
+    ∷ asking_values
 
 abbrev pub has_values : List Text → List Row → Bool
 has_values ids rows = list_all (λ id. is_some (first_of id rows)) ids
 
--- the line is of one of the commands, and has each value that the command asks for
+-- the line is of one of these commands, and has each value that the command asks for
+abbrev pub is_complete_of : List (Text × List Text) → Line → Bool
+is_complete_of commands line = option_map_or (λ asked. has_values asked.1 line.1)
+    (find (λ asked. bytes_eq line.0 asked.0) commands) false
+
+-- and so of one of all commands
 abbrev pub is_complete : Line → Bool
-is_complete line = option_map_or (λ asked. has_values asked.1 line.1)
-    (find (λ asked. bytes_eq line.0 asked.0) asked_values) false
+is_complete = is_complete_of asked_values
 
 -- clap found such a line
 abbrev pub is_answerable : Option Line → Bool

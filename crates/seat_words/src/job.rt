@@ -4,7 +4,7 @@ ghost use Rattle.clap.specs.Walk.{texts};
 ghost use Rattle.clap.specs.Words.{FailsBy, all_of, fault_of, first_of, found_of, kind_of, matches_of, rows_of, subcommand_of, subcommand_rows_of, takes};
 ghost use Rattle.clap.specs.declared.error.kind.ErrorKind.TheVariants.{ArgumentConflict, InvalidValue, OutOfMemory};
 ghost use Rattle.seat_words.specs.CommandLine.{seatdesk_app};
-ghost use Rattle.seat_words.specs.Jobs.{Asks, IsAudit, IsAvs, IsBookings, IsChanges, IsCompare, IsCover, IsHistory, IsLoads, IsOver, IsPickup, IsReconcile, IsReplies, IsRooms, IsRun, IsServe, IsShaped, IsTold, IsWaiting, has_values, horizon_values, is_answerable, is_complete, is_flagged, is_quiet, is_switched, is_verbose};
+ghost use Rattle.seat_words.specs.Jobs.{Asks, IsAudit, IsAvs, IsBookings, IsChanges, IsCompare, IsCover, IsHistory, IsLoads, IsOver, IsPickup, IsReconcile, IsReplies, IsRooms, IsRun, IsServe, IsShaped, IsTold, IsWaiting, asking_values, has_values, horizon_values, is_answerable, is_complete, is_complete_of, is_flagged, is_quiet, is_switched, is_verbose, journal_values};
 
 use super::commands::seatdesk_command;
 use super::several::Several;
@@ -394,6 +394,7 @@ fn job_of<'a>(alloc: Global, matches: &ArgMatches<'a>) -> Result<Job<'a>, AllocE
     job_named(alloc, name, inner)
 }
 
+// A command that works on a schedule, on one leg or on a host, or one of the others.
 fn job_named<'a>(alloc: Global, name: &str, matches: &ArgMatches<'a>) -> Result<Job<'a>, AllocError>
     requires { is_complete (name.now, rows_of (found_of matches.now)) ≡ true }
     ensures { IfOk result (λ job. Asks job (name.now, rows_of (found_of matches.now))) }
@@ -414,6 +415,20 @@ fn job_named<'a>(alloc: Global, name: &str, matches: &ArgMatches<'a>) -> Result<
         "loads" => Ok(Job::Loads(loads_asked(matches))),
         "run" => Ok(Job::Run(run_asked(alloc, matches)?)),
         "serve" => Ok(Job::Serve(serve_asked(alloc, matches)?)),
+        _ => asking_job(alloc, name, matches),
+    }
+}
+
+// A command that asks what a journal comes to, or one that is named behind these.
+fn asking_job<'a>(
+    alloc: Global,
+    name: &str,
+    matches: &ArgMatches<'a>,
+) -> Result<Job<'a>, AllocError>
+    requires { is_complete_of asking_values (name.now, rows_of (found_of matches.now)) ≡ true }
+    ensures { IfOk result (λ job. Asks job (name.now, rows_of (found_of matches.now))) }
+{
+    match name {
         "bookings" => Ok(Job::Bookings(bookings_asked(alloc, matches)?)),
         "waiting" => Ok(Job::Waiting(waiting_asked(matches))),
         "pickup" => Ok(Job::Pickup(pickup_asked(matches))),
@@ -422,6 +437,20 @@ fn job_named<'a>(alloc: Global, name: &str, matches: &ArgMatches<'a>) -> Result<
         "reconcile" => Ok(Job::Reconcile(reconcile_asked(matches))),
         "compare" => Ok(Job::Compare(compare_asked(matches))),
         "changes" => Ok(Job::Changes(changes_asked(matches))),
+        _ => journal_job(alloc, name, matches),
+    }
+}
+
+// A command on a journal and what stands beside it, or one of the last.
+fn journal_job<'a>(
+    alloc: Global,
+    name: &str,
+    matches: &ArgMatches<'a>,
+) -> Result<Job<'a>, AllocError>
+    requires { is_complete_of journal_values (name.now, rows_of (found_of matches.now)) ≡ true }
+    ensures { IfOk result (λ job. Asks job (name.now, rows_of (found_of matches.now))) }
+{
+    match name {
         "audit" => Ok(Job::Audit(audit_asked(alloc, matches)?)),
         "seal" => Ok(Job::Seal {
             over: horizon_of(matches),
