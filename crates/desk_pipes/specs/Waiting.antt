@@ -1,5 +1,5 @@
 -- Lines that wait for the host, and texts that wait for a desk.
-use Rattle.std.specs.Prelude.{◌≡◌, ℕ, ◌==◌, Bool, true, false, nat_le, nat_lt, List, ◌++◌, codes, length, Option, Some, None}
+use Rattle.std.specs.Prelude.{◌≡◌, ℕ, ◌==◌, Bool, true, false, not, nat_le, nat_lt, List, ◌++◌, codes, length, Option, Some, None}
 
 -- the most lines of a desk that are not answered
 abbrev pub most_open : ℕ
@@ -29,3 +29,9 @@ text_told false false old more = old ++ more
 -- whether it is too much
 abbrev pub is_full : List ℕ → Bool
 is_full bytes = nat_le most_bytes (length bytes)
+
+-- whether something is to be written for a desk: where nobody writes nothing is
+abbrev pub is_owed : Bool → Bool → List ℕ → Bool
+is_owed false writing bytes = false
+is_owed true true bytes = true
+is_owed true false bytes = not (length bytes == 0)

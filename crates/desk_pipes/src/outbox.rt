@@ -1,17 +1,17 @@
 //! What waits for a desk to be read.
 ghost use Rattle.std.specs.Prelude.{◌≡◌, ◌||◌, [], true, false, if◌then◌else◌, OnErr, OnOk};
-ghost use Rattle.desk_pipes.specs.Waiting.{is_full, text_told};
+ghost use Rattle.desk_pipes.specs.Waiting.{is_full, is_owed, text_told};
 
 use std::alloc::{AllocError, Global};
 use std::mem;
 use std::sync::{Condvar, Mutex, Wait};
-use std::thread::yield_now;
+use std::time::{Clock, Duration};
 
 /// Where so many bytes wait no more are added until a client says hello.
 const MOST_BYTES: usize = 1_048_576;
 
-/// How often the end of the writing is looked for.
-const MOST_LOOKS: u32 = 10_000;
+/// How many milliseconds the end of a host waits for what a desk is told to be written.
+const LAST: u64 = 100;
 
 /// What lies under the lock.
 #[derive(Drop)]
@@ -21,6 +21,8 @@ struct Text {
     is_lost: bool,
     /// Whether what was taken is not written yet.
     is_writing: bool,
+    /// Whether somebody writes what waits.
+    has_writer: bool,
     is_over: bool,
 }
 
@@ -75,6 +77,13 @@ impl Text {
         }
         self.is_lost = false;
     }
+
+    // Whether something is to be written, and somebody writes it.
+    fn is_owed(&self) -> bool
+        ensures { result ≡ is_owed self.now.has_writer self.now.is_writing self.now.bytes.items }
+    {
+        self.has_writer && (self.is_writing || !self.bytes.is_empty())
+    }
 }
 
 /// A text waits in it under a lock.
@@ -82,18 +91,22 @@ impl Text {
 pub struct Outbox {
     text: Mutex<Text>,
     came: Condvar,
+    written: Condvar,
 }
 
 impl Outbox {
+    /// Nothing waits, and nobody writes what will.
     pub fn new(alloc: Global) -> Outbox {
         Outbox {
             text: Mutex::new(Text {
                 bytes: Vec::new(alloc),
                 is_lost: false,
                 is_writing: false,
+                has_writer: false,
                 is_over: false,
             }),
             came: Condvar::new(),
+            written: Condvar::new(),
         }
     }
 
@@ -130,24 +143,39 @@ impl Outbox {
         drop(text);
     }
 
+    /// Somebody writes what waits, up to the end of the host or of the pipe.
+    pub(crate) fn begin_writing<R: Wait>(&self, rt: &R) {
+        let mut text = self.text.lock(rt);
+        text.has_writer = true;
+        drop(text);
+    }
+
+    /// Nobody does any more.
+    pub(crate) fn end_writing<R: Wait>(&self, rt: &R) {
+        let mut text = self.text.lock(rt);
+        text.has_writer = false;
+        drop(text);
+        self.written.notify_all();
+    }
+
     /// What was taken is written.
     pub fn written<R: Wait>(&self, rt: &R) {
         let mut text = self.text.lock(rt);
         text.is_writing = false;
         drop(text);
+        self.written.notify_all();
     }
 
-    /// Gives the writer some time to write what waits, and no more: a desk that does not read keeps nobody.
-    pub fn settle<R: Wait>(&self, rt: &R) {
-        for _ in 0..MOST_LOOKS {
-            let text = self.text.lock(rt);
-            let is_written = text.bytes.is_empty() && !text.is_writing;
-            drop(text);
-            if is_written {
-                return;
-            }
-            yield_now();
-        }
+    /// Gives the writer some time to write what waits, and no more: a desk that does not read keeps nobody, and one that nobody writes to no time at all.
+    pub fn settle<R: Wait + Clock>(&self, rt: &R) {
+        let guard = self.text.lock(rt);
+        let (text, _) = self.written.wait_timeout_while(
+            rt,
+            guard,
+            Duration::from_millis(LAST),
+            |text| text.is_owed(),
+        );
+        drop(text);
     }
 
     /// Nothing more is told.

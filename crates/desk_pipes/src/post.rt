@@ -10,6 +10,7 @@ use airline_base::{Day, Memory};
 use std::alloc::Global;
 use std::marker::Model;
 use std::sync::{Mutex, Wait};
+use std::time::Clock;
 
 /// Texts that wait to be read, the manager's first and each session's at its number. Only who delivers them has it.
 #[derive(Drop)]
@@ -130,7 +131,7 @@ impl Post {
     }
 
     /// Nothing more is taken in or told. What is told already may be written, as far as it is read at once.
-    pub fn end<R: Wait>(&self, rt: &R) {
+    pub fn end<R: Wait + Clock>(&self, rt: &R) {
         self.inbox.end(rt);
         for outbox in &self.outboxes {
             outbox.settle(rt);

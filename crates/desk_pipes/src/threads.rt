@@ -29,6 +29,9 @@ pub fn start_writer<R: Threads + Wait + Copy + Send + 'static, O: Write + Send +
 ) -> Result<(), Memory> {
     let own = *rt;
     let theirs = Arc::try_clone(post)?;
+    if let Some(outbox) = post.outbox(session) {
+        outbox.begin_writing(rt);
+    }
     if thread::spawn(rt, move || write_there(own, alloc, theirs, session, out)).is_err() {
         return Err(Memory);
     }
@@ -46,6 +49,7 @@ fn write_there<R: Wait + Drop, O: Write + Drop>(
     let mut out = out;
     if let Some(outbox) = post.outbox(session) {
         let _ = write_desk(&rt, alloc, outbox, &mut out);
+        outbox.end_writing(&rt);
     }
 }
 
