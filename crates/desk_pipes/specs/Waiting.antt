@@ -1,5 +1,5 @@
 -- Lines that wait for the host, and texts that wait for a desk.
-use Rattle.std.specs.Prelude.{◌≡◌, ℕ, ◌==◌, Bool, true, false, not, nat_le, nat_lt, List, ◌++◌, codes, length, Option, Some, None}
+use Rattle.std.specs.Prelude.{◌≡◌, ℕ, ◌==◌, ◌&&◌, Bool, true, false, not, nat_le, nat_lt, List, ◌++◌, codes, length, Option, Some, None}
 
 -- the most lines of a desk that are not answered
 abbrev pub most_open : ℕ
@@ -15,10 +15,19 @@ may_say true unanswered = false
 may_say false None = false
 may_say false (Some unanswered) = nat_lt unanswered most_open
 
--- whether each line that a desk has said is answered
-abbrev pub is_settled : Option ℕ → Bool
-is_settled None = true
-is_settled (Some unanswered) = unanswered == 0
+-- whether so many lines that are not answered are none
+abbrev pub are_answered : Option ℕ → Bool
+are_answered None = true
+are_answered (Some unanswered) = unanswered == 0
+
+-- whether a desk is told nothing piece by piece
+abbrev pub is_free : Option Bool → Bool
+is_free None = true
+is_free (Some held) = not held
+
+-- whether each line that a desk has said is answered: while it is told piece by piece its last is not
+abbrev pub is_settled : Option ℕ → Option Bool → Bool
+is_settled unanswered held = are_answered unanswered && is_free held
 
 -- what waits for a desk behind a text, and whether a text was left out: where too much waits that is said once, and then nothing more
 abbrev pub text_told : Bool → Bool → List ℕ → List ℕ → List ℕ
@@ -30,8 +39,15 @@ text_told false false old more = old ++ more
 abbrev pub is_full : List ℕ → Bool
 is_full bytes = nat_le most_bytes (length bytes)
 
--- whether something is to be written for a desk: where nobody writes nothing is
-abbrev pub is_owed : Bool → Bool → List ℕ → Bool
-is_owed false writing bytes = false
-is_owed true true bytes = true
-is_owed true false bytes = not (length bytes == 0)
+-- 64 KiB: where fewer bytes wait for a desk a piece more of what it is told piece by piece may
+abbrev pub most_ahead : ℕ
+most_ahead = 65_536
+
+-- whether it may
+abbrev pub has_room : List ℕ → Bool
+has_room bytes = nat_lt (length bytes) most_ahead
+
+-- a text that waits for a session's desk
+pub record Posted : Type 0 where
+  pub session : ℕ
+  pub text : List ℕ

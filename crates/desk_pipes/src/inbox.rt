@@ -1,6 +1,6 @@
 //! Lines that wait for the host, in the order in which they came.
-ghost use Rattle.std.specs.Prelude.{◌≡◌, ◌&&◌, ◌∷◌, ◌++◌, ◌+◌, ◌<◌, [], IfOk, nat_lt, slice_get, if◌then◌else◌, vec_capacity, vec_len};
-ghost use Rattle.desk_pipes.specs.Waiting.{is_settled, may_say};
+ghost use Rattle.std.specs.Prelude.{◌≡◌, ◌&&◌, ◌∷◌, ◌++◌, ◌+◌, ◌<◌, [], false, true, IfOk, nat_lt, slice_get, if◌then◌else◌, vec_capacity, vec_len};
+ghost use Rattle.desk_pipes.specs.Waiting.{are_answered, is_free, is_settled, may_say};
 
 use crate::cutting::HeldLine;
 use airline_base::Memory;
@@ -31,6 +31,10 @@ struct Waiting {
     said: Vec<Said>,
     /// How many lines of each session are not answered.
     unanswered: [u32; 9],
+    /// Which sessions are told something piece by piece: its line is not answered until its end.
+    held: [bool; 9],
+    /// Whether the host is to go on though nobody said anything.
+    is_woken: bool,
     is_over: bool,
 }
 
@@ -45,9 +49,9 @@ impl Waiting {
 
     // Whether each line of a session is answered.
     fn is_settled(&self, session: u8) -> bool
-        ensures { result ≡ is_settled (slice_get self.now.unanswered session) }
+        ensures { result ≡ is_settled (slice_get self.now.unanswered session) (slice_get self.now.held session) }
     {
-        is_settled(count_of(&self.unanswered, session))
+        are_answered(count_of(&self.unanswered, session)) && is_free(&self.held, session)
     }
 
     // Whether the line waits: it stands behind all that do.
@@ -71,16 +75,28 @@ impl Waiting {
     fn hand_over(&mut self, said: &mut Vec<Said>)
         ensures all { said.new ≡ self.old.said }
         ensures none { self.new.said ≡ said.old }
-        ensures same { (self.new.unanswered ≡ self.old.unanswered) × (self.new.is_over ≡ self.old.is_over) }
+        ensures served { self.new.is_woken ≡ false }
+        ensures same { (self.new.unanswered ≡ self.old.unanswered) × (self.new.held ≡ self.old.held) × (self.new.is_over ≡ self.old.is_over) }
     {
         mem::swap(&mut self.said, said);
+        self.is_woken = false;
     }
 
-    // These lines are answered.
-    fn answered(&mut self, said: &[Said])
-        ensures same { (self.new.said ≡ self.old.said) × (self.new.is_over ≡ self.old.is_over) }
+    // These lines are answered, but for the last of the sessions that are told piece by piece from then on.
+    fn answered(&mut self, said: &[Said], held: [bool; 9])
+        ensures held { self.new.held ≡ held }
+        ensures same { (self.new.said ≡ self.old.said) × (self.new.is_woken ≡ self.old.is_woken) × (self.new.is_over ≡ self.old.is_over) }
     {
         count_down(&mut self.unanswered, said);
+        self.held = held;
+    }
+
+    // The host is to go on.
+    fn wake(&mut self)
+        ensures woken { self.new.is_woken ≡ true }
+        ensures same { (self.new.said ≡ self.old.said) × (self.new.unanswered ≡ self.old.unanswered) × (self.new.held ≡ self.old.held) × (self.new.is_over ≡ self.old.is_over) }
+    {
+        self.is_woken = true;
     }
 }
 
@@ -101,11 +117,20 @@ fn may_say(is_over: bool, unanswered: Option<u32>) -> bool
     }
 }
 
-fn is_settled(unanswered: Option<u32>) -> bool
-    ensures { result ≡ is_settled unanswered }
+fn are_answered(unanswered: Option<u32>) -> bool
+    ensures { result ≡ are_answered unanswered }
 {
     match unanswered {
         Some(count) => count == 0,
+        None => true,
+    }
+}
+
+fn is_free(held: &[bool; 9], session: u8) -> bool
+    ensures { result ≡ is_free (slice_get held.now session) }
+{
+    match held.get(usize::from(session)) {
+        Some(is_held) => !*is_held,
         None => true,
     }
 }
@@ -131,6 +156,8 @@ impl Inbox {
             waiting: Mutex::new(Waiting {
                 said: room_for_lines(alloc)?,
                 unanswered: [0; 9],
+                held: [false; 9],
+                is_woken: false,
                 is_over: false,
             }),
             came: Condvar::new(),
@@ -153,22 +180,29 @@ impl Inbox {
         comes
     }
 
-    /// Waits until something was said, and takes all of it, in its order. What `said` had is given up.
-    pub fn take<R: Wait>(&self, rt: &R, said: &mut Vec<Said>) {
+    /// Waits until something was said or somebody woke the host, unless it has something to do, and takes all that was said, in its order.
+    /// What `said` had is given up.
+    pub fn take<R: Wait>(&self, rt: &R, said: &mut Vec<Said>, waits: bool) {
         let guard = self.waiting.lock(rt);
-        let mut waiting = self.came.wait_while(
-            rt,
-            guard,
-            |waiting| waiting.said.is_empty() && !waiting.is_over,
-        );
+        let mut waiting = self.came.wait_while(rt, guard, |waiting| {
+            waits && waiting.said.is_empty() && !waiting.is_woken && !waiting.is_over
+        });
         waiting.hand_over(said);
         drop(waiting);
     }
 
-    /// These lines are answered: their sessions may say more.
-    pub fn let_more<R: Wait>(&self, rt: &R, said: &[Said]) {
+    /// Wakes the host, though nobody said anything.
+    pub fn wake<R: Wait>(&self, rt: &R) {
         let mut waiting = self.waiting.lock(rt);
-        waiting.answered(said);
+        waiting.wake();
+        drop(waiting);
+        self.came.notify_one();
+    }
+
+    /// These lines are answered: their sessions may say more. The last line of a session that is held is not, until it is held no more.
+    pub fn let_more<R: Wait>(&self, rt: &R, said: &[Said], held: [bool; 9]) {
+        let mut waiting = self.waiting.lock(rt);
+        waiting.answered(said, held);
         drop(waiting);
         self.answered.notify_all();
     }

@@ -21,6 +21,6 @@ pub use outlook::{LooksGoBy, Outlook};
 pub use pipe_file::{
     PipeFault, PipeId, Role, Unopened, are_swapped, fault_of, open_pipe, pass_pair,
 };
-pub use post::{Delivered, Post};
+pub use post::{Delivered, DeliveredTo, Post};
 pub use threads::{mark_pipe, read_desk, start_writer, write_desk};
 pub use watch::{Unwatched, Watch, Watched};

@@ -1,6 +1,6 @@
 //! What waits for a desk to be read.
-ghost use Rattle.std.specs.Prelude.{◌≡◌, ◌||◌, [], true, false, if◌then◌else◌, OnErr, OnOk};
-ghost use Rattle.desk_pipes.specs.Waiting.{is_full, is_owed, text_told};
+ghost use Rattle.std.specs.Prelude.{◌≡◌, ◌||◌, [], true, false, not, if◌then◌else◌, OnErr, OnOk};
+ghost use Rattle.desk_pipes.specs.Waiting.{has_room, is_full, text_told};
 
 use std::alloc::{AllocError, Global};
 use std::mem;
@@ -10,8 +10,11 @@ use std::time::{Clock, Duration};
 /// Where so many bytes wait no more are added until a client says hello.
 const MOST_BYTES: usize = 1_048_576;
 
-/// How many milliseconds the end of a host waits for what a desk is told to be written.
-const LAST: u64 = 100;
+/// Where fewer bytes wait a piece more of what is told piece by piece may.
+const MOST_AHEAD: usize = 65_536;
+
+/// How often the end of the writing is looked for.
+const MOST_LOOKS: u32 = 10_000;
 
 /// What lies under the lock.
 #[derive(Drop)]
@@ -21,8 +24,8 @@ struct Text {
     is_lost: bool,
     /// Whether what was taken is not written yet.
     is_writing: bool,
-    /// Whether somebody writes what waits.
-    has_writer: bool,
+    /// Whether somebody waits for room.
+    is_awaited: bool,
     is_over: bool,
 }
 
@@ -58,13 +61,31 @@ impl Text {
         added
     }
 
-    // All that waits, in its order.
-    fn hand_over(&mut self, bytes: &mut Vec<u8>)
+    // Whether a piece more may wait. Where it may not, whoever takes what waits is to wake who asks.
+    fn has_room(&mut self) -> bool
+        ensures room { result ≡ has_room self.old.bytes.items }
+        ensures awaited { self.new.is_awaited ≡ (self.old.is_awaited || not result) }
+        ensures same { (self.new.bytes ≡ self.old.bytes) × (self.new.is_lost ≡ self.old.is_lost) × (self.new.is_over ≡ self.old.is_over) }
+    {
+        if self.bytes.len() < MOST_AHEAD {
+            return true;
+        }
+        self.is_awaited = true;
+        false
+    }
+
+    // All that waits, in its order. Whether somebody waits for room.
+    fn hand_over(&mut self, bytes: &mut Vec<u8>) -> bool
         ensures all { bytes.new ≡ self.old.bytes }
         ensures none { self.new.bytes ≡ bytes.old }
+        ensures awaited { result ≡ self.old.is_awaited }
+        ensures served { self.new.is_awaited ≡ false }
     {
         mem::swap(&mut self.bytes, bytes);
         self.is_writing = true;
+        let is_awaited = self.is_awaited;
+        self.is_awaited = false;
+        is_awaited
     }
 
     // A client begins: where something was left out, what waits is of no use to it.
@@ -102,7 +123,7 @@ impl Outbox {
                 bytes: Vec::new(alloc),
                 is_lost: false,
                 is_writing: false,
-                has_writer: false,
+                is_awaited: false,
                 is_over: false,
             }),
             came: Condvar::new(),
@@ -133,14 +154,23 @@ impl Outbox {
         drop(text);
     }
 
-    /// Waits for a text, and takes it. Nothing is taken where all is over.
-    pub fn take<R: Wait>(&self, rt: &R, bytes: &mut Vec<u8>) {
+    /// Whether a piece more may wait. Where it may not, `take` says so.
+    pub fn has_room<R: Wait>(&self, rt: &R) -> bool {
+        let mut text = self.text.lock(rt);
+        let has_room = text.has_room();
+        drop(text);
+        has_room
+    }
+
+    /// Waits for a text, and takes it. Nothing is taken where all is over. Whether somebody waits for room.
+    pub fn take<R: Wait>(&self, rt: &R, bytes: &mut Vec<u8>) -> bool {
         let guard = self.text.lock(rt);
         let mut text = self
             .came
             .wait_while(rt, guard, |text| text.bytes.is_empty() && !text.is_over);
-        text.hand_over(bytes);
+        let is_awaited = text.hand_over(bytes);
         drop(text);
+        is_awaited
     }
 
     /// Somebody writes what waits, up to the end of the host or of the pipe.

@@ -26,6 +26,21 @@ impl Model for Delivered {
     ghost view = { λ s. map (λ t. t.items) s.texts.items };
 }
 
+/// A text that waits for a session's desk. Only who delivers it has it.
+#[derive(Drop)]
+pub struct DeliveredTo {
+    session: u8,
+    text: Vec<u8>,
+}
+
+impl Model for DeliveredTo {
+    ghost use Rattle.desk_pipes.specs.Waiting.{Posted};
+
+    ghost Value = { Posted };
+
+    ghost view = { λ s. record { session = s.session; text = s.text.items } };
+}
+
 /// What the host and the desks share.
 #[derive(Drop)]
 pub struct Post {
@@ -107,6 +122,24 @@ impl Post {
         let by = outlook.set(today, lines);
         drop(outlook);
         by
+    }
+
+    /// Whether a piece more may wait for a session's desk. Where it may not, the host is woken when what waits is taken.
+    pub fn has_room<R: Wait>(&self, rt: &R, session: u8) -> bool {
+        match self.outbox(session) {
+            Some(outbox) => outbox.has_room(rt),
+            None => false,
+        }
+    }
+
+    /// Lets this wait for a session's desk. It comes back as delivered.
+    pub fn deliver_to<R: Wait>(&self, rt: &R, session: u8, text: Vec<u8>) -> DeliveredTo
+        ensures { (result.session ≡ session) × (result.text ≡ text.items) }
+    {
+        if !text.is_empty() {
+            self.tell(rt, session, text.as_slice());
+        }
+        DeliveredTo { session, text }
     }
 
     /// Lets these wait to be read, each in the outbox at its place. They come back as delivered.

@@ -6,7 +6,6 @@ ghost use Rattle.desk_pipes.specs.Watching.{is_told};
 use crate::cutting::{HeldLine, cut_lines};
 use crate::inbox::Said;
 use crate::mark::{Ahead, Mark};
-use crate::outbox::Outbox;
 use crate::post::Post;
 use crate::watch::{Passed, Watch, Watched};
 use airline_base::Memory;
@@ -47,10 +46,7 @@ fn write_there<R: Wait + Drop, O: Write + Drop>(
     out: O,
 ) {
     let mut out = out;
-    if let Some(outbox) = post.outbox(session) {
-        let _ = write_desk(&rt, alloc, outbox, &mut out);
-        outbox.end_writing(&rt);
-    }
+    let _ = write_desk(&rt, alloc, &post, session, &mut out);
 }
 
 /// Writes a host's mark to a pipe that it reads, on a thread of its own, since a full pipe keeps it waiting.
@@ -152,9 +148,12 @@ fn say_earlier<R: Wait, W: Watch>(
             continue;
         }
         let (today, _) = post.outlook(rt);
-        watch.pass(today, line.as_slice());
+        let is_awaited = watch.pass(today, line.as_slice());
         if !say(rt, post, passed.hand_on(session, line, true, false)) {
             return false;
+        }
+        if is_awaited {
+            post.inbox.settle(rt, session);
         }
     }
     true
@@ -205,18 +204,24 @@ fn say<R: Wait>(rt: &R, post: &Post, said: Option<Said>) -> bool {
 }
 
 /// Writes what a desk is told, as it comes, up to the host's end. Ahead of it stands a line that spoils what another host left in the
-/// midst of a line.
+/// midst of a line. Where it makes room that the host waits for, the host goes on.
 pub fn write_desk<R: Wait, W: Write>(
     rt: &R,
     alloc: Global,
-    outbox: &Outbox,
+    post: &Post,
+    session: u8,
     out: &mut W,
 ) -> io::Result<()> {
+    let Some(outbox) = post.outbox(session) else {
+        return Ok(());
+    };
     out.write_all(b"!\n")?;
     let mut text = Vec::new(alloc);
     for _ in rt.forever() {
         text.clear();
-        outbox.take(rt, &mut text);
+        if outbox.take(rt, &mut text) {
+            post.inbox.wake(rt);
+        }
         if text.is_empty() {
             return Ok(());
         }

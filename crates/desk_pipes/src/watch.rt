@@ -25,8 +25,8 @@ pub trait Watch {
     fn watch(&mut self, today: Day, lines: u32, line: &[u8]) -> Watched
         requires today { IsCenturyDay today };
 
-    /// Hears a line that waits for the host whatever it is.
-    fn pass(&mut self, today: Day, line: &[u8])
+    /// Hears a line that waits for the host whatever it is. Whether nothing behind it is read until the host has answered it.
+    fn pass(&mut self, today: Day, line: &[u8]) -> bool
         requires today { IsCenturyDay today };
 }
 
@@ -39,7 +39,9 @@ impl Watch for Unwatched {
         Watched::Heard
     }
 
-    fn pass(&mut self, _today: Day, _line: &[u8]) {}
+    fn pass(&mut self, _today: Day, _line: &[u8]) -> bool {
+        false
+    }
 }
 
 /// How many lines of a desk were answered where they were read, since one was handed on to the host.
