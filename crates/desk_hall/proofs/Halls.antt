@@ -1,11 +1,15 @@
 -- A host of several desks behind a line.
-use Rattle.std.proofs.Common.{◌≡◌, ℕ, zero, suc, ◌+◌, ◌<◌, ◌≤◌, List, [], ◌∷◌, ◌++◌, length, take, ap, sym, ◌∙◌, subst, arith, append-nil, length-append}
-use Rattle.std.specs.Prelude.{Option, Some, None, Bool, IfSome, All, Result, Ok, Err, OnErr, OnOk}
+use Rattle.std.proofs.Common.{◌≡◌, ℕ, zero, suc, ◌+◌, ◌<◌, ◌≤◌, List, [], ◌∷◌, ◌++◌, length, take, set, refl, ap, sym, ◌∙◌, subst, arith, append-nil, length-append}
+use Rattle.std.specs.Prelude.{Option, Some, None, Bool, true, false, min, nat_lt, if◌then◌else◌, IfSome, All, Result, Ok, Err, OnErr, OnOk}
 use Rattle.std.specs.Prelude.{option_to_list}
 use Rattle.std.proofs.Math.Seq.{take-append_seam}
 use Rattle.std.proofs.lemmas.List.Elements.{All-append}
 use Rattle.desk_calls.specs.declared.call_index.CallIndex.{CallIndex}
-use Rattle.desk_hall.specs.Halls.{Hallful, HasHeardLine, IsHall, IsHeardBy, IsOrdered, IsUnheard}
+use Rattle.desk_hall.specs.Halls.{Hallful, HasHeardLine, IsHall, IsHeardBy, IsOpened, IsOrdered, IsPiece, IsPieceFrom, IsPieceUpTo, IsUnheard}
+use Rattle.desk_hall.specs.Pieces.{again_asked, backlog_behind, backlog_of, piece_end, told_between}
+use Rattle.desk_hall.specs.declared.backlog.Asking.{Asking}
+use Rattle.desk_telling.specs.Telling.{AreTold}
+use Rattle.desk_hall.proofs.Pieces.{no_backlog, whole_end}
 use Rattle.desk_hall.specs.Planning.{Plans, PlansOrder, day_behind, goes_on}
 use Rattle.desk_hall.specs.Orders.{IsOrder}
 use Rattle.desk_hall.specs.declared.orders.Order.{Order}
@@ -49,12 +53,12 @@ module _ {D : Type 0} where
       → HasHeardLine old.desks new.desks old.today session line desk meaning
       → Plans old.flights old.serving.cap session desk (behind old.serving.grid old.serving.journal old.asked) meaning plan
       → new.asked ≡ old.asked ++ option_to_list plan.asked → new.turns ≡ old.turns ++ plan.turn ∷ []
-      → new.serving ≡ old.serving → new.today ≡ old.today → new.flights ≡ old.flights → IsHeardBy old new session line
-  heard_by old new session line desk meaning plan heard plans asked turns serving today flights = record {
+      → new.serving ≡ old.serving → new.today ≡ old.today → new.flights ≡ old.flights → new.backlogs ≡ old.backlogs → IsHeardBy old new session line
+  heard_by old new session line desk meaning plan heard plans asked turns serving today flights backlogs = record {
     desk = desk;
     meaning = meaning;
     has_heard = heard;
-    same_host = record { serving_is = serving; today_is = today; flights_are = flights };
+    same_host = record { serving_is = serving; today_is = today; flights_are = flights; backlogs_are = backlogs };
     plan = plan;
     plans = plans;
     asked_is = asked;
@@ -66,19 +70,20 @@ module _ {D : Type 0} where
       → HasHeardLine old.desks new.desks old.today session line desk meaning
       → Plans old.flights old.serving.cap session desk (behind old.serving.grid old.serving.journal old.asked) meaning plan
       → OnOk r ((new.asked ≡ old.asked ++ option_to_list plan.asked) × (new.turns ≡ old.turns ++ plan.turn ∷ []))
-      → new.serving ≡ old.serving → new.today ≡ old.today → new.flights ≡ old.flights → OnOk r (IsHeardBy old new session line)
-  heard_if old new session line desk meaning plan (Ok x) heard plans more serving today flights =
-      heard_by old new session line desk meaning plan heard plans more.0 more.1 serving today flights
-  heard_if old new session line desk meaning plan (Err e) heard plans more serving today flights = tt
+      → new.serving ≡ old.serving → new.today ≡ old.today → new.flights ≡ old.flights → new.backlogs ≡ old.backlogs
+      → OnOk r (IsHeardBy old new session line)
+  heard_if old new session line desk meaning plan (Ok x) heard plans more serving today flights backlogs =
+      heard_by old new session line desk meaning plan heard plans more.0 more.1 serving today flights backlogs
+  heard_if old new session line desk meaning plan (Err e) heard plans more serving today flights backlogs = tt
 
   pub unheard : (old new : Hallful D) (session : ℕ) (line : List ℕ) (desk : Desk) (meaning : Meaning)
       → HasHeardLine old.desks new.desks old.today session line desk meaning → new.asked ≡ old.asked → new.turns ≡ old.turns
-      → new.serving ≡ old.serving → new.today ≡ old.today → new.flights ≡ old.flights → IsUnheard old new session line
-  unheard old new session line desk meaning heard asked turns serving today flights = record {
+      → new.serving ≡ old.serving → new.today ≡ old.today → new.flights ≡ old.flights → new.backlogs ≡ old.backlogs → IsUnheard old new session line
+  unheard old new session line desk meaning heard asked turns serving today flights backlogs = record {
     desk = desk;
     meaning = meaning;
     has_heard = heard;
-    same_host = record { serving_is = serving; today_is = today; flights_are = flights };
+    same_host = record { serving_is = serving; today_is = today; flights_are = flights; backlogs_are = backlogs };
     asked_is = asked;
     turns_are = turns;
   }
@@ -87,10 +92,10 @@ module _ {D : Type 0} where
   pub unheard_if : {A E : Type 0} (old new : Hallful D) (session : ℕ) (line : List ℕ) (desk : Desk) (meaning : Meaning) (r : Result A E)
       → HasHeardLine old.desks new.desks old.today session line desk meaning
       → OnErr r ((new.asked ≡ old.asked) × (new.turns ≡ old.turns)) → new.serving ≡ old.serving → new.today ≡ old.today
-      → new.flights ≡ old.flights → OnErr r (IsUnheard old new session line)
-  unheard_if old new session line desk meaning (Ok x) heard same serving today flights = tt
-  unheard_if old new session line desk meaning (Err e) heard same serving today flights =
-      unheard old new session line desk meaning heard same.0 same.1 serving today flights
+      → new.flights ≡ old.flights → new.backlogs ≡ old.backlogs → OnErr r (IsUnheard old new session line)
+  unheard_if old new session line desk meaning (Ok x) heard same serving today flights backlogs = tt
+  unheard_if old new session line desk meaning (Err e) heard same serving today flights backlogs =
+      unheard old new session line desk meaning heard same.0 same.1 serving today flights backlogs
 
   pub hall_more : (flights served : List Flown) (serving : Served D) (today : ℕ) (desks now : List Desk) (calls : List CallIndex)
       (old new : List Asked) (more : Option Asked) → IsHall flights served serving today desks calls old
@@ -146,8 +151,9 @@ module _ {D : Type 0} where
       → new.today ≡ day_behind old.today order → goes ≡ goes_on order
       → PlansOrder old.serving.cap new.manager new.today (behind old.serving.grid old.serving.journal old.asked) order plan
       → new.asked ≡ old.asked ++ option_to_list plan.asked → new.turns ≡ old.turns ++ plan.turn ∷ []
-      → new.desks ≡ old.desks → new.serving ≡ old.serving → new.flights ≡ old.flights → IsOrdered is_earlier old new line goes
-  ordered_by is_earlier old new line goes order plan is day going plans asked turns desks serving flights = record {
+      → new.desks ≡ old.desks → new.serving ≡ old.serving → new.flights ≡ old.flights → new.backlogs ≡ old.backlogs
+      → IsOrdered is_earlier old new line goes
+  ordered_by is_earlier old new line goes order plan is day going plans asked turns desks serving flights backlogs = record {
     order = order;
     is_order = is;
     day_is = day;
@@ -159,6 +165,7 @@ module _ {D : Type 0} where
     desks_are = desks;
     serving_is = serving;
     flights_are = flights;
+    backlogs_are = backlogs;
   }
 
   -- lines are read on another day
@@ -174,3 +181,48 @@ module _ {D : Type 0} where
     right = hall.right;
     room = hall.room;
   }
+
+  -- ---- who is told again
+
+  pub opened_none : (hall : Hallful D) (o : Option Asking) → o ≡ None → o ≡ again_asked hall.turns → IsOpened (again_asked hall.turns) hall hall
+  opened_none hall o none is = subst (λ (x : Option Asking). IsOpened x hall hall) (sym none ∙ is) refl
+
+  pub opened_some : (old new : Hallful D) (o : Option Asking) (asking : Asking) → o ≡ Some asking → o ≡ again_asked old.turns
+      → new ≡ (record old {
+        turns = [];
+        backlogs = set old.backlogs asking.asker (Some (min asking.from (length old.serving.journal)));
+      }) → IsOpened (again_asked old.turns) old new
+  opened_some old new o asking some is same = subst (λ (x : Option Asking). IsOpened x old new) (sym some ∙ is) same
+
+  pub piece_none : (hall : Hallful D) (session most : ℕ) (o : Option ℕ) (text : List ℕ) → o ≡ None → o ≡ backlog_of hall.backlogs session → text ≡ []
+      → IsPiece hall hall session most text
+  piece_none hall session most o text none is nothing =
+      subst (λ (b : Option ℕ). IsPieceFrom b hall hall session most text) (sym none ∙ is) (nothing, refl)
+
+  pub piece_some : (old new : Hallful D) (session most from upto lines : ℕ) (o : Option ℕ) (text : List ℕ) → o ≡ Some from
+      → o ≡ backlog_of old.backlogs session → lines ≡ length old.serving.journal → upto ≡ piece_end from most lines
+      → AreTold old.flights session (told_between old.serving.journal session from upto) text
+      → new ≡ (record old { backlogs = set old.backlogs session (backlog_behind upto lines) }) → IsPiece old new session most text
+  piece_some old new session most from upto lines o text some is count end told same =
+      let here : upto ≡ piece_end from most (length old.serving.journal) = end ∙ ap (piece_end from most) count in
+      let after : new ≡ (record old { backlogs = set old.backlogs session (backlog_behind upto (length old.serving.journal)) }) =
+      same ∙ ap (λ (n : ℕ). record old { backlogs = set old.backlogs session (backlog_behind upto n) }) count in
+      subst (λ (b : Option ℕ). IsPieceFrom b old new session most text) (sym some ∙ is)
+      (subst (λ (n : ℕ). IsPieceUpTo from n old new session text) here (told, after))
+
+  -- ---- who was told all
+
+  caught_from : (old new : Hallful D) (session : ℕ) (text : List ℕ) (b : Option ℕ) → backlog_of old.backlogs session ≡ b
+      → IsPieceFrom b old new session (length old.serving.journal) text → backlog_of new.backlogs session ≡ None
+  caught_from old new session text None is piece = ap (λ (h : Hallful D). backlog_of h.backlogs session) piece.1 ∙ is
+  caught_from old new session text (Some from) is piece =
+      let lines : ℕ = length old.serving.journal in
+      let over : nat_lt (piece_end from lines lines) lines ≡ false = whole_end from lines in
+      let none : backlog_behind (piece_end from lines lines) lines ≡ None = ap (λ (t : Bool). if t then Some (piece_end from lines lines) else None) over in
+      ap (λ (h : Hallful D). backlog_of h.backlogs session) piece.1
+      ∙ ap (λ (o : Option ℕ). backlog_of (set old.backlogs session o) session) none ∙ no_backlog old.backlogs session
+
+  pub caught_up : (old new : Hallful D) (session most : ℕ) (text : List ℕ) → most ≡ length old.serving.journal
+      → IsPiece old new session most text → backlog_of new.backlogs session ≡ None
+  caught_up old new session most text is piece =
+      caught_from old new session text (backlog_of old.backlogs session) refl (subst (λ (n : ℕ). IsPiece old new session n text) is piece)

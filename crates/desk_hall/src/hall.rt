@@ -1,27 +1,28 @@
 //! A host of several desks.
-ghost use Rattle.std.specs.Prelude.{◌≡◌, ◌≤◌, ◌-◌, ◌+◌, ◌∷◌, ◌++◌, [], false, length, slice_get, Some, IfErr, IfOk, OnErr, OnOk};
+ghost use Rattle.std.specs.Prelude.{◌≡◌, ◌≤◌, ◌-◌, ◌+◌, ◌∷◌, ◌++◌, [], false, is_some, length, replicate, slice_get, None, Some, IfErr, IfOk, OnErr, OnOk};
 ghost use Rattle.std.specs.Prelude.{option_to_list};
 ghost use Rattle.airline_base.specs.Days.{IsCenturyDay};
 ghost use Rattle.airline_base.specs.Noting.{noted};
-ghost use Rattle.seat_desk.specs.FlightsDesk.{IsText};
 ghost use Rattle.seat_desk.specs.Loading.{IsGridOf};
 ghost use Rattle.seat_disk.specs.Growing.{KeepsFront};
 ghost use Rattle.seat_recovery.specs.OpenText.{open_text};
 ghost use Rattle.seat_rules.specs.Prefixes.{Begins};
-ghost use Rattle.seat_replies.specs.RunDesk.{at_any};
 ghost use Rattle.seat_serving.specs.Answering.{behind};
 ghost use Rattle.seat_serving.specs.declared.serving.ServeFault.TheVariants.{Device, Memory as NoMemory};
 ghost use Rattle.desk_answers.specs.Hosts.{IsReady};
 ghost use Rattle.desk_hall.specs.Booking.{IsBehindSome};
-ghost use Rattle.desk_hall.specs.Halls.{lines_behind, HasHeardLine, IsHeardBy, IsOrdered, IsPassed, IsSameHall, IsUnheard, IsUnordered};
+ghost use Rattle.desk_hall.specs.Halls.{lines_behind, HasHeardLine, IsHeardBy, IsOpened, IsOrdered, IsPassed, IsPiece, IsSameHall, IsToldTo, IsUnheard, IsUnordered};
+ghost use Rattle.desk_hall.specs.Pieces.{again_asked, backlog_of};
 ghost use Rattle.desk_lines.specs.Lines.{IsRightMeaning};
-ghost use Rattle.desk_hall.specs.Telling.{IsTurn};
 
+use crate::backlog::{
+    Backlogs, again_asked, backlog_behind, backlog_of, piece_end, set_backlog, told_between,
+};
 use crate::booking::book;
 use crate::ordering::{day_behind, goes_on, plan_of_order};
 use crate::orders::order_of;
 use crate::planning::{Plan, plan_of};
-use crate::telling::told_of;
+use crate::telling::told_by;
 use crate::turn::Turn;
 use airimp_lines::{FlightClass, LineFault, Look, Request, ScriptKind, Segment};
 use airline_base::{Day, Memory};
@@ -47,6 +48,7 @@ pub struct Hall<'a, D: Tape> {
     calls: Vec<CallIndex>,
     asked: Vec<Asked>,
     turns: Vec<Turn>,
+    backlogs: Backlogs,
 }
 
 impl<'a, D: Tape> Model for Hall<'a, D> {
@@ -62,6 +64,7 @@ impl<'a, D: Tape> Model for Hall<'a, D> {
       manager = s.manager;
       asked = s.asked.items;
       turns = s.turns.items;
+      backlogs = s.backlogs;
     } };
 
     ghost invariant = { λ s. IsHall s.flights.now s.served s.serving s.today s.desks.items s.calls.items s.asked.items };
@@ -90,6 +93,7 @@ impl<'a, D: Tape> Hall<'a, D> {
         ensures parts { (result.flights ≡ flights.now) × (result.serving ≡ serving) × (result.today ≡ today)
             × (result.desks ≡ desks.items) × (result.manager ≡ manager) }
         ensures none { (result.asked ≡ []) × (result.turns ≡ []) }
+        ensures told { result.backlogs ≡ replicate 9 None }
     {
         // For the prover alone: only the inventory itself says that its journal is within its limits.
         let _ = serving.journal();
@@ -103,6 +107,7 @@ impl<'a, D: Tape> Hall<'a, D> {
             calls,
             asked,
             turns,
+            backlogs: [None; 9],
         }
     }
 
@@ -169,6 +174,7 @@ impl<'a, D: Tape> Hall<'a, D> {
             calls: _,
             asked: _,
             turns: _,
+            backlogs: _,
         } = self;
         serving
     }
@@ -178,6 +184,7 @@ impl<'a, D: Tape> Hall<'a, D> {
     #[tactic(auto, using(crate::proofs::Halls::heard_by, crate::proofs::Halls::unheard))]
     pub fn hear(&mut self, session: u8, line: &[u8]) -> Result<(), Memory>
         requires session { (1 ≤ session) × (session ≤ length self.old.desks) }
+        requires told { backlog_of self.old.backlogs session ≡ None }
         ensures heard { OnOk result (IsHeardBy self.old self.new session line.now) }
         ensures memory { OnErr result (IsUnheard self.old self.new session line.now) }
         ensures unbooked { (self.new.serving ≡ self.old.serving) × (length self.new.desks ≡ length self.old.desks) }
@@ -192,6 +199,7 @@ impl<'a, D: Tape> Hall<'a, D> {
             calls: _,
             asked,
             turns,
+            backlogs: _,
         } = self;
         let (desk, meaning) = hear_at(desks, *today, session, line);
         let plan = plan_of(
@@ -215,6 +223,7 @@ impl<'a, D: Tape> Hall<'a, D> {
         line: &[u8],
         is_earlier: bool,
     ) -> Result<bool, Memory>
+        requires told { backlog_of self.old.backlogs 0 ≡ None }
         ensures ordered { IfOk result (IsOrdered is_earlier self.old self.new line.now) }
         ensures memory { OnErr result (IsUnordered self.old self.new) }
         ensures unbooked { (self.new.serving ≡ self.old.serving) × (self.new.desks ≡ self.old.desks) }
@@ -229,6 +238,7 @@ impl<'a, D: Tape> Hall<'a, D> {
             calls: _,
             asked,
             turns,
+            backlogs: _,
         } = self;
         manager.today = *today;
         let order = order_of(alloc, served, manager, line, is_earlier)?;
@@ -267,6 +277,7 @@ impl<'a, D: Tape> Hall<'a, D> {
             calls: _,
             asked,
             turns: _,
+            backlogs: _,
         } = self;
         let booked = book(rt, alloc, serving, asked.as_slice());
         asked.clear();
@@ -276,11 +287,10 @@ impl<'a, D: Tape> Hall<'a, D> {
     }
 
     /// What a session's desk, or the manager, is told of the lines that were heard: what its own are answered, and the advices to its bookings of what
-    /// others asked for, all in the order of the lines.
+    /// others asked for, all in the order of the lines. Who is behind is told nothing of them: what concerns it comes with its pieces.
     pub fn told(&mut self, alloc: Global, session: u8) -> Result<Vec<u8>, Memory>
         requires session { session ≤ length self.old.desks }
-        ensures told { IfOk result (λ text. IsText (at_any (IsTurn self.old.flights self.old.serving.grid self.old.serving.journal
-            session)) 0 self.old.turns text.items) }
+        ensures told { IfOk result (λ text. IsToldTo self.old session text.items) }
         ensures same { self.new ≡ self.old }
     {
         let Hall {
@@ -293,9 +303,10 @@ impl<'a, D: Tape> Hall<'a, D> {
             calls,
             asked: _,
             turns,
+            backlogs,
         } = self;
         let index = &mut calls[usize::from(session)];
-        told_of(
+        told_by(
             alloc,
             flights,
             served,
@@ -303,14 +314,72 @@ impl<'a, D: Tape> Hall<'a, D> {
             index,
             session,
             turns.as_slice(),
+            backlog_of(backlogs, session),
         )
+    }
+
+    /// Whether a session's desk, or the manager, asked to be told again and was not told all yet. Its next line is heard when it was.
+    pub fn is_behind(&self, session: u8) -> bool
+        ensures { result ≡ is_some (backlog_of self.now.backlogs session) }
+    {
+        backlog_of(&self.backlogs, session).is_some()
+    }
+
+    /// Where all that was heard is a desk's `?AGAIN`, it is answered piece by piece from then on.
+    #[tactic(auto, using(crate::proofs::Halls::opened_none, crate::proofs::Halls::opened_some))]
+    pub fn open_backlog(&mut self)
+        ensures opened { IsOpened (again_asked self.old.turns) self.old self.new }
+        ensures same { (self.new.serving ≡ self.old.serving) × (self.new.today ≡ self.old.today) }
+    {
+        let Some(asking) = again_asked(self.turns.as_slice()) else {
+            return;
+        };
+        let lines = self.serving.journal().len() as u32;
+        set_backlog(
+            &mut self.backlogs,
+            asking.asker,
+            Some(asking.from.min(lines)),
+        );
+        self.turns.clear();
+    }
+
+    /// Tells whoever is behind of so many lines of the journal at most, from where it was told before. Behind the last it is behind no more.
+    #[tactic(auto, using(crate::proofs::Halls::piece_none, crate::proofs::Halls::piece_some))]
+    pub fn again(&mut self, alloc: Global, session: u8, most: u32) -> Result<Vec<u8>, Memory>
+        ensures piece { IfOk result (λ text. IsPiece self.old self.new session most text.items) }
+        ensures memory { OnErr result (self.new ≡ self.old) }
+        ensures same { (self.new.serving ≡ self.old.serving) × (self.new.today ≡ self.old.today) }
+    {
+        let Some(from) = backlog_of(&self.backlogs, session) else {
+            return Ok(Vec::new(alloc));
+        };
+        let journal = self.serving.journal();
+        let lines = journal.len() as u32;
+        let upto = piece_end(from, most, lines);
+        let text = told_between(alloc, self.flights, journal, session, from, upto)?;
+        set_backlog(&mut self.backlogs, session, backlog_behind(upto, lines));
+        Ok(text)
+    }
+
+    /// Tells whoever is behind all that it is still to be told.
+    #[tactic(auto, using(crate::proofs::Halls::caught_up))]
+    pub fn again_all(&mut self, alloc: Global, session: u8) -> Result<Vec<u8>, Memory>
+        ensures piece { IfOk result (λ text. IsPiece self.old self.new session (length self.old.serving.journal) text.items) }
+        ensures caught { OnOk result (backlog_of self.new.backlogs session ≡ None) }
+        ensures memory { OnErr result (self.new ≡ self.old) }
+        ensures same { (self.new.serving ≡ self.old.serving) × (self.new.today ≡ self.old.today) }
+    {
+        let lines = self.serving.journal().len() as u32;
+        let text = self.again(alloc, session, lines)?;
+        Ok(text)
     }
 
     /// The lines that were heard are told.
     pub fn end_turns(&mut self)
         ensures none { self.new.turns ≡ [] }
         ensures same { (self.new.serving ≡ self.old.serving) × (self.new.desks ≡ self.old.desks)
-            × (self.new.manager ≡ self.old.manager) × (self.new.asked ≡ self.old.asked) × (self.new.today ≡ self.old.today) × (self.new.flights ≡ self.old.flights) }
+            × (self.new.manager ≡ self.old.manager) × (self.new.asked ≡ self.old.asked) × (self.new.today ≡ self.old.today) × (self.new.flights ≡ self.old.flights)
+            × (self.new.backlogs ≡ self.old.backlogs) }
     {
         self.turns.clear();
     }

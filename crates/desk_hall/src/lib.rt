@@ -3,8 +3,10 @@
 //! It knows the inventory with its file and the texts of answers, and nothing of threads, of pipes or of who reads a desk's lines.
 #![tactic(auto)]
 
+mod backlog;
 mod booking;
 mod hall;
+pub mod laws;
 mod ordering;
 mod orders;
 mod planning;
