@@ -1,5 +1,5 @@
 -- A look that is answered where it is read, or waits.
-use Rattle.std.proofs.Common.{◌≡◌, ◌<◌, ℕ, List, length, inl, inr, sym, subst}
+use Rattle.std.proofs.Common.{◌≡◌, ◌<◌, ℕ, Bool, true, List, length, inl, inr, sym, subst}
 use Rattle.airimp_lines.specs.declared.look.Look.{Look as Looked}
 use Rattle.desk_answers.specs.Saying.{HasHeard}
 use Rattle.desk_lines.specs.declared.desk.Desk.{Desk}
@@ -7,7 +7,7 @@ use Rattle.desk_lines.specs.declared.desk.Meaning.{Meaning}
 use Rattle.desk_lines.specs.declared.desk.Meaning.TheVariants.{Look}
 use Rattle.desk_pipes.specs.declared.watch.Watched.{Watched}
 use Rattle.desk_looks.specs.Asking.{IsUnseen}
-use Rattle.desk_looks.specs.Watching.{IsLookedOut, IsUnanswered, IsWatchedBy, IsWatchedLook, Looking}
+use Rattle.desk_looks.specs.Watching.{IsHeardOnly, IsLookedOut, IsPassedWord, begins_word, is_again, IsUnanswered, IsWatchedBy, IsWatchedLook, Looking}
 use Rattle.desk_looks.specs.Windows.{Windowed}
 use Rattle.desk_looks.specs.declared.question.Unseen.{Unseen}
 
@@ -24,6 +24,14 @@ pub word_heard : (old new : Looking) (today lines : ℕ) (line : List ℕ) (mean
     → IsLookedOut old new today lines line watched
 word_heard old new today lines line meaning watched heard so =
     record { meaning = meaning; has_heard = heard; watched_so = so }
+
+-- a word that waits whatever it is
+pub word_passed : (old new : Looking) (today : ℕ) (line : List ℕ) (meaning : Meaning) (awaited : Bool) → begins_word line ≡ true
+    → HasHeard (record old.desk { today = today }) new.desk line meaning → awaited ≡ is_again meaning → new.window ≡ old.window
+    → IsHeardOnly (begins_word line) old new today line awaited
+word_passed old new today line meaning awaited is heard so window =
+    subst (λ (b : Bool). IsHeardOnly b old new today line awaited) (sym is)
+    (record { meaning = meaning; has_heard = heard; awaited_is = so; window_is = window })
 
 -- a look, whose window was not used before
 pub look_heard : (old mid new : Looking) (today lines : ℕ) (line : List ℕ) (look : Looked) (watched : Watched)

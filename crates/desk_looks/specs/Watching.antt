@@ -5,7 +5,7 @@ use Rattle.desk_answers.specs.Looks.{IsLooked}
 use Rattle.desk_answers.specs.Saying.{HasHeard}
 use Rattle.desk_lines.specs.declared.desk.Desk.{Desk}
 use Rattle.desk_lines.specs.declared.desk.Meaning.{Meaning}
-use Rattle.desk_lines.specs.declared.desk.Meaning.TheVariants.{Look, Hello, Wrong}
+use Rattle.desk_lines.specs.declared.desk.Meaning.TheVariants.{Look, Again, Hello, Wrong}
 use Rattle.desk_pipes.specs.declared.watch.Watched.{Watched}
 use Rattle.desk_pipes.specs.declared.watch.Watched.TheVariants.{Told, Heard, Awaited}
 use Rattle.ssim_flights.specs.declared.flight.Flight.{Flight}
@@ -45,11 +45,12 @@ IsWatchedLook flown old new lines look (Told text) =
 IsWatchedLook flown old new lines look Heard = IsUnanswered old new lines
 IsWatchedLook flown old new lines look Awaited = ⊥
 
--- a hello waits for the host, and all behind it for its answer; so does a wrong word, which may be one of the manager's, as a day is; any other line waits
--- for the host
+-- a hello waits for the host, and all behind it for its answer; so does who asks to be told again, which goes piece by piece, and a wrong word, which may
+-- be one of the manager's, as a day is; any other line waits for the host
 abbrev pub IsWatchedBy : Meaning → Looking → Looking → ℕ → Watched → Type 0
 IsWatchedBy (Look look) old new lines watched = IsWatchedLook new.flown old.window new.window lines look watched
 IsWatchedBy (Hello name named) old new lines watched = (watched ≡ Awaited) × (new.window ≡ old.window)
+IsWatchedBy (Again behind) old new lines watched = (watched ≡ Awaited) × (new.window ≡ old.window)
 IsWatchedBy (Wrong wrong) old new lines watched = (watched ≡ Awaited) × (new.window ≡ old.window)
 IsWatchedBy meaning old new lines watched = (watched ≡ Heard) × (new.window ≡ old.window)
 
@@ -64,13 +65,19 @@ abbrev pub IsWatched : Bool → Looking → Looking → ℕ → ℕ → List ℕ
 IsWatched true old new today lines line watched = IsLookedOut old new today lines line watched
 IsWatched false old new today lines line watched = (watched ≡ Heard) × (new ≡ old)
 
+-- what is told piece by piece is waited for
+abbrev pub is_again : Meaning → Bool
+is_again (Again behind) = true
+is_again meaning = false
+
 -- a word to the host is heard, and nothing is looked at for it
-pub record IsPassedWord (old new : Looking) (today : ℕ) (line : List ℕ) : Type 0 where
+pub record IsPassedWord (old new : Looking) (today : ℕ) (line : List ℕ) (awaited : Bool) : Type 0 where
   pub meaning : Meaning
   pub has_heard : HasHeard (record old.desk { today = today }) new.desk line meaning
+  pub awaited_is : awaited ≡ is_again meaning
   pub window_is : new.window ≡ old.window
 
 -- a line that waits for the host whatever it is
-abbrev pub IsHeardOnly : Bool → Looking → Looking → ℕ → List ℕ → Type 0
-IsHeardOnly true old new today line = IsPassedWord old new today line
-IsHeardOnly false old new today line = new ≡ old
+abbrev pub IsHeardOnly : Bool → Looking → Looking → ℕ → List ℕ → Bool → Type 0
+IsHeardOnly true old new today line awaited = IsPassedWord old new today line awaited
+IsHeardOnly false old new today line awaited = (awaited ≡ false) × (new ≡ old)

@@ -2,7 +2,7 @@
 ghost use Rattle.std.specs.Prelude.{◌≡◌};
 ghost use Rattle.airline_base.specs.Days.{IsCenturyDay};
 ghost use Rattle.desk_answers.specs.Saying.{HasHeard};
-ghost use Rattle.desk_looks.specs.Watching.{begins_word, IsHeardOnly, IsLookedOut, IsWatched, IsWatchedLook};
+ghost use Rattle.desk_looks.specs.Watching.{begins_word, is_again, IsHeardOnly, IsLookedOut, IsWatched, IsWatchedLook};
 ghost use Rattle.desk_looks.specs.Windows.{IsSameTable};
 
 use crate::question::{Question, Unseen, look_told};
@@ -70,14 +70,17 @@ impl<'a> Lookout<'a> {
         self.hear_word(today, lines, line)
     }
 
-    /// Hears a line that waits for the host whatever it is.
-    pub fn hear_only(&mut self, today: Day, line: &[u8])
+    /// Hears a line that waits for the host whatever it is. Whether all behind it waits for its answer, which goes piece by piece.
+    #[tactic(auto, using(crate::proofs::Watches::word_passed))]
+    pub fn hear_only(&mut self, today: Day, line: &[u8]) -> bool
         requires today { IsCenturyDay today }
-        ensures heard { IsHeardOnly (begins_word line.now) self.old self.new today line.now }
+        ensures heard { IsHeardOnly (begins_word line.now) self.old self.new today line.now result }
     {
-        if begins_word(line) {
-            let _: Meaning = self.mean(today, line);
+        if !begins_word(line) {
+            return false;
         }
+        let meaning = self.mean(today, line);
+        is_again(&meaning)
     }
 
     // A word to the host.
@@ -93,7 +96,7 @@ impl<'a> Lookout<'a> {
             Meaning::Nothing => Watched::Heard,
             Meaning::Request(_) => Watched::Heard,
             Meaning::Call(_, _) => Watched::Heard,
-            Meaning::Again(_) => Watched::Heard,
+            Meaning::Again(_) => Watched::Awaited,
             Meaning::Leave => Watched::Heard,
             // It may be a day of the manager's, on which what stands behind it is looked at.
             Meaning::Wrong(_) => Watched::Awaited,
@@ -126,8 +129,8 @@ impl<'a> Watch for Lookout<'a> {
         self.hear(today, lines, line)
     }
 
-    fn pass(&mut self, today: Day, line: &[u8]) {
-        self.hear_only(today, line);
+    fn pass(&mut self, today: Day, line: &[u8]) -> bool {
+        self.hear_only(today, line)
     }
 }
 
@@ -139,6 +142,13 @@ fn begins_word(line: &[u8]) -> bool
         [] => false,
         [first, ..] => *first == b'?',
     }
+}
+
+// Whether it asks to be told again.
+fn is_again(meaning: &Meaning) -> bool
+    ensures { result ≡ is_again meaning.now }
+{
+    matches!(meaning, Meaning::Again(_))
 }
 
 // A look is answered where no fewer lines are seen than are told.

@@ -51,3 +51,9 @@ has_room bytes = nat_lt (length bytes) most_ahead
 pub record Posted : Type 0 where
   pub session : ℕ
   pub text : List ℕ
+
+-- whether something is to be written for a desk: where nobody writes nothing is
+abbrev pub is_owed : Bool → Bool → List ℕ → Bool
+is_owed false writing bytes = false
+is_owed true true bytes = true
+is_owed true false bytes = not (length bytes == 0)

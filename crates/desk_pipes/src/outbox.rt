@@ -1,6 +1,6 @@
 //! What waits for a desk to be read.
 ghost use Rattle.std.specs.Prelude.{◌≡◌, ◌||◌, [], true, false, not, if◌then◌else◌, OnErr, OnOk};
-ghost use Rattle.desk_pipes.specs.Waiting.{has_room, is_full, text_told};
+ghost use Rattle.desk_pipes.specs.Waiting.{has_room, is_full, is_owed, text_told};
 
 use std::alloc::{AllocError, Global};
 use std::mem;
@@ -13,8 +13,8 @@ const MOST_BYTES: usize = 1_048_576;
 /// Where fewer bytes wait a piece more of what is told piece by piece may.
 const MOST_AHEAD: usize = 65_536;
 
-/// How often the end of the writing is looked for.
-const MOST_LOOKS: u32 = 10_000;
+/// How many milliseconds the end of a host waits for what a desk is told to be written.
+const LAST: u64 = 100;
 
 /// What lies under the lock.
 #[derive(Drop)]
@@ -24,6 +24,8 @@ struct Text {
     is_lost: bool,
     /// Whether what was taken is not written yet.
     is_writing: bool,
+    /// Whether somebody writes what waits.
+    has_writer: bool,
     /// Whether somebody waits for room.
     is_awaited: bool,
     is_over: bool,
@@ -123,6 +125,7 @@ impl Outbox {
                 bytes: Vec::new(alloc),
                 is_lost: false,
                 is_writing: false,
+                has_writer: false,
                 is_awaited: false,
                 is_over: false,
             }),

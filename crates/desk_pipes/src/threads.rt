@@ -6,6 +6,7 @@ ghost use Rattle.desk_pipes.specs.Watching.{is_told};
 use crate::cutting::{HeldLine, cut_lines};
 use crate::inbox::Said;
 use crate::mark::{Ahead, Mark};
+use crate::outbox::Outbox;
 use crate::post::Post;
 use crate::watch::{Passed, Watch, Watched};
 use airline_base::Memory;
@@ -46,7 +47,10 @@ fn write_there<R: Wait + Drop, O: Write + Drop>(
     out: O,
 ) {
     let mut out = out;
-    let _ = write_desk(&rt, alloc, &post, session, &mut out);
+    if let Some(outbox) = post.outbox(session) {
+        let _ = write_desk(&rt, alloc, &post, outbox, &mut out);
+        outbox.end_writing(&rt);
+    }
 }
 
 /// Writes a host's mark to a pipe that it reads, on a thread of its own, since a full pipe keeps it waiting.
@@ -209,12 +213,9 @@ pub fn write_desk<R: Wait, W: Write>(
     rt: &R,
     alloc: Global,
     post: &Post,
-    session: u8,
+    outbox: &Outbox,
     out: &mut W,
 ) -> io::Result<()> {
-    let Some(outbox) = post.outbox(session) else {
-        return Ok(());
-    };
     out.write_all(b"!\n")?;
     let mut text = Vec::new(alloc);
     for _ in rt.forever() {

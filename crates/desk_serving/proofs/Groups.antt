@@ -2,17 +2,16 @@
 use Rattle.std.proofs.Common.{◌≡◌, ◌<◌, ◌≤◌, ℕ, suc, ◌+◌, ◌&&◌, Bool, true, false, List, [], ◌∷◌, ◌++◌, length, map, take, get_or, inl, inr, refl, sym, ap, ◌∙◌, subst, arith, length-append}
 use Rattle.std.proofs.Math.Bool.{and-true, and_assoc}
 use Rattle.std.proofs.lemmas.List.{map-append, take_all, take_more}
-use Rattle.std.specs.Prelude.{All, Result, Ok, Err, IfOk}
-use Rattle.desk_hall.specs.Halls.{Hallful, IsPassed, IsSameHall, IsUnheard, IsUnordered}
-use Rattle.desk_hall.specs.Telling.{IsTurn}
+use Rattle.std.specs.Prelude.{All, Option, Some, None, is_some, replicate, Result, Ok, Err, IfOk}
+use Rattle.desk_hall.specs.Halls.{Hallful, IsOpened, IsPassed, IsPiece, IsSameHall, IsToldTo, IsUnheard, IsUnordered}
+use Rattle.desk_hall.specs.Pieces.{again_asked, backlog_of}
+use Rattle.desk_pipes.specs.Waiting.{Posted}
 use Rattle.desk_lines.specs.declared.desk.Desk.{Desk}
 use Rattle.desk_pipes.specs.declared.inbox.Said.{Said}
 use Rattle.desk_serving.specs.Going.{is_apart, IsHeardBehind}
-use Rattle.desk_serving.specs.Groups.{AreFrom, AreGroups, AreTaken, AreTexts, AreTold, GoesThrough, IsAnswered, IsBooked, IsForgotten, IsGroup, IsHallOver, IsOne, IsOneBy, IsServed, IsServedTo, IsTaken, IsTakenApart, IsTold}
+use Rattle.desk_serving.specs.Groups.{AreFrom, AreGroups, AreSteps, AreTaken, AreTexts, AreTold, GoesThrough, IsAnswered, IsBooked, IsCaughtUp, IsCaughtUpBy, IsForgotten, IsGiven, IsGroup, IsHallOver, IsOne, IsOneBy, IsServed, IsServedTo, IsStep, IsTaken, IsTakenApart, IsTakenUp, IsTold, IsToldOn, IsWordAnswered}
 use Rattle.desk_serving.specs.Silence.{IsSilentAt}
-use Rattle.seat_desk.specs.FlightsDesk.{IsText}
 use Rattle.seat_journal.specs.declared.entry.Entry.{Entry}
-use Rattle.seat_replies.specs.RunDesk.{at_any}
 use Rattle.seat_serving.specs.Answering.{behind}
 use Rattle.seat_serving.specs.Served.{Served}
 use Rattle.ssim_flights.specs.declared.flight.Flight.{Flight as Flown}
@@ -34,7 +33,7 @@ module _ {D : Type 0} where
 
   pub told : (old new : Hallful D) (texts : List (List ℕ)) → AreTold old texts → new.turns ≡ []
       → (new.serving ≡ old.serving) × (new.desks ≡ old.desks) × (new.manager ≡ old.manager) × (new.asked ≡ old.asked)
-      × (new.today ≡ old.today) × (new.flights ≡ old.flights) → IsTold old new
+      × (new.today ≡ old.today) × (new.flights ≡ old.flights) × (new.backlogs ≡ old.backlogs) → IsTold old new
   told old new texts are none same = record {
     texts = texts;
     told = are;
@@ -45,6 +44,7 @@ module _ {D : Type 0} where
     manager_is = same.2;
     today_is = same.4;
     flights_are = same.5;
+    backlogs_are = same.6;
   }
 
   pub answered : (old mid new : Hallful D) → IsBooked old mid → IsTold mid new → IsAnswered old new
@@ -56,7 +56,7 @@ module _ {D : Type 0} where
   no_texts hall = record { each = tt; count_is = refl }
 
   abbrev pub IsFor : Hallful D → ℕ → List ℕ → Type 0
-  IsFor hall session text = IsText (at_any (IsTurn hall.flights hall.serving.grid hall.serving.journal session)) 0 hall.turns text
+  IsFor hall session text = IsToldTo hall session text
 
   one_more : (hall : Hallful D) (session : ℕ) (texts : List (List ℕ)) (text : List ℕ) → AreFrom hall session texts
       → IsFor hall (session + length texts) text → AreFrom hall session (texts ++ text ∷ [])
@@ -92,15 +92,78 @@ module _ {D : Type 0} where
 
   -- ---- a line
 
-  pub nobodys : (old : Hallful D) (one : Said) → length old.desks < one.session → IsTaken old old one true
+  pub nobodys : (old : Hallful D) (one : Said) → length old.desks < one.session → IsTakenUp old old one true
   nobodys old one beyond = record { taken = inl (record { nobodys = beyond; same = refl; goes_on = refl }) }
 
   pub is_heard : (old new : Hallful D) (one : Said) (goes : Bool)
-      → IsHeardBehind one.is_earlier old new one.session one.passed one.line.items goes → IsTaken old new one goes
+      → IsHeardBehind one.is_earlier old new one.session one.passed one.line.items goes → IsTakenUp old new one goes
   is_heard old new one goes is = record { taken = inr (inl is) }
 
-  pub wanting : (old mid new : Hallful D) (one : Said) → IsForgotten old mid → IsAnswered mid new → IsTaken old new one true
+  pub wanting : (old mid new : Hallful D) (one : Said) → IsForgotten old mid → IsAnswered mid new → IsTakenUp old new one true
   wanting old mid new one a b = record { taken = inr (inr (record { mid = mid; forgotten = a; answered = b; goes_on = refl })) }
+
+  pub taken_up : (old first new : Hallful D) (one : Said) (goes : Bool) → IsCaughtUp old first one.session → IsTakenUp first new one goes
+      → IsTaken old new one goes
+  taken_up old first new one goes caught is = record { first = first; caught = caught; taken = is }
+
+  -- ---- who is behind
+
+  -- a desk that is not behind is not behind its lines that were answered where they were read
+  pub passed_told : (old mid : Hallful D) (session more : ℕ) → IsPassed old mid session more → backlog_of old.backlogs session ≡ None
+      → backlog_of mid.backlogs session ≡ None
+  passed_told old mid session more passed none = ap (λ (l : List (Option ℕ)). backlog_of l session) passed.same_host.backlogs_are ∙ none
+
+  pub passed_manager : (old mid : Hallful D) (session more : ℕ) → IsPassed old mid session more → backlog_of old.backlogs session ≡ None
+      → session ≡ 0 → backlog_of mid.backlogs 0 ≡ None
+  passed_manager old mid session more passed none is =
+      subst (λ (n : ℕ). backlog_of mid.backlogs n ≡ None) is (passed_told old mid session more passed none)
+
+  pub given : (old new : Hallful D) (session most : ℕ) (text : List ℕ) (told : Posted) → IsPiece old new session most text
+      → told.session ≡ session → told.text ≡ text → IsGiven old new session most told
+  given old new session most text told piece whose is =
+      record { session_is = whose; piece = subst (IsPiece old new session most) (sym is) piece }
+
+  none_behind : (b : Option ℕ) → is_some b ≡ false → b ≡ None
+  none_behind None is = refl
+  none_behind (Some n) is = absurd cc
+
+  pub not_behind : (hall : Hallful D) (session : ℕ) → is_some (backlog_of hall.backlogs session) ≡ false
+      → backlog_of hall.backlogs session ≡ None
+  not_behind hall session is = none_behind (backlog_of hall.backlogs session) is
+
+  pub nothing_to_catch : (hall : Hallful D) (session : ℕ) → is_some (backlog_of hall.backlogs session) ≡ false → IsCaughtUp hall hall session
+  nothing_to_catch hall session is = subst (λ (b : Bool). IsCaughtUpBy b hall hall session) (sym is) refl
+
+  pub taught_all : (old mid new : Hallful D) (session most : ℕ) (told : Posted) → is_some (backlog_of old.backlogs session) ≡ true
+      → IsAnswered old mid → most ≡ length mid.serving.journal → IsGiven mid new session most told → IsCaughtUp old new session
+  taught_all old mid new session most told is answer count give =
+      subst (λ (b : Bool). IsCaughtUpBy b old new session) (sym is)
+      (record { mid = mid; answered = answer; told = told; given = subst (λ (n : ℕ). IsGiven mid new session n told) count give })
+
+  pub word_answered : (old mid new : Hallful D) → IsOpened (again_asked old.turns) old mid → IsAnswered mid new → IsWordAnswered old new
+  word_answered old mid new a b = record { mid = mid; opened = a; answered = b }
+
+  pub step_none : (hall : Hallful D) (session : ℕ) → IsStep hall hall session
+  step_none hall session = inl refl
+
+  pub step_taught : (old new : Hallful D) (session : ℕ) (told : Posted) → IsGiven old new session 4096 told → IsStep old new session
+  step_taught old new session told is = inr (record { told = told; given = is })
+
+  pub no_steps : (hall : Hallful D) → AreSteps 0 hall hall
+  no_steps hall = refl
+
+  pub steps_more : (old mid new : Hallful D) (sessions : ℕ) → AreSteps sessions old mid → IsStep mid new sessions → AreSteps (sessions + 1) old new
+  steps_more old mid new sessions a b =
+      let same : suc sessions ≡ sessions + 1 = omega arith in
+      subst (λ (n : ℕ). AreSteps n old new) same (mid, a, b)
+
+  pub all_steps : (old new : Hallful D) (count session : ℕ) → AreSteps session old new → session ≡ count + 1 → count ≡ length old.desks
+      → AreSteps (length old.desks + 1) old new
+  all_steps old new count session a is desks =
+      subst (λ (n : ℕ). AreSteps n old new) (is ∙ ap (λ (n : ℕ). n + 1) desks) a
+
+  pub told_on : (old mid new : Hallful D) → IsAnswered old mid → AreSteps (length mid.desks + 1) mid new → IsToldOn old new
+  told_on old mid new a b = record { mid = mid; answered = a; pieces = b }
 
   pub unordered : (old mid new : Hallful D) (session more : ℕ) → IsPassed old mid session more → IsUnordered mid new → IsForgotten old new
   unordered old mid new session more a b = record {
@@ -109,6 +172,7 @@ module _ {D : Type 0} where
     serving_is = b.same_host.serving_is ∙ a.same_host.serving_is;
     today_is = b.same_host.today_is ∙ a.same_host.today_is;
     flights_are = b.same_host.flights_are ∙ a.same_host.flights_are;
+    backlogs_are = b.same_host.backlogs_are ∙ a.same_host.backlogs_are;
     count_is = ap length b.desks_are ∙ a.count_is;
   }
 
@@ -120,10 +184,11 @@ module _ {D : Type 0} where
     serving_is = b.same_host.serving_is ∙ a.same_host.serving_is;
     today_is = b.same_host.today_is ∙ a.same_host.today_is;
     flights_are = b.same_host.flights_are ∙ a.same_host.flights_are;
+    backlogs_are = b.same_host.backlogs_are ∙ a.same_host.backlogs_are;
     count_is = count ∙ a.count_is;
   }
 
-  pub apart : (old mid new : Hallful D) (one : Said) (goes : Bool) → IsTaken old mid one goes → IsAnswered mid new → IsTakenApart old new one goes
+  pub apart : (old mid new : Hallful D) (one : Said) (goes : Bool) → IsTaken old mid one goes → IsWordAnswered mid new → IsTakenApart old new one goes
   apart old mid new one goes a b = record { mid = mid; taken = a; answered = b }
 
   pub one_apart : {E : Type 0} (old first new : Hallful D) (one : Said) (r : Result Bool E) → is_apart one.line.items ≡ true
@@ -170,7 +235,7 @@ module _ {D : Type 0} where
       (subst (λ (x : Bool). AreTaken old (take i said ++ one ∷ []) new x) (sym is) (taken_on old mid new (take i said) one goes more a b))
 
   pub is_group : (old mid new : Hallful D) (said : List Said) (i : ℕ) (goes : Bool) → AreTaken old (take i said) mid goes → length said ≤ i
-      → IsAnswered mid new → IsGroup old said new goes
+      → IsToldOn mid new → IsGroup old said new goes
   is_group old mid new said i goes a over b = record {
     mid = mid;
     taken = subst (λ (l : List Said). AreTaken old l mid goes) (take_all i said over) a;
@@ -181,14 +246,15 @@ module _ {D : Type 0} where
 
   pub hall_over : (flights : List Flown) (serving s : Served D) (today epoch day : ℕ) (desks : List Desk) (manager : Desk) (hall : Hallful D)
       → (hall.flights ≡ flights) × (hall.serving ≡ s) × (hall.today ≡ day) × (hall.desks ≡ desks) × (hall.manager ≡ manager)
-      → (hall.asked ≡ []) × (hall.turns ≡ []) → s ≡ serving → day ≡ today → length desks ≡ 8 → IsSilentAt epoch hall.manager
+      → (hall.asked ≡ []) × (hall.turns ≡ []) → hall.backlogs ≡ replicate 9 None → s ≡ serving → day ≡ today → length desks ≡ 8 → IsSilentAt epoch hall.manager
       → All (IsSilentAt epoch) hall.desks → IsHallOver flights serving today epoch hall
-  hall_over flights serving s today epoch day desks manager hall parts none same on eight quiet silent = record {
+  hall_over flights serving s today epoch day desks manager hall parts none behind same on eight quiet silent = record {
     flights_are = parts.0;
     serving_is = parts.1 ∙ same;
     today_is = parts.2 ∙ on;
     none_asked = none.0;
     none_told = none.1;
+    none_behind = behind;
     eight = ap length parts.3 ∙ eight;
     manager = quiet;
     silent = silent;

@@ -1,13 +1,12 @@
 -- The lines of a group, heard one by one, and what each desk is told of them.
-use Rattle.std.specs.Prelude.{◌≡◌, ◌⊎◌, ◌<◌, ◌+◌, ◌&&◌, ℕ, suc, Bool, true, false, List, [], ◌∷◌, length, All}
-use Rattle.desk_hall.specs.Halls.{Hallful, IsSameHall}
-use Rattle.desk_hall.specs.Telling.{IsTurn}
+use Rattle.std.specs.Prelude.{◌≡◌, ◌⊎◌, ◌<◌, ◌+◌, ◌&&◌, ℕ, zero, suc, Bool, true, false, List, [], ◌∷◌, length, replicate, is_some, None, All}
+use Rattle.desk_hall.specs.Halls.{Hallful, IsOpened, IsPiece, IsSameHall, IsToldTo}
+use Rattle.desk_hall.specs.Pieces.{again_asked, backlog_of}
+use Rattle.desk_pipes.specs.Waiting.{Posted}
 use Rattle.desk_pipes.specs.declared.inbox.Said.{Said}
 use Rattle.desk_serving.specs.Going.{is_apart, IsHeardBehind}
 use Rattle.desk_serving.specs.Silence.{IsSilentAt}
-use Rattle.seat_desk.specs.FlightsDesk.{IsText}
 use Rattle.seat_journal.specs.declared.entry.Entry.{Entry}
-use Rattle.seat_replies.specs.RunDesk.{at_any}
 use Rattle.seat_serving.specs.Answering.{behind}
 use Rattle.seat_serving.specs.Served.{Served}
 use Rattle.ssim_flights.specs.declared.flight.Flight.{Flight as Flown}
@@ -24,7 +23,7 @@ pub record IsBooked {D : Type 0} (old new : Hallful D) : Type 0 where
 abbrev pub AreFrom : {D : Type 0} → Hallful D → ℕ → List (List ℕ) → Type 0
 AreFrom hall session [] = Unit {0}
 AreFrom hall session (text ∷ texts) =
-    IsText (at_any (IsTurn hall.flights hall.serving.grid hall.serving.journal session)) 0 hall.turns text × AreFrom hall (suc session) texts
+    IsToldTo hall session text × AreFrom hall (suc session) texts
 
 -- so many of them, the manager's first, have what is told of the lines that were heard
 pub record AreTexts {D : Type 0} (hall : Hallful D) (count : ℕ) (texts : List (List ℕ)) : Type 0 where
@@ -46,12 +45,60 @@ pub record IsTold {D : Type 0} (old new : Hallful D) : Type 0 where
   pub manager_is : new.manager ≡ old.manager
   pub today_is : new.today ≡ old.today
   pub flights_are : new.flights ≡ old.flights
+  pub backlogs_are : new.backlogs ≡ old.backlogs
 
 -- booked, and then told
 pub record IsAnswered {D : Type 0} (old new : Hallful D) : Type 0 where
   pub mid : Hallful D
   pub booked : IsBooked old mid
   pub told : IsTold mid new
+
+-- ---- who is behind
+
+-- a text waits for this session that is its piece of so many lines at most
+pub record IsGiven {D : Type 0} (old new : Hallful D) (session most : ℕ) (told : Posted) : Type 0 where
+  pub session_is : told.session ≡ session
+  pub piece : IsPiece old new session most told.text
+
+-- whoever is behind is told all that it is still to be told, behind what was heard ahead of it
+pub record IsTaughtAll {D : Type 0} (old new : Hallful D) (session : ℕ) : Type 0 where
+  pub mid : Hallful D
+  pub answered : IsAnswered old mid
+  pub told : Posted
+  pub given : IsGiven mid new session (length mid.serving.journal) told
+
+-- who is not has nothing to catch up with
+abbrev pub IsCaughtUpBy : {D : Type 0} → Bool → Hallful D → Hallful D → ℕ → Type 0
+IsCaughtUpBy true old new session = IsTaughtAll old new session
+IsCaughtUpBy false old new session = new ≡ old
+
+abbrev pub IsCaughtUp : {D : Type 0} → Hallful D → Hallful D → ℕ → Type 0
+IsCaughtUp old new session = IsCaughtUpBy (is_some (backlog_of old.backlogs session)) old new session
+
+-- what a desk asks to be told again is told piece by piece from then on, and any other word to the host is answered
+pub record IsWordAnswered {D : Type 0} (old new : Hallful D) : Type 0 where
+  pub mid : Hallful D
+  pub opened : IsOpened (again_asked old.turns) old mid
+  pub answered : IsAnswered mid new
+
+-- a session is told a piece, of 4,096 lines at most, or it has no room for it, or is not behind
+pub record IsTaught {D : Type 0} (old new : Hallful D) (session : ℕ) : Type 0 where
+  pub told : Posted
+  pub given : IsGiven old new session 4096 told
+
+abbrev pub IsStep : {D : Type 0} → Hallful D → Hallful D → ℕ → Type 0
+IsStep old new session = (new ≡ old) ⊎ IsTaught old new session
+
+-- so are the first of them, so many
+abbrev pub AreSteps : {D : Type 0} → ℕ → Hallful D → Hallful D → Type 0
+AreSteps {D} zero old new = new ≡ old
+AreSteps {D} (suc sessions) old new = (mid : Hallful D) × AreSteps sessions old mid × IsStep mid new sessions
+
+-- all that was heard is answered, and then each session is told a piece
+pub record IsToldOn {D : Type 0} (old new : Hallful D) : Type 0 where
+  pub mid : Hallful D
+  pub answered : IsAnswered old mid
+  pub pieces : AreSteps (length mid.desks + 1) mid new
 
 -- ---- a line
 
@@ -68,6 +115,7 @@ pub record IsForgotten {D : Type 0} (old new : Hallful D) : Type 0 where
   pub serving_is : new.serving ≡ old.serving
   pub today_is : new.today ≡ old.today
   pub flights_are : new.flights ≡ old.flights
+  pub backlogs_are : new.backlogs ≡ old.backlogs
   pub count_is : length new.desks ≡ length old.desks
 
 -- and all ahead of it is answered
@@ -78,15 +126,21 @@ pub record IsWanting {D : Type 0} (old new : Hallful D) (goes : Bool) : Type 0 w
   pub goes_on : goes ≡ true
 
 -- a line is heard, and the host goes on or not
-pub record IsTaken {D : Type 0} (old new : Hallful D) (one : Said) (goes : Bool) : Type 0 where
+pub record IsTakenUp {D : Type 0} (old new : Hallful D) (one : Said) (goes : Bool) : Type 0 where
   pub taken : IsNobodys old new one goes
       ⊎ (IsHeardBehind one.is_earlier old new one.session one.passed one.line.items goes ⊎ IsWanting old new goes)
+
+-- where its desk was told all that it asked for ahead of it
+pub record IsTaken {D : Type 0} (old new : Hallful D) (one : Said) (goes : Bool) : Type 0 where
+  pub first : Hallful D
+  pub caught : IsCaughtUp old first one.session
+  pub taken : IsTakenUp first new one goes
 
 -- a word to the host that is no look is heard behind the answers to all ahead of it, and answered ahead of all behind it
 pub record IsTakenApart {D : Type 0} (old new : Hallful D) (one : Said) (goes : Bool) : Type 0 where
   pub mid : Hallful D
   pub taken : IsTaken old mid one goes
-  pub answered : IsAnswered mid new
+  pub answered : IsWordAnswered mid new
 
 pub record IsBetween {D : Type 0} (old new : Hallful D) (one : Said) (goes : Bool) : Type 0 where
   pub first : Hallful D
@@ -108,11 +162,11 @@ AreTaken {D} old [] new goes = (new ≡ old) × (goes ≡ true)
 AreTaken {D} old (one ∷ said) new goes =
     (mid : Hallful D) × (first more : Bool) × IsOne old mid one first × AreTaken mid said new more × (goes ≡ (first && more))
 
--- each line of a group is taken once, in their order, and all of them are answered
+-- each line of a group is taken once, in their order, all of them are answered, and then whoever is behind and has room is told a piece
 pub record IsGroup {D : Type 0} (old : Hallful D) (said : List Said) (new : Hallful D) (goes : Bool) : Type 0 where
   pub mid : Hallful D
   pub taken : AreTaken old said mid goes
-  pub answered : IsAnswered mid new
+  pub answered : IsToldOn mid new
 
 -- one group behind the other, none of which ends the host
 abbrev pub AreGroups : {D : Type 0} → Hallful D → List (List Said) → Hallful D → Type 0
@@ -139,6 +193,7 @@ pub record IsHallOver {D : Type 0} (flights : List Flown) (serving : Served D) (
   pub today_is : hall.today ≡ today
   pub none_asked : hall.asked ≡ []
   pub none_told : hall.turns ≡ []
+  pub none_behind : hall.backlogs ≡ replicate 9 None
   pub eight : length hall.desks ≡ 8
   pub manager : IsSilentAt epoch hall.manager
   pub silent : All (IsSilentAt epoch) hall.desks

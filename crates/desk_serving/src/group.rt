@@ -1,12 +1,13 @@
 //! The lines that wait, answered as a group.
-ghost use Rattle.std.specs.Prelude.{◌≡◌, ◌≤◌, ◌==◌, ◌&&◌, false, true, IfErr, IfOk, OnErr, OnOk, length};
+ghost use Rattle.std.specs.Prelude.{◌≡◌, ◌≤◌, ◌==◌, ◌&&◌, false, true, None, IfErr, IfOk, OnErr, OnOk, length};
 ghost use Rattle.desk_answers.specs.Hosts.{IsReady};
+ghost use Rattle.desk_hall.specs.Pieces.{backlog_of};
 ghost use Rattle.desk_serving.specs.Daily.{CountsSeal, FailsBy, IsOnDay, IsSealedOn, StaysNamed};
 ghost use Rattle.desk_serving.specs.Going.{is_apart, Fails, GoesOn, IsHeardBehind};
-ghost use Rattle.desk_serving.specs.Groups.{IsForgotten, IsGroup, IsOne, IsTaken, IsTakenApart};
+ghost use Rattle.desk_serving.specs.Groups.{IsForgotten, IsGroup, IsOne, IsTaken, IsTakenApart, IsTakenUp};
 
 use crate::day::{GroupFault, keep_day};
-use crate::telling::answer_heard;
+use crate::telling::{answer_heard, answer_last, answer_word, catch_up};
 use airline_base::Memory;
 use desk_answers::memory_line;
 use desk_hall::Hall;
@@ -18,7 +19,8 @@ use std::alloc::Global;
 use std::sync::Wait;
 
 /// Hears these lines in their order, books what they ask for, and tells each desk what concerns it. A word to the host that is no look is
-/// answered behind all ahead of it and ahead of all behind it. Whether the host goes on.
+/// answered behind all ahead of it and ahead of all behind it. Then each desk that is told the journal again is told a piece, where it has room.
+/// Whether the host goes on.
 #[tactic(auto, using(crate::proofs::Goes::goes_same, crate::proofs::Goes::goes_further, crate::proofs::Goes::fails_behind, crate::proofs::Daily::fails_by_behind, crate::proofs::Daily::sealed_same, crate::proofs::Daily::sealed_further, crate::proofs::Daily::sealed_as, crate::proofs::Daily::stays_behind, crate::proofs::Daily::stays_on, crate::proofs::Daily::on_day_of, crate::proofs::Daily::by_inventory, crate::proofs::Daily::counts_none, crate::proofs::Groups::none_taken, crate::proofs::Groups::is_group))]
 pub(crate) fn answer_group<R: Wait, D: Tape, K: Replaced>(
     rt: &R,
@@ -45,7 +47,7 @@ pub(crate) fn answer_group<R: Wait, D: Tape, K: Replaced>(
             Err(fault) => return Err(fault),
         }
     }
-    match answer_heard(rt, alloc, hall, post, entry, seals) {
+    match answer_last(rt, alloc, hall, post, entry, seals) {
         Ok(()) => Ok(goes_on),
         Err(fault) => Err(GroupFault::Serve(fault)),
     }
@@ -113,7 +115,7 @@ fn hear_apart<R: Wait, D: Tape, K: Replaced>(
         Ok(goes_on) => goes_on,
         Err(fault) => return Err(fault),
     };
-    match answer_heard(rt, alloc, hall, post, entry, seals) {
+    match answer_word(rt, alloc, hall, post, entry, seals) {
         Ok(()) => Ok(goes_on),
         Err(fault) => Err(GroupFault::Serve(fault)),
     }
@@ -159,8 +161,8 @@ fn is_apart(line: &[u8]) -> bool
     }
 }
 
-// Hears a line, or says that memory is wanting for it.
-#[tactic(auto, using(crate::proofs::Goes::goes_same, crate::proofs::Goes::goes_further, crate::proofs::Goes::fails_behind, crate::proofs::Goes::ready_as, crate::proofs::Daily::day_as, crate::proofs::Groups::nobodys, crate::proofs::Groups::is_heard, crate::proofs::Groups::wanting))]
+// Hears a line, where its desk was told all that it asked for ahead of it.
+#[tactic(auto, using(crate::proofs::Goes::goes_further, crate::proofs::Goes::fails_behind, crate::proofs::Daily::day_as, crate::proofs::Groups::taken_up))]
 fn hear_one<R: Wait, D: Tape, K: Replaced>(
     rt: &R,
     alloc: Global,
@@ -173,6 +175,34 @@ fn hear_one<R: Wait, D: Tape, K: Replaced>(
     requires ready { IsReady D.seen D.may_leave D.unsynced hall.old.serving }
     requires dated { IsOnDay hall.old.today entry.now (K.may_leave seals.now) }
     ensures taken { IfOk result (IsTaken hall.old hall.new one.now) }
+    ensures goes { OnOk result (GoesOn D.seen D.may_leave D.unsynced D.failure_count hall.old.serving hall.new.serving) }
+    ensures fails { IfErr result (Fails D.seen D.may_leave D.unsynced D.failure_count hall.old.serving hall.new.serving) }
+    ensures memory { IfErr result (λ f. hall.new.today ≡ hall.old.today) }
+{
+    if let Err(fault) = catch_up(rt, alloc, hall, post, one.session, entry, seals) {
+        return Err(fault);
+    }
+    match hear_next(rt, alloc, hall, post, one, entry, seals) {
+        Ok(goes_on) => Ok(goes_on),
+        Err(fault) => Err(fault),
+    }
+}
+
+// Hears a line, or says that memory is wanting for it.
+#[tactic(auto, using(crate::proofs::Goes::goes_same, crate::proofs::Goes::goes_further, crate::proofs::Goes::fails_behind, crate::proofs::Goes::ready_as, crate::proofs::Daily::day_as, crate::proofs::Groups::nobodys, crate::proofs::Groups::is_heard, crate::proofs::Groups::wanting))]
+fn hear_next<R: Wait, D: Tape, K: Replaced>(
+    rt: &R,
+    alloc: Global,
+    hall: &mut Hall<'_, D>,
+    post: &Post,
+    one: &Said,
+    entry: &Sealed,
+    seals: &K,
+) -> Result<bool, ServeFault>
+    requires ready { IsReady D.seen D.may_leave D.unsynced hall.old.serving }
+    requires told { backlog_of hall.old.backlogs one.now.session ≡ None }
+    requires dated { IsOnDay hall.old.today entry.now (K.may_leave seals.now) }
+    ensures taken { IfOk result (IsTakenUp hall.old hall.new one.now) }
     ensures goes { OnOk result (GoesOn D.seen D.may_leave D.unsynced D.failure_count hall.old.serving hall.new.serving) }
     ensures fails { IfErr result (Fails D.seen D.may_leave D.unsynced D.failure_count hall.old.serving hall.new.serving) }
     ensures memory { IfErr result (λ f. hall.new.today ≡ hall.old.today) }
@@ -202,7 +232,7 @@ fn hear_one<R: Wait, D: Tape, K: Replaced>(
 }
 
 // A line of the manager, or of a session's desk, behind those that were answered where they were read.
-#[tactic(auto, using(crate::proofs::Daily::unordered_day, crate::proofs::Daily::unheard_day, crate::proofs::Daily::passed_day, crate::proofs::Passes::ordered_behind, crate::proofs::Passes::heard_behind, crate::proofs::Groups::unordered, crate::proofs::Groups::unheard))]
+#[tactic(auto, using(crate::proofs::Daily::unordered_day, crate::proofs::Daily::unheard_day, crate::proofs::Daily::passed_day, crate::proofs::Passes::ordered_behind, crate::proofs::Passes::heard_behind, crate::proofs::Groups::unordered, crate::proofs::Groups::unheard, crate::proofs::Groups::passed_told, crate::proofs::Groups::passed_manager))]
 fn hear<D: Tape>(
     alloc: Global,
     hall: &mut Hall<'_, D>,
@@ -212,6 +242,7 @@ fn hear<D: Tape>(
     is_earlier: bool,
 ) -> Result<bool, Memory>
     requires session { session ≤ length hall.old.desks }
+    requires told { backlog_of hall.old.backlogs session ≡ None }
     ensures heard { IfOk result (IsHeardBehind is_earlier hall.old hall.new session passed line.now) }
     ensures forgotten { OnErr result (IsForgotten hall.old hall.new) }
     ensures same { hall.new.serving ≡ hall.old.serving }

@@ -24,6 +24,7 @@ ghost use Rattle.desk_talk.specs.Ending.{IsEnded, IsLeftOpen};
 use crate::counting::{answer_counted, begun};
 use crate::day::GroupFault;
 use crate::opening::hall_over;
+use crate::telling::has_piece;
 use desk_answers::OpenHost;
 use desk_hall::Hall;
 use desk_pipes::{Post, room_for_lines};
@@ -199,7 +200,7 @@ fn serve<R: Wait, D: Tape, K: Replaced>(
     board.show(rt, tally);
     for _ in rt.forever() {
         said.clear();
-        post.inbox.take(rt, &mut said);
+        post.inbox.take(rt, &mut said, !may_tell(rt, hall, post));
         match answer_counted(
             rt,
             alloc,
@@ -211,10 +212,31 @@ fn serve<R: Wait, D: Tape, K: Replaced>(
             board,
             &mut tally,
         ) {
-            Ok(true) => post.inbox.let_more(rt, said.as_slice()),
+            Ok(true) => post
+                .inbox
+                .let_more(rt, said.as_slice(), who_is_behind(hall)),
             Ok(false) => return Ok(()),
             Err(fault) => return Err(fault),
         }
     }
     unreachable!()
+}
+
+// Whether a session that is told the journal again has room for a piece. Where it has not, its reader wakes the host.
+fn may_tell<R: Wait, D: Tape>(rt: &R, hall: &Hall<'_, D>, post: &Post) -> bool {
+    for session in 0..hall.count() + 1 {
+        if has_piece(rt, hall, post, session) {
+            return true;
+        }
+    }
+    false
+}
+
+// Which sessions are told the journal again: no line of theirs is read ahead of its end.
+fn who_is_behind<D: Tape>(hall: &Hall<'_, D>) -> [bool; 9] {
+    let mut behind = [false; 9];
+    for (session, is_behind) in behind.iter_mut().enumerate() {
+        *is_behind = hall.is_behind(session as u8);
+    }
+    behind
 }
