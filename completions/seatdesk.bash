@@ -65,8 +65,8 @@ _seatdesk() {
         place='files'
         ;;
     run)
-        words='--set --limits --first --days --season --after --behind --resume --today --journal --changes --no-clobber --again -v --verbose --quiet -h --help'
-        files='--set --limits --season --after --resume --journal --changes'
+        words='--set --limits --first --days --season --after --behind --resume --today --journal --changes --refused --no-clobber --again -v --verbose --quiet -h --help'
+        files='--set --limits --season --after --resume --journal --changes --refused'
         values='--first --days --behind --today'
         place='files'
         ;;
@@ -125,8 +125,8 @@ _seatdesk() {
         place='files'
         ;;
     audit)
-        words='--set --limits --first --days --season --after --behind --today --sealed --open --shards -v --verbose --quiet -h --help'
-        files='--set --limits --season --after'
+        words='--set --limits --first --days --season --after --behind --today --refused --sealed --open --shards -v --verbose --quiet -h --help'
+        files='--set --limits --season --after --refused'
         values='--first --days --behind --today'
         place='files'
         ;;
@@ -143,8 +143,8 @@ _seatdesk() {
         place='files'
         ;;
     replies)
-        words='--set --limits --first --days --season --after --behind --today --session --from --csv --json -v --verbose --quiet -h --help'
-        files='--set --limits --season --after'
+        words='--set --limits --first --days --season --after --behind --today --refused --session --from --csv --json -v --verbose --quiet -h --help'
+        files='--set --limits --season --after --refused'
         values='--first --days --behind --today --session --from'
         place='files'
         ;;
@@ -161,8 +161,8 @@ _seatdesk() {
         place='files'
         ;;
     explain)
-        words='A1 A2 A3 A4 A5 A6 A7 A8 A9 B1 C1 DEVICE E1 E2 F1 F2 F3 F4 F5 F6 F7 F8 F9 FEED H1 H2 H3 H4 H5 H6 J1 J2 J3 J4 L1 L2 L3 L4 M1 M2 M3 M4 M5 M6 M7 MEMORY P1 P2 P3 P4 P5 P6 P7 P8 P9 Q1 Q2 Q3 R2 S1 S2 S3 S4 S5 S6 S7 S8 S9 S10 S11 S12 S13 S14 S15 SEAL SEASON T1 T2 T3 T4 U1 V1 V2 V3 -v --verbose --quiet -h --help'
-        [ "$before" != E2 ] || words='behind by day days desk first flight form html journal line locator pair script session shards status today words'
+        words='A1 A2 A3 A4 A5 A6 A7 A8 A9 B1 C1 DEVICE E1 E2 F1 F2 F3 F4 F5 F6 F7 F8 F9 FEED H1 H2 H3 H4 H5 H6 J1 J2 J3 J4 L1 L2 L3 L4 M1 M2 M3 M4 M5 M6 M7 MEMORY P1 P2 P3 P4 P5 P6 P7 P8 P9 Q1 Q2 Q3 R2 S1 S2 S3 S4 S5 S6 S7 S8 S9 S10 S11 S12 S13 S14 S15 SEAL SEASON T1 T2 T3 T4 U1 V1 V2 V3 W1 -v --verbose --quiet -h --help'
+        [ "$before" != E2 ] || words='behind by day days desk first flight form html journal line locator pair refused script session shards status today words'
         [ "$before" != SEAL ] || words='again behind days first form journal limits none runs set'
         [ "$before" != SEASON ] || words='form key missing value'
         files=''

@@ -28,7 +28,7 @@ const DESK_HELP: &str = "The desk, by its session, 1 to 8, or 0 for the manager"
 const TOLD_HELP: &str = "What the desk is told of the lines of JOURNAL from this number on";
 
 const REFUSED_HELP: &str =
-    "The list that run --refused wrote: the scripts are read without these lines, which must be all that are wrong";
+    "The file that run --refused wrote: the scripts are read without the lines that it lists, which must be all that are wrong";
 
 const SEALED_HELP: &str = "Refuses a JOURNAL without a seal beside it";
 
