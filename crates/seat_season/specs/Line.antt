@@ -1,10 +1,9 @@
 -- A command line, and the season that it names.
-use Rattle.std.specs.Prelude.{ℕ, ◌+◌, ◌&&◌, ◌||◌, not, if◌then◌else◌, Bool, false, List, map, take, drop, slice_get, Option, Some, None, is_some, option_map, option_and_then, codes}
+use Rattle.std.specs.Prelude.{ℕ, ◌+◌, ◌&&◌, not, if◌then◌else◌, Bool, false, List, [], ◌∷◌, map, take, drop, slice_get, Option, Some, None, is_some, option_map, option_and_then, codes}
 use Rattle.std.specs.List.{prefix_len}
 use Rattle.std.specs.Option.{option_map_or}
-use Rattle.std.specs.Str.{bytes_eq}
 use denote.Ref.{Bor}
-use Rattle.seat_season.specs.Options.{Text, has_option, is_option, season_from}
+use Rattle.seat_season.specs.Options.{Text, has_option, is_one_of, is_option, season_from}
 use Rattle.seat_season.specs.declared.awaits.Awaits.TheVariants.{Nothing}
 
 -- the texts behind references
@@ -22,25 +21,30 @@ line_in words = option_map
     (slice_get words (command_place words))
 
 -- the commands that work over a set, its limits and its days
+abbrev pub horizon_commands : List Text
+horizon_commands = codes "cover"
+    ∷ codes "rooms"
+    ∷ codes "loads"
+    ∷ codes "run"
+    ∷ codes "serve"
+    ∷ codes "bookings"
+    ∷ codes "waiting"
+    ∷ codes "pickup"
+    ∷ codes "history"
+    ∷ codes "avs"
+    ∷ codes "reconcile"
+    ∷ codes "changes"
+    ∷ codes "audit"
+    ∷ codes "seal"
+    ∷ codes "recover"
+    ∷ codes "replies"
+    ∷ codes "told"
+    ∷ codes "why"
+    ∷ []
+
+-- the command is one of these
 abbrev pub is_over : Text → Bool
-is_over command = bytes_eq command (codes "cover")
-    || (bytes_eq command (codes "rooms")
-    || (bytes_eq command (codes "loads")
-    || (bytes_eq command (codes "run")
-    || (bytes_eq command (codes "serve")
-    || (bytes_eq command (codes "bookings")
-    || (bytes_eq command (codes "waiting")
-    || (bytes_eq command (codes "pickup")
-    || (bytes_eq command (codes "history")
-    || (bytes_eq command (codes "avs")
-    || (bytes_eq command (codes "reconcile")
-    || (bytes_eq command (codes "changes")
-    || (bytes_eq command (codes "audit")
-    || (bytes_eq command (codes "seal")
-    || (bytes_eq command (codes "recover")
-    || (bytes_eq command (codes "replies")
-    || (bytes_eq command (codes "told")
-    || bytes_eq command (codes "why")))))))))))))))))
+is_over command = is_one_of command horizon_commands
 
 -- the season that a command line names, where its command takes one
 abbrev pub season_named : List Text → Option Text

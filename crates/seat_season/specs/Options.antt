@@ -25,22 +25,32 @@ abbrev pub is_long : Text → Bool
 is_long (first ∷ second ∷ third ∷ rest) = (first == 45) && (second == 45)
 is_long _ = false
 
+-- the word is one of these
+abbrev pub is_one_of : Text → List Text → Bool
+is_one_of word [] = false
+is_one_of word (other ∷ others) = bytes_eq word other || is_one_of word others
+
 -- the options without a value
+abbrev pub flags : List Text
+flags = codes "--again"
+    ∷ codes "--all"
+    ∷ codes "--bars"
+    ∷ codes "--csv"
+    ∷ codes "--cut"
+    ∷ codes "--html"
+    ∷ codes "--json"
+    ∷ codes "--no-clobber"
+    ∷ codes "--numeric"
+    ∷ codes "--open"
+    ∷ codes "--quiet"
+    ∷ codes "--sealed"
+    ∷ codes "--shards"
+    ∷ codes "--verbose"
+    ∷ []
+
+-- the word is one of them
 abbrev pub is_flag : Text → Bool
-is_flag word = bytes_eq word (codes "--again")
-    || (bytes_eq word (codes "--all")
-    || (bytes_eq word (codes "--bars")
-    || (bytes_eq word (codes "--csv")
-    || (bytes_eq word (codes "--cut")
-    || (bytes_eq word (codes "--html")
-    || (bytes_eq word (codes "--json")
-    || (bytes_eq word (codes "--no-clobber")
-    || (bytes_eq word (codes "--numeric")
-    || (bytes_eq word (codes "--open")
-    || (bytes_eq word (codes "--quiet")
-    || (bytes_eq word (codes "--sealed")
-    || (bytes_eq word (codes "--shards")
-    || bytes_eq word (codes "--verbose")))))))))))))
+is_flag word = is_one_of word flags
 
 -- what a word awaits that no option awaits
 abbrev pub awaited : Text → Awaits

@@ -1,7 +1,8 @@
 //! What a word of a command line is, by what the word ahead of it awaits.
 //! It knows how options are written, and nothing of what they mean.
 ghost use Rattle.std.specs.Prelude.{◌≡◌};
-ghost use Rattle.seat_season.specs.Options.{awaited, is_flag, is_free, is_given, is_long, is_option, is_place, next, has_sign};
+ghost use Rattle.seat_season.specs.Line.{texts};
+ghost use Rattle.seat_season.specs.Options.{awaited, is_flag, is_free, is_given, is_long, is_one_of, is_option, is_place, next, has_sign};
 
 /// What a word awaits behind it.
 #[derive(Clone, Copy)]
@@ -97,24 +98,43 @@ fn has_sign(word: &str) -> bool
     }
 }
 
+// The options without a value.
+const FLAGS: [&str; 14] = [
+    "--again",
+    "--all",
+    "--bars",
+    "--csv",
+    "--cut",
+    "--html",
+    "--json",
+    "--no-clobber",
+    "--numeric",
+    "--open",
+    "--quiet",
+    "--sealed",
+    "--shards",
+    "--verbose",
+];
+
 /// Whether the word is an option without a value.
 fn is_flag(word: &str) -> bool
     ensures { result ≡ is_flag word.now }
 {
-    word == "--again"
-        || word == "--all"
-        || word == "--bars"
-        || word == "--csv"
-        || word == "--cut"
-        || word == "--html"
-        || word == "--json"
-        || word == "--no-clobber"
-        || word == "--numeric"
-        || word == "--open"
-        || word == "--quiet"
-        || word == "--sealed"
-        || word == "--shards"
-        || word == "--verbose"
+    is_one_of(word, &FLAGS)
+}
+
+/// Whether the word is one of these.
+pub(crate) fn is_one_of(word: &str, words: &[&str]) -> bool
+    ensures { result ≡ is_one_of word.now (texts words.now) }
+{
+    let mut rest = words;
+    while let [other, more @ ..] = rest {
+        if word == *other {
+            return true;
+        }
+        rest = more;
+    }
+    false
 }
 
 /// Whether the word is this option, alone or with its value behind `=`.

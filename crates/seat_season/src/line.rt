@@ -4,7 +4,7 @@ ghost use Rattle.std.specs.List.{prefix_len};
 ghost use Rattle.seat_season.specs.Line.{beside_in, beside_season, is_over, lacks_horizon, line_in, season_named, texts};
 ghost use Rattle.seat_season.specs.Options.{is_option};
 
-use crate::awaits::is_option;
+use crate::awaits::{is_one_of, is_option};
 use crate::options::{has_option, season_behind};
 
 /// A command line at its command.
@@ -52,28 +52,33 @@ fn options_ahead(words: &[&str]) -> usize
     count
 }
 
+// The commands that work over a set, its limits and its days.
+const OVER: [&str; 18] = [
+    "cover",
+    "rooms",
+    "loads",
+    "run",
+    "serve",
+    "bookings",
+    "waiting",
+    "pickup",
+    "history",
+    "avs",
+    "reconcile",
+    "changes",
+    "audit",
+    "seal",
+    "recover",
+    "replies",
+    "told",
+    "why",
+];
+
 /// Whether the command works over a set, its limits and its days, all of which a season has.
 fn is_over(command: &str) -> bool
     ensures { result ≡ is_over command.now }
 {
-    command == "cover"
-        || command == "rooms"
-        || command == "loads"
-        || command == "run"
-        || command == "serve"
-        || command == "bookings"
-        || command == "waiting"
-        || command == "pickup"
-        || command == "history"
-        || command == "avs"
-        || command == "reconcile"
-        || command == "changes"
-        || command == "audit"
-        || command == "seal"
-        || command == "recover"
-        || command == "replies"
-        || command == "told"
-        || command == "why"
+    is_one_of(command, &OVER)
 }
 
 /// The season file that the words of a command line name, the program's name first among them, where their command takes one.
