@@ -254,6 +254,12 @@ const DESKS: &[Explanation] = &[
         numbers: NONE,
         text: "A line of the desk is refused, and nothing was booked for it, but where - stands behind FAULT: then the journal's file failed (- DEVICE), or\nanswers were left out (- LOST), and lines may be booked; ?AGAIN tells. Else there stands behind it the code, which seatdesk explain takes by itself, and the number of the line,\nor @ and that of the call that the line had.",
     },
+    Explanation {
+        behind: "",
+        code: "!",
+        numbers: NONE,
+        text: "The first line of a host on a desk's pipe. It spoils what another host left there in the midst of a line, which then ends with !, and it answers nothing.\nThe host hears nothing ahead of ?HELLO: say it again, and ?AGAIN with the number of the last line of the journal that was read.",
+    },
 ];
 
 // What desks and the manager ask, in scripts and in a journal.

@@ -23,6 +23,9 @@ const NAME: &str = "seatdesk:";
 /// What stands ahead of a fault that is of no line, behind FAULT.
 const DASH: &str = "-";
 
+/// The same where a feed is told it: its host has other files.
+const FED: &str = "- FAULT -";
+
 /// What stands ahead of a fault that a host tells a desk.
 const FAULT: &str = "FAULT";
 
@@ -56,11 +59,20 @@ pub fn meaning_of<'a>(
     for word in behind {
         put_words(alloc, &mut line, word)?;
     }
-    explained(alloc, without_place(without_name(line.as_slice())))
+    let line = line.as_slice();
+    explained(
+        alloc,
+        without_place(without_name(line)),
+        ahead_of_no_line(line),
+    )
 }
 
 #[tactic(auto, using(crate::proofs::Rows::told_code_on, crate::proofs::Rows::told_note, crate::proofs::Rows::itself))]
-fn explained<'a>(alloc: Global, line: &[&'a str]) -> Result<Meaning<'a>, AllocError>
+fn explained<'a>(
+    alloc: Global,
+    line: &[&'a str],
+    ahead: &'static str,
+) -> Result<Meaning<'a>, AllocError>
     ensures found { IfOk result (λ meaning. IsMeaning (first_word (map (λ word. word.now) line.now)) meaning) }
 {
     let Some((code, behind)) = line.split_first() else {
@@ -71,7 +83,7 @@ fn explained<'a>(alloc: Global, line: &[&'a str]) -> Result<Meaning<'a>, AllocEr
     }
     if let Some(answer) = answer_row(code) {
         let mut text = text_of(alloc, answer)?;
-        return match put_told(&mut text, code, behind)? {
+        return match put_told(&mut text, code, behind, ahead)? {
             None => Ok(Meaning::Found(text)),
             Some(word) => Ok(Meaning::Unknown(word)),
         };
@@ -122,12 +134,13 @@ fn plain_of(word: &str) -> &str
     }
 }
 
-/// Adds what the fault behind FAULT says, of which a host told a desk; or answers its first word that is no code or number of it.
+/// Adds what the fault behind FAULT says, of which a host told a desk or a feed; or answers its first word that is no code or number of it.
 #[tactic(auto, using(crate::proofs::Rows::itself, crate::proofs::Rows::longer, crate::proofs::Rows::further))]
 fn put_told<'a>(
     text: &mut String,
     word: &str,
     fault: &[&'a str],
+    ahead: &'static str,
 ) -> Result<Option<&'a str>, AllocError>
     ensures { OnOk result (Begins (string_bytes text.old) (string_bytes text.new)) }
 {
@@ -141,6 +154,7 @@ fn put_told<'a>(
         return Ok(Some(*code));
     };
     put(text, row)?;
+    let code = if *code == DASH { ahead } else { *code };
     put_details(text, row, code, behind)
 }
 
@@ -234,6 +248,14 @@ fn parts_of(alloc: Global, text: &str) -> Result<Vec<&str>, AllocError>
     ensures { IfOk result (λ parts. map (λ part. part.now) parts.items ≡ slice_split (λ b. b == 32) text.now) }
 {
     text.split(' ').collect(alloc)
+}
+
+/// What stands ahead of a fault of no line by whom it is told: a feed, whose line begins with a dash, or a desk.
+fn ahead_of_no_line(line: &[&str]) -> &'static str {
+    match line {
+        [first, ..] if *first == DASH => FED,
+        _ => DASH,
+    }
 }
 
 fn without_name<'a, 'b>(line: &'b [&'a str]) -> &'b [&'a str]

@@ -96,10 +96,22 @@ pub(crate) const SCRIPTS: &[Explanation] = &[
         text: "Of a host's FAULT: no line of the desk is at fault.",
     },
     Explanation {
+        behind: "",
+        code: "DEVICE",
+        numbers: NONE,
+        text: "A file does not open, or a read or a write failed. seatdesk -v names the file and the system's reason.",
+    },
+    Explanation {
         behind: "-",
         code: "DEVICE",
         numbers: NONE,
-        text: "A file does not open, or a read or a write failed. seatdesk -v names the file and the system's reason.\nTold to a desk, as FAULT - DEVICE, it is the journal's file: the line may be booked, and the host ends. Ask ?AGAIN when it is there again.\nTold of a feed, as - FAULT - DEVICE, it is the file of the journal or of its seal: lines of which nothing is told may be booked, and the host ends.\nSend the feed again, from a saved place with --behind: what was booked is told once more.",
+        text: "The file of the host's journal failed, or that of its seal: the desk's line may be booked, and the host ends. Ask ?AGAIN when it is there again.",
+    },
+    Explanation {
+        behind: "- FAULT -",
+        code: "DEVICE",
+        numbers: NONE,
+        text: "The file of the journal failed, or that of its seal: lines of the feed of which nothing is told may be booked, and the host ends.\nSend the feed again, from a saved place with --behind: what was booked is told once more.",
     },
     Explanation {
         behind: "-",
