@@ -82,6 +82,11 @@ module _ {D : Type 0} (seen : D → Option (List ℕ)) (leaves : D → List ℕ 
       → Fails seen leaves unsynced failures old new NoMemory
   fails_same old new ready is = fails_ready old new (goes_same old new ready is)
 
+  pub fails_wanting : (old mid new : Served D) → GoesOn seen leaves unsynced failures old mid → new ≡ mid
+      → Fails seen leaves unsynced failures old new NoMemory
+  fails_wanting old mid new a is =
+      fails_ready old new (subst (GoesOn seen leaves unsynced failures old) (sym is) a)
+
   -- the same where it stands under another name
   pub ready_as : (old new : Served D) → IsReady seen leaves unsynced old → new ≡ old → IsReady seen leaves unsynced new
   ready_as old new ready is = subst (IsReady seen leaves unsynced) (sym is) ready

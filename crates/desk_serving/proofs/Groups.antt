@@ -127,18 +127,19 @@ module _ {D : Type 0} where
   none_behind None is = refl
   none_behind (Some n) is = absurd cc
 
-  pub not_behind : (hall : Hallful D) (session : ℕ) → is_some (backlog_of hall.backlogs session) ≡ false
+  pub not_behind : (hall : Hallful D) (session : ℕ) (b : Bool) → b ≡ is_some (backlog_of hall.backlogs session) → b ≡ false
       → backlog_of hall.backlogs session ≡ None
-  not_behind hall session is = none_behind (backlog_of hall.backlogs session) is
+  not_behind hall session b is no = none_behind (backlog_of hall.backlogs session) (sym is ∙ no)
 
-  pub nothing_to_catch : (hall : Hallful D) (session : ℕ) → is_some (backlog_of hall.backlogs session) ≡ false → IsCaughtUp hall hall session
-  nothing_to_catch hall session is = subst (λ (b : Bool). IsCaughtUpBy b hall hall session) (sym is) refl
+  pub nothing_to_catch : (hall : Hallful D) (session : ℕ) (b : Bool) → b ≡ is_some (backlog_of hall.backlogs session) → b ≡ false
+      → IsCaughtUp hall hall session
+  nothing_to_catch hall session b is no = subst (λ (x : Bool). IsCaughtUpBy x hall hall session) (sym (sym is ∙ no)) refl
 
-  pub taught_all : (old mid new : Hallful D) (session most : ℕ) (told : Posted) → is_some (backlog_of old.backlogs session) ≡ true
-      → IsAnswered old mid → most ≡ length mid.serving.journal → IsGiven mid new session most told → IsCaughtUp old new session
-  taught_all old mid new session most told is answer count give =
-      subst (λ (b : Bool). IsCaughtUpBy b old new session) (sym is)
-      (record { mid = mid; answered = answer; told = told; given = subst (λ (n : ℕ). IsGiven mid new session n told) count give })
+  pub taught_all : (old mid new : Hallful D) (session : ℕ) (told : Posted) (b : Bool) → b ≡ is_some (backlog_of old.backlogs session) → b ≡ true
+      → IsAnswered old mid → IsGiven mid new session (length mid.serving.journal) told → IsCaughtUp old new session
+  taught_all old mid new session told b is yet answer give =
+      subst (λ (x : Bool). IsCaughtUpBy x old new session) (sym (sym is ∙ yet))
+      (record { mid = mid; answered = answer; told = told; given = give })
 
   pub word_answered : (old mid new : Hallful D) → IsOpened (again_asked old.turns) old mid → IsAnswered mid new → IsWordAnswered old new
   word_answered old mid new a b = record { mid = mid; opened = a; answered = b }
@@ -156,6 +157,12 @@ module _ {D : Type 0} where
   steps_more old mid new sessions a b =
       let same : suc sessions ≡ sessions + 1 = omega arith in
       subst (λ (n : ℕ). AreSteps n old new) same (mid, a, b)
+
+  pub pieces_told : (start hall new : Hallful D) (session : ℕ) → AreSteps session start hall → hall.serving ≡ start.serving
+      → hall.today ≡ start.today → IsStep hall new session → (new.serving ≡ hall.serving) × (new.today ≡ hall.today)
+      → AreSteps (session + 1) start new × (new.serving ≡ start.serving) × (new.today ≡ start.today)
+  pieces_told start hall new session are served on is same =
+      (steps_more start hall new session are is, same.0 ∙ served, same.1 ∙ on)
 
   pub all_steps : (old new : Hallful D) (count session : ℕ) → AreSteps session old new → session ≡ count + 1 → count ≡ length old.desks
       → AreSteps (length old.desks + 1) old new

@@ -75,7 +75,7 @@ pub(crate) fn answer_word<R: Wait, D: Tape, K: Replaced>(
 }
 
 /// Answers what was heard, and then tells a piece to each desk that is behind and has room for it.
-#[tactic(auto, using(crate::proofs::Goes::goes_as, crate::proofs::Goes::fails_ready, crate::proofs::Groups::told_on))]
+#[tactic(auto, using(crate::proofs::Goes::goes_as, crate::proofs::Goes::fails_wanting, crate::proofs::Groups::told_on))]
 pub(crate) fn answer_last<R: Wait, D: Tape, K: Replaced>(
     rt: &R,
     alloc: Global,
@@ -86,7 +86,7 @@ pub(crate) fn answer_last<R: Wait, D: Tape, K: Replaced>(
 ) -> Result<(), ServeFault>
     requires ready { IsReady D.seen D.may_leave D.unsynced hall.old.serving }
     requires dated { IsOnDay hall.old.today entry.now (K.may_leave seals.now) }
-    ensures told { OnOk result (IsToldOn hall.old hall.new) }
+    ensures answered { OnOk result (IsToldOn hall.old hall.new) }
     ensures goes { OnOk result (GoesOn D.seen D.may_leave D.unsynced D.failure_count hall.old.serving hall.new.serving) }
     ensures fails { IfErr result (Fails D.seen D.may_leave D.unsynced D.failure_count hall.old.serving hall.new.serving) }
     ensures day { hall.new.today ≡ hall.old.today }
@@ -101,7 +101,7 @@ pub(crate) fn answer_last<R: Wait, D: Tape, K: Replaced>(
 }
 
 /// Tells a desk that is behind all that it is still to be told, ahead of its next line.
-#[tactic(auto, using(crate::proofs::Goes::goes_same, crate::proofs::Goes::goes_as, crate::proofs::Goes::fails_ready, crate::proofs::Groups::not_behind, crate::proofs::Groups::nothing_to_catch, crate::proofs::Groups::taught_all))]
+#[tactic(auto, using(crate::proofs::Goes::goes_same, crate::proofs::Goes::goes_as, crate::proofs::Goes::fails_wanting, crate::proofs::Groups::not_behind, crate::proofs::Groups::nothing_to_catch, crate::proofs::Groups::taught_all))]
 pub(crate) fn catch_up<R: Wait, D: Tape, K: Replaced>(
     rt: &R,
     alloc: Global,
