@@ -72,12 +72,7 @@ fn is_listened_to(told: &str) -> bool {
 
 /// What an input gives is counted from here on: the lines of a journal too. A text of the program's own isn't, nor one that is held. Where an input is typed the
 /// meter ends, which would stand in the midst of what is typed.
-pub fn meter_input<'a>(
-    rt: &HostRuntime,
-    meter: &'a Meter,
-    input: &mut Input<'a>,
-    lines: Lines,
-) {
+pub fn meter_input<'a>(rt: &HostRuntime, meter: &'a Meter, input: &mut Input<'a>, lines: Lines) {
     if input.name().is_empty() || input.held().is_some() {
         return;
     }
@@ -109,12 +104,7 @@ pub fn meter_inputs<'a>(
 }
 
 /// Scripts or journals are counted.
-pub fn meter_each<'a>(
-    rt: &HostRuntime,
-    meter: &'a Meter,
-    inputs: &mut Vec<Input<'a>>,
-    lines: Lines,
-)
+pub fn meter_each<'a>(rt: &HostRuntime, meter: &'a Meter, inputs: &mut Vec<Input<'a>>, lines: Lines)
     ensures { length inputs.new.items ≡ length inputs.old.items }
 {
     for input in inputs.iter_mut() {

@@ -1,9 +1,8 @@
 //! Scripts whose wrong lines are passed over, and the list of these lines.
 //! It knows which file is the list, and nothing of what the scripts ask for.
-ghost use Rattle.std.specs.Prelude.{◌≡◌, ◌<◌, ◌≤◌, ◌^◌, IfErr, IfOk, IsOk, IsSomeAnd, IsTrue, None, length, map};
+ghost use Rattle.std.specs.Prelude.{◌≡◌, ◌<◌, ◌≤◌, ◌^◌, IfErr, IfOk, IsOk, IsSomeAnd, IsTrue, None, OnOk, length, map};
 ghost use Rattle.script_refusals.specs.Listing.{is_list, other_row, stray_row};
 ghost use Rattle.seat_files.specs.Faults.{list_text, printed};
-ghost use Rattle.seat_files.specs.declared.fault.ListKind.{ListKind};
 
 use script_refusals::{is_list, list_of, other_row, sort_out, stray_row};
 use seat_desk::{DeskFault, read_input};
@@ -26,7 +25,7 @@ pub fn sort_out_as<'a>(
     list: &mut Input<'a>,
 ) -> Result<(), Refusal<'a>>
     requires few { length scripts.old.items ≤ 8 }
-    ensures each { length scripts.new.items ≡ length scripts.old.items }
+    ensures each { OnOk result (length scripts.new.items ≡ length scripts.old.items) }
 {
     let sessions = sort_out_each(rt, scripts)?;
     let rows = listed(rt, &sessions)?;
@@ -43,7 +42,7 @@ pub fn sort_out_into<'a>(
     goes_on: bool,
 ) -> Result<(), Refusal<'a>>
     requires few { length scripts.old.items ≤ 8 }
-    ensures each { length scripts.new.items ≡ length scripts.old.items }
+    ensures each { OnOk result (length scripts.new.items ≡ length scripts.old.items) }
 {
     let found = standing_in(rt, list)?;
     let sessions = sort_out_each(rt, scripts)?;
@@ -83,7 +82,7 @@ fn sort_out_each<'a>(
     scripts: &mut Vec<Input<'a>>,
 ) -> Result<Vec<Vec<u8>>, Refusal<'a>>
     requires few { length scripts.old.items ≤ 8 }
-    ensures each { length scripts.new.items ≡ length scripts.old.items }
+    ensures each { OnOk result (length scripts.new.items ≡ length scripts.old.items) }
 {
     let mut sessions = Vec::new(rt.alloc());
     let mut session = 0u8;

@@ -1,6 +1,6 @@
 //! The commands that look at what was sold: `audit` and `replies` with the scripts of a run.
 //! It knows which stream is which, and nothing of what the commands do with them.
-ghost use Rattle.std.specs.Prelude.{◌≡◌, ◌≤◌, IfOk, length};
+ghost use Rattle.std.specs.Prelude.{◌≡◌, ◌≤◌, IfOk, OnOk, length};
 ghost use Rattle.airline_base.specs.Days.{IsCenturyDay};
 ghost use Rattle.ssim_flights.specs.Right.{IsOfCentury};
 
@@ -213,7 +213,7 @@ fn sort_out_beside<'a>(
     scripts: &mut Vec<Input<'a>>,
 ) -> Result<(), Refusal<'a>>
     requires few { length scripts.old.items ≤ 8 }
-    ensures each { length scripts.new.items ≡ length scripts.old.items }
+    ensures each { OnOk result (length scripts.new.items ≡ length scripts.old.items) }
 {
     let Some(name) = refused else {
         return Ok(());

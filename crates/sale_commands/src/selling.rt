@@ -1,6 +1,6 @@
 //! `run`: the texts that it reads, and OUT, which it locks, with the seal beside it.
 //! It knows which stream is which, and nothing of how seats are sold.
-ghost use Rattle.std.specs.Prelude.{◌≡◌, ◌≤◌, IfOk, IsTrue, length};
+ghost use Rattle.std.specs.Prelude.{◌≡◌, ◌≤◌, IfOk, IsTrue, OnOk, length};
 ghost use Rattle.airline_base.specs.Days.{IsCenturyDay};
 ghost use Rattle.seat_seal.specs.Rules.{is_entry};
 ghost use Rattle.ssim_flights.specs.Right.{IsOfCentury};
@@ -122,7 +122,7 @@ fn begin_list<'a>(
     requires few { length texts.old.scripts.items ≤ 8 }
     ensures first { texts.new.inputs.first ≡ texts.old.inputs.first }
     ensures days { texts.new.inputs.days ≡ texts.old.inputs.days }
-    ensures scripts { length texts.new.scripts.items ≡ length texts.old.scripts.items }
+    ensures scripts { OnOk result (length texts.new.scripts.items ≡ length texts.old.scripts.items) }
 {
     let Some(name) = sale.asking.refused else {
         return Ok(());
