@@ -6,8 +6,11 @@ cut off: it numbers these lines, writes down what each was answered, and when it
     examples/desk.py --by COMMAND SCRIPT ANSWERS
 
 COMMAND is a way to pipes that are elsewhere, as 'ssh london@host' with relay.py at its other end. ANSWERS, the memory, is made where it is not there. Its first
-line has the number of the first call and the epoch of the journal that it is of; then comes each answer, in the order of the script. A script may grow at its end, as long as nothing else was booked
-for the desk since: then its calls have other numbers, and the client ends with an error. New lines behind those of another script are a new script, with a memory of its own.
+line has the number of the first call, the epoch of the journal that it is of and how many lines that had; then comes each answer, in the order of the script. A script may grow at its end, as long as
+nothing else was booked for the desk since: then its calls have other numbers, and the client ends with an error. New lines behind those of another script are a new script, with a memory of its own.
+
+A client that comes back asks for the advices behind the last line that it was told of, since a host that was killed may not have written them. One that is started again asks behind its last answer: what came behind that
+is told to it once more.
 """
 import fcntl
 import os
@@ -21,6 +24,7 @@ import sys
 import time
 
 SECONDS = 10  # of silence, behind which a host may be another
+ADVICE = re.compile(r" KL\d+$")
 SEGMENT = re.compile(r"[A-Z0-9]{2}\d{1,4}[A-Z]?[A-Z]\d\d[A-Z]{3} [A-Z]{6} [A-Z]{2}\d{1,3}")
 
 
@@ -34,7 +38,7 @@ def opened(path, way):
 
 class Desk:
     def __init__(self, into, out):
-        self.way, self.rest, self.epoch = None, b"", ""
+        self.way, self.rest, self.epoch, self.told = None, b"", "", None
         if into == "--by":
             self.way = subprocess.Popen(shlex.split(out), stdin=subprocess.PIPE, stdout=subprocess.PIPE)
             self.into, self.out = self.way.stdin.fileno(), self.way.stdout.fileno()
@@ -80,18 +84,35 @@ class Desk:
                 if line.endswith("!"):
                     break  # a host has started: another may have heard the word
 
+    def seen(self, line):
+        """The last line of the journal that the desk was told of."""
+        if re.match(r"\d+ \d+ ", line):
+            self.told = max(self.told or 0, int(line.split(" ")[1]))
+
     def advices(self):
-        """What came behind the last answer: its own advices, which are told with it."""
+        """What came behind the last answer: its own advices, which are told with it. Whether the host is there."""
         self.send("?HELLO BEHIND\n")
         for line in iter(self.line, None):
             if line.startswith("READY BEHIND "):
-                return
-            print(line)
+                return True
+            # (a reply is that of a call which is sent again, and then told once more)
+            if not re.match(r"\d+ \d+ ", line) or ADVICE.search(line):
+                print(line)
+            self.seen(line)
+        return False
+
+    def again(self):
+        """What a host that was killed had not written. Whether this one is there."""
+        if self.told is None:
+            return True
+        self.send(f"?AGAIN {self.told}\n")
+        return self.advices()
 
     def answer(self, number):
         """What the line of this number is answered, or nothing where the host may have gone. An advice (KL) answers no line."""
         for line in iter(self.line, None):
-            if re.fullmatch(rf"FAULT (.* @{number}|(B1|H1|MEMORY) .*)", line) or re.match(r"\d+ \d+ ", line) and not re.search(r" KL\d+$", line):
+            self.seen(line)
+            if re.fullmatch(rf"FAULT (.* @{number}|(B1|H1|MEMORY) .*)", line) or re.match(r"\d+ \d+ ", line) and not ADVICE.search(line):
                 return line
             print(line)
             if line.startswith("FAULT") or line.endswith("!"):
@@ -122,16 +143,22 @@ def main(into, out, script, answers):
         fcntl.flock(kept, fcntl.LOCK_EX)  # (a second client with the same memory waits)
         desk = Desk(into, out)
         # (a memory that has no epoch is of whatever journal the desk has)
-        desk.epoch = "".join(whole_lines(answers)[:1]).partition(" ")[2]
-        _, _, _, _, calls, _, epoch = desk.hello()
+        first = [*"".join(whole_lines(answers)[:1]).split(), "", "", ""]
+        desk.epoch, desk.told = first[1], int(first[2]) if first[2] else None
+        for said in whole_lines(answers)[1:]:
+            desk.seen(said)
+        _, _, _, there, calls, _, epoch = desk.hello()
         if desk.epoch not in ("", epoch):
             sys.exit(f"the desk's journal is of epoch {epoch}, and ANSWERS of {desk.epoch}: its calls are another journal's")
         desk.epoch = epoch
         if not whole_lines(answers):
-            kept.write(f"{int(calls) + 1} {epoch}\n")
+            desk.told = int(there)
+            kept.write(f"{int(calls) + 1} {epoch} {there}\n")
             kept.flush()
             os.fsync(kept.fileno())
         pass_memory(whole_lines(answers), int(calls))
+        while not desk.again():
+            desk.hello()
         first, *known = whole_lines(answers)
         number, at, shown = int(first.split()[0]), 0, 0
         while at < len(lines):
@@ -146,6 +173,8 @@ def main(into, out, script, answers):
                 said = desk.answer(number)
                 if said is None:
                     desk.hello()
+                    while not desk.again():
+                        desk.hello()
                     number, at = int(first.split()[0]), 0
                     known = whole_lines(answers)[1:]
                     continue

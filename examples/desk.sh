@@ -3,10 +3,11 @@
 #
 #   examples/desk.sh IN OUT SCRIPT ANSWERS
 #
-# ANSWERS, the memory, is made where it is not there. Its first line has the number of the first call and the epoch of the journal that it is of; then comes each
+# ANSWERS, the memory, is made where it is not there. Its first line has the number of the first call, the epoch of the journal that it is of and how many lines that had; then comes each
 # answer, in the order of the script. A script may grow at its end, as long as nothing else was booked for the desk since: new lines behind those of another script are a new script, with a memory of its own.
+# A client that comes back asks for the advices behind the last line that it was told of; one that is started again behind its last answer.
 set -u
-[ "$#" = 4 ] || { sed -n '2,8s/^# \{0,1\}//p' "$0" >&2; exit 2; }
+[ "$#" = 4 ] || { sed -n '2,9s/^# \{0,1\}//p' "$0" >&2; exit 2; }
 script=$3 answers=$4 seconds=10 letters=ABCDEFGHIJKLMNOPQRSTUVWXYZ
 segment='^[A-Z0-9]{2}[0-9]{1,4}[A-Z]?[A-Z][0-9]{2}[A-Z]{3} [A-Z]{6} [A-Z]{2}[0-9]{1,3}$'
 # opened for reading and for writing, a pipe waits for nobody; one of another user may be open to us one way alone
@@ -23,7 +24,8 @@ say() {
     printf "$@" 2>/dev/null >&3
 }
 
-# Says hello until the host answers with this client's own word; what stands ahead of that is for another client. calls: how many the desk has. epoch: the journal's.
+# Says hello until the host answers with this client's own word; what stands ahead of that is for another client. there: how many lines the journal has.
+# calls: how many the desk has. epoch: the journal's.
 hello() {
     local line word
     while :; do
@@ -34,15 +36,48 @@ hello() {
             # (a line that ends with ! is of a host that has started: another may have heard the word)
             [[ $line != *! ]] || break
             [[ $line == "READY $word "* ]] || continue
-            read -r _ _ _ _ calls _ epoch <<<"$line"
+            read -r _ _ _ there calls _ epoch <<<"$line"
             return
         done
     done
 }
 
+# seen LINE: the last line of the journal that the desk was told of. It fails where the line tells of none.
+seen() {
+    local line
+    [[ $1 =~ ^[0-9]+\ ([0-9]+)\  ]] || return 1
+    line=${BASH_REMATCH[1]}
+    [ "$line" -le "${last:-0}" ] || last=$line
+}
+
+# Says what came behind the last answer: its own advices, which are told with it. It fails where the host may have gone.
+advices() {
+    local line
+    say '?HELLO BEHIND\n' || return 1
+    while IFS= read -r -t "$seconds" -u 4 line; do
+        [[ $line != "READY BEHIND "* ]] || return 0
+        # (a reply is that of a call which is sent again, and then told once more)
+        if ! seen "$line" || [[ $line =~ \ KL[0-9]+$ ]]; then printf '%s\n' "$line"; fi
+    done
+    return 1
+}
+
+# Says what a host that was killed had not written. It fails where this one may have gone.
+again() {
+    [ -n "$last" ] || return 0
+    say '?AGAIN %s\n' "$last" && advices
+}
+
+# Comes back to a host.
+back() {
+    hello
+    until again; do hello; done
+}
+
 # answer NUMBER: the answer to the line of that number is said; it fails where the host may have gone. An advice (KL) answers no line.
 answer() {
     while IFS= read -r -t "$seconds" -u 4 said; do
+        seen "$said" || :
         [[ $said =~ ^FAULT\ (.*\ @$1|(B1|H1|MEMORY)\ .*)$ ]] && return 0
         [[ $said =~ ^[0-9]+\ [0-9]+\  && ! $said =~ \ KL[0-9]+$ ]] && return 0
         printf '%s\n' "$said"
@@ -83,8 +118,8 @@ book() {
 # (a line that a kill or a loss of power left without its end is none)
 truncate -s "$(head -n "$(wc -l <"$answers")" "$answers" | wc -c)" "$answers"
 # (a memory that has no epoch is of whatever journal the desk has)
-named=
-[ ! -s "$answers" ] || read -r _ named <"$answers"
+named='' last=''
+[ ! -s "$answers" ] || read -r _ named last _ <"$answers"
 named=${named:+ $named}
 hello
 if [ -n "$named" ] && [ "$named" != " $epoch" ]; then
@@ -92,7 +127,7 @@ if [ -n "$named" ] && [ "$named" != " $epoch" ]; then
     exit 1
 fi
 named=" $epoch"
-[ -s "$answers" ] || { printf '%s %s\n' "$((calls + 1))" "$epoch" >"$answers" && sync "$answers"; } || exit
+[ -s "$answers" ] || { last=$there && printf '%s %s %s\n' "$((calls + 1))" "$epoch" "$there" >"$answers" && sync "$answers"; } || exit
 mapfile -t known <"$answers"
 faults=$(grep -c '^FAULT' "$answers")
 behind=$((calls + 1 - ${known[0]%% *} - (${#known[@]} - 1 - faults)))
@@ -102,7 +137,7 @@ if [ "$behind" -ne 0 ] && [ "$behind" -ne 1 ]; then
     exit 1
 fi
 shown=0
-until book; do hello; done
-# what came behind the last answer: its own advices, which are told with it
-say '?HELLO BEHIND\n'
-while IFS= read -r -t "$seconds" -u 4 line && [[ $line != "READY BEHIND "* ]]; do printf '%s\n' "$line"; done
+for said in "${known[@]:1}"; do seen "$said" || :; done
+until again; do hello; done
+until book; do back; done
+advices || :
