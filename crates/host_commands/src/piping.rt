@@ -86,7 +86,7 @@ fn pipes_named<'a>(
     manager: &'a str,
     every: Duration,
 ) -> Result<Option<Pipes>, Refusal<'a>> {
-    let Some(count) = sessions_of(desks) else {
+    let Some(count) = sessions_named(desks) else {
         return Err(misnamed(desks));
     };
     let mut pairs = Vec::new(rt.alloc());
@@ -112,6 +112,16 @@ fn pipes_named<'a>(
     }))
 }
 
+/// How many sessions the words name. Each has the number of its own.
+fn sessions_named(desks: &[&str]) -> Option<usize> {
+    for word in desks {
+        if !has_number(word) {
+            return None;
+        }
+    }
+    sessions_of(desks)
+}
+
 /// Which of the words names no session, or one that is named ahead of it, and why.
 fn misnamed<'a>(desks: &[&'a str]) -> Refusal<'a> {
     if desks.len() > usize::from(MOST_DESKS) {
@@ -119,7 +129,7 @@ fn misnamed<'a>(desks: &[&'a str]) -> Refusal<'a> {
     }
     for place in 0..desks.len() {
         let word = desks[place];
-        if sessions_of(&[word]).is_none() {
+        if sessions_named(&[word]).is_none() {
             return Refusal::unfit(
                 word,
                 "Has no session of 1 to 8 ahead of two pipes, as 1=IN:OUT",
@@ -129,23 +139,14 @@ fn misnamed<'a>(desks: &[&'a str]) -> Refusal<'a> {
             return Refusal::unfit(word, "Its session is named twice");
         }
     }
-    unnumbered(desks)
+    Refusal::unfit("--desk", "Names no sessions")
 }
 
 /// Whether one of the words ahead has the session of this one.
 fn is_named_ahead(ahead: &[&str], word: &str) -> bool {
-    has_number(word)
-        && ahead.iter().any(|other| has_number(other) && sessions_of(&[*other, word]).is_none())
-}
-
-/// The first word without a number, where others have one.
-fn unnumbered<'a>(desks: &[&'a str]) -> Refusal<'a> {
-    for word in desks {
-        if !has_number(word) {
-            return Refusal::unfit(*word, "Has no session ahead of it, as others have");
-        }
-    }
-    Refusal::unfit("--desk", "Names no sessions")
+    ahead
+        .iter()
+        .any(|other| sessions_named(&[*other, word]).is_none())
 }
 
 fn of_pipe<'a, T>(word: &'a str, answer: io::Result<T>) -> Result<T, Refusal<'a>> {
