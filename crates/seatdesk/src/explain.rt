@@ -7,6 +7,15 @@ use seat_files::{Fault, Refusal, standard_output};
 use seat_words::wrong_value;
 use std::alloc::AllocError;
 
+/// The word that calls this command.
+const COMMAND: &str = "explain";
+
+/// What stands ahead of a fault of no line.
+const DASH: &str = "-";
+
+/// The same, where it is one word with the fault.
+const DASH_AND_BLANK: &str = "- ";
+
 /// Writes what a fault line means, or what a reply or a note says.
 pub fn explain<'a>(rt: &HostRuntime, code: &str, behind: &[&str]) -> Result<(), Undone<'a>> {
     let text = match meaning_of(rt.alloc(), code, behind)? {
@@ -14,6 +23,29 @@ pub fn explain<'a>(rt: &HostRuntime, code: &str, behind: &[&str]) -> Result<(), 
         Meaning::Unknown(word) => return Err(unknown(rt, word)?),
     };
     write(rt, &text)
+}
+
+/// Adds a word of the command line. What a feed is told of no line is explained as it was printed, as `- FAULT H7 - 17` in one word too: its dash is then a word
+/// of its own, since one that begins with a dash and goes on would be an option.
+pub fn add_word<'a>(words: &mut Vec<&'a str>, word: &'a str) -> Result<(), AllocError> {
+    match word.strip_prefix(DASH_AND_BLANK) {
+        Some(fault) if is_explained(words) => {
+            words.push(DASH)?;
+            words.push(fault)?;
+        }
+        _ => words.push(word)?,
+    }
+    Ok(())
+}
+
+/// Whether the words, of which the first is the program's own name, call this command: it is the first of them that begins with no dash.
+fn is_explained(words: &[&str]) -> bool {
+    for word in words.iter().skip(1) {
+        if !word.starts_with(DASH) {
+            return *word == COMMAND;
+        }
+    }
+    false
 }
 
 /// Says on standard error what a fault means, below its line. Where memory is refused for that, nothing is said.

@@ -68,7 +68,7 @@ fn start<T: Threads + Wait + Clock + Sync + Copy + Send + 'static>(
     let given: Vec<String> = std::env::args(rt)?.collect(rt.alloc())?;
     let mut words = Vec::new(rt.alloc());
     for word in &given {
-        words.push(word.as_str())?;
+        explain::add_word(&mut words, word.as_str())?;
     }
     match season::season_asked(words.as_slice()) {
         Some(file) => season::started(rt, threads, words.as_slice(), file),
