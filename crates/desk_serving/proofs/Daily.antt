@@ -179,14 +179,18 @@ module _ {K : Type 0} (named : K → Option (List ℕ)) (leaves : K → List ℕ
   pub unsealed_by : (basis : Basis) (lines : List Entry) (grid : Ladders) (cap : ℕ) (ended : Ended) (seen : Option (List ℕ)) (journals : List ℕ → Type 0)
       (unsynced : ℕ) (old mid : Belonging) (before between after : K) (fault : DeskFault)
       → IsSealedStill named leaves kept failures old mid before between → Begins lines ended.journal → IsEnded grid cap ended seen journals unsynced
-      → (fault ≡ TooLarge → IsNoEnd basis mid.runs ended.journal) → ((fault ≡ NoFile → ⊥) → after ≡ between)
+      → NamesAll lines (leaves between) → (fault ≡ TooLarge → IsNoEnd basis mid.runs ended.journal) → ((fault ≡ NoFile → ⊥) → after ≡ between)
       → (e : DeskFault) → Unended fault ≡ Unended e → IsUnsealed lines basis old.runs e seen journals unsynced (leaves after)
-  unsealed_by basis lines grid cap ended seen journals unsynced old mid before between after fault still front is large stays e same =
+  unsealed_by basis lines grid cap ended seen journals unsynced old mid before between after fault still front is named_all large stays e same =
       subst (λ (x : DeskFault). IsUnsealed lines basis old.runs x seen journals unsynced (leaves after)) (cc same)
       (record {
         over = record { journal = ended.journal; front = front; text = is.text; disk = is.disk; synced = is.synced };
         large = λ it. subst (λ (r : List Run). IsNoEnd basis r ended.journal) still.sealed.runs_are (large it);
-        still = λ other. record { entry = mid; only = subst (λ (k : K). Only (alone_text mid) (leaves k)) (sym (stays other)) still.sealed.on_day.only };
+        still = λ other. record {
+          entry = mid;
+          only = subst (λ (k : K). Only (alone_text mid) (leaves k)) (sym (stays other)) still.sealed.on_day.only;
+          names = subst (λ (k : K). NamesAll lines (leaves k)) (sym (stays other)) named_all;
+        };
       })
 
   -- a failure of its file is counted behind what was sealed

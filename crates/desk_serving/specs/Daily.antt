@@ -4,7 +4,7 @@ use Rattle.seat_disk.specs.Keeping.{KeepsNoMore}
 use Rattle.seat_disk.specs.Leaving.{Only, replaced_by}
 use Rattle.seat_journal.specs.declared.entry.Entry.{Entry}
 use Rattle.seat_restoring.specs.Dating.{AreOfEra, IsDated, NamesStill, TakesPlace}
-use Rattle.seat_restoring.specs.Serving.{IsNoEnd}
+use Rattle.seat_restoring.specs.Serving.{IsNoEnd, NamesAll}
 use Rattle.seat_seal.specs.declared.beside.Basis.{Basis}
 use Rattle.seat_seal.specs.declared.run.Run.{Run}
 use Rattle.desk_talk.specs.Closing.{IsEndedUnsealed}
@@ -64,18 +64,19 @@ pub record IsOfEpoch (epoch : ℕ) (seals : List ℕ → Type 0) : Type 0 where
   pub dated : IsDated day era
   pub are : AreOfEra era seals
 
--- whatever a crash leaves of the seal is that of one entry
-pub record IsOneSeal (seals : List ℕ → Type 0) : Type 0 where
+-- whatever a crash leaves of the seal is that of one entry, which each journal has that begins with these lines, as an open one is
+pub record NamesStillAll (kept : List Entry) (seals : List ℕ → Type 0) : Type 0 where
   pub entry : Belonging
   pub only : Only (alone_text entry) seals
+  pub names : NamesAll kept seals
 
--- the journal is ended, and its closed seal is not there: where it is too large no seal may have that journal's entry, and but where its file failed the open
--- one stands there as it stood
+-- the journal is ended, and its closed seal is not there: where it is too large no seal may have that journal's entry, and but where its file failed an open
+-- one stands there still
 pub record IsUnsealed (kept : List Entry) (basis : Basis) (runs : List Run) (fault : DeskFault) (seen : Option (List ℕ)) (leaves : List ℕ → Type 0)
     (unsynced : ℕ) (seals : List ℕ → Type 0) : Type 0 where
   pub over : IsEndedUnsealed kept seen leaves unsynced
   pub large : fault ≡ TooLarge → IsNoEnd basis runs over.journal
-  pub still : (fault ≡ NoFile → ⊥) → IsOneSeal seals
+  pub still : (fault ≡ NoFile → ⊥) → NamesStillAll kept seals
 
 -- the host does not go on, by the inventory or by the seal: what was kept is still there. Where memory was wanting its lines are on the disk, and where
 -- the journal's file failed a call of it was counted

@@ -4,6 +4,7 @@ use Rattle.desk_feed.specs.Feeding.{LivesThrough}
 use Rattle.desk_feed.specs.Progress.{IsProgress}
 use Rattle.desk_lines.specs.declared.desk.Desk.{Desk}
 use Rattle.desk_lines.specs.declared.desk.Standing.TheVariants.{Between}
+use Rattle.desk_serving.specs.Daily.{IsUnsealed}
 use Rattle.desk_stream.specs.Feeds.{Feeding, IsBegun}
 use Rattle.desk_stream.specs.Laws.{IsVeryCall}
 use Rattle.desk_stream.specs.Wanting.{asking_of}
@@ -13,12 +14,9 @@ use Rattle.desk_streaming.specs.declared.fault.FedFault.{FedFault}
 use Rattle.desk_streaming.specs.declared.fault.FedFault.TheVariants.{Behind, Broken, End, Seal}
 use Rattle.desk_streaming.specs.declared.fault.StreamFault.{StreamFault}
 use Rattle.desk_streaming.specs.declared.fault.StreamFault.TheVariants as streams
-use Rattle.desk_talk.specs.Closing.{IsEndedUnsealed}
 use Rattle.seat_desk.specs.declared.fault.DeskFault.{DeskFault}
-use Rattle.seat_desk.specs.declared.fault.DeskFault.TheVariants.{TooLarge}
 use Rattle.seat_journal.specs.declared.entry.Entry.{Entry}
 use Rattle.seat_restoring.specs.Dating.{AreOfEra, IsDated}
-use Rattle.seat_restoring.specs.Serving.{IsNoEnd}
 use Rattle.seat_seal.specs.declared.beside.Basis.{Basis}
 use Rattle.seat_seal.specs.declared.era.Era.{Era}
 use Rattle.seat_seal.specs.declared.run.Run.{Run}
@@ -131,11 +129,10 @@ IsFedFront flights serving epoch count fault in_old out_old out_new seen leaves 
     IsUnfed serving count fault out_old out_new seen leaves
     ⊎ IsFedOff flights serving epoch count fault in_old out_old out_new seen leaves
 
--- the feed was over, and the journal is ended so, and its seal failed: where it is too large no seal may have that journal's entry
+-- the feed was over, and the journal is ended so, and its seal is not there: it is too large, or its file failed, or memory was wanting for it
 pub record IsFedUnsealed {D : Type 0} (flights : List Flown) (serving : Served D) (epoch count today : ℕ) (basis : Basis) (runs : List Run)
     (fault : DeskFault) (input out_old out_new seen : Option (List ℕ)) (leaves : List ℕ → Type 0) (unsynced : ℕ) (seals : List ℕ → Type 0)
     : Type 0 where
-  pub over : IsEndedUnsealed serving.kept seen leaves unsynced
-  pub fed : IfSome input (IsFed flights serving epoch count today seals out_old out_new over.journal)
-  pub lived : IsLivedTo flights serving count over.journal
-  pub large : fault ≡ TooLarge → IsNoEnd basis runs over.journal
+  pub unsealed : IsUnsealed serving.kept basis runs fault seen leaves unsynced seals
+  pub fed : IfSome input (IsFed flights serving epoch count today seals out_old out_new unsealed.over.journal)
+  pub lived : IsLivedTo flights serving count unsealed.over.journal

@@ -43,7 +43,7 @@ use std::sync::Wait;
 ///
 /// The journal is then what the feed's numbered lines made of the lines that were there, each taken as it was at its first coming. What the host has
 /// come to stands on the board behind each piece.
-#[tactic(auto, using(desk_talk::proofs::Closed::still_named, desk_talk::proofs::Closed::ended_named, desk_talk::proofs::Closed::ended_told, desk_talk::proofs::Closed::few_ended, desk_serving::proofs::Daily::on_day, desk_serving::proofs::Daily::stays_still, desk_serving::proofs::Daily::names_on, desk_serving::proofs::Daily::sealed_end, desk_serving::proofs::Daily::of_epoch, desk_serving::proofs::Daily::no_more_behind, desk_serving::proofs::Daily::failed_behind, crate::proofs::Opened::no_seal_over, crate::proofs::Opened::no_seal_failed, crate::proofs::Written::no_seal_written, crate::proofs::Opened::no_seal_streamed, crate::proofs::Sealing::fed_sealed, crate::proofs::Sealing::fed_unsealed))]
+#[tactic(auto, using(desk_talk::proofs::Closed::few_ended, desk_serving::proofs::Daily::on_day, desk_serving::proofs::Daily::stays_still))]
 pub fn serve_feed<R: Wait, I: NotedRead, W: NotedWrite, D: Tape, K: Replaced>(
     rt: &R,
     alloc: Global,
@@ -114,7 +114,7 @@ pub fn serve_feed<R: Wait, I: NotedRead, W: NotedWrite, D: Tape, K: Replaced>(
 }
 
 // Serves the feed to its end, and ends the journal. Where the feed is broken off the journal is left open.
-#[tactic(auto, using(desk_serving::proofs::Goes::ready_as, desk_serving::proofs::Ended::ended_front, desk_serving::proofs::Ended::told_at_once, desk_serving::proofs::Ended::left_at_once, desk_serving::proofs::Daily::stays_same, desk_serving::proofs::Daily::stays_on, desk_serving::proofs::Daily::some_day, desk_serving::proofs::Goes::goes_from, desk_serving::proofs::Daily::day_as, crate::proofs::Opened::none_asked_yet, crate::proofs::Opened::breaks_over, crate::proofs::Opened::told_broken, crate::proofs::Opened::left_broken, crate::proofs::Opened::counts_broken, crate::proofs::Opened::left_ended, crate::proofs::Opened::counts_ended, crate::proofs::Opened::no_journal_yet, crate::proofs::Opened::of_feed, crate::proofs::Opened::no_stranger, crate::proofs::Written::nothing_written, crate::proofs::Written::fed_off, crate::proofs::Written::no_stream, crate::proofs::Opened::no_opening_streamed, crate::proofs::Opened::no_broken_streamed, crate::proofs::Opened::fed_out, crate::proofs::Fresh::since_begun, crate::proofs::Opened::no_opening_input, crate::proofs::Opened::no_opening_output, crate::proofs::Opened::no_opening_date))]
+#[tactic(auto, using(desk_serving::proofs::Goes::ready_as, desk_serving::proofs::Ended::told_at_once, desk_serving::proofs::Ended::left_at_once, desk_serving::proofs::Daily::stays_same, desk_serving::proofs::Daily::stays_on, desk_serving::proofs::Daily::some_day, desk_serving::proofs::Daily::day_as, crate::proofs::Opened::none_asked_yet, crate::proofs::Opened::no_journal_yet, crate::proofs::Opened::of_feed, crate::proofs::Opened::no_stranger, crate::proofs::Written::nothing_written, crate::proofs::Written::no_stream, crate::proofs::Opened::no_opening_streamed, crate::proofs::Opened::no_broken_streamed, crate::proofs::Fresh::since_begun, crate::proofs::Opened::no_opening_input, crate::proofs::Opened::no_opening_output, crate::proofs::Opened::no_opening_date))]
 fn serve_ended<R: Wait, I: NotedRead, W: NotedWrite, D: Tape, K: Replaced>(
     rt: &R,
     alloc: Global,

@@ -36,4 +36,6 @@ returns-in-Err-seal_closed-clause-over g c =
     c.args.host.serving.kept c.args.host.serving.grid c.args.host.serving.cap c.in-Ok.served.0 (g.D.Tape.seen c.in-Ok.served.1)
     (g.D.Tape.may_leave c.in-Ok.served.1) (g.D.Tape.unsynced c.in-Ok.served.1) c.args.begun c.serve_ended.new.entry c.args.seals.now
     c.serve_ended.new.seals c.seal_closed.new.seals c.in-Err-seal_closed.fault c.in-Ok.ensures.sealed c.in-Ok.ensures.front c.in-Ok.ensures.ended
+    (names_on g.K.Replaced.named g.K.Replaced.may_leave g.K.Replaced.kept_may_leave g.K.Failures.failure_count c.args.begun c.args.host.serving.kept
+    c.args.seals.now c.serve_ended.new.seals c.requires.stands c.requires.named c.serve_ended.ensures.stays)
     c.in-Err-seal_closed.ensures.large c.in-Err-seal_closed.ensures.untouched

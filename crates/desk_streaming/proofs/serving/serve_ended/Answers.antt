@@ -1,7 +1,7 @@
 use Rattle.std.proofs.Common.{rules}
-use Rattle.desk_serving.proofs.Ended.{ended_so, lost_none}
+use Rattle.desk_serving.proofs.Ended.{ended_front, ended_so, lost_none}
 use Rattle.desk_serving.proofs.Goes.{goes_from}
-use Rattle.desk_streaming.proofs.Opened.{breaks_over, fed_out, fed_to, left_broken, lived_to}
+use Rattle.desk_streaming.proofs.Opened.{breaks_over, counts_broken, counts_ended, fed_out, fed_to, left_broken, left_ended, lived_to, told_broken}
 use Rattle.desk_streaming.proofs.Strangers.{strange_fed}
 use Rattle.desk_streaming.proofs.Written.{fed_off}
 use Rattle.desk_streaming.proofs.serving.serve_ended.Goals as goal
@@ -67,3 +67,43 @@ returns-in-Err-end-clause-streamed g c =
     fed_out c.args.flights.now c.args.host.serving c.args.entry.now.era.epoch c.args.behind c.in-Ok.opened c.stream-streamed.new.feed
     c.in-Err-end.refused.0 (g.I.Read.remaining c.args.input.now) (g.W.Write.contents c.args.out.now)
     (g.W.Write.contents c.stream-streamed.new.out) c.in-Ok.ensures.over c.in-Ok-streamed.ensures.streamed
+
+pub returns-in-Ok-end-clause-front : goal.returns-in-Ok-end-clause-front
+returns-in-Ok-end-clause-front g c =
+    ended_front g.D.Tape.seen g.D.Tape.may_leave g.D.Tape.unsynced g.D.Failures.failure_count c.args.host.serving
+    c.stream-streamed.new.feed.serving c.into_serving-serving.result c.in-Ok-end.ended.0.journal
+    (goes_from g.D.Tape.seen g.D.Tape.may_leave g.D.Tape.unsynced g.D.Failures.failure_count c.args.host.serving
+    c.in-Ok.opened.serving c.stream-streamed.new.feed.serving c.in-Ok-streamed.ensures.goes c.in-Ok.ensures.serving)
+    (search rules) c.in-Ok-end.ensures.journal
+
+pub returns-in-Err-end-clause-open : goal.returns-in-Err-end-clause-open
+returns-in-Err-end-clause-open g c =
+    left_ended g.D.Tape.seen g.D.Tape.may_leave g.D.Tape.unsynced g.D.Failures.failure_count c.args.host.serving
+    c.stream-streamed.new.feed.serving c.into_serving-serving.result c.in-Err-end.refused.0 c.in-Err-end.refused.1
+    (goes_from g.D.Tape.seen g.D.Tape.may_leave g.D.Tape.unsynced g.D.Failures.failure_count c.args.host.serving
+    c.in-Ok.opened.serving c.stream-streamed.new.feed.serving c.in-Ok-streamed.ensures.goes c.in-Ok.ensures.serving)
+    (search rules) c.in-Err-end.ensures.memory
+
+pub returns-in-Err-end-clause-journal : goal.returns-in-Err-end-clause-journal
+returns-in-Err-end-clause-journal g c =
+    counts_ended g.D.Tape.seen g.D.Tape.may_leave g.D.Tape.unsynced g.D.Failures.failure_count c.args.host.serving
+    c.stream-streamed.new.feed.serving c.into_serving-serving.result c.in-Err-end.refused.0 c.in-Err-end.refused.1
+    (goes_from g.D.Tape.seen g.D.Tape.may_leave g.D.Tape.unsynced g.D.Failures.failure_count c.args.host.serving
+    c.in-Ok.opened.serving c.stream-streamed.new.feed.serving c.in-Ok-streamed.ensures.goes c.in-Ok.ensures.serving)
+    (search rules) c.in-Err-end.ensures.device
+
+pub returns-in-Err-streamed-clause-told : goal.returns-in-Err-streamed-clause-told
+returns-in-Err-streamed-clause-told g c =
+    told_broken g.D.Tape.seen g.D.Tape.may_leave g.D.Tape.unsynced g.D.Failures.failure_count c.args.host.serving
+    c.stream-streamed.new.feed.serving c.into_serving-serving.result c.in-Err-streamed.fault c.close.result
+    (breaks_over g.D.Tape.seen g.D.Tape.may_leave g.D.Tape.unsynced g.D.Failures.failure_count c.args.host.serving c.in-Ok.opened.serving
+    c.stream-streamed.new.feed.serving c.in-Err-streamed.fault c.in-Err-streamed.ensures.breaks c.in-Ok.ensures.serving)
+    (search rules) c.close.ensures.tape
+
+pub returns-in-Err-streamed-clause-journal : goal.returns-in-Err-streamed-clause-journal
+returns-in-Err-streamed-clause-journal g c =
+    counts_broken g.D.Tape.seen g.D.Tape.may_leave g.D.Tape.unsynced g.D.Failures.failure_count c.args.host.serving
+    c.stream-streamed.new.feed.serving c.into_serving-serving.result c.in-Err-streamed.fault c.close.result
+    (breaks_over g.D.Tape.seen g.D.Tape.may_leave g.D.Tape.unsynced g.D.Failures.failure_count c.args.host.serving c.in-Ok.opened.serving
+    c.stream-streamed.new.feed.serving c.in-Err-streamed.fault c.in-Err-streamed.ensures.breaks c.in-Ok.ensures.serving)
+    (search rules) c.close.ensures.tape
