@@ -24,6 +24,10 @@ true_and : (b : Bool) → b ≡ (true && b)
 true_and true = refl
 true_and false = refl
 
+none_behind : (b : Option ℕ) → is_some b ≡ false → b ≡ None
+none_behind None is = refl
+none_behind (Some n) is = absurd cc
+
 module _ {D : Type 0} where
   -- ---- answers
 
@@ -123,17 +127,13 @@ module _ {D : Type 0} where
   given old new session most text told piece whose is =
       record { session_is = whose; piece = subst (IsPiece old new session most) (sym is) piece }
 
-  none_behind : (b : Option ℕ) → is_some b ≡ false → b ≡ None
-  none_behind None is = refl
-  none_behind (Some n) is = absurd cc
-
   pub not_behind : (hall : Hallful D) (session : ℕ) (b : Bool) → b ≡ is_some (backlog_of hall.backlogs session) → b ≡ false
       → backlog_of hall.backlogs session ≡ None
-  not_behind hall session b is no = none_behind (backlog_of hall.backlogs session) (sym is ∙ no)
+  not_behind hall session b is never = none_behind (backlog_of hall.backlogs session) (sym is ∙ never)
 
   pub nothing_to_catch : (hall : Hallful D) (session : ℕ) (b : Bool) → b ≡ is_some (backlog_of hall.backlogs session) → b ≡ false
       → IsCaughtUp hall hall session
-  nothing_to_catch hall session b is no = subst (λ (x : Bool). IsCaughtUpBy x hall hall session) (sym (sym is ∙ no)) refl
+  nothing_to_catch hall session b is never = subst (λ (x : Bool). IsCaughtUpBy x hall hall session) (sym (sym is ∙ never)) refl
 
   pub taught_all : (old mid new : Hallful D) (session : ℕ) (told : Posted) (b : Bool) → b ≡ is_some (backlog_of old.backlogs session) → b ≡ true
       → IsAnswered old mid → IsGiven mid new session (length mid.serving.journal) told → IsCaughtUp old new session
