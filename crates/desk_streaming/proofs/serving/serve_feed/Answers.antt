@@ -51,7 +51,7 @@ pub returns-in-Ok-seal_closed-clause-sealed : goal.returns-in-Ok-seal_closed-cla
 returns-in-Ok-seal_closed-clause-sealed g c =
     sealed_end g.K.Replaced.named g.K.Replaced.may_leave g.K.Replaced.kept_may_leave g.K.Failures.failure_count c.args.basis.now
     c.in-Ok.served.0.journal c.args.begun c.serve_ended.new.entry c.args.seals.now c.serve_ended.new.seals c.seal_closed.new.seals
-    c.in-Ok.ensures.sealed c.in-Ok-seal_closed.ensures.sealed
+    c.in-Ok.ensures.sealed c.in-Ok-seal_closed.ensures.ok
 
 pub returns-in-Ok-seal_closed-clause-dated : goal.returns-in-Ok-seal_closed-clause-dated
 returns-in-Ok-seal_closed-clause-dated g c =
