@@ -1,5 +1,6 @@
 //! Desks and a manager on pipes: which words name them, their files, and the threads that read and write them.
 //! It knows which pipe is whose, and nothing of what goes over it.
+ghost use Rattle.std.specs.Prelude.{◌≤◌, IfSome};
 
 use crate::serving::Open;
 use crate::stating::{Status, interval_asked};
@@ -113,7 +114,9 @@ fn pipes_named<'a>(
 }
 
 /// How many sessions the words name. Each has the number of its own.
-fn sessions_named(desks: &[&str]) -> Option<usize> {
+fn sessions_named(desks: &[&str]) -> Option<usize>
+    ensures few { IfSome result (λ n. n ≤ 8) }
+{
     for word in desks {
         if !has_number(word) {
             return None;
