@@ -16,6 +16,7 @@ use seat_words::{
     AuditJob, CommandLine, Job, ReconcileJob, ServeJob, WordFault, read_words, words_in_conflict,
     wrong_value,
 };
+use std::alloc::{AllocError, Global};
 use std::io;
 use std::io::IsTerminal;
 use std::process::ExitCode;
@@ -77,10 +78,10 @@ fn start<T: Threads + Wait + Clock + Sync + Copy + Send + 'static>(
 }
 
 /// Runs the command that these words name, with what their season says among them where they name one.
-pub fn done_by<T: Threads + Wait + Clock + Sync + Copy + Send + 'static>(
-    rt: &HostRuntime,
+pub fn done_by<'a, T: Threads + Wait + Clock + Sync + Copy + Send + 'static>(
+    rt: &'a HostRuntime,
     threads: &T,
-    words: &[&str],
+    words: &'a [&'a str],
 ) -> io::Result<ExitCode> {
     let asked = match read_words(rt.alloc(), words) {
         Ok(asked) => asked,
@@ -90,8 +91,8 @@ pub fn done_by<T: Threads + Wait + Clock + Sync + Copy + Send + 'static>(
             return Ok(status);
         }
     };
-    let meter = meter_for(rt, threads, &asked);
-    let outcome = carry_out(rt, threads, &meter, &asked);
+    let meter = staying(rt.alloc(), meter_for(rt, threads, &asked))?;
+    let outcome = carry_out(rt, threads, meter, &asked);
     meter.end(rt);
     Ok(match outcome {
         Ok(status) => status,
@@ -170,6 +171,14 @@ fn meter_for<T: Threads>(rt: &HostRuntime, threads: &T, asked: &CommandLine<'_>)
         Job::Run(_) => meter_of(rt, threads, Stage::Booking, asked.is_quiet),
         _ => meter_of(rt, threads, Stage::Replaying, asked.is_quiet),
     }
+}
+
+/// A meter that stays for as long as the program runs, as the words do.
+fn staying<'a>(alloc: Global, meter: Meter) -> Result<&'a Meter, AllocError> {
+    let mut meters = Vec::new(alloc);
+    meters.push(meter)?;
+    let meters: &'a [Meter] = meters.leak();
+    Ok(&meters[0])
 }
 
 fn done<'a>(outcome: Result<(), Refusal<'a>>) -> Result<ExitCode, Undone<'a>> {
