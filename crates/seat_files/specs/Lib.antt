@@ -1,4 +1,5 @@
 pub mod Faults
+pub mod Lists
 pub mod Once
 pub mod Refusals
 pub mod Seals
