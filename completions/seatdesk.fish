@@ -216,7 +216,7 @@ complete -c seatdesk -n '__fish_seen_subcommand_from reconcile' -l limits -r -F 
 complete -c seatdesk -n '__fish_seen_subcommand_from reconcile' -l first -x -d 'The first day of departure, as 2024-06-01, from 2000 to 2099'
 complete -c seatdesk -n '__fish_seen_subcommand_from reconcile' -l days -x -d 'How many days from the first on, 1 to 366'
 complete -c seatdesk -n '__fish_seen_subcommand_from reconcile' -l season -r -F -d 'A season file in place of --set, --limits, --first and --days; it may name the journal and the desks too'
-complete -c seatdesk -n '__fish_seen_subcommand_from reconcile' -l session -x -d 'The session whose bookings THEIRS is to have, 1 to 8'
+complete -c seatdesk -n '__fish_seen_subcommand_from reconcile' -l session -x -d 'The session whose bookings THEIRS is to have, 0 to 8'
 complete -c seatdesk -n '__fish_seen_subcommand_from reconcile' -l all -d 'THEIRS is to have all live bookings'
 complete -c seatdesk -n '__fish_seen_subcommand_from reconcile' -l open -d 'Takes a JOURNAL that is still open: its whole lines count, and it needs no END line'
 complete -c seatdesk -n '__fish_seen_subcommand_from reconcile' -s v -l verbose -d 'Names the file of a fault, and where in it the fault stands, or the system\'s reason'

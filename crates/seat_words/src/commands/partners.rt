@@ -18,7 +18,7 @@ const PARTNER_HELP: &str =
 
 const SEGMENT_DAY_HELP: &str = "The segments that depart on this day alone, as 2024-06-01";
 
-const SESSION_HELP: &str = "The session whose bookings THEIRS is to have, 1 to 8";
+const SESSION_HELP: &str = "The session whose bookings THEIRS is to have, 0 to 8";
 
 const ALL_HELP: &str = "THEIRS is to have all live bookings";
 
