@@ -11,7 +11,7 @@ use Rattle.airimp_lines.specs.declared.requests.Request.{Request}
 use Rattle.airimp_lines.proofs.Passing.{behind, none_remain, onward}
 use Rattle.airimp_lines.proofs.Remaining.{AreLeft, Remain, less_left, part_more, part_split}
 use Rattle.script_refusals.specs.Asking.{AreAsked, AreAskedAfter, AreAskedBy, AreRight, RightLinesAreKept, RightScriptsStay}
-use Rattle.script_refusals.specs.Cleaning.{at_start, cleaned_lines, cleaned_text, empty_line, kept, kept_after, line_refused, name_line, passage_after, passage_behind, refusals_from, text_of, whole_lines}
+use Rattle.script_refusals.specs.Cleaning.{at_start, cleaned_lines, cleaned_text, empty_line, kept, kept_after, line_refused, name_line, passage_after, passage_behind, passage_refused, passage_within, refusals_from, text_of, whole_lines}
 use Rattle.script_refusals.specs.declared.cleaning.Passage.{Passage}
 use Rattle.script_refusals.specs.declared.cleaning.Passage.TheVariants.{Right, Refused}
 use Rattle.script_refusals.proofs.Lines.{AreWhole, IsWhole, are_whole, joined, place_of, texts_are, texts_of_lines}
@@ -56,27 +56,43 @@ pub record IsStep (today number : ℕ) (passage : Passage) (line : List ℕ) : T
       → AreAskedBy today passage (number, text_of line) own
 
 abbrev Stepped : Message → List ℕ → Result Message ScriptKind → Type 0
-Stepped message line r = step message (text_of (kept_after message line r)) ≡ Ok (message_at (passage_after message r))
+Stepped message line r = step message (text_of (kept_after message line r)) ≡ Ok (message_at (passage_after message (text_of line) r))
+
+-- the same of a wrong line of a message, by what it would be as the first one of another
+within_stepped : (locator : List ℕ) (first : Result Message ScriptKind)
+    → step (Some locator) (text_of (line_refused (passage_within locator first))) ≡ Ok (message_at (passage_within locator first))
+within_stepped locator (Ok first) = ap (step (Some locator)) empty_text
+within_stepped locator (Err kind) = ap (step (Some locator)) name_text ∙ name_step locator
+
+within_to : (today number : ℕ) (locator : List ℕ) (first : Result Message ScriptKind) (own : List Request) → own ≡ []
+    → AreOwn today (Some locator) (number, text_of (line_refused (passage_within locator first))) own
+within_to today number locator (Ok first) own h = subst (λ (text : List ℕ). AreOwn today (Some locator) (number, text) own) (sym empty_text) h
+within_to today number locator (Err kind) own h = subst (λ (text : List ℕ). AreOwn today (Some locator) (number, text) own) (sym name_text) (name_own today locator number own h)
+
+within_from : (today number : ℕ) (locator : List ℕ) (first : Result Message ScriptKind) (own : List Request)
+    → AreOwn today (Some locator) (number, text_of (line_refused (passage_within locator first))) own → own ≡ []
+within_from today number locator (Ok first) own h = subst (λ (text : List ℕ). AreOwn today (Some locator) (number, text) own) empty_text h
+within_from today number locator (Err kind) own h = own_name today locator number own (subst (λ (text : List ℕ). AreOwn today (Some locator) (number, text) own) name_text h)
 
 stepped_of : (message : Message) (line : List ℕ) (r : Result Message ScriptKind) → step message (text_of line) ≡ r
     → Stepped message line r
 stepped_of message line (Ok next) e = e
 stepped_of None line (Err kind) e = rw empty_text refl
-stepped_of (Some locator) line (Err kind) e = ap (step (Some locator)) name_text ∙ name_step locator
+stepped_of (Some locator) line (Err kind) e = within_stepped locator (step None (text_of line))
 
 to_of : (today number : ℕ) (message : Message) (line : List ℕ) (r : Result Message ScriptKind) (own : List Request)
     → AreAskedAfter today message (number, text_of line) r own
     → AreOwn today message (number, text_of (kept_after message line r)) own
 to_of today number message line (Ok next) own h = h
 to_of today number None line (Err kind) own h = h
-to_of today number (Some locator) line (Err kind) own h = subst (λ (text : List ℕ). AreOwn today (Some locator) (number, text) own) (sym name_text) (name_own today locator number own h)
+to_of today number (Some locator) line (Err kind) own h = within_to today number locator (step None (text_of line)) own h
 
 from_of : (today number : ℕ) (message : Message) (line : List ℕ) (r : Result Message ScriptKind) (own : List Request)
     → AreOwn today message (number, text_of (kept_after message line r)) own
     → AreAskedAfter today message (number, text_of line) r own
 from_of today number message line (Ok next) own h = h
 from_of today number None line (Err kind) own h = h
-from_of today number (Some locator) line (Err kind) own h = own_name today locator number own (subst (λ (text : List ℕ). AreOwn today (Some locator) (number, text) own) name_text h)
+from_of today number (Some locator) line (Err kind) own h = within_from today number locator (step None (text_of line)) own h
 
 refused_next : (text : List ℕ) → message_at (passage_behind Refused text) ≡ None
 refused_next [] = refl
@@ -150,14 +166,14 @@ empty_whole more = record { some = omega arith; only = omega arith; ended = inl 
 name_whole : (more : List (List ℕ)) → IsWhole name_line more
 name_whole more = record { some = omega arith; only = omega arith; ended = inl refl }
 
-refused_whole : (message : Message) (more : List (List ℕ)) → IsWhole (line_refused message) more
-refused_whole None more = empty_whole more
-refused_whole (Some locator) more = name_whole more
+refused_whole : (passage : Passage) (more : List (List ℕ)) → IsWhole (line_refused passage) more
+refused_whole (Right message) more = name_whole more
+refused_whole Refused more = empty_whole more
 
 kept_whole_of : (message : Message) (line : List ℕ) (r : Result Message ScriptKind) (behind more : List (List ℕ))
     → (behind ≡ [] → more ≡ []) → IsWhole line behind → IsWhole (kept_after message line r) more
 kept_whole_of message line (Ok next) behind more none h = with_more line behind more none h
-kept_whole_of message line (Err kind) behind more none h = refused_whole message more
+kept_whole_of message line (Err kind) behind more none h = refused_whole (passage_refused message (text_of line)) more
 
 kept_whole : (passage : Passage) (line : List ℕ) (behind more : List (List ℕ))
     → (behind ≡ [] → more ≡ []) → IsWhole line behind → IsWhole (kept passage line) more

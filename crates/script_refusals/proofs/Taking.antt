@@ -76,16 +76,23 @@ right_none message next whole words line refusals w e =
     rw f (sym (append-nil refusals))
 
 pub wrong_passage : (message : Message) (whole words : List ℕ) (kind : ScriptKind) (next : Passage) → words ≡ text_of whole
-    → step message words ≡ Err kind → next ≡ passage_refused message → next ≡ passage_behind (Right message) (text_of whole)
+    → step message words ≡ Err kind → next ≡ passage_refused message words → next ≡ passage_behind (Right message) (text_of whole)
 wrong_passage message whole words kind next w e n =
     let f : step message (text_of whole) ≡ Err kind = ap (step message) (sym w) ∙ e in
-    rw f n
+    rw f (n ∙ ap (passage_refused message) w)
 
 pub wrong_kept : (message : Message) (whole words : List ℕ) (kind : ScriptKind) (old new : List ℕ) → words ≡ text_of whole
-    → step message words ≡ Err kind → new ≡ old ++ line_refused message → new ≡ old ++ kept (Right message) whole
+    → step message words ≡ Err kind → new ≡ old ++ line_refused (passage_refused message words) → new ≡ old ++ kept (Right message) whole
 wrong_kept message whole words kind old new w e n =
     let f : step message (text_of whole) ≡ Err kind = ap (step message) (sym w) ∙ e in
-    rw f n
+    rw f (n ∙ ap (λ (text : List ℕ). old ++ line_refused (passage_refused message text)) w)
+
+-- a wrong line of a message, by what it would be as the first one of another
+pub begins_another : (locator words : List ℕ) (first : Message) → step None words ≡ Ok first → Refused ≡ passage_refused (Some locator) words
+begins_another locator words first e = rw e refl
+
+pub begins_none : (locator words : List ℕ) (kind : ScriptKind) → step None words ≡ Err kind → Right (Some locator) ≡ passage_refused (Some locator) words
+begins_none locator words kind e = rw e refl
 
 pub wrong_own : (message : Message) (whole words : List ℕ) (kind : ScriptKind) (line : ℕ) (old new : List ScriptFault)
     → words ≡ text_of whole → step message words ≡ Err kind → new ≡ old ++ record { line = line; kind = kind } ∷ []

@@ -15,7 +15,7 @@ abbrev pub AreAskedAfter : ℕ → Message → Line → Result Message ScriptKin
 AreAskedAfter today message line (Ok next) own = AreOwn today message line own
 AreAskedAfter today message line (Err kind) own = own ≡ []
 
--- and so does a line of a message that is refused
+-- and so does a line that is refused with another
 abbrev pub AreAskedBy : ℕ → Passage → Line → List Request → Type 0
 AreAskedBy today (Right message) line own = AreAskedAfter today message line (step message line.1) own
 AreAskedBy today Refused line own = own ≡ []

@@ -21,19 +21,25 @@ text_of line = (line_at line).0
 
 -- ---- one line
 
--- a wrong first line refuses its message, a wrong line in a message itself alone
-abbrev pub passage_refused : Message → Passage
-passage_refused None = Refused
-passage_refused (Some locator) = Right (Some locator)
+-- behind a wrong line of a message, by what it would be as the first one of another: where it could be that, an empty line is wanting
+-- ahead of it, and nobody can tell whose the lines below it are
+abbrev pub passage_within : List ℕ → Result Message ScriptKind → Passage
+passage_within locator (Ok first) = Refused
+passage_within locator (Err kind) = Right (Some locator)
+
+-- a wrong first line refuses its message, and a wrong line in a message itself alone, where it could not begin another one
+abbrev pub passage_refused : Message → List ℕ → Passage
+passage_refused None text = Refused
+passage_refused (Some locator) text = passage_within locator (step None text)
 
 -- behind a line of a script
-abbrev pub passage_after : Message → Result Message ScriptKind → Passage
-passage_after message (Ok next) = Right next
-passage_after message (Err kind) = passage_refused message
+abbrev pub passage_after : Message → List ℕ → Result Message ScriptKind → Passage
+passage_after message text (Ok next) = Right next
+passage_after message text (Err kind) = passage_refused message text
 
--- a message that is refused ends with the first empty line
+-- what is refused with a line ends with the first empty line
 abbrev pub passage_behind : Passage → List ℕ → Passage
-passage_behind (Right message) text = passage_after message (step message text)
+passage_behind (Right message) text = passage_after message text (step message text)
 passage_behind Refused [] = Right None
 passage_behind Refused (c ∷ text) = Refused
 
@@ -45,15 +51,15 @@ name_line = 49 ∷ 10 ∷ []
 abbrev pub empty_line : List ℕ
 empty_line = 10 ∷ []
 
--- what stands in the place of a wrong line
-abbrev pub line_refused : Message → List ℕ
-line_refused None = empty_line
-line_refused (Some locator) = name_line
+-- what stands in the place of a wrong line, ahead of this
+abbrev pub line_refused : Passage → List ℕ
+line_refused (Right message) = name_line
+line_refused Refused = empty_line
 
 -- and of any line
 abbrev pub kept_after : Message → List ℕ → Result Message ScriptKind → List ℕ
 kept_after message line (Ok next) = line
-kept_after message line (Err kind) = line_refused message
+kept_after message line (Err kind) = line_refused (passage_refused message (text_of line))
 
 abbrev pub kept : Passage → List ℕ → List ℕ
 kept (Right message) line = kept_after message line (step message (text_of line))
@@ -64,7 +70,7 @@ abbrev pub refused_for : Result Message ScriptKind → Option ScriptKind
 refused_for (Ok next) = None
 refused_for (Err kind) = Some kind
 
--- in a message that is refused no line is refused by itself
+-- among the lines that are refused with another no line is refused by itself
 abbrev pub fault_in : Passage → List ℕ → Option ScriptKind
 fault_in (Right message) text = refused_for (step message text)
 fault_in Refused text = None

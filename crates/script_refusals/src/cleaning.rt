@@ -15,7 +15,7 @@ const ANY_DAY: u32 = 10_957;
 pub enum Passage {
     /// In the message of this locator, or behind none that is open.
     Right(Option<Locator>),
-    /// In a message whose first line is refused.
+    /// Among the lines that are refused with one above, up to the next empty line.
     Refused,
 }
 
@@ -24,13 +24,14 @@ pub enum Passage {
 pub struct Cleaned {
     /// The script, with a line that asks for nothing in the place of each that is refused, by itself or with its message.
     pub text: Vec<u8>,
-    /// The lines that are refused, in order: of a message that is refused its first line alone.
+    /// The lines that are refused, in order: of those that are refused together the first alone.
     pub refusals: Items<ScriptFault>,
 }
 
 /// Refuses each wrong line of a script of booking messages (AIRIMP), of less than 4 GiB, and keeps the rest. A wrong segment line is
 /// refused alone; a wrong first line refuses its message, up to the next empty line, since a name line can look like the first line of a
-/// message. An error is want of memory.
+/// message. So does a first line in a message, from it on: an empty line is wanting ahead of it, and it can't be told to which of the two
+/// what follows belongs. An error is want of memory.
 pub fn without_wrong_lines(alloc: Global, bytes: &[u8]) -> Result<Cleaned, Memory>
     requires size { length bytes.now < 2 ^ 32 }
     ensures text { IfOk result (λ cleaned. cleaned.text.items ≡ cleaned_text bytes.now) }
@@ -103,7 +104,7 @@ fn take_right(
         }
         Err(kind) => {
             list(refusals, line, kind)?;
-            refuse(text, &message)
+            refuse(text, &message, words)
         }
     }
 }
@@ -116,24 +117,42 @@ fn list(refusals: &mut Items<ScriptFault>, line: u32, kind: ScriptKind) -> Resul
     Ok(())
 }
 
-/// A line in the place of a wrong one that asks for nothing: a name in a message, and behind none an empty line.
-fn refuse(text: &mut Vec<u8>, message: &Option<Locator>) -> Result<Passage, Memory>
-    ensures passage { IfOk result (λ next. next ≡ passage_refused message.now) }
-    ensures text { OnOk result (text.new.items ≡ text.old.items ++ line_refused message.now) }
+/// A line in the place of a wrong one that asks for nothing.
+fn refuse(text: &mut Vec<u8>, message: &Option<Locator>, words: &[u8]) -> Result<Passage, Memory>
+    ensures passage { IfOk result (λ next. next ≡ passage_refused message.now words.now) }
+    ensures text { OnOk result (text.new.items ≡ text.old.items ++ line_refused (passage_refused message.now words.now)) }
+{
+    let next = passage_refused(message, words);
+    put_refused(text, &next)?;
+    Ok(next)
+}
+
+/// Where the line behind a wrong one stands.
+#[tactic(auto, using(crate::proofs::Taking::begins_another, crate::proofs::Taking::begins_none))]
+fn passage_refused(message: &Option<Locator>, words: &[u8]) -> Passage
+    ensures { result ≡ passage_refused message.now words.now }
 {
     match message {
-        Some(_) => {
-            text.extend_from_slice(b"1\n")?;
-            Ok(Passage::Right(*message))
-        }
-        None => {
-            text.extend_from_slice(b"\n")?;
-            Ok(Passage::Refused)
-        }
+        Some(_) => match read_line(None, words, 1, Day::numbered(ANY_DAY)) {
+            Ok(_) => Passage::Refused,
+            Err(_) => Passage::Right(*message),
+        },
+        None => Passage::Refused,
     }
 }
 
-/// A line of a message that is refused.
+/// A name where the message goes on, and an empty line where what follows is refused too.
+fn put_refused(text: &mut Vec<u8>, next: &Passage) -> Result<(), Memory>
+    ensures { OnOk result (text.new.items ≡ text.old.items ++ line_refused next.now) }
+{
+    match next {
+        Passage::Right(_) => text.extend_from_slice(b"1\n")?,
+        Passage::Refused => text.extend_from_slice(b"\n")?,
+    }
+    Ok(())
+}
+
+/// A line that is refused with one above.
 #[tactic(auto, using(crate::proofs::Taking::over_passage, crate::proofs::Taking::on_passage))]
 fn take_refused(text: &mut Vec<u8>, whole: &[u8]) -> Result<Passage, Memory>
     ensures passage { IfOk result (λ next. next ≡ passage_behind Passage.Refused (text_of whole.now)) }
