@@ -1,20 +1,21 @@
 -- What the right lines of a script ask for is what the script asks for without its wrong lines.
-use Rattle.std.proofs.Common.{◌≡◌, ◌⊎◌, inl, inr, ℕ, ◌+◌, List, [], ◌∷◌, ◌++◌, length, map, Some, None, Result, Ok, Err, refl, sym, ap, subst, ◌∙◌, arith}
-use Rattle.std.specs.List.{concat, enumerate_from}
+use Rattle.std.proofs.Common.{◌≡◌, ◌↔◌, ◌⊎◌, inl, inr, ℕ, ◌+◌, Bool, ◌&&◌, true, false, List, [], ◌∷◌, ◌++◌, length, map, Some, None, Result, Ok, Err, refl, sym, ap, subst, ◌∙◌, arith}
+use Rattle.std.specs.List.{concat, enumerate_from, list_all}
 use Rattle.std.specs.Str.Lines.{lines}
-use Rattle.airline_base.specs.Lines.{line_at}
+use Rattle.airline_base.specs.Lines.{is_line_feed, line_at}
 use Rattle.airimp_lines.specs.Messages.{is_name_line, is_service_line}
 use Rattle.airimp_lines.specs.Script.{IsScript, Line, runs_of}
 use Rattle.airimp_lines.specs.Steps.{AreOwn, Message, step}
+use Rattle.airimp_lines.specs.declared.fault.ScriptFault.{ScriptFault}
 use Rattle.airimp_lines.specs.declared.fault.ScriptKind.{ScriptKind}
 use Rattle.airimp_lines.specs.declared.requests.Request.{Request}
 use Rattle.airimp_lines.proofs.Passing.{behind, none_remain, onward}
 use Rattle.airimp_lines.proofs.Remaining.{AreLeft, Remain, less_left, part_more, part_split}
 use Rattle.script_refusals.specs.Asking.{AreAsked, AreAskedAfter, AreAskedBy, AreRight, RightLinesAreKept, RightScriptsStay}
-use Rattle.script_refusals.specs.Cleaning.{at_start, cleaned_lines, cleaned_text, empty_line, kept, kept_after, line_refused, name_line, passage_after, passage_behind, passage_refused, passage_within, refusals_from, text_of, whole_lines}
+use Rattle.script_refusals.specs.Cleaning.{at_start, cleaned_lines, cleaned_text, empty_line, kept, kept_after, left_of, line_refused, lines_left, name_line, passage_after, passage_behind, passage_refused, passage_within, refusals_from, refusals_of, text_of, whole_lines}
 use Rattle.script_refusals.specs.declared.cleaning.Passage.{Passage}
 use Rattle.script_refusals.specs.declared.cleaning.Passage.TheVariants.{Right, Refused}
-use Rattle.script_refusals.proofs.Lines.{AreWhole, IsWhole, are_whole, joined, place_of, texts_are, texts_of_lines}
+use Rattle.script_refusals.proofs.Lines.{AreWhole, IsWhole, are_whole, cases, joined, place_of, texts_are, texts_of_lines}
 
 -- ---- lines that ask for nothing
 
@@ -186,23 +187,73 @@ cleaned_whole passage (line ∷ whole) h =
     let next = passage_behind passage (text_of line) in
     (kept_whole passage line whole (cleaned_lines next whole) (λ e. rw e refl) h.0, cleaned_whole next whole h.1)
 
-pub cleaned_texts : (bytes : List ℕ) → lines (cleaned_text bytes) ≡ texts_at at_start (whole_lines bytes)
+pub cleaned_texts : (bytes : List ℕ) → lines (lines_left bytes) ≡ texts_at at_start (whole_lines bytes)
 cleaned_texts bytes = texts_are (cleaned_lines at_start (whole_lines bytes)) (cleaned_whole at_start (whole_lines bytes) (are_whole bytes))
+
+-- ---- empty lines alone
+
+both : (a b : Bool) → (a && b) ≡ true → (a ≡ true) × (b ≡ true)
+both true b e = (refl, e)
+both false b e = absurd cc
+
+empty_first : (c : ℕ) (text : List ℕ) → list_all is_line_feed (c ∷ text) ≡ true
+    → (is_line_feed c ≡ true) × (list_all is_line_feed text ≡ true)
+empty_first c text e = both (is_line_feed c) (list_all is_line_feed text) e
+
+feed_text : (c : ℕ) → is_line_feed c ≡ true → text_of (c ∷ []) ≡ []
+unfolding line_at
+feed_text c e = rw e refl
+
+empty_texts : (c : ℕ) (text : List ℕ) → is_line_feed c ≡ true → map text_of (whole_lines (c ∷ text)) ≡ [] ∷ map text_of (whole_lines text)
+empty_texts c text e = rw e (ap (λ (one : List ℕ). one ∷ map text_of (whole_lines text)) (feed_text c e))
+
+-- empty lines ask for nothing
+asks_none : (today n : ℕ) (text : List ℕ) (all : List Request) → list_all is_line_feed text ≡ true
+    → Remain today None n (map text_of (whole_lines text)) all → all ≡ []
+asks_none today n [] all e h = only_none today None n all h
+asks_none today n (c ∷ text) all e h =
+    let f = empty_first c text e in
+    let b = behind today None None n [] (map text_of (whole_lines text)) [] all refl refl (subst (λ (texts : List (List ℕ)). Remain today None n texts all) (empty_texts c text f.0) h) in
+    b.joined ∙ asks_none today (n + 1) text b.others f.1 b.remain
+
+none_asked : (today n : ℕ) (text : List ℕ) → list_all is_line_feed text ≡ true
+    → Remain today None n (map text_of (whole_lines text)) []
+none_asked today n [] e = none_left today None n
+none_asked today n (c ∷ text) e =
+    let f = empty_first c text e in
+    subst (λ (texts : List (List ℕ)). Remain today None n texts []) (sym (empty_texts c text f.0)) (onward today None None n [] (map text_of (whole_lines text)) [] [] refl refl (none_asked today (n + 1) text f.1))
+
+-- so nothing asks for what they ask for
+empties_ask : (today : ℕ) (text : List ℕ) (requests : List Request) → list_all is_line_feed text ≡ true
+    → IsScript today [] requests ↔ IsScript today text requests
+empties_ask today text requests e = (
+  λ h. subst (λ (texts : List (List ℕ)). Remain today None 1 texts requests) (sym (texts_of_lines text)) (subst (Remain today None 1 (map text_of (whole_lines text))) (sym (only_none today None 1 requests h)) (none_asked today 1 text e)),
+  λ h. subst (Remain today None 1 []) (sym (asks_none today 1 text requests e (subst (λ (texts : List (List ℕ)). Remain today None 1 texts requests) (texts_of_lines text) h))) (none_left today None 1),
+)
+
+left_asks : (today : ℕ) (refusals : List ScriptFault) (text : List ℕ) (requests : List Request)
+    → IsScript today (left_of refusals text) requests ↔ IsScript today text requests
+left_asks today [] text requests = (λ h. h, λ h. h)
+left_asks today (fault ∷ refusals) text requests = cases (list_all is_line_feed text) (list_all is_line_feed text) refl
+    (λ e. rw e (empties_ask today text requests e))
+    (λ e. rw e (λ h. h, λ h. h))
 
 -- ---- laws
 
 pub kept_right : (today : ℕ) (bytes : List ℕ) (requests : List Request)
-    → IsScript today (cleaned_text bytes) requests → AreRight today bytes requests
+    → IsScript today (lines_left bytes) requests → AreRight today bytes requests
 kept_right today bytes requests h =
     subst (λ (texts : List (List ℕ)). AreAsked today at_start 1 texts requests) (sym (texts_of_lines bytes)) (remain_asked today at_start 1 (whole_lines bytes) requests (subst (λ (texts : List (List ℕ)). Remain today None 1 texts requests) (cleaned_texts bytes) h))
 
 pub right_kept : (today : ℕ) (bytes : List ℕ) (requests : List Request)
-    → AreRight today bytes requests → IsScript today (cleaned_text bytes) requests
+    → AreRight today bytes requests → IsScript today (lines_left bytes) requests
 right_kept today bytes requests h =
     subst (λ (texts : List (List ℕ)). Remain today None 1 texts requests) (sym (cleaned_texts bytes)) (asked_remain today at_start 1 (whole_lines bytes) requests (subst (λ (texts : List (List ℕ)). AreAsked today at_start 1 texts requests) (texts_of_lines bytes) h))
 
 pub right_lines : RightLinesAreKept
-right_lines today bytes requests = (kept_right today bytes requests, right_kept today bytes requests)
+right_lines today bytes requests =
+    let left : IsScript today (cleaned_text bytes) requests ↔ IsScript today (lines_left bytes) requests = left_asks today (refusals_of bytes) (lines_left bytes) requests in
+    (λ h. kept_right today bytes requests (left.0 h), λ h. left.1 (right_kept today bytes requests h))
 
 -- where a script is read as it stands nothing is refused
 pub record IsUnchanged (message : Message) (number : ℕ) (whole : List (List ℕ)) : Type 0 where
@@ -236,4 +287,4 @@ unchanged today message number (line ∷ whole) all h =
 pub stays : RightScriptsStay
 stays today bytes requests h =
     let u = unchanged today None 1 (whole_lines bytes) requests (subst (λ (texts : List (List ℕ)). Remain today None 1 texts requests) (texts_of_lines bytes) h) in
-    (ap concat u.same ∙ joined bytes, u.none)
+    (ap (λ (refusals : List ScriptFault). left_of refusals (lines_left bytes)) u.none ∙ (ap concat u.same ∙ joined bytes), u.none)

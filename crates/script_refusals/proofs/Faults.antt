@@ -1,7 +1,8 @@
 -- The fault for which a script is refused as it stands is its first refusal, and the script without its wrong lines has none.
-use Rattle.std.proofs.Common.{◌≡◌, ℕ, zero, suc, ◌+◌, ◌-◌, ◌≤◌, ◌<◌, List, [], ◌∷◌, length, map, Some, None, Result, Ok, Err, refl, sym, ap, subst, ◌∙◌, arith}
+use Rattle.std.proofs.Common.{◌≡◌, ℕ, zero, suc, ◌+◌, ◌-◌, ◌≤◌, ◌<◌, true, false, List, [], ◌∷◌, length, map, Some, None, Result, Ok, Err, refl, sym, ap, subst, ◌∙◌, arith}
+use Rattle.std.specs.List.{list_all}
 use Rattle.std.specs.Str.Lines.{lines}
-use Rattle.airline_base.specs.Lines.{line_at}
+use Rattle.airline_base.specs.Lines.{is_line_feed, line_at}
 use Rattle.airline_base.specs.Reach.{fault_at, reach}
 use Rattle.airline_base.proofs.LineCuts.{lines_are}
 use Rattle.airline_base.proofs.Reaches.{reach_front, then_takes}
@@ -9,11 +10,11 @@ use Rattle.airimp_lines.specs.Steps.{IsFirstFault, Message, at_end, next, step, 
 use Rattle.airimp_lines.specs.declared.fault.ScriptFault.{ScriptFault}
 use Rattle.airimp_lines.specs.declared.fault.ScriptKind.{ScriptKind}
 use Rattle.script_refusals.specs.Asking.{BeginsWith, CleanedIsRight, FirstRefusalIsTheFault}
-use Rattle.script_refusals.specs.Cleaning.{at_start, cleaned_lines, cleaned_text, passage_behind, refusals_from, refusals_of, text_of, whole_lines}
+use Rattle.script_refusals.specs.Cleaning.{at_start, cleaned_lines, left_of, lines_left, passage_behind, refusals_from, refusals_of, text_of, whole_lines}
 use Rattle.script_refusals.specs.declared.cleaning.Passage.{Passage}
 use Rattle.script_refusals.specs.declared.cleaning.Passage.TheVariants.{Right}
 use Rattle.script_refusals.proofs.Asking.{cleaned_texts, is_step, message_at}
-use Rattle.script_refusals.proofs.Lines.{texts_of_lines}
+use Rattle.script_refusals.proofs.Lines.{cases, texts_of_lines}
 
 -- ---- a fault, line by line
 
@@ -130,7 +131,24 @@ none_at (suc place) number passage (line ∷ whole) kind (after, e, more) =
     same : {m n : Message} → ◌≡◌ {A = Result Message ScriptKind} (Ok m) (Ok n) → m ≡ n
     same a = cc
 
+-- a fault of what is left stands in the lines that are left
+none_left : (refusals : List ScriptFault) (text : List ℕ) (line : ℕ) (kind : ScriptKind) → IsFirstFault (left_of refusals text) line kind
+    → IsFirstFault text line kind
+none_left [] text line kind h = h
+none_left (fault ∷ refusals) text line kind h = cases (list_all is_line_feed text) (list_all is_line_feed text) refl
+    (λ e. absurd (no_line (subst (λ (left : List ℕ). IsFirstFault left line kind) (nothing e) h)))
+    (λ e. subst (λ (left : List ℕ). IsFirstFault left line kind) (everything e) h)
+  where
+    no_line : IsFirstFault [] line kind → ⊥
+    no_line k = (fails [] line kind k).1
+
+    nothing : list_all is_line_feed text ≡ true → left_of (fault ∷ refusals) text ≡ []
+    nothing e = rw e refl
+
+    everything : list_all is_line_feed text ≡ false → left_of (fault ∷ refusals) text ≡ text
+    everything e = rw e refl
+
 pub none : CleanedIsRight
 none bytes line kind h =
-    let f = fails (cleaned_text bytes) line kind h in
+    let f = fails (lines_left bytes) line kind (none_left (refusals_of bytes) (lines_left bytes) line kind h) in
     none_at (line - 1) 1 at_start (whole_lines bytes) kind (subst (λ (texts : List (List ℕ)). Fails None texts (line - 1) kind) (cleaned_texts bytes) f.1)

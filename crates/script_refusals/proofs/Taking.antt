@@ -1,6 +1,6 @@
 -- Taking the lines of a script one by one.
 use Rattle.std.proofs.Common.{◌≡◌, ℕ, ◌+◌, ◌-◌, ◌<◌, Bool, true, false, cond, ◌==◌, List, [], ◌∷◌, ◌++◌, length, take, drop, Option, Some, None, Ok, Err, nat_lt, refl, sym, ap, subst, ◌∙◌, arith, append_assoc, append-nil}
-use Rattle.std.specs.List.{concat, position}
+use Rattle.std.specs.List.{concat, list_all, position}
 use Rattle.std.proofs.lemmas.Bool.{ltb-false}
 use Rattle.std.proofs.lemmas.Bool.Decides.{nat_tests}
 use Rattle.std.proofs.lemmas.List.{drop_all, length-drop, nil_from_length, take_all}
@@ -8,7 +8,7 @@ use Rattle.airline_base.specs.Lines.{is_line_feed, line_at}
 use Rattle.airimp_lines.specs.Steps.{Message, step}
 use Rattle.airimp_lines.specs.declared.fault.ScriptFault.{ScriptFault}
 use Rattle.airimp_lines.specs.declared.fault.ScriptKind.{ScriptKind}
-use Rattle.script_refusals.specs.Cleaning.{cleaned_lines, cleaned_text, fault_in, kept, line_refused, own_refusal, passage_behind, passage_refused, refusals_from, refusals_of, text_of, whole_lines}
+use Rattle.script_refusals.specs.Cleaning.{cleaned_lines, fault_in, kept, left_of, line_refused, lines_left, own_refusal, passage_behind, passage_refused, refusals_from, refusals_of, text_of, whole_lines}
 use Rattle.script_refusals.specs.declared.cleaning.Passage.{Passage}
 use Rattle.script_refusals.specs.declared.cleaning.Passage.TheVariants.{Right, Refused}
 use Rattle.script_refusals.proofs.Lines.{place_of, whole_lines_are}
@@ -120,10 +120,10 @@ on_passage whole words b w e off = subst (λ (text : List ℕ). Refused ≡ pass
 -- ---- a line further
 
 pub text_further : (bytes rest whole after text more : List ℕ) (passage next : Passage)
-    → cleaned_text bytes ≡ text ++ concat (cleaned_lines passage (whole_lines rest))
+    → lines_left bytes ≡ text ++ concat (cleaned_lines passage (whole_lines rest))
     → whole_lines rest ≡ whole ∷ whole_lines after
     → next ≡ passage_behind passage (text_of whole) → more ≡ text ++ kept passage whole
-    → cleaned_text bytes ≡ more ++ concat (cleaned_lines next (whole_lines after))
+    → lines_left bytes ≡ more ++ concat (cleaned_lines next (whole_lines after))
 text_further bytes rest whole after text more passage next is lines n m =
     is ∙ rw (lines, n, m) (sym (append_assoc text (kept passage whole) (concat (cleaned_lines (passage_behind passage (text_of whole)) (whole_lines after)))))
 
@@ -140,8 +140,8 @@ refusals_further bytes rest whole after refusals more passage next line is lines
 -- ---- the end
 
 pub text_done : (bytes rest text : List ℕ) (passage : Passage)
-    → cleaned_text bytes ≡ text ++ concat (cleaned_lines passage (whole_lines rest)) → length rest ≡ 0
-    → text ≡ cleaned_text bytes
+    → lines_left bytes ≡ text ++ concat (cleaned_lines passage (whole_lines rest)) → length rest ≡ 0
+    → text ≡ lines_left bytes
 text_done bytes rest text passage is none =
     let nil : rest ≡ [] = nil_from_length rest none in
     sym (is ∙ rw nil (append-nil text))
@@ -152,3 +152,15 @@ pub refusals_done : (bytes rest : List ℕ) (refusals : List ScriptFault) (passa
 refusals_done bytes rest refusals passage line is none =
     let nil : rest ≡ [] = nil_from_length rest none in
     sym (is ∙ rw nil (append-nil refusals))
+
+-- ---- what is left
+
+pub nothing_left : (refusals : List ScriptFault) (text : List ℕ) (b : Bool) → 0 < length refusals → b ≡ list_all is_line_feed text → b ≡ true
+    → [] ≡ left_of refusals text
+nothing_left [] text b some e on = absurd (omega (arith, some))
+nothing_left (fault ∷ refusals) text b some e on = let all : list_all is_line_feed text ≡ true = sym e ∙ on in rw all refl
+
+pub all_left : (refusals : List ScriptFault) (text : List ℕ) (b : Bool) → b ≡ list_all is_line_feed text → b ≡ false
+    → text ≡ left_of refusals text
+all_left [] text b e off = refl
+all_left (fault ∷ refusals) text b e off = let not_all : list_all is_line_feed text ≡ false = sym e ∙ off in rw not_all refl

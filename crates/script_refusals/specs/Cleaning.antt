@@ -1,6 +1,6 @@
--- A script without its wrong lines: what stands in the place of each, and why it is refused. It has as many lines.
+-- A script without its wrong lines: what stands in the place of each, and why it is refused. It has as many lines, or none.
 use Rattle.std.specs.Prelude.{ℕ, ◌+◌, ◌++◌, if◌then◌else◌, List, [], ◌∷◌, Option, Some, None, Result, Ok, Err}
-use Rattle.std.specs.List.{concat, onto_first}
+use Rattle.std.specs.List.{concat, list_all, onto_first}
 use Rattle.airline_base.specs.Lines.{is_line_feed, line_at}
 use Rattle.airimp_lines.specs.Steps.{Message, step}
 use Rattle.airimp_lines.specs.declared.fault.ScriptFault.{ScriptFault}
@@ -98,8 +98,17 @@ refusals_from passage number (line ∷ lines) =
 abbrev pub at_start : Passage
 at_start = Right None
 
-abbrev pub cleaned_text : List ℕ → List ℕ
-cleaned_text bytes = concat (cleaned_lines at_start (whole_lines bytes))
-
 abbrev pub refusals_of : List ℕ → List ScriptFault
 refusals_of bytes = refusals_from at_start 1 (whole_lines bytes)
+
+-- each line that is kept, and what stands in the place of the others
+abbrev pub lines_left : List ℕ → List ℕ
+lines_left bytes = concat (cleaned_lines at_start (whole_lines bytes))
+
+-- where lines are refused and nothing is left but empty lines, nothing is left, so that the script is like no other one
+abbrev pub left_of : List ScriptFault → List ℕ → List ℕ
+left_of [] text = text
+left_of (fault ∷ refusals) text = if list_all is_line_feed text then [] else text
+
+abbrev pub cleaned_text : List ℕ → List ℕ
+cleaned_text bytes = left_of (refusals_of bytes) (lines_left bytes)

@@ -1,6 +1,8 @@
 //! A script without its wrong lines.
 ghost use Rattle.std.specs.Prelude.{◌≡◌, ◌<◌, ◌^◌, ◌++◌, [], ◌∷◌, IfOk, OnOk, length};
-ghost use Rattle.script_refusals.specs.Cleaning.{cleaned_text, empty_line, fault_in, kept, line_refused, own_refusal, passage_behind, passage_refused, refusals_of, text_of, whole_lines};
+ghost use Rattle.std.specs.List.{list_all};
+ghost use Rattle.airline_base.specs.Lines.{is_line_feed};
+ghost use Rattle.script_refusals.specs.Cleaning.{cleaned_text, empty_line, fault_in, kept, left_of, line_refused, lines_left, own_refusal, passage_behind, passage_refused, refusals_of, text_of, whole_lines};
 
 use airimp_lines::{ScriptFault, ScriptKind, read_line};
 use airline_base::lines::{cut_line, line_end};
@@ -22,7 +24,8 @@ pub enum Passage {
 /// A script without its wrong lines.
 #[derive(Drop)]
 pub struct Cleaned {
-    /// The script, with a line that asks for nothing in the place of each that is refused, by itself or with its message.
+    /// The script, with a line that asks for nothing in the place of each that is refused, by itself or with its message. Where lines are refused and nothing is
+    /// left but empty lines, it has no byte.
     pub text: Vec<u8>,
     /// The lines that are refused, in order: of those that are refused together the first alone.
     pub refusals: Items<ScriptFault>,
@@ -35,6 +38,35 @@ pub struct Cleaned {
 pub fn without_wrong_lines(alloc: Global, bytes: &[u8]) -> Result<Cleaned, Memory>
     requires size { length bytes.now < 2 ^ 32 }
     ensures text { IfOk result (λ cleaned. cleaned.text.items ≡ cleaned_text bytes.now) }
+    ensures refusals { IfOk result (λ cleaned. cleaned.refusals ≡ refusals_of bytes.now) }
+{
+    let Cleaned { text, refusals } = take_lines(alloc, bytes)?;
+    let text = left_of(text, refusals.as_slice());
+    Ok(Cleaned { text, refusals })
+}
+
+/// Nothing, where lines are refused and nothing is left but empty lines: two such scripts would be taken for one.
+#[tactic(auto, using(crate::proofs::Taking::nothing_left, crate::proofs::Taking::all_left))]
+fn left_of(text: Vec<u8>, refusals: &[ScriptFault]) -> Vec<u8>
+    ensures { result.items ≡ left_of refusals.now text.items }
+{
+    let mut left = text;
+    if !refusals.is_empty() && are_line_feeds(&left) {
+        left.clear();
+    }
+    left
+}
+
+fn are_line_feeds(text: &[u8]) -> bool
+    ensures { result ≡ list_all is_line_feed text.now }
+{
+    text.iter().all(|byte| *byte == b'\n')
+}
+
+/// Takes all lines one by one.
+fn take_lines(alloc: Global, bytes: &[u8]) -> Result<Cleaned, Memory>
+    requires size { length bytes.now < 2 ^ 32 }
+    ensures text { IfOk result (λ cleaned. cleaned.text.items ≡ lines_left bytes.now) }
     ensures refusals { IfOk result (λ cleaned. cleaned.refusals ≡ refusals_of bytes.now) }
 {
     let mut text = Vec::new(alloc);

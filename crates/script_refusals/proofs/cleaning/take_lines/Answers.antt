@@ -1,6 +1,6 @@
 use Rattle.std.proofs.Common.{◌+◌, arith}
 use Rattle.script_refusals.proofs.Taking.{done_is, not_done, refusals_done, refusals_further, text_done, text_further}
-use Rattle.script_refusals.proofs.cleaning.without_wrong_lines.Goals as goal
+use Rattle.script_refusals.proofs.cleaning.take_lines.Goals as goal
 
 pub loop-rest-preserved : goal.loop-rest-preserved
 loop-rest-preserved c =
