@@ -71,13 +71,15 @@ impl Waiting {
         true
     }
 
-    // All that waits, in its order.
+    // All that waits, in its order. What `said` had is given up, and does not wait again.
     fn hand_over(&mut self, said: &mut Vec<Said>)
         ensures all { said.new ≡ self.old.said }
-        ensures none { self.new.said ≡ said.old }
+        ensures none { self.new.said.items ≡ [] }
+        ensures room { vec_capacity self.new.said ≡ vec_capacity said.old }
         ensures served { self.new.is_woken ≡ false }
         ensures same { (self.new.unanswered ≡ self.old.unanswered) × (self.new.held ≡ self.old.held) × (self.new.is_over ≡ self.old.is_over) }
     {
+        said.clear();
         mem::swap(&mut self.said, said);
         self.is_woken = false;
     }

@@ -76,13 +76,14 @@ impl Text {
         false
     }
 
-    // All that waits, in its order. Whether somebody waits for room.
+    // All that waits, in its order. What `bytes` had is given up, and does not wait again. Whether somebody waits for room.
     fn hand_over(&mut self, bytes: &mut Vec<u8>) -> bool
         ensures all { bytes.new ≡ self.old.bytes }
-        ensures none { self.new.bytes ≡ bytes.old }
+        ensures none { self.new.bytes.items ≡ [] }
         ensures awaited { result ≡ self.old.is_awaited }
         ensures served { self.new.is_awaited ≡ false }
     {
+        bytes.clear();
         mem::swap(&mut self.bytes, bytes);
         self.is_writing = true;
         let is_awaited = self.is_awaited;
@@ -165,7 +166,7 @@ impl Outbox {
         has_room
     }
 
-    /// Waits for a text, and takes it. Nothing is taken where all is over. Whether somebody waits for room.
+    /// Waits for a text, and takes it. What `bytes` had is given up. Nothing is taken where all is over. Whether somebody waits for room.
     pub fn take<R: Wait>(&self, rt: &R, bytes: &mut Vec<u8>) -> bool {
         let guard = self.text.lock(rt);
         let mut text = self
