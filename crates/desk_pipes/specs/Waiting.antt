@@ -1,5 +1,7 @@
 -- Lines that wait for the host, and texts that wait for a desk.
-use Rattle.std.specs.Prelude.{◌≡◌, ℕ, ◌==◌, ◌&&◌, Bool, true, false, not, nat_le, nat_lt, List, ◌++◌, codes, length, Option, Some, None}
+use Rattle.std.specs.Prelude.{◌≡◌, ◌<◌, ◌-◌, ℕ, ◌==◌, ◌&&◌, Bool, true, false, not, nat_le, nat_lt, List, [], ◌∷◌, ◌++◌, codes, get_or, length, set, Option, Some, None}
+use Rattle.desk_pipes.specs.Watching.{one_more}
+use Rattle.desk_pipes.specs.declared.inbox.Said.{Said}
 
 -- the most lines of a desk that are not answered
 abbrev pub most_open : ℕ
@@ -28,6 +30,19 @@ is_free (Some held) = not held
 -- whether each line that a desk has said is answered: while it is told piece by piece its last is not
 abbrev pub is_settled : Option ℕ → Option Bool → Bool
 is_settled unanswered held = are_answered unanswered && is_free held
+
+-- one line more of a session is not answered
+abbrev pub one_open : List ℕ → ℕ → List ℕ
+one_open unanswered session = set unanswered session (one_more (get_or unanswered session 0))
+
+-- one fewer is not
+abbrev pub one_answered : List ℕ → ℕ → List ℕ
+one_answered unanswered session = set unanswered session (get_or unanswered session 0 - 1)
+
+-- how many of each session are not, behind the answers to these
+abbrev pub behind_answers : List ℕ → List Said → List ℕ
+behind_answers unanswered [] = unanswered
+behind_answers unanswered (one ∷ said) = behind_answers (one_answered unanswered one.session) said
 
 -- what waits for a desk behind a text, and whether a text was left out: where too much waits that is said once, and then nothing more
 abbrev pub text_told : Bool → Bool → List ℕ → List ℕ → List ℕ

@@ -1,8 +1,9 @@
 //! Lines that wait for the host, in the order in which they came.
 ghost use Rattle.std.specs.Prelude.{◌≡◌, ◌&&◌, ◌∷◌, ◌++◌, ◌+◌, ◌<◌, [], false, true, IfOk, nat_lt, slice_get, if◌then◌else◌, vec_capacity, vec_len};
-ghost use Rattle.desk_pipes.specs.Waiting.{are_answered, is_free, is_settled, may_say};
+ghost use Rattle.desk_pipes.specs.Waiting.{are_answered, behind_answers, is_free, is_settled, may_say, one_answered, one_open};
 
 use crate::cutting::HeldLine;
+use crate::watch::one_more;
 use airline_base::Memory;
 use std::alloc::Global;
 use std::mem;
@@ -54,19 +55,18 @@ impl Waiting {
         are_answered(count_of(&self.unanswered, session)) && is_free(&self.held, session)
     }
 
-    // Whether the line waits: it stands behind all that do.
+    // Whether the line waits: it stands behind all that do, and is one more of its session that is not answered.
     fn add(&mut self, said: Said) -> bool
         ensures comes { result ≡ (may_say self.old.is_over (slice_get self.old.unanswered said.session)
             && nat_lt (vec_len self.old.said) (vec_capacity self.old.said)) }
         ensures lines { self.new.said.items ≡ (if result then self.old.said.items ++ said ∷ [] else self.old.said.items) }
-        ensures over { self.new.is_over ≡ self.old.is_over }
+        ensures counted { self.new.unanswered ≡ (if result then one_open self.old.unanswered said.session else self.old.unanswered) }
+        ensures same { (self.new.held ≡ self.old.held) × (self.new.is_woken ≡ self.old.is_woken) × (self.new.is_over ≡ self.old.is_over) }
     {
         if !self.may_say(said.session) {
             return false;
         }
-        if let Some(count) = self.unanswered.get_mut(usize::from(said.session)) {
-            *count = count.saturating_add(1);
-        }
+        count_up(&mut self.unanswered, said.session);
         self.said.push_reserved(said);
         true
     }
@@ -86,6 +86,7 @@ impl Waiting {
 
     // These lines are answered, but for the last of the sessions that are told piece by piece from then on.
     fn answered(&mut self, said: &[Said], held: [bool; 9])
+        ensures counted { self.new.unanswered ≡ behind_answers self.old.unanswered said.now }
         ensures held { self.new.held ≡ held }
         ensures same { (self.new.said ≡ self.old.said) × (self.new.is_woken ≡ self.old.is_woken) × (self.new.is_over ≡ self.old.is_over) }
     {
@@ -102,11 +103,33 @@ impl Waiting {
     }
 }
 
-fn count_down(unanswered: &mut [u32; 9], said: &[Said]) {
-    for one in said {
-        if let Some(count) = unanswered.get_mut(usize::from(one.session)) {
-            *count = count.saturating_sub(1);
-        }
+// One line more of a session is not answered.
+fn count_up(unanswered: &mut [u32; 9], session: u8)
+    ensures { unanswered.new ≡ one_open unanswered.old session }
+{
+    let place = usize::from(session);
+    if place < unanswered.len() {
+        unanswered[place] = one_more(unanswered[place]);
+    }
+}
+
+// Each of these lines is answered.
+fn count_down(unanswered: &mut [u32; 9], said: &[Said])
+    ensures { unanswered.new ≡ behind_answers unanswered.old said.now }
+{
+    let mut rest = said;
+    while let [one, more @ ..] = rest {
+        count_one_down(unanswered, one.session);
+        rest = more;
+    }
+}
+
+fn count_one_down(unanswered: &mut [u32; 9], session: u8)
+    ensures { unanswered.new ≡ one_answered unanswered.old session }
+{
+    let place = usize::from(session);
+    if place < unanswered.len() {
+        unanswered[place] = unanswered[place].saturating_sub(1);
     }
 }
 

@@ -89,7 +89,8 @@ impl Passed {
     }
 }
 
-fn one_more(count: u32) -> u32
+/// Counted up to the highest number.
+pub(crate) fn one_more(count: u32) -> u32
     ensures { result ≡ one_more count }
 {
     count.saturating_add(1)
