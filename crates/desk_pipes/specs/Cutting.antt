@@ -1,5 +1,5 @@
 -- Bytes that come in pieces, cut into lines.
-use Rattle.std.specs.Prelude.{◌≡◌, ℕ, List, [], ◌∷◌, ◌++◌, map, take, if◌then◌else◌}
+use Rattle.std.specs.Prelude.{◌≡◌, ℕ, List, [], ◌∷◌, ◌++◌, take, if◌then◌else◌}
 use Rattle.airline_base.specs.Lines.{is_line_feed}
 
 -- of a line 257 bytes are held, which is enough to tell that it is too long

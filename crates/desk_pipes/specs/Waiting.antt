@@ -62,10 +62,19 @@ most_ahead = 65_536
 abbrev pub has_room : List ℕ → Bool
 has_room bytes = nat_lt (length bytes) most_ahead
 
--- a text that waits for a session's desk
+-- a text for a session's desk
 pub record Posted : Type 0 where
   pub session : ℕ
   pub text : List ℕ
+
+-- whether a piece more may wait for a session's desk
+pub record Roomed : Type 0 where
+  pub session : ℕ
+  pub is_there : Bool
+
+-- the outbox of each session's desk stands at its number
+pub record AreNumbered (sessions : List ℕ) : Type 0 where
+  pub at : (n : ℕ) → n < length sessions → get_or sessions n 0 ≡ n
 
 -- whether something is to be written for a desk: where nobody writes nothing is
 abbrev pub is_owed : Bool → Bool → List ℕ → Bool

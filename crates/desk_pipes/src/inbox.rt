@@ -6,6 +6,7 @@ use crate::cutting::HeldLine;
 use crate::watch::one_more;
 use airline_base::Memory;
 use std::alloc::Global;
+use std::marker::Model;
 use std::mem;
 use std::sync::{Condvar, Mutex, Wait};
 
@@ -24,6 +25,37 @@ pub struct Said {
     pub is_earlier: bool,
     /// How many lines of the desk were answered where they were read, behind the last that waited and ahead of this one.
     pub passed: u32,
+}
+
+/// Lines that were taken to be answered, in their order.
+#[derive(Drop)]
+pub struct Taken {
+    said: Vec<Said>,
+}
+
+impl Model for Taken {
+    ghost use Rattle.std.specs.Prelude.{List};
+    ghost use Rattle.desk_pipes.specs.declared.inbox.Said.{Said};
+
+    ghost Value = { List Said };
+
+    ghost view = { λ s. s.said.items };
+}
+
+impl Taken {
+    /// None, and room for as many as may wait.
+    pub fn none(alloc: Global) -> Result<Taken, Memory>
+        ensures { IfOk result (λ taken. taken ≡ []) }
+    {
+        let said = room_for_lines(alloc)?;
+        Ok(Taken { said })
+    }
+
+    pub fn as_slice(&self) -> &[Said]
+        ensures { result.now ≡ self.now }
+    {
+        self.said.as_slice()
+    }
 }
 
 /// What lies under the lock.
@@ -206,13 +238,13 @@ impl Inbox {
     }
 
     /// Waits until something was said or somebody woke the host, unless it has something to do, and takes all that was said, in its order.
-    /// What `said` had is given up.
-    pub fn take<R: Wait>(&self, rt: &R, said: &mut Vec<Said>, waits: bool) {
+    /// What was taken before is given up.
+    pub fn take<R: Wait>(&self, rt: &R, taken: &mut Taken, waits: bool) {
         let guard = self.waiting.lock(rt);
         let mut waiting = self.came.wait_while(rt, guard, |waiting| {
             waits && waiting.said.is_empty() && !waiting.is_woken && !waiting.is_over
         });
-        waiting.hand_over(said);
+        waiting.hand_over(&mut taken.said);
         drop(waiting);
     }
 
@@ -224,10 +256,10 @@ impl Inbox {
         self.came.notify_one();
     }
 
-    /// These lines are answered: their sessions may say more. The last line of a session that is held is not, until it is held no more.
-    pub fn let_more<R: Wait>(&self, rt: &R, said: &[Said], held: [bool; 9]) {
+    /// What was taken is answered: its sessions may say more. The last line of a session that is held is not, until it is held no more.
+    pub fn let_more<R: Wait>(&self, rt: &R, taken: &Taken, held: [bool; 9]) {
         let mut waiting = self.waiting.lock(rt);
-        waiting.answered(said, held);
+        waiting.answered(taken.as_slice(), held);
         drop(waiting);
         self.answered.notify_all();
     }
@@ -253,8 +285,8 @@ impl Inbox {
     }
 }
 
-/// Room for as many lines as may wait.
-pub fn room_for_lines(alloc: Global) -> Result<Vec<Said>, Memory>
+// Room for as many lines as may wait.
+fn room_for_lines(alloc: Global) -> Result<Vec<Said>, Memory>
     ensures { IfOk result (λ said. said.items ≡ []) }
 {
     Ok(Vec::with_capacity(alloc, MOST_LINES)?)

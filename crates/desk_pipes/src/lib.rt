@@ -5,8 +5,10 @@
 mod cutting;
 mod inbox;
 pub mod laws;
+mod letter;
 mod mark;
 mod outbox;
+mod outboxes;
 mod outlook;
 mod pipe_file;
 mod post;
@@ -14,13 +16,14 @@ mod threads;
 mod watch;
 
 pub use cutting::HeldLine;
-pub use inbox::{Inbox, Said, room_for_lines};
+pub use inbox::{Inbox, Said, Taken};
+pub use letter::Letter;
 pub use mark::Mark;
-pub use outbox::Outbox;
+pub use outbox::{Outbox, Room};
 pub use outlook::{LooksGoBy, Outlook};
 pub use pipe_file::{
     PipeFault, PipeId, Role, Unopened, are_swapped, fault_of, open_pipe, pass_pair,
 };
-pub use post::{Delivered, DeliveredTo, Post};
+pub use post::{Delivered, DeliveredEach, Post};
 pub use threads::{mark_pipe, read_desk, start_writer, write_desk};
-pub use watch::{Unwatched, Watch, Watched};
+pub use watch::{Watch, Watched};

@@ -2,7 +2,9 @@
 ghost use Rattle.std.specs.Prelude.{◌≡◌, ◌||◌, [], true, false, not, if◌then◌else◌, OnErr, OnOk};
 ghost use Rattle.desk_pipes.specs.Waiting.{has_room, is_full, is_owed, text_told};
 
+use crate::letter::Letter;
 use std::alloc::{AllocError, Global};
+use std::marker::Model;
 use std::mem;
 use std::sync::{Condvar, Mutex, Wait};
 use std::time::{Clock, Duration};
@@ -51,6 +53,16 @@ impl Text {
         Ok(())
     }
 
+    // Adds what a letter says, in the same way.
+    fn add_letter<L: Letter>(&mut self, letter: &L) -> Result<(), AllocError>
+        ensures text { OnOk result (self.new.bytes.items
+            ≡ text_told self.old.is_lost (is_full self.old.bytes.items) self.old.bytes.items (L.posted letter.now).text) }
+        ensures lost { OnOk result (self.new.is_lost ≡ (self.old.is_lost || is_full self.old.bytes.items)) }
+        ensures memory { OnErr result ((self.new.bytes.items ≡ self.old.bytes.items) × (self.new.is_lost ≡ true)) }
+    {
+        self.add(letter.text())
+    }
+
     // Adds the last text, where there is room: nothing is added behind it, unless a client begins.
     fn add_last(&mut self, last: &[u8]) -> Result<(), AllocError>
         ensures text { OnOk result (self.new.bytes.items
@@ -63,17 +75,24 @@ impl Text {
         added
     }
 
-    // Whether a piece more may wait. Where it may not, whoever takes what waits is to wake who asks.
-    fn has_room(&mut self) -> bool
-        ensures room { result ≡ has_room self.old.bytes.items }
-        ensures awaited { self.new.is_awaited ≡ (self.old.is_awaited || not result) }
+    // Whether a piece more may wait for a session's desk. Where it may not, whoever takes what waits is to wake who asks.
+    fn room(&mut self, session: u8) -> Room
+        ensures own { result.session ≡ session }
+        ensures room { result.is_there ≡ has_room self.old.bytes.items }
+        ensures awaited { self.new.is_awaited ≡ (self.old.is_awaited || not result.is_there) }
         ensures same { (self.new.bytes ≡ self.old.bytes) × (self.new.is_lost ≡ self.old.is_lost) × (self.new.is_over ≡ self.old.is_over) }
     {
         if self.bytes.len() < MOST_AHEAD {
-            return true;
+            return Room {
+                session,
+                is_there: true,
+            };
         }
         self.is_awaited = true;
-        false
+        Room {
+            session,
+            is_there: false,
+        }
     }
 
     // All that waits, in its order. What `bytes` had is given up, and does not wait again. Whether somebody waits for room.
@@ -110,18 +129,63 @@ impl Text {
     }
 }
 
-/// A text waits in it under a lock.
+/// Whether a piece more may wait for a session's desk. Only who asks its outbox has it.
+#[derive(Drop)]
+pub struct Room {
+    session: u8,
+    is_there: bool,
+}
+
+impl Model for Room {
+    ghost use Rattle.desk_pipes.specs.Waiting.{Roomed};
+
+    ghost Value = { Roomed };
+
+    ghost view = { λ s. record { session = s.session; is_there = s.is_there } };
+}
+
+impl Room {
+    /// There is none for a session that no desk has.
+    pub(crate) fn nowhere(session: u8) -> Room
+        ensures { (result.session ≡ session) × (result.is_there ≡ false) }
+    {
+        Room {
+            session,
+            is_there: false,
+        }
+    }
+
+    pub fn is_there(&self) -> bool
+        ensures { result ≡ self.now.is_there }
+    {
+        self.is_there
+    }
+}
+
+/// A text waits in it under a lock, for the desk of one session.
 #[derive(Drop)]
 pub struct Outbox {
+    session: u8,
     text: Mutex<Text>,
     came: Condvar,
     written: Condvar,
 }
 
+impl Model for Outbox {
+    ghost use Rattle.std.specs.Prelude.{ℕ};
+
+    ghost Value = { ℕ };
+
+    ghost view = { λ s. s.session };
+}
+
 impl Outbox {
-    /// Nothing waits, and nobody writes what will.
-    pub fn new(alloc: Global) -> Outbox {
+    /// That of a session's desk. Nothing waits, and nobody writes what will.
+    pub fn new(alloc: Global, session: u8) -> Outbox
+        ensures { result ≡ session }
+    {
         Outbox {
+            session,
             text: Mutex::new(Text {
                 bytes: Vec::new(alloc),
                 is_lost: false,
@@ -135,10 +199,12 @@ impl Outbox {
         }
     }
 
-    /// Lets a text wait. It waits for nobody.
-    pub fn tell<R: Wait>(&self, rt: &R, bytes: &[u8]) {
+    /// Lets a letter to its session's desk wait. It waits for nobody.
+    pub fn tell<R: Wait, L: Letter>(&self, rt: &R, letter: &L)
+        requires own { (L.posted letter.now).session ≡ self.now }
+    {
         let mut text = self.text.lock(rt);
-        let _ = text.add(bytes);
+        let _ = text.add_letter(letter);
         drop(text);
         self.came.notify_one();
     }
@@ -159,11 +225,13 @@ impl Outbox {
     }
 
     /// Whether a piece more may wait. Where it may not, `take` says so.
-    pub fn has_room<R: Wait>(&self, rt: &R) -> bool {
+    pub fn room<R: Wait>(&self, rt: &R) -> Room
+        ensures own { result.session ≡ self.now }
+    {
         let mut text = self.text.lock(rt);
-        let has_room = text.has_room();
+        let room = text.room(self.session);
         drop(text);
-        has_room
+        room
     }
 
     /// Waits for a text, and takes it. What `bytes` had is given up. Nothing is taken where all is over. Whether somebody waits for room.

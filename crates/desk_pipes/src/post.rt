@@ -1,9 +1,12 @@
-//! The inbox of all desks and the outbox of each: that of a session stands at its number, and the manager's first.
-ghost use Rattle.std.specs.Prelude.{◌≡◌, ◌+◌, IfOk, IfNone, IfSome, None, Some, length, map, slice_get};
+//! The inbox of all desks and the outbox of each. A letter goes into the outbox of its own session, and a text that is no letter into none, but for a last one, which
+//! goes into each.
+ghost use Rattle.std.specs.Prelude.{◌≡◌, IfSome};
 ghost use Rattle.airline_base.specs.Days.{IsCenturyDay};
 
 use crate::inbox::Inbox;
-use crate::outbox::Outbox;
+use crate::letter::{Answer, Letter};
+use crate::outbox::{Outbox, Room};
+use crate::outboxes::Outboxes;
 use crate::outlook::{LooksGoBy, Outlook};
 use crate::watch::{Watch, Watched};
 use airline_base::{Day, Memory};
@@ -12,75 +15,70 @@ use std::marker::Model;
 use std::sync::{Mutex, Wait};
 use std::time::Clock;
 
-/// Texts that wait to be read, the manager's first and each session's at its number. Only who delivers them has it.
+/// A letter that waits for its session's desk. Only who delivers it has it.
 #[derive(Drop)]
-pub struct Delivered {
-    texts: Vec<Vec<u8>>,
+pub struct Delivered<L: Letter + Drop> {
+    letter: L,
 }
 
-impl Model for Delivered {
-    ghost use Rattle.std.specs.Prelude.{ℕ, List, map};
+impl<L: Letter + Drop> Model for Delivered<L> {
+    ghost Value = { L };
 
-    ghost Value = { List (List ℕ) };
-
-    ghost view = { λ s. map (λ t. t.items) s.texts.items };
+    ghost view = { λ s. s.letter };
 }
 
-/// A text that waits for a session's desk. Only who delivers it has it.
+/// Letters that wait, each for its own session's desk. Only who delivers them has them.
 #[derive(Drop)]
-pub struct DeliveredTo {
-    session: u8,
-    text: Vec<u8>,
+pub struct DeliveredEach<L: Letter + Drop> {
+    letters: Vec<L>,
 }
 
-impl Model for DeliveredTo {
-    ghost use Rattle.desk_pipes.specs.Waiting.{Posted};
+impl<L: Letter + Drop> Model for DeliveredEach<L> {
+    ghost use Rattle.std.specs.Prelude.{List};
 
-    ghost Value = { Posted };
+    ghost Value = { List L };
 
-    ghost view = { λ s. record { session = s.session; text = s.text.items } };
+    ghost view = { λ s. s.letters.items };
 }
 
 /// What the host and the desks share.
 #[derive(Drop)]
 pub struct Post {
     pub inbox: Inbox,
-    pub outboxes: Vec<Outbox>,
+    outboxes: Outboxes,
     outlook: Mutex<Outlook>,
 }
 
 impl Post {
     /// For so many desks and a manager, whose looks go by this.
     pub fn new(alloc: Global, desks: u8, outlook: Outlook) -> Result<Post, Memory> {
-        let mut outboxes = Vec::new(alloc);
-        for _ in 0..=desks {
-            outboxes.push(Outbox::new(alloc))?;
-        }
         Ok(Post {
             inbox: Inbox::new(alloc)?,
-            outboxes,
+            outboxes: Outboxes::new(alloc, desks)?,
             outlook: Mutex::new(outlook),
         })
     }
 
     /// The outbox of a session's desk.
     pub fn outbox(&self, session: u8) -> Option<&Outbox>
-        ensures found { IfSome result (λ outbox. slice_get self.now.outboxes.items session ≡ Some outbox.now) }
-        ensures none { IfNone result (slice_get self.now.outboxes.items session ≡ None) }
+        ensures own { IfSome result (λ outbox. outbox.now ≡ session) }
     {
-        self.outboxes.get(usize::from(session))
+        self.outboxes.of(session)
     }
 
-    /// Lets a text wait for a session's desk.
-    pub fn tell<R: Wait>(&self, rt: &R, session: u8, text: &[u8]) {
-        if let Some(outbox) = self.outbox(session) {
-            outbox.tell(rt, text);
+    // Lets a letter wait, if it says anything.
+    fn tell<R: Wait, L: Letter>(&self, rt: &R, letter: &L) {
+        if letter.text().is_empty() {
+            return;
+        }
+        if let Some(outbox) = self.outbox(letter.session()) {
+            outbox.tell(rt, letter);
         }
     }
 
     /// Lets a last text wait for each desk, and for the manager.
     pub fn tell_each_last<R: Wait>(&self, rt: &R, text: &[u8]) {
-        for outbox in &self.outboxes {
+        for outbox in self.outboxes.as_slice() {
             outbox.tell_last(rt, text);
         }
     }
@@ -107,7 +105,11 @@ impl Post {
         let outlook = self.outlook.lock(rt);
         let watched = watch.watch(outlook.day(), outlook.count(), line);
         if let Watched::Told(text) = &watched {
-            self.tell(rt, session, text.as_slice());
+            let answer = Answer {
+                session,
+                text: text.as_slice(),
+            };
+            self.tell(rt, &answer);
         }
         drop(outlook);
         watched
@@ -125,35 +127,35 @@ impl Post {
     }
 
     /// Whether a piece more may wait for a session's desk. Where it may not, the host is woken when what waits is taken.
-    pub fn has_room<R: Wait>(&self, rt: &R, session: u8) -> bool {
+    pub fn room<R: Wait>(&self, rt: &R, session: u8) -> Room
+        ensures own { result.session ≡ session }
+    {
         match self.outbox(session) {
-            Some(outbox) => outbox.has_room(rt),
-            None => false,
+            Some(outbox) => outbox.room(rt),
+            None => Room::nowhere(session),
         }
     }
 
-    /// Lets this wait for a session's desk. It comes back as delivered.
-    pub fn deliver_to<R: Wait>(&self, rt: &R, session: u8, text: Vec<u8>) -> DeliveredTo
-        ensures { (result.session ≡ session) × (result.text ≡ text.items) }
+    /// Lets a letter wait for its session's desk. It comes back as delivered.
+    pub fn deliver<R: Wait, L: Letter + Drop>(&self, rt: &R, letter: L) -> Delivered<L>
+        ensures { result ≡ letter }
     {
-        if !text.is_empty() {
-            self.tell(rt, session, text.as_slice());
-        }
-        DeliveredTo { session, text }
+        self.tell(rt, &letter);
+        Delivered { letter }
     }
 
-    /// Lets these wait to be read, each in the outbox at its place. They come back as delivered.
-    pub fn deliver<R: Wait>(&self, rt: &R, texts: Vec<Vec<u8>>) -> Delivered
-        ensures { result ≡ map (λ t. t.items) texts.items }
+    /// Lets each of these wait for its own session's desk. They come back as delivered.
+    pub fn deliver_each<R: Wait, L: Letter + Drop>(
+        &self,
+        rt: &R,
+        letters: Vec<L>,
+    ) -> DeliveredEach<L>
+        ensures { result ≡ letters.items }
     {
-        let mut session = 0u8;
-        for text in &texts {
-            if !text.is_empty() {
-                self.tell(rt, session, text.as_slice());
-            }
-            session = session.saturating_add(1);
+        for letter in &letters {
+            self.tell(rt, letter);
         }
-        Delivered { texts }
+        DeliveredEach { letters }
     }
 
     /// A client of a session's desk begins.
@@ -166,7 +168,7 @@ impl Post {
     /// Nothing more is taken in or told. What is told already may be written, as far as it is read at once.
     pub fn end<R: Wait + Clock>(&self, rt: &R) {
         self.inbox.end(rt);
-        for outbox in &self.outboxes {
+        for outbox in self.outboxes.as_slice() {
             outbox.settle(rt);
             outbox.end(rt);
         }

@@ -219,7 +219,6 @@ pub fn write_desk<R: Wait, W: Write>(
     out.write_all(b"!\n")?;
     let mut text = Vec::new(alloc);
     for _ in rt.forever() {
-        text.clear();
         if outbox.take(rt, &mut text) {
             post.inbox.wake(rt);
         }

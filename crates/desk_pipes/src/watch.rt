@@ -30,20 +30,6 @@ pub trait Watch {
         requires today { IsCenturyDay today };
 }
 
-/// Every line waits for the host.
-#[derive(Drop)]
-pub struct Unwatched;
-
-impl Watch for Unwatched {
-    fn watch(&mut self, _today: Day, _lines: u32, _line: &[u8]) -> Watched {
-        Watched::Heard
-    }
-
-    fn pass(&mut self, _today: Day, _line: &[u8]) -> bool {
-        false
-    }
-}
-
 /// How many lines of a desk were answered where they were read, since one was handed on to the host.
 #[derive(Clone, Copy)]
 pub(crate) struct Passed {
