@@ -1,6 +1,7 @@
 -- The list of refused lines, and how a list that was written before stands to it.
 use Rattle.std.specs.Prelude.{◌≡◌, ◌==◌, ◌&&◌, ◌||◌, nat_eq, ℕ, Bool, false, ◌+◌, ◌-◌, ◌++◌, if◌then◌else◌, List, [], ◌∷◌, Option, Some, None, length, take, codes, decimal}
 use Rattle.std.specs.Cmp.Lexicographic.{pointwise}
+use Rattle.std.specs.Char.{is_ascii_digit}
 use Rattle.std.specs.List.{count_by, list_all}
 use Rattle.std.specs.Str.Lines.{lines}
 use Rattle.airline_base.specs.Lines.{is_line_feed}
@@ -67,13 +68,32 @@ stray_in listed (c ∷ rest) = Some (row_number listed (c ∷ rest))
 abbrev pub stray_row : List ℕ → List (List ℕ) → Option ℕ
 stray_row listed sessions = stray_in listed (rows_behind_all listed sessions)
 
--- Q1 or Q2, and a blank: so a row begins, and no right line of a script does
+-- digits, of which there is one at least
+abbrev pub is_number : List ℕ → Bool
+is_number [] = false
+is_number (digit ∷ digits) = is_ascii_digit digit && list_all is_ascii_digit digits
+
+-- a session and a line, as 1 17
+abbrev pub is_place : List ℕ → Bool
+is_place [] = false
+is_place (session ∷ []) = false
+is_place (session ∷ blank ∷ line) = is_ascii_digit session && (blank == 32 && is_number line)
+
+-- the code of a segment line ahead of that, as A5 1 17
+abbrev pub is_coded_place : List ℕ → Bool
+is_coded_place [] = false
+is_coded_place (letter ∷ []) = false
+is_coded_place (letter ∷ digit ∷ []) = false
+is_coded_place (letter ∷ digit ∷ blank ∷ place) = letter == 65 && (is_ascii_digit digit && (blank == 32 && is_place place))
+
+-- Q1 1 17 or Q2 A5 1 17: so a row stands, and no right line of a script does
 abbrev pub is_row : List ℕ → Bool
 is_row [] = false
 is_row (letter ∷ []) = false
 is_row (letter ∷ digit ∷ []) = false
-is_row (letter ∷ digit ∷ blank ∷ rest) = (letter == 81) && ((digit == 49 || digit == 50) && blank == 32)
+is_row (letter ∷ digit ∷ blank ∷ rest) =
+    letter == 81 && (blank == 32 && ((digit == 49 && is_place rest) || (digit == 50 && is_coded_place rest)))
 
--- each line of the text begins so
+-- each line of the text is a row
 abbrev pub is_list : List ℕ → Bool
 is_list bytes = list_all is_row (lines bytes)

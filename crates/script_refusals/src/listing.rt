@@ -2,10 +2,11 @@
 ghost use Rattle.std.specs.Prelude.{◌≡◌, ◌<◌, ◌≤◌, ◌^◌, ◌++◌, IfOk, IsTrue, None, OnOk, length, map};
 ghost use Rattle.std.specs.List.{count_by};
 ghost use Rattle.airline_base.specs.Lines.{is_line_feed};
-ghost use Rattle.script_refusals.specs.Listing.{IsBehind, begin_alike, is_list, is_row, other_row, row_number, row_on, row_text, rows_behind, rows_text, stray_row};
+ghost use Rattle.script_refusals.specs.Listing.{IsBehind, begin_alike, is_coded_place, is_list, is_number, is_place, is_row, other_row, row_number, row_on, row_text, rows_behind, rows_text, stray_row};
 
 use airimp_lines::ScriptFault;
 use airline_base::Memory;
+use airline_base::fields::are_digits;
 use airline_base::lines::cut_line;
 use std::alloc::Global;
 
@@ -126,7 +127,7 @@ fn line_feeds(bytes: &[u8]) -> u32
     bytes.iter().filter(|byte| **byte == b'\n').count() as u32
 }
 
-/// Whether each line of a text begins as a row of a list does, with a code of a script.
+/// Whether each line of a text has the form of a row of a list.
 pub fn is_list(bytes: &[u8]) -> bool
     ensures { result ≡ is_list bytes.now }
 {
@@ -145,9 +146,44 @@ fn is_row(text: &[u8]) -> bool
     ensures { result ≡ is_row text.now }
 {
     match text {
-        [letter, digit, blank, ..] => {
-            *letter == b'Q' && (*digit == b'1' || *digit == b'2') && *blank == b' '
+        [letter, digit, blank, rest @ ..] => {
+            *letter == b'Q'
+                && *blank == b' '
+                && (*digit == b'1' && is_place(rest) || *digit == b'2' && is_coded_place(rest))
         }
         _ => false,
+    }
+}
+
+/// Whether the text is the code of a segment line, and a session and a line.
+fn is_coded_place(text: &[u8]) -> bool
+    ensures { result ≡ is_coded_place text.now }
+{
+    match text {
+        [letter, digit, blank, place @ ..] => {
+            *letter == b'A' && digit.is_ascii_digit() && *blank == b' ' && is_place(place)
+        }
+        _ => false,
+    }
+}
+
+/// Whether the text is a session and a line.
+fn is_place(text: &[u8]) -> bool
+    ensures { result ≡ is_place text.now }
+{
+    match text {
+        [session, blank, line @ ..] => {
+            session.is_ascii_digit() && *blank == b' ' && is_number(line)
+        }
+        _ => false,
+    }
+}
+
+fn is_number(text: &[u8]) -> bool
+    ensures { result ≡ is_number text.now }
+{
+    match text {
+        [digit, digits @ ..] => digit.is_ascii_digit() && are_digits(digits),
+        [] => false,
     }
 }
