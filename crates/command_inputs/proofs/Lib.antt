@@ -1,1 +1,2 @@
 mod Horizons
+pub mod Sorting

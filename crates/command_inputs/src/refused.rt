@@ -1,8 +1,12 @@
 //! Scripts whose wrong lines are passed over, and the list of these lines.
 //! It knows which file is the list, and nothing of what the scripts ask for.
-ghost use Rattle.std.specs.Prelude.{◌≡◌, ◌<◌, ◌≤◌, ◌^◌, IfErr, IfOk, IsOk, IsSomeAnd, IsTrue, None, OnOk, length, map};
+ghost use Rattle.std.specs.Prelude.{◌≡◌, ◌<◌, ◌≤◌, ◌^◌, IfErr, IfOk, IfSome, IsOk, IsSomeAnd, IsTrue, None, OnOk, length, map};
+ghost use Rattle.std.specs.List.{concat};
+ghost use Rattle.command_inputs.specs.Sorted.{AreBegun, AreCleaned, AreListed, AreSorted, IsSorted};
 ghost use Rattle.script_refusals.specs.Listing.{is_list, other_row, stray_row};
 ghost use Rattle.seat_files.specs.Faults.{list_text, printed};
+ghost use Rattle.seat_files.specs.Lists.{list_held, list_name};
+ghost use Rattle.seat_files.specs.Streams.{input_rest};
 
 use script_refusals::{is_list, list_of, other_row, sort_out, stray_row};
 use seat_desk::{DeskFault, read_input};
@@ -19,6 +23,7 @@ const MOST_LIST_BYTES: u64 = 2_147_483_647;
 
 /// Reads the scripts and the list of their refused lines, and refuses another list. What is read of a script from here on is what is left of
 /// it without these lines.
+#[tactic(auto, using(crate::proofs::Sorting::are_cleaned, crate::proofs::Sorting::are_listed, crate::proofs::Sorting::listed_as))]
 pub fn sort_out_as<'a>(
     rt: &HostRuntime,
     scripts: &mut Vec<Input<'a>>,
@@ -26,15 +31,17 @@ pub fn sort_out_as<'a>(
 ) -> Result<(), Refusal<'a>>
     requires few { length scripts.old.items ≤ 8 }
     ensures each { OnOk result (length scripts.new.items ≡ length scripts.old.items) }
+    ensures cleaned { OnOk result (AreCleaned scripts.new.items) }
+    ensures listed { OnOk result (IfSome (input_rest list.old) (AreListed scripts.new.items)) }
 {
     let sessions = sort_out_each(rt, scripts)?;
-    let rows = listed(rt, &sessions)?;
     let found = list_in(rt, list)?;
-    pass_list(list.name(), &found, &rows)
+    pass_listed(rt, list.name(), &found, &sessions)
 }
 
-/// Reads the scripts of a run, and has their list put with its journal. What stands in its place is a list too. Where they go on from those of an earlier run the list that stands there
-/// is to have what they are refused for alone, session by session. What is read of a script from here on is what is left of it.
+/// Reads the scripts of a run, and has their list put with its journal. What stands in its place is a list too. Where they go on from those
+/// of an earlier run the list that stands there is to have what they are refused for alone, session by session. What is read of a script from
+/// here on is what is left of it.
 pub fn sort_out_into<'a>(
     rt: &HostRuntime,
     scripts: &mut Vec<Input<'a>>,
@@ -43,11 +50,32 @@ pub fn sort_out_into<'a>(
 ) -> Result<(), Refusal<'a>>
     requires few { length scripts.old.items ≤ 8 }
     ensures each { OnOk result (length scripts.new.items ≡ length scripts.old.items) }
+    ensures listed { OnOk result (AreListed scripts.new.items (list_held list.new)) }
+    ensures name { list_name list.new ≡ list_name list.old }
 {
     let found = standing_in(rt, list)?;
+    sort_out_behind(rt, scripts, list, &found, goes_on)
+}
+
+/// The same with what stands there read.
+#[tactic(auto, using(crate::proofs::Sorting::are_listed, crate::proofs::Sorting::are_begun))]
+fn sort_out_behind<'a>(
+    rt: &HostRuntime,
+    scripts: &mut Vec<Input<'a>>,
+    list: &mut ListFile<'a>,
+    found: &[u8],
+    goes_on: bool,
+) -> Result<(), Refusal<'a>>
+    requires few { length scripts.old.items ≤ 8 }
+    requires size { length found.now < 2 ^ 31 }
+    ensures each { OnOk result (length scripts.new.items ≡ length scripts.old.items) }
+    ensures listed { OnOk result (AreListed scripts.new.items (list_held list.new)) }
+    ensures begun { IsTrue goes_on → OnOk result (AreBegun scripts.new.items found.now) }
+    ensures name { list_name list.new ≡ list_name list.old }
+{
     let sessions = sort_out_each(rt, scripts)?;
     if goes_on {
-        pass_begun(list.name(), &found, &sessions)?;
+        pass_begun(list.name(), found, &sessions)?;
     }
     list.hold(listed(rt, &sessions)?);
     Ok(())
@@ -77,12 +105,14 @@ pub fn tell_refused(rt: &HostRuntime, list: &ListFile<'_>) {
 }
 
 /// Sorts out each script, and answers the rows of each session.
+#[tactic(auto, using(crate::proofs::Sorting::none_sorted))]
 fn sort_out_each<'a>(
     rt: &HostRuntime,
     scripts: &mut Vec<Input<'a>>,
 ) -> Result<Vec<Vec<u8>>, Refusal<'a>>
     requires few { length scripts.old.items ≤ 8 }
     ensures each { OnOk result (length scripts.new.items ≡ length scripts.old.items) }
+    ensures sorted { IfOk result (λ sessions. AreSorted scripts.new.items (map (λ rows. rows.items) sessions.items)) }
 {
     let mut sessions = Vec::new(rt.alloc());
     let mut session = 0u8;
@@ -96,11 +126,15 @@ fn sort_out_each<'a>(
     Ok(sessions)
 }
 
+/// Has what is left of a session's script read in its place, and answers its rows.
+#[tactic(auto, using(crate::proofs::Sorting::is_sorted))]
 fn sort_out_one<'a>(
     rt: &HostRuntime,
     script: &mut Input<'a>,
     session: u8,
-) -> Result<Vec<u8>, Refusal<'a>> {
+) -> Result<Vec<u8>, Refusal<'a>>
+    ensures { IfOk result (λ rows. IsSorted session script.new rows.items) }
+{
     let bytes = match read_input(rt.alloc(), script, MOST_SCRIPT_BYTES) {
         Ok(bytes) => bytes,
         Err(fault) => return Err(Refusal::from(fault).noting_all(&[&*script])),
@@ -114,7 +148,9 @@ fn sort_out_one<'a>(
     }
 }
 
-fn listed<'a>(rt: &HostRuntime, sessions: &[Vec<u8>]) -> Result<Vec<u8>, Refusal<'a>> {
+fn listed<'a>(rt: &HostRuntime, sessions: &[Vec<u8>]) -> Result<Vec<u8>, Refusal<'a>>
+    ensures { IfOk result (λ list. list.items ≡ concat (map (λ rows. rows.items) sessions.now)) }
+{
     match list_of(rt.alloc(), sessions) {
         Ok(list) => Ok(list),
         Err(_) => Err(Refusal::from(DeskFault::Memory)),
@@ -122,12 +158,27 @@ fn listed<'a>(rt: &HostRuntime, sessions: &[Vec<u8>]) -> Result<Vec<u8>, Refusal
 }
 
 fn list_in<'a>(rt: &HostRuntime, list: &mut Input<'a>) -> Result<Vec<u8>, Refusal<'a>>
+    ensures whole { IfOk result (λ found. IfSome (input_rest list.old) (λ text. found.items ≡ text)) }
     ensures within { IfOk result (λ found. length found.items < 2 ^ 31) }
 {
     match read_input(rt.alloc(), list, MOST_LIST_BYTES) {
         Ok(found) => Ok(found),
         Err(fault) => Err(Refusal::from(fault).noting_all(&[&*list])),
     }
+}
+
+/// Whether a list is that of these sessions.
+fn pass_listed<'a>(
+    rt: &HostRuntime,
+    name: &'a str,
+    found: &[u8],
+    sessions: &[Vec<u8>],
+) -> Result<(), Refusal<'a>>
+    requires size { length found.now < 2 ^ 31 }
+    ensures same { IsOk result → found.now ≡ concat (map (λ rows. rows.items) sessions.now) }
+{
+    let rows = listed(rt, sessions)?;
+    pass_list(name, found, &rows)
 }
 
 /// Whether a list is these rows.

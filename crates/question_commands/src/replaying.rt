@@ -1,7 +1,8 @@
 //! The commands that look at what was sold: `audit` and `replies` with the scripts of a run.
 //! It knows which stream is which, and nothing of what the commands do with them.
-ghost use Rattle.std.specs.Prelude.{◌≡◌, ◌≤◌, IfOk, OnOk, length};
+ghost use Rattle.std.specs.Prelude.{◌≡◌, ◌≤◌, IfOk, IfSome, OnOk, length};
 ghost use Rattle.airline_base.specs.Days.{IsCenturyDay};
+ghost use Rattle.command_inputs.specs.Sorted.{AreCleaned};
 ghost use Rattle.ssim_flights.specs.Right.{IsOfCentury};
 
 use crate::commands;
@@ -186,6 +187,7 @@ fn files_opened<'a>(
     ensures days { IfOk result (λ files. files.inputs.days ≡ days.now.1) }
     ensures scripts { IfOk result (λ files.
         (1 ≤ length files.scripts.items) × (length files.scripts.items ≤ 8)) }
+    ensures cleaned { IfOk result (λ files. IfSome replayed.now.refused (λ name. AreCleaned files.scripts.items)) }
 {
     let Some(sessions) = sessions_of_run(replayed.scripts, may_be_changes) else {
         return Err(Refusal::from(WordFault::BadScripts));
@@ -214,6 +216,7 @@ fn sort_out_beside<'a>(
 ) -> Result<(), Refusal<'a>>
     requires few { length scripts.old.items ≤ 8 }
     ensures each { OnOk result (length scripts.new.items ≡ length scripts.old.items) }
+    ensures cleaned { OnOk result (IfSome refused (λ name. AreCleaned scripts.new.items)) }
 {
     let Some(name) = refused else {
         return Ok(());

@@ -1,7 +1,8 @@
 //! `run`: the texts that it reads, and OUT, which it locks, with the seal beside it.
 //! It knows which stream is which, and nothing of how seats are sold.
-ghost use Rattle.std.specs.Prelude.{◌≡◌, ◌≤◌, IfOk, IsTrue, OnOk, length};
+ghost use Rattle.std.specs.Prelude.{◌≡◌, ◌≤◌, IfOk, IfSome, IsTrue, OnOk, length};
 ghost use Rattle.airline_base.specs.Days.{IsCenturyDay};
+ghost use Rattle.command_inputs.specs.Sorted.{IsPutWith};
 ghost use Rattle.seat_seal.specs.Rules.{is_entry};
 ghost use Rattle.ssim_flights.specs.Right.{IsOfCentury};
 
@@ -112,6 +113,7 @@ fn sell_sorted<'a, T: Threads + Wait + Sync>(
 }
 
 /// Begins the list of the wrong lines, where one is named, and sorts the scripts out into it. It is put with the journal, and goes with it.
+#[tactic(auto, using(command_inputs::proofs::Sorting::is_put_with))]
 fn begin_list<'a>(
     rt: &HostRuntime,
     sale: &Sale<'a, '_>,
@@ -123,6 +125,8 @@ fn begin_list<'a>(
     ensures first { texts.new.inputs.first ≡ texts.old.inputs.first }
     ensures days { texts.new.inputs.days ≡ texts.old.inputs.days }
     ensures scripts { OnOk result (length texts.new.scripts.items ≡ length texts.old.scripts.items) }
+    ensures listed { OnOk result (IfSome sale.now.asking.now.refused
+        (λ name. IsPutWith place.new.journal name.now texts.new.scripts.items)) }
 {
     let Some(name) = sale.asking.refused else {
         return Ok(());
