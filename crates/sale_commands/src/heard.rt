@@ -80,23 +80,41 @@ impl<'a> Heard<'a> {
     }
 
     /// Says on standard error where there are replies and none of them found a flight, where a run that goes on with its scripts
-    /// has none, and where scripts that have bytes ask for nothing. It is no fault.
-    pub fn tell(&self, rt: &HostRuntime, is_resumed: bool, have_bytes: bool) {
-        if have_bytes && !is_resumed && !self.ear.has_request {
-            let _ = eprintln!(rt;
-                "seatdesk: note: no script asks for anything: a request is a line as LZ601Q27JUL LHRKEF NN12"
-            );
+    /// has none, and where scripts that have bytes ask for nothing. Where lines of them are refused they may have asked for something. It is no fault.
+    pub fn tell(&self, rt: &HostRuntime, is_resumed: bool, have_bytes: bool, has_refused: bool) {
+        if !is_resumed && !self.ear.has_request {
+            tell_unasked(rt, have_bytes, has_refused);
         }
         if is_resumed && !self.ear.has_reply {
-            let _ = eprintln!(rt;
-                "seatdesk: note: nothing was booked: the journal of --resume has all that is asked"
-            );
+            tell_unbooked(rt, has_refused);
         }
         if self.ear.has_reply && !self.ear.has_flight {
             let _ = eprintln!(rt;
                 "seatdesk: note: no request found a flight: look at --first, --days and --today"
             );
         }
+    }
+}
+
+fn tell_unasked(rt: &HostRuntime, have_bytes: bool, has_refused: bool) {
+    if has_refused {
+        let _ = eprintln!(rt; "seatdesk: note: no script asks for anything but what was refused");
+    } else if have_bytes {
+        let _ = eprintln!(rt;
+            "seatdesk: note: no script asks for anything: a request is a line as LZ601Q27JUL LHRKEF NN12"
+        );
+    }
+}
+
+fn tell_unbooked(rt: &HostRuntime, has_refused: bool) {
+    if has_refused {
+        let _ = eprintln!(rt;
+            "seatdesk: note: nothing was booked: the journal of --resume has all that is asked but what was refused"
+        );
+    } else {
+        let _ = eprintln!(rt;
+            "seatdesk: note: nothing was booked: the journal of --resume has all that is asked"
+        );
     }
 }
 

@@ -332,11 +332,13 @@ fn tell_sold<'a>(
     place: &Place<'a>,
     out: &Heard<'a>,
 ) {
+    let mut has_refused = false;
     if let Some(list) = place.journal.list() {
         tell_refused(rt, list);
+        has_refused = list.rows_put() > 0;
     }
     let have_bytes = texts.scripts.iter().any(|script| script.has_bytes());
-    out.tell(rt, sale.asking.resume.is_some(), have_bytes);
+    out.tell(rt, sale.asking.resume.is_some(), have_bytes, has_refused);
     tell_compared(rt, sale.asking, sale.given, seals);
     tell_copies(rt, &place.seal);
 }
