@@ -151,7 +151,7 @@ pub(crate) const SEGMENTS: &[Explanation] = &[
         behind: "Q2",
         code: "A1",
         numbers: SCRIPT,
-        text: "The line has fewer than 20 or more than 69 characters.",
+        text: "The line has fewer than 20 or more than 69 characters.\nWhere it is the first line of a message, as LONLZ B3N6VC, an empty line is missing ahead of it.",
     },
     Explanation {
         behind: "Q2",
