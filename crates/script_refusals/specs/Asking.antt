@@ -1,5 +1,5 @@
 -- What the right lines of a script ask for, and what that says of the script without the wrong ones.
-use Rattle.std.specs.Prelude.{◌≡◌, ◌↔◌, ℕ, ◌+◌, ◌++◌, List, [], ◌∷◌, Result, Ok, Err}
+use Rattle.std.specs.Prelude.{◌≡◌, ◌↔◌, ◌<◌, ◌^◌, true, ℕ, ◌+◌, ◌++◌, length, List, [], ◌∷◌, Result, Ok, Err}
 use Rattle.std.specs.Str.Lines.{lines}
 use Rattle.airimp_lines.specs.Script.{IsScript, Line}
 use Rattle.airimp_lines.specs.Steps.{AreOwn, IsFirstFault, Message, step}
@@ -7,6 +7,8 @@ use Rattle.airimp_lines.specs.declared.fault.ScriptFault.{ScriptFault}
 use Rattle.airimp_lines.specs.declared.fault.ScriptKind.{ScriptKind}
 use Rattle.airimp_lines.specs.declared.requests.Request.{Request}
 use Rattle.script_refusals.specs.Cleaning.{at_start, cleaned_text, passage_behind, refusals_of}
+use Rattle.script_refusals.specs.Listing.{is_list}
+use Rattle.script_refusals.specs.Sorting.{rows_of}
 use Rattle.script_refusals.specs.declared.cleaning.Passage.{Passage}
 use Rattle.script_refusals.specs.declared.cleaning.Passage.TheVariants.{Right, Refused}
 
@@ -47,6 +49,10 @@ RightLinesAreKept = (today : ℕ) (bytes : List ℕ) (requests : List Request)
 abbrev pub RightScriptsStay : Type 0
 RightScriptsStay = (today : ℕ) (bytes : List ℕ) (requests : List Request) → IsScript today bytes requests
     → (cleaned_text bytes ≡ bytes) × (refusals_of bytes ≡ [])
+
+-- its rows are a list, so what a run wrote may be replaced by the next one
+abbrev pub RowsAreAList : Type 0
+RowsAreAList = (session : ℕ) (bytes : List ℕ) → session < 10 → length bytes < 2 ^ 32 → is_list (rows_of session bytes) ≡ true
 
 -- what a script is refused for where its wrong lines are not passed over is the first refusal
 pub record BeginsWith (fault : ScriptFault) (refusals : List ScriptFault) : Type 0 where
