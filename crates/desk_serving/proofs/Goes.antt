@@ -91,6 +91,14 @@ module _ {D : Type 0} (seen : D → Option (List ℕ)) (leaves : D → List ℕ 
   pub ready_as : (old new : Served D) → IsReady seen leaves unsynced old → new ≡ old → IsReady seen leaves unsynced new
   ready_as old new ready is = subst (IsReady seen leaves unsynced) (sym is) ready
 
+  pub ready_same : (old new : Hallful D) → IsReady seen leaves unsynced old.serving → new ≡ old → IsReady seen leaves unsynced new.serving
+  ready_same old new ready is = subst (λ (h : Hallful D). IsReady seen leaves unsynced h.serving) (sym is) ready
+
+  -- where memory was wanting all its lines are on the disk
+  pub ready_wanting : (old new : Served D) (fault : ServeFault) → Fails seen leaves unsynced failures old new fault → fault ≡ NoMemory
+      → IsReady seen leaves unsynced new
+  ready_wanting old new fault a is = a.memory is
+
   pub goes_as : (old mid new : Served D) → GoesOn seen leaves unsynced failures old mid → new ≡ mid
       → GoesOn seen leaves unsynced failures old new
   goes_as old mid new a is = subst (GoesOn seen leaves unsynced failures old) (sym is) a

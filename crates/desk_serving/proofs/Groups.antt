@@ -9,16 +9,13 @@ use Rattle.desk_pipes.specs.Waiting.{Posted}
 use Rattle.desk_lines.specs.declared.desk.Desk.{Desk}
 use Rattle.desk_pipes.specs.declared.inbox.Said.{Said}
 use Rattle.desk_serving.specs.Going.{is_apart, IsHeardBehind}
-use Rattle.desk_serving.specs.Groups.{AreFrom, AreGroups, AreSteps, AreTaken, AreTexts, AreTold, GoesThrough, IsAnswered, IsBooked, IsCaughtUp, IsCaughtUpBy, IsForgotten, IsGiven, IsGroup, IsHallOver, IsOne, IsOneBy, IsServed, IsServedTo, IsStep, IsTaken, IsTakenApart, IsTakenUp, IsTold, IsToldOn, IsWordAnswered}
+use Rattle.desk_serving.specs.Groups.{AreFrom, AreGroups, AreNotices, AreSteps, AreTaken, AreTold, GoesThrough, IsAnswered, IsBooked, IsCaughtUp, IsCaughtUpBy, IsForgotten, IsGiven, IsGroup, IsHallOver, IsOne, IsOneBy, IsOwn, IsServed, IsServedTo, IsStep, IsStepped, IsTaken, IsTakenApart, IsTakenUp, IsTold, IsToldOn, IsWordAnswered}
 use Rattle.desk_serving.specs.Silence.{IsSilentAt}
+use Rattle.desk_serving.specs.declared.step.Step.{Step}
 use Rattle.seat_journal.specs.declared.entry.Entry.{Entry}
 use Rattle.seat_serving.specs.Answering.{behind}
 use Rattle.seat_serving.specs.Served.{Served}
 use Rattle.ssim_flights.specs.declared.flight.Flight.{Flight as Flown}
-
--- by what each of a list has, behind one more
-pub map_more : {X Y : Type 0} (f : X → Y) (before after : List X) (x : X) → after ≡ before ++ x ∷ [] → map f after ≡ map f before ++ f x ∷ []
-map_more f before after x is = ap (map f) is ∙ map-append f before (x ∷ [])
 
 true_and : (b : Bool) → b ≡ (true && b)
 true_and true = refl
@@ -35,11 +32,11 @@ module _ {D : Type 0} where
       → IsSameHall old new → IsBooked old new
   booked old new journal none same = record { journal_is = journal; none_asked = none; same = same }
 
-  pub told : (old new : Hallful D) (texts : List (List ℕ)) → AreTold old texts → new.turns ≡ []
+  pub told : (old new : Hallful D) (notices : List Posted) → AreTold old notices → new.turns ≡ []
       → (new.serving ≡ old.serving) × (new.desks ≡ old.desks) × (new.manager ≡ old.manager) × (new.asked ≡ old.asked)
       × (new.today ≡ old.today) × (new.flights ≡ old.flights) × (new.backlogs ≡ old.backlogs) → IsTold old new
-  told old new texts are none same = record {
-    texts = texts;
+  told old new notices are none same = record {
+    notices = notices;
     told = are;
     none_told = none;
     serving_is = same.0;
@@ -54,45 +51,46 @@ module _ {D : Type 0} where
   pub answered : (old mid new : Hallful D) → IsBooked old mid → IsTold mid new → IsAnswered old new
   answered old mid new a b = record { mid = mid; booked = a; told = b }
 
-  -- ---- texts
+  -- ---- notices
 
-  pub no_texts : (hall : Hallful D) → AreTexts hall 0 []
-  no_texts hall = record { each = tt; count_is = refl }
+  pub no_notices : (hall : Hallful D) → AreNotices hall 0 []
+  no_notices hall = record { each = tt; count_is = refl }
 
-  abbrev pub IsFor : Hallful D → ℕ → List ℕ → Type 0
-  IsFor hall session text = IsToldTo hall session text
+  one_more : (hall : Hallful D) (session : ℕ) (notices : List Posted) (notice : Posted) → AreFrom hall session notices
+      → IsOwn hall (session + length notices) notice → AreFrom hall session (notices ++ notice ∷ [])
+  one_more hall session [] notice are is =
+      let none : session + 0 ≡ session = omega arith in (subst (λ (n : ℕ). IsOwn hall n notice) none is, tt)
+  one_more hall session (t ∷ notices) notice are is =
+      let same : session + suc (length notices) ≡ suc session + length notices = omega arith in
+      (are.0, one_more hall (suc session) notices notice are.1 (subst (λ (n : ℕ). IsOwn hall n notice) same is))
 
-  one_more : (hall : Hallful D) (session : ℕ) (texts : List (List ℕ)) (text : List ℕ) → AreFrom hall session texts
-      → IsFor hall (session + length texts) text → AreFrom hall session (texts ++ text ∷ [])
-  one_more hall session [] text are is =
-      let none : session + 0 ≡ session = omega arith in (subst (λ (n : ℕ). IsFor hall n text) none is, tt)
-  one_more hall session (t ∷ texts) text are is =
-      let same : session + suc (length texts) ≡ suc session + length texts = omega arith in
-      (are.0, one_more hall (suc session) texts text are.1 (subst (λ (n : ℕ). IsFor hall n text) same is))
-
-  pub text_more : (hall : Hallful D) (session : ℕ) (texts : List (List ℕ)) (text : List ℕ) → AreTexts hall session texts
-      → IsFor hall session text → AreTexts hall (session + 1) (texts ++ text ∷ [])
-  text_more hall session texts text are is =
-      let here : session ≡ 0 + length texts = omega (arith, are.count_is) in
+  notice_more : (hall : Hallful D) (session : ℕ) (notices : List Posted) (notice : Posted) → AreNotices hall session notices
+      → IsOwn hall session notice → AreNotices hall (session + 1) (notices ++ notice ∷ [])
+  notice_more hall session notices notice are is =
+      let here : session ≡ 0 + length notices = omega (arith, are.count_is) in
       record {
-        each = one_more hall 0 texts text are.each (subst (λ (n : ℕ). IsFor hall n text) here is);
-        count_is = length-append texts (text ∷ []) ∙ ap (λ (n : ℕ). n + 1) are.count_is;
+        each = one_more hall 0 notices notice are.each (subst (λ (n : ℕ). IsOwn hall n notice) here is);
+        count_is = length-append notices (notice ∷ []) ∙ ap (λ (n : ℕ). n + 1) are.count_is;
       }
 
+  pub is_own : (hall : Hallful D) (session : ℕ) (text : List ℕ) (notice : Posted) → IsToldTo hall session text → notice.session ≡ session
+      → notice.text ≡ text → IsOwn hall session notice
+  is_own hall session text notice told whose is = record { session_is = whose; told = subst (IsToldTo hall session) (sym is) told }
+
   -- the next of them has its own, and the hall is the same
-  pub text_told : (start hall new : Hallful D) (session : ℕ) (before after : List (List ℕ)) (text : List ℕ) → hall ≡ start → new ≡ hall
-      → AreTexts start session before → IsFor hall session text → after ≡ before ++ text ∷ []
-      → (new ≡ start) × AreTexts start (session + 1) after
-  text_told start hall new session before after text same still are is longer = (
+  pub notice_told : (start hall new : Hallful D) (session : ℕ) (before after : List Posted) (notice : Posted) → hall ≡ start → new ≡ hall
+      → AreNotices start session before → IsOwn hall session notice → after ≡ before ++ notice ∷ []
+      → (new ≡ start) × AreNotices start (session + 1) after
+  notice_told start hall new session before after notice same still are is longer = (
     still ∙ same,
-    subst (AreTexts start (session + 1)) (sym longer)
-        (text_more start session before text are (subst (λ (h : Hallful D). IsFor h session text) same is)),
+    subst (AreNotices start (session + 1)) (sym longer)
+        (notice_more start session before notice are (subst (λ (h : Hallful D). IsOwn h session notice) same is)),
   )
 
-  pub all_texts : (hall : Hallful D) (count session : ℕ) (texts : List (List ℕ)) → AreTexts hall session texts → session ≡ count + 1
-      → count ≡ length hall.desks → AreTold hall texts
-  all_texts hall count session texts are is desks =
-      subst (λ (n : ℕ). AreTexts hall n texts) (is ∙ ap (λ (n : ℕ). n + 1) desks) are
+  pub all_notices : (hall : Hallful D) (count session : ℕ) (notices : List Posted) → AreNotices hall session notices → session ≡ count + 1
+      → count ≡ length hall.desks → AreTold hall notices
+  all_notices hall count session notices are is desks =
+      subst (λ (n : ℕ). AreNotices hall n notices) (is ∙ ap (λ (n : ℕ). n + 1) desks) are
 
   -- ---- a line
 
@@ -144,25 +142,19 @@ module _ {D : Type 0} where
   pub word_answered : (old mid new : Hallful D) → IsOpened (again_asked old.turns) old mid → IsAnswered mid new → IsWordAnswered old new
   word_answered old mid new a b = record { mid = mid; opened = a; answered = b }
 
-  pub step_none : (hall : Hallful D) (session : ℕ) → IsStep hall hall session
-  step_none hall session = inl refl
-
-  pub step_taught : (old new : Hallful D) (session : ℕ) (told : Posted) → IsGiven old new session 4096 told → IsStep old new session
-  step_taught old new session told is = inr (record { told = told; given = is })
-
   pub no_steps : (hall : Hallful D) → AreSteps 0 hall hall
   no_steps hall = refl
 
-  pub steps_more : (old mid new : Hallful D) (sessions : ℕ) → AreSteps sessions old mid → IsStep mid new sessions → AreSteps (sessions + 1) old new
+  pub steps_more : (old mid new : Hallful D) (sessions : ℕ) → AreSteps sessions old mid → IsStepped mid new sessions → AreSteps (sessions + 1) old new
   steps_more old mid new sessions a b =
       let same : suc sessions ≡ sessions + 1 = omega arith in
       subst (λ (n : ℕ). AreSteps n old new) same (mid, a, b)
 
-  pub pieces_told : (start hall new : Hallful D) (session : ℕ) → AreSteps session start hall → hall.serving ≡ start.serving
-      → hall.today ≡ start.today → IsStep hall new session → (new.serving ≡ hall.serving) × (new.today ≡ hall.today)
+  pub pieces_told : (start hall new : Hallful D) (session : ℕ) (step : Step) → AreSteps session start hall → hall.serving ≡ start.serving
+      → hall.today ≡ start.today → IsStep hall new session step → (new.serving ≡ hall.serving) × (new.today ≡ hall.today)
       → AreSteps (session + 1) start new × (new.serving ≡ start.serving) × (new.today ≡ start.today)
-  pieces_told start hall new session are served on is same =
-      (steps_more start hall new session are is, same.0 ∙ served, same.1 ∙ on)
+  pieces_told start hall new session step are served on is same =
+      (steps_more start hall new session are (record { step = step; is = is }), same.0 ∙ served, same.1 ∙ on)
 
   pub all_steps : (old new : Hallful D) (count session : ℕ) → AreSteps session old new → session ≡ count + 1 → count ≡ length old.desks
       → AreSteps (length old.desks + 1) old new

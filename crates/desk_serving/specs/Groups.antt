@@ -1,11 +1,13 @@
 -- The lines of a group, heard one by one, and what each desk is told of them.
-use Rattle.std.specs.Prelude.{◌≡◌, ◌⊎◌, ◌<◌, ◌+◌, ◌&&◌, ℕ, zero, suc, Bool, true, false, List, [], ◌∷◌, length, replicate, is_some, None, All}
+use Rattle.std.specs.Prelude.{◌≡◌, ◌⊎◌, ◌<◌, ◌+◌, ◌&&◌, ℕ, zero, suc, Bool, true, false, List, [], ◌∷◌, length, map, replicate, is_some, Option, None, All}
 use Rattle.desk_hall.specs.Halls.{Hallful, IsOpened, IsPiece, IsSameHall, IsToldTo}
 use Rattle.desk_hall.specs.Pieces.{again_asked, backlog_of}
 use Rattle.desk_pipes.specs.Waiting.{Posted}
 use Rattle.desk_pipes.specs.declared.inbox.Said.{Said}
 use Rattle.desk_serving.specs.Going.{is_apart, IsHeardBehind}
 use Rattle.desk_serving.specs.Silence.{IsSilentAt}
+use Rattle.desk_serving.specs.declared.step.Step.{Step}
+use Rattle.desk_serving.specs.declared.step.Step.TheVariants.{Full, NotBehind, Told}
 use Rattle.seat_journal.specs.declared.entry.Entry.{Entry}
 use Rattle.seat_serving.specs.Answering.{behind}
 use Rattle.seat_serving.specs.Served.{Served}
@@ -19,25 +21,30 @@ pub record IsBooked {D : Type 0} (old new : Hallful D) : Type 0 where
   pub none_asked : new.asked ≡ []
   pub same : IsSameHall old new
 
--- these are the texts of this session and of those behind it
-abbrev pub AreFrom : {D : Type 0} → Hallful D → ℕ → List (List ℕ) → Type 0
+-- a notice for this session, and what it is told of the lines that were heard
+pub record IsOwn {D : Type 0} (hall : Hallful D) (session : ℕ) (notice : Posted) : Type 0 where
+  pub session_is : notice.session ≡ session
+  pub told : IsToldTo hall session notice.text
+
+-- these are the notices for this session and for those behind it
+abbrev pub AreFrom : {D : Type 0} → Hallful D → ℕ → List Posted → Type 0
 AreFrom hall session [] = Unit {0}
-AreFrom hall session (text ∷ texts) =
-    IsToldTo hall session text × AreFrom hall (suc session) texts
+AreFrom hall session (notice ∷ notices) =
+    IsOwn hall session notice × AreFrom hall (suc session) notices
 
 -- so many of them, the manager's first, have what is told of the lines that were heard
-pub record AreTexts {D : Type 0} (hall : Hallful D) (count : ℕ) (texts : List (List ℕ)) : Type 0 where
-  pub each : AreFrom hall 0 texts
-  pub count_is : length texts ≡ count
+pub record AreNotices {D : Type 0} (hall : Hallful D) (count : ℕ) (notices : List Posted) : Type 0 where
+  pub each : AreFrom hall 0 notices
+  pub count_is : length notices ≡ count
 
 -- the manager and each session's desk has its own
-abbrev pub AreTold : {D : Type 0} → Hallful D → List (List ℕ) → Type 0
-AreTold hall texts = AreTexts hall (length hall.desks + 1) texts
+abbrev pub AreTold : {D : Type 0} → Hallful D → List Posted → Type 0
+AreTold hall notices = AreNotices hall (length hall.desks + 1) notices
 
 -- it is told, and all else is the same
 pub record IsTold {D : Type 0} (old new : Hallful D) : Type 0 where
-  pub texts : List (List ℕ)
-  pub told : AreTold old texts
+  pub notices : List Posted
+  pub told : AreTold old notices
   pub none_told : new.turns ≡ []
   pub serving_is : new.serving ≡ old.serving
   pub asked_is : new.asked ≡ old.asked
@@ -81,18 +88,24 @@ pub record IsWordAnswered {D : Type 0} (old new : Hallful D) : Type 0 where
   pub opened : IsOpened (again_asked old.turns) old mid
   pub answered : IsAnswered mid new
 
--- a session is told a piece, of 4,096 lines at most, or it has no room for it, or is not behind
-pub record IsTaught {D : Type 0} (old new : Hallful D) (session : ℕ) : Type 0 where
-  pub told : Posted
-  pub given : IsGiven old new session 4096 told
+-- a session is not behind, or its outbox has no room, or it is told a piece, of 4,096 lines at most
+abbrev pub IsStep : {D : Type 0} → Hallful D → Hallful D → ℕ → Step → Type 0
+IsStep old new session NotBehind = (backlog_of old.backlogs session ≡ None) × (new ≡ old)
+IsStep old new session (Full room) = (room.session ≡ session) × (room.is_there ≡ false) × (new ≡ old)
+IsStep old new session (Told room told) = (room.session ≡ session) × (room.is_there ≡ true) × IsGiven old new session 4096 told
 
-abbrev pub IsStep : {D : Type 0} → Hallful D → Hallful D → ℕ → Type 0
-IsStep old new session = (new ≡ old) ⊎ IsTaught old new session
+pub record IsStepped {D : Type 0} (old new : Hallful D) (session : ℕ) : Type 0 where
+  pub step : Step
+  pub is : IsStep old new session step
 
 -- so are the first of them, so many
 abbrev pub AreSteps : {D : Type 0} → ℕ → Hallful D → Hallful D → Type 0
 AreSteps {D} zero old new = new ≡ old
-AreSteps {D} (suc sessions) old new = (mid : Hallful D) × AreSteps sessions old mid × IsStep mid new sessions
+AreSteps {D} (suc sessions) old new = (mid : Hallful D) × AreSteps sessions old mid × IsStepped mid new sessions
+
+-- which sessions are behind, the manager first
+abbrev pub who_is_behind : List (Option ℕ) → List Bool
+who_is_behind backlogs = map (λ session. is_some (backlog_of backlogs session)) (0 ∷ 1 ∷ 2 ∷ 3 ∷ 4 ∷ 5 ∷ 6 ∷ 7 ∷ 8 ∷ [])
 
 -- all that was heard is answered, and then each session is told a piece
 pub record IsToldOn {D : Type 0} (old new : Hallful D) : Type 0 where

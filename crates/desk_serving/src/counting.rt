@@ -9,7 +9,7 @@ ghost use Rattle.desk_status.specs.Tallies.{added, groups_behind, Counts, Counts
 use crate::day::GroupFault;
 use crate::group::answer_group;
 use desk_hall::Hall;
-use desk_pipes::{Post, Said};
+use desk_pipes::{Post, Taken};
 use desk_status::{Board, Tally};
 use seat_disk::{Replaced, Tape};
 use seat_seal::Sealed;
@@ -24,14 +24,14 @@ pub(crate) fn begun<D: Tape>(hall: &Hall<'_, D>, board: &Board) -> Tally
     board.begun(hall.serving().journal())
 }
 
-/// Answers the lines that wait, and shows what the host has come to then. Whether the host goes on.
+/// Answers the lines that were taken, and shows what the host has come to then. Whether the host goes on.
 #[tactic(auto, using(crate::proofs::Tallied::counts_front))]
 pub(crate) fn answer_counted<R: Wait, D: Tape, K: Replaced>(
     rt: &R,
     alloc: Global,
     hall: &mut Hall<'_, D>,
     post: &Post,
-    said: &[Said],
+    taken: &Taken,
     entry: &mut Sealed,
     seals: &mut K,
     board: &Board,
@@ -40,7 +40,7 @@ pub(crate) fn answer_counted<R: Wait, D: Tape, K: Replaced>(
     requires ready { IsReady D.seen D.may_leave D.unsynced hall.old.serving }
     requires dated { IsOnDay hall.old.today entry.old (K.may_leave seals.old) }
     requires counts { Counts tally.old hall.old.serving.journal }
-    ensures group { IfOk result (IsGroup hall.old said.now hall.new) }
+    ensures group { IfOk result (IsGroup hall.old taken.now hall.new) }
     ensures goes { OnOk result (GoesOn D.seen D.may_leave D.unsynced D.failure_count hall.old.serving hall.new.serving) }
     ensures fails { IfErr result (FailsBy D.seen D.may_leave D.unsynced D.failure_count hall.old.serving hall.new.serving) }
     ensures sealed { OnOk result (IsSealedOn K.named K.may_leave K.kept_may_leave K.failure_count hall.new.today entry.old entry.new seals.old seals.new) }
@@ -49,7 +49,7 @@ pub(crate) fn answer_counted<R: Wait, D: Tape, K: Replaced>(
     ensures counts { OnOk result (Counts tally.new hall.new.serving.journal) }
     ensures groups { OnOk result (tally.new.groups ≡ groups_behind tally.old.groups (added tally.old hall.new.serving.journal)) }
 {
-    match answer_group(rt, alloc, hall, post, said, entry, seals) {
+    match answer_group(rt, alloc, hall, post, taken.as_slice(), entry, seals) {
         Ok(goes_on) => {
             count(hall, tally);
             board.show(rt, *tally);

@@ -7,9 +7,9 @@ ghost use Rattle.desk_serving.specs.Going.{is_apart, Fails, GoesOn, IsHeardBehin
 ghost use Rattle.desk_serving.specs.Groups.{IsForgotten, IsGroup, IsOne, IsTaken, IsTakenApart, IsTakenUp};
 
 use crate::day::{GroupFault, keep_day};
+use crate::notice::want_of;
 use crate::telling::{answer_heard, answer_last, answer_word, catch_up};
 use airline_base::Memory;
-use desk_answers::memory_line;
 use desk_hall::Hall;
 use desk_pipes::{Post, Said};
 use seat_disk::{Replaced, Tape};
@@ -221,10 +221,10 @@ fn hear_next<R: Wait, D: Tape, K: Replaced>(
     ) {
         return Ok(goes_on);
     }
-    let text = memory_line(session, hall.lines_of(session));
+    let want = want_of(session, hall.lines_of(session));
     match answer_heard(rt, alloc, hall, post, entry, seals) {
         Ok(()) => {
-            post.tell(rt, session, text.as_slice());
+            let _told = post.deliver(rt, want);
             Ok(true)
         }
         Err(fault) => Err(fault),

@@ -6,8 +6,11 @@
 mod counting;
 mod day;
 mod group;
+mod notice;
 mod opening;
+mod pieces;
 mod serving;
+mod step;
 mod telling;
 
 pub use serving::{HostedFault, serve_desks};

@@ -17,17 +17,17 @@ ghost use Rattle.desk_answers.specs.Hosts.{IsReady};
 ghost use Rattle.desk_serving.specs.Daily.{CountsSeal, FailsBy, IsOfEpoch, IsOnDay, IsSealedOn, IsSealedStill, IsUnsealed, StaysNamed, hosted_by};
 ghost use Rattle.desk_serving.specs.declared.day.GroupFault.TheVariants.{Serve};
 ghost use Rattle.desk_serving.specs.Going.{GoesOn};
-ghost use Rattle.desk_serving.specs.Groups.{IsServed, IsServedTo};
+ghost use Rattle.desk_serving.specs.Groups.{IsServed, IsServedTo, who_is_behind};
 ghost use Rattle.desk_serving.specs.declared.serving.HostedFault.TheVariants.{Dating, Day, Seal};
 ghost use Rattle.desk_talk.specs.Ending.{IsEnded, IsLeftOpen};
 
 use crate::counting::{answer_counted, begun};
 use crate::day::GroupFault;
 use crate::opening::hall_over;
-use crate::telling::has_piece;
+use crate::pieces::room_of;
 use desk_answers::OpenHost;
 use desk_hall::Hall;
-use desk_pipes::{Post, room_for_lines};
+use desk_pipes::{Post, Taken};
 use desk_status::Board;
 use seat_desk::DeskFault;
 use seat_disk::{Replaced, Tape};
@@ -192,29 +192,18 @@ fn serve<R: Wait, D: Tape, K: Replaced>(
     ensures stays { StaysNamed K.may_leave K.kept_may_leave entry.old seals.old seals.new }
     ensures unsealed { IfErr result (CountsSeal K.failure_count seals.old seals.new) }
 {
-    let Ok(room) = room_for_lines(alloc) else {
+    let Ok(none) = Taken::none(alloc) else {
         return Err(GroupFault::Serve(ServeFault::Memory));
     };
-    let mut said = room;
+    let mut taken = none;
     let mut tally = begun(hall, board);
     board.show(rt, tally);
     for _ in rt.forever() {
-        said.clear();
-        post.inbox.take(rt, &mut said, !may_tell(rt, hall, post));
+        post.inbox.take(rt, &mut taken, !may_tell(rt, hall, post));
         match answer_counted(
-            rt,
-            alloc,
-            hall,
-            post,
-            said.as_slice(),
-            entry,
-            seals,
-            board,
-            &mut tally,
+            rt, alloc, hall, post, &taken, entry, seals, board, &mut tally,
         ) {
-            Ok(true) => post
-                .inbox
-                .let_more(rt, said.as_slice(), who_is_behind(hall)),
+            Ok(true) => post.inbox.let_more(rt, &taken, who_is_behind(hall)),
             Ok(false) => return Ok(()),
             Err(fault) => return Err(fault),
         }
@@ -225,18 +214,28 @@ fn serve<R: Wait, D: Tape, K: Replaced>(
 // Whether a session that is told the journal again has room for a piece. Where it has not, its reader wakes the host.
 fn may_tell<R: Wait, D: Tape>(rt: &R, hall: &Hall<'_, D>, post: &Post) -> bool {
     for session in 0..hall.count() + 1 {
-        if has_piece(rt, hall, post, session) {
-            return true;
+        if let Some(room) = room_of(rt, hall, post, session) {
+            if room.is_there() {
+                return true;
+            }
         }
     }
     false
 }
 
 // Which sessions are told the journal again: no line of theirs is read ahead of its end.
-fn who_is_behind<D: Tape>(hall: &Hall<'_, D>) -> [bool; 9] {
-    let mut behind = [false; 9];
-    for (session, is_behind) in behind.iter_mut().enumerate() {
-        *is_behind = hall.is_behind(session as u8);
-    }
-    behind
+fn who_is_behind<D: Tape>(hall: &Hall<'_, D>) -> [bool; 9]
+    ensures { result ≡ who_is_behind hall.now.backlogs }
+{
+    [
+        hall.is_behind(0),
+        hall.is_behind(1),
+        hall.is_behind(2),
+        hall.is_behind(3),
+        hall.is_behind(4),
+        hall.is_behind(5),
+        hall.is_behind(6),
+        hall.is_behind(7),
+        hall.is_behind(8),
+    ]
 }

@@ -1,26 +1,25 @@
 //! What was heard is booked, and each desk is told what concerns it.
 //! It knows a hall, an outbox for each desk and what looks go by, and nothing of the lines that were heard.
-ghost use Rattle.std.specs.Prelude.{◌≡◌, ◌+◌, ◌++◌, ◌∷◌, [], None, IfErr, IfOk, OnOk, length, map};
+ghost use Rattle.std.specs.Prelude.{◌≡◌, ◌++◌, ◌∷◌, [], None, IfErr, IfOk, OnOk, length};
 ghost use Rattle.desk_answers.specs.Hosts.{IsReady};
 ghost use Rattle.desk_serving.specs.Daily.{IsOnDay};
 ghost use Rattle.desk_serving.specs.Going.{Fails, GoesOn};
 ghost use Rattle.desk_hall.specs.Pieces.{backlog_of};
-ghost use Rattle.desk_serving.specs.Groups.{AreSteps, AreTexts, AreTold, IsAnswered, IsBooked, IsCaughtUp, IsGiven, IsStep, IsTold, IsToldOn, IsWordAnswered};
+ghost use Rattle.desk_serving.specs.Groups.{AreTold, IsAnswered, IsBooked, IsCaughtUp, IsTold, IsToldOn, IsWordAnswered};
 
+use crate::notice::{Notice, notice_of};
+use crate::pieces::{give_rest, tell_pieces};
 use airline_base::Memory;
 use desk_hall::Hall;
-use desk_pipes::{Delivered, DeliveredTo, LooksGoBy, Post};
+use desk_pipes::{DeliveredEach, LooksGoBy, Post};
 use seat_disk::{Replaced, Tape};
 use seat_seal::Sealed;
 use seat_serving::ServeFault;
 use std::alloc::Global;
 use std::sync::Wait;
 
-/// As many lines of the journal as a piece has at most of what is told again.
-const MOST_LINES: u32 = 4_096;
-
 /// Books what was heard, and tells each desk. Where memory is wanting, what has its line is told all the same.
-#[tactic(auto, using(crate::proofs::Goes::goes_further, crate::proofs::Goes::fails_behind, crate::proofs::Goes::fails_as, crate::proofs::Daily::day_as, crate::proofs::Groups::answered))]
+#[tactic(auto, using(crate::proofs::Goes::goes_further, crate::proofs::Goes::fails_behind, crate::proofs::Goes::fails_as, crate::proofs::Goes::ready_wanting, crate::proofs::Daily::day_as, crate::proofs::Groups::answered))]
 pub(crate) fn answer_heard<R: Wait, D: Tape, K: Replaced>(
     rt: &R,
     alloc: Global,
@@ -131,83 +130,6 @@ pub(crate) fn catch_up<R: Wait, D: Tape, K: Replaced>(
     }
 }
 
-// Tells a piece to each that is behind and has room for it.
-#[tactic(auto, using(crate::proofs::Groups::no_steps, crate::proofs::Groups::steps_more, crate::proofs::Groups::all_steps))]
-fn tell_pieces<R: Wait, D: Tape>(
-    rt: &R,
-    alloc: Global,
-    hall: &mut Hall<'_, D>,
-    post: &Post,
-) -> Result<(), Memory>
-    ensures pieces { OnOk result (AreSteps (length hall.old.desks + 1) hall.old hall.new) }
-    ensures same { (hall.new.serving ≡ hall.old.serving) × (hall.new.today ≡ hall.old.today) }
-{
-    let count = hall.count();
-    for session in 0..count + 1 {
-        tell_piece(rt, alloc, hall, post, session)?;
-    }
-    Ok(())
-}
-
-#[tactic(auto, using(crate::proofs::Groups::step_none, crate::proofs::Groups::step_taught))]
-fn tell_piece<R: Wait, D: Tape>(
-    rt: &R,
-    alloc: Global,
-    hall: &mut Hall<'_, D>,
-    post: &Post,
-    session: u8,
-) -> Result<(), Memory>
-    ensures step { OnOk result (IsStep hall.old hall.new session) }
-    ensures same { (hall.new.serving ≡ hall.old.serving) × (hall.new.today ≡ hall.old.today) }
-{
-    if !has_piece(rt, hall, post, session) {
-        return Ok(());
-    }
-    let _told = give_piece(rt, alloc, hall, post, session)?;
-    Ok(())
-}
-
-/// Whether a session is behind, and has room for a piece.
-pub(crate) fn has_piece<R: Wait, D: Tape>(
-    rt: &R,
-    hall: &Hall<'_, D>,
-    post: &Post,
-    session: u8,
-) -> bool {
-    hall.is_behind(session) && post.has_room(rt, session)
-}
-
-#[tactic(auto, using(crate::proofs::Groups::given))]
-fn give_piece<R: Wait, D: Tape>(
-    rt: &R,
-    alloc: Global,
-    hall: &mut Hall<'_, D>,
-    post: &Post,
-    session: u8,
-) -> Result<DeliveredTo, Memory>
-    ensures given { IfOk result (IsGiven hall.old hall.new session 4096) }
-    ensures same { (hall.new.serving ≡ hall.old.serving) × (hall.new.today ≡ hall.old.today) }
-{
-    let text = hall.again(alloc, session, MOST_LINES)?;
-    Ok(post.deliver_to(rt, session, text))
-}
-
-#[tactic(auto, using(crate::proofs::Groups::given))]
-fn give_rest<R: Wait, D: Tape>(
-    rt: &R,
-    alloc: Global,
-    hall: &mut Hall<'_, D>,
-    post: &Post,
-    session: u8,
-) -> Result<DeliveredTo, Memory>
-    ensures given { IfOk result (IsGiven hall.old hall.new session (length hall.old.serving.journal)) }
-    ensures told { OnOk result (backlog_of hall.new.backlogs session ≡ None) }
-    ensures same { (hall.new.serving ≡ hall.old.serving) × (hall.new.today ≡ hall.old.today) }
-{
-    let text = hall.again_all(alloc, session)?;
-    Ok(post.deliver_to(rt, session, text))
-}
-
 // Tells each desk what was heard.
 #[tactic(auto, using(crate::proofs::Goes::goes_same, crate::proofs::Goes::fails_same, crate::proofs::Groups::told))]
 fn tell_heard<R: Wait, D: Tape, K: Replaced>(
@@ -219,6 +141,7 @@ fn tell_heard<R: Wait, D: Tape, K: Replaced>(
     seals: &K,
 ) -> Result<(), ServeFault>
     requires ready { IsReady D.seen D.may_leave D.unsynced hall.old.serving }
+    requires booked { hall.old.asked ≡ [] }
     requires dated { IsOnDay hall.old.today entry.now (K.may_leave seals.now) }
     ensures told { OnOk result (IsTold hall.old hall.new) }
     ensures goes { OnOk result (GoesOn D.seen D.may_leave D.unsynced D.failure_count hall.old.serving hall.new.serving) }
@@ -228,7 +151,6 @@ fn tell_heard<R: Wait, D: Tape, K: Replaced>(
     let Ok(_told) = tell_all(rt, alloc, hall, post, entry, seals) else {
         return Err(ServeFault::Memory);
     };
-    hall.end_turns();
     Ok(())
 }
 
@@ -241,6 +163,7 @@ fn book_heard<R: Wait, D: Tape>(
 ) -> Result<(), ServeFault>
     requires ready { IsReady D.seen D.may_leave D.unsynced hall.old.serving }
     ensures booked { OnOk result (IsBooked hall.old hall.new) }
+    ensures none { hall.new.asked ≡ [] }
     ensures goes { OnOk result (GoesOn D.seen D.may_leave D.unsynced D.failure_count hall.old.serving hall.new.serving) }
     ensures fails { IfErr result (Fails D.seen D.may_leave D.unsynced D.failure_count hall.old.serving hall.new.serving) }
     ensures day { hall.new.today ≡ hall.old.today }
@@ -251,7 +174,8 @@ fn book_heard<R: Wait, D: Tape>(
     }
 }
 
-// Tells the manager and each desk what concerns it. Looks go by it from then on.
+// Tells the manager and each desk what concerns it, where all that was heard is booked, and on the disk. Looks go by it from then on, and it is told once.
+#[tactic(auto, using(crate::proofs::Goes::ready_same))]
 fn tell_all<R: Wait, D: Tape, K: Replaced>(
     rt: &R,
     alloc: Global,
@@ -259,14 +183,21 @@ fn tell_all<R: Wait, D: Tape, K: Replaced>(
     post: &Post,
     entry: &Sealed,
     seals: &K,
-) -> Result<Delivered, Memory>
+) -> Result<DeliveredEach<Notice>, Memory>
+    requires ready { IsReady D.seen D.may_leave D.unsynced hall.old.serving }
+    requires booked { hall.old.asked ≡ [] }
     requires dated { IsOnDay hall.old.today entry.now (K.may_leave seals.now) }
     ensures told { IfOk result (AreTold hall.old) }
-    ensures same { hall.new ≡ hall.old }
+    ensures over { OnOk result (hall.new.turns ≡ []) }
+    ensures same { (hall.new.serving ≡ hall.old.serving) × (hall.new.desks ≡ hall.old.desks)
+        × (hall.new.manager ≡ hall.old.manager) × (hall.new.asked ≡ hall.old.asked) × (hall.new.today ≡ hall.old.today) × (hall.new.flights ≡ hall.old.flights)
+        × (hall.new.backlogs ≡ hall.old.backlogs) }
 {
-    let texts = texts_of(alloc, hall)?;
+    let notices = notices_of(alloc, hall)?;
     let by = post.look_on(rt, hall.today(), lines_kept(hall));
-    Ok(deliver(rt, post, hall, &by, entry, seals, texts))
+    let told = deliver(rt, post, hall, &by, entry, seals, notices);
+    hall.end_turns();
+    Ok(told)
 }
 
 // How many lines the journal has. All of them are on the disk, and visible.
@@ -277,29 +208,29 @@ fn lines_kept<D: Tape>(hall: &Hall<'_, D>) -> u32
 }
 
 // What the manager and each desk is told, in their order.
-#[tactic(auto, using(crate::proofs::Groups::no_texts, crate::proofs::Groups::text_told, crate::proofs::Groups::all_texts))]
-fn texts_of<D: Tape>(alloc: Global, hall: &mut Hall<'_, D>) -> Result<Vec<Vec<u8>>, Memory>
-    ensures texts { IfOk result (λ texts. AreTold hall.old (map (λ t. t.items) texts.items)) }
+#[tactic(auto, using(crate::proofs::Groups::no_notices, crate::proofs::Groups::all_notices))]
+fn notices_of<D: Tape>(alloc: Global, hall: &mut Hall<'_, D>) -> Result<Vec<Notice>, Memory>
+    ensures notices { IfOk result (λ notices. AreTold hall.old notices.items) }
     ensures same { hall.new ≡ hall.old }
 {
-    let mut texts = Vec::new(alloc);
+    let mut notices = Vec::new(alloc);
     let count = hall.count();
     for session in 0..count + 1 {
-        let text = hall.told(alloc, session)?;
-        add_text(&mut texts, text)?;
+        let notice = notice_of(alloc, hall, session)?;
+        add_notice(&mut notices, notice)?;
     }
-    Ok(texts)
+    Ok(notices)
 }
 
-#[tactic(auto, using(crate::proofs::Groups::map_more))]
-fn add_text(texts: &mut Vec<Vec<u8>>, text: Vec<u8>) -> Result<(), Memory>
-    ensures { OnOk result (map (λ t. t.items) texts.new.items ≡ map (λ t. t.items) texts.old.items ++ text.items ∷ []) }
+fn add_notice(notices: &mut Vec<Notice>, notice: Notice) -> Result<(), Memory>
+    ensures { OnOk result (notices.new.items ≡ notices.old.items ++ notice ∷ []) }
 {
-    texts.push(text)?;
+    notices.push(notice)?;
     Ok(())
 }
 
-// Lets each text wait for its desk: looks go by the day and the lines that they tell of, and the seal has the day.
+// Lets each wait for its desk: the lines that they tell of are on the disk, and nothing that was heard is still to be booked. Looks go by the day
+// and these lines, and the seal has the day.
 fn deliver<R: Wait, D: Tape, K: Replaced>(
     rt: &R,
     post: &Post,
@@ -307,12 +238,14 @@ fn deliver<R: Wait, D: Tape, K: Replaced>(
     by: &LooksGoBy,
     entry: &Sealed,
     seals: &K,
-    texts: Vec<Vec<u8>>,
-) -> Delivered
+    notices: Vec<Notice>,
+) -> DeliveredEach<Notice>
+    requires ready { IsReady D.seen D.may_leave D.unsynced hall.now.serving }
+    requires booked { hall.now.asked ≡ [] }
     requires dated { IsOnDay hall.now.today entry.now (K.may_leave seals.now) }
     requires looks { (by.now.today ≡ hall.now.today) × (by.now.lines ≡ length hall.now.serving.journal) }
-    requires texts { AreTold hall.now (map (λ t. t.items) texts.items) }
+    requires notices { AreTold hall.now notices.items }
     ensures { AreTold hall.now result }
 {
-    post.deliver(rt, texts)
+    post.deliver_each(rt, notices)
 }
