@@ -216,7 +216,7 @@ fn sort_out_beside<'a>(
 ) -> Result<(), Refusal<'a>>
     requires few { length scripts.old.items ≤ 8 }
     ensures each { OnOk result (length scripts.new.items ≡ length scripts.old.items) }
-    ensures cleaned { OnOk result (IfSome refused (λ name. AreCleaned scripts.new.items)) }
+    ensures cleaned { OnOk result (IfSome refused.entry (λ name. AreCleaned scripts.new.items)) }
 {
     let Some(name) = refused else {
         return Ok(());
