@@ -7,7 +7,7 @@ use Rattle.desk_lines.specs.declared.desk.Meaning.{Meaning}
 use Rattle.desk_lines.specs.declared.desk.Meaning.TheVariants.{Look}
 use Rattle.desk_pipes.specs.declared.watch.Watched.{Watched}
 use Rattle.desk_looks.specs.Asking.{IsUnseen}
-use Rattle.desk_looks.specs.Watching.{IsHeardOnly, IsLookedOut, IsPassedWord, begins_word, is_again, IsUnanswered, IsWatchedBy, IsWatchedLook, Looking}
+use Rattle.desk_looks.specs.Watching.{IsHeardOnly, IsLookedOut, IsPassedWord, begins_word, is_again, IsUnanswered, IsWaitedFor, IsWatchedBy, IsWatchedLook, Looking}
 use Rattle.desk_looks.specs.Windows.{Windowed}
 use Rattle.desk_looks.specs.declared.question.Unseen.{Unseen}
 
@@ -32,6 +32,14 @@ pub word_passed : (old new : Looking) (today : ℕ) (line : List ℕ) (meaning :
 word_passed old new today line meaning awaited is heard so window =
     subst (λ (b : Bool). IsHeardOnly b old new today line awaited) (sym is)
     (record { meaning = meaning; has_heard = heard; awaited_is = so; window_is = window })
+
+-- the same where no look is answered
+pub word_waited : (old new : Desk) (today : ℕ) (line : List ℕ) (meaning : Meaning) (awaited : Bool) → begins_word line ≡ true
+    → HasHeard (record old { today = today }) new line meaning → awaited ≡ is_again meaning
+    → IsWaitedFor (begins_word line) old new today line awaited
+word_waited old new today line meaning awaited is heard so =
+    subst (λ (b : Bool). IsWaitedFor b old new today line awaited) (sym is)
+    (record { meaning = meaning; has_heard = heard; awaited_is = so })
 
 -- a look, whose window was not used before
 pub look_heard : (old mid new : Looking) (today lines : ℕ) (line : List ℕ) (look : Looked) (watched : Watched)

@@ -77,6 +77,17 @@ pub record IsPassedWord (old new : Looking) (today : ℕ) (line : List ℕ) (awa
   pub awaited_is : awaited ≡ is_again meaning
   pub window_is : new.window ≡ old.window
 
+-- where no look is answered a word to the host is heard
+pub record IsWordHeard (old new : Desk) (today : ℕ) (line : List ℕ) (awaited : Bool) : Type 0 where
+  pub meaning : Meaning
+  pub has_heard : HasHeard (record old { today = today }) new line meaning
+  pub awaited_is : awaited ≡ is_again meaning
+
+-- and it is waited for where it asks to be told again
+abbrev pub IsWaitedFor : Bool → Desk → Desk → ℕ → List ℕ → Bool → Type 0
+IsWaitedFor true old new today line awaited = IsWordHeard old new today line awaited
+IsWaitedFor false old new today line awaited = (awaited ≡ false) × (new ≡ old)
+
 -- a line that waits for the host whatever it is
 abbrev pub IsHeardOnly : Bool → Looking → Looking → ℕ → List ℕ → Bool → Type 0
 IsHeardOnly true old new today line awaited = IsPassedWord old new today line awaited

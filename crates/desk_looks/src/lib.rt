@@ -11,6 +11,7 @@ mod question;
 mod reading;
 mod season;
 mod window;
+mod words;
 
 pub use gallery::Gallery;
 pub use lookout::Lookout;
@@ -19,3 +20,4 @@ pub use question::{Question, Unseen, look_told};
 pub use reading::start_reader;
 pub use season::Season;
 pub use window::Window;
+pub use words::Words;

@@ -134,8 +134,8 @@ impl<'a> Watch for Lookout<'a> {
     }
 }
 
-// Whether a line is a word to the host.
-fn begins_word(line: &[u8]) -> bool
+/// Whether a line is a word to the host.
+pub(crate) fn begins_word(line: &[u8]) -> bool
     ensures { result ≡ begins_word line.now }
 {
     match line {
@@ -144,8 +144,8 @@ fn begins_word(line: &[u8]) -> bool
     }
 }
 
-// Whether it asks to be told again.
-fn is_again(meaning: &Meaning) -> bool
+/// Whether it asks to be told again.
+pub(crate) fn is_again(meaning: &Meaning) -> bool
     ensures { result ≡ is_again meaning.now }
 {
     matches!(meaning, Meaning::Again(_))

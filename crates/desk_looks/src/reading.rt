@@ -2,9 +2,10 @@
 
 use crate::lookout::Lookout;
 use crate::looks::Looks;
+use crate::words::Words;
 use airline_base::Memory;
 use desk_lines::Desk;
-use desk_pipes::{Mark, Post, Unwatched, read_desk};
+use desk_pipes::{Mark, Post, read_desk};
 use ssim_flights::Served;
 use std::alloc::Global;
 use std::io::Read;
@@ -16,8 +17,8 @@ use std::thread::Threads;
 const NO_EPOCH: u32 = 0;
 
 /// Starts the thread that reads a session's lines. It ends with the host, or where its pipe fails, and nobody waits for it. Where the host's
-/// mark is written to what is read, the lines ahead of it are earlier ones. Where memory is wanting for an index of the flights, all lines
-/// wait for the host.
+/// mark is written to what is read, the lines ahead of it are earlier ones. Where memory is wanting for an index of the flights, looks
+/// wait for the host too.
 pub fn start_reader<R: Threads + Wait + Copy + Send + 'static, I: Read + Send + Drop + 'static>(
     rt: &R,
     alloc: Global,
@@ -52,12 +53,12 @@ fn read_there<R: Wait + Drop, I: Read + Drop>(
 ) {
     let mut input = input;
     let Some(looks) = looks else {
-        let _ = read_desk(&rt, alloc, &post, session, mark, &mut input, &mut Unwatched);
+        read_words(&rt, alloc, &post, session, mark, &mut input);
         return;
     };
     let (season, window) = looks.into_parts();
     let Ok(served) = Served::new(alloc, season.flights()) else {
-        let _ = read_desk(&rt, alloc, &post, session, mark, &mut input, &mut Unwatched);
+        read_words(&rt, alloc, &post, session, mark, &mut input);
         return;
     };
     let (today, _) = post.outlook(&rt);
@@ -69,4 +70,18 @@ fn read_there<R: Wait + Drop, I: Read + Drop>(
         Desk::silent(today, NO_EPOCH),
     );
     let _ = read_desk(&rt, alloc, &post, session, mark, &mut input, &mut lookout);
+}
+
+// Where no look is answered.
+fn read_words<R: Wait, I: Read>(
+    rt: &R,
+    alloc: Global,
+    post: &Post,
+    session: u8,
+    mark: Option<Mark>,
+    input: &mut I,
+) {
+    let (today, _) = post.outlook(rt);
+    let mut words = Words::new(Desk::silent(today, NO_EPOCH));
+    let _ = read_desk(rt, alloc, post, session, mark, input, &mut words);
 }
