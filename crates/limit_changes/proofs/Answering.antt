@@ -1,17 +1,17 @@
 -- The answer over a replay.
-use Rattle.std.proofs.Common.{◌≡◌, ℕ, List, ap, subst, ◌∙◌}
+use Rattle.std.proofs.Common.{◌≡◌, ℕ, true, false, List, [], ◌++◌, ap, subst, ◌∙◌}
 use Rattle.ssim_flights.specs.declared.flight.Flight.{Flight as Flown}
 use Rattle.seat_nesting.specs.Nesting.{Ladders}
 use Rattle.seat_rules.specs.Inventory.{Inventory, state_now}
 use Rattle.seat_rules.specs.Journal.{replay}
 use Rattle.seat_rules.specs.Sequential.{State}
 use Rattle.seat_desk.specs.AuditDesk.{IsReplayOf}
-use Rattle.seat_desk.specs.FlightsDesk.{IsText}
-use Rattle.limit_changes.specs.Answers.{AreChangesAfter, IsChangesText, IsShortsText}
-use Rattle.limit_changes.specs.Legs.{kept_legs}
-use Rattle.limit_changes.specs.Lines.{IsRowLine, IsShortLine}
+use Rattle.seat_desk.specs.FlightsDesk.{IsPut, IsText}
+use Rattle.limit_changes.specs.Answers.{AreChangesAfter, AreShortLines, IsChangesText, IsShortsText}
+use Rattle.limit_changes.specs.Legs.{legs_by}
+use Rattle.limit_changes.specs.Lines.{IsRowLine, IsShortLine, IsUnnamedLine}
 use Rattle.limit_changes.specs.Rows.{rows}
-use Rattle.limit_changes.specs.Shorts.{shorts}
+use Rattle.limit_changes.specs.Shorts.{shorts, unnamed}
 use Rattle.limit_changes.specs.declared.legs.LegsAsked.{LegsAsked}
 use Rattle.limit_changes.specs.declared.legs.NamedLeg.{NamedLeg}
 use Rattle.limit_changes.specs.declared.rows.Row.{Row}
@@ -29,14 +29,31 @@ after_replay asked flights grid rows wanted journal text core is same are = reco
       (subst (λ (g : Ladders). IsChangesText asked flights wanted (replay g core.journal) text) is.grid_is are);
 }
 
-pub changes_text : (asked : LegsAsked) (flights : List Flown) (wanted : Ladders) (s : State) (legs slice : List NamedLeg) (all shown : List Row)
-    (text : List ℕ) → legs ≡ kept_legs asked flights → slice ≡ legs → all ≡ rows wanted s slice → shown ≡ all
+pub changes_text : (asked : LegsAsked) (flights found : List Flown) (wanted : Ladders) (s : State) (legs slice : List NamedLeg) (all shown : List Row)
+    (text : List ℕ) → found ≡ flights → legs ≡ legs_by true found asked flights → slice ≡ legs → all ≡ rows wanted s slice → shown ≡ all
     → IsText (λ n. IsRowLine) 0 shown text → IsChangesText asked flights wanted s text
-changes_text asked flights wanted s legs slice all shown text kept same are is lines =
-    subst (λ (l : List Row). IsText (λ n. IsRowLine) 0 l text) (is ∙ are ∙ ap (rows wanted s) (same ∙ kept)) lines
+changes_text asked flights found wanted s legs slice all shown text own kept same are is lines =
+    subst (λ (l : List Row). IsText (λ n. IsRowLine) 0 l text)
+    (is ∙ are ∙ ap (rows wanted s) (same ∙ kept ∙ ap (λ (f : List Flown). legs_by true f asked flights) own)) lines
 
-pub shorts_text : (asked : LegsAsked) (flights : List Flown) (wanted : Ladders) (s : State) (legs slice : List NamedLeg) (all shown : List Short)
-    (text : List ℕ) → legs ≡ kept_legs asked flights → slice ≡ legs → all ≡ shorts wanted s slice → shown ≡ all
-    → IsText (λ n. IsShortLine) 0 shown text → IsShortsText asked flights wanted s text
-shorts_text asked flights wanted s legs slice all shown text kept same are is lines =
-    subst (λ (l : List Short). IsText (λ n. IsShortLine) 0 l text) (is ∙ are ∙ ap (shorts wanted s) (same ∙ kept)) lines
+pub both_texts : (short unnamed : List Short) (none mid text : List ℕ) → none ≡ [] → IsPut (λ n. IsShortLine) 0 short none mid
+    → IsPut (λ n. IsUnnamedLine) 0 unnamed mid text → AreShortLines short unnamed text
+both_texts short unnamed none mid text empty first last = record {
+  first = first.part;
+  are_first = first.is_text;
+  last = last.part;
+  are_last = last.is_text;
+  written = last.written ∙ ap (λ (l : List ℕ). l ++ last.part) (first.written ∙ ap (λ (l : List ℕ). l ++ first.part) empty);
+}
+
+pub shorts_text : (asked : LegsAsked) (flights found : List Flown) (wanted : Ladders) (s : State) (legs slice others slice' : List NamedLeg)
+    (all shown left shown' : List Short) (text : List ℕ) → found ≡ flights → legs ≡ legs_by true found asked flights → slice ≡ legs
+    → all ≡ shorts wanted s slice → shown ≡ all → others ≡ legs_by false found asked flights → slice' ≡ others → left ≡ unnamed wanted s slice'
+    → shown' ≡ left → AreShortLines shown shown' text → IsShortsText asked flights wanted s text
+shorts_text asked flights found wanted s legs slice others slice' all shown left shown' text own kept same are is kept' same' are' is' lines =
+    let one : shown ≡ shorts wanted s (legs_by true flights asked flights) =
+    is ∙ are ∙ ap (shorts wanted s) (same ∙ kept ∙ ap (λ (f : List Flown). legs_by true f asked flights) own) in
+    let two : shown' ≡ unnamed wanted s (legs_by false flights asked flights) =
+    is' ∙ are' ∙ ap (unnamed wanted s) (same' ∙ kept' ∙ ap (λ (f : List Flown). legs_by false f asked flights) own) in
+    subst (λ (l : List Short). AreShortLines l (unnamed wanted s (legs_by false flights asked flights)) text) one
+    (subst (λ (l : List Short). AreShortLines shown l text) two lines)

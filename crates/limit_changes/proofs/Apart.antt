@@ -5,7 +5,7 @@ use Rattle.std.proofs.lemmas.Bool.{and_parts, eqb-true}
 use Rattle.ssim_flights.specs.declared.flight.DatedLeg.{DatedLeg}
 use Rattle.ssim_flights.specs.declared.flight.Flight.{Flight as Flown}
 use Rattle.seat_lists.specs.Picking.{keeps_flight}
-use Rattle.limit_changes.specs.Legs.{each_from, is_kept, kept_leg, kept_legs, kept_on, named_leg}
+use Rattle.limit_changes.specs.Legs.{each_from, is_chosen, kept_leg, kept_on, legs_by, named_leg}
 use Rattle.limit_changes.specs.declared.legs.LegsAsked.{LegsAsked}
 use Rattle.limit_changes.specs.declared.legs.NamedLeg.{NamedLeg}
 use Rattle.limit_changes.proofs.Walking.{AreApart, is_at}
@@ -74,33 +74,33 @@ module _ {A : Type 0} (tag : NamedLeg → ℕ) (same : (a b : NamedLeg) (f l : �
 
 -- ---- the legs of a flight, and of all
 
-module _ (asked : LegsAsked) where
+module _ (named : Bool) (all : List Flown) (asked : LegsAsked) where
   leg_all : (P : NamedLeg → Type 0) (i : ℕ) (flight : Flown) (j : ℕ) (leg : DatedLeg) → P (named_leg i flight j leg)
-      → AllByRecursion P (kept_leg asked i flight j leg)
-  leg_all P i flight j leg is = cases (is_kept asked leg) where
+      → AllByRecursion P (kept_leg named all asked i flight j leg)
+  leg_all P i flight j leg is = cases (is_chosen named all asked i flight j leg) where
     cases : (b : Bool) → AllByRecursion P (if b then named_leg i flight j leg ∷ [] else [])
     cases true = (is, tt)
     cases false = tt
 
-  leg_apart : (i : ℕ) (flight : Flown) (j : ℕ) (leg : DatedLeg) → AreApart (kept_leg asked i flight j leg)
-  leg_apart i flight j leg = cases (is_kept asked leg) where
+  leg_apart : (i : ℕ) (flight : Flown) (j : ℕ) (leg : DatedLeg) → AreApart (kept_leg named all asked i flight j leg)
+  leg_apart i flight j leg = cases (is_chosen named all asked i flight j leg) where
     cases : (b : Bool) → AreApart (if b then named_leg i flight j leg ∷ [] else [])
     cases true = (tt, tt)
     cases false = tt
 
-  flight_all : (i : ℕ) (flight : Flown) → AllByRecursion (λ k. k.flight ≡ i) (kept_on asked i flight)
+  flight_all : (i : ℕ) (flight : Flown) → AllByRecursion (λ k. k.flight ≡ i) (kept_on named all asked i flight)
   flight_all i flight = cases (keeps_flight asked.flight flight) where
-    cases : (b : Bool) → AllByRecursion (λ k. k.flight ≡ i) (if b then each_from (kept_leg asked i flight) 0 flight.legs else [])
-    cases true = all_from (λ k. k.flight ≡ i) (kept_leg asked i flight) (λ (j : ℕ) (leg : DatedLeg). leg_all (λ k. k.flight ≡ i) i flight j leg refl) 0 flight.legs
+    cases : (b : Bool) → AllByRecursion (λ k. k.flight ≡ i) (if b then each_from (kept_leg named all asked i flight) 0 flight.legs else [])
+    cases true = all_from (λ k. k.flight ≡ i) (kept_leg named all asked i flight) (λ (j : ℕ) (leg : DatedLeg). leg_all (λ k. k.flight ≡ i) i flight j leg refl) 0 flight.legs
     cases false = tt
 
-  flight_apart : (i : ℕ) (flight : Flown) → AreApart (kept_on asked i flight)
+  flight_apart : (i : ℕ) (flight : Flown) → AreApart (kept_on named all asked i flight)
   flight_apart i flight = cases (keeps_flight asked.flight flight) where
-    cases : (b : Bool) → AreApart (if b then each_from (kept_leg asked i flight) 0 flight.legs else [])
+    cases : (b : Bool) → AreApart (if b then each_from (kept_leg named all asked i flight) 0 flight.legs else [])
     cases true =
-        each_apart (λ k. k.leg) by_leg (kept_leg asked i flight) (leg_apart i flight)
+        each_apart (λ k. k.leg) by_leg (kept_leg named all asked i flight) (leg_apart i flight)
         (λ (j : ℕ) (leg : DatedLeg). leg_all (λ k. k.leg ≡ j) i flight j leg refl) 0 flight.legs
     cases false = tt
 
-  pub kept_apart : (flights : List Flown) → AreApart (kept_legs asked flights)
-  kept_apart flights = each_apart (λ k. k.flight) by_flight (kept_on asked) flight_apart flight_all 0 flights
+  pub kept_apart : (flights : List Flown) → AreApart (legs_by named all asked flights)
+  kept_apart flights = each_apart (λ k. k.flight) by_flight (kept_on named all asked) flight_apart flight_all 0 flights

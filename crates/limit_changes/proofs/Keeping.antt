@@ -6,7 +6,7 @@ use Rattle.ssim_flights.proofs.Walks.{drop_step}
 use Rattle.ssim_flights.specs.declared.flight.DatedLeg.{DatedLeg}
 use Rattle.ssim_flights.specs.declared.flight.Flight.{Flight as Flown}
 use Rattle.seat_lists.specs.Picking.{keeps_flight}
-use Rattle.limit_changes.specs.Legs.{each_from, is_kept, kept_leg, kept_on, named_leg}
+use Rattle.limit_changes.specs.Legs.{each_from, is_chosen, kept_leg, kept_on, named_leg}
 use Rattle.limit_changes.specs.declared.legs.LegsAsked.{LegsAsked}
 use Rattle.limit_changes.specs.declared.legs.NamedLeg.{NamedLeg}
 
@@ -31,24 +31,24 @@ module _ {A B : Type 0} where
 
 -- ---- a flight
 
-pub flight_left : (asked : LegsAsked) (i : ℕ) (flight : Flown) (all : List NamedLeg) → keeps_flight asked.flight flight ≡ false
-    → all ≡ all ++ kept_on asked i flight
-flight_left asked i flight all e =
-    sym (append-nil all) ∙ ap (λ (b : Bool). all ++ (if b then each_from (kept_leg asked i flight) 0 flight.legs else [])) (sym e)
+pub flight_left : (named : Bool) (found : List Flown) (asked : LegsAsked) (i : ℕ) (flight : Flown) (all : List NamedLeg) → keeps_flight asked.flight flight ≡ false
+    → all ≡ all ++ kept_on named found asked i flight
+flight_left named found asked i flight all e =
+    sym (append-nil all) ∙ ap (λ (b : Bool). all ++ (if b then each_from (kept_leg named found asked i flight) 0 flight.legs else [])) (sym e)
 
-pub flight_kept : (asked : LegsAsked) (i : ℕ) (flight : Flown) (old new : List NamedLeg) → keeps_flight asked.flight flight ≡ true
-    → new ≡ old ++ each_from (kept_leg asked i flight) 0 flight.legs → new ≡ old ++ kept_on asked i flight
-flight_kept asked i flight old new e put =
-    put ∙ ap (λ (b : Bool). old ++ (if b then each_from (kept_leg asked i flight) 0 flight.legs else [])) (sym e)
+pub flight_kept : (named : Bool) (found : List Flown) (asked : LegsAsked) (i : ℕ) (flight : Flown) (old new : List NamedLeg) → keeps_flight asked.flight flight ≡ true
+    → new ≡ old ++ each_from (kept_leg named found asked i flight) 0 flight.legs → new ≡ old ++ kept_on named found asked i flight
+flight_kept named found asked i flight old new e put =
+    put ∙ ap (λ (b : Bool). old ++ (if b then each_from (kept_leg named found asked i flight) 0 flight.legs else [])) (sym e)
 
 -- ---- a leg
 
-pub leg_left : (asked : LegsAsked) (i : ℕ) (flight : Flown) (j : ℕ) (leg : DatedLeg) (all : List NamedLeg) → is_kept asked leg ≡ false
-    → all ≡ all ++ kept_leg asked i flight j leg
-leg_left asked i flight j leg all e =
+pub leg_left : (named : Bool) (found : List Flown) (asked : LegsAsked) (i : ℕ) (flight : Flown) (j : ℕ) (leg : DatedLeg) (all : List NamedLeg) → is_chosen named found asked i flight j leg ≡ false
+    → all ≡ all ++ kept_leg named found asked i flight j leg
+leg_left named found asked i flight j leg all e =
     sym (append-nil all) ∙ ap (λ (b : Bool). all ++ (if b then named_leg i flight j leg ∷ [] else [])) (sym e)
 
-pub leg_kept : (asked : LegsAsked) (i : ℕ) (flight : Flown) (j : ℕ) (leg : DatedLeg) (x : NamedLeg) (old new : List NamedLeg)
-    → is_kept asked leg ≡ true → x ≡ named_leg i flight j leg → new ≡ old ++ x ∷ [] → new ≡ old ++ kept_leg asked i flight j leg
-leg_kept asked i flight j leg x old new e is put =
+pub leg_kept : (named : Bool) (found : List Flown) (asked : LegsAsked) (i : ℕ) (flight : Flown) (j : ℕ) (leg : DatedLeg) (x : NamedLeg) (old new : List NamedLeg)
+    → is_chosen named found asked i flight j leg ≡ true → x ≡ named_leg i flight j leg → new ≡ old ++ x ∷ [] → new ≡ old ++ kept_leg named found asked i flight j leg
+leg_kept named found asked i flight j leg x old new e is put =
     put ∙ ap (λ (y : NamedLeg). old ++ y ∷ []) is ∙ ap (λ (b : Bool). old ++ (if b then named_leg i flight j leg ∷ [] else [])) (sym e)

@@ -3,7 +3,7 @@ use Rattle.std.proofs.Common.{◌≡◌, ℕ, List, [], ◌∷◌, ◌++◌, ref
 use Rattle.airline_base.specs.Days.{IsDateText}
 use Rattle.seat_desk.specs.FlightsDesk.{IsPut}
 use Rattle.seat_lists.proofs.LiveTexts.{one_line}
-use Rattle.limit_changes.specs.Lines.{IsDayPut, IsLegName, IsNamePut, IsRowLine, IsShortLine, entry_text, front_text, pair_text, short_text}
+use Rattle.limit_changes.specs.Lines.{IsDayPut, IsLegName, IsNamePut, IsRowLine, IsShortLine, IsUnnamedLine, entry_text, front_text, pair_text, short_text, unnamed_text}
 use Rattle.limit_changes.specs.declared.legs.NamedLeg.{NamedLeg}
 use Rattle.limit_changes.specs.declared.rows.Row.{Row}
 use Rattle.limit_changes.specs.declared.shorts.Short.{Short}
@@ -41,3 +41,12 @@ short_put short old a b new is_a name is_new =
     one_line IsShortLine short old new line is_line
     (is_new ∙ ap (λ (l : List ℕ). l ++ short_text short) (name.written ∙ ap (λ (l : List ℕ). l ++ name.part) is_a)
     ∙ three old (codes "SHORT ") name.part (short_text short))
+
+pub unnamed_put : (short : Short) (old a b new : List ℕ) → a ≡ old ++ codes "SHORT " → IsNamePut short.leg a b → new ≡ b ++ unnamed_text short
+    → IsPut (λ n. IsUnnamedLine) 0 (short ∷ []) old new
+unnamed_put short old a b new is_a name is_new =
+    let line : List ℕ = codes "SHORT " ++ name.part ++ unnamed_text short in
+    let is_line : IsUnnamedLine short line = record { name = name.part; is_name = name.is_name; written = refl } in
+    one_line IsUnnamedLine short old new line is_line
+    (is_new ∙ ap (λ (l : List ℕ). l ++ unnamed_text short) (name.written ∙ ap (λ (l : List ℕ). l ++ name.part) is_a)
+    ∙ three old (codes "SHORT ") name.part (unnamed_text short))

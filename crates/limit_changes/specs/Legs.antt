@@ -1,8 +1,9 @@
--- The legs that are asked for, each with what names it.
-use Rattle.std.specs.Prelude.{ℕ, ◌+◌, ◌&&◌, Bool, List, [], ◌∷◌, ◌++◌, if◌then◌else◌}
+-- The legs that are asked for, each with what names it; and those of them that their own names do not find, of which no row can be written.
+use Rattle.std.specs.Prelude.{ℕ, ◌+◌, ◌&&◌, Bool, true, false, not, List, [], ◌∷◌, ◌++◌, if◌then◌else◌}
 use Rattle.ssim_flights.specs.declared.flight.DatedLeg.{DatedLeg}
 use Rattle.ssim_flights.specs.declared.flight.Flight.{Flight as Flown}
-use Rattle.seat_questions.specs.Rooms.{keeps_day, keeps_pair}
+use Rattle.seat_questions.specs.Rooms.{is_found, keeps_day, keeps_pair}
+use Rattle.seat_questions.specs.Why.{one_leg}
 use Rattle.seat_lists.specs.Picking.{keeps_flight}
 use Rattle.limit_changes.specs.declared.legs.LegsAsked.{LegsAsked}
 use Rattle.limit_changes.specs.declared.legs.NamedLeg.{NamedLeg}
@@ -25,14 +26,36 @@ named_leg i flight j leg = record {
 abbrev pub is_kept : LegsAsked → DatedLeg → Bool
 is_kept asked leg = keeps_day asked.day leg.day && keeps_pair asked.pair leg
 
--- a leg, where it is asked for
-abbrev pub kept_leg : LegsAsked → ℕ → Flown → ℕ → DatedLeg → List NamedLeg
-kept_leg asked i flight j leg = (if is_kept asked leg then named_leg i flight j leg ∷ [] else [])
+-- a row with the flight, the day and the pair of leg j of flight i is one for this very leg, and not for another
+abbrev pub is_named : List Flown → ℕ → Flown → ℕ → DatedLeg → Bool
+is_named flights i flight j leg = is_found flights flight (one_leg i j) leg
+
+-- as it is to be
+abbrev pub is_so : Bool → Bool → Bool
+is_so true is = is
+is_so false is = not is
+
+-- the leg is asked for, and its own name finds it, or does not
+abbrev pub is_chosen : Bool → List Flown → LegsAsked → ℕ → Flown → ℕ → DatedLeg → Bool
+is_chosen named flights asked i flight j leg = is_kept asked leg && is_so named (is_named flights i flight j leg)
+
+-- such a leg
+abbrev pub kept_leg : Bool → List Flown → LegsAsked → ℕ → Flown → ℕ → DatedLeg → List NamedLeg
+kept_leg named flights asked i flight j leg = (if is_chosen named flights asked i flight j leg then named_leg i flight j leg ∷ [] else [])
 
 -- those of a flight, where it is asked for
-abbrev pub kept_on : LegsAsked → ℕ → Flown → List NamedLeg
-kept_on asked i flight = (if keeps_flight asked.flight flight then each_from (kept_leg asked i flight) 0 flight.legs else [])
+abbrev pub kept_on : Bool → List Flown → LegsAsked → ℕ → Flown → List NamedLeg
+kept_on named flights asked i flight =
+    (if keeps_flight asked.flight flight then each_from (kept_leg named flights asked i flight) 0 flight.legs else [])
 
--- those of all flights
+-- those of all flights, by whether their own names find them
+abbrev pub legs_by : Bool → List Flown → LegsAsked → List Flown → List NamedLeg
+legs_by named flights asked all = each_from (kept_on named flights asked) 0 all
+
+-- the legs that are asked for and that rows can name
 abbrev pub kept_legs : LegsAsked → List Flown → List NamedLeg
-kept_legs asked flights = each_from (kept_on asked) 0 flights
+kept_legs asked flights = legs_by true flights asked flights
+
+-- and those that no row names
+abbrev pub unnamed_legs : LegsAsked → List Flown → List NamedLeg
+unnamed_legs asked flights = legs_by false flights asked flights

@@ -49,6 +49,15 @@ pub record IsShortLine (short : Short) (line : List ℕ) : Type 0 where
   pub is_name : IsLegName short.leg name
   pub written : line ≡ codes "SHORT " ++ name ++ short_text short
 
+-- behind a leg that no row names: the class, what is wanted, and that no row can ask for it
+abbrev pub unnamed_text : Short → List ℕ
+unnamed_text short = codes " " ++ (short.class ∷ []) ++ codes " WANTED " ++ decimal short.wanted ++ codes " UNNAMED" ++ 10 ∷ []
+
+pub record IsUnnamedLine (short : Short) (line : List ℕ) : Type 0 where
+  pub name : List ℕ
+  pub is_name : IsLegName short.leg name
+  pub written : line ≡ codes "SHORT " ++ name ++ unnamed_text short
+
 -- the name of a leg is written behind what was there
 pub record IsNamePut (leg : NamedLeg) (old new : List ℕ) : Type 0 where
   pub part : List ℕ

@@ -25,6 +25,14 @@ shorts_from leg wanted seats (s ∷ lower) (t ∷ new) =
 abbrev pub shorts_of : Ladders → State → NamedLeg → List Short
 shorts_of wanted s leg = shorts_from leg (wanted_on wanted leg) (seats_now s leg) (steps_now s leg) (reached_on wanted s leg)
 
+-- a leg that no row names stays as it is
+abbrev pub unnamed_of : Ladders → State → NamedLeg → List Short
+unnamed_of wanted s leg = shorts_from leg (wanted_on wanted leg) (seats_now s leg) (steps_now s leg) (steps_now s leg)
+
+-- those of all such legs
+abbrev pub unnamed : Ladders → State → List NamedLeg → List Short
+unnamed wanted s legs = flat_map (unnamed_of wanted s) legs
+
 -- those of all legs
 abbrev pub shorts : Ladders → State → List NamedLeg → List Short
 shorts wanted s legs = flat_map (shorts_of wanted s) legs

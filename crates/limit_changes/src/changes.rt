@@ -5,18 +5,18 @@ ghost use Rattle.seat_limits.specs.Authorised.{authorised_grid};
 ghost use Rattle.seat_rules.specs.Inventory.{state_now};
 ghost use Rattle.seat_desk.specs.AuditDesk.{IsUnlawful, most_journal_bytes};
 ghost use Rattle.seat_desk.specs.FlightsDesk.{IsText};
-ghost use Rattle.limit_changes.specs.Answers.{AreChangesAfter, IsChangesText, IsShortsText};
-ghost use Rattle.limit_changes.specs.Lines.{IsRowLine, IsShortLine};
+ghost use Rattle.limit_changes.specs.Answers.{AreChangesAfter, AreShortLines, IsChangesText, IsShortsText};
+ghost use Rattle.limit_changes.specs.Lines.{IsRowLine};
 
-use crate::legs::{LegsAsked, kept_legs};
-use crate::lines::{put_rows, put_shorts};
+use crate::legs::{LegsAsked, legs_by};
+use crate::lines::{put_rows, put_shorts, put_unnamed};
 use crate::rows::{Row, changes_of};
-use crate::shorts::{Short, shorts_of};
+use crate::shorts::{Short, shorts_of, unnamed_of};
 use seat_core::Core;
 use seat_desk::{DeskFault, Loaded, Question, replayed_in_parts};
 use seat_limits::{LimitRow, build_grid};
 use seat_nesting::Grid;
-use ssim_flights::Flights;
+use ssim_flights::{Flights, Served};
 use std::alloc::{AllocError, Global};
 use std::cell::Cell;
 use std::thread::Threads;
@@ -28,12 +28,12 @@ pub struct ChangesOf<'a> {
     pub wanted: &'a [LimitRow],
     /// Of which legs.
     pub legs: LegsAsked,
-    /// Takes a line for each class whose limit does not come to what is wanted.
+    /// Takes a line for each class whose limit does not come to what is wanted, last those of legs that no row names.
     pub shorts: &'a Cell<Option<Vec<u8>>>,
 }
 
 /// A line for each change, in an order in which each is accepted. A leg that is given no wanted limits stays as it is, and so does a class that the
-/// wanted limits of its leg do not name. A journal is refused as an audit refuses it.
+/// wanted limits of its leg do not name, and a leg whose own flight, day and pair find another leg. A journal is refused as an audit refuses it.
 impl<'a> Question for ChangesOf<'a> {
     ghost use Rattle.seat_limits.specs.Authorised.{authorised_grid};
     ghost use Rattle.seat_desk.specs.AuditDesk.{IsUnlawful};
@@ -103,7 +103,10 @@ fn changes_over<R: Threads + Sync>(
         Err(_) => return Err(DeskFault::Memory),
     };
     let core = replayed_in_parts(rt, alloc, grid, bytes)?;
-    match answer_of(alloc, flights, &core, &wanted, legs) {
+    let Ok(served) = Served::new(alloc, flights) else {
+        return Err(DeskFault::Memory);
+    };
+    match answer_of(alloc, flights, &served, &core, &wanted, legs) {
         Ok(answer) => Ok(answer),
         Err(_) => Err(DeskFault::Memory),
     }
@@ -114,19 +117,23 @@ fn changes_over<R: Threads + Sync>(
 fn answer_of(
     alloc: Global,
     flights: &Flights,
+    served: &Served<'_>,
     core: &Core,
     wanted: &Grid,
     asked: &LegsAsked,
 ) -> Result<Answer, AllocError>
+    requires { served.now ≡ flights.now }
     ensures changes { IfOk result (λ a. IsChangesText asked.now flights.now wanted.now (state_now core.now) a.text.items) }
     ensures shorts { IfOk result (λ a. IsShortsText asked.now flights.now wanted.now (state_now core.now) a.shorts.items) }
 {
-    let legs = kept_legs(alloc, flights, asked)?;
+    let legs = legs_by(alloc, flights, served, asked, true)?;
+    let others = legs_by(alloc, flights, served, asked, false)?;
     let rows = changes_of(alloc, core, wanted, &legs)?;
     let shorts = shorts_of(alloc, core, wanted, &legs)?;
+    let unnamed = unnamed_of(alloc, core, wanted, &others)?;
     Ok(Answer {
         text: rows_text(alloc, &rows)?,
-        shorts: shorts_text(alloc, &shorts)?,
+        shorts: shorts_text(alloc, &shorts, &unnamed)?,
     })
 }
 
@@ -140,12 +147,13 @@ fn rows_text(alloc: Global, rows: &[Row]) -> Result<Vec<u8>, AllocError>
     Ok(text)
 }
 
-/// A line for each class whose limit does not come to what is wanted.
-#[tactic(auto, using(seat_lists::proofs::LiveTexts::whole_text))]
-fn shorts_text(alloc: Global, shorts: &[Short]) -> Result<Vec<u8>, AllocError>
-    ensures { IfOk result (λ text. IsText (λ n. IsShortLine) 0 shorts.now text.items) }
+/// A line for each class whose limit does not come to what is wanted, and behind them one for each class of legs that no row names.
+#[tactic(auto, using(crate::proofs::Answering::both_texts))]
+fn shorts_text(alloc: Global, shorts: &[Short], unnamed: &[Short]) -> Result<Vec<u8>, AllocError>
+    ensures { IfOk result (λ text. AreShortLines shorts.now unnamed.now text.items) }
 {
     let mut text = Vec::new(alloc);
     put_shorts(&mut text, shorts)?;
+    put_unnamed(&mut text, unnamed)?;
     Ok(text)
 }

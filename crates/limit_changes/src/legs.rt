@@ -1,12 +1,14 @@
-//! The legs that are asked for.
+//! The legs that are asked for, by whether their own names find them.
 //! It knows no limit.
 ghost use Rattle.std.specs.Prelude.{◌≡◌, ◌++◌, ◌≤◌, IfOk, OnOk, length};
-ghost use Rattle.limit_changes.specs.Legs.{is_kept, kept_leg, kept_legs, kept_on, each_from, named_leg};
+ghost use Rattle.limit_changes.specs.Legs.{each_from, is_chosen, is_kept, is_named, is_so, kept_leg, kept_on, legs_by, named_leg};
+ghost use Rattle.seat_questions.specs.Rooms.{is_place, wanted_of};
+ghost use Rattle.seat_questions.specs.Why.{one_leg};
 
-use airline_base::Day;
+use airline_base::{Day, Place};
 use seat_lists::{Designator, keeps_flight};
 use seat_questions::{CityPair, keeps_day, keeps_pair};
-use ssim_flights::{DatedLeg, Flight, Flights};
+use ssim_flights::{DatedLeg, Flight, Flights, Served, Wanted};
 use std::alloc::{AllocError, Global};
 
 /// A leg of a dated flight, with what names it.
@@ -31,17 +33,19 @@ pub struct LegsAsked {
     pub pair: Option<CityPair>,
 }
 
-/// The legs that are asked for, by flight and leg. A fault is want of memory.
-pub fn kept_legs(
+/// The legs that are asked for, by flight and leg: those that their own names find, or those that they do not. A fault is want of memory.
+pub fn legs_by(
     alloc: Global,
     flights: &Flights,
+    served: &Served<'_>,
     asked: &LegsAsked,
+    named: bool,
 ) -> Result<Vec<NamedLeg>, AllocError>
-    ensures { IfOk result (λ all. all.items ≡ kept_legs asked.now flights.now) }
+    ensures { IfOk result (λ all. all.items ≡ legs_by named served.now asked.now flights.now) }
 {
     let mut all = Vec::new(alloc);
     for index in 0..flights.len() {
-        add_flight(&mut all, asked, index, flights.flight(index))?;
+        add_flight(&mut all, served, asked, named, index, flights.flight(index))?;
     }
     Ok(all)
 }
@@ -50,33 +54,37 @@ pub fn kept_legs(
 #[tactic(auto, using(crate::proofs::Keeping::flight_left, crate::proofs::Keeping::flight_kept))]
 fn add_flight(
     all: &mut Vec<NamedLeg>,
+    served: &Served<'_>,
     asked: &LegsAsked,
+    named: bool,
     index: u32,
     flight: &Flight,
 ) -> Result<(), AllocError>
     requires few { length flight.now.legs ≤ 8 }
-    ensures { OnOk result (all.new.items ≡ all.old.items ++ kept_on asked.now index flight.now) }
+    ensures { OnOk result (all.new.items ≡ all.old.items ++ kept_on named served.now asked.now index flight.now) }
 {
     if !keeps_flight(asked.flight, flight) {
         return Ok(());
     }
-    add_legs(all, asked, index, flight)
+    add_legs(all, served, asked, named, index, flight)
 }
 
 /// Adds those of its legs that are asked for.
 fn add_legs(
     all: &mut Vec<NamedLeg>,
+    served: &Served<'_>,
     asked: &LegsAsked,
+    named: bool,
     index: u32,
     flight: &Flight,
 ) -> Result<(), AllocError>
     requires few { length flight.now.legs ≤ 8 }
     ensures { OnOk result (all.new.items ≡ all.old.items
-        ++ each_from (kept_leg asked.now index flight.now) 0 flight.now.legs) }
+        ++ each_from (kept_leg named served.now asked.now index flight.now) 0 flight.now.legs) }
 {
     let legs = flight.legs.as_slice();
     for j in 0..legs.len() {
-        add_leg(all, asked, index, flight, j as u8, &legs[j])?;
+        add_leg(all, served, asked, named, index, flight, j as u8, &legs[j])?;
     }
     Ok(())
 }
@@ -85,15 +93,17 @@ fn add_legs(
 #[tactic(auto, using(crate::proofs::Keeping::leg_left, crate::proofs::Keeping::leg_kept))]
 fn add_leg(
     all: &mut Vec<NamedLeg>,
+    served: &Served<'_>,
     asked: &LegsAsked,
+    named: bool,
     index: u32,
     flight: &Flight,
     leg: u8,
     dated: &DatedLeg,
 ) -> Result<(), AllocError>
-    ensures { OnOk result (all.new.items ≡ all.old.items ++ kept_leg asked.now index flight.now leg dated.now) }
+    ensures { OnOk result (all.new.items ≡ all.old.items ++ kept_leg named served.now asked.now index flight.now leg dated.now) }
 {
-    if !is_kept(asked, dated) {
+    if !is_chosen(served, asked, named, index, flight, leg, dated) {
         return Ok(());
     }
     let _day: Option<Day> = None;
@@ -115,6 +125,75 @@ fn named_leg(index: u32, flight: &Flight, leg: u8, dated: &DatedLeg) -> NamedLeg
             suffix: flight.suffix,
         },
         run: *dated,
+    }
+}
+
+/// Whether a leg is asked for, and its own name finds it, or does not.
+fn is_chosen(
+    served: &Served<'_>,
+    asked: &LegsAsked,
+    named: bool,
+    index: u32,
+    flight: &Flight,
+    leg: u8,
+    dated: &DatedLeg,
+) -> bool
+    ensures { result ≡ is_chosen named served.now asked.now index flight.now leg dated.now }
+{
+    is_kept(asked, dated) && is_so(named, is_named(served, index, flight, leg, dated))
+}
+
+fn is_so(named: bool, is: bool) -> bool
+    ensures { result ≡ is_so named is }
+{
+    if named { is } else { !is }
+}
+
+/// Whether a row with the leg's flight, day and pair is one for this very leg.
+fn is_named(
+    served: &Served<'_>,
+    index: u32,
+    flight: &Flight,
+    leg: u8,
+    dated: &DatedLeg,
+) -> bool
+    ensures { result ≡ is_named served.now index flight.now leg dated.now }
+{
+    is_place(one_leg(index, leg), served.find(&wanted_of(flight, dated)))
+}
+
+fn one_leg(index: u32, leg: u8) -> Place
+    ensures { result ≡ one_leg index leg }
+{
+    Place {
+        flight: index,
+        from: leg,
+        to: leg,
+    }
+}
+
+fn is_place(place: Place, found: Option<Place>) -> bool
+    ensures { result ≡ is_place place found }
+{
+    match found {
+        Some(other) => {
+            other.flight == place.flight && other.from == place.from && other.to == place.to
+        }
+        None => false,
+    }
+}
+
+/// What a row for a leg names.
+fn wanted_of(flight: &Flight, dated: &DatedLeg) -> Wanted
+    ensures { result ≡ wanted_of flight.now dated.now }
+{
+    Wanted {
+        airline: flight.airline,
+        number: flight.number,
+        suffix: flight.suffix,
+        day: dated.day,
+        board: dated.board,
+        off: dated.off,
     }
 }
 

@@ -14,6 +14,6 @@ pub use changes::ChangesOf;
 pub use laws::{
     changes_are_accepted, nothing_is_left, wanted_limits_are_reached, what_is_held_falls_short,
 };
-pub use legs::{LegsAsked, NamedLeg, kept_legs};
+pub use legs::{LegsAsked, NamedLeg, legs_by};
 pub use rows::{Row, changes_of};
-pub use shorts::{Short, shorts_of};
+pub use shorts::{Short, shorts_of, unnamed_of};

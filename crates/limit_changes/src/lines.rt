@@ -3,7 +3,7 @@
 ghost use Rattle.std.specs.Prelude.{◌≡◌, ◌++◌, ◌∷◌, [], OnOk};
 ghost use Rattle.airline_base.specs.Fields.{suffix_text};
 ghost use Rattle.seat_desk.specs.FlightsDesk.{IsPut};
-ghost use Rattle.limit_changes.specs.Lines.{IsDayPut, IsNamePut, IsRowLine, IsShortLine, entry_text, front_text, pair_text, reason_text, short_text, three_digits};
+ghost use Rattle.limit_changes.specs.Lines.{IsDayPut, IsNamePut, IsRowLine, IsShortLine, IsUnnamedLine, entry_text, front_text, pair_text, reason_text, short_text, three_digits, unnamed_text};
 
 use crate::legs::NamedLeg;
 use crate::rows::Row;
@@ -32,6 +32,16 @@ pub fn put_shorts(text: &mut Vec<u8>, shorts: &[Short]) -> Result<(), AllocError
     Ok(())
 }
 
+/// Adds a line for each class of which no row can ask.
+pub fn put_unnamed(text: &mut Vec<u8>, shorts: &[Short]) -> Result<(), AllocError>
+    ensures { OnOk result (IsPut (λ n. IsUnnamedLine) 0 shorts.now text.old.items text.new.items) }
+{
+    for i in 0..shorts.len() {
+        put_unnamed_one(text, &shorts[i])?;
+    }
+    Ok(())
+}
+
 /// Adds `AU FLIGHT DDMMMYY PAIR CLIMIT/WAIT`.
 #[tactic(auto, using(crate::proofs::Written::row_put))]
 fn put_line(text: &mut Vec<u8>, row: &Row) -> Result<(), AllocError>
@@ -50,6 +60,16 @@ fn put_short(text: &mut Vec<u8>, short: &Short) -> Result<(), AllocError>
     put(text, b"SHORT ")?;
     put_name(text, &short.leg)?;
     put_rest(text, short)
+}
+
+/// Adds `SHORT FLIGHT DDMMMYY PAIR C WANTED LIMIT UNNAMED`.
+#[tactic(auto, using(crate::proofs::Written::unnamed_put))]
+fn put_unnamed_one(text: &mut Vec<u8>, short: &Short) -> Result<(), AllocError>
+    ensures { OnOk result (IsPut (λ n. IsUnnamedLine) 0 (short.now ∷ []) text.old.items text.new.items) }
+{
+    put(text, b"SHORT ")?;
+    put_name(text, &short.leg)?;
+    put_unnamed_rest(text, short)
 }
 
 /// Adds the flight, the day and the city pair of a leg.
@@ -131,6 +151,17 @@ fn put_rest(text: &mut Vec<u8>, short: &Short) -> Result<(), AllocError>
     put_number(text, u64::from(short.wanted))?;
     put_reason(text, short)?;
     put(text, b"\n")
+}
+
+/// Adds the class and what is wanted, and that no row can ask for it.
+fn put_unnamed_rest(text: &mut Vec<u8>, short: &Short) -> Result<(), AllocError>
+    ensures { OnOk result (text.new.items ≡ text.old.items ++ unnamed_text short.now) }
+{
+    put(text, b" ")?;
+    put(text, &[short.class.letter()])?;
+    put(text, b" WANTED ")?;
+    put_number(text, u64::from(short.wanted))?;
+    put(text, b" UNNAMED\n")
 }
 
 fn put_reason(text: &mut Vec<u8>, short: &Short) -> Result<(), AllocError>

@@ -3,7 +3,7 @@
 ghost use Rattle.std.specs.Prelude.{◌≡◌, ◌++◌, ◌∷◌, [], IfOk, OnOk, flat_map, length};
 ghost use Rattle.seat_rules.specs.Inventory.{state_now};
 ghost use Rattle.limit_changes.specs.Rows.{reached_on, seats_now, steps_now};
-ghost use Rattle.limit_changes.specs.Shorts.{short_of, shorts, shorts_from, shorts_of};
+ghost use Rattle.limit_changes.specs.Shorts.{short_of, shorts, shorts_from, shorts_of, unnamed, unnamed_of};
 
 use crate::legs::NamedLeg;
 use crate::reaching::{cut_steps, raise_steps, step_of};
@@ -57,6 +57,35 @@ fn add_leg(
     let cut = cut_steps(alloc, core, steps, leg.flight, leg.leg)?;
     let new = raise_steps(alloc, steps, &cut)?;
     add_ranks(all, core, leg, steps, &new)
+}
+
+/// The classes of legs that no row names whose limits are others than are wanted. A fault is want of memory.
+pub fn unnamed_of(
+    alloc: Global,
+    core: &Core,
+    wanted: &Grid,
+    legs: &[NamedLeg],
+) -> Result<Vec<Short>, AllocError>
+    ensures { IfOk result (λ all. all.items ≡ unnamed wanted.now (state_now core.now) legs.now) }
+{
+    let mut all = Vec::new(alloc);
+    for i in 0..legs.len() {
+        add_unnamed(&mut all, core, wanted, &legs[i])?;
+    }
+    Ok(all)
+}
+
+/// Adds those of such a leg, which stays as it is.
+fn add_unnamed(
+    all: &mut Vec<Short>,
+    core: &Core,
+    wanted: &Grid,
+    leg: &NamedLeg,
+) -> Result<(), AllocError>
+    ensures { OnOk result (all.new.items ≡ all.old.items ++ unnamed_of wanted.now (state_now core.now) leg.now) }
+{
+    let steps = wanted.steps(leg.flight, leg.leg);
+    add_ranks(all, core, leg, steps, core.steps(leg.flight, leg.leg))
 }
 
 /// Adds those of the ranks, which come to these steps.

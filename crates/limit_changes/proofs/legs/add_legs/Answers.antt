@@ -5,9 +5,9 @@ use Rattle.limit_changes.proofs.legs.add_legs.Goals as goal
 
 pub loop-j-preserved : goal.loop-j-preserved
 loop-j-preserved c =
-    part_more (kept_leg c.args.asked.now c.args.index c.args.flight.now) c.loop-j.j _ c.loop-j.j c.as_slice-legs.result.now c.index-legs-j.result c.loop-j.all.items c.add_leg.new.all.items _
+    part_more (kept_leg c.args.named c.args.served.now c.args.asked.now c.args.index c.args.flight.now) c.loop-j.j _ c.loop-j.j c.as_slice-legs.result.now c.index-legs-j.result c.loop-j.all.items c.add_leg.new.all.items _
     c.loop-j.invariant c.loop-j-test.true c.index-legs-j.is c.in_ok-add_leg.ensures refl
 
 pub returns : goal.returns
 returns c =
-    parts_whole (kept_leg c.args.asked.now c.args.index c.args.flight.now) c.loop-j.j c.loop-j.j _ c.as_slice-legs.result.now c.loop-j.all.items _ c.loop-j.invariant refl c.loop-j-test.false
+    parts_whole (kept_leg c.args.named c.args.served.now c.args.asked.now c.args.index c.args.flight.now) c.loop-j.j c.loop-j.j _ c.as_slice-legs.result.now c.loop-j.all.items _ c.loop-j.invariant refl c.loop-j-test.false

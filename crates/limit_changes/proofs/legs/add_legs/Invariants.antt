@@ -5,5 +5,5 @@ use Rattle.limit_changes.proofs.legs.add_legs.Given as goal
 
 abbrev pub invariant-loop-j : goal.invariant-loop-j
 invariant-loop-j l =
-    l.all.items ++ each_from (kept_leg l.asked l.index l.flight) l.j (drop l.j l.legs)
-    ≡ l.initial.all.items ++ each_from (kept_leg l.asked l.index l.flight) 0 l.flight.legs
+    l.all.items ++ each_from (kept_leg l.named l.served l.asked l.index l.flight) l.j (drop l.j l.legs)
+    ≡ l.initial.all.items ++ each_from (kept_leg l.named l.served l.asked l.index l.flight) 0 l.flight.legs
