@@ -1,3 +1,4 @@
+pub mod Begun
 pub mod Compared
 pub mod Dated
 pub mod Ordered

@@ -1,3 +1,4 @@
+pub mod Begun
 pub mod Comparing
 pub mod Dating
 pub mod Found
