@@ -24,6 +24,17 @@ if_loaded P Q (Some xs) (Some ys) None give all = tt
 if_loaded P Q (Some xs) None after give all = tt
 if_loaded P Q None limits after give all = tt
 
+-- what is loaded says that the set and the limits are right
+module _ (set limits : Option (List ℕ)) (first days : ℕ) (flights : List Flown) (grid : Ladders)
+    (loaded : IfSome set (λ xs. IfSome limits (λ ys. IsLoaded xs ys first days flights grid))) where
+  pub has_loaded : IfSome set (λ xs. IfSome limits (λ ys. HasLoaded xs ys first days))
+  has_loaded = by set limits loaded where
+    by : (s l : Option (List ℕ)) → IfSome s (λ xs. IfSome l (λ ys. IsLoaded xs ys first days flights grid))
+        → IfSome s (λ xs. IfSome l (λ ys. HasLoaded xs ys first days))
+    by (Some xs) (Some ys) is = record { flights = flights; grid = grid; is_loaded = is }
+    by (Some xs) None is = tt
+    by None l is = tt
+
 module _ (set limits after : Option (List ℕ)) (first days today : ℕ) (texts : List (Option (List ℕ))) (changing : Option (List ℕ)) where
   abbrev IsLarge : Type 0
   IsLarge = OfThree set limits after (λ xs ys zs. IsTooLargeRun xs ys first days today zs texts changing)
@@ -32,14 +43,6 @@ module _ (set limits after : Option (List ℕ)) (first days today : ℕ) (texts 
   large_load over = if_loaded (λ xs ys. IsFirstTooLargeLoad xs ys first days) (λ xs ys zs. IsTooLargeRun xs ys first days today zs texts changing) set limits after (λ xs ys zs is. inl is) over
 
   module _ (flights : List Flown) (grid : Ladders) (loaded : IfSome set (λ xs. IfSome limits (λ ys. IsLoaded xs ys first days flights grid))) where
-    pub has_loaded : IfSome set (λ xs. IfSome limits (λ ys. HasLoaded xs ys first days))
-    has_loaded = by set limits loaded where
-      by : (s l : Option (List ℕ)) → IfSome s (λ xs. IfSome l (λ ys. IsLoaded xs ys first days flights grid))
-          → IfSome s (λ xs. IfSome l (λ ys. HasLoaded xs ys first days))
-      by (Some xs) (Some ys) is = record { flights = flights; grid = grid; is_loaded = is }
-      by (Some xs) None is = tt
-      by None l is = tt
-
     pub large_past : IfSome after (λ zs. most_journal_bytes < length zs) → IsLarge
     large_past over =
         if_known (λ xs ys. IsLoaded xs ys first days flights grid) (λ zs. most_journal_bytes < length zs) (λ xs ys zs. IsTooLargeRun xs ys first days today zs texts changing) set limits after
@@ -47,7 +50,7 @@ module _ (set limits after : Option (List ℕ)) (first days today : ℕ) (texts 
 
     pub past_fails : (load past rest : Type 0) → past
         → load ⊎ ((IfSome set (λ xs. IfSome limits (λ ys. HasLoaded xs ys first days)) × past) ⊎ rest)
-    past_fails load past rest failed = inr (inl (has_loaded, failed))
+    past_fails load past rest failed = inr (inl (has_loaded set limits first days flights grid loaded, failed))
 
     module _ (past : List Entry) (before : IfSome after (IsPast grid past)) where
       abbrev a_past : (xs ys zs : List ℕ) → IsLoaded xs ys first days flights grid → IsPast grid past zs

@@ -7,6 +7,7 @@ mod Changing
 pub mod Reading
 pub mod Written
 pub mod Seals
+pub mod Starts
 pub mod SealedBoth
 pub mod OneTaken
 mod Lengths

@@ -1,5 +1,5 @@
 -- What stands beside a journal, as far as the inputs are known, and what is refused behind it.
-use Rattle.std.proofs.Common.{◌≡◌, ◌≢◌, ◌≤◌, ◌<◌, ◌||◌, ◌⊎◌, ⊎_elim, inl, inr, ℕ, Bool, true, false, List, Option, Some, None, IfSome, length, subst, sym}
+use Rattle.std.proofs.Common.{◌≡◌, ◌≢◌, ◌≤◌, ◌<◌, ◌⊎◌, ⊎_elim, inl, inr, ℕ, Bool, true, false, List, Option, Some, None, IfSome, length, subst, sym}
 use Rattle.ssim_flights.specs.declared.flight.Flight.{Flight as Flown}
 use Rattle.seat_seal.specs.Besides.{IsFaultBeside}
 use Rattle.seat_seal.specs.declared.beside.Basis.{Basis}
@@ -12,21 +12,20 @@ use Rattle.seat_desk.proofs.Grounds.{ground_of_loaded}
 use Rattle.seat_desk.specs.Answering.{IsRefusedAnswer}
 use Rattle.seat_desk.specs.AuditDesk.{IsUnlawful}
 use Rattle.seat_desk.specs.Desk.{IsOfInput}
-use Rattle.seat_desk.specs.Loading.{IsBehind, IsRefusedLoad}
+use Rattle.seat_desk.specs.Loading.{IsBehind}
 use Rattle.seat_desk.specs.Sealing.{Agrees, IsBesideFault, basis_of}
-use Rattle.seat_scripts.proofs.Common.{AreScripts, DeskFault, Entry, HasLoaded, IsFirstTooLargeLoad, IsLoaded, IsRefusedAmong, IsTooLargeAmong, Ladders, Memory, OfThree, Request, most_journal_bytes}
+use Rattle.seat_scripts.proofs.Common.{AreScripts, DeskFault, Entry, IsLoaded, IsRefusedAmong, IsTooLargeAmong, Ladders, Memory, OfThree, Request, most_journal_bytes}
 use Rattle.seat_scripts.specs.Beside.{IsCallOnce, IsFaultless, IsRefusedBeside, IsRefusedSealedRun, IsTooLargeSealedRun, IsUnsealed}
 use Rattle.seat_replies.specs.Changes.{IsOfChanges, IsUnchanged, most_change_bytes}
 use Rattle.seat_replies.specs.Going.{IsPast}
 use Rattle.seat_replies.specs.Asked.{IsAsked, IsTooLargeRun}
 use Rattle.seat_seal.specs.Known.{IsCarried, IsKnown, carried_by, runs_known}
 use Rattle.seat_seal.specs.declared.known.Carried.{Carried}
-use Rattle.seat_scripts.specs.Repeated.{IsBookedOf, IsOneBooked, IsRepeatedOf}
-use Rattle.seat_seal.specs.Booked.{changes_booked, scripts_booked}
+use Rattle.seat_scripts.specs.Repeated.{AreRepeated, IsRepeatedOf}
 use Rattle.seat_replies.specs.RunDesk.{IsRefusedRun}
 use Rattle.seat_replies.specs.Requests.{IsOfScript}
 use Rattle.seat_replies.specs.Asked.{HasPast, HasScripts}
-use Rattle.seat_scripts.proofs.Inputs.{changes_fail, has_loaded, if_loaded, large_changes, large_script, script_fails}
+use Rattle.seat_scripts.proofs.Inputs.{changes_fail, large_changes, large_script, script_fails}
 use Rattle.seat_scripts.proofs.Written.{run_refused, run_unchanged}
 
 -- ---- one journal, of which all bytes were read
@@ -72,18 +71,13 @@ pub carried_of : (beside : Beside) (text : Option (List ℕ)) (last : Option Bel
 carried_of beside (Some xs) last carried is same = record { known = last; is_known = is; carried_is = same }
 carried_of beside None last carried is same = tt
 
--- whether a run that the seal knows names a script, where the journal's bytes are known
+-- whether a run that the seal knows booked one of these texts, where the journal's bytes are known
 pub repeated_of : (answer : Bool) (beside : Beside) (after : Option (List ℕ)) (texts : List (Option (List ℕ)))
-    (changing : Option (List ℕ)) (last : Option Belonging) (one changed : Bool)
-    → IfSome after (λ zs. IsKnown beside zs last) → IsOneBooked (scripts_booked None (runs_known last)) texts one
-    → IsBookedOf (changes_booked None (runs_known last)) changing changed
-    → answer ≡ (one || changed) → IsRepeatedOf answer beside after texts changing
-repeated_of answer beside (Some zs) texts changing last one changed known is_one is_changed judged = record {
-  known = last;
-  is_known = known;
-  are_repeated = record { scripts = one; are_scripts = is_one; changes = changed; are_changes = is_changed; answer_is = judged };
-}
-repeated_of answer beside None texts changing last one changed known is_one is_changed judged = tt
+    (changing : Option (List ℕ)) (last : Option Belonging)
+    → IfSome after (λ zs. IsKnown beside zs last) → AreRepeated None (runs_known last) texts changing answer
+    → IsRepeatedOf answer beside after texts changing
+repeated_of answer beside (Some zs) texts changing last known are = record { known = last; is_known = known; are_repeated = are }
+repeated_of answer beside None texts changing last known are = tt
 
 -- ---- over inputs that are known
 
@@ -96,7 +90,7 @@ both_three P Q R (Some xs) (Some ys) None give p q = tt
 both_three P Q R (Some xs) None after give p q = tt
 both_three P Q R None limits after give p q = tt
 
-each_three : (P R : List ℕ → List ℕ → List ℕ → Type 0) (set limits after : Option (List ℕ))
+pub each_three : (P R : List ℕ → List ℕ → List ℕ → Type 0) (set limits after : Option (List ℕ))
     → ((xs ys zs : List ℕ) → P xs ys zs → R xs ys zs) → OfThree set limits after P → OfThree set limits after R
 each_three P R (Some xs) (Some ys) (Some zs) give p = give xs ys zs p
 each_three P R (Some xs) (Some ys) None give p = tt
@@ -106,7 +100,7 @@ each_three P R None limits after give p = tt
 module _ (set limits after : Option (List ℕ)) (first days : ℕ) (flights : List Flown) (grid : Ladders) (beside : Beside) (basis : Basis)
     (loaded : IfSome set (λ xs. IfSome limits (λ ys. IsLoaded xs ys first days flights grid)))
     (known : IfSome set (λ xs. IfSome limits (λ ys. basis ≡ basis_of xs ys first days))) where
-  based : (Q : List ℕ → Type 0) (R : List ℕ → List ℕ → List ℕ → Type 0)
+  pub based : (Q : List ℕ → Type 0) (R : List ℕ → List ℕ → List ℕ → Type 0)
       → ((xs ys zs : List ℕ) → IsLoaded xs ys first days flights grid → basis ≡ basis_of xs ys first days → Q zs → R xs ys zs)
       → IfSome after Q → OfThree set limits after R
   based Q R give q = by set limits after loaded known q where
@@ -240,70 +234,38 @@ module _ (set limits after : Option (List ℕ)) (first days today : ℕ) (texts 
       both_three (λ xs ys zs. Agrees beside xs ys first days zs) (λ xs ys zs. IsTooLargeRun xs ys first days today zs texts changing) (λ xs ys zs. IsTooLargeSealedRun beside xs ys first days today zs texts changing) set limits after
       (λ xs ys zs a r. inr (record { ahead = a; here = r })) agreed over
 
-  pub sealed_unloaded : (fault : DeskFault) → IfSome set (λ xs. IfSome limits (λ ys. IsRefusedLoad xs ys first days fault))
-      → IsRefused fault
-  sealed_unloaded fault refused =
-      if_loaded (λ xs ys. IsRefusedLoad xs ys first days fault) (λ xs ys zs. IsRefusedSealedRun beside again xs ys first days today zs texts changing fault) set limits after
-      (λ xs ys zs is. inl (inl is)) refused
-
-  pub sealed_large_load : IfSome set (λ xs. IfSome limits (λ ys. IsFirstTooLargeLoad xs ys first days)) → IsLarge
-  sealed_large_load over =
-      if_loaded (λ xs ys. IsFirstTooLargeLoad xs ys first days) (λ xs ys zs. IsTooLargeSealedRun beside xs ys first days today zs texts changing) set limits after
-      (λ xs ys zs is. inl (inl is)) over
-
-  module _ (flights : List Flown) (grid : Ladders) (basis : Basis)
+  -- behind the start
+  module _ (flights : List Flown) (grid : Ladders)
       (loaded : IfSome set (λ xs. IfSome limits (λ ys. IsLoaded xs ys first days flights grid)))
-      (known : IfSome set (λ xs. IfSome limits (λ ys. basis ≡ basis_of xs ys first days))) where
-    pub sealed_unread : (fault : DeskFault) → (IsOfInput fault → IfSome after (IsRefusedBeside beside basis grid fault))
-        → IsOfInput fault → IsRefused fault
-    sealed_unread fault refused input =
-        each_three (λ xs ys zs. IsRefusedAnswer IsUnlawful beside xs ys first days zs fault) (λ xs ys zs. IsRefusedSealedRun beside again xs ys first days today zs texts changing fault) set limits after
-        (λ xs ys zs is. inl is) (refused_start set limits after first days flights grid beside basis loaded known fault refused input)
+      (agreed : Agreeing) (past : List Entry) (before : IfSome after (IsPast grid past)) where
+    pub sealed_refused : (fault : DeskFault) → IsOfScript fault → IsRefusedAmong today 1 texts fault → IsOfInput fault
+        → IsRefused fault
+    sealed_refused fault script refused input =
+        behind_seal fault agreed (run_refused set limits after first days today texts changing flights grid past fault loaded before (λ _. script) (λ _. refused) input)
+        (of_script again beside after texts changing fault script)
 
-    pub sealed_large_past : IfSome after (λ zs. most_journal_bytes < length zs) → IsLarge
-    sealed_large_past over =
-        based set limits after first days flights grid beside basis loaded known (λ zs. most_journal_bytes < length zs) (λ xs ys zs. IsTooLargeSealedRun beside xs ys first days today zs texts changing)
-        (λ xs ys zs is b large. inl (inr (record { ahead = record { flights = flights; rows = is.loaded.rows; is_ground = ground_of_loaded xs ys first days flights grid is }; here = large }))) over
+    pub sealed_large_script : IsTooLargeAmong today texts → IsLarge
+    sealed_large_script over = large_behind agreed (large_script set limits after first days today texts changing flights grid loaded past before over)
 
-    -- the older journal failed
-    pub sealed_past_fails : (load past rest : Type 0) → past
-        → (load ⊎ IsBehind (IfSome set (λ xs. IfSome limits (λ ys. HasLoaded xs ys first days))) past) ⊎ rest
-    sealed_past_fails load past rest failed =
-        inl (inr (record { ahead = has_loaded set limits after first days today texts changing flights grid loaded; here = failed }))
+    -- a script failed
+    pub sealed_script_fails : (ahead load past_failed script rest : Type 0) → script
+        → ahead ⊎ IsBehind Agreeing (load ⊎ (past_failed ⊎ ((OfThree set limits after (λ xs ys zs. HasPast xs ys first days zs) × script) ⊎ rest)))
+    sealed_script_fails ahead load past_failed script rest failed =
+        inr (record { ahead = agreed; here = script_fails set limits after first days today texts changing flights grid loaded past before load past_failed script rest failed })
 
-    module _ (agreed : IfSome after (IsFaultless beside basis)) (past : List Entry) (before : IfSome after (IsPast grid past)) where
-      abbrev all_agree : Agreeing
-      all_agree = agrees set limits after first days flights grid beside basis loaded known agreed
-
-      pub sealed_refused : (fault : DeskFault) → (IsOfInput fault → IsOfScript fault)
-          → (IsOfInput fault → IsRefusedAmong today 1 texts fault) → IsOfInput fault → IsRefused fault
-      sealed_refused fault script refused input =
-          behind_seal fault all_agree (run_refused set limits after first days today texts changing flights grid past fault loaded before script refused input)
-          (of_script again beside after texts changing fault (script input))
-
-      pub sealed_large_script : IsTooLargeAmong today texts → IsLarge
-      sealed_large_script over = large_behind all_agree (large_script set limits after first days today texts changing flights grid loaded past before over)
-
-      pub sealed_unchanged : (scripts : List (List Request)) → AreScripts today texts scripts → (fault : DeskFault)
-          → (IsOfInput fault → IsOfChanges fault) → (IsOfInput fault → IfSome changing (IsUnchanged flights fault))
+    module _ (scripts : List (List Request)) (are : AreScripts today texts scripts) where
+      pub sealed_unchanged : (fault : DeskFault) → IsOfChanges fault → IfSome changing (IsUnchanged flights fault)
           → IsOfInput fault → IsRefused fault
-      sealed_unchanged scripts are fault of refused input =
-          behind_seal fault all_agree (run_unchanged set limits after first days today texts changing flights grid past scripts fault loaded before are of refused input)
-          (of_changes again beside after texts changing fault (of input))
+      sealed_unchanged fault of refused input =
+          behind_seal fault agreed (run_unchanged set limits after first days today texts changing flights grid past scripts fault loaded before are (λ _. of) (λ _. refused) input)
+          (of_changes again beside after texts changing fault of)
 
-      pub sealed_large_changes : (scripts : List (List Request)) → AreScripts today texts scripts
-          → IfSome changing (λ bytes. most_change_bytes < length bytes) → IsLarge
-      sealed_large_changes scripts are over =
-          large_behind all_agree (large_changes set limits after first days today texts changing flights grid loaded past before scripts are over)
+      pub sealed_large_changes : IfSome changing (λ bytes. most_change_bytes < length bytes) → IsLarge
+      sealed_large_changes over =
+          large_behind agreed (large_changes set limits after first days today texts changing flights grid loaded past before scripts are over)
 
-      -- a script failed, or the changes did
-      pub sealed_script_fails : (ahead load past_failed script rest : Type 0) → script
-          → ahead ⊎ IsBehind Agreeing (load ⊎ (past_failed ⊎ ((OfThree set limits after (λ xs ys zs. HasPast xs ys first days zs) × script) ⊎ rest)))
-      sealed_script_fails ahead load past_failed script rest failed =
-          inr (record { ahead = all_agree; here = script_fails set limits after first days today texts changing flights grid loaded past before load past_failed script rest failed })
-
-      pub sealed_changes_fail : (scripts : List (List Request)) → AreScripts today texts scripts
-          → (ahead load past_failed script changes : Type 0) → changes
+      -- the changes failed
+      pub sealed_changes_fail : (ahead load past_failed script changes : Type 0) → changes
           → ahead ⊎ IsBehind Agreeing (load ⊎ (past_failed ⊎ (script ⊎ (OfThree set limits after (λ xs ys zs. HasScripts xs ys first days today zs texts) × changes))))
-      sealed_changes_fail scripts are ahead load past_failed script changes failed =
-          inr (record { ahead = all_agree; here = changes_fail set limits after first days today texts changing flights grid loaded past before scripts are load past_failed script changes failed })
+      sealed_changes_fail ahead load past_failed script changes failed =
+          inr (record { ahead = agreed; here = changes_fail set limits after first days today texts changing flights grid loaded past before scripts are load past_failed script changes failed })

@@ -1,5 +1,6 @@
 pub mod Added
 pub mod Against
+pub mod AskedFrom
 pub mod Audits
 pub mod Begun
 pub mod Beside
@@ -14,5 +15,6 @@ pub mod Replying
 pub mod Resumed
 pub mod Resuming
 pub mod SealedRun
+pub mod Starting
 pub mod Taken
 pub mod TextImprints

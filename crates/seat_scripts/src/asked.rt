@@ -10,21 +10,22 @@ ghost use Rattle.seat_desk.specs.Loading.{HasFirstLoadFailed, IsGridOf};
 ghost use Rattle.seat_desk.specs.Sealing.{IsBasisOf};
 ghost use Rattle.seat_seal.specs.Known.{IsCarried};
 ghost use Rattle.seat_replies.specs.Asked.{IsAskedOf};
+ghost use Rattle.seat_scripts.specs.AskedFrom.{AreNoTexts, AreTexts, IsAskedFrom, IsNotAskedFrom, asked_by};
 ghost use Rattle.seat_scripts.specs.Beside.{AgreesOf, FailsSealedRun, IsRefusedSealedRunOf, IsTooLargeSealedRunOf};
 ghost use Rattle.seat_replies.specs.Changes.{IsOnLeg};
-ghost use Rattle.seat_scripts.specs.ReadAsked.{IsReadAsked};
+ghost use Rattle.seat_scripts.specs.ReadAsked.{IsNotAsked, IsReadAsked};
 ghost use Rattle.seat_scripts.specs.Repeated.{IsRepeatedOf};
 ghost use Rattle.seat_replies.specs.Requests.{AreRight, HasFailedAmong};
 ghost use Rattle.seat_scripts.specs.TextImprints.{AreImprints, IsImprintOf};
 
 use crate::changes::{ReadChanges, limit_changes};
 use crate::imprints::TextImprints;
-use crate::past::{Known, replayed_beside};
 use crate::repeated::{either, once};
 use crate::scripts::{ReadScripts, Scripts, read_scripts};
+use crate::starting::{Start, started};
 use airline_base::{Day, NotedRead};
 use seat_core::Core;
-use seat_desk::{Based, DeskFault, Inputs, Loaded, load_based};
+use seat_desk::{DeskFault, Inputs};
 use seat_journal::Change;
 use seat_seal::{Basis, Beside, Carried, Imprint, carried_by};
 use ssim_flights::Flights;
@@ -97,14 +98,15 @@ pub fn read_asked<
         (HasFirstLoadFailed S.remaining S.failure_count L.failure_count inputs.old inputs.new) (HasFailed A.failure_count after.old after.new)
         (HasFailedAmong today (map C.remaining scripts.old) C.failure_count scripts.old scripts.new) (HasFailed D.failure_count changes.old changes.new)) }
 {
-    let asked = asked_once(
+    match asked_once(
         rt, alloc, inputs, after, beside, again, scripts, changes, today,
-    )?;
-    Ok(asked)
+    ) {
+        Ok(asked) => Ok(asked),
+        Err(fault) => Err(fault),
+    }
 }
 
-/// Reads the set, the limits, the older journal, the scripts and the changes, in this order.
-#[tactic(auto, using(crate::proofs::Seals::sealed_again, crate::proofs::Seals::sealed_unloaded, crate::proofs::Seals::sealed_unread, crate::proofs::Seals::sealed_refused, crate::proofs::Seals::sealed_unchanged, crate::proofs::Seals::sealed_large_load, crate::proofs::Seals::sealed_large_past, crate::proofs::Seals::sealed_large_script, crate::proofs::Seals::sealed_large_changes, crate::proofs::Seals::sealed_past_fails, crate::proofs::Seals::sealed_script_fails, crate::proofs::Seals::sealed_changes_fail))]
+/// Reads what a run starts from, and then the scripts and the changes.
 fn asked_once<
     R: Threads + Sync,
     S: NotedRead,
@@ -129,51 +131,110 @@ fn asked_once<
     requires scripts { length scripts.old ≤ 8 }
     ensures ok { IfOk result (IsReadAsked beside.now again S.remaining L.remaining inputs.old today (A.remaining after.old) (map C.remaining scripts.old) (D.remaining changes.old)) }
     ensures count { IfOk result (λ a. length a.scripts ≡ length scripts.old) }
-    ensures behind { IfOk result (λ a. a.behind ≡ length a.past.journal) }
-    ensures fault { IfErr result (λ f. IsOfInput f →
-        IsRefusedSealedRunOf beside.now again S.remaining L.remaining inputs.old today (A.remaining after.old) (map C.remaining scripts.old) (D.remaining changes.old) f) }
-    ensures large { IfErr result (λ f. f ≡ DeskFault.TooLarge →
-        IsTooLargeSealedRunOf beside.now S.remaining L.remaining inputs.old today (A.remaining after.old) (map C.remaining scripts.old) (D.remaining changes.old)) }
-    ensures device { IfErr result (λ f. f ≡ DeskFault.Device →
-        FailsSealedRun beside.now S.remaining L.remaining inputs.old today (A.remaining after.old) (map C.remaining scripts.old)
+    ensures none { IfErr result (IsNotAsked beside.now again S.remaining L.remaining inputs.old today (A.remaining after.old) (map C.remaining scripts.old) (D.remaining changes.old)
         (HasFirstLoadFailed S.remaining S.failure_count L.failure_count inputs.old inputs.new) (HasFailed A.failure_count after.old after.new)
         (HasFailedAmong today (map C.remaining scripts.old) C.failure_count scripts.old scripts.new) (HasFailed D.failure_count changes.old changes.new)) }
 {
-    let Based { loaded, basis } = load_based(alloc, inputs, true)?;
-    let Loaded {
-        flights,
-        rows,
-        grid,
-    } = loaded;
-    drop(rows);
-    let Known { past, last } = replayed_beside(rt, alloc, grid, after, beside, &basis)?;
-    let ReadScripts {
-        scripts,
-        imprints,
-        is_booked,
-    } = match read_scripts(alloc, scripts, today, None, &last) {
-        Ok(scripts) => scripts,
+    let start = match started(rt, alloc, inputs, after, beside) {
+        Ok(start) => start,
         Err(fault) => return Err(fault),
     };
-    let ReadChanges {
-        changes,
-        imprint,
-        are_booked,
-    } = match limit_changes(alloc, &flights, changes, None, &last) {
-        Ok(changes) => changes,
+    match asked_from(alloc, start, again, scripts, changes, today) {
+        Ok(asked) => Ok(asked),
+        Err(fault) => Err(fault),
+    }
+}
+
+/// What scripts and changes ask of a run that is started, where no run that the seal knows booked it, or it is to be booked `again`.
+fn asked_from<C: NotedRead, D: NotedRead>(
+    alloc: Global,
+    start: Start,
+    again: bool,
+    scripts: &mut [C],
+    changes: &mut D,
+    today: Day,
+) -> Result<Asked, DeskFault>
+    requires today { IsCenturyDay today }
+    requires scripts { length scripts.old ≤ 8 }
+    ensures ok { IfOk result (IsAskedFrom start again today (map C.remaining scripts.old) (D.remaining changes.old)) }
+    ensures count { IfOk result (λ a. length a.scripts ≡ length scripts.old) }
+    ensures none { IfErr result (IsNotAskedFrom start again today (map C.remaining scripts.old) (D.remaining changes.old)
+        (HasFailedAmong today (map C.remaining scripts.old) C.failure_count scripts.old scripts.new) (HasFailed D.failure_count changes.old changes.new)) }
+{
+    let read = match texts_of(alloc, &start, scripts, changes, today) {
+        Ok(read) => read,
         Err(fault) => return Err(fault),
     };
-    once(again, either(is_booked, are_booked))?;
-    let behind = past.journal().len() as u32;
-    Ok(Asked {
+    let is_repeated = either(read.scripts.is_booked, read.changes.are_booked);
+    match once(again, is_repeated) {
+        Ok(()) => Ok(asked_by(start, read)),
+        Err(fault) => Err(fault),
+    }
+}
+
+/// Scripts and changes that are read.
+#[derive(Drop)]
+pub(crate) struct Texts {
+    pub scripts: ReadScripts,
+    pub changes: ReadChanges,
+}
+
+/// Reads the scripts, and then the changes.
+fn texts_of<C: NotedRead, D: NotedRead>(
+    alloc: Global,
+    start: &Start,
+    scripts: &mut [C],
+    changes: &mut D,
+    today: Day,
+) -> Result<Texts, DeskFault>
+    requires today { IsCenturyDay today }
+    requires scripts { length scripts.old ≤ 8 }
+    ensures ok { IfOk result (AreTexts start.now today (map C.remaining scripts.old) (D.remaining changes.old)) }
+    ensures count { IfOk result (λ read. length read.scripts.scripts ≡ length scripts.old) }
+    ensures none { IfErr result (AreNoTexts start.now today (map C.remaining scripts.old) (D.remaining changes.old)
+        (HasFailedAmong today (map C.remaining scripts.old) C.failure_count scripts.old scripts.new) (HasFailed D.failure_count changes.old changes.new)) }
+{
+    let read = match read_scripts(alloc, scripts, today, None, &start.known) {
+        Ok(read) => read,
+        Err(fault) => return Err(fault),
+    };
+    match limit_changes(alloc, &start.flights, changes, None, &start.known) {
+        Ok(made) => Ok(Texts {
+            scripts: read,
+            changes: made,
+        }),
+        Err(fault) => Err(fault),
+    }
+}
+
+/// What they ask of the run that is started.
+fn asked_by(start: Start, read: Texts) -> Asked
+    ensures { result ≡ asked_by start read }
+{
+    let Start {
         flights,
         past,
-        scripts,
-        changes,
         basis,
-        imprints,
-        changes_imprint: imprint,
+        known,
+    } = start;
+    let Texts { scripts, changes } = read;
+    let behind = lines_of(&past);
+    Asked {
+        flights,
+        past,
+        scripts: scripts.scripts,
+        changes: changes.changes,
+        basis,
+        imprints: scripts.imprints,
+        changes_imprint: changes.imprint,
         behind,
-        earlier: carried_by(last),
-    })
+        earlier: carried_by(known),
+    }
+}
+
+/// How many lines the journal of this inventory has.
+fn lines_of(core: &Core) -> u32
+    ensures { result ≡ length core.now.journal }
+{
+    core.journal().len() as u32
 }

@@ -22,6 +22,7 @@ mod resumed;
 mod resuming;
 mod scripts;
 mod sealed_run;
+mod starting;
 mod taken;
 
 pub use added::{Added, read_added};
