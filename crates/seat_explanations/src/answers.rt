@@ -372,6 +372,12 @@ const WANTED: &[Explanation] = &[
         numbers: NONE,
         text: "Of changes: the limit to which the class comes, between those of the classes above it and below it. The wanted limits leave out a class of the leg,\nor rank its classes otherwise.",
     },
+    Explanation {
+        behind: "",
+        code: "UNNAMED",
+        numbers: NONE,
+        text: "Of changes: no row of changes is for this leg, since its flight, day and pair find another leg, or two of them. Its limit stays as the limits file has it:\nchange it there, or have the schedule number the flight's legs apart.",
+    },
 ];
 
 // What compare says of a flight.
