@@ -47,7 +47,7 @@ pub(crate) const NOTES: &[Explanation] = &[
         behind: "refused",
         code: "note",
         numbers: NONE,
-        text: "Lines of the scripts were wrong, and are not booked. Each is in the file of --refused, by its code, its session and its line.\nBelow a wrong first line of a message (Q1), and below a first line that stands in a message (Q2 A1, most often), nothing is booked either, up to the next empty line;\nall other lines are. Write what these were to ask, mended, at the script's end, behind an empty line, and run with --resume and --refused; leave the lines themselves as they are.\naudit, replies and run --resume want the file beside the scripts.",
+        text: "Lines of the scripts were wrong, and are not booked. Each is in the file of --refused, by its code, its session and its line.\nBelow a wrong first line of a message (Q1), and below a first line that stands in a message (Q2 A1, most often), right lines are not booked either, up to the next empty line;\nall others are. Write what these were to ask, mended, at the script's end, behind an empty line, and run with --resume and --refused; leave the lines themselves as they are.\naudit, replies and run --resume want the file beside the scripts.",
     },
     Explanation {
         behind: "same",

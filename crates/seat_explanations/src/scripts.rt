@@ -27,7 +27,7 @@ pub(crate) const SCRIPTS: &[Explanation] = &[
         behind: "",
         code: "W1",
         numbers: LINE,
-        text: "The row of the file of --refused is not what the scripts are refused for there: a wrong line of a script was mended or another was added\nin its midst, a script was left out, or the file is that of another run. What was refused is asked again at a script's end, never in its place:\nput the line back as it was. seatdesk run --refused without --resume writes the file anew.",
+        text: "The row of the file of --refused is not what the scripts are refused for there: a wrong line of a script was mended or another was added\nin its midst, a script was left out, or the file is that of another run. What was refused is asked again at a script's end, never in its place:\nput the line back as it was. A line that was cut off at the script's end, and is complete by now, can stay: take this row, and those behind it of that\nsession, out of the file by hand, and the same run --resume books the line. seatdesk run --refused without --resume writes the file anew.",
     },
     Explanation {
         behind: "",
