@@ -187,7 +187,7 @@ module _ (set limits after journal : Option (List ℕ)) (first days more today :
 -- ---- inputs that are too large, or fail
 
 -- where the journals are not asked, and where the second is not
-four_load : (P : List ℕ → List ℕ → Type 0) (R : List ℕ → List ℕ → List ℕ → List ℕ → Type 0)
+pub four_load : (P : List ℕ → List ℕ → Type 0) (R : List ℕ → List ℕ → List ℕ → List ℕ → Type 0)
     (set limits after journal : Option (List ℕ)) → ((xs ys older zs : List ℕ) → P xs ys → R xs ys older zs)
     → IfSome set (λ xs. IfSome limits (λ ys. P xs ys)) → OfFour set limits after journal R
 four_load P R (Some xs) (Some ys) (Some older) (Some zs) give p = give xs ys older zs p

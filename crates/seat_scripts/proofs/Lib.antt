@@ -22,6 +22,7 @@ mod Rest
 pub mod Still
 mod Again
 pub mod Judged
+pub mod Replayed
 pub mod GoneOn
 pub mod Sessions
 mod KnownAgain

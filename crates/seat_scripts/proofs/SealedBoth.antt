@@ -18,6 +18,7 @@ use Rattle.seat_scripts.proofs.Inputs.{if_known as if_three_known}
 use Rattle.seat_scripts.specs.Against.{IsReplayWithin, OfFour}
 use Rattle.seat_scripts.specs.Beside.{IsFaultless, IsRefusedBeside, IsUnsealed}
 use Rattle.seat_scripts.specs.Both.{BothAgree, IsOlderSealed, IsRefusedSealed, IsTooLargeSealed, IsUnsealedBehind}
+use Rattle.seat_scripts.specs.Journals.{IsFirstTooLargeOfBoth}
 use Rattle.seat_scripts.specs.declared.besides.Besides.{Besides}
 
 -- what is said twice of four texts
@@ -170,11 +171,11 @@ module _ (set limits after journal : Option (List ℕ)) (first days : ℕ) (besi
           })))
           wrong) all_good all_older (refused input)
 
-      pub large_journal : (R : List ℕ → List ℕ → List ℕ → List ℕ → Type 0)
-          → IfSome journal (λ zs. most_journal_bytes < length zs) → IsLarge R
-      large_journal R over =
-          if_known IsGood IsHere (λ zs. most_journal_bytes < length zs) (λ xs ys older zs. IsTooLargeSealed besides xs ys first days older zs (R xs ys older zs)) set limits after journal
-          (λ xs ys older zs is was large. inr (inl (record { ahead = an_older xs ys older is was; here = large }))) all_good all_older over
+      pub large_journal : IfSome journal (λ zs. most_journal_bytes < length zs)
+          → OfFour set limits after journal (λ xs ys older zs. IsFirstTooLargeOfBoth besides xs ys first days older zs)
+      large_journal over =
+          if_known IsGood IsHere (λ zs. most_journal_bytes < length zs) (λ xs ys older zs. IsFirstTooLargeOfBoth besides xs ys first days older zs) set limits after journal
+          (λ xs ys older zs is was large. inr (record { ahead = an_older xs ys older is was; here = large })) all_good all_older over
 
       -- both agree
       pub both_agree : IfSome journal (IsFaultless besides.journal basis) → Agreeing

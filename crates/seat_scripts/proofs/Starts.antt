@@ -1,5 +1,5 @@
 -- What a run is asked or refused where it is known what it starts from, what its texts ask of that, and what is wrong with one of them.
-use Rattle.std.proofs.Common.{◌≡◌, ◌<◌, ◌⊎◌, ⊎_elim, inl, inr, ℕ, Bool, true, false, List, Option, IfSome, length, refl, subst, sym}
+use Rattle.std.proofs.Common.{◌≡◌, ◌<◌, ⊎_elim, inl, inr, ℕ, Bool, true, false, List, Option, IfSome, length, refl, subst, sym}
 use Rattle.ssim_flights.specs.declared.flight.Flight.{Flight as Flown}
 use Rattle.seat_seal.specs.declared.beside.Basis.{Basis}
 use Rattle.seat_seal.specs.declared.beside.Beside.{Beside}
@@ -12,15 +12,14 @@ use Rattle.seat_desk.specs.Loading.{Bytes, IsBehind, IsLoadedOf, IsRefusedLoad}
 use Rattle.seat_desk.specs.Sealing.{IsBasisOf}
 use Rattle.seat_desk.specs.declared.fault.DeskFault.TheVariants.{Device, TooLarge}
 use Rattle.seat_desk.specs.declared.inputs.Inputs.{Inputs}
-use Rattle.seat_replies.specs.Asked.{HasPast, HasScripts}
 use Rattle.seat_replies.specs.Changes.{most_change_bytes}
 use Rattle.seat_replies.specs.Requests.{IsTooLargeAmong}
-use Rattle.seat_scripts.proofs.Common.{DeskFault, HasLoaded, IsFirstTooLargeLoad, Ladders, OfThree, most_journal_bytes}
+use Rattle.seat_scripts.proofs.Common.{DeskFault, IsFirstTooLargeLoad, Ladders, most_journal_bytes}
 use Rattle.seat_scripts.proofs.Inputs.{asked_of, has_loaded, if_loaded}
 use Rattle.seat_scripts.proofs.Judged.{not_device, not_large}
 use Rattle.seat_scripts.proofs.Seals.{based, carried_of, each_three, refused_start, repeated_of, sealed_again, sealed_changes_fail, sealed_large_changes, sealed_large_script, sealed_refused, sealed_script_fails, sealed_unchanged}
 use Rattle.seat_scripts.specs.AskedFrom.{AreNoChanges, AreNoTexts, HaveRequests, IsAskedFrom, IsBookedAlready, IsNoScript, IsNotAskedFrom, asked_by}
-use Rattle.seat_scripts.specs.Beside.{FailsStart, IsRefusedBeside, IsRefusedSealedRun, IsTooLargeSealedRun}
+use Rattle.seat_scripts.specs.Beside.{IsRefusedBeside, IsRefusedSealedRun, IsTooLargeSealedRun}
 use Rattle.seat_scripts.specs.ReadAsked.{IsNotAsked, IsReadAsked}
 use Rattle.seat_scripts.specs.Starting.{IsNoStart, IsStarted}
 use Rattle.seat_scripts.specs.declared.asked.Asked.{Asked}

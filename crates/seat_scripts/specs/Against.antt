@@ -6,7 +6,6 @@ use Rattle.airimp_lines.specs.declared.requests.Request.{Request}
 use Rattle.ssim_flights.specs.declared.flight.Flight.{Flight as Flown}
 use Rattle.seat_nesting.specs.Nesting.{Ladders}
 use Rattle.seat_journal.specs.Text.{IsJournalText}
-use Rattle.seat_journal.specs.declared.entry.Change.{Change}
 use Rattle.seat_journal.specs.declared.entry.Command.{Command}
 use Rattle.seat_journal.specs.declared.entry.Entry.{Entry}
 use Rattle.seat_journal.specs.declared.entry.Work.{Work}
@@ -25,7 +24,7 @@ use Rattle.seat_replies.specs.Asked.{HasLoaded, OfThree}
 use Rattle.seat_replies.specs.Requests.{AreScripts, IsRefusedAmong, IsTooLargeAmong}
 use Rattle.seat_replies.specs.RunDesk.{requests_of, works_in}
 use Rattle.seat_scripts.specs.Taken.{WithTaken}
-use Rattle.seat_replies.specs.VeryRequest.{Agree, same_change}
+use Rattle.seat_replies.specs.VeryRequest.{Agree}
 
 -- ---- what is asked, and what is in the journal
 

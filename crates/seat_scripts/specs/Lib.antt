@@ -7,6 +7,7 @@ pub mod Beside
 pub mod Both
 pub mod First
 pub mod GoneOn
+pub mod Journals
 pub mod KnownAgain
 pub mod ReadAgainst
 pub mod ReadAsked

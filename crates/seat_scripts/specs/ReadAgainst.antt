@@ -5,12 +5,15 @@ use Rattle.seat_rules.specs.Journal.{IsLegal}
 use Rattle.seat_seal.specs.Booked.{scripts_booked}
 use Rattle.seat_seal.specs.Known.{IsKnown, runs_known}
 use Rattle.seat_desk.specs.AuditDesk.{most_lines}
+use Rattle.seat_desk.specs.Desk.{IsOfInput}
 use Rattle.seat_desk.specs.Loading.{Bytes, IsGridOf}
 use Rattle.seat_desk.specs.Sealing.{IsBasisOf}
+use Rattle.seat_desk.specs.declared.fault.DeskFault.{DeskFault}
+use Rattle.seat_desk.specs.declared.fault.DeskFault.TheVariants.{Device, TooLarge}
 use Rattle.seat_desk.specs.declared.inputs.Inputs.{Inputs}
 use Rattle.seat_replies.specs.Requests.{AreRight}
 use Rattle.seat_scripts.specs.Against.{AreReadOf}
-use Rattle.seat_scripts.specs.Both.{BothAgreeOf}
+use Rattle.seat_scripts.specs.Both.{BothAgreeOf, FailsSealedAgainst, IsRefusedSealedAgainstOf, IsTooLargeSealedAgainstOf}
 use Rattle.seat_scripts.specs.Repeated.{IsOneBooked}
 use Rattle.seat_scripts.specs.Taken.{AreTaken, lines_taken}
 use Rattle.seat_scripts.specs.TextImprints.{AreImprints}
@@ -39,3 +42,12 @@ pub record IsReadAgainst {S L : Type 0} (besides : Besides) (set : Bytes S) (lim
   pub are_imprints : AreImprints texts read.imprints
   pub is_booked : IsOneBooked (scripts_booked (Some (length read.older.journal + read.more)) (runs_known read.known)) texts
       read.is_booked
+
+-- an input is refused, is too large or has failed, each behind those that are right, or all are, and the lines are not what the scripts ask
+pub record IsNotAgainst {S L : Type 0} (besides : Besides) (set : Bytes S) (limits : Bytes L) (inputs : Inputs S L)
+    (after : Option (List ℕ)) (given : Option ℕ) (journal : Option (List ℕ)) (today : ℕ) (texts : List (Option (List ℕ)))
+    (load_failed older_failed journal_failed script_failed : Type 0) (fault : DeskFault) : Type 0 where
+  pub refused : IsOfInput fault → IsRefusedSealedAgainstOf besides set limits inputs after given journal today texts fault
+  pub large : fault ≡ TooLarge → IsTooLargeSealedAgainstOf besides set limits inputs after journal today texts
+  pub device : fault ≡ Device
+      → FailsSealedAgainst besides set limits inputs after journal load_failed older_failed journal_failed script_failed

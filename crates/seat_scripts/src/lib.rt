@@ -12,6 +12,7 @@ mod by_session;
 mod changes;
 mod commands;
 mod imprints;
+mod journals;
 mod laws;
 mod making;
 mod past;
