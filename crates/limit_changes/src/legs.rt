@@ -150,13 +150,7 @@ fn is_so(named: bool, is: bool) -> bool
 }
 
 /// Whether a row with the leg's flight, day and pair is one for this very leg.
-fn is_named(
-    served: &Served<'_>,
-    index: u32,
-    flight: &Flight,
-    leg: u8,
-    dated: &DatedLeg,
-) -> bool
+fn is_named(served: &Served<'_>, index: u32, flight: &Flight, leg: u8, dated: &DatedLeg) -> bool
     ensures { result ≡ is_named served.now index flight.now leg dated.now }
 {
     is_place(one_leg(index, leg), served.find(&wanted_of(flight, dated)))
