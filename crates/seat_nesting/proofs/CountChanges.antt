@@ -5,11 +5,12 @@ use Rattle.std.proofs.lemmas.Bool.{eqb-true, eqb-false, le-leb, leb-true, and_pa
 use Rattle.std.proofs.lemmas.Bool.Decides.{nat_tests}
 use Rattle.std.proofs.lemmas.List.{map-set, set-get_or, get_or-set_same, get_or-set_other, map-append, length-map, get_or-map, take_more}
 use Rattle.std.proofs.lemmas.Option.{unwrap_or-slice_get}
-use Rattle.seat_nesting.specs.Nesting.{Steps, Ladders, steps_of, ladder_at, room, room_on, least, each_leg, covers, has_class}
+use Rattle.seat_nesting.specs.Nesting.{Steps, Ladders, steps_of, ladder_at, free, free_on, least, each_leg, covers, has_class}
 use Rattle.airline_base.specs.declared.place.Place.{Place}
-use Rattle.seat_nesting.proofs.Rooms.{least_le, room_same}
+use Rattle.seat_nesting.proofs.Rooms.{least_le, free_same}
 use Rattle.seat_nesting.specs.Counting.{LegSeats, Counted, held_on, leg_in, legs_in, leg_at, limits_of, table_of, no_leg, KeepsLimits, IsFresh, IsWithinLimits, LegChanges, FlightChanges, OneLegChanges, Changes, plus, less, leg_holds, holds}
-use Rattle.seat_nesting.specs.Changing.{with_limit, leg_with, limits_with, LegSets, FlightSets, Sets}
+use Rattle.seat_nesting.specs.declared.setting.Setting.{Setting}
+use Rattle.seat_nesting.specs.Changing.{with_setting, leg_set, ladders_set, LegSets, FlightSets, SetsOn}
 
 -- the place that was written, and the others
 pub at_set : {X : Type 0} (xs : List X) (i j : ℕ) (x d : X) → i < length xs
@@ -184,31 +185,31 @@ same_behind op none old new flight from leg at class n lt h k =
 -- ---- seats that fit, on each leg
 
 pub fits_forwards : (grid : Ladders) (seats : ℕ → ℕ → ℕ → ℕ) (place : Place) (class n : ℕ)
-    → n ≤ room grid seats place class → 0 < n → place.from ≤ place.to
+    → n ≤ free grid seats place class → 0 < n → place.from ≤ place.to
 fits_forwards grid seats place class n h some = of (nat_le place.from place.to) refl h
   where
     of : (b : Bool) → nat_le place.from place.to ≡ b
-        → n ≤ cond b (least (λ leg. room_on (ladder_at grid place.flight leg) (seats place.flight leg) class) place.from
+        → n ≤ cond b (least (λ leg. free_on (ladder_at grid place.flight leg) (seats place.flight leg) class) place.from
         (place.to - place.from)) 0 → place.from ≤ place.to
     of true e f = grind (arith, nat_tests, e)
     of false e f = absurd (omega (arith, f))
 
 pub fits_each : (grid : Ladders) (seats : ℕ → ℕ → ℕ → ℕ) (place : Place) (class n leg : ℕ)
-    → n ≤ room grid seats place class → place.from ≤ leg → leg ≤ place.to
-    → n ≤ room_on (ladder_at grid place.flight leg) (seats place.flight leg) class
+    → n ≤ free grid seats place class → place.from ≤ leg → leg ≤ place.to
+    → n ≤ free_on (ladder_at grid place.flight leg) (seats place.flight leg) class
 fits_each grid seats place class n leg h low high =
     let forwards : nat_le place.from place.to ≡ true = le-leb place.from place.to (omega arith) in
-    let f : ℕ → ℕ = λ at. room_on (ladder_at grid place.flight at) (seats place.flight at) class in
-    let room_is : n ≤ least f place.from (place.to - place.from) = rw forwards at h in
-    omega (arith, room_is, least_le f place.from (place.to - place.from) leg low (omega arith))
+    let f : ℕ → ℕ = λ at. free_on (ladder_at grid place.flight at) (seats place.flight at) class in
+    let free_is : n ≤ least f place.from (place.to - place.from) = rw forwards at h in
+    omega (arith, free_is, least_le f place.from (place.to - place.from) leg low (omega arith))
 
--- room that is left on a leg behind
+-- what the limits leave on a leg behind
 pub fits_behind : (old new : Counted) (flight from leg at class n m : ℕ) → leg < at
     → Changes plus old new (part flight from leg) class m
-    → n ≤ room_on (ladder_at (limits_of old) flight at) (table_of old flight at) class
-    → n ≤ room_on (ladder_at (limits_of new) flight at) (table_of new flight at) class
+    → n ≤ free_on (ladder_at (limits_of old) flight at) (table_of old flight at) class
+    → n ≤ free_on (ladder_at (limits_of new) flight at) (table_of new flight at) class
 fits_behind old new flight from leg at class n m lt h fits =
-    let same = room_same (ladder_at (limits_of old) flight at) (table_of new flight at) (table_of old flight at) class (same_behind plus plus_none old new flight from leg at class m lt h) in
+    let same = free_same (ladder_at (limits_of old) flight at) (table_of new flight at) (table_of old flight at) class (same_behind plus plus_none old new flight from leg at class m lt h) in
     rw (h.limits, same) fits
 
 -- ---- seats that are held, on each leg
@@ -265,26 +266,26 @@ pub fresh_push : (xs : Counted) (x : List LegSeats) → ((f at : ℕ) → IsFres
     → ((at : ℕ) → IsFresh (leg_in x at)) → (f at : ℕ) → IsFresh (leg_at (xs ++ x ∷ []) f at)
 fresh_push xs x all here = each_push xs x [] (λ (legs : List LegSeats). (at : ℕ) → IsFresh (leg_in legs at)) all here
 
--- ---- a limit that is set
+-- ---- a leg on which something is set
 
-map_leg_set : (items : List LegSeats) (leg : ℕ) (x : LegSeats) (class limit wait : ℕ) → leg < length items
-    → x.steps ≡ with_limit (leg_in items leg).steps class limit wait
-    → map steps_in (set items leg x) ≡ leg_with (map steps_in items) leg class limit wait
-map_leg_set [] leg x class limit wait inside h = absurd (omega arith)
-map_leg_set (l ∷ items) zero x class limit wait inside h = ap (λ (s : Steps). s ∷ map steps_in items) h
-map_leg_set (l ∷ items) (suc leg) x class limit wait inside h = ap (λ (s : List Steps). l.steps ∷ s) (map_leg_set items leg x class limit wait (omega arith) h)
+map_leg_set : (items : List LegSeats) (leg : ℕ) (x : LegSeats) (setting : Setting) → leg < length items
+    → x.steps ≡ with_setting (leg_in items leg).steps setting
+    → map steps_in (set items leg x) ≡ leg_set (map steps_in items) leg setting
+map_leg_set [] leg x setting inside h = absurd (omega arith)
+map_leg_set (l ∷ items) zero x setting inside h = ap (λ (s : Steps). s ∷ map steps_in items) h
+map_leg_set (l ∷ items) (suc leg) x setting inside h = ap (λ (s : List Steps). l.steps ∷ s) (map_leg_set items leg x setting (omega arith) h)
 
-map_flight_set : (items : Counted) (flight : ℕ) (xs : List LegSeats) (leg class limit wait : ℕ) → flight < length items
-    → map steps_in xs ≡ leg_with (map steps_in (legs_in items flight)) leg class limit wait
-    → limits_of (set items flight xs) ≡ limits_with (limits_of items) flight leg class limit wait
-map_flight_set [] flight xs leg class limit wait inside h = absurd (omega arith)
-map_flight_set (l ∷ items) zero xs leg class limit wait inside h = ap (λ (s : List Steps). s ∷ limits_of items) h
-map_flight_set (l ∷ items) (suc flight) xs leg class limit wait inside h = ap (λ (s : Ladders). map steps_in l ∷ s) (map_flight_set items flight xs leg class limit wait (omega arith) h)
+map_flight_set : (items : Counted) (flight : ℕ) (xs : List LegSeats) (leg : ℕ) (setting : Setting) → flight < length items
+    → map steps_in xs ≡ leg_set (map steps_in (legs_in items flight)) leg setting
+    → limits_of (set items flight xs) ≡ ladders_set (limits_of items) flight leg setting
+map_flight_set [] flight xs leg setting inside h = absurd (omega arith)
+map_flight_set (l ∷ items) zero xs leg setting inside h = ap (λ (s : List Steps). s ∷ limits_of items) h
+map_flight_set (l ∷ items) (suc flight) xs leg setting inside h = ap (λ (s : Ladders). map steps_in l ∷ s) (map_flight_set items flight xs leg setting (omega arith) h)
 
-leg_sets_at : (items : List LegSeats) (leg : ℕ) (x : LegSeats) (class limit wait : ℕ) → leg < length items
-    → LegSets (leg_in items leg) x class limit wait → FlightSets items (set items leg x) leg class limit wait
-leg_sets_at items leg x class limit wait inside h = record {
-  limits = map_leg_set items leg x class limit wait inside h.steps;
+leg_sets_at : (items : List LegSeats) (leg : ℕ) (x : LegSeats) (setting : Setting) → leg < length items
+    → LegSets (leg_in items leg) x setting → FlightSets items (set items leg x) leg setting
+leg_sets_at items leg x setting inside h = record {
+  limits = map_leg_set items leg x setting inside h.steps;
   seats = λ at k. ap (λ (l : LegSeats). held_on l k) (at_set items leg at x no_leg inside) ∙ seats_case at k (at == leg) refl;
   kept = λ all at. let P : LegSeats → Type 0 = λ l. KeepsLimits l in subst P (sym (at_set items leg at x no_leg inside)) (kept_case all at (at == leg));
 }
@@ -299,26 +300,26 @@ leg_sets_at items leg x class limit wait inside h = record {
     kept_case all at true = h.kept
     kept_case all at false = all at
 
-pub flight_sets : (items now : List LegSeats) (leg : ℕ) (old new : LegSeats) (class limit wait : ℕ) → items ≡ now
-    → leg < length items → old ≡ get_or items leg no_leg → LegSets old new class limit wait
-    → FlightSets now (set items leg new) leg class limit wait
-flight_sets items now leg old new class limit wait same inside is h =
-    let here : LegSets (leg_in items leg) new class limit wait = let P : LegSeats → Type 0 = λ x. LegSets x new class limit wait in subst P (is ∙ sym (unwrap_or-slice_get items leg no_leg)) h in
-    let P : List LegSeats → Type 0 = λ x. FlightSets x (set items leg new) leg class limit wait in
-    subst P same (leg_sets_at items leg new class limit wait inside here)
+pub flight_sets : (items now : List LegSeats) (leg : ℕ) (old new : LegSeats) (setting : Setting) → items ≡ now
+    → leg < length items → old ≡ get_or items leg no_leg → LegSets old new setting
+    → FlightSets now (set items leg new) leg setting
+flight_sets items now leg old new setting same inside is h =
+    let here : LegSets (leg_in items leg) new setting = let P : LegSeats → Type 0 = λ x. LegSets x new setting in subst P (is ∙ sym (unwrap_or-slice_get items leg no_leg)) h in
+    let P : List LegSeats → Type 0 = λ x. FlightSets x (set items leg new) leg setting in
+    subst P same (leg_sets_at items leg new setting inside here)
 
-sets_here : (items : Counted) (flight : ℕ) (old new : List LegSeats) (leg class limit wait : ℕ)
-    → old ≡ get_or items flight [] → FlightSets old new leg class limit wait
-    → FlightSets (legs_in items flight) new leg class limit wait
-sets_here items flight old new leg class limit wait is h =
-    let P : List LegSeats → Type 0 = λ x. FlightSets x new leg class limit wait in
+sets_here : (items : Counted) (flight : ℕ) (old new : List LegSeats) (leg : ℕ) (setting : Setting)
+    → old ≡ get_or items flight [] → FlightSets old new leg setting
+    → FlightSets (legs_in items flight) new leg setting
+sets_here items flight old new leg setting is h =
+    let P : List LegSeats → Type 0 = λ x. FlightSets x new leg setting in
     subst P (is ∙ sym (unwrap_or-slice_get items flight [])) h
 
-flight_sets_at : (items : Counted) (flight : ℕ) (new : List LegSeats) (leg class limit wait : ℕ) → flight < length items
-    → FlightSets (legs_in items flight) new leg class limit wait
-    → Sets items (set items flight new) flight leg class limit wait
-flight_sets_at items flight new leg class limit wait inside h = record {
-  limits = map_flight_set items flight new leg class limit wait inside h.limits;
+flight_sets_at : (items : Counted) (flight : ℕ) (new : List LegSeats) (leg : ℕ) (setting : Setting) → flight < length items
+    → FlightSets (legs_in items flight) new leg setting
+    → SetsOn items (set items flight new) flight leg setting
+flight_sets_at items flight new leg setting inside h = record {
+  limits = map_flight_set items flight new leg setting inside h.limits;
   seats = λ f at k. ap (λ (l : List LegSeats). held_on (leg_in l at) k) (at_set items flight f new [] inside) ∙ seats_case f at k (f == flight) refl;
 }
   where
@@ -327,20 +328,20 @@ flight_sets_at items flight new leg class limit wait inside h = record {
     seats_case f at k true e = h.seats at k ∙ ap (λ (i : ℕ). table_of items i at k) (sym (eqb-true f flight e))
     seats_case f at k false e = refl
 
-pub all_sets : (items now : Counted) (flight : ℕ) (old new : List LegSeats) (leg class limit wait : ℕ) → items ≡ now
-    → flight < length items → old ≡ get_or items flight [] → FlightSets old new leg class limit wait
-    → Sets now (set items flight new) flight leg class limit wait
-all_sets items now flight old new leg class limit wait same inside is h =
-    let P : Counted → Type 0 = λ x. Sets x (set items flight new) flight leg class limit wait in
-    subst P same (flight_sets_at items flight new leg class limit wait inside (sets_here items flight old new leg class limit wait is h))
+pub all_sets : (items now : Counted) (flight : ℕ) (old new : List LegSeats) (leg : ℕ) (setting : Setting) → items ≡ now
+    → flight < length items → old ≡ get_or items flight [] → FlightSets old new leg setting
+    → SetsOn now (set items flight new) flight leg setting
+all_sets items now flight old new leg setting same inside is h =
+    let P : Counted → Type 0 = λ x. SetsOn x (set items flight new) flight leg setting in
+    subst P same (flight_sets_at items flight new leg setting inside (sets_here items flight old new leg setting is h))
 
-pub within_sets : (items : Counted) (flight : ℕ) (old new : List LegSeats) (leg class limit wait : ℕ)
-    → flight < length items → old ≡ get_or items flight [] → FlightSets old new leg class limit wait
+pub within_sets : (items : Counted) (flight : ℕ) (old new : List LegSeats) (leg : ℕ) (setting : Setting)
+    → flight < length items → old ≡ get_or items flight [] → FlightSets old new leg setting
     → IsWithinLimits items → IsWithinLimits (set items flight new)
-within_sets items flight old new leg class limit wait inside is h w = record {
+within_sets items flight old new leg setting inside is h w = record {
   leg_kept = λ f at. let P : List LegSeats → Type 0 = λ l. KeepsLimits (leg_in l at) in subst P (sym (at_set items flight f new [] inside)) (kept_case f at (f == flight));
 }
   where
     kept_case : (f at : ℕ) (b : Bool) → KeepsLimits (leg_in (cond b new (legs_in items f)) at)
-    kept_case f at true = (sets_here items flight old new leg class limit wait is h).kept (λ i. w.leg_kept flight i) at
+    kept_case f at true = (sets_here items flight old new leg setting is h).kept (λ i. w.leg_kept flight i) at
     kept_case f at false = w.leg_kept f at

@@ -6,13 +6,13 @@ use Rattle.std.proofs.lemmas.List.Sums.{sum_by-cons, sum_by_push}
 use Rattle.std.proofs.lemmas.List.{map-set, map-append, length-map, take_all}
 use Rattle.std.proofs.lemmas.Option.{unwrap_or-slice_get}
 use Rattle.airline_base.specs.declared.place.Place.{Place}
-use Rattle.seat_nesting.specs.Nesting.{Steps, Ladders, Fits, IsLegLadder, steps_of, has_class, room_on, ladder_at, legs_of}
+use Rattle.seat_nesting.specs.Nesting.{Steps, Ladders, Fits, IsLegLadder, steps_of, has_class, free_on, ladder_at, legs_of}
 use Rattle.seat_nesting.specs.Counting.{LegSeats, Counted, leg_of, leg_in, legs_in, leg_at, limits_of, table_of, no_leg, KeepsLimits, IsFresh, IsRank, IsWithinLimits, LegChanges, FlightChanges, OneLegChanges, plus, less}
 use Rattle.seat_nesting.specs.OwnLadders.{Pool, CountedLeg, pool_of, steps_by, leg_seen, held_at, with_held, no_counted, counted_in, counted_at, legs_seen, all_seen, limits_in, all_limits, limits_at, put, AreCounters, HaveOwn}
 use Rattle.seat_nesting.specs.declared.limits.Limits.{Limits}
 use Rattle.seat_nesting.specs.declared.limits.Limits.TheVariants.{Absent, Shared, Own}
 use Rattle.seat_nesting.proofs.CountChanges.{map_set, flight_changes, one_leg_changes, still_within, plus_none, less_none, each_push, steps_push, flights_push, fresh_push}
-use Rattle.seat_nesting.proofs.LegCounting.{few_seen, takes_seen, gives_seen, seats_seen, room_lacking, count_lacking, is_fresh, kept_none, count_none}
+use Rattle.seat_nesting.proofs.LegCounting.{few_seen, takes_seen, gives_seen, seats_seen, free_lacking, count_lacking, is_fresh, kept_none, count_none}
 use Rattle.seat_nesting.proofs.LimitChanges.{ladder_seen}
 use Rattle.seat_nesting.proofs.FlatCounts.{at_map, some_inside}
 
@@ -190,24 +190,24 @@ changed_counters op none pool places flights now flight leg class n x m inside k
 
 pub take_fits : (pool : Pool) (places : ℕ) (flights : List (List CountedLeg)) (now : Counted) (flight leg class rank n : ℕ)
     → Meets pool places flights now → IsRank (leg_at now flight leg).steps class rank
-    → n ≤ room_on (ladder_at (limits_of now) flight leg) (table_of now flight leg) class
+    → n ≤ free_on (ladder_at (limits_of now) flight leg) (table_of now flight leg) class
     → held_at (counted_at flights flight leg) rank + n ≤ 999
 take_fits pool places flights now flight leg class rank n m is fits =
-    let here : n ≤ room_on (leg_at now flight leg).steps (table_of now flight leg) class = subst (λ (s : Steps). n ≤ room_on s (table_of now flight leg) class) (ladder_seen now flight leg) fits in
+    let here : n ≤ free_on (leg_at now flight leg).steps (table_of now flight leg) class = subst (λ (s : Steps). n ≤ free_on s (table_of now flight leg) class) (ladder_seen now flight leg) fits in
     few_seen (leg_seen pool (counted_at flights flight leg)) (leg_at now flight leg) class rank n (met_leg pool places flights now flight leg m) (met_kept pool places flights now flight leg m) is here
 
 take_leg : (pool : Pool) (places : ℕ) (flights : List (List CountedLeg)) (now : Counted) (flight leg class rank n : ℕ)
     → Meets pool places flights now → IsRank (leg_at now flight leg).steps class rank
-    → n ≤ room_on (ladder_at (limits_of now) flight leg) (table_of now flight leg) class
+    → n ≤ free_on (ladder_at (limits_of now) flight leg) (table_of now flight leg) class
     → LegChanges plus (leg_at now flight leg) (leg_seen pool (with_change plus (counted_at flights flight leg) rank n))
     class n
 take_leg pool places flights now flight leg class rank n m is fits =
-    let here : n ≤ room_on (leg_at now flight leg).steps (table_of now flight leg) class = subst (λ (s : Steps). n ≤ room_on s (table_of now flight leg) class) (ladder_seen now flight leg) fits in
+    let here : n ≤ free_on (leg_at now flight leg).steps (table_of now flight leg) class = subst (λ (s : Steps). n ≤ free_on s (table_of now flight leg) class) (ladder_seen now flight leg) fits in
     takes_seen (leg_seen pool (counted_at flights flight leg)) (leg_at now flight leg) class rank n (met_leg pool places flights now flight leg m) (met_kept pool places flights now flight leg m) is here
 
 pub takes_on : (pool : Pool) (places : ℕ) (flights : List (List CountedLeg)) (now : Counted) (flight leg class rank n : ℕ)
     (new : List (List CountedLeg)) → Meets pool places flights now → IsRank (leg_at now flight leg).steps class rank
-    → n ≤ room_on (ladder_at (limits_of now) flight leg) (table_of now flight leg) class
+    → n ≤ free_on (ladder_at (limits_of now) flight leg) (table_of now flight leg) class
     → new ≡ put flights flight leg (with_change plus (counted_at flights flight leg) rank n)
     → OneLegChanges plus now (all_seen pool new) flight leg class n
 takes_on pool places flights now flight leg class rank n new m is fits e =
@@ -218,7 +218,7 @@ takes_on pool places flights now flight leg class rank n new m is fits e =
 pub taken_counters : (pool : Pool) (places : ℕ) (flights : List (List CountedLeg)) (now : Counted)
     (flight leg class rank n : ℕ) (new : List (List CountedLeg)) → Meets pool places flights now
     → IsRank (leg_at now flight leg).steps class rank
-    → n ≤ room_on (ladder_at (limits_of now) flight leg) (table_of now flight leg) class
+    → n ≤ free_on (ladder_at (limits_of now) flight leg) (table_of now flight leg) class
     → new ≡ put flights flight leg (with_change plus (counted_at flights flight leg) rank n)
     → AreCounters pool places new
 taken_counters pool places flights now flight leg class rank n new m is fits e =
@@ -276,11 +276,11 @@ none_changes op none now new flight leg class n e zero_is =
 
 pub none_taken : (now new : Counted) (flight leg class n : ℕ) → new ≡ now
     → has_class (leg_at now flight leg).steps class ≡ false
-    → n ≤ room_on (ladder_at (limits_of now) flight leg) (table_of now flight leg) class
+    → n ≤ free_on (ladder_at (limits_of now) flight leg) (table_of now flight leg) class
     → OneLegChanges plus now new flight leg class n
 none_taken now new flight leg class n e lacks fits =
-    let here : n ≤ room_on (leg_at now flight leg).steps (table_of now flight leg) class = subst (λ (s : Steps). n ≤ room_on s (table_of now flight leg) class) (ladder_seen now flight leg) fits in
-    let none = room_lacking (leg_at now flight leg).steps (table_of now flight leg) class lacks in
+    let here : n ≤ free_on (leg_at now flight leg).steps (table_of now flight leg) class = subst (λ (s : Steps). n ≤ free_on s (table_of now flight leg) class) (ladder_seen now flight leg) fits in
+    let none = free_lacking (leg_at now flight leg).steps (table_of now flight leg) class lacks in
     none_changes plus plus_none now new flight leg class n e (omega (arith, none, here))
 
 pub none_given : (now new : Counted) (flight leg class n : ℕ) → new ≡ now

@@ -7,7 +7,7 @@ use Rattle.std.proofs.lemmas.List.{drop_all, length-set}
 use Rattle.std.proofs.lemmas.List.Quantifiers.{position-Some}
 use Rattle.std.proofs.lemmas.Bool.Decides.{nat_tests}
 use Rattle.seat_nesting.specs.declared.ladder.Step.{Step}
-use Rattle.seat_nesting.specs.Nesting.{ByClass, Steps, held_from, room_on, has_class, IsDistinct, IsLegLadder, LacksClass}
+use Rattle.seat_nesting.specs.Nesting.{ByClass, Steps, held_from, free_on, room_on, has_class, IsDistinct, IsLegLadder, LacksClass}
 use Rattle.seat_nesting.specs.Counting.{LegSeats, leg_of, count_at, held_on, KeepsLimits, IsFresh, IsRank, LegChanges, plus, less}
 use Rattle.seat_nesting.proofs.Rooms.{held_from_rank, within_rank, within_none, within_less, within_more, IsMore}
 
@@ -57,7 +57,7 @@ no_rank steps class h = any_place (λ s. class == s.class) steps ∙ of (nat_lt 
 pub is_rank : (steps : Steps) (class rank : ℕ) → position (λ s. class == s.class) steps ≡ Some rank
     → IsRank steps class rank
 is_rank steps class rank h = record {
-  inside = (position-Some (λ (s : Step). class == s.class) steps rank (record { class = 0; limit = 0; wait = 0; listed = false }) h).0;
+  inside = (position-Some (λ (s : Step). class == s.class) steps rank (record { class = 0; limit = 0; wait = 0; listed = false; closed = false }) h).0;
   class_is = λ d. sym (eqb-true class (get_or steps rank d).class (position-Some (λ (s : Step). class == s.class) steps rank d h).1);
   there = any_place (λ s. class == s.class) steps ∙ of (nat_lt (position_or_len (λ s. class == s.class) steps) (length steps)) h;
 }
@@ -115,7 +115,7 @@ count_less true old x n k class e h = let same : (class == k) ≡ true = eq-eqb 
 count_less false old x n k class e h = let other : (class == k) ≡ false = ne_eqb class k (λ is. eqb-false k class e (sym is)) in rw other (omega arith)
 
 abbrev no_step : Step
-no_step = record { class = 0; limit = 0; wait = 0; listed = false }
+no_step = record { class = 0; limit = 0; wait = 0; listed = false; closed = false }
 
 count_class : (steps : Steps) (held : List ℕ) (class rank : ℕ) → IsDistinct steps → IsRank steps class rank
     → rank < length held → count_at steps held class ≡ get_or held rank 0
@@ -150,7 +150,7 @@ is_more new old class n h = record {
 }
 
 pub leg_takes : (leg : LegSeats) (class rank n : ℕ) → KeepsLimits leg → IsRank leg.steps class rank
-    → n ≤ room_on leg.steps (held_on leg) class
+    → n ≤ free_on leg.steps (held_on leg) class
     → LegChanges plus leg (record { steps = leg.steps; held = set leg.held rank (get_or leg.held rank 0 + n) }) class n
 leg_takes leg class rank n kept is fits =
     let inside : rank < length leg.held = omega (arith, is.inside, kept.counted) in
@@ -184,6 +184,14 @@ room_lacking (s ∷ lower) seats class h =
     let other : (s.class == class) ≡ false = ne_eqb s.class class (λ e. eqb-false class s.class p.0 (sym e)) in
     rw (other, room_lacking lower seats class p.1) (omega arith)
 
+pub free_lacking : (steps : Steps) (seats : ℕ → ℕ) (class : ℕ) → has_class steps class ≡ false
+    → free_on steps seats class ≡ 0
+free_lacking [] seats class h = refl
+free_lacking (s ∷ lower) seats class h =
+    let p = or_parts (class == s.class) (has_class lower class) h in
+    let other : (s.class == class) ≡ false = ne_eqb s.class class (λ e. eqb-false class s.class p.0 (sym e)) in
+    rw (other, free_lacking lower seats class p.1) (omega arith)
+
 pub count_lacking : (steps : Steps) (held : List ℕ) (class : ℕ) → has_class steps class ≡ false
     → count_at steps held class ≡ 0
 count_lacking [] held class h = refl
@@ -215,14 +223,14 @@ limit_at [] i d h lt = absurd (omega arith)
 limit_at (s ∷ lower) zero d h lt = h.0.0
 limit_at (s ∷ lower) (suc i) d h lt = limit_at lower i d h.1 (omega arith)
 
-room_at : (steps : Steps) (seats : ℕ → ℕ) (class rank : ℕ) (d : Step) → IsDistinct steps → rank < length steps
+free_at : (steps : Steps) (seats : ℕ → ℕ) (class rank : ℕ) (d : Step) → IsDistinct steps → rank < length steps
     → (get_or steps rank d).class ≡ class
-    → room_on steps seats class ≤ (get_or steps rank d).limit - held_from seats (drop rank steps)
-room_at [] seats class rank d distinct lt is = absurd (omega arith)
-room_at (s ∷ lower) seats class zero d distinct lt is = let same : (s.class == class) ≡ true = eq-eqb s.class class is in rw same (omega arith)
-room_at (s ∷ lower) seats class (suc rank) d distinct lt is =
+    → free_on steps seats class ≤ (get_or steps rank d).limit - held_from seats (drop rank steps)
+free_at [] seats class rank d distinct lt is = absurd (omega arith)
+free_at (s ∷ lower) seats class zero d distinct lt is = let same : (s.class == class) ≡ true = eq-eqb s.class class is in rw same (omega arith)
+free_at (s ∷ lower) seats class (suc rank) d distinct lt is =
     let other : (s.class == class) ≡ false = ne_eqb s.class class (λ e. lacks_at s.class lower rank d distinct.0 (omega arith) (e ∙ sym is)) in
-    let below = room_at lower seats class rank d distinct.1 (omega arith) is in
+    let below = free_at lower seats class rank d distinct.1 (omega arith) is in
     rw other (omega (arith, below))
 
 pub get_or_any : {X : Type 0} (xs : List X) (i : ℕ) (d e : X) → i < length xs → get_or xs i d ≡ get_or xs i e
@@ -230,9 +238,9 @@ get_or_any [] i d e h = absurd (omega arith)
 get_or_any (x ∷ xs) zero d e h = refl
 get_or_any (x ∷ xs) (suc i) d e h = get_or_any xs i d e (omega arith)
 
--- seats that fit the room are few with those held
+-- seats that the limits leave are few with those held
 pub few_taken : (leg : LegSeats) (class rank n : ℕ) → KeepsLimits leg → IsRank leg.steps class rank
-    → n ≤ room_on leg.steps (held_on leg) class → get_or leg.held rank 0 + n ≤ 999
+    → n ≤ free_on leg.steps (held_on leg) class → get_or leg.held rank 0 + n ≤ 999
 few_taken leg class rank n kept is fits =
     let inside : rank < length leg.held = omega (arith, is.inside, kept.counted) in
     let steps = leg.steps in
@@ -240,7 +248,7 @@ few_taken leg class rank n kept is fits =
     let more = held_from_rank steps rank (rank + 1) x (held_on leg) refl is.inside (get_or_any steps rank no_step x is.inside) in
     let here = count_rank steps leg.held rank no_step kept.ladder.distinct is.inside inside in
     let within = within_rank steps (held_on leg) rank no_step kept.within is.inside in
-    let room = room_at steps (held_on leg) class rank no_step kept.ladder.distinct is.inside (is.class_is no_step) in
+    let room = free_at steps (held_on leg) class rank no_step kept.ladder.distinct is.inside (is.class_is no_step) in
     let limit = limit_at steps rank no_step kept.ladder.bounded is.inside in
     omega (arith, more, here, within, room, limit, fits)
 
@@ -267,16 +275,16 @@ seats_rank leg class rank kept is = count_class leg.steps leg.held class rank ke
 -- ---- the same of a leg that is seen as another
 
 pub few_seen : (leg now : LegSeats) (class rank n : ℕ) → leg ≡ now → KeepsLimits now → IsRank now.steps class rank
-    → n ≤ room_on now.steps (held_on now) class → get_or leg.held rank 0 + n ≤ 999
+    → n ≤ free_on now.steps (held_on now) class → get_or leg.held rank 0 + n ≤ 999
 few_seen leg now class rank n e =
-    let P : LegSeats → Type 0 = λ x. KeepsLimits x → IsRank x.steps class rank → n ≤ room_on x.steps (held_on x) class → get_or leg.held rank 0 + n ≤ 999 in
+    let P : LegSeats → Type 0 = λ x. KeepsLimits x → IsRank x.steps class rank → n ≤ free_on x.steps (held_on x) class → get_or leg.held rank 0 + n ≤ 999 in
     subst P e (few_taken leg class rank n)
 
 pub takes_seen : (leg now : LegSeats) (class rank n : ℕ) → leg ≡ now → KeepsLimits now → IsRank now.steps class rank
-    → n ≤ room_on now.steps (held_on now) class
+    → n ≤ free_on now.steps (held_on now) class
     → LegChanges plus now (record { steps = leg.steps; held = set leg.held rank (get_or leg.held rank 0 + n) }) class n
 takes_seen leg now class rank n e =
-    let P : LegSeats → Type 0 = λ x. KeepsLimits x → IsRank x.steps class rank → n ≤ room_on x.steps (held_on x) class → LegChanges plus x (record { steps = leg.steps; held = set leg.held rank (get_or leg.held rank 0 + n) }) class n in
+    let P : LegSeats → Type 0 = λ x. KeepsLimits x → IsRank x.steps class rank → n ≤ free_on x.steps (held_on x) class → LegChanges plus x (record { steps = leg.steps; held = set leg.held rank (get_or leg.held rank 0 + n) }) class n in
     subst P e (leg_takes leg class rank n)
 
 pub gives_seen : (leg now : LegSeats) (class rank n : ℕ) → leg ≡ now → KeepsLimits now → IsRank now.steps class rank

@@ -1,4 +1,4 @@
--- Limits that are set: what they change, and what stays.
+-- What is set on a leg, a limit before all: what it changes, and what stays.
 use Rattle.std.proofs.Common.{◌≡◌, ◌≢◌, ◌==◌, ℕ, zero, suc, ◌+◌, ◌-◌, ◌<◌, ◌≤◌, Bool, true, false, if◌then◌else◌, cond, ◌&&◌, ◌||◌, nat_le, Option, Some, None, List, [], ◌∷◌, length, map, drop, get_or, set, refl, ap, sym, subst, ◌∙◌, add-one, arith}
 use Rattle.std.specs.List.{AllByRecursion, position, refill}
 use Rattle.std.proofs.lemmas.Bool.{eqb-true, eqb-false, eq-eqb, ne_eqb, le-leb, leb-true, and_parts, or_parts}
@@ -6,7 +6,9 @@ use Rattle.std.proofs.lemmas.List.{length-set}
 use Rattle.seat_nesting.specs.declared.ladder.Step.{Step}
 use Rattle.seat_nesting.specs.Nesting.{Steps, Ladders, ByClass, Table, LacksClass, has_class, IsDistinct, IsNotRising, IsLadder, IsLegLadder, HasLadders, steps_of, steps_at, legs_of, ladder_at, held_from, IsWithin}
 use Rattle.seat_nesting.specs.Counting.{LegSeats, Counted, leg_of, count_at, held_on, leg_in, leg_at, limits_of, KeepsLimits, IsRank}
-use Rattle.seat_nesting.specs.Changing.{with_limit, leg_with, limits_with, step_of, top_of, limit_above, may_have_below, may_have, can_set, LegSets}
+use Rattle.seat_nesting.specs.declared.setting.Setting.{Setting}
+use Rattle.seat_nesting.specs.declared.setting.Setting.TheVariants.{ToLimit, ToSale, ToMarks}
+use Rattle.seat_nesting.specs.Changing.{with_limit, with_setting, leg_set, ladders_set, limits_with, step_of, top_of, limit_above, may_have_below, may_have, can_set, LegSets}
 use Rattle.seat_nesting.proofs.Rooms.{held_cons, within_same}
 use Rattle.seat_nesting.proofs.LegCounting.{is_rank, no_rank, lacks_at}
 
@@ -272,30 +274,26 @@ step_bounded (s ∷ lower) class old all h = of (s.class == class) h (λ (e : st
 -- ---- by rank
 
 abbrev no_step : Step
-no_step = record { class = 0; limit = 0; wait = 0; listed = false }
+no_step = record { class = 0; limit = 0; wait = 0; listed = false; closed = false }
 
 -- the step at the rank of a class is the one that is set
-set_rank : (steps : Steps) (class limit wait : ℕ) (mark : Bool) (rank : ℕ) (d : Step) → IsDistinct steps
-    → rank < length steps → (get_or steps rank d).class ≡ class → (get_or steps rank d).listed ≡ mark
-    → set steps rank (record { class = class; limit = limit; wait = wait; listed = mark })
-    ≡ with_limit steps class limit wait
-set_rank [] class limit wait mark rank d distinct inside is kept = absurd (omega arith)
-set_rank (s ∷ lower) class limit wait mark zero d distinct inside is kept =
+set_rank : (steps : Steps) (class limit wait rank : ℕ) (d : Step) → IsDistinct steps → rank < length steps
+    → (get_or steps rank d).class ≡ class
+    → set steps rank (reset (get_or steps rank d) limit wait) ≡ with_limit steps class limit wait
+set_rank [] class limit wait rank d distinct inside is = absurd (omega arith)
+set_rank (s ∷ lower) class limit wait zero d distinct inside is =
     let same : (s.class == class) ≡ true = eq-eqb s.class class is in
-    rw same
-    (ap (λ (k : ℕ). record s { class = k; limit = limit; wait = wait; listed = mark } ∷ lower) (sym is)
-    ∙ ap (λ (m : Bool). record s { limit = limit; wait = wait; listed = m } ∷ lower) (sym kept))
-set_rank (s ∷ lower) class limit wait mark (suc i) d distinct inside is kept =
+    rw same refl
+set_rank (s ∷ lower) class limit wait (suc i) d distinct inside is =
     let other : (s.class == class) ≡ false = ne_eqb s.class class (λ e. lacks_at s.class lower i d distinct.0 (omega arith) (e ∙ sym is)) in
-    rw other (ap (λ (t : Steps). s ∷ t) (set_rank lower class limit wait mark i d distinct.1 (omega arith) is kept))
+    rw other (ap (λ (t : Steps). s ∷ t) (set_rank lower class limit wait i d distinct.1 (omega arith) is))
 
-pub set_found : (steps : Steps) (class limit wait : ℕ) (mark : Bool) (rank : ℕ) (d : Step) → IsDistinct steps
-    → position (λ s. class == s.class) steps ≡ Some rank → (get_or steps rank d).listed ≡ mark
-    → set steps rank (record { class = class; limit = limit; wait = wait; listed = mark })
-    ≡ with_limit steps class limit wait
-set_found steps class limit wait mark rank d distinct e kept =
+pub set_found : (steps : Steps) (class limit wait rank : ℕ) (d : Step) → IsDistinct steps
+    → position (λ s. class == s.class) steps ≡ Some rank
+    → set steps rank (reset (get_or steps rank d) limit wait) ≡ with_limit steps class limit wait
+set_found steps class limit wait rank d distinct e =
     let is = is_rank steps class rank e in
-    set_rank steps class limit wait mark rank d distinct is.inside (is.class_is d) kept
+    set_rank steps class limit wait rank d distinct is.inside (is.class_is d)
 
 pub with_lacking : (steps : Steps) (class limit wait : ℕ) → has_class steps class ≡ false
     → with_limit steps class limit wait ≡ steps
@@ -312,18 +310,16 @@ refill_same [] (w ∷ ws) h = absurd (omega arith)
 refill_same (x ∷ xs) [] h = absurd (omega arith)
 refill_same {X = X} (x ∷ xs) (w ∷ ws) h = ap (λ (l : List X). w ∷ l) (refill_same xs ws (omega arith))
 
--- a step is written with the mark that stands at its rank
-pub written_with : (steps slice seen read now : Steps) (class limit wait : ℕ) (rank : ℕ) (d : Step) → slice ≡ steps
+-- a step is written with the marks that stand at its rank
+pub written_with : (steps slice seen read now : Steps) (class limit wait rank : ℕ) (d x : Step) → slice ≡ steps
     → seen ≡ steps → read ≡ steps → steps ≡ now → IsDistinct steps → Some rank ≡ position (λ s. class == s.class) seen
-    → refill (length steps) steps (set slice rank
-    (record { class = class; limit = limit; wait = wait; listed = (get_or read rank d).listed }))
-    ≡ with_limit now class limit wait
-written_with steps slice seen read now class limit wait rank d e f r g distinct h =
-    let mark : Bool = (get_or read rank d).listed in
-    let kept : (get_or steps rank d).listed ≡ mark = ap (λ (l : Steps). (get_or l rank d).listed) (sym r) in
-    let x : Step = record { class = class; limit = limit; wait = wait; listed = mark } in
+    → x ≡ reset (get_or read rank d) limit wait
+    → refill (length steps) steps (set slice rank x) ≡ with_limit now class limit wait
+written_with steps slice seen read now class limit wait rank d x e f r g distinct h is =
     let at = ap (λ (l : Steps). position (λ s. class == s.class) l) (sym f) ∙ sym h in
-    ap (λ (l : Steps). refill (length steps) steps (set l rank x)) e ∙ refill_same steps (set steps rank x) (length-set steps rank x) ∙ set_found steps class limit wait mark rank d distinct at kept ∙ ap (λ (l : Steps). with_limit l class limit wait) g
+    let here : x ≡ reset (get_or steps rank d) limit wait = is ∙ ap (λ (l : Steps). reset (get_or l rank d) limit wait) r in
+    ap (λ (l : Steps). refill (length steps) steps (set l rank x)) e ∙ refill_same steps (set steps rank x) (length-set steps rank x)
+    ∙ ap (λ (y : Step). set steps rank y) here ∙ set_found steps class limit wait rank d distinct at ∙ ap (λ (l : Steps). with_limit l class limit wait) g
 
 pub unwritten_with : (steps seen now : Steps) (class limit wait : ℕ) → seen ≡ steps → steps ≡ now
     → None ≡ position (λ s. class == s.class) seen → now ≡ with_limit now class limit wait
@@ -398,138 +394,138 @@ pub ladder_of_leg : (steps : Steps) (seats : ByClass) (class limit : ℕ) → Is
 ladder_of_leg [] seats class limit is h = absurd cc
 ladder_of_leg (s ∷ lower) seats class limit is h = record { some = omega arith; most = is.most; distinct = is.distinct; not_rising = is.not_rising; bounded = is.bounded }
 
--- the ladder of a leg that has one
-seen_leg : (o : Option Steps) (steps : Steps) (held : List ℕ) (now : LegSeats) → o ≡ Some steps
-    → leg_of (steps_of o) held ≡ now → leg_of steps held ≡ now
-seen_leg o steps held now e f = ap (λ (x : Option Steps). leg_of (steps_of x) held) (sym e) ∙ f
-
-seen_kept : (o : Option Steps) (steps : Steps) (held : List ℕ) → o ≡ Some steps → KeepsLimits (leg_of (steps_of o) held)
-    → KeepsLimits (leg_of steps held)
-seen_kept o steps held e kept = subst (λ (x : Option Steps). KeepsLimits (leg_of (steps_of x) held)) e kept
-
-pub ladder_may : (o : Option Steps) (steps : Steps) (held : List ℕ) (now : LegSeats) (class limit wait : ℕ)
-    → o ≡ Some steps → leg_of (steps_of o) held ≡ now → KeepsLimits (leg_of (steps_of o) held)
-    → may_have now.steps (held_on now) class limit ≡ true → wait ≤ 999
-    → IsLadder (with_limit steps class limit wait)
-ladder_may o steps held now class limit wait e f kept may most =
-    let is = seen_kept o steps held e kept in
-    let here : may_have steps (count_at steps held) class limit ≡ true = subst (λ (l : LegSeats). may_have l.steps (held_on l) class limit ≡ true) (sym (seen_leg o steps held now e f)) may in
-    ladder_with steps (count_at steps held) class limit wait (ladder_of_leg steps (count_at steps held) class limit is.ladder here) here most
-
--- the counters of a leg whose limit is set
-pub leg_sets : (o : Option Steps) (steps : Steps) (held : List ℕ) (now : LegSeats) (new : Steps) (class limit wait : ℕ)
-    → o ≡ Some steps → leg_of (steps_of o) held ≡ now → KeepsLimits (leg_of (steps_of o) held)
-    → may_have now.steps (held_on now) class limit ≡ true → wait ≤ 999
-    → new ≡ with_limit steps class limit wait → LegSets now (leg_of new held) class limit wait
-leg_sets o steps held now new class limit wait e f all may most is =
-    let same = seen_leg o steps held now e f in
-    subst (λ (l : LegSeats). LegSets l (leg_of new held) class limit wait) same (here (subst (λ (l : LegSeats). may_have l.steps (held_on l) class limit ≡ true) (sym same) may) (seen_kept o steps held e all))
-  where
-    here : may_have steps (count_at steps held) class limit ≡ true → KeepsLimits (leg_of steps held)
-        → LegSets (leg_of steps held) (leg_of new held) class limit wait
-    here may kept = subst (λ (s : Steps). LegSets (leg_of steps held) (leg_of s held) class limit wait) (sym is) (record {
-      steps = refl;
-      seats = λ k. count_with steps held class limit wait k;
-      kept = record {
-        ladder = leg_ladder_with steps (count_at steps held) class limit wait kept.ladder may most;
-        counted = omega (arith, kept.counted, length_with steps class limit wait);
-        within = within_same (with_limit steps class limit wait) (count_at (with_limit steps class limit wait) held) (count_at steps held) (λ k. count_with steps held class limit wait k)
-            (within_with steps (count_at steps held) class limit wait may kept.within);
-      };
-    })
-
 -- ---- one leg of a flight
 
-pub length_leg_with : (legs : List Steps) (leg class limit wait : ℕ)
-    → length (leg_with legs leg class limit wait) ≡ length legs
-length_leg_with [] leg class limit wait = refl
-length_leg_with (steps ∷ legs) zero class limit wait = refl
-length_leg_with (steps ∷ legs) (suc leg) class limit wait = ap suc (length_leg_with legs leg class limit wait)
+pub length_leg_set : (legs : List Steps) (leg : ℕ) (setting : Setting)
+    → length (leg_set legs leg setting) ≡ length legs
+length_leg_set [] leg setting = refl
+length_leg_set (steps ∷ legs) zero setting = refl
+length_leg_set (steps ∷ legs) (suc leg) setting = ap suc (length_leg_set legs leg setting)
 
-pub steps_with : (legs : List Steps) (leg class limit wait : ℕ)
-    → steps_at (leg_with legs leg class limit wait) leg ≡ with_limit (steps_at legs leg) class limit wait
-steps_with [] leg class limit wait = refl
-steps_with (steps ∷ legs) zero class limit wait = refl
-steps_with (steps ∷ legs) (suc leg) class limit wait = steps_with legs leg class limit wait
+-- on no steps nothing is set
+pub set_none : (setting : Setting) → [] ≡ with_setting [] setting
+set_none (ToLimit class limit wait) = refl
+set_none (ToSale which closed) = refl
+set_none (ToMarks marks) = refl
 
-pub steps_other : (legs : List Steps) (leg class limit wait at : ℕ) → at ≢ leg
-    → steps_at (leg_with legs leg class limit wait) at ≡ steps_at legs at
-steps_other [] leg class limit wait at h = refl
-steps_other (steps ∷ legs) zero class limit wait zero h = absurd (h refl)
-steps_other (steps ∷ legs) zero class limit wait (suc at) h = refl
-steps_other (steps ∷ legs) (suc leg) class limit wait zero h = refl
-steps_other (steps ∷ legs) (suc leg) class limit wait (suc at) h = steps_other legs leg class limit wait at (λ e. h (ap suc e))
+pub steps_set : (legs : List Steps) (leg : ℕ) (setting : Setting)
+    → steps_at (leg_set legs leg setting) leg ≡ with_setting (steps_at legs leg) setting
+steps_set [] leg setting = set_none setting
+steps_set (steps ∷ legs) zero setting = refl
+steps_set (steps ∷ legs) (suc leg) setting = steps_set legs leg setting
+
+pub steps_other : (legs : List Steps) (leg : ℕ) (setting : Setting) (at : ℕ) → at ≢ leg
+    → steps_at (leg_set legs leg setting) at ≡ steps_at legs at
+steps_other [] leg setting at h = refl
+steps_other (steps ∷ legs) zero setting zero h = absurd (h refl)
+steps_other (steps ∷ legs) zero setting (suc at) h = refl
+steps_other (steps ∷ legs) (suc leg) setting zero h = refl
+steps_other (steps ∷ legs) (suc leg) setting (suc at) h = steps_other legs leg setting at (λ e. h (ap suc e))
+
+-- ---- one leg of one flight
+
+pub legs_set : (grid : Ladders) (flight leg : ℕ) (setting : Setting)
+    → legs_of (ladders_set grid flight leg setting) flight
+    ≡ leg_set (legs_of grid flight) leg setting
+legs_set [] flight leg setting = refl
+legs_set (legs ∷ flights) zero leg setting = refl
+legs_set (legs ∷ flights) (suc flight) leg setting = legs_set flights flight leg setting
+
+-- the legs of another flight stay
+pub legs_other_set : (grid : Ladders) (flight leg : ℕ) (setting : Setting) (at : ℕ) → at ≢ flight
+    → legs_of (ladders_set grid flight leg setting) at ≡ legs_of grid at
+legs_other_set [] flight leg setting at h = refl
+legs_other_set (legs ∷ flights) zero leg setting zero h = absurd (h refl)
+legs_other_set (legs ∷ flights) zero leg setting (suc at) h = refl
+legs_other_set (legs ∷ flights) (suc flight) leg setting zero h = refl
+legs_other_set (legs ∷ flights) (suc flight) leg setting (suc at) h = legs_other_set flights flight leg setting at (λ e. h (ap suc e))
+
+pub length_legs_set : (grid : Ladders) (flight leg : ℕ) (setting : Setting) (at : ℕ)
+    → length (legs_of (ladders_set grid flight leg setting) at) ≡ length (legs_of grid at)
+length_legs_set [] flight leg setting at = refl
+length_legs_set (legs ∷ flights) zero leg setting zero = length_leg_set legs leg setting
+length_legs_set (legs ∷ flights) zero leg setting (suc at) = refl
+length_legs_set (legs ∷ flights) (suc flight) leg setting zero = refl
+length_legs_set (legs ∷ flights) (suc flight) leg setting (suc at) = length_legs_set flights flight leg setting at
+
+-- the ladder of the leg, and of the others
+pub ladder_at_set : (grid : Ladders) (flight leg : ℕ) (setting : Setting)
+    → ladder_at (ladders_set grid flight leg setting) flight leg
+    ≡ with_setting (ladder_at grid flight leg) setting
+ladder_at_set grid flight leg setting =
+    ap (λ (legs : List Steps). steps_at legs leg) (legs_set grid flight leg setting) ∙ steps_set (legs_of grid flight) leg setting
+
+pub ladder_other_leg_set : (grid : Ladders) (flight leg : ℕ) (setting : Setting) (at : ℕ) → at ≢ leg
+    → ladder_at (ladders_set grid flight leg setting) flight at ≡ ladder_at grid flight at
+ladder_other_leg_set grid flight leg setting at h =
+    ap (λ (legs : List Steps). steps_at legs at) (legs_set grid flight leg setting) ∙ steps_other (legs_of grid flight) leg setting at h
+
+pub ladder_other_flight_set : (grid : Ladders) (flight leg : ℕ) (setting : Setting) (f at : ℕ) → f ≢ flight
+    → ladder_at (ladders_set grid flight leg setting) f at ≡ ladder_at grid f at
+ladder_other_flight_set grid flight leg setting f at h = ap (λ (legs : List Steps). steps_at legs at) (legs_other_set grid flight leg setting f h)
+
+-- what holds of the ladders as they were, and of the one that is set, holds of all
+pub each_ladder_set : (P : ℕ → ℕ → Steps → Type 0) (grid : Ladders) (flight leg : ℕ) (setting : Setting)
+    → ((f at : ℕ) → P f at (ladder_at grid f at))
+    → P flight leg (with_setting (ladder_at grid flight leg) setting)
+    → (f at : ℕ) → P f at (ladder_at (ladders_set grid flight leg setting) f at)
+each_ladder_set P grid flight leg setting all here f at = of (f == flight) (at == leg) refl refl
+  where
+    of : (b c : Bool) → (f == flight) ≡ b → (at == leg) ≡ c
+        → P f at (ladder_at (ladders_set grid flight leg setting) f at)
+    of true true e g =
+        let same_flight : flight ≡ f = sym (eqb-true f flight e) in
+        let same_leg : leg ≡ at = sym (eqb-true at leg g) in
+        let new = ladders_set grid flight leg setting in
+        subst (λ (x : ℕ). P x at (ladder_at new x at)) same_flight
+        (subst (λ (x : ℕ). P flight x (ladder_at new flight x)) same_leg (subst (λ (s : Steps). P flight leg s) (sym (ladder_at_set grid flight leg setting)) here))
+    of true false e g =
+        let same_flight : flight ≡ f = sym (eqb-true f flight e) in
+        let new = ladders_set grid flight leg setting in
+        subst (λ (x : ℕ). P x at (ladder_at new x at)) same_flight
+        (subst (λ (s : Steps). P flight at s) (sym (ladder_other_leg_set grid flight leg setting at (eqb-false at leg g))) (all flight at))
+    of false c e g = subst (λ (s : Steps). P f at s) (sym (ladder_other_flight_set grid flight leg setting f at (eqb-false f flight e))) (all f at)
+
+-- ---- the same of a limit
 
 pub leg_back : (legs : List Steps) (leg class limit wait : ℕ) (old : Step)
     → step_of (steps_at legs leg) class ≡ Some old
-    → leg_with (leg_with legs leg class limit wait) leg class old.limit old.wait ≡ legs
+    → leg_set (leg_set legs leg (ToLimit class limit wait)) leg (ToLimit class old.limit old.wait) ≡ legs
 leg_back [] leg class limit wait old h = refl
 leg_back (steps ∷ legs) zero class limit wait old h = ap (λ (s : Steps). s ∷ legs) (back_with steps class limit wait old h)
 leg_back (steps ∷ legs) (suc leg) class limit wait old h = ap (λ (l : List Steps). steps ∷ l) (leg_back legs leg class limit wait old h)
 
--- ---- one leg of one flight
-
 pub legs_with : (grid : Ladders) (flight leg class limit wait : ℕ)
     → legs_of (limits_with grid flight leg class limit wait) flight
-    ≡ leg_with (legs_of grid flight) leg class limit wait
-legs_with [] flight leg class limit wait = refl
-legs_with (legs ∷ flights) zero leg class limit wait = refl
-legs_with (legs ∷ flights) (suc flight) leg class limit wait = legs_with flights flight leg class limit wait
+    ≡ leg_set (legs_of grid flight) leg (ToLimit class limit wait)
+legs_with grid flight leg class limit wait = legs_set grid flight leg (ToLimit class limit wait)
 
--- the legs of another flight stay
 pub legs_other : (grid : Ladders) (flight leg class limit wait at : ℕ) → at ≢ flight
     → legs_of (limits_with grid flight leg class limit wait) at ≡ legs_of grid at
-legs_other [] flight leg class limit wait at h = refl
-legs_other (legs ∷ flights) zero leg class limit wait zero h = absurd (h refl)
-legs_other (legs ∷ flights) zero leg class limit wait (suc at) h = refl
-legs_other (legs ∷ flights) (suc flight) leg class limit wait zero h = refl
-legs_other (legs ∷ flights) (suc flight) leg class limit wait (suc at) h = legs_other flights flight leg class limit wait at (λ e. h (ap suc e))
+legs_other grid flight leg class limit wait at h = legs_other_set grid flight leg (ToLimit class limit wait) at h
 
 pub length_legs : (grid : Ladders) (flight leg class limit wait at : ℕ)
     → length (legs_of (limits_with grid flight leg class limit wait) at) ≡ length (legs_of grid at)
-length_legs [] flight leg class limit wait at = refl
-length_legs (legs ∷ flights) zero leg class limit wait zero = length_leg_with legs leg class limit wait
-length_legs (legs ∷ flights) zero leg class limit wait (suc at) = refl
-length_legs (legs ∷ flights) (suc flight) leg class limit wait zero = refl
-length_legs (legs ∷ flights) (suc flight) leg class limit wait (suc at) = length_legs flights flight leg class limit wait at
+length_legs grid flight leg class limit wait at = length_legs_set grid flight leg (ToLimit class limit wait) at
 
--- the ladder of the leg, and of the others
 pub ladder_at_with : (grid : Ladders) (flight leg class limit wait : ℕ)
     → ladder_at (limits_with grid flight leg class limit wait) flight leg
     ≡ with_limit (ladder_at grid flight leg) class limit wait
-ladder_at_with grid flight leg class limit wait =
-    ap (λ (legs : List Steps). steps_at legs leg) (legs_with grid flight leg class limit wait) ∙ steps_with (legs_of grid flight) leg class limit wait
+ladder_at_with grid flight leg class limit wait = ladder_at_set grid flight leg (ToLimit class limit wait)
 
 pub ladder_other_leg : (grid : Ladders) (flight leg class limit wait at : ℕ) → at ≢ leg
     → ladder_at (limits_with grid flight leg class limit wait) flight at ≡ ladder_at grid flight at
-ladder_other_leg grid flight leg class limit wait at h =
-    ap (λ (legs : List Steps). steps_at legs at) (legs_with grid flight leg class limit wait) ∙ steps_other (legs_of grid flight) leg class limit wait at h
+ladder_other_leg grid flight leg class limit wait at h = ladder_other_leg_set grid flight leg (ToLimit class limit wait) at h
 
 pub ladder_other_flight : (grid : Ladders) (flight leg class limit wait f at : ℕ) → f ≢ flight
     → ladder_at (limits_with grid flight leg class limit wait) f at ≡ ladder_at grid f at
-ladder_other_flight grid flight leg class limit wait f at h = ap (λ (legs : List Steps). steps_at legs at) (legs_other grid flight leg class limit wait f h)
+ladder_other_flight grid flight leg class limit wait f at h = ladder_other_flight_set grid flight leg (ToLimit class limit wait) f at h
 
--- what holds of the ladders as they were, and of the one that is set, holds of all
 pub each_ladder : (P : ℕ → ℕ → Steps → Type 0) (grid : Ladders) (flight leg class limit wait : ℕ)
     → ((f at : ℕ) → P f at (ladder_at grid f at))
     → P flight leg (with_limit (ladder_at grid flight leg) class limit wait)
     → (f at : ℕ) → P f at (ladder_at (limits_with grid flight leg class limit wait) f at)
-each_ladder P grid flight leg class limit wait all here f at = of (f == flight) (at == leg) refl refl
-  where
-    of : (b c : Bool) → (f == flight) ≡ b → (at == leg) ≡ c
-        → P f at (ladder_at (limits_with grid flight leg class limit wait) f at)
-    of true true e g =
-        let same_flight : flight ≡ f = sym (eqb-true f flight e) in
-        let same_leg : leg ≡ at = sym (eqb-true at leg g) in
-        let new = limits_with grid flight leg class limit wait in
-        subst (λ (x : ℕ). P x at (ladder_at new x at)) same_flight
-        (subst (λ (x : ℕ). P flight x (ladder_at new flight x)) same_leg (subst (λ (s : Steps). P flight leg s) (sym (ladder_at_with grid flight leg class limit wait)) here))
-    of true false e g =
-        let same_flight : flight ≡ f = sym (eqb-true f flight e) in
-        let new = limits_with grid flight leg class limit wait in
-        subst (λ (x : ℕ). P x at (ladder_at new x at)) same_flight
-        (subst (λ (s : Steps). P flight at s) (sym (ladder_other_leg grid flight leg class limit wait at (eqb-false at leg g))) (all flight at))
-    of false c e g = subst (λ (s : Steps). P f at s) (sym (ladder_other_flight grid flight leg class limit wait f at (eqb-false f flight e))) (all f at)
+each_ladder P grid flight leg class limit wait = each_ladder_set P grid flight leg (ToLimit class limit wait)
 
 pub has_ladders_with : (grid : Ladders) (flight leg class limit wait : ℕ) → HasLadders grid
     → HasLadders (limits_with grid flight leg class limit wait)

@@ -1,4 +1,4 @@
--- Own ladders: a limit that is set changes the steps of its leg alone.
+-- Own ladders: what is set on a leg changes the steps of that leg alone.
 use Rattle.std.proofs.Common.{◌≡◌, ◌≢◌, ◌==◌, ℕ, zero, suc, ◌+◌, ◌-◌, ◌<◌, ◌≤◌, Bool, true, false, if◌then◌else◌, cond, ◌&&◌, Option, List, [], ◌∷◌, ◌++◌, length, map, get_or, set, unwrap_or, refl, ap, sym, subst, ◌∙◌, arith}
 use Rattle.std.specs.List.{slice_get}
 use Rattle.std.proofs.lemmas.Bool.{eqb-true, and_parts}
@@ -6,15 +6,16 @@ use Rattle.std.proofs.lemmas.List.{map-set, set-get_or, length-map, length-set, 
 use Rattle.std.proofs.lemmas.List.Sums.{sum_by-set, get_or-le-sum_by}
 use Rattle.std.proofs.lemmas.Option.{unwrap_or-slice_get, slice_get-get_or}
 use Rattle.seat_nesting.specs.Nesting.{Steps, IsLadder, steps_at}
-use Rattle.seat_nesting.specs.Counting.{LegSeats, Counted, leg_of, held_on, count_at, leg_at, limits_of, table_of, no_leg, KeepsLimits, IsWithinLimits}
-use Rattle.seat_nesting.specs.Changing.{with_limit, may_have, can_set, LegSets, Sets, FlightSets}
+use Rattle.seat_nesting.specs.Counting.{LegSeats, Counted, leg_of, held_on, count_at, leg_at, no_leg, IsWithinLimits}
+use Rattle.seat_nesting.specs.declared.setting.Setting.{Setting}
+use Rattle.seat_nesting.specs.Changing.{with_setting, LegSets, FlightSets, MaySet, SetsOn}
 use Rattle.seat_nesting.specs.OwnLadders.{Pool, CountedLeg, pool_of, pool_after, steps_by, own_after, limits_after, may_come, leg_seen, with_limits, no_counted, counted_in, counted_at, legs_seen, all_seen, limits_in, all_limits, limits_at, may_come_on, put, yet_to_come, AreCounters, HaveOwn}
 use Rattle.seat_nesting.specs.declared.limits.Limits.{Limits}
 use Rattle.seat_nesting.specs.declared.limits.Limits.TheVariants.{Absent, Shared, Own}
 use Rattle.seat_nesting.proofs.CountChanges.{at_set, flight_sets, all_sets, within_sets}
-use Rattle.seat_nesting.proofs.LimitChanges.{ladder_seen, ladder_of_leg, ladder_with, leg_ladder_with, length_with, count_with, within_with, can_parts}
-use Rattle.seat_nesting.proofs.Rooms.{within_same}
-use Rattle.seat_nesting.proofs.CountedLegs.{legs_at, flight_seen, one_seen, leg_seen_at, limits_seen_at, flight_there, Meets, met_leg, met_kept, met_inside}
+use Rattle.seat_nesting.proofs.Settable.{ladder_set, length_setting}
+use Rattle.seat_nesting.proofs.LimitChanges.{set_none}
+use Rattle.seat_nesting.proofs.CountedLegs.{legs_at, flight_seen, one_seen, leg_seen_at, limits_seen_at, flight_there, Meets, met_leg, met_inside}
 use Rattle.seat_nesting.proofs.FlatCounts.{at_map, of_held}
 use Rattle.seat_nesting.proofs.Parts.{map_each, set_but}
 
@@ -40,17 +41,17 @@ steps_other pool new i (Own j) ne =
     unwrap_or-slice_get (set pool.own i new) j [] ∙ get_or-set_other pool.own i j new [] (λ e. ne (ap Own e)) ∙ sym (unwrap_or-slice_get pool.own j [])
 
 -- the leg that is changed
-steps_after : (pool : Pool) (limits : Limits) (class limit wait : ℕ) → ((i : ℕ) → limits ≡ Own i → i < length pool.own)
-    → steps_by (pool_after pool limits class limit wait) (limits_after pool limits)
-    ≡ with_limit (steps_by pool limits) class limit wait
-steps_after pool Absent class limit wait there = refl
-steps_after pool (Shared j) class limit wait there =
+steps_after : (pool : Pool) (limits : Limits) (setting : Setting) → ((i : ℕ) → limits ≡ Own i → i < length pool.own)
+    → steps_by (pool_after pool limits setting) (limits_after pool limits)
+    ≡ with_setting (steps_by pool limits) setting
+steps_after pool Absent setting there = set_none setting
+steps_after pool (Shared j) setting there =
     let own = pool.own in
-    let new = with_limit (steps_at pool.shared j) class limit wait in
+    let new = with_setting (steps_at pool.shared j) setting in
     let none : length own - length own ≡ 0 = omega arith in
     unwrap_or-slice_get (own ++ new ∷ []) (length own) [] ∙ get_or-append_right own (new ∷ []) (length own) (length own) [] refl (omega arith) ∙ ap (λ (k : ℕ). get_or (new ∷ []) k []) none
-steps_after pool (Own i) class limit wait there =
-    let new = with_limit (steps_at pool.own i) class limit wait in
+steps_after pool (Own i) setting there =
+    let new = with_setting (steps_at pool.own i) setting in
     unwrap_or-slice_get (set pool.own i new) i [] ∙ get_or-set_same pool.own i new [] (there i refl)
 
 -- the own ladder of this number
@@ -58,18 +59,18 @@ pub own_at : (pool : Pool) (limits : Limits) (i : ℕ) (x : Steps) → limits �
     → x ≡ get_or pool.own i x → steps_by pool limits ≡ x
 own_at pool limits i x e inside is = ap (steps_by pool) e ∙ ap (λ (o : Option Steps). unwrap_or o []) (slice_get-get_or pool.own i x inside) ∙ sym is
 
-pub own_written : (pool : Pool) (limits : Limits) (i : ℕ) (x new : Steps) (class limit wait : ℕ) → limits ≡ Own i
-    → i < length pool.own → x ≡ get_or pool.own i x → new ≡ with_limit x class limit wait
-    → set pool.own i new ≡ own_after pool limits class limit wait
-own_written pool limits i x new class limit wait e inside is written =
-    ap (set pool.own i) (written ∙ ap (λ (s : Steps). with_limit s class limit wait) (sym (own_at pool (Own i) i x refl inside is))) ∙ ap (λ (l : Limits). own_after pool l class limit wait) (sym e)
+pub own_written : (pool : Pool) (limits : Limits) (i : ℕ) (x new : Steps) (setting : Setting) → limits ≡ Own i
+    → i < length pool.own → x ≡ get_or pool.own i x → new ≡ with_setting x setting
+    → set pool.own i new ≡ own_after pool limits setting
+own_written pool limits i x new setting e inside is written =
+    ap (set pool.own i) (written ∙ ap (λ (s : Steps). with_setting s setting) (sym (own_at pool (Own i) i x refl inside is))) ∙ ap (λ (l : Limits). own_after pool l setting) (sym e)
 
 -- the shared ladder of this number, which is there where it can be changed
-pub shared_inside : (pool : Pool) (limits : Limits) (i class limit wait : ℕ) → limits ≡ Shared i
-    → IsLadder (with_limit (steps_by pool limits) class limit wait) → i < length pool.shared
-shared_inside pool limits i class limit wait e is =
-    let here : IsLadder (with_limit (steps_at pool.shared i) class limit wait) = subst (λ (l : Limits). IsLadder (with_limit (steps_by pool l) class limit wait)) e is in
-    of pool.shared i (omega (arith, here.some, length_with (steps_at pool.shared i) class limit wait))
+pub shared_inside : (pool : Pool) (limits : Limits) (i : ℕ) (setting : Setting) → limits ≡ Shared i
+    → IsLadder (with_setting (steps_by pool limits) setting) → i < length pool.shared
+shared_inside pool limits i setting e is =
+    let here : IsLadder (with_setting (steps_at pool.shared i) setting) = subst (λ (l : Limits). IsLadder (with_setting (steps_by pool l) setting)) e is in
+    of pool.shared i (omega (arith, here.some, length_setting (steps_at pool.shared i) setting))
   where
     of : (shared : List Steps) (i : ℕ) → 0 < length (steps_at shared i) → i < length shared
     of [] i h = absurd (omega (arith, h))
@@ -80,19 +81,19 @@ pub shared_at : (pool : Pool) (limits : Limits) (i : ℕ) (x : Steps) → limits
     → x ≡ get_or pool.shared i x → steps_by pool limits ≡ x
 shared_at pool limits i x e inside is = ap (steps_by pool) e ∙ ap (λ (o : Option Steps). unwrap_or o []) (slice_get-get_or pool.shared i x inside) ∙ sym is
 
-pub own_joined : (pool : Pool) (limits : Limits) (i : ℕ) (x new : Steps) (class limit wait : ℕ) → limits ≡ Shared i
-    → i < length pool.shared → x ≡ get_or pool.shared i x → new ≡ with_limit x class limit wait
-    → pool.own ++ new ∷ [] ≡ own_after pool limits class limit wait
-own_joined pool limits i x new class limit wait e inside is written =
-    ap (λ (s : Steps). pool.own ++ s ∷ []) (written ∙ ap (λ (s : Steps). with_limit s class limit wait) (sym (shared_at pool (Shared i) i x refl inside is))) ∙ ap (λ (l : Limits). own_after pool l class limit wait) (sym e)
+pub own_joined : (pool : Pool) (limits : Limits) (i : ℕ) (x new : Steps) (setting : Setting) → limits ≡ Shared i
+    → i < length pool.shared → x ≡ get_or pool.shared i x → new ≡ with_setting x setting
+    → pool.own ++ new ∷ [] ≡ own_after pool limits setting
+own_joined pool limits i x new setting e inside is written =
+    ap (λ (s : Steps). pool.own ++ s ∷ []) (written ∙ ap (λ (s : Steps). with_setting s setting) (sym (shared_at pool (Shared i) i x refl inside is))) ∙ ap (λ (l : Limits). own_after pool l setting) (sym e)
 
 -- a leg beside it: its own ladder, where it has one, is another
-steps_beside : (pool : Pool) (limits other : Limits) (class limit wait : ℕ)
+steps_beside : (pool : Pool) (limits other : Limits) (setting : Setting)
     → ((i : ℕ) → other ≡ Own i → i < length pool.own) → ((i : ℕ) → limits ≡ Own i → other ≢ Own i)
-    → steps_by (pool_after pool limits class limit wait) other ≡ steps_by pool other
-steps_beside pool Absent other class limit wait there apart = refl
-steps_beside pool (Shared i) other class limit wait there apart = steps_more pool (with_limit (steps_at pool.shared i) class limit wait) other there
-steps_beside pool (Own i) other class limit wait there apart = steps_other pool (with_limit (steps_at pool.own i) class limit wait) i other (apart i refl)
+    → steps_by (pool_after pool limits setting) other ≡ steps_by pool other
+steps_beside pool Absent other setting there apart = refl
+steps_beside pool (Shared i) other setting there apart = steps_more pool (with_setting (steps_at pool.shared i) setting) other there
+steps_beside pool (Own i) other setting there apart = steps_other pool (with_setting (steps_at pool.own i) setting) i other (apart i refl)
 
 -- ---- the limits of all legs after a change
 
@@ -166,20 +167,20 @@ own_same limits flight leg =
     ∙ set-get_or limits flight []
 
 own_set : (pool : Pool) (places : ℕ) (limits : List (List Limits)) (flight leg : ℕ) (old : Limits)
-    (class limit wait : ℕ) → HaveOwn (length pool.own) places limits → flight < length limits
+    (setting : Setting) → HaveOwn (length pool.own) places limits → flight < length limits
     → leg < length (limits_on limits flight) → limits_at limits flight leg ≡ old
-    → HaveOwn (length (own_after pool old class limit wait)) places (put_in limits flight leg (limits_after pool old))
-own_set pool places limits flight leg Absent class limit wait h there inside e =
+    → HaveOwn (length (own_after pool old setting)) places (put_in limits flight leg (limits_after pool old))
+own_set pool places limits flight leg Absent setting h there inside e =
     let same : put_in limits flight leg Absent ≡ limits = ap (put_in limits flight leg) (sym e) ∙ own_same limits flight leg in
     subst (λ (l : List (List Limits)). HaveOwn (length pool.own) places l) (sym same) h
-own_set pool places limits flight leg (Shared i) class limit wait h there inside e =
+own_set pool places limits flight leg (Shared i) setting h there inside e =
     let own = pool.own in
-    let new = with_limit (steps_at pool.shared i) class limit wait in
+    let new = with_setting (steps_at pool.shared i) setting in
     let more : length (own ++ new ∷ []) ≡ length own + 1 = length-append own (new ∷ []) in
     subst (λ (n : ℕ). HaveOwn n places (put_in limits flight leg (Own (length own)))) (sym more) (own_more (length own) places limits flight leg h there inside (ap may_come e))
-own_set pool places limits flight leg (Own i) class limit wait h there inside e =
+own_set pool places limits flight leg (Own i) setting h there inside e =
     let same : put_in limits flight leg (Own i) ≡ limits = ap (put_in limits flight leg) (sym e) ∙ own_same limits flight leg in
-    let as_many : length (set pool.own i (with_limit (steps_at pool.own i) class limit wait)) ≡ length pool.own = length-set pool.own i (with_limit (steps_at pool.own i) class limit wait) in
+    let as_many : length (set pool.own i (with_setting (steps_at pool.own i) setting)) ≡ length pool.own = length-set pool.own i (with_setting (steps_at pool.own i) setting) in
     subst (λ (n : ℕ). HaveOwn n places (put_in limits flight leg (Own i))) (sym as_many) (subst (λ (l : List (List Limits)). HaveOwn (length pool.own) places l) (sym same) h)
 
 -- there is a place for what a leg may yet need
@@ -207,63 +208,50 @@ stands pool places flights flight leg h = record {
   apart = λ f at i d e. h.apart f at flight leg i (limits_seen_at flights f at ∙ e) (limits_seen_at flights flight leg ∙ d);
 }
 
-beside : (pool : Pool) (flights : List (List CountedLeg)) (flight leg class limit wait f at : ℕ)
+beside : (pool : Pool) (flights : List (List CountedLeg)) (flight leg : ℕ) (setting : Setting) (f at : ℕ)
     → Stands pool flights flight leg → ((f ≡ flight) × (at ≡ leg) → ⊥)
-    → leg_seen (pool_after pool (counted_at flights flight leg).limits class limit wait) (counted_at flights f at)
+    → leg_seen (pool_after pool (counted_at flights flight leg).limits setting) (counted_at flights f at)
     ≡ leg_seen pool (counted_at flights f at)
-beside pool flights flight leg class limit wait f at h other =
+beside pool flights flight leg setting f at h other =
     let x = counted_at flights f at in
     ap (λ (s : Steps). leg_of s x.held)
-    (steps_beside pool (counted_at flights flight leg).limits x.limits class limit wait (h.there f at) (λ i d e. other (h.apart f at i d e)))
+    (steps_beside pool (counted_at flights flight leg).limits x.limits setting (h.there f at) (λ i d e. other (h.apart f at i d e)))
 
-set_seen : (pool : Pool) (flights : List (List CountedLeg)) (flight leg class limit wait : ℕ)
+set_seen : (pool : Pool) (flights : List (List CountedLeg)) (flight leg : ℕ) (setting : Setting)
     → Stands pool flights flight leg
-    → all_seen (pool_after pool (counted_at flights flight leg).limits class limit wait)
+    → all_seen (pool_after pool (counted_at flights flight leg).limits setting)
     (put flights flight leg (with_limits (counted_at flights flight leg)
     (limits_after pool (counted_at flights flight leg).limits)))
-    ≡ set (all_seen pool flights) flight (set (legs_seen pool (legs_at flights flight)) leg (leg_of (with_limit (steps_by pool (counted_at flights flight leg).limits) class limit wait) (counted_at flights flight leg).held))
-set_seen pool flights flight leg class limit wait h =
+    ≡ set (all_seen pool flights) flight (set (legs_seen pool (legs_at flights flight)) leg (leg_of (with_setting (steps_by pool (counted_at flights flight leg).limits) setting) (counted_at flights flight leg).held))
+set_seen pool flights flight leg setting h =
     let old = counted_at flights flight leg in
-    let new = pool_after pool old.limits class limit wait in
+    let new = pool_after pool old.limits setting in
     let x = with_limits old (limits_after pool old.limits) in
-    let y = leg_of (with_limit (steps_by pool old.limits) class limit wait) old.held in
+    let y = leg_of (with_setting (steps_by pool old.limits) setting) old.held in
     map-set (legs_seen new) flights flight (set (legs_at flights flight) leg x)
     ∙ ap (set (all_seen new flights) flight)
     (map-set (leg_seen new) (legs_at flights flight) leg x
-    ∙ ap (set (legs_seen new (legs_at flights flight)) leg) (ap (λ (s : Steps). leg_of s old.held) (steps_after pool old.limits class limit wait (h.there flight leg)))
-    ∙ set_but (leg_seen new) (leg_seen pool) (legs_at flights flight) leg y no_counted (λ at ne. beside pool flights flight leg class limit wait flight at h (λ e. ne e.1)))
+    ∙ ap (set (legs_seen new (legs_at flights flight)) leg) (ap (λ (s : Steps). leg_of s old.held) (steps_after pool old.limits setting (h.there flight leg)))
+    ∙ set_but (leg_seen new) (leg_seen pool) (legs_at flights flight) leg y no_counted (λ at ne. beside pool flights flight leg setting flight at h (λ e. ne e.1)))
     ∙ set_but (legs_seen new) (legs_seen pool) flights flight (set (legs_seen pool (legs_at flights flight)) leg y) []
-    (λ f ne. map_each (leg_seen new) (leg_seen pool) (legs_at flights f) no_counted (λ at. beside pool flights flight leg class limit wait f at h (λ e. ne e.0)))
+    (λ f ne. map_each (leg_seen new) (leg_seen pool) (legs_at flights f) no_counted (λ at. beside pool flights flight leg setting f at h (λ e. ne e.0)))
 
--- ---- what the setting of a limit needs, and what it gives
+-- ---- what it needs that something is set, and what it gives
 
-abbrev pub May : Counted → ℕ → ℕ → ℕ → ℕ → ℕ → Type 0
-May now flight leg class limit wait = can_set (limits_of now) (table_of now) flight leg class limit wait ≡ true
-
-may_leg : (now : Counted) (flight leg class limit wait : ℕ) → May now flight leg class limit wait
-    → (wait ≤ 999) × (may_have (leg_at now flight leg).steps (held_on (leg_at now flight leg)) class limit ≡ true)
-may_leg now flight leg class limit wait h =
-    let p = can_parts (limits_of now) (table_of now) flight leg class limit wait h in
-    (p.0, subst (λ (s : Steps). may_have s (table_of now flight leg) class limit ≡ true) (ladder_seen now flight leg) p.1)
+abbrev pub May : Counted → ℕ → ℕ → Setting → Type 0
+May now flight leg setting = MaySet (leg_at now flight leg) setting
 
 pub set_some : (pool : Pool) (places : ℕ) (flights : List (List CountedLeg)) (now : Counted)
-    (flight leg class limit wait : ℕ) → Meets pool places flights now → May now flight leg class limit wait
+    (flight leg : ℕ) (setting : Setting) → Meets pool places flights now → May now flight leg setting
     → leg < length (legs_at flights flight)
-set_some pool places flights now flight leg class limit wait m may =
-    let kept = met_kept pool places flights now flight leg m in
-    let p = may_leg now flight leg class limit wait may in
-    let is = ladder_of_leg (leg_at now flight leg).steps (held_on (leg_at now flight leg)) class limit kept.ladder p.1 in
-    met_inside pool places flights now flight leg m is.some
+set_some pool places flights now flight leg setting m may = met_inside pool places flights now flight leg m may.some
 
 pub set_ladder : (pool : Pool) (places : ℕ) (flights : List (List CountedLeg)) (now : Counted)
-    (flight leg class limit wait : ℕ) → Meets pool places flights now → May now flight leg class limit wait
-    → IsLadder (with_limit (steps_by pool (counted_at flights flight leg).limits) class limit wait)
-set_ladder pool places flights now flight leg class limit wait m may =
-    let kept = met_kept pool places flights now flight leg m in
-    let p = may_leg now flight leg class limit wait may in
-    let is = ladder_of_leg (leg_at now flight leg).steps (held_on (leg_at now flight leg)) class limit kept.ladder p.1 in
+    (flight leg : ℕ) (setting : Setting) → Meets pool places flights now → May now flight leg setting
+    → IsLadder (with_setting (steps_by pool (counted_at flights flight leg).limits) setting)
+set_ladder pool places flights now flight leg setting m may =
     let same : steps_by pool (counted_at flights flight leg).limits ≡ (leg_at now flight leg).steps = ap (λ (l : LegSeats). l.steps) (met_leg pool places flights now flight leg m) in
-    subst (λ (s : Steps). IsLadder (with_limit s class limit wait)) (sym same) (ladder_with (leg_at now flight leg).steps (held_on (leg_at now flight leg)) class limit wait is p.1 p.0)
+    subst (λ (s : Steps). IsLadder (with_setting s setting)) (sym same) (ladder_set (leg_at now flight leg) setting may)
 
 pub set_there : (pool : Pool) (places : ℕ) (flights : List (List CountedLeg)) (now : Counted) (flight leg : ℕ)
     → Meets pool places flights now → (i : ℕ) → (counted_at flights flight leg).limits ≡ Own i → i < length pool.own
@@ -279,95 +267,79 @@ come_of_sum n places flights flight leg h here =
     omega (arith, one, same, h.reserved)
 
 pub set_reserved : (pool : Pool) (places : ℕ) (flights : List (List CountedLeg)) (now : Counted)
-    (flight leg class limit wait : ℕ) → Meets pool places flights now → May now flight leg class limit wait
+    (flight leg : ℕ) (setting : Setting) → Meets pool places flights now → May now flight leg setting
     → length pool.own + may_come (counted_at flights flight leg).limits ≤ places
-set_reserved pool places flights now flight leg class limit wait m may =
-    come_of_sum (length pool.own) places flights flight leg m.counters.owned (set_some pool places flights now flight leg class limit wait m may)
+set_reserved pool places flights now flight leg setting m may =
+    come_of_sum (length pool.own) places flights flight leg m.counters.owned (set_some pool places flights now flight leg setting m may)
 
 pub set_numbered : (pool : Pool) (places : ℕ) (flights : List (List CountedLeg)) (now : Counted)
-    (flight leg class limit wait : ℕ) → Meets pool places flights now → May now flight leg class limit wait
+    (flight leg : ℕ) (setting : Setting) → Meets pool places flights now → May now flight leg setting
     → length pool.own + may_come (counted_at flights flight leg).limits ≤ 4294967295
-set_numbered pool places flights now flight leg class limit wait m may =
-    come_of_sum (length pool.own) 4294967295 flights flight leg m.counters.numbered (set_some pool places flights now flight leg class limit wait m may)
+set_numbered pool places flights now flight leg setting m may =
+    come_of_sum (length pool.own) 4294967295 flights flight leg m.counters.numbered (set_some pool places flights now flight leg setting m may)
 
--- the leg as it is seen, with the limit
-set_leg : (leg : LegSeats) (class limit wait : ℕ) → KeepsLimits leg
-    → may_have leg.steps (held_on leg) class limit ≡ true → wait ≤ 999
-    → LegSets leg (leg_of (with_limit leg.steps class limit wait) leg.held) class limit wait
-set_leg leg class limit wait kept may most = record {
-  steps = refl;
-  seats = λ k. count_with leg.steps leg.held class limit wait k;
-  kept = record {
-    ladder = leg_ladder_with leg.steps (held_on leg) class limit wait kept.ladder may most;
-    counted = omega (arith, kept.counted, length_with leg.steps class limit wait);
-    within = within_same (with_limit leg.steps class limit wait) (count_at (with_limit leg.steps class limit wait) leg.held) (held_on leg) (λ k. count_with leg.steps leg.held class limit wait k)
-        (within_with leg.steps (held_on leg) class limit wait may kept.within);
-  };
-}
-
--- the flight's legs as they are seen, and with the limit
-set_flight : (pool : Pool) (flights : List (List CountedLeg)) (now : Counted) (flight leg class limit wait : ℕ)
-    → all_seen pool flights ≡ now → KeepsLimits (leg_at now flight leg) → leg < length (legs_at flights flight)
-    → May now flight leg class limit wait
+-- the flight's legs as they are seen, and with what is set
+set_flight : (pool : Pool) (flights : List (List CountedLeg)) (now : Counted) (flight leg : ℕ) (setting : Setting)
+    → all_seen pool flights ≡ now → leg < length (legs_at flights flight)
+    → May now flight leg setting
     → FlightSets (legs_seen pool (legs_at flights flight))
     (set (legs_seen pool (legs_at flights flight)) leg
-    (leg_of (with_limit (steps_by pool (counted_at flights flight leg).limits) class limit wait)
-    (counted_at flights flight leg).held)) leg class limit wait
-set_flight pool flights now flight leg class limit wait e kept here may =
-    let p = may_leg now flight leg class limit wait may in
+    (leg_of (with_setting (steps_by pool (counted_at flights flight leg).limits) setting)
+    (counted_at flights flight leg).held)) leg setting
+set_flight pool flights now flight leg setting e here may =
     let x = leg_seen pool (counted_at flights flight leg) in
     let same : leg_at now flight leg ≡ x = ap (λ (c : Counted). leg_at c flight leg) (sym e) ∙ leg_seen_at pool flights flight leg in
-    let sets : LegSets x (leg_of (with_limit x.steps class limit wait) x.held) class limit wait =
-    subst (λ (l : LegSeats). LegSets l (leg_of (with_limit l.steps class limit wait) l.held) class limit wait) same (set_leg (leg_at now flight leg) class limit wait kept p.1 p.0) in
+    let sets : LegSets x (leg_of (with_setting x.steps setting) x.held) setting =
+    subst (λ (l : LegSeats). LegSets l (leg_of (with_setting l.steps setting) l.held) setting) same may.sets in
     let is : x ≡ get_or (legs_seen pool (legs_at flights flight)) leg no_leg = sym (one_seen pool (legs_at flights flight) leg) ∙ unwrap_or-slice_get (legs_seen pool (legs_at flights flight)) leg no_leg in
-    flight_sets (legs_seen pool (legs_at flights flight)) (legs_seen pool (legs_at flights flight)) leg x (leg_of (with_limit x.steps class limit wait) x.held) class limit wait refl (rw length-map here) is sets
+    flight_sets (legs_seen pool (legs_at flights flight)) (legs_seen pool (legs_at flights flight)) leg x (leg_of (with_setting x.steps setting) x.held) setting refl (rw length-map here) is sets
 
 -- the limits that stand elsewhere, and the pool with what is set
-abbrev pub SetTo : Pool → List (List CountedLeg) → ℕ → ℕ → ℕ → ℕ → ℕ → Pool → List (List CountedLeg) → Type 0
-SetTo pool flights flight leg class limit wait new_pool new =
-    (new_pool ≡ pool_after pool (counted_at flights flight leg).limits class limit wait)
+abbrev pub SetTo : Pool → List (List CountedLeg) → ℕ → ℕ → Setting → Pool → List (List CountedLeg) → Type 0
+SetTo pool flights flight leg setting new_pool new =
+    (new_pool ≡ pool_after pool (counted_at flights flight leg).limits setting)
     × (new ≡ put flights flight leg (with_limits (counted_at flights flight leg) (limits_after pool (counted_at flights flight leg).limits)))
 
 -- as the calls that do it say it
-pub set_to : (shared own all : List Steps) (flights : List (List CountedLeg)) (flight leg class limit wait : ℕ)
+pub set_to : (shared own all : List Steps) (flights : List (List CountedLeg)) (flight leg : ℕ) (setting : Setting)
     (limits : Limits) (held : List ℕ) (new_own : List Steps) (new_limits : Limits) (new : List (List CountedLeg))
     → all ≡ shared → of_held limits held ≡ counted_at flights flight leg
-    → new_own ≡ own_after (pool_of all own) limits class limit wait → new_limits ≡ limits_after (pool_of all own) limits
+    → new_own ≡ own_after (pool_of all own) limits setting → new_limits ≡ limits_after (pool_of all own) limits
     → new ≡ put flights flight leg (with_limits (counted_at flights flight leg) new_limits)
-    → SetTo (pool_of shared own) flights flight leg class limit wait (pool_of shared new_own) new
-set_to shared own all flights flight leg class limit wait limits held new_own new_limits new all_are found own_is limits_are new_is = (
-  ap (pool_of shared) (own_is ∙ ap (λ (s : List Steps). own_after (pool_of s own) limits class limit wait) all_are ∙ ap (λ (c : CountedLeg). own_after (pool_of shared own) c.limits class limit wait) found),
+    → SetTo (pool_of shared own) flights flight leg setting (pool_of shared new_own) new
+set_to shared own all flights flight leg setting limits held new_own new_limits new all_are found own_is limits_are new_is = (
+  ap (pool_of shared) (own_is ∙ ap (λ (s : List Steps). own_after (pool_of s own) limits setting) all_are ∙ ap (λ (c : CountedLeg). own_after (pool_of shared own) c.limits setting) found),
   new_is ∙ ap (λ (l : Limits). put flights flight leg (with_limits (counted_at flights flight leg) l)) (limits_are ∙ ap (λ (s : List Steps). limits_after (pool_of s own) limits) all_are ∙ ap (λ (c : CountedLeg). limits_after (pool_of shared own) c.limits) found),
 )
 
 -- the counters after, as they are seen
 set_now : (pool : Pool) (places : ℕ) (flights : List (List CountedLeg)) (now : Counted)
-    (flight leg class limit wait : ℕ) (new_pool : Pool) (new : List (List CountedLeg)) → Meets pool places flights now
-    → SetTo pool flights flight leg class limit wait new_pool new
+    (flight leg : ℕ) (setting : Setting) (new_pool : Pool) (new : List (List CountedLeg)) → Meets pool places flights now
+    → SetTo pool flights flight leg setting new_pool new
     → all_seen new_pool new
-    ≡ set (all_seen pool flights) flight (set (legs_seen pool (legs_at flights flight)) leg (leg_of (with_limit (steps_by pool (counted_at flights flight leg).limits) class limit wait) (counted_at flights flight leg).held))
-set_now pool places flights now flight leg class limit wait new_pool new m to =
+    ≡ set (all_seen pool flights) flight (set (legs_seen pool (legs_at flights flight)) leg (leg_of (with_setting (steps_by pool (counted_at flights flight leg).limits) setting) (counted_at flights flight leg).held))
+set_now pool places flights now flight leg setting new_pool new m to =
     ap (λ (p : Pool). all_seen p new) to.0
-    ∙ ap (all_seen (pool_after pool (counted_at flights flight leg).limits class limit wait)) to.1
-    ∙ set_seen pool flights flight leg class limit wait (stands pool places flights flight leg m.counters.owned)
+    ∙ ap (all_seen (pool_after pool (counted_at flights flight leg).limits setting)) to.1
+    ∙ set_seen pool flights flight leg setting (stands pool places flights flight leg m.counters.owned)
 
 pub sets_on : (pool : Pool) (places : ℕ) (flights : List (List CountedLeg)) (now : Counted)
-    (flight leg class limit wait : ℕ) (new_pool : Pool) (new : List (List CountedLeg)) → Meets pool places flights now
-    → May now flight leg class limit wait → SetTo pool flights flight leg class limit wait new_pool new
-    → Sets now (all_seen new_pool new) flight leg class limit wait
-sets_on pool places flights now flight leg class limit wait new_pool new m may to =
-    let here = set_some pool places flights now flight leg class limit wait m may in
+    (flight leg : ℕ) (setting : Setting) (new_pool : Pool) (new : List (List CountedLeg)) → Meets pool places flights now
+    → May now flight leg setting → SetTo pool flights flight leg setting new_pool new
+    → SetsOn now (all_seen new_pool new) flight leg setting
+sets_on pool places flights now flight leg setting new_pool new m may to =
+    let here = set_some pool places flights now flight leg setting m may in
     let there = flight_there flights flight leg here in
-    let after = set_flight pool flights now flight leg class limit wait m.seen (met_kept pool places flights now flight leg m) here may in
+    let after = set_flight pool flights now flight leg setting m.seen here may in
     let is : legs_seen pool (legs_at flights flight) ≡ get_or (all_seen pool flights) flight [] = sym (flight_seen pool flights flight) ∙ unwrap_or-slice_get (all_seen pool flights) flight [] in
-    subst (λ (c : Counted). Sets now c flight leg class limit wait) (sym (set_now pool places flights now flight leg class limit wait new_pool new m to))
-    (all_sets (all_seen pool flights) now flight (legs_seen pool (legs_at flights flight)) _ leg class limit wait m.seen (rw length-map there) is after)
+    subst (λ (c : Counted). SetsOn now c flight leg setting) (sym (set_now pool places flights now flight leg setting new_pool new m to))
+    (all_sets (all_seen pool flights) now flight (legs_seen pool (legs_at flights flight)) _ leg setting m.seen (rw length-map there) is after)
 
-set_owned : (pool : Pool) (places : ℕ) (flights : List (List CountedLeg)) (flight leg class limit wait : ℕ)
+set_owned : (pool : Pool) (places : ℕ) (flights : List (List CountedLeg)) (flight leg : ℕ) (setting : Setting)
     (new_pool : Pool) (new : List (List CountedLeg)) → HaveOwn (length pool.own) places (all_limits flights)
-    → leg < length (legs_at flights flight) → SetTo pool flights flight leg class limit wait new_pool new
+    → leg < length (legs_at flights flight) → SetTo pool flights flight leg setting new_pool new
     → HaveOwn (length new_pool.own) places (all_limits new)
-set_owned pool places flights flight leg class limit wait new_pool new h here to =
+set_owned pool places flights flight leg setting new_pool new h here to =
     let old = counted_at flights flight leg in
     let x = with_limits old (limits_after pool old.limits) in
     let placed : all_limits new ≡ put_in (all_limits flights) flight leg (limits_after pool old.limits) =
@@ -379,20 +351,20 @@ set_owned pool places flights flight leg class limit wait new_pool new h here to
     let legs_are : leg < length (limits_on (all_limits flights) flight) = rw (at_map limits_in flights flight [], length-map) here in
     subst (λ (l : List (List Limits)). HaveOwn (length new_pool.own) places l) (sym placed)
     (subst (λ (p : Pool). HaveOwn (length p.own) places (put_in (all_limits flights) flight leg (limits_after pool old.limits))) (sym to.0)
-    (own_set pool places (all_limits flights) flight leg old.limits class limit wait h flights_are legs_are (limits_seen_at flights flight leg)))
+    (own_set pool places (all_limits flights) flight leg old.limits setting h flights_are legs_are (limits_seen_at flights flight leg)))
 
 pub set_counters : (pool : Pool) (places : ℕ) (flights : List (List CountedLeg)) (now : Counted)
-    (flight leg class limit wait : ℕ) (new_pool : Pool) (new : List (List CountedLeg)) → Meets pool places flights now
-    → May now flight leg class limit wait → SetTo pool flights flight leg class limit wait new_pool new
+    (flight leg : ℕ) (setting : Setting) (new_pool : Pool) (new : List (List CountedLeg)) → Meets pool places flights now
+    → May now flight leg setting → SetTo pool flights flight leg setting new_pool new
     → AreCounters new_pool places new
-set_counters pool places flights now flight leg class limit wait new_pool new m may to =
-    let here = set_some pool places flights now flight leg class limit wait m may in
+set_counters pool places flights now flight leg setting new_pool new m may to =
+    let here = set_some pool places flights now flight leg setting m may in
     let there = flight_there flights flight leg here in
-    let after = set_flight pool flights now flight leg class limit wait m.seen (met_kept pool places flights now flight leg m) here may in
+    let after = set_flight pool flights now flight leg setting m.seen here may in
     let is : legs_seen pool (legs_at flights flight) ≡ get_or (all_seen pool flights) flight [] = sym (flight_seen pool flights flight) ∙ unwrap_or-slice_get (all_seen pool flights) flight [] in
     record {
-      kept = subst (λ (c : Counted). IsWithinLimits c) (sym (set_now pool places flights now flight leg class limit wait new_pool new m to))
-          (within_sets (all_seen pool flights) flight (legs_seen pool (legs_at flights flight)) _ leg class limit wait (rw length-map there) is after m.counters.kept);
-      owned = set_owned pool places flights flight leg class limit wait new_pool new m.counters.owned here to;
-      numbered = set_owned pool 4294967295 flights flight leg class limit wait new_pool new m.counters.numbered here to;
+      kept = subst (λ (c : Counted). IsWithinLimits c) (sym (set_now pool places flights now flight leg setting new_pool new m to))
+          (within_sets (all_seen pool flights) flight (legs_seen pool (legs_at flights flight)) _ leg setting (rw length-map there) is after m.counters.kept);
+      owned = set_owned pool places flights flight leg setting new_pool new m.counters.owned here to;
+      numbered = set_owned pool 4294967295 flights flight leg setting new_pool new m.counters.numbered here to;
     }

@@ -1,9 +1,10 @@
 -- Held seats, room and limits of one leg, whatever the table of held seats.
-use Rattle.std.proofs.Common.{◌≡◌, ◌≢◌, ◌==◌, ℕ, zero, suc, ◌+◌, ◌-◌, ◌<◌, ◌≤◌, min, Bool, true, false, List, [], ◌∷◌, length, drop, get_or, refl, ap, sym, subst, ◌∙◌, drop-cons, add-one, arith}
+use Rattle.std.proofs.Common.{◌≡◌, ◌≢◌, ◌==◌, ℕ, zero, suc, ◌+◌, ◌-◌, ◌<◌, ◌≤◌, min, Bool, true, false, cond, if◌then◌else◌, nat_le, List, [], ◌∷◌, length, drop, get_or, refl, ap, sym, subst, ◌∙◌, drop-cons, add-one, arith}
 use Rattle.std.proofs.lemmas.Bool.Decides.{nat_tests}
 use Rattle.std.proofs.lemmas.List.Sums.{sum_by-cons}
 use Rattle.seat_nesting.specs.declared.ladder.Step.{Step}
-use Rattle.seat_nesting.specs.Nesting.{Steps, held_from, room_on, IsWithin, IsDistinct, LacksClass, least}
+use Rattle.airline_base.specs.declared.place.Place.{Place}
+use Rattle.seat_nesting.specs.Nesting.{Steps, Ladders, Table, held_from, free, free_on, ladder_at, room, room_on, IsWithin, IsDistinct, LacksClass, least}
 
 -- the highest rank and those below it
 pub held_cons : (seats : ℕ → ℕ) (s : Step) (lower : Steps)
@@ -21,6 +22,11 @@ pub room_same : (steps : Steps) (new old : ℕ → ℕ) (class : ℕ) → ((k : 
     → room_on steps new class ≡ room_on steps old class
 room_same [] new old class h = refl
 room_same (s ∷ lower) new old class h = rw (held_same (s ∷ lower) new old h, room_same lower new old class h) refl
+
+pub free_same : (steps : Steps) (new old : ℕ → ℕ) (class : ℕ) → ((k : ℕ) → new k ≡ old k)
+    → free_on steps new class ≡ free_on steps old class
+free_same [] new old class h = refl
+free_same (s ∷ lower) new old class h = rw (held_same (s ∷ lower) new old h, free_same lower new old class h) refl
 
 pub within_same : (steps : Steps) (new old : ℕ → ℕ) → ((k : ℕ) → new k ≡ old k) → IsWithin steps old
     → IsWithin steps new
@@ -86,13 +92,13 @@ held_more (s ∷ lower) new old class n h d = cases (s.class == class) refl (hel
         omega (arith, held_cons new s lower, held_cons old s lower, ap new is, ap old is, h.here, rest)
     cases false e below = omega (arith, held_cons new s lower, held_cons old s lower, h.others s.class (other_class s class e), below)
 
--- seats that fit the room stay within the limits
+-- seats that the limits leave stay within them
 pub within_more : (steps : Steps) (new old : ℕ → ℕ) (class n : ℕ) → IsMore new old class n → IsDistinct steps
-    → n ≤ room_on steps old class → IsWithin steps old → IsWithin steps new
+    → n ≤ free_on steps old class → IsWithin steps old → IsWithin steps new
 within_more [] new old class n h d r w = tt
-within_more (s ∷ lower) new old class n h d r w = cases (s.class == class) refl (λ (r' : n ≤ room_on lower old class). within_more lower new old class n h d.1 r' w.1)
+within_more (s ∷ lower) new old class n h d r w = cases (s.class == class) refl (λ (r' : n ≤ free_on lower old class). within_more lower new old class n h d.1 r' w.1)
   where
-    cases : (b : Bool) → (s.class == class) ≡ b → (n ≤ room_on lower old class → IsWithin lower new)
+    cases : (b : Bool) → (s.class == class) ≡ b → (n ≤ free_on lower old class → IsWithin lower new)
         → IsWithin (s ∷ lower) new
     cases true e _ =
         let is = same_class s class e in
@@ -100,7 +106,7 @@ within_more (s ∷ lower) new old class n h d r w = cases (s.class == class) ref
         let lacks : LacksClass class lower = let P : ℕ → Type 0 = λ k. LacksClass k lower in subst P is d.0 in
         (omega (arith, held_more (s ∷ lower) new old class n h d, here, w.0), within_lacking lower new old class n h lacks w.1)
     cases false e below =
-        let both : n ≤ min (s.limit - held_from old (s ∷ lower)) (room_on lower old class) = rw e at r in
+        let both : n ≤ min (s.limit - held_from old (s ∷ lower)) (free_on lower old class) = rw e at r in
         (omega (arith, held_more (s ∷ lower) new old class n h d, both, w.0), below (omega (arith, both)))
 
 -- ---- from a rank on
@@ -122,10 +128,10 @@ pub room_above : (steps : Steps) (i j : ℕ) (x : Step) (seats : ℕ → ℕ) (c
     ≡ min (x.limit - held_from seats (drop i steps)) (room_on (drop j steps) seats class)
 room_above steps i j x seats class e h is other = rw (drop_first steps i j x e h is, ← other) refl
 
--- and where it is
+-- and where it is: nothing where the class is closed
 pub room_here : (steps : Steps) (i j : ℕ) (x : Step) (seats : ℕ → ℕ) (class : ℕ) → j ≡ i + 1 → i < length steps
     → x ≡ get_or steps i x → true ≡ (x.class == class)
-    → room_on (drop i steps) seats class ≡ x.limit - held_from seats (drop i steps)
+    → room_on (drop i steps) seats class ≡ (if x.closed then 0 else x.limit - held_from seats (drop i steps))
 room_here steps i j x seats class e h is same = rw (drop_first steps i j x e h is, ← same) refl
 
 pub within_rank : (steps : Steps) (seats : ℕ → ℕ) (i : ℕ) (d : Step) → IsWithin steps seats → i < length steps
@@ -152,3 +158,36 @@ least_le f from (suc n) leg a b = cases (leg == from + suc n) refl (λ (le : leg
         → least f from (suc n) ≤ f leg
     cases true e _ = let is : leg ≡ from + suc n = grind (arith, nat_tests) in omega (arith, ap f is)
     cases false e below = let le : leg ≤ from + n = grind (arith, nat_tests) in omega (arith, below le)
+
+-- ---- the room is at most what the limits leave
+
+pub room_free_on : (steps : Steps) (seats : ℕ → ℕ) (class : ℕ) → room_on steps seats class ≤ free_on steps seats class
+room_free_on [] seats class = omega arith
+room_free_on (s ∷ lower) seats class = of (s.class == class) s.closed (s.limit - held_from seats (s ∷ lower)) (room_free_on lower seats class)
+  where
+    of : (b c : Bool) (here : ℕ) → room_on lower seats class ≤ free_on lower seats class
+        → cond b (cond c 0 here) (min here (room_on lower seats class)) ≤ cond b here (min here (free_on lower seats class))
+    of true true here h = omega arith
+    of true false here h = omega arith
+    of false c here h = omega (arith, h)
+
+least_most : (f g : ℕ → ℕ) (from n : ℕ) → ((i : ℕ) → f i ≤ g i) → least f from n ≤ least g from n
+least_most f g from zero h = h from
+least_most f g from (suc n) h = omega (arith, least_most f g from n h, h (from + suc n))
+
+pub room_free : (grid : Ladders) (seats : Table) (place : Place) (class : ℕ)
+    → room grid seats place class ≤ free grid seats place class
+room_free grid seats place class = of (nat_le place.from place.to)
+  where
+    of : (b : Bool)
+        → cond b (least (λ leg. room_on (ladder_at grid place.flight leg) (seats place.flight leg) class) place.from
+        (place.to - place.from)) 0
+        ≤ cond b (least (λ leg. free_on (ladder_at grid place.flight leg) (seats place.flight leg) class) place.from
+        (place.to - place.from)) 0
+    of true = least_most (λ leg. room_on (ladder_at grid place.flight leg) (seats place.flight leg) class) (λ leg. free_on (ladder_at grid place.flight leg) (seats place.flight leg) class) place.from (place.to - place.from) (λ leg. room_free_on (ladder_at grid place.flight leg) (seats place.flight leg) class)
+    of false = omega arith
+
+-- seats that fit the room fit what the limits leave
+pub fits_free : (grid : Ladders) (seats : Table) (place : Place) (class n : ℕ) → n ≤ room grid seats place class
+    → n ≤ free grid seats place class
+fits_free grid seats place class n h = omega (arith, h, room_free grid seats place class)

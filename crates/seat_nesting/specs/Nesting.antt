@@ -1,5 +1,5 @@
 -- Nested booking limits (Talluri and van Ryzin): ladders, grids, and the room that a table of held seats leaves.
-use Rattle.std.specs.Prelude.{◌≢◌, ℕ, zero, suc, ◌+◌, ◌-◌, ◌<◌, ◌≤◌, ◌==◌, ◌&&◌, Bool, false, nat_le, min, List, [], ◌∷◌, length, Option, unwrap_or, slice_get, if◌then◌else◌, IsTrue}
+use Rattle.std.specs.Prelude.{◌≢◌, ℕ, zero, suc, ◌+◌, ◌-◌, ◌<◌, ◌≤◌, ◌==◌, ◌&&◌, Bool, false, not, nat_le, min, List, [], ◌∷◌, length, Option, unwrap_or, slice_get, if◌then◌else◌, IsTrue}
 use Rattle.std.specs.Char.{is_ascii_uppercase}
 use Rattle.std.specs.List.{sum_by, list_any, AllByRecursion}
 use Rattle.seat_nesting.specs.declared.ladder.Step.{Step}
@@ -77,12 +77,19 @@ ByClass = ℕ → ℕ
 abbrev pub held_from : ByClass → Steps → ℕ
 held_from seats lower = sum_by (λ s. seats s.class) lower
 
--- Room(leg, r): the least of limit(i) - Held(leg, i) from the highest rank down to the class; 0 where the class is missing
+-- the seats that the limits leave in a class, whether it is open or closed: the least of limit(i) - Held(leg, i) from the highest rank down to it; 0 where it is missing
+abbrev pub free_on : Steps → ByClass → ℕ → ℕ
+free_on [] seats class = 0
+free_on (s ∷ lower) seats class =
+    let here = s.limit - held_from seats (s ∷ lower) in
+    (if s.class == class then here else min here (free_on lower seats class))
+
+-- Room(leg, r): the least of limit(i) - Held(leg, i) from the highest rank down to the class; 0 where the class is closed or missing. That a class is closed changes the room of no other
 abbrev pub room_on : Steps → ByClass → ℕ → ℕ
 room_on [] seats class = 0
 room_on (s ∷ lower) seats class =
     let here = s.limit - held_from seats (s ∷ lower) in
-    (if s.class == class then here else min here (room_on lower seats class))
+    (if s.class == class then (if s.closed then 0 else here) else min here (room_on lower seats class))
 
 -- no rank and those below it hold more than its limit
 abbrev pub IsWithin : Steps → ByClass → Type 0
@@ -114,15 +121,24 @@ room grid seats place class =
     (place.to - place.from)
     else 0)
 
+-- the seats that the limits leave on a place in a class, whether it is open or closed: the least over the legs of the place
+abbrev pub free : Ladders → Table → Place → ℕ → ℕ
+free grid seats place class =
+    (if nat_le place.from place.to
+    then least (λ leg. free_on (ladder_at grid place.flight leg) (seats place.flight leg) class) place.from
+    (place.to - place.from)
+    else 0)
+
 -- no class stands twice in a leg's steps
 abbrev pub HasLadders : Ladders → Type 0
 HasLadders grid = (flight leg : ℕ) → IsDistinct (ladder_at grid flight leg)
 
--- n seats more may wait on a leg in a class: the class is there, and its waiting seats with these are at most its wait
+-- n seats more may wait on a leg in a class: the class is there and open, and its waiting seats with these are at most its wait
 abbrev pub may_wait_on : Steps → ByClass → ℕ → ℕ → Bool
 may_wait_on [] waiting class n = false
 may_wait_on (s ∷ lower) waiting class n =
-    (if s.class == class then nat_le (waiting class + n) s.wait else may_wait_on lower waiting class n)
+    (if s.class == class then not s.closed && nat_le (waiting class + n) s.wait
+    else may_wait_on lower waiting class n)
 
 -- the test passes at leg `from` and the n legs after it
 abbrev pub each_leg : (ℕ → Bool) → ℕ → ℕ → Bool
@@ -133,6 +149,11 @@ each_leg p from (suc n) = each_leg p from n && p (from + suc n)
 abbrev pub is_listed_on : Steps → ℕ → Bool
 is_listed_on [] class = false
 is_listed_on (s ∷ lower) class = (if s.class == class then s.listed else is_listed_on lower class)
+
+-- the class stands on a leg and is open
+abbrev pub is_open_on : Steps → ℕ → Bool
+is_open_on [] class = false
+is_open_on (s ∷ lower) class = (if s.class == class then not s.closed else is_open_on lower class)
 
 -- n seats more may wait on each leg of the place
 abbrev pub may_wait : Ladders → Table → Place → ℕ → ℕ → Bool

@@ -3,8 +3,9 @@ use Rattle.std.specs.Prelude.{◌≡◌, ℕ, ◌+◌, ◌<◌, ◌≤◌, List,
 use Rattle.std.specs.List.{sum_by}
 use Rattle.seat_nesting.specs.Nesting.{Steps, steps_at}
 use Rattle.seat_nesting.specs.Counting.{LegSeats, Counted, IsWithinLimits}
-use Rattle.seat_nesting.specs.Changing.{with_limit}
+use Rattle.seat_nesting.specs.Changing.{with_setting}
 use Rattle.seat_nesting.specs.declared.limits.Limits.{Limits}
+use Rattle.seat_nesting.specs.declared.setting.Setting.{Setting}
 use Rattle.seat_nesting.specs.declared.limits.Limits.TheVariants.{Absent, Shared, Own}
 
 -- ---- one leg
@@ -28,14 +29,14 @@ steps_by pool Absent = []
 steps_by pool (Shared i) = steps_at pool.shared i
 steps_by pool (Own i) = steps_at pool.own i
 
--- the own ladders, and where the leg's limits stand, once a limit and a wait are set
-abbrev pub own_after : Pool → Limits → ℕ → ℕ → ℕ → List Steps
-own_after pool Absent class limit wait = pool.own
-own_after pool (Shared i) class limit wait = pool.own ++ with_limit (steps_at pool.shared i) class limit wait ∷ []
-own_after pool (Own i) class limit wait = slice_set pool.own i (with_limit (steps_at pool.own i) class limit wait)
+-- the own ladders, and where the leg's limits stand, once something is set on it
+abbrev pub own_after : Pool → Limits → Setting → List Steps
+own_after pool Absent setting = pool.own
+own_after pool (Shared i) setting = pool.own ++ with_setting (steps_at pool.shared i) setting ∷ []
+own_after pool (Own i) setting = slice_set pool.own i (with_setting (steps_at pool.own i) setting)
 
-abbrev pub pool_after : Pool → Limits → ℕ → ℕ → ℕ → Pool
-pool_after pool limits class limit wait = pool_of pool.shared (own_after pool limits class limit wait)
+abbrev pub pool_after : Pool → Limits → Setting → Pool
+pool_after pool limits setting = pool_of pool.shared (own_after pool limits setting)
 
 abbrev pub limits_after : Pool → Limits → Limits
 limits_after pool Absent = Absent

@@ -1,14 +1,15 @@
 //! The seats that are held on each leg of a grid, by rank: all that a step and a look need to know of the bookings.
-ghost use Rattle.std.specs.Prelude.{◌≡◌, ◌≤◌, ◌↔◌, ℕ, [], drop, false, replicate, IfOk, IfSome, IfNone, IsTrue};
-ghost use Rattle.seat_nesting.specs.Nesting.{Fits, held_from, ladder_at, has_class, room, room_on};
+ghost use Rattle.std.specs.Prelude.{◌≡◌, ◌<◌, ◌≤◌, ◌↔◌, ℕ, [], drop, false, length, replicate, IfOk, IfSome, IfNone, IsTrue};
+ghost use Rattle.seat_nesting.specs.Nesting.{Fits, free, free_on, held_from, ladder_at, has_class, room, room_on};
 ghost use Rattle.seat_nesting.specs.Counting.{limits_of, table_of, holds, leg_holds, Takes, Gives, OneLegChanges, plus, less, IsRank, IsWithinLimits, leg_at, no_leg};
-ghost use Rattle.seat_nesting.specs.Changing.{can_set, may_have, step_of, Sets};
+ghost use Rattle.seat_nesting.specs.Changing.{can_set, has_sale, may_have, step_of, MaySet, Sets, SetsMarks, SetsOn, SetsSale};
 
 use crate::counted_flights::CountedFlights;
 use crate::grid::Grid;
 use crate::ladder::{Ladder, Step};
 use crate::laid_out::{Layout, lay_out, number};
 use crate::leg_counts::LegCounts;
+use crate::setting::Setting;
 use crate::shared::SharedLadder;
 use airline_base::{Class, Memory, Place};
 use std::alloc::Global;
@@ -67,7 +68,7 @@ impl Counts {
         place.from <= place.to && u32::from(place.to) < self.flights.legs_on(place.flight)
     }
 
-    /// The seats that are left on a place in a class; 0 where the place does not fit, or a leg lacks the class.
+    /// The seats that are left on a place in a class; 0 where the place does not fit, or the class is closed on a leg or missing.
     pub fn room(&self, place: Place, class: Class) -> u16
         ensures { result ≡ room (limits_of self.now) (table_of self.now) place class }
     {
@@ -97,9 +98,9 @@ impl Counts {
         held
     }
 
-    /// Takes so many seats of the class on each leg of the place.
+    /// Takes so many seats of the class on each leg of the place, which the limits leave, whether the class is open or closed.
     pub fn take(&mut self, place: Place, class: Class, seats: u16)
-        requires { seats ≤ room (limits_of self.old) (table_of self.old) place class }
+        requires { seats ≤ free (limits_of self.old) (table_of self.old) place class }
         ensures { Takes self.old self.new place class seats }
     {
         if seats == 0 {
@@ -165,11 +166,39 @@ impl Counts {
         requires { IsTrue (can_set (limits_of self.old) (table_of self.old) flight leg class limit wait) }
         ensures { Sets self.old self.new flight leg class limit wait }
     {
-        let Some((limits, _held)) = self.flights.leg(flight, leg) else {
-            return;
-        };
-        let limits = limits.set(&self.shared, &mut self.own, class, limit, wait);
-        self.flights.move_limits(flight, leg, limits);
+        self.limits_are_kept();
+        let setting = Setting::ToLimit(class, limit, wait);
+        self.set_on(flight, leg, &setting);
+    }
+
+    /// Whether a leg has the class, or any where none is named.
+    pub fn has_sale(&self, flight: u32, leg: u8, class: Option<Class>) -> bool
+        ensures { result ≡ has_sale (limits_of self.now) flight leg class }
+    {
+        match self.leg(flight, leg) {
+            Some(counts) => counts.has_named(class),
+            None => false,
+        }
+    }
+
+    /// Closes a class of a leg, or each where none is named, or opens it.
+    pub fn set_sale(&mut self, flight: u32, leg: u8, class: Option<Class>, closed: bool)
+        requires { IsTrue (has_sale (limits_of self.old) flight leg class) }
+        ensures { SetsSale self.old self.new flight leg class closed }
+    {
+        self.limits_are_kept();
+        let setting = Setting::ToSale(class, closed);
+        self.set_on(flight, leg, &setting);
+    }
+
+    /// Closes and opens at each rank of a leg what is closed and open in a ladder.
+    pub fn set_marks(&mut self, flight: u32, leg: u8, marks: Ladder)
+        requires { 0 < length (ladder_at (limits_of self.old) flight leg) }
+        ensures { SetsMarks self.old self.new flight leg marks }
+    {
+        self.limits_are_kept();
+        let setting = Setting::ToMarks(marks);
+        self.set_on(flight, leg, &setting);
     }
 
     /// No leg holds more than a limit.
@@ -177,6 +206,18 @@ impl Counts {
         ensures { IsWithinLimits self.now }
     {
         let _ = &self.flights;
+    }
+
+    /// Sets what a setting says on a leg.
+    fn set_on(&mut self, flight: u32, leg: u8, setting: &Setting)
+        requires { MaySet (leg_at self.old flight leg) setting.now }
+        ensures { SetsOn self.old self.new flight leg setting.now }
+    {
+        let Some((limits, _held)) = self.flights.leg(flight, leg) else {
+            return;
+        };
+        let limits = limits.set(&self.shared, &mut self.own, setting);
+        self.flights.move_limits(flight, leg, limits);
     }
 
     /// The leg as it stands.
@@ -226,7 +267,7 @@ impl Counts {
     }
 
     fn take_on(&mut self, flight: u32, leg: u8, class: Class, seats: u16)
-        requires { seats ≤ room_on (ladder_at (limits_of self.old) flight leg) (table_of self.old flight leg) class }
+        requires { seats ≤ free_on (ladder_at (limits_of self.old) flight leg) (table_of self.old flight leg) class }
         ensures { OneLegChanges plus self.old self.new flight leg class seats }
     {
         let Some(rank) = self.rank_on(flight, leg, class) else {

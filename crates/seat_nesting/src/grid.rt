@@ -1,6 +1,6 @@
 //! The ladder of each leg of each dated flight.
 ghost use Rattle.std.specs.Prelude.{◌≡◌, ◌≤◌, ◌<◌, ℕ, length, [], ◌∷◌, Some, IfOk, OnOk, IfSome, IfNone, IsTrue, map, ◌↔◌};
-ghost use Rattle.seat_nesting.specs.Nesting.{Fits, ladder_at, IsDistinct, HasLadders, steps_at, steps_of};
+ghost use Rattle.seat_nesting.specs.Nesting.{Fits, ladder_at, legs_of, IsDistinct, HasLadders, steps_at, steps_of};
 ghost use Rattle.seat_nesting.specs.Changing.{FitsLimit};
 
 use crate::ladder::{Ladder, Step};
@@ -94,6 +94,16 @@ impl Grid {
     {
         match self.flights.get(place.flight as usize) {
             Some(legs) => { place.from <= place.to && usize::from(place.to) < legs.len() }
+            None => false,
+        }
+    }
+
+    /// Whether the flight and the leg are there.
+    pub fn has_leg(&self, flight: u32, leg: u8) -> bool
+        ensures { IsTrue result ↔ leg < length (legs_of self.now flight) }
+    {
+        match self.flights.get(flight as usize) {
+            Some(legs) => usize::from(leg) < legs.len(),
             None => false,
         }
     }

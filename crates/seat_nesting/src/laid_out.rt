@@ -159,4 +159,5 @@ fn is_same(left: &Step, right: &Step) -> bool
         && left.limit == right.limit
         && left.wait == right.wait
         && left.listed == right.listed
+        && left.closed == right.closed
 }

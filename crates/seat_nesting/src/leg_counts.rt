@@ -1,10 +1,10 @@
 //! What the limits and the held seats of one leg say.
-ghost use Rattle.std.specs.Prelude.{◌≡◌, ◌<◌, ◌+◌, ◌&&◌, nat_le, false, [], length, drop, IfSome, IfNone};
+ghost use Rattle.std.specs.Prelude.{◌≡◌, ◌<◌, ◌+◌, ◌&&◌, nat_le, false, if◌then◌else◌, [], length, drop, IfSome, IfNone};
 ghost use Rattle.seat_nesting.specs.Nesting.{room_on, held_from, has_class};
 ghost use Rattle.seat_nesting.specs.Counting.{KeepsLimits, IsRank, leg_holds, leg_of, held_on};
-ghost use Rattle.seat_nesting.specs.Changing.{limit_above, may_have, step_of, top_of};
+ghost use Rattle.seat_nesting.specs.Changing.{has_named, limit_above, may_have, step_of, top_of};
 
-use crate::ladder::{Step, rank_of};
+use crate::ladder::{Step, has_named, rank_of};
 use airline_base::Class;
 use std::marker::Model;
 
@@ -34,7 +34,7 @@ impl<'a> LegCounts<'a> {
         LegCounts { steps, held }
     }
 
-    /// The seats that are left in a class; 0 where the leg lacks it.
+    /// The seats that are left in a class; 0 where it is closed, or the leg lacks it.
     pub fn room(&self, class: Class) -> u16
         ensures { result ≡ room_on self.now.steps (held_on self.now) class }
     {
@@ -48,7 +48,7 @@ impl<'a> LegCounts<'a> {
             held += self.held[rank];
             let here = step.limit - held;
             room = if step.class == class {
-                here
+                room_at(step, here)
             } else {
                 here.min(room)
             };
@@ -85,6 +85,13 @@ impl<'a> LegCounts<'a> {
         }
     }
 
+    /// Whether the leg has the class, or any where none is named.
+    pub fn has_named(&self, class: Option<Class>) -> bool
+        ensures { result ≡ has_named self.now.steps class }
+    {
+        has_named(self.steps, class)
+    }
+
     /// The seats that are held in a rank and below; 0 where the leg has no such rank.
     #[tactic(auto, using(crate::proofs::LegCounting::held_past))]
     pub fn held_from(&self, rank: usize) -> u16
@@ -111,6 +118,13 @@ impl<'a> LegCounts<'a> {
     {
         rank_of(self.steps, class)
     }
+}
+
+/// The seats that are left in a class whose rank leaves these: none where it is closed.
+fn room_at(step: &Step, here: u16) -> u16
+    ensures { result ≡ (if step.now.closed then 0 else here) }
+{
+    if step.closed { 0 } else { here }
 }
 
 /// Whether a limit at this rank is in order: no higher than that of the next higher rank, and no

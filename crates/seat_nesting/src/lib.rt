@@ -9,6 +9,7 @@ mod ladder;
 mod laid_out;
 mod leg_counts;
 mod limits;
+mod setting;
 mod shared;
 
 pub use counts::Counts;

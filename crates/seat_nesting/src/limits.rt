@@ -1,13 +1,13 @@
 //! Where the limits of a leg stand.
 ghost use Rattle.std.specs.Prelude.{◌≡◌, ◌≤◌, ◌<◌, ◌+◌, ℕ, [], length, vec_len, vec_capacity, IfSome, IfNone};
 ghost use Rattle.seat_nesting.specs.Nesting.{IsLadder, IsLegLadder};
-ghost use Rattle.seat_nesting.specs.Changing.{with_limit};
+ghost use Rattle.seat_nesting.specs.Changing.{with_setting};
 ghost use Rattle.seat_nesting.specs.OwnLadders.{pool_of, steps_by, own_after, limits_after, may_come};
 ghost use Rattle.seat_nesting.specs.declared.limits.Limits.TheVariants.{Own};
 
 use crate::ladder::{Ladder, Step};
+use crate::setting::Setting;
 use crate::shared::SharedLadder;
-use airline_base::Class;
 
 /// Where the limits of a leg stand.
 #[derive(Clone, Copy)]
@@ -47,21 +47,14 @@ impl Limits {
         }
     }
 
-    /// Sets the limit and the wait of a class, for this leg alone, and says where its limits stand
+    /// Sets what a setting says, for this leg alone, and says where its limits stand
     /// from then on. A shared ladder stays: a changed copy joins the own ones, for which there is memory.
-    pub fn set(
-        self,
-        shared: &[SharedLadder],
-        own: &mut Vec<Ladder>,
-        class: Class,
-        limit: u16,
-        wait: u16,
-    ) -> Limits
-        requires ladder { IsLadder (with_limit (steps_by (pool_of shared.now own.old.items) self) class limit wait) }
+    pub fn set(self, shared: &[SharedLadder], own: &mut Vec<Ladder>, setting: &Setting) -> Limits
+        requires ladder { IsLadder (with_setting (steps_by (pool_of shared.now own.old.items) self) setting.now) }
         requires there { (i : ℕ) → self ≡ Own i → i < length own.old.items }
         requires reserved { vec_len own.old + may_come self ≤ vec_capacity own.old }
         requires numbered { vec_len own.old + may_come self ≤ 4294967295 }
-        ensures own { own.new.items ≡ own_after (pool_of shared.now own.old.items) self class limit wait }
+        ensures own { own.new.items ≡ own_after (pool_of shared.now own.old.items) self setting.now }
         ensures limits { result ≡ limits_after (pool_of shared.now own.old.items) self }
         ensures places { vec_capacity own.new ≡ vec_capacity own.old }
     {
@@ -69,12 +62,12 @@ impl Limits {
             Limits::Absent => Limits::Absent,
             Limits::Own(i) => {
                 let ladder = &mut own[i as usize];
-                ladder.set(class, limit, wait);
+                ladder.set(setting);
                 Limits::Own(i)
             }
             Limits::Shared(i) => {
                 let mut ladder = shared[i as usize].get().copy();
-                ladder.set(class, limit, wait);
+                ladder.set(setting);
                 let number = own.len() as u32;
                 own.push_reserved(ladder);
                 Limits::Own(number)
