@@ -6,3 +6,4 @@ pub mod Replays
 pub mod Totals
 pub mod Bounds
 pub mod Faults
+pub mod Closed

@@ -7,7 +7,7 @@ use Rattle.seat_rules.specs.declared.booking.Booking.{Booking}
 use Rattle.seat_journal.specs.declared.entry.Advice.{Advice}
 use Rattle.seat_journal.specs.declared.entry.Entry.{Entry}
 use Rattle.seat_journal.specs.declared.entry.Work.{Work}
-use Rattle.seat_journal.specs.declared.entry.Work.TheVariants.{Seats, Limit}
+use Rattle.seat_journal.specs.declared.entry.Work.TheVariants.{Seats, Limit, Sale}
 use Rattle.seat_rules.specs.Bookings.{held}
 use Rattle.seat_rules.specs.Sequential.{Passed, pass, may_confirm, confirmed, advice_of, room_left}
 use Rattle.seat_rules.specs.Journal.{replay, calls_of, next_line, IsLegal}
@@ -48,11 +48,13 @@ RoomOfFlight = (g h : Ladders) (bookings : List Booking) (place : Place) (class 
 abbrev pub place_of : Work → Option Place
 place_of (Seats c) = c.place
 place_of (Limit c) = None
+place_of (Sale c) = None
 
--- the flight of a line: that of its place, or of the leg whose limit it changes
+-- the flight of a line: that of its place, or of the leg on which it sets something
 abbrev pub flight_of : Work → Option ℕ
 flight_of (Seats c) = option_map (λ p. p.flight) c.place
 flight_of (Limit c) = Some c.flight
+flight_of (Sale c) = Some c.flight
 
 abbrev pub is_flight : ℕ → Option ℕ → Bool
 is_flight flight None = false

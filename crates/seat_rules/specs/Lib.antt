@@ -1,4 +1,5 @@
 pub mod Prefixes
+pub mod Closing
 pub mod Codes
 pub mod Bookings
 pub mod Sequential

@@ -3,15 +3,16 @@ use Rattle.std.specs.Prelude.{◌≡◌, ℕ, ◌-◌, Bool, true, false, ◌&&�
 use Rattle.std.specs.List.{AllByRecursion}
 use Rattle.airline_base.specs.declared.place.Place.{Place}
 use Rattle.seat_nesting.specs.Nesting.{Ladders, room, may_wait, is_listed}
-use Rattle.seat_nesting.specs.Changing.{can_set, limits_with}
+use Rattle.seat_nesting.specs.Changing.{can_set, has_sale, limits_with, sales_with}
 use Rattle.seat_rules.specs.declared.booking.Booking.{Booking}
 use Rattle.seat_rules.specs.declared.booking.Status.{Status}
 use Rattle.seat_rules.specs.declared.booking.Status.TheVariants.{Held, Waiting}
 use Rattle.seat_journal.specs.declared.entry.Advice.{Advice}
 use Rattle.seat_journal.specs.declared.entry.Change.{Change}
 use Rattle.seat_journal.specs.declared.entry.Command.{Command}
+use Rattle.seat_journal.specs.declared.entry.SaleChange.{SaleChange}
 use Rattle.seat_journal.specs.declared.entry.Work.{Work}
-use Rattle.seat_journal.specs.declared.entry.Work.TheVariants.{Seats, Limit}
+use Rattle.seat_journal.specs.declared.entry.Work.TheVariants.{Seats, Limit, Sale}
 use Rattle.seat_rules.specs.declared.action.Action.{Action}
 use Rattle.seat_rules.specs.declared.action.Action.TheVariants.{Want, Cancel, Other}
 use Rattle.seat_rules.specs.declared.action.Wish.{Wish}
@@ -19,7 +20,7 @@ use Rattle.seat_rules.specs.declared.action.Wish.TheVariants.{Need, Sell, Waitli
 use Rattle.seat_rules.specs.Codes.{action_of}
 use Rattle.seat_rules.specs.Bookings.{is_for, is_held, is_waiting, held, waiting}
 
--- what a journal leaves: the limits now, and the live bookings in order of number
+-- what a journal leaves: the limits now, with the classes that are closed, and the live bookings in order of number
 pub record State : Type 0 where
   pub grid : Ladders
   pub bookings : List Booking
@@ -150,7 +151,21 @@ may_change s c = can_set s.grid (held s.bookings) c.flight c.leg c.class c.limit
 abbrev pub set : State → Change → Outcome
 set s c = (if may_change s c then passed (changed_by s.grid c) s.bookings (codes "OK") 0 else refused s (codes "NO"))
 
+-- the limits with a class of a leg, or all, closed or opened
+abbrev pub sales_by : Ladders → SaleChange → Ladders
+sales_by grid c = sales_with grid c.flight c.leg c.class c.closed
+
+-- a class may be closed or opened: the leg has it, or where none is named any class
+abbrev pub may_set_sale : State → SaleChange → Bool
+may_set_sale s c = has_sale s.grid c.flight c.leg c.class
+
+-- ST: the class, or each, is closed or open from now on, and a pass follows; or nothing changes
+abbrev pub set_sale : State → SaleChange → Outcome
+set_sale s c =
+    (if may_set_sale s c then passed (sales_by s.grid c) s.bookings (codes "OK") 0 else refused s (codes "NO"))
+
 -- the sequential step: the answer to what a line asks for, as line `number`
 abbrev pub answer : State → ℕ → Work → Outcome
 answer s number (Seats c) = answer_to (action_of c.code) c.place s number c
 answer s number (Limit c) = set s c
+answer s number (Sale c) = set_sale s c

@@ -5,7 +5,8 @@ ghost use Rattle.seat_rules.specs.Replaying.{may_ask};
 
 use seat_journal::Work;
 
-/// Whether the session may ask for this: seats by sessions 1 to 8, another limit by session 0, the manager.
+/// Whether the session may ask for this: seats by sessions 1 to 8; another limit, and a class closed or opened, by
+/// session 0, the manager.
 #[tactic(auto, using(crate::proofs::History::Faults::ask_exactly))]
 pub fn may_ask(session: u8, work: &Work) -> bool
     ensures exact { IsTrue result ↔ MayAsk session work.now }
@@ -14,10 +15,11 @@ pub fn may_ask(session: u8, work: &Work) -> bool
     match work {
         Work::Seats(_) => 1 <= session && session <= 8,
         Work::Limit(_) => session == 0,
+        Work::Sale(_) => session == 0,
     }
 }
 
-/// Who asks for this where one session asks for all seats: session 1, and for another limit the manager.
+/// Who asks for this where one session asks for all seats: session 1, and the manager for what he sets.
 pub fn asker(work: &Work) -> u8
     ensures value { result ≡ asker work.now }
     ensures may { MayAsk result work.now }
@@ -25,5 +27,6 @@ pub fn asker(work: &Work) -> u8
     match work {
         Work::Seats(_) => 1,
         Work::Limit(_) => 0,
+        Work::Sale(_) => 0,
     }
 }

@@ -21,11 +21,11 @@ pub enum ReplayKind {
     OtherReleased,
     /// Other advices are right.
     OtherAdvices,
-    /// Its session may not ask for this, or its call is not that session's next: seats are asked by sessions 1 to 8, and limits are changed by session 0.
+    /// Its session may not ask for this, or its call is not that session's next: seats are asked by sessions 1 to 8; limits are changed, and classes closed and opened, by session 0.
     BadCaller,
     /// Memory was refused.
     Memory,
-    /// It has no seats, or more than 999, or a place that is not there; or it changes a leg that is not there, or a limit or a wait to more than 999.
+    /// It has no seats, or more than 999, or a place that is not there; or it sets something on a leg that is not there, or a limit or a wait to more than 999.
     BadCommand,
 }
 

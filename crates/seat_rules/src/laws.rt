@@ -1,6 +1,7 @@
 //! The laws of the definitions, each the contract of a function that does nothing.
 ghost use Rattle.seat_rules.specs.Laws.{LegalByRecursion, NoneFitsAfterAStep, ReplayKeepsLimits, LiveBookingsDiffer, HeldSeatsAreTheTotals, HeldByRankIsHeldByBookings, ReplayIsNumbered, ApplyingIsTheStep, PassIsByTable};
 ghost use Rattle.seat_rules.specs.Replaying.{LegalHasNoFault};
+ghost use Rattle.seat_rules.specs.Closing.{ClosedIsClosed, WithoutClosingNothingChanges};
 ghost use Rattle.seat_rules.specs.Showing.{ShownIsHeld};
 
 /// Legal histories by beginnings are those by recursion.
@@ -60,6 +61,18 @@ pub fn pass_is_by_table()
 #[tactic(auto, using(crate::proofs::History::Faults::legal_has_no_fault))]
 pub fn legal_has_no_fault()
     ensures { LegalHasNoFault }
+{}
+
+/// Between a close of a leg's class and the next open no line gives or confirms a seat in that class on that leg.
+#[tactic(auto, using(crate::proofs::History::Closed::closed_is_closed))]
+pub fn closed_is_closed()
+    ensures { ClosedIsClosed }
+{}
+
+/// Where no line closes or opens a class, each room and each waiting room is as by the rules without closed classes.
+#[tactic(auto, using(crate::proofs::History::Closed::without_closing))]
+pub fn without_closing_nothing_changes()
+    ensures { WithoutClosingNothingChanges }
 {}
 
 /// Over a legal history the counters that its entries leave hold what its replay holds.

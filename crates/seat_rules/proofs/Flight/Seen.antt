@@ -1,17 +1,17 @@
 -- What one answer is to a flight, whether the line is on it or not.
 use Rattle.std.proofs.Common.{◌≡◌, ◌==◌, ◌&&◌, ℕ, Bool, true, false, nat_le, List, [], ◌∷◌, ◌++◌, Option, Some, None, option_map, codes, if◌then◌else◌, arith, refl, ap, sym, subst, ◌∙◌}
-use Rattle.seat_rules.proofs.Common.{Place, Ladders, legs_of, room, may_wait, is_listed, Booking, Status, Held, Waiting, Advice, Change, Command, Work, Seats, Limit, Want, Cancel, Wish, action_of, is_for, is_held, is_waiting, held, waiting, State, Outcome, state_of, room_left, reduced, booking_of, booking_for, pass, passed, want, cancel, changed_by, may_change, answer, may_confirm, confirmed, advice_of, NoneFits, renumbered, AgreeOn, NoneElseFits, is_on}
+use Rattle.seat_rules.proofs.Common.{Place, Ladders, legs_of, room, may_wait, is_listed, Booking, Status, Held, Waiting, Advice, Change, Command, SaleChange, Work, Seats, Limit, Sale, Want, Cancel, Wish, action_of, is_for, is_held, is_waiting, held, waiting, State, Outcome, state_of, room_left, reduced, booking_of, booking_for, pass, passed, want, cancel, changed_by, may_change, sales_by, may_set_sale, answer, may_confirm, confirmed, advice_of, NoneFits, renumbered, AgreeOn, NoneElseFits, is_on}
 use Rattle.std.proofs.lemmas.Bool.Decides.{nat_tests}
 use Rattle.seat_rules.specs.declared.action.Action.{Action}
 use Rattle.seat_rules.specs.declared.action.Action.TheVariants.{Other}
 use Rattle.seat_rules.specs.declared.action.Wish.TheVariants.{Need, Sell, Waitlist}
-use Rattle.seat_rules.specs.Sequential.{Passed, want_new, set, answer_to}
+use Rattle.seat_rules.specs.Sequential.{Passed, want_new, set, set_sale, answer_to}
 use Rattle.seat_rules.specs.Flights.{pass_on, is_flight, advices_anew}
 use Rattle.seat_rules.proofs.Step.Outcomes.{each_outcome, grid_answer}
 use Rattle.seat_rules.proofs.Step.Apart.{all_reduced}
 use Rattle.seat_rules.proofs.Passes.Quiet.{all_push, all_map}
 use Rattle.seat_rules.proofs.Flight.View.{view, told_on, told_append, room_view, room_over, may_wait_over, listed_agree, pass_of}
-use Rattle.seat_rules.proofs.Flight.Changes.{agree_away, agree_changed, may_change_over, else_changed}
+use Rattle.seat_rules.proofs.Flight.Changes.{agree_away, agree_changed, agree_sales, agree_unsold, may_change_over, may_set_over, else_changed, else_sales}
 use Rattle.seat_rules.proofs.Flight.Parts.{IsTestOn, IsTestOff, pass_view, pass_none, none_among, reduced_view, reduced_same, found_anew, find_view, other_flight, view_push, view_same}
 
 -- the test of a command, on its flight and off it
@@ -144,6 +144,32 @@ agree_set : (g h : Ladders) (f : ℕ) (c : Change) (t : Bool) → AgreeOn f g h
 agree_set g h f c true a = agree_changed g h f c a
 agree_set g h f c false a = a
 
+-- and a class of the flight that is closed or opened
+abbrev sales_if : Bool → Ladders → SaleChange → Ladders
+sales_if t grid c = (if t then sales_by grid c else grid)
+
+sale_if : (s : State) (c : SaleChange) (t : Bool) → may_set_sale s c ≡ t → (set_sale s c).state.grid ≡ sales_if t s.grid c
+sale_if s c true e = rw e refl
+sale_if s c false e = rw e refl
+
+sale_over : (g h : Ladders) (anew : ℕ → ℕ) (f : ℕ) (bookings : List Booking) (c : SaleChange) → AgreeOn f g h → c.flight ≡ f
+    → (t : Bool) → may_set_sale (state_of g bookings) c ≡ t
+    → set_sale (state_of h (view anew f bookings)) c ≡ seen_over (sales_if t h c) anew f (set_sale (state_of g bookings) c)
+sale_over g h anew f bookings c a here true may =
+    let too : may_set_sale (state_of h (view anew f bookings)) c ≡ true = may_set_over g h f bookings (view anew f bookings) c a here ∙ may in
+    rw (may, too) (passed_view (sales_by g c) (sales_by h c) anew f bookings (codes "OK") 0 (agree_sales g h f c a))
+sale_over g h anew f bookings c a here false may =
+    let too : may_set_sale (state_of h (view anew f bookings)) c ≡ false = may_set_over g h f bookings (view anew f bookings) c a here ∙ may in
+    rw (may, too) refl
+
+agree_shut : (g h : Ladders) (f : ℕ) (c : SaleChange) (t : Bool) → AgreeOn f g h
+    → AgreeOn f (sales_if t g c) (sales_if t h c)
+agree_shut g h f c true a = agree_sales g h f c a
+agree_shut g h f c false a = a
+
+pub on_sale : (f : ℕ) (c : SaleChange) → is_on f (Sale c) ≡ true → c.flight ≡ f
+on_sale f c e = grind (arith, nat_tests)
+
 pub on_flight : (f : ℕ) (c : Change) → is_on f (Limit c) ≡ true → c.flight ≡ f
 on_flight f c e = grind (arith, nat_tests)
 
@@ -173,6 +199,16 @@ answer_over g h anew f bookings n (Limit c) a e = record {
 
     part : (set (state_of h (view anew f bookings)) c).state.grid ≡ limits_if (may_change (state_of g bookings) c) h c
     part = set_if (state_of h (view anew f bookings)) c (may_change (state_of g bookings) c) (may_change_over g h anew f bookings c a (on_flight f c e))
+answer_over g h anew f bookings n (Sale c) a e = record {
+  agree = same_legs f _ _ whole ∙ (agree_shut g h f c (may_set_sale (state_of g bookings) c) a ∙ sym (same_legs f _ _ part));
+  is = sale_over g h anew f bookings c a (on_sale f c e) (may_set_sale (state_of g bookings) c) refl ∙ ap (λ (x : Ladders). seen_over x anew f (set_sale (state_of g bookings) c)) (sym part);
+}
+  where
+    whole : (set_sale (state_of g bookings) c).state.grid ≡ sales_if (may_set_sale (state_of g bookings) c) g c
+    whole = sale_if (state_of g bookings) c (may_set_sale (state_of g bookings) c) refl
+
+    part : (set_sale (state_of h (view anew f bookings)) c).state.grid ≡ sales_if (may_set_sale (state_of g bookings) c) h c
+    part = sale_if (state_of h (view anew f bookings)) c (may_set_sale (state_of g bookings) c) (may_set_over g h f bookings (view anew f bookings) c a (on_sale f c e))
 
 -- and over its own limits
 pub answer_on : (grid : Ladders) (anew : ℕ → ℕ) (f : ℕ) (bookings : List Booking) (n : ℕ) (w : Work) → is_on f w ≡ true
@@ -183,6 +219,9 @@ answer_on grid anew f bookings n (Seats c) e =
 answer_on grid anew f bookings n (Limit c) e =
     set_over grid grid anew f bookings c refl (on_flight f c e) (may_change (state_of grid bookings) c) refl
     ∙ ap (λ (g : Ladders). seen_over g anew f (set (state_of grid bookings) c)) (sym (set_if (state_of grid bookings) c (may_change (state_of grid bookings) c) refl))
+answer_on grid anew f bookings n (Sale c) e =
+    sale_over grid grid anew f bookings c refl (on_sale f c e) (may_set_sale (state_of grid bookings) c) refl
+    ∙ ap (λ (g : Ladders). seen_over g anew f (set_sale (state_of grid bookings) c)) (sym (sale_if (state_of grid bookings) c (may_set_sale (state_of grid bookings) c) refl))
 
 -- a line off the flight changes nothing that the flight sees
 away_from : (f : ℕ) (c : Command) (p : Place) → c.place ≡ Some p → is_on f (Seats c) ≡ false → (p.flight == f) ≡ false
@@ -211,6 +250,7 @@ answer_off grid anew f bookings n w off a =
     (λ c p b at found le off. quiet_view grid grid anew f bookings (reduced (is_for c.locator p c.class) c.seats bookings) refl a
     (reduced_same anew f (is_for c.locator p c.class) c.seats bookings (test_off f c.locator p c.class (away_from f c p at off))))
     (λ c may off. quiet_view (changed_by grid c) grid anew f bookings bookings (agree_away grid f c off) a refl)
+    (λ c may off. quiet_view (sales_by grid c) grid anew f bookings bookings (agree_unsold grid f c off) a refl)
     w off
 
 -- nor its ladders
@@ -220,6 +260,7 @@ limits_off grid bookings f n w off =
     each_outcome (λ w o. is_on f w ≡ false → AgreeOn f o.state.grid grid) (state_of grid bookings) n
     (λ w r off. refl) (λ c p at none fits off. refl) (λ c p at none over why off. refl) (λ c p at none off. refl) (λ c p b at found le off. refl)
     (λ c may off. agree_away grid f c off)
+    (λ c may off. agree_unsold grid f c off)
     w off
 
 -- a booking of a flight whose bookings are the same fits as before
@@ -294,6 +335,7 @@ advices_on grid anew f bookings n w on a =
     (λ c p at none on. quiet grid (bookings ++ booking_of n c p Waiting ∷ []) (else_push grid f bookings (booking_of n c p Waiting) a (here_on f c p at on)))
     (λ c p b at found le on. quiet grid (reduced (is_for c.locator p c.class) c.seats bookings) (else_reduced grid f bookings c.locator p c.class c.seats a (here_on f c p at on)))
     (λ c may on. quiet (changed_by grid c) bookings (else_changed grid f bookings c a on))
+    (λ c may on. quiet (sales_by grid c) bookings (else_sales grid f bookings c a on))
     w on
   where
     quiet : (g : Ladders) (l : List Booking) → NoneElseFits f g l l

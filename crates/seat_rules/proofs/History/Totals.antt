@@ -1,6 +1,6 @@
 -- The seats held are those confirmed less those released.
 use Rattle.std.proofs.Common.{◌≡◌, ℕ, ◌+◌, ◌-◌, ◌≤◌, Bool, true, false, List, [], ◌∷◌, ◌++◌, length, Some, find, if◌then◌else◌, arith, refl, ap, sym, subst}
-use Rattle.seat_rules.proofs.Common.{Place, Ladders, Booking, Status, Held, Waiting, Command, Work, Seats, Entry, is_for, is_held, is_waiting, State, Outcome, answer, changed_by, pass, reduced, booking_of, refused, booked, replay, next_line}
+use Rattle.seat_rules.proofs.Common.{Place, Ladders, Booking, Status, Held, Waiting, Command, Work, Seats, Entry, is_for, is_held, is_waiting, State, Outcome, answer, changed_by, sales_by, pass, reduced, booking_of, refused, booked, replay, next_line}
 use Rattle.std.proofs.lemmas.List.Sums.{sum_by_push}
 use Rattle.seat_rules.specs.Totals.{is_confirmation, advised, seats_asked, confirmed_by, released_by, totals_of, held_by, seats_held}
 use Rattle.seat_rules.specs.Laws.{HeldSeatsAreTheTotals}
@@ -50,6 +50,7 @@ answer_balances s number =
       pass_sums s.grid (reduced (is_for c.locator place c.class) c.seats s.bookings),
     ))
     (λ c may. omega (arith, pass_sums (changed_by s.grid c) s.bookings))
+    (λ c may. omega (arith, pass_sums (sales_by s.grid c) s.bookings))
   where
     waits : (c : Command) (place : Place) (why : Listing)
         → Balances s (Seats c) (booked s (booking_of number c place Waiting) (listing_code why))

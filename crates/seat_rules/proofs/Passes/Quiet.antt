@@ -1,6 +1,6 @@
 -- After a pass no waiting booking fits.
 use Rattle.std.proofs.Common.{◌≡◌, ◌==◌, ◌&&◌, ℕ, zero, suc, ◌+◌, ◌-◌, ◌<◌, ◌≤◌, Bool, true, false, nat_le, List, [], ◌∷◌, ◌++◌, arith, refl, ap, sym, subst, ◌∙◌, append_assoc}
-use Rattle.seat_rules.proofs.Common.{AllByRecursion, Place, Ladders, Steps, Table, held_from, room_on, room, least, ladder_at, Booking, Status, Held, Waiting, Advice, is_for, is_waiting, seats_on, held, Work, State, pass, may_confirm, confirmed, advice_of, NoneFits, booking_of, reduced, changed_by, answer}
+use Rattle.seat_rules.proofs.Common.{AllByRecursion, Place, Ladders, Steps, Table, held_from, room_on, room, least, ladder_at, Booking, Status, Held, Waiting, Advice, is_for, is_waiting, seats_on, held, Work, State, pass, may_confirm, confirmed, advice_of, NoneFits, booking_of, reduced, changed_by, sales_by, answer}
 use Rattle.std.proofs.lemmas.List.{append-nil}
 use Rattle.std.proofs.lemmas.List.Sums.{sum_by-cons, sum_by-append, sum_by_push}
 use Rattle.std.proofs.lemmas.Bool.Decides.{nat_tests}
@@ -12,11 +12,12 @@ use Rattle.seat_nesting.proofs.Rooms.{held_less}
 pub room_on_less : (xs : Steps) (old new : ℕ → ℕ) (class : ℕ) → ((k : ℕ) → old k ≤ new k)
     → room_on xs new class ≤ room_on xs old class
 room_on_less [] old new class h = omega arith
-room_on_less (s ∷ xs) old new class h = cases (s.class == class) refl (held_less (s ∷ xs) old new h) (room_on_less xs old new class h) where
-  cases : (t : Bool) → (s.class == class) ≡ t → held_from old (s ∷ xs) ≤ held_from new (s ∷ xs)
+room_on_less (s ∷ xs) old new class h = cases (s.class == class) s.closed refl refl (held_less (s ∷ xs) old new h) (room_on_less xs old new class h) where
+  cases : (t u : Bool) → (s.class == class) ≡ t → s.closed ≡ u → held_from old (s ∷ xs) ≤ held_from new (s ∷ xs)
       → room_on xs new class ≤ room_on xs old class → room_on (s ∷ xs) new class ≤ room_on (s ∷ xs) old class
-  cases true e more rest = rw e (omega (arith, more))
-  cases false e more rest = rw e (omega (arith, more, rest))
+  cases true true e g more rest = rw (e, g) (omega arith)
+  cases true false e g more rest = rw (e, g) (omega (arith, more))
+  cases false u e g more rest = rw e (omega (arith, more, rest))
 
 least_less : (f g : ℕ → ℕ) (from n : ℕ) → ((x : ℕ) → f x ≤ g x) → least f from n ≤ least g from n
 least_less f g from zero h = h from
@@ -128,4 +129,5 @@ quiet_answer s number w q =
     (λ c place at none. quiet_passed s.grid (s.bookings ++ booking_of number c place Waiting ∷ []))
     (λ c place b at found le. quiet_passed s.grid (reduced (is_for c.locator place c.class) c.seats s.bookings))
     (λ c may. quiet_passed (changed_by s.grid c) s.bookings)
+    (λ c may. quiet_passed (sales_by s.grid c) s.bookings)
     w

@@ -1,6 +1,6 @@
 -- No two live bookings have the same locator, place and class.
 use Rattle.std.proofs.Common.{◌≡◌, ◌==◌, ℕ, zero, suc, ◌-◌, ◌<◌, Bool, true, false, nat_le, nat_eq, List, [], ◌∷◌, ◌++◌, length, Some, None, find, cond, get_or, arith, refl, ap}
-use Rattle.seat_rules.proofs.Common.{AllByRecursion, pointwise, Place, Ladders, Booking, Held, Waiting, Command, Work, Entry, is_for, replay, Status, State, state_of, answer, changed_by, pass, reduced, confirmed, booking_of, booking_for}
+use Rattle.seat_rules.proofs.Common.{AllByRecursion, pointwise, Place, Ladders, Booking, Held, Waiting, Command, Work, Entry, is_for, replay, Status, State, state_of, answer, changed_by, sales_by, pass, reduced, confirmed, booking_of, booking_for}
 use Rattle.std.specs.List.{AllPairs}
 use Rattle.std.proofs.lemmas.Bool.Decides.{nat_tests}
 use Rattle.std.proofs.lemmas.List.Elements.{All-from_recursion}
@@ -65,6 +65,7 @@ apart_answer s number w h =
     (λ c place at none. pass_all s.grid (s.bookings ++ booking_of number c place Waiting ∷ []) (more c place Waiting none))
     (λ c place b at found le. pass_all s.grid (reduced (is_for c.locator place c.class) c.seats s.bookings) (apart_reduced (is_for c.locator place c.class) c.seats s.bookings h))
     (λ c may. pass_all (changed_by s.grid c) s.bookings h)
+    (λ c may. pass_all (sales_by s.grid c) s.bookings h)
     w
   where
     more : (c : Command) (place : Place) (status : Status) → booking_for s c place ≡ None

@@ -1,16 +1,17 @@
 -- One step: how many bookings it leaves, and that they stay within the limits.
 use Rattle.std.proofs.Common.{◌≡◌, ◌≢◌, ◌==◌, ◌&&◌, ℕ, ◌+◌, ◌-◌, ◌≤◌, Bool, true, false, nat_le, List, [], ◌∷◌, ◌++◌, length, if◌then◌else◌, arith, refl, ap, subst, ◌∙◌, length-append, append_assoc}
-use Rattle.seat_rules.proofs.Common.{Place, Ladders, ladder_at, room_on, room, IsWithin, HasLadders, covers, Booking, Held, Waiting, Change, Command, Work, Status, Advice, is_for, is_held, is_waiting, seats_on, held, State, state_of, room_left, reduced, booking_of, answer, changed_by, may_change, pass, may_confirm, confirmed, advice_of, KeepsLimits}
+use Rattle.seat_rules.proofs.Common.{Place, Ladders, ladder_at, room_on, room, IsWithin, HasLadders, covers, Booking, Held, Waiting, Change, Command, Work, Status, Advice, is_for, is_held, is_waiting, seats_on, held, State, state_of, room_left, reduced, booking_of, answer, changed_by, may_change, sales_by, pass, may_confirm, confirmed, advice_of, KeepsLimits}
 use Rattle.std.proofs.lemmas.Bool.Decides.{nat_tests}
 use Rattle.std.proofs.lemmas.List.Sums.{sum_by-cons, sum_by-append, sum_by_push}
 use Rattle.seat_nesting.proofs.LimitChanges.{has_ladders_with, length_legs, within_set}
+use Rattle.seat_nesting.proofs.SaleChanges.{has_ladders_sale, length_legs_sale, within_sale_set}
 use Rattle.seat_rules.proofs.Step.Outcomes.{each_grid, each_outcome}
 use Rattle.seat_rules.proofs.Step.Reduced.{length_reduced}
 use Rattle.std.proofs.lemmas.List.{append-nil}
 use Rattle.seat_rules.specs.Inventory.{HasSameLegs}
 use Rattle.seat_rules.proofs.Counters.Limits.{within_more}
 use Rattle.seat_rules.proofs.Passes.Quiet.{held_at}
-use Rattle.seat_nesting.proofs.Rooms.{within_less, least_le}
+use Rattle.seat_nesting.proofs.Rooms.{within_less, least_le, room_free_on}
 use Rattle.airline_base.proofs.Tests.{both_true}
 use Rattle.seat_rules.proofs.Passes.ByTable.{waiting_light}
 
@@ -39,6 +40,7 @@ few_answer s number =
     (λ c place at none. after_pass s.grid (s.bookings ++ booking_of number c place Waiting ∷ []) (omega (arith, length-append s.bookings (booking_of number c place Waiting ∷ []))))
     (λ c place b at found le. after_pass s.grid (reduced (is_for c.locator place c.class) c.seats s.bookings) (omega (arith, length_reduced (is_for c.locator place c.class) c.seats s.bookings)))
     (λ c may. after_pass (changed_by s.grid c) s.bookings (omega arith))
+    (λ c may. after_pass (sales_by s.grid c) s.bookings (omega arith))
   where
     after_pass : (grid : Ladders) (xs : List Booking) → length xs ≤ length s.bookings + 1
         → length (pass grid [] [] xs).bookings ≤ length s.bookings + 1
@@ -99,7 +101,7 @@ keeps_more grid bookings number c place ladders keeps fits flight leg = cases (c
         held_push bookings b flight leg c.class ∙ ap (λ x. held bookings flight leg c.class + x) (here e),
         λ k ne. omega (arith, held_push bookings b flight leg k, other k e ne),
       )
-      (ladders flight leg) (omega (arith, fits, room_le grid bookings place c.class flight leg e)) (keeps flight leg)
+      (ladders flight leg) (omega (arith, fits, room_le grid bookings place c.class flight leg e, room_free_on (ladder_at grid flight leg) (held bookings flight leg) c.class)) (keeps flight leg)
   cases false e =
       within_less (ladder_at grid flight leg) new (held bookings flight leg) (λ k. omega (arith, held_push bookings b flight leg k, away k e)) (keeps flight leg)
 
@@ -162,18 +164,21 @@ keeps_confirm grid done b bs ladders keeps may flight leg = cases (covers flight
         omega (arith, held_at done b bs flight leg b.class, held_at done (confirmed b) bs flight leg b.class, gone b.class, here e),
         λ k ne. omega (arith, held_at done b bs flight leg k, held_at done (confirmed b) bs flight leg k, gone k, other k e ne),
       )
-      (ladders flight leg) (omega (arith, fits, room_le grid (done ++ b ∷ bs) b.place b.class flight leg e)) (keeps flight leg)
+      (ladders flight leg) (omega (arith, fits, room_le grid (done ++ b ∷ bs) b.place b.class flight leg e, room_free_on (ladder_at grid flight leg) (held (done ++ b ∷ bs) flight leg) b.class)) (keeps flight leg)
   cases false e =
       within_less (ladder_at grid flight leg) new old
       (λ k. omega (arith, held_at done b bs flight leg k, held_at done (confirmed b) bs flight leg k, gone k, away k e)) (keeps flight leg)
 
--- a change leaves the legs that there are, and their classes
+-- what is set leaves the legs that there are, and their classes
 pub legs_answer : (s : State) (number : ℕ) (w : Work) → HasSameLegs s.grid (answer s number w).state.grid
 legs_answer s number w =
     each_grid (HasSameLegs s.grid) s number w (λ flight. refl) (λ c is may flight. length_legs s.grid c.flight c.leg c.class c.limit c.wait flight)
+    (λ c is may flight. length_legs_sale s.grid c.flight c.leg c.class c.closed flight)
 
 pub ladders_answer : (s : State) (number : ℕ) (w : Work) → HasLadders s.grid → HasLadders (answer s number w).state.grid
-ladders_answer s number w h = each_grid HasLadders s number w h (λ c is may. has_ladders_with s.grid c.flight c.leg c.class c.limit c.wait h)
+ladders_answer s number w h =
+    each_grid HasLadders s number w h (λ c is may. has_ladders_with s.grid c.flight c.leg c.class c.limit c.wait h)
+    (λ c is may. has_ladders_sale s.grid c.flight c.leg c.class c.closed h)
 
 -- a limit that is changed is not below what is held
 keeps_changed : (s : State) (c : Change) → may_change s c ≡ true → KeepsLimits s.grid s.bookings
@@ -190,6 +195,7 @@ keeps_answer s number w ladders keeps =
     (λ c place at none. after_pass s.grid ladders (s.bookings ++ booking_of number c place Waiting ∷ []) (waits c place))
     (λ c place b at found le. after_pass s.grid ladders (reduced (is_for c.locator place c.class) c.seats s.bookings) (less (is_for c.locator place c.class) c.seats))
     (λ c may. after_pass (changed_by s.grid c) (has_ladders_with s.grid c.flight c.leg c.class c.limit c.wait ladders) s.bookings (keeps_changed s c may keeps))
+    (λ c may. after_pass (sales_by s.grid c) (has_ladders_sale s.grid c.flight c.leg c.class c.closed ladders) s.bookings (within_sale_set s.grid (held s.bookings) c.flight c.leg c.class c.closed keeps))
     w
   where
     waits : (c : Command) (place : Place) → KeepsLimits s.grid (s.bookings ++ booking_of number c place Waiting ∷ [])
