@@ -5,7 +5,7 @@ use Rattle.seat_nesting.specs.Nesting.{Ladders}
 use Rattle.seat_nesting.specs.Counting.{Counted, limits_of, table_of}
 use Rattle.seat_journal.specs.declared.entry.Entry.{Entry}
 use Rattle.seat_journal.specs.declared.entry.Work.{Work}
-use Rattle.seat_journal.specs.declared.entry.Work.TheVariants.{Seats, Limit}
+use Rattle.seat_journal.specs.declared.entry.Work.TheVariants.{Seats, Limit, Sale}
 use Rattle.seat_rules.specs.declared.booking.Booking.{Booking}
 use Rattle.seat_bookings.specs.declared.books.FlightBook.{FlightBook}
 use Rattle.seat_rules.specs.declared.effect.Effect.{Effect}
@@ -42,6 +42,7 @@ book_for books (Some place) = book_at books place.flight
 abbrev pub book_of : List FlightBook → Work → List Booking
 book_of books (Seats c) = book_for books c.place
 book_of books (Limit c) = book_at books c.flight
+book_of books (Sale c) = book_at books c.flight
 
 abbrev pub spare_of : FlightBook → Spare
 spare_of book = record { booking = book.bookings.spare; waiting = book.queue.spare }

@@ -1,7 +1,7 @@
 //! The live bookings, flight by flight.
-ghost use Rattle.std.specs.Prelude.{◌≡◌, ◌<◌, ◌+◌, [], position, true, IfNone, IfSome, OnOk, slice_get, vec_len};
-ghost use Rattle.seat_journal.specs.declared.entry.Work.TheVariants.{Seats, Limit};
-ghost use Rattle.seat_rules.specs.Flights.{place_of};
+ghost use Rattle.std.specs.Prelude.{◌≡◌, ◌<◌, ◌+◌, [], position, true, None, Some, IfNone, IfSome, OnOk, slice_get, vec_len};
+ghost use Rattle.seat_journal.specs.declared.entry.Work.TheVariants.{Seats};
+ghost use Rattle.seat_rules.specs.Flights.{flight_of, place_of};
 ghost use Rattle.seat_rules.specs.Applying.{effect_of, suffices};
 ghost use Rattle.seat_rules.specs.Bookings.{is_for};
 ghost use Rattle.seat_bookings.specs.Books.{book_at, has_spare, has_spare_in, queue_at, spare_of, IsEntered, IsQueued, LeavesLive, SameBooks};
@@ -10,7 +10,7 @@ use crate::applying::{apply, confirm_all};
 use crate::live_bookings::LiveBookings;
 use crate::waiting_list::WaitingList;
 use airline_base::{Memory, Place};
-use seat_journal::{Change, Command, Entry, Work};
+use seat_journal::{Command, Entry, Work};
 use seat_rules::{Booking, Effect};
 use std::alloc::Global;
 
@@ -103,6 +103,7 @@ fn reserve_effect(
 }
 
 /// Applies an entry to the book of its flight, which has room for what its reply does there.
+#[tactic(auto, using(crate::proofs::Kept::Entering::limit_on, crate::proofs::Kept::Entering::limit_nowhere, crate::proofs::Kept::Entering::sale_on, crate::proofs::Kept::Entering::sale_nowhere))]
 pub fn enter(books: &mut Vec<FlightBook>, entry: &Entry)
     requires spare { has_spare books.old.items (place_of entry.now.work) (effect_of entry.now.reply) ≡ true }
     requires queued { IsQueued books.old.items }
@@ -112,7 +113,8 @@ pub fn enter(books: &mut Vec<FlightBook>, entry: &Entry)
 {
     match entry.work {
         Work::Seats(command) => enter_command(books, entry, &command),
-        Work::Limit(change) => enter_change(books, entry, change),
+        Work::Limit(change) => enter_setting(books, entry, change.flight),
+        Work::Sale(change) => enter_setting(books, entry, change.flight),
     }
 }
 
@@ -132,15 +134,16 @@ fn enter_command(books: &mut Vec<FlightBook>, entry: &Entry, command: &Command)
     apply(&mut book.bookings, &mut book.queue, entry, command);
 }
 
-// Does what the entry of a change tells: its advices alone, where the flight has a book.
-fn enter_change(books: &mut Vec<FlightBook>, entry: &Entry, change: Change)
-    requires change { entry.now.work ≡ Limit change }
+// Does what the entry of a line tells that sets something on a flight: its advices alone, where the flight has a book.
+fn enter_setting(books: &mut Vec<FlightBook>, entry: &Entry, flight: u32)
+    requires flight { flight_of entry.now.work ≡ Some flight }
+    requires nowhere { place_of entry.now.work ≡ None }
     requires queued { IsQueued books.old.items }
     requires live { LeavesLive books.old.items entry.now }
     ensures entered { IsEntered books.old.items books.new.items entry.now }
     ensures queued { IsQueued books.new.items }
 {
-    let flight = change.flight as usize;
+    let flight = flight as usize;
     if flight >= books.len() {
         return;
     }

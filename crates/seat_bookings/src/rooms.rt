@@ -43,6 +43,9 @@ pub fn may_wait_on_leg(
 {
     for step in steps {
         if step.class == class {
+            if step.closed {
+                return false;
+            }
             let wait = step.wait;
             return fits_waiting(demands, flight, leg, class, seats, wait);
         }

@@ -3,3 +3,4 @@ pub mod Undone
 pub mod Changed
 pub mod Skipped
 pub mod Lowered
+pub mod Sales

@@ -9,7 +9,7 @@ use Rattle.seat_core.specs.declared.reply.Answer.{Answer}
 use Rattle.seat_journal.specs.declared.entry.Advice.{Advice}
 use Rattle.seat_journal.specs.declared.entry.Command.{Command}
 use Rattle.seat_journal.specs.declared.entry.Work.{Work}
-use Rattle.seat_journal.specs.declared.entry.Work.TheVariants.{Seats, Limit}
+use Rattle.seat_journal.specs.declared.entry.Work.TheVariants.{Seats, Limit, Sale}
 use Rattle.seat_rules.specs.Bookings.{held}
 use Rattle.seat_bookings.specs.Books.{book_at, queue_at}
 use Rattle.seat_bookings.specs.Queues.{queue_of}
@@ -35,6 +35,7 @@ pub record CanAnswer (counts : Counted) (books : List FlightBook) (c : Command) 
 abbrev pub CanAnswerWork : Counted → List FlightBook → Work → Type 0
 CanAnswerWork counts books (Seats c) = CanAnswer counts books c
 CanAnswerWork counts books (Limit c) = CountsFlight counts books c.flight
+CanAnswerWork counts books (Sale c) = CountsFlight counts books c.flight
 
 -- this reply alone
 pub record IsReply (code : List ℕ) (answer : Answer) : Type 0 where

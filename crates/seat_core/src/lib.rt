@@ -7,6 +7,7 @@ mod inventory;
 mod pass;
 mod replaying;
 mod reply;
+mod sales;
 
 pub use inventory::{Core, Prepared, place_of};
 pub use replaying::{are_same_advices, replay};

@@ -109,7 +109,7 @@ fn confirm_next(
 }
 
 /// Takes the seats of one booking, where it waits and fits, and tells of it.
-#[tactic(auto, using(crate::proofs::Passes::Undone::taken_one, crate::proofs::Passes::Undone::told_fits, crate::proofs::Passes::Undone::told_over, crate::proofs::Passes::Undone::told_held))]
+#[tactic(auto, using(crate::proofs::Passes::Undone::taken_one, crate::proofs::Passes::Undone::told_fits, crate::proofs::Passes::Undone::told_over, crate::proofs::Passes::Undone::told_held, seat_nesting::proofs::Rooms::fits_free))]
 fn consider(counts: &mut Counts, booking: &Booking, advices: &mut Vec<Advice>) -> Result<(), Memory>
     ensures limits { limits_of counts.new ≡ limits_of counts.old }
     ensures advices { OnOk result (advices.new.items ≡ advices.old.items

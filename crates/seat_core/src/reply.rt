@@ -14,6 +14,7 @@ ghost use Rattle.seat_core.specs.Answers.{CanAnswerWork, CountsFlight, IsReply, 
 
 use crate::changes::answer_change;
 use crate::pass::{advices_after, advices_of_rest};
+use crate::sales::answer_sale;
 use airline_base::{Code, Memory, Place};
 use seat_bookings::{FlightBook, book_at, find_in, is_listed_at, may_wait_at, queue_at};
 use seat_journal::{Advice, Advices, Command, Entry, Work};
@@ -46,6 +47,7 @@ pub fn answer_work(
     match work {
         Work::Seats(command) => answer_command(alloc, counts, books, number, command),
         Work::Limit(change) => answer_change(alloc, counts, books, change),
+        Work::Sale(change) => answer_sale(alloc, counts, books, change),
     }
 }
 

@@ -9,7 +9,7 @@ use Rattle.seat_nesting.specs.Counting.{Counted, limits_of, table_of}
 use Rattle.seat_rules.specs.declared.effect.Effect.{Effect}
 use Rattle.seat_journal.specs.declared.entry.Command.{Command}
 use Rattle.seat_journal.specs.declared.entry.Work.{Work}
-use Rattle.seat_journal.specs.declared.entry.Work.TheVariants.{Seats, Limit}
+use Rattle.seat_journal.specs.declared.entry.Work.TheVariants.{Seats, Limit, Sale}
 use Rattle.seat_journal.specs.declared.entry.Entry.{Entry}
 use Rattle.seat_rules.specs.declared.action.Action.{Action}
 use Rattle.seat_rules.specs.declared.action.Action.TheVariants.{Want, Cancel, Other}
@@ -105,6 +105,10 @@ same_answer opening cap journal books calls counts n (Limit c) k =
     let now : Ladders = limits_of counts in
     let P : List Booking → Type 0 = λ l. SameAnswer (answer (state_of now l) n (Limit c)) (answer (state_of now (replay opening journal).bookings) n (Limit c)) in
     subst P (sym (k.by_flight c.flight)) (same_on now c.flight (replay opening journal).bookings n (Limit c) (itself_on c.flight) k.lawful.quiet)
+same_answer opening cap journal books calls counts n (Sale c) k =
+    let now : Ladders = limits_of counts in
+    let P : List Booking → Type 0 = λ l. SameAnswer (answer (state_of now l) n (Sale c)) (answer (state_of now (replay opening journal).bookings) n (Sale c)) in
+    subst P (sym (k.by_flight c.flight)) (same_on now c.flight (replay opening journal).bookings n (Sale c) (itself_on c.flight) k.lawful.quiet)
 
 pub few_in_book : (opening : Ladders) (cap : ℕ) (journal : List Entry) (books : List FlightBook) (calls : List ℕ)
     (counts : Counted) (f : ℕ) → IsOfReplay opening cap journal books calls counts → length (book_at books f) ≤ 999999
@@ -207,6 +211,7 @@ shown_next opening cap journal books calls counts e k legal =
 pub session_most : (session : ℕ) (w : Work) → MayAsk session w → session ≤ 8
 session_most session (Seats c) may = may.1
 session_most session (Limit c) may = omega (arith, may)
+session_most session (Sale c) may = omega (arith, may)
 
 -- a line that is added keeps the books
 pub kept_next : (opening : Ladders) (cap : ℕ) (journal : List Entry) (books books' : List FlightBook) (calls : List ℕ)

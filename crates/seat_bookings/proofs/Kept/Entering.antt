@@ -1,22 +1,44 @@
--- The line of a change, in the books.
-use Rattle.std.proofs.Common.{◌≡◌, ◌==◌, ℕ, zero, suc, ◌<◌, ◌≤◌, Bool, true, false, List, [], ◌∷◌, length, get_or, slice_get, slice_set, Some, if◌then◌else◌, arith, refl, ap, sym, subst, ◌∙◌}
+-- A line that sets something on a flight, in the books.
+use Rattle.std.proofs.Common.{◌≡◌, ◌==◌, ℕ, zero, suc, ◌<◌, ◌≤◌, Bool, true, false, List, [], ◌∷◌, length, get_or, slice_get, slice_set, Option, None, Some, if◌then◌else◌, arith, refl, ap, sym, subst, ◌∙◌}
 use Rattle.seat_bookings.proofs.Common.{Booking, FlightBook, Advice, confirmed_each, book_at, queue_of}
 use Rattle.std.proofs.lemmas.Bool.Decides.{nat_tests}
+use Rattle.airline_base.specs.declared.place.Place.{Place}
 use Rattle.seat_journal.specs.declared.entry.Change.{Change}
+use Rattle.seat_journal.specs.declared.entry.Command.{Command}
+use Rattle.seat_journal.specs.declared.entry.SaleChange.{SaleChange}
 use Rattle.seat_journal.specs.declared.entry.Entry.{Entry}
 use Rattle.seat_journal.specs.declared.entry.Work.{Work}
-use Rattle.seat_journal.specs.declared.entry.Work.TheVariants.{Limit}
-use Rattle.seat_rules.specs.Applying.{applied, replied}
+use Rattle.seat_journal.specs.declared.entry.Work.TheVariants.{Seats, Limit, Sale}
+use Rattle.seat_rules.specs.Applying.{applied, changed, effect_of, replied}
 use Rattle.seat_bookings.specs.Books.{bookings_in, queue_in, queue_at, IsEntered, IsQueued}
-use Rattle.seat_rules.specs.Flights.{is_on}
+use Rattle.seat_rules.specs.Flights.{flight_of, is_flight, is_on, place_of}
+
+-- the flight on which a line sets something, which has no place
+pub limit_on : (w : Work) (c : Change) → w ≡ Limit c → flight_of w ≡ Some c.flight
+limit_on w c is = ap flight_of is
+
+pub limit_nowhere : (w : Work) (c : Change) → w ≡ Limit c → place_of w ≡ None
+limit_nowhere w c is = ap place_of is
+
+pub sale_on : (w : Work) (c : SaleChange) → w ≡ Sale c → flight_of w ≡ Some c.flight
+sale_on w c is = ap flight_of is
+
+pub sale_nowhere : (w : Work) (c : SaleChange) → w ≡ Sale c → place_of w ≡ None
+sale_nowhere w c is = ap place_of is
 
 -- advices confirm nothing where there is no booking
 confirmed_none : (advices : List Advice) → confirmed_each [] advices ≡ []
 confirmed_none [] = refl
 confirmed_none (a ∷ advices) = confirmed_none advices
 
-applied_none : (e : Entry) (c : Change) → e.work ≡ Limit c → applied [] e ≡ []
-applied_none e c is = ap (λ (w : Work). confirmed_each (replied [] e.number w e.reply) e.advices) is ∙ confirmed_none e.advices
+-- a line without a place makes no booking
+replied_nowhere : (bs : List Booking) (n : ℕ) (w : Work) (reply : List ℕ) → place_of w ≡ None → replied bs n w reply ≡ bs
+replied_nowhere bs n (Seats c) reply at = ap (λ (o : Option Place). changed bs n c o (effect_of reply)) at
+replied_nowhere bs n (Limit c) reply at = refl
+replied_nowhere bs n (Sale c) reply at = refl
+
+applied_none : (e : Entry) → place_of e.work ≡ None → applied [] e ≡ []
+applied_none e nowhere = ap (λ (l : List Booking). confirmed_each l e.advices) (replied_nowhere [] e.number e.work e.reply nowhere) ∙ confirmed_none e.advices
 
 beyond : (books : List FlightBook) (f : ℕ) → length books ≤ f → book_at books f ≡ []
 beyond [] f le = refl
@@ -24,18 +46,18 @@ beyond (b ∷ books) zero le = absurd (omega arith)
 beyond (b ∷ books) (suc f) le = beyond books f (omega arith)
 
 -- a flight without a book needs none
-pub entered_nowhere : (books : List FlightBook) (e : Entry) (c : Change) → e.work ≡ Limit c → length books ≤ c.flight
-    → IsEntered books books e
-entered_nowhere books e c is le = record { each = λ f. cases f (c.flight == f) refl } where
-  cases : (f : ℕ) (t : Bool) → (c.flight == f) ≡ t
+pub entered_nowhere : (books : List FlightBook) (e : Entry) (flight : ℕ) → flight_of e.work ≡ Some flight → place_of e.work ≡ None
+    → length books ≤ flight → IsEntered books books e
+entered_nowhere books e flight is nowhere le = record { each = λ f. cases f (flight == f) refl } where
+  cases : (f : ℕ) (t : Bool) → (flight == f) ≡ t
       → book_at books f ≡ (if is_on f e.work then applied (book_at books f) e else book_at books f)
   cases f true at =
-      let on : is_on f e.work ≡ true = ap (is_on f) is ∙ at in
-      let same : c.flight ≡ f = grind (arith, nat_tests) in
-      let none : book_at books f ≡ [] = ap (book_at books) (sym same) ∙ beyond books c.flight le in
-      rw on (none ∙ sym (ap (λ (l : List Booking). applied l e) none ∙ applied_none e c is))
+      let on : is_on f e.work ≡ true = ap (is_flight f) is ∙ at in
+      let same : flight ≡ f = grind (arith, nat_tests) in
+      let none : book_at books f ≡ [] = ap (book_at books) (sym same) ∙ beyond books flight le in
+      rw on (none ∙ sym (ap (λ (l : List Booking). applied l e) none ∙ applied_none e nowhere))
   cases f false at =
-      let off : is_on f e.work ≡ false = ap (is_on f) is ∙ at in
+      let off : is_on f e.work ≡ false = ap (is_flight f) is ∙ at in
       rw off refl
 
 -- ---- another book in a flight's place
@@ -60,33 +82,33 @@ get_is [] f b lt is = absurd (omega arith)
 get_is (x ∷ books) zero b lt is = ap (λ (y : FlightBook). Some y) (sym is)
 get_is (x ∷ books) (suc f) b lt is = get_is books f b (omega arith) is
 
--- the advices of a change, in the book of its flight
-pub entered_at : (books : List FlightBook) (book new : FlightBook) (e : Entry) (c : Change) → e.work ≡ Limit c
-    → c.flight < length books → book ≡ get_or books c.flight book
+-- its advices, in the book of its flight
+pub entered_at : (books : List FlightBook) (book new : FlightBook) (e : Entry) (flight : ℕ) → flight_of e.work ≡ Some flight
+    → place_of e.work ≡ None → flight < length books → book ≡ get_or books flight book
     → new.bookings.items ≡ confirmed_each book.bookings.items e.advices
-    → IsEntered books (slice_set books c.flight new) e
-entered_at books book new e c is lt at confirms = record { each = λ f. cases f (c.flight == f) refl } where
-  before : book_at books c.flight ≡ book.bookings.items
-  before = ap bookings_in (get_is books c.flight book lt at)
+    → IsEntered books (slice_set books flight new) e
+entered_at books book new e flight is nowhere lt at confirms = record { each = λ f. cases f (flight == f) refl } where
+  before : book_at books flight ≡ book.bookings.items
+  before = ap bookings_in (get_is books flight book lt at)
 
-  here : book_at (slice_set books c.flight new) c.flight ≡ applied (book_at books c.flight) e
+  here : book_at (slice_set books flight new) flight ≡ applied (book_at books flight) e
   here =
-      ap bookings_in (set_here books c.flight new lt)
+      ap bookings_in (set_here books flight new lt)
       ∙ (confirms
-      ∙ (sym (ap (λ (w : Work). confirmed_each (replied book.bookings.items e.number w e.reply) e.advices) is)
+      ∙ (sym (ap (λ (l : List Booking). confirmed_each l e.advices) (replied_nowhere book.bookings.items e.number e.work e.reply nowhere))
       ∙ ap (λ (l : List Booking). applied l e) (sym before)))
 
-  cases : (f : ℕ) (t : Bool) → (c.flight == f) ≡ t
-      → book_at (slice_set books c.flight new) f
+  cases : (f : ℕ) (t : Bool) → (flight == f) ≡ t
+      → book_at (slice_set books flight new) f
       ≡ (if is_on f e.work then applied (book_at books f) e else book_at books f)
   cases f true e_at =
-      let on : is_on f e.work ≡ true = ap (is_on f) is ∙ e_at in
-      let same : c.flight ≡ f = grind (arith, nat_tests) in
-      let P : ℕ → Type 0 = λ x. book_at (slice_set books c.flight new) x ≡ applied (book_at books x) e in
+      let on : is_on f e.work ≡ true = ap (is_flight f) is ∙ e_at in
+      let same : flight ≡ f = grind (arith, nat_tests) in
+      let P : ℕ → Type 0 = λ x. book_at (slice_set books flight new) x ≡ applied (book_at books x) e in
       rw on (subst P same here)
   cases f false e_at =
-      let off : is_on f e.work ≡ false = ap (is_on f) is ∙ e_at in
-      rw off (ap bookings_in (set_other books c.flight f new e_at))
+      let off : is_on f e.work ≡ false = ap (is_flight f) is ∙ e_at in
+      rw off (ap bookings_in (set_other books flight f new e_at))
 
 -- its waiting list
 pub queue_here : (books : List FlightBook) (f : ℕ) (book : FlightBook) → IsQueued books → f < length books

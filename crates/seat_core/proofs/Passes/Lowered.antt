@@ -14,16 +14,17 @@ use Rattle.seat_rules.specs.Bookings.{is_waiting}
 use Rattle.seat_rules.specs.Sequential.{advice_of, changed_by}
 use Rattle.seat_rules.specs.Tables.{advices_by, with_advice}
 
--- the room of a rank is that below it too
+-- the room of a rank is that below it too, and none where its class is closed
 abbrev room_with : Step → ℕ → Steps → ByClass → ℕ → ℕ
-room_with s here lower seats k = (if s.class == k then here else min here (room_on lower seats k))
+room_with s here lower seats k = (if s.class == k then (if s.closed then 0 else here) else min here (room_on lower seats k))
 
 less_with : (s : Step) (m n : ℕ) (xs ys : Steps) (seats : ByClass) (k : ℕ) → m ≤ n
     → room_on xs seats k ≤ room_on ys seats k → room_with s m xs seats k ≤ room_with s n ys seats k
-less_with s m n xs ys seats k le below = of (s.class == k) where
-  of : (b : Bool) → cond b m (min m (room_on xs seats k)) ≤ cond b n (min n (room_on ys seats k))
-  of true = le
-  of false = omega (arith, le, below)
+less_with s m n xs ys seats k le below = of (s.class == k) s.closed where
+  of : (b c : Bool) → cond b (cond c 0 m) (min m (room_on xs seats k)) ≤ cond b (cond c 0 n) (min n (room_on ys seats k))
+  of true true = omega arith
+  of true false = le
+  of false c = omega (arith, le, below)
 
 -- on one leg
 lowered_on : (steps : Steps) (seats : ByClass) (class limit wait : ℕ) (before : Step) (k : ℕ)
@@ -49,7 +50,7 @@ lowered_on (s ∷ lower) seats class limit wait before k is le =
         less_with s (s.limit - held_from seats (s ∷ with_limit lower class limit wait)) (s.limit - held_from seats (s ∷ lower)) (with_limit lower class limit wait) lower seats k
         (omega (arith, held_cons seats s (with_limit lower class limit wait), held_cons seats s lower, held_with seats lower class limit wait)) (below is)
 
-least_most : (f g : ℕ → ℕ) (from n : ℕ) → ((x : ℕ) → f x ≤ g x) → least f from n ≤ least g from n
+pub least_most : (f g : ℕ → ℕ) (from n : ℕ) → ((x : ℕ) → f x ≤ g x) → least f from n ≤ least g from n
 least_most f g from zero h = h from
 least_most f g from (suc n) h = omega (arith, least_most f g from n h, h (from + suc n))
 
@@ -91,7 +92,7 @@ not_over : (waits : Bool) (n less more : ℕ) → less ≤ more → (waits && na
 not_over false n less more le e = refl
 not_over true n less more le e = grind (arith, nat_tests)
 
-none_fits : (grid new : Ladders) (t : Table) (queue : List Booking)
+pub none_fits : (grid new : Ladders) (t : Table) (queue : List Booking)
     → ((p : Place) (k : ℕ) → room new t p k ≤ room grid t p k) → advices_by grid t queue ≡ []
     → advices_by new t queue ≡ []
 none_fits grid new t [] less none = refl

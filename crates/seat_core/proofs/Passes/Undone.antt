@@ -4,7 +4,7 @@ use Rattle.std.proofs.lemmas.Bool.Decides.{nat_tests}
 use Rattle.std.proofs.lemmas.List.Sums.{sum_by-cons}
 use Rattle.airline_base.specs.declared.place.Place.{Place}
 use Rattle.seat_nesting.specs.declared.ladder.Step.{Step}
-use Rattle.seat_nesting.specs.Nesting.{Steps, Ladders, Table, IsWithin, IsDistinct, held_from, has_class, ladder_at, steps_at, each_leg, least, room, room_on, covers, seats_at}
+use Rattle.seat_nesting.specs.Nesting.{Steps, Ladders, Table, IsWithin, IsDistinct, held_from, has_class, ladder_at, steps_at, each_leg, free, free_on, least, room, covers, seats_at}
 use Rattle.seat_nesting.specs.Counting.{Counted, LegSeats, IsWithinLimits, leg_at, leg_in, limits_of, table_of, holds, leg_holds, Takes}
 use Rattle.seat_nesting.proofs.CountChanges.{fits_each, fits_forwards, held_each, held_forwards, each_leg_at}
 use Rattle.seat_rules.specs.declared.booking.Booking.{Booking}
@@ -18,8 +18,8 @@ use Rattle.seat_rules.proofs.Counters.Changes.{same_table, taken}
 use Rattle.seat_rules.proofs.Counters.Shown.{give_none, each_true, covers_at}
 use Rattle.seat_rules.proofs.Passes.ByTable.{if_zero}
 use Rattle.seat_nesting.proofs.LimitChanges.{ladder_seen}
-use Rattle.seat_nesting.proofs.LegCounting.{room_lacking}
-use Rattle.seat_nesting.proofs.Rooms.{held_cons, drop_first}
+use Rattle.seat_nesting.proofs.LegCounting.{free_lacking}
+use Rattle.seat_nesting.proofs.Rooms.{held_cons, drop_first, fits_free}
 use Rattle.airline_base.proofs.Tests.{both_true}
 
 -- ---- seats that were given back fit again
@@ -43,15 +43,15 @@ held_there (s ∷ xs) new old class n h d e = cases (s.class == class) refl (hel
       let other : s.class ≢ class = grind (arith, nat_tests) in
       omega (arith, held_cons new s xs, held_cons old s xs, h.1 s.class other, below (further s xs class g e))
 
-room_again : (xs : Steps) (new old : ℕ → ℕ) (class n : ℕ) → IsMore new old class n → IsDistinct xs
-    → has_class xs class ≡ true → IsWithin xs new → n ≤ room_on xs old class
-room_again [] new old class n h d e w = absurd cc
-room_again (s ∷ xs) new old class n h d e w = cases (s.class == class) refl (λ (e' : has_class xs class ≡ true). room_again xs new old class n h d.1 e' w.1) where
-  cases : (b : Bool) → (s.class == class) ≡ b → (has_class xs class ≡ true → n ≤ room_on xs old class)
-      → n ≤ room_on (s ∷ xs) old class
+free_again : (xs : Steps) (new old : ℕ → ℕ) (class n : ℕ) → IsMore new old class n → IsDistinct xs
+    → has_class xs class ≡ true → IsWithin xs new → n ≤ free_on xs old class
+free_again [] new old class n h d e w = absurd cc
+free_again (s ∷ xs) new old class n h d e w = cases (s.class == class) refl (λ (e' : has_class xs class ≡ true). free_again xs new old class n h d.1 e' w.1) where
+  cases : (b : Bool) → (s.class == class) ≡ b → (has_class xs class ≡ true → n ≤ free_on xs old class)
+      → n ≤ free_on (s ∷ xs) old class
   cases true g _ = rw g (omega (arith, held_there (s ∷ xs) new old class n h d e, w.0))
   cases false g below =
-      let rest : n ≤ room_on xs old class = below (further s xs class g e) in
+      let rest : n ≤ free_on xs old class = below (further s xs class g e) in
       rw g (omega (arith, held_there (s ∷ xs) new old class n h d e, w.0, rest))
 
 least_ge : (f : ℕ → ℕ) (from k n : ℕ) → ((leg : ℕ) → from ≤ leg → leg ≤ from + k → n ≤ f leg) → n ≤ least f from k
@@ -90,23 +90,23 @@ is_more t p class n leg on le = (here, others) where
 
 pub fits_again : (old : Counted) (p : Place) (class n : ℕ) → IsWithinLimits old
     → holds (limits_of old) (table_of old) p class n ≡ true
-    → n ≤ room (limits_of old) (given_back (limits_of old) (table_of old) p class n) p class
+    → n ≤ free (limits_of old) (given_back (limits_of old) (table_of old) p class n) p class
 fits_again old p class n within h =
     let order : p.from ≤ p.to = held_forwards (limits_of old) (table_of old) p class n h in
     let test : nat_le p.from p.to ≡ true = grind (arith, nat_tests) in
-    let all : n ≤ least (λ leg. room_on (ladder_at (limits_of old) p.flight leg) (less (table_of old) p class n p.flight leg) class) p.from (p.to - p.from) =
-    least_ge (λ leg. room_on (ladder_at (limits_of old) p.flight leg) (less (table_of old) p class n p.flight leg) class) p.from (p.to - p.from) n
+    let all : n ≤ least (λ leg. free_on (ladder_at (limits_of old) p.flight leg) (less (table_of old) p class n p.flight leg) class) p.from (p.to - p.from) =
+    least_ge (λ leg. free_on (ladder_at (limits_of old) p.flight leg) (less (table_of old) p class n p.flight leg) class) p.from (p.to - p.from) n
     (λ leg a b. on_leg leg a (omega (arith, order, b))) in
     rw (h, test) all
   where
     on_leg : (leg : ℕ) → p.from ≤ leg → leg ≤ p.to
-        → n ≤ room_on (ladder_at (limits_of old) p.flight leg) (less (table_of old) p class n p.flight leg) class
+        → n ≤ free_on (ladder_at (limits_of old) p.flight leg) (less (table_of old) p class n p.flight leg) class
     on_leg leg a b =
         let kept = within.leg_kept p.flight leg in
         let is = ladder_seen old p.flight leg in
         let there : has_class (leg_at old p.flight leg).steps class ≡ true = sym (ap (λ (s : Steps). has_class s class) is) ∙ class_there (limits_of old) (table_of old) p class n leg h a b in
         let enough : n ≤ table_of old p.flight leg class = held_each (limits_of old) (table_of old) p class n leg h a b in
-        rw is (room_again (leg_at old p.flight leg).steps (table_of old p.flight leg) (less (table_of old) p class n p.flight leg) class n
+        rw is (free_again (leg_at old p.flight leg).steps (table_of old p.flight leg) (less (table_of old) p class n p.flight leg) class n
         (is_more (table_of old) p class n leg (covers_at p leg a b) enough) kept.ladder.distinct there kept.within)
 
 -- and taken again they leave what was there
@@ -143,7 +143,7 @@ more t p class n = λ f l k. t f l k + seats_at p class n f l k
 holds_taken : (grid : Ladders) (t : Table) (p : Place) (class n : ℕ) → 0 < n → n ≤ room grid t p class
     → holds grid (more t p class n) p class n ≡ true
 holds_taken grid t p class n some fits =
-    let order : p.from ≤ p.to = fits_forwards grid t p class n fits some in
+    let order : p.from ≤ p.to = fits_forwards grid t p class n (fits_free grid t p class n fits) some in
     let test : nat_le p.from p.to ≡ true = grind (arith, nat_tests) in
     let all = each_true (λ leg. leg_holds (ladder_at grid p.flight leg) (more t p class n p.flight leg) class n) p.from (p.to - p.from)
     (λ leg a b. on_leg leg a (omega (arith, order, b)) (has_class (ladder_at grid p.flight leg) class) refl) in
@@ -159,7 +159,7 @@ holds_taken grid t p class n some fits =
         let le : n ≤ more t p class n p.flight leg class = omega (arith, whole) in
         let enough : nat_le n (more t p class n p.flight leg class) ≡ true = grind (arith, nat_tests) in
         rw (e, enough) refl
-    on_leg leg a b false e = absurd (omega (arith, some, fits_each grid t p class n leg fits a b, room_lacking (ladder_at grid p.flight leg) (t p.flight leg) class e))
+    on_leg leg a b false e = absurd (omega (arith, some, fits_each grid t p class n leg (fits_free grid t p class n fits) a b, free_lacking (ladder_at grid p.flight leg) (t p.flight leg) class e))
 
 given_taken : (grid : Ladders) (t : Table) (p : Place) (class n : ℕ) → n ≤ room grid t p class
     → given_back grid (more t p class n) p class n ≡ t

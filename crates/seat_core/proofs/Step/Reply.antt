@@ -15,7 +15,7 @@ use Rattle.seat_journal.specs.declared.entry.Advice.{Advice}
 use Rattle.seat_journal.specs.declared.entry.Change.{Change}
 use Rattle.seat_journal.specs.declared.entry.Command.{Command}
 use Rattle.seat_journal.specs.declared.entry.Work.{Work}
-use Rattle.seat_journal.specs.declared.entry.Work.TheVariants.{Seats, Limit}
+use Rattle.seat_journal.specs.declared.entry.Work.TheVariants.{Seats, Limit, Sale}
 use Rattle.seat_journal.specs.declared.entry.Entry.{Entry}
 use Rattle.seat_core.specs.Answers.{CanAnswerWork, CountsFlight, Says, rest_advised}
 use Rattle.seat_core.specs.declared.reply.Answer.{Answer}
@@ -354,6 +354,7 @@ asked_kept opening cap journal books calls counts (Seats c) k fits = record {
   some = fits.0;
 }
 asked_kept opening cap journal books calls counts (Limit c) k fits = flight_kept opening cap journal books calls counts c.flight k
+asked_kept opening cap journal books calls counts (Sale c) k fits = flight_kept opening cap journal books calls counts c.flight k
 
 -- ---- the line that is said
 

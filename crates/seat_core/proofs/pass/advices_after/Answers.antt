@@ -1,5 +1,5 @@
 use Rattle.std.proofs.Common.{◌≡◌, ◌+◌, true, arith, ap, sym, ◌∙◌}
-use Rattle.seat_nesting.specs.Nesting.{Ladders, Table, room, seats_at}
+use Rattle.seat_nesting.specs.Nesting.{Ladders, Table, free, seats_at}
 use Rattle.seat_nesting.specs.Counting.{limits_of, table_of, holds}
 use Rattle.seat_rules.proofs.Counters.Changes.{given}
 use Rattle.seat_core.proofs.Passes.Undone.{fits_again, given_and_taken}
@@ -10,8 +10,8 @@ take-requires c =
     let held : holds (limits_of c.args.counts.now) (table_of c.args.counts.now) c.args.place c.args.class c.args.seats ≡ true = sym c.holds.ensures ∙ c.if-not-holds.false in
     let limits = c.advices_of-told.ensures.limits ∙ c.give.ensures.limits in
     let seats = c.advices_of-told.ensures.seats ∙ given c.args.counts.now c.give.new.self c.args.place c.args.class c.args.seats c.give.ensures held in
-    let same = ap (λ (g : Ladders). room g (table_of c.advices_of-told.new.counts) c.args.place c.args.class) limits
-    ∙ ap (λ (t : Table). room (limits_of c.args.counts.now) t c.args.place c.args.class) seats in
+    let same = ap (λ (g : Ladders). free g (table_of c.advices_of-told.new.counts) c.args.place c.args.class) limits
+    ∙ ap (λ (t : Table). free (limits_of c.args.counts.now) t c.args.place c.args.class) seats in
     omega (arith, same, fits_again c.args.counts.now c.args.place c.args.class c.args.seats c.limits_are_kept.ensures held)
 
 pub returns-clause-seats : goal.returns-clause-seats
