@@ -6,7 +6,7 @@ use Rattle.std.proofs.lemmas.Bool.{cases_lt}
 use Rattle.logbook.specs.Pages.{Book}
 use Rattle.seat_nesting.specs.Nesting.{Ladders}
 use Rattle.seat_journal.specs.declared.entry.Work.{Work}
-use Rattle.seat_journal.specs.declared.entry.Work.TheVariants.{Seats, Limit}
+use Rattle.seat_journal.specs.declared.entry.Work.TheVariants.{Seats, Limit, Sale}
 use Rattle.seat_journal.specs.declared.entry.Entry.{Entry}
 use Rattle.seat_rules.specs.Prefixes.{Begins}
 use Rattle.seat_rules.specs.Journal.{IsLegal, IsNext, MayAsk}
@@ -31,6 +31,7 @@ only_eight grid journal legal = record { none = λ s more. each_legal grid (λ (
     at_most : (e : Entry) → (w : Work) → MayAsk e.session w → e.session ≤ 8
     at_most e (Seats c) may = may.1
     at_most e (Limit c) may = omega (arith, may)
+    at_most e (Sale c) may = omega (arith, may)
 
     step : (s : ℕ) → 8 < s → (past : List Entry) (e : Entry) → IsLegal grid past → IsNext grid past e
         → of_session s past ≡ [] → of_session s (past ++ e ∷ []) ≡ []

@@ -1,10 +1,10 @@
-//! The manager of the limits.
+//! The manager of the limits, and of what is open.
 ghost use Rattle.std.specs.Prelude.{◌≡◌, ◌+◌, ◌-◌, ◌<◌, ◌≤◌, length, Some, IfSome, IfNone, IfErr, OnOk, slice_get};
 ghost use Rattle.std.specs.Fn.{FnOnceReturnsAt};
 ghost use Rattle.seat_display.specs.Faces.{viewed};
 ghost use Rattle.seat_rules.specs.Prefixes.{Begins};
-ghost use Rattle.seat_rules.specs.Journal.{FitsChange, IsLegal};
-ghost use Rattle.seat_journal.specs.declared.entry.Work.TheVariants.{Limit};
+ghost use Rattle.seat_rules.specs.Journal.{FitsChange, FitsSale, IsLegal};
+ghost use Rattle.seat_journal.specs.declared.entry.Work.TheVariants.{Limit, Sale};
 ghost use Rattle.seat_host.specs.Refusing.{IsDue};
 ghost use Rattle.seat_host.specs.Sessions.{Booked, Waits};
 ghost use Rattle.seat_host.specs.declared.under_lock.BookFault.TheVariants.{JournalFull, Memory as NoMemory};
@@ -15,12 +15,12 @@ use crate::party::Party;
 use crate::receipt::Receipt;
 use crate::under_lock::Refusal;
 use seat_display::Sight;
-use seat_journal::Change;
+use seat_journal::{Change, SaleChange};
 use std::alloc::Global;
 use std::marker::Model;
 use std::sync::Wait;
 
-/// Session 0, which changes limits. It keeps its own lines as receipts, and looks without the lock.
+/// Session 0, which changes limits, and closes and opens classes. It keeps its own lines as receipts, and looks without the lock.
 #[derive(Drop)]
 pub struct Manager<K: Hosting> {
     pub party: Party<K>,
@@ -68,6 +68,24 @@ impl<K: Hosting> Manager<K> {
         ensures memory { IfErr result (λ r. r.fault ≡ NoMemory → self.new ≡ self.old) }
     {
         host.set_limit(rt, alloc, self, change)
+    }
+
+    /// Has the host close or open a class, or each, as `Host::set_sale` does. `last` shows the receipt.
+    pub fn set_sale<R: Wait>(
+        &mut self,
+        host: &Host<K>,
+        rt: &R,
+        alloc: Global,
+        change: SaleChange,
+    ) -> Result<(), Refusal>
+        requires { FitsSale K.grid change }
+        ensures booked { OnOk result (Booked K.grid (Sale change) self.old self.new) }
+        ensures waits { IfErr result (λ _. Waits self.old self.new) }
+        ensures full { IfErr result (λ r. r.fault ≡ JournalFull → K.cap ≤ length self.new.front) }
+        ensures due { IfErr result (IsDue K.grid K.book K.cap self.new.front) }
+        ensures memory { IfErr result (λ r. r.fault ≡ NoMemory → self.new ≡ self.old) }
+    {
+        host.set_sale(rt, alloc, self, change)
     }
 
     /// The receipt of its last call that gave a line.

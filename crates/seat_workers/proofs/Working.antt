@@ -4,14 +4,16 @@ use Rattle.std.specs.Prelude.{Result, Ok, Err, OnOk, All, map}
 use Rattle.core.specs.Result.{result_and}
 use Rattle.std.proofs.Math.Seq.{split_at}
 use Rattle.std.proofs.lemmas.List.{get_or-map, length-map, map_more, take-append-drop}
-use Rattle.seat_journal.specs.declared.entry.Change.{Change}
+use Rattle.seat_journal.specs.declared.entry.Control.{Control}
+use Rattle.seat_journal.specs.declared.entry.Control.TheVariants.{ToLimit, ToSale}
+use Rattle.seat_journal.specs.Controls.{set_by}
 use Rattle.seat_journal.specs.declared.entry.Command.{Command}
 use Rattle.seat_journal.specs.declared.entry.Work.{Work}
-use Rattle.seat_journal.specs.declared.entry.Work.TheVariants.{Seats, Limit}
+use Rattle.seat_journal.specs.declared.entry.Work.TheVariants.{Seats}
 use Rattle.seat_journal.specs.declared.entry.Entry.{Entry}
 use Rattle.logbook.specs.Pages.{Book}
 use Rattle.seat_nesting.specs.Nesting.{Ladders}
-use Rattle.seat_rules.specs.Journal.{FitsChange, FitsCommand}
+use Rattle.seat_rules.specs.Journal.{FitsCommand, FitsControl, MayAsk}
 use Rattle.seat_rules.proofs.History.Prefixes.{begins_trans, begins_itself}
 use Rattle.seat_host.specs.Refusing.{IsDue}
 use Rattle.seat_host.specs.Sessions.{Seat}
@@ -69,11 +71,15 @@ pub asks_seats : (grid : Ladders) (s : ℕ) (list : List Command) → 1 ≤ s �
 asks_seats grid s [] low high h = λ k d below. absurd (omega (arith, below))
 asks_seats grid s (c ∷ list) low high h = all_more (Asks grid s) (Seats c) (map Seats list) (record { may = (low, high); fits = all_first (λ command. FitsCommand grid command) (c ∷ list) c list refl h }) (asks_seats grid s list low high (all_later (λ command. FitsCommand grid command) (c ∷ list) c list refl h))
 
--- the manager may change limits
-pub asks_limits : (grid : Ladders) (s : ℕ) (list : List Change) → s ≡ 0 → All (λ change. FitsChange grid change) list
-    → All (Asks grid s) (map Limit list)
+-- the manager may set what is his to set
+set_may : (s : ℕ) (c : Control) → s ≡ 0 → MayAsk s (set_by c)
+set_may s (ToLimit c) zeroth = zeroth
+set_may s (ToSale c) zeroth = zeroth
+
+pub asks_limits : (grid : Ladders) (s : ℕ) (list : List Control) → s ≡ 0 → All (λ change. FitsControl grid change) list
+    → All (Asks grid s) (map set_by list)
 asks_limits grid s [] zeroth h = λ k d below. absurd (omega (arith, below))
-asks_limits grid s (c ∷ list) zeroth h = all_more (Asks grid s) (Limit c) (map Limit list) (record { may = zeroth; fits = all_first (λ change. FitsChange grid change) (c ∷ list) c list refl h }) (asks_limits grid s list zeroth (all_later (λ change. FitsChange grid change) (c ∷ list) c list refl h))
+asks_limits grid s (c ∷ list) zeroth h = all_more (Asks grid s) (set_by c) (map set_by list) (record { may = set_may s c zeroth; fits = all_first (λ change. FitsControl grid change) (c ∷ list) c list refl h }) (asks_limits grid s list zeroth (all_later (λ change. FitsControl grid change) (c ∷ list) c list refl h))
 
 -- who has run still may
 pub asks_later : (grid : Ladders) (booked list : List Work) (s t : Seat) → HasRun booked s t → All (Asks grid s.id) list

@@ -1,9 +1,9 @@
 //! What stands on a worker's list.
 ghost use Rattle.std.specs.Prelude.{◌≡◌};
 
-use seat_journal::{Change, Command, Work};
+use seat_journal::{Command, Control, Work};
 
-/// Asks for a line: a command of a session, or a change of the manager.
+/// Asks for a line: a command of a session, or what the manager sets.
 pub trait Asking: Copy {
     ghost use Rattle.seat_journal.specs.declared.entry.Work.{Work};
 
@@ -23,12 +23,12 @@ impl Asking for Command {
     }
 }
 
-impl Asking for Change {
-    ghost use Rattle.seat_journal.specs.declared.entry.Work.TheVariants.{Limit};
+impl Asking for Control {
+    ghost use Rattle.seat_journal.specs.Controls.{set_by};
 
-    ghost asks = { λ change. Limit change };
+    ghost asks = { λ control. set_by control };
 
     fn work(self) -> Work {
-        Work::Limit(self)
+        Control::work(&self)
     }
 }

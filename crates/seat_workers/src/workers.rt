@@ -1,8 +1,9 @@
 //! Workers: one for the manager and one for each session, each with a list of its own.
 ghost use Rattle.std.specs.Prelude.{◌≡◌, ◌+◌, ◌<◌, ◌≤◌, [], ◌∷◌, All, length, map, IfErr, OnOk};
 ghost use Rattle.std.specs.Thread.{IsSync, IsSend};
-ghost use Rattle.seat_rules.specs.Journal.{FitsChange, FitsCommand};
-ghost use Rattle.seat_journal.specs.declared.entry.Work.TheVariants.{Limit, Seats};
+ghost use Rattle.seat_rules.specs.Journal.{FitsCommand, FitsControl};
+ghost use Rattle.seat_journal.specs.Controls.{set_by};
+ghost use Rattle.seat_journal.specs.declared.entry.Work.TheVariants.{Seats};
 ghost use Rattle.seat_host.specs.declared.under_lock.BookFault.TheVariants.{JournalFull};
 ghost use Rattle.seat_host.specs.Refusing.{IsDue};
 ghost use Rattle.seat_workers.specs.Working.{Asks, HasRun, IsRefused, AllHaveRun, AllHaveBegun, NamesFirst};
@@ -12,7 +13,7 @@ use crate::asking::Asking;
 use crate::gate::Gate;
 use crate::turns::{Turn, Turns};
 use seat_host::{Host, Hosting, Manager, Party, Refusal, Session};
-use seat_journal::{Change, Command, CommandList, Work};
+use seat_journal::{Command, CommandList, Control, Work};
 use std::alloc::Global;
 use std::sync::Wait;
 use std::thread::{Threads, join_mut};
@@ -35,12 +36,12 @@ pub fn run_sessions<K: Hosting + Send + Sync, R: Threads + Wait + Sync, G: Gate>
     alloc: Global,
     host: &Host<K>,
     manager: &mut Manager<K>,
-    changes: &[Change],
+    changes: &[Control],
     sessions: &mut [Session<K>],
     lists: &[CommandList],
     gate: &G,
 ) -> Result<(), RunFault>
-    requires changes { All (λ change. FitsChange K.grid change) changes.now }
+    requires changes { All (λ change. FitsControl K.grid change) changes.now }
     requires lists { length lists.now ≡ length sessions.old }
     requires commands { All (λ list. All (λ command. FitsCommand K.grid command) list) lists.now }
     ensures ok { OnOk result (AllHaveRun (works_of changes.now lists.now) (manager.old ∷ sessions.old)
@@ -75,13 +76,13 @@ struct Workplace<'a, K: Hosting, R, G> {
 #[tactic(auto, using(crate::proofs::Working::asks_limits, crate::proofs::Working::begun_run, crate::proofs::Working::begun_refused, crate::proofs::Working::all_begun, crate::proofs::Working::run_both))]
 fn with_manager<K: Hosting + Send + Sync, R: Threads + Wait + Sync, G: Gate>(
     place: &Workplace<'_, K, R, G>,
-    changes: &[Change],
+    changes: &[Control],
     party: &mut Party<K>,
     lists: &[CommandList],
     sessions: &mut [Session<K>],
 ) -> Result<(), RunFault>
     requires manager { party.old.id ≡ 0 }
-    requires changes { All (λ change. FitsChange K.grid change) changes.now }
+    requires changes { All (λ change. FitsControl K.grid change) changes.now }
     requires lists { length lists.now ≡ length sessions.old }
     requires commands { All (λ list. All (λ command. FitsCommand K.grid command) list) lists.now }
     ensures ok { OnOk result (AllHaveRun (works_of changes.now lists.now) (party.old ∷ sessions.old)
@@ -93,9 +94,9 @@ fn with_manager<K: Hosting + Send + Sync, R: Threads + Wait + Sync, G: Gate>(
 {
     let mut here = || -> Result<(), RunFault>
         requires { IsSync R.row × IsSync K.row × IsSend K.row × IsSync G.row × (party.now.id ≡ 0)
-            × All (λ change. FitsChange K.grid change) changes.now }
-        ensures ok { OnOk result (HasRun (map Limit changes.entry.now) party.entry.now party.exit.now) }
-        ensures refused { IfErr result (λ f. IsRefused K.grid K.book K.cap f (map Limit changes.entry.now)
+            × All (λ change. FitsControl K.grid change) changes.now }
+        ensures ok { OnOk result (HasRun (map set_by changes.entry.now) party.entry.now party.exit.now) }
+        ensures refused { IfErr result (λ f. IsRefused K.grid K.book K.cap f (map set_by changes.entry.now)
             party.entry.now party.exit.now) }
     { place.work_off(changes, party) };
     let mut there = || -> Result<(), RunFault>
