@@ -60,19 +60,21 @@ pub record StepRead (class : ℕ) (limit wait : Option ℕ) (listed : Bool) (s :
   pub limit_is : limit ≡ Some s.limit
   pub wait_is : wait ≡ Some s.wait
   pub listed_is : listed ≡ s.listed
+  pub open_now : s.closed ≡ false
 
 step_takes : (class : ℕ) (limit wait : Option ℕ) (listed : Bool) (s : Step) → step_in class limit wait listed ≡ Some s
     → StepRead class limit wait listed s
 step_takes class None wait listed s e = absurd cc
 step_takes class (Some limit) None listed s e = absurd cc
 step_takes class (Some limit) (Some wait) listed s e =
-    let p = passed (is_ascii_uppercase class) (record { class = class; limit = limit; wait = wait; listed = listed }) s e in
+    let p = passed (is_ascii_uppercase class) (record { class = class; limit = limit; wait = wait; listed = listed; closed = false }) s e in
     record {
       letter = p.0;
       class_is = ap (λ (t : Step). t.class) p.1;
       limit_is = ap (λ (t : Step). Some t.limit) p.1;
       wait_is = ap (λ (t : Step). Some t.wait) p.1;
       listed_is = ap (λ (t : Step). t.listed) p.1;
+      open_now = sym (ap (λ (t : Step). t.closed) p.1);
     }
 
 pub record EntryRead (text : List ℕ) (s : Step) : Type 0 where
@@ -97,7 +99,7 @@ entry_takes k a b c stroke d e f m s h = of (stroke == 47) refl h
         let limit = three_takes a b c s.limit r.limit_is in
         let wait = three_takes d e f s.wait r.wait_is in
         record {
-          entry = record { letter = subst (λ (x : ℕ). IsTrue (is_ascii_uppercase x)) r.class_is r.letter; limit = limit.1; wait = wait.1 };
+          entry = record { letter = subst (λ (x : ℕ). IsTrue (is_ascii_uppercase x)) r.class_is r.letter; limit = limit.1; wait = wait.1; open_now = r.open_now };
           written = joined k a b c stroke d e f s.class (three_digits s.limit) (three_digits s.wait) m s.listed r.class_is limit.0 (eqb-true stroke 47 is) wait.0 r.listed_is;
         }
 
@@ -111,7 +113,8 @@ entry_mark k a b c stroke d e f m s h =
 pub entry_again : (s : Step) → IsEntry s
     → entry_in s.class (48 + s.limit / 100) (48 + s.limit / 10 % 10) (48 + s.limit % 10) 47 (48 + s.wait / 100)
     (48 + s.wait / 10 % 10) (48 + s.wait % 10) s.listed ≡ Some s
-entry_again s is = rw (three_again s.limit is.limit, three_again s.wait is.wait, is.letter) refl
+entry_again s is =
+    rw (three_again s.limit is.limit, three_again s.wait is.wait, is.letter) (ap (λ (b : Bool). Some (record s { closed = b })) (sym is.open_now))
 
 -- the text of an entry is read as it, where no mark follows
 pub entry_front : (s : Step) → IsEntry s → (after : List ℕ) → ◌≡◌ {A = Bool × List ℕ} (mark_at after) (false, after)

@@ -30,11 +30,12 @@ ladder_text [] = []
 ladder_text (s ∷ []) = entry_text s
 ladder_text (s ∷ t ∷ lower) = entry_text s ++ 32 ∷ ladder_text (t ∷ lower)
 
--- what an entry can write
+-- what an entry can write: no class is closed in a text of limits
 pub record IsEntry (s : Step) : Type 0 where
   pub letter : IsTrue (is_ascii_uppercase s.class)
   pub limit : s.limit ≤ 999
   pub wait : s.wait ≤ 999
+  pub open_now : s.closed ≡ false
 
 -- the text is one entry or more, which write these steps
 pub record SpellsSteps (text : List ℕ) (steps : Steps) : Type 0 where
@@ -60,7 +61,8 @@ abbrev pub step_in : ℕ → Option ℕ → Option ℕ → Bool → Option Step
 step_in class None wait listed = None
 step_in class (Some limit) None listed = None
 step_in class (Some limit) (Some wait) listed =
-    if is_ascii_uppercase class then Some (record { class = class; limit = limit; wait = wait; listed = listed })
+    if is_ascii_uppercase class
+    then Some (record { class = class; limit = limit; wait = wait; listed = listed; closed = false })
     else None
 
 -- the step that eight bytes write, with the mark or without it

@@ -1,7 +1,23 @@
-//! Change rows: another limit and wait for one class of a flight's city pair on one day.
+//! Change rows: what the manager sets on the leg of a flight between two cities on one day, or on each leg of that day.
 use airline_base::{Airline, Class, Day, Items, Station};
 
-/// The limit and the wait of a class on the leg of a flight between two cities on a local day.
+/// The two cities of a leg.
+#[derive(Clone, Copy)]
+pub struct Cities {
+    pub board: Station,
+    pub off: Station,
+}
+
+/// What a row sets.
+#[derive(Clone, Copy)]
+pub enum RowSetting {
+    /// The limit and the wait of a class.
+    SetLimit(Class, u16, u16),
+    /// Whether a class, or each where none is named, is closed.
+    SetSale(Option<Class>, bool),
+}
+
+/// What is set on the leg of a flight between two cities on a local day.
 #[derive(Clone, Copy)]
 pub struct ChangeRow {
     /// The line of the text, counted from 1.
@@ -12,11 +28,9 @@ pub struct ChangeRow {
     /// The operational suffix, A to Z.
     pub suffix: Option<u8>,
     pub day: Day,
-    pub board: Station,
-    pub off: Station,
-    pub class: Class,
-    pub limit: u16,
-    pub wait: u16,
+    /// None: on each leg of the flight that departs on that day.
+    pub cities: Option<Cities>,
+    pub setting: RowSetting,
 }
 
 /// Change rows in the order of their text.

@@ -109,6 +109,7 @@ pub(crate) fn entry_of(bytes: &[u8]) -> Option<(Step, &[u8])>
                 limit,
                 wait,
                 listed,
+                closed: false,
             };
             Some((step, rest))
         }

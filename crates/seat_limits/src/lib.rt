@@ -16,7 +16,7 @@ mod stretches;
 
 pub use building::build_grid;
 pub use change_reading::read_changes;
-pub use change_row::{ChangeRow, ChangeRows};
+pub use change_row::{ChangeRow, ChangeRows, Cities, RowSetting};
 pub use ladder_text::read_ladder;
 pub use limit_fault::{LimitFault, LimitKind};
 pub use limit_reading::read_limits;

@@ -9,16 +9,16 @@ use std::fmt;
 /// Why a line is no limit row or no change row, or a text no ladder: the first fault from left to right.
 #[derive(Clone, Copy, Debug, PartialEq, Eq)]
 pub enum LimitKind {
-    /// The line does not begin with `AU` and a blank.
+    /// The line does not begin with `AU` and a blank; a change row may begin with `CLOSE` or `OPEN`.
     Head,
     /// An airline, a flight number, at most one letter and a blank do not follow.
     Flight,
     /// The dates do not follow, each with a blank behind it: two of a limit row, the second not before
     /// the first, and one of a change row.
     Period,
-    /// Six letters do not follow.
+    /// Six letters do not follow, nor, where a class is closed or opened, one letter.
     Pair,
-    /// The entries of a ladder, or the one entry of a change row, do not follow, or one of them is malformed.
+    /// The entries of a ladder, or the one entry or class of a change row, do not follow, or one of them is malformed.
     Entry,
     /// The entries are no ladder.
     Ladder(LadderFault),
