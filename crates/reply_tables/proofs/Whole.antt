@@ -12,7 +12,7 @@ use Rattle.seat_journal.specs.declared.entry.Advice.{Advice}
 use Rattle.seat_journal.specs.declared.entry.Command.{Command}
 use Rattle.seat_journal.specs.declared.entry.Entry.{Entry}
 use Rattle.seat_journal.specs.declared.entry.Work.{Work}
-use Rattle.seat_journal.specs.declared.entry.Work.TheVariants.{Seats, Limit}
+use Rattle.seat_journal.specs.declared.entry.Work.TheVariants.{Seats, Limit, Sale}
 use Rattle.desk_telling.specs.Segments as telling
 use Rattle.desk_telling.specs.Telling.{line_numbered}
 use Rattle.seat_replies.specs.Answering.{IsBooked, IsRequested}
@@ -79,6 +79,7 @@ asked_has_row flights requests place e (Seats c) low = of (telling.segment_of fl
   of None (Some r) some = refl
   of None None some = absurd (some refl)
 asked_has_row flights requests place e (Limit c) low = refl
+asked_has_row flights requests place e (Sale c) low = refl
 
 pub lines_have_rows : LinesHaveRows
 lines_have_rows flights requests history place e is =

@@ -7,8 +7,9 @@ use Rattle.seat_journal.specs.declared.entry.Advice.{Advice}
 use Rattle.seat_journal.specs.declared.entry.Change.{Change}
 use Rattle.seat_journal.specs.declared.entry.Command.{Command}
 use Rattle.seat_journal.specs.declared.entry.Entry.{Entry}
+use Rattle.seat_journal.specs.declared.entry.SaleChange.{SaleChange}
 use Rattle.seat_journal.specs.declared.entry.Work.{Work}
-use Rattle.seat_journal.specs.declared.entry.Work.TheVariants.{Seats, Limit}
+use Rattle.seat_journal.specs.declared.entry.Work.TheVariants.{Seats, Limit, Sale}
 use Rattle.seat_rules.specs.Histories.{by_session}
 use Rattle.desk_telling.specs.Segments.{segment_of}
 use Rattle.desk_telling.specs.Telling.{line_numbered}
@@ -39,6 +40,22 @@ change_row e c =
     Number e.number ∷ Number e.session ∷ Nothing ∷ Nothing ∷ Letter c.class ∷ Nothing ∷ Nothing ∷ Nothing ∷ Nothing ∷ Nothing
     ∷ Word e.reply ∷ Number c.flight ∷ Number c.leg ∷ Number c.limit ∷ Number c.wait ∷ []
 
+-- CL where a class is closed, OP where it is opened
+abbrev pub sale_code : Bool → List ℕ
+sale_code true = codes "CL"
+sale_code false = codes "OP"
+
+-- the class, or nothing where it is each
+abbrev pub scope_cell : Option ℕ → Cell
+scope_cell None = Nothing
+scope_cell (Some class) = Letter class
+
+-- a class that is closed or opened: it, what is done to it and the reply, and the flight and the leg, counted from 0
+abbrev pub sale_row : Entry → SaleChange → List Cell
+sale_row e c =
+    Number e.number ∷ Number e.session ∷ Nothing ∷ Nothing ∷ scope_cell c.class ∷ Nothing ∷ Nothing ∷ Nothing
+    ∷ Word (sale_code c.closed) ∷ Nothing ∷ Word e.reply ∷ Number c.flight ∷ Number c.leg ∷ Nothing ∷ Nothing ∷ []
+
 -- where the segment is there
 abbrev pub row_on : Entry → List ℕ → Option Segment → List ℕ → ℕ → Cell → Option (List Cell)
 row_on e locator None code seats reply = None
@@ -59,11 +76,13 @@ request_row flights request e c =
 abbrev pub asked_row : List Flown → List Request → ℕ → Entry → Work → Option (List Cell)
 asked_row flights requests place e (Seats c) = request_row flights (slice_get requests place) e c
 asked_row flights requests place e (Limit c) = Some (change_row e c)
+asked_row flights requests place e (Sale c) = Some (sale_row e c)
 
 -- an advice: the locator and the segment of its booking, which a line's command made, with KL and the seats that are confirmed. It has no reply
 abbrev pub confirmed_by : List Flown → Entry → Advice → Work → Option (List Cell)
 confirmed_by flights e a (Seats c) = row_on e c.locator (segment_of flights c) (codes "KL") a.seats Nothing
 confirmed_by flights e a (Limit c) = None
+confirmed_by flights e a (Sale c) = None
 
 -- that is the line of the booking's number
 abbrev pub confirmed_in : List Flown → Entry → Advice → Option Entry → Option (List Cell)

@@ -3,12 +3,12 @@
 ghost use Rattle.std.specs.Prelude.{◌≡◌, ◌++◌, OnOk, map, slice_get};
 ghost use Rattle.seat_tables.specs.Rows.{rows_from};
 ghost use Rattle.seat_tables.specs.Sheets.{ArePut, IsReady};
-ghost use Rattle.reply_tables.specs.ReplyRows.{advice_row, advice_rows, answer_rows, asked_row, asked_segment, change_row, confirmed_by, reply_names, request_row, row_on, rows_in, segment_row};
+ghost use Rattle.reply_tables.specs.ReplyRows.{advice_row, advice_rows, answer_rows, asked_row, asked_segment, change_row, confirmed_by, reply_names, request_row, row_on, rows_in, sale_code, sale_row, scope_cell, segment_row};
 
 use airimp_lines::{Request, Segment};
-use airline_base::{Code, Locator};
+use airline_base::{Class, Code, Locator};
 use desk_telling::{line_numbered, segment_of};
-use seat_journal::{Advice, Change, Command, Entry, Work};
+use seat_journal::{Advice, Change, Command, Entry, SaleChange, Work};
 use seat_tables::{Cell, Sheet, put_row};
 use ssim_flights::Flights;
 use std::alloc::{AllocError, Global};
@@ -81,6 +81,7 @@ fn asked_row(
     match work {
         Work::Seats(command) => request_row(flights, requests, place, entry, &command),
         Work::Limit(change) => Some(change_row(entry, &change)),
+        Work::Sale(change) => Some(sale_row(entry, &change)),
     }
 }
 
@@ -189,6 +190,50 @@ fn change_row(entry: &Entry, change: &Change) -> [Cell; 15]
     ]
 }
 
+/// The row of a class that is closed or opened.
+fn sale_row(entry: &Entry, change: &SaleChange) -> [Cell; 15]
+    ensures { result ≡ sale_row entry.now change.now }
+{
+    [
+        Cell::Number(u64::from(entry.number)),
+        Cell::Number(u64::from(entry.session)),
+        Cell::Nothing,
+        Cell::Nothing,
+        scope_cell(change.class),
+        Cell::Nothing,
+        Cell::Nothing,
+        Cell::Nothing,
+        Cell::Word(sale_code(change.closed)),
+        Cell::Nothing,
+        Cell::Word(entry.reply),
+        Cell::Number(u64::from(change.flight)),
+        Cell::Number(u64::from(change.leg)),
+        Cell::Nothing,
+        Cell::Nothing,
+    ]
+}
+
+/// The class, or nothing where it is each.
+fn scope_cell(class: Option<Class>) -> Cell
+    ensures { result ≡ scope_cell class }
+{
+    match class {
+        Some(class) => Cell::Letter(class),
+        None => Cell::Nothing,
+    }
+}
+
+/// What is done to a class.
+fn sale_code(closed: bool) -> Code
+    ensures { result ≡ sale_code closed }
+{
+    if closed {
+        Code::of(*b"CL")
+    } else {
+        Code::of(*b"OP")
+    }
+}
+
 /// Adds the rows of a line's advices.
 fn put_advices(
     alloc: Global,
@@ -257,5 +302,6 @@ fn confirmed_by(flights: &Flights, entry: &Entry, advice: &Advice, work: Work) -
             )
         }
         Work::Limit(_) => None,
+        Work::Sale(_) => None,
     }
 }

@@ -5,7 +5,7 @@ use Rattle.std.proofs.lemmas.List.{take_more}
 use Rattle.seat_rules.specs.declared.booking.Booking.{Booking}
 use Rattle.seat_rules.specs.declared.booking.Status.TheVariants.{Held, Waiting}
 use Rattle.seat_rules.specs.Bookings.{is_for}
-use Rattle.seat_rules.specs.Sequential.{State, Outcome, answer, pass, may_confirm, confirmed, advice_of, reduced, booking_of, changed_by}
+use Rattle.seat_rules.specs.Sequential.{State, Outcome, answer, pass, may_confirm, confirmed, advice_of, reduced, booking_of, changed_by, sales_by}
 use Rattle.seat_rules.specs.Journal.{replay, FitsWork}
 use Rattle.seat_rules.proofs.History.Lines.{replay_next}
 use Rattle.seat_rules.proofs.History.Legal.{each_legal}
@@ -136,6 +136,7 @@ sound_answer over s history number w asks all =
     (λ c place b at found le is. sound_pass over history s.grid [] [] (reduced (is_for c.locator place c.class) c.seats s.bookings) (record { seated = tt; advised_all = tt })
     (seated_reduced over history (is_for c.locator place c.class) c.seats s.bookings all))
     (λ c may is. sound_pass over history (changed_by s.grid c) [] [] s.bookings (record { seated = tt; advised_all = tt }) all)
+    (λ c may is. sound_pass over history (sales_by s.grid c) [] [] s.bookings (record { seated = tt; advised_all = tt }) all)
     w refl
 
 -- each line's advices are for bookings of the history

@@ -6,7 +6,7 @@ use Rattle.std.proofs.Math.Seq.{drop-append_seam}
 use Rattle.std.proofs.lemmas.Bool.{cases_lt}
 use Rattle.std.proofs.lemmas.List.{append-nil, take_all, take-append-le}
 use Rattle.std.proofs.lemmas.Bool.Decides.{nat_tests}
-use Rattle.seat_journal.specs.declared.entry.Work.TheVariants.{Limit}
+use Rattle.seat_journal.specs.declared.entry.Work.TheVariants.{Limit, Sale}
 use Rattle.seat_rules.specs.Journal.{IsLegalAfter, MayAsk, calls_of}
 use Rattle.seat_rules.proofs.History.Legal.{legal_to_after}
 use Rattle.seat_rules.specs.Histories.{OnlyFirst}
@@ -168,6 +168,7 @@ no_lines_of (x ∷ xs) e = absurd (omega (arith, e))
 pub few_may : (session : ℕ) (w : Work) → MayAsk session w → session ≤ 8
 few_may session (Seats c) may = may.1
 few_may session (Limit c) may = omega (arith, may)
+few_may session (Sale c) may = omega (arith, may)
 
 beyond : (grid : Ladders) (s : ℕ) (past es : List Entry) → 8 < s → IsLegalAfter grid past es → of_session s es ≡ []
 beyond grid s past [] high legal = refl

@@ -1,11 +1,14 @@
 -- The lines that a history adds to the past can be answered: what they and their advices answer is there.
 use Rattle.std.proofs.Common.{◌≡◌, ⊎_elim, ℕ, zero, suc, ◌+◌, ◌<◌, ◌≤◌, List, [], ◌∷◌, ◌++◌, length, map, refl, sym, ap, ◌∙◌, subst, arith, get_or, Option, Some, None, take, ◌==◌}
-use Rattle.seat_replies.proofs.Common.{slice_get, AllByRecursion, option_map, Request, Segment, Place, DatedLeg, Advice, Change, Command, Entry, Work, Seats, authorised_grid, Fits, Ladders, LimitRow, IsLegal, of_session, by_session, behind, idle, lists_over, commands_of, IsHistoryOf, works_in}
+use Rattle.seat_replies.proofs.Common.{slice_get, AllByRecursion, option_map, Request, Segment, Place, DatedLeg, Advice, Command, Entry, Work, Seats, authorised_grid, Fits, Ladders, LimitRow, IsLegal, of_session, by_session, behind, idle, lists_over, commands_of, IsHistoryOf, works_in}
 use Rattle.std.specs.Prelude.{unwrap_or}
 use Rattle.std.proofs.lemmas.List.{length-map, length-take-le}
 use Rattle.std.proofs.lemmas.Option.{get_or_from_slice_get, slice_get-get_or, slice_get-map, slice_get_cases, slice_get_within, unwrap_or-slice_get}
 use Rattle.ssim_flights.specs.declared.flight.Flight.{Flight as Flown}
-use Rattle.seat_journal.specs.declared.entry.Work.TheVariants.{Limit}
+use Rattle.seat_journal.specs.declared.entry.Control.{Control}
+use Rattle.seat_journal.specs.declared.entry.Control.TheVariants.{ToLimit, ToSale}
+use Rattle.seat_journal.specs.Controls.{set_by}
+use Rattle.seat_journal.specs.declared.entry.Work.TheVariants.{Limit, Sale}
 use Rattle.seat_limits.specs.Authorised.{authorised_legs}
 use Rattle.seat_nesting.specs.Nesting.{Steps, legs_of}
 use Rattle.seat_rules.proofs.Own.{own_append}
@@ -116,7 +119,7 @@ list_of flights [] k i = idle_at k i
 list_of flights (script ∷ scripts) k zero = refl
 list_of flights (script ∷ scripts) k (suc i) = list_of flights scripts k i
 
-module _ (grid : Ladders) (past : List Entry) (flights : List Flown) (changes : List Change) (scripts : List (List Request)) (history : List Entry) (told : List (List Entry))
+module _ (grid : Ladders) (past : List Entry) (flights : List Flown) (changes : List Control) (scripts : List (List Request)) (history : List Entry) (told : List (List Entry))
     (h : IsHistoryOf grid past changes (lists_over past (map (commands_of flights) scripts)) history told) where
   abbrev lists : List (List Command)
   lists = lists_over past (map (commands_of flights) scripts)
@@ -157,26 +160,28 @@ module _ (grid : Ladders) (past : List Entry) (flights : List Flown) (changes : 
       ap (λ (l : List Work). slice_get l k) (sym same) ∙ (slice_get-map (λ (x : Entry). x.work) (of_session s h.added) k ∙ ap (option_map (λ (x : Entry). x.work)) at)
 
   -- the manager's are changes
-  pub managed : works_in (of_session 0 h.added) ≡ map Limit changes
+  pub managed : works_in (of_session 0 h.added) ≡ map set_by changes
   managed =
       let within : 0 < length (by_session (length lists) h.added) = omega (arith, sessions_count (length lists) h.added) in
       let here : slice_get (by_session (length lists) h.added) 0 ≡ Some (of_session 0 h.added) =
       slice_get-get_or (by_session (length lists) h.added) 0 [] within ∙ ap Some (lines_at (length lists) 0 h.added (omega arith)) in
       same_some _ _ (sym (ap (option_map works_in) here) ∙ (sym (slice_get-map works_in (by_session (length lists) h.added) 0) ∙ ap (λ (l : List (List Work)). slice_get l 0) h.asked))
 
-  no_seats : (o : Option Change) (c : Command) → option_map Limit o ≡ Some (Seats c) → ⊥
+  no_seats : (o : Option Control) (c : Command) → option_map set_by o ≡ Some (Seats c) → ⊥
   no_seats None c e = cc
-  no_seats (Some x) c e = cc
+  no_seats (Some (ToLimit x)) c e = cc
+  no_seats (Some (ToSale x)) c e = cc
 
   -- so a line that asks for seats stands beside a request
   is_asked : (s k : ℕ) (e : Entry) → s ≤ length scripts → length scripts ≤ length lists
       → slice_get (of_session s h.added) k ≡ Some e → (w : Work) → e.work ≡ w → IsRequested (requests_of scripts s) k w
-  is_asked zero k e low enough at (Seats c) work = absurd (no_seats (slice_get changes k) c (sym (slice_get-map Limit changes k) ∙ (work_at 0 (map Limit changes) managed k e at ∙ ap Some work)))
+  is_asked zero k e low enough at (Seats c) work = absurd (no_seats (slice_get changes k) c (sym (slice_get-map set_by changes k) ∙ (work_at 0 (map set_by changes) managed k e at ∙ ap Some work)))
   is_asked (suc i) k e low enough at (Seats c) work =
       let lt : i < length lists = omega (arith, low, enough) in
       let within : k < length (of_session (suc i) h.added) = slice_get_within (of_session (suc i) h.added) k e at in
       subst (λ (l : List Request). k < length l) (sym (unwrap_or-slice_get scripts i [])) (omega (arith, within, own_count i lt))
   is_asked s k e low enough at (Limit c) work = tt
+  is_asked s k e low enough at (Sale c) work = tt
 
   -- ---- all lines that were added
 
@@ -228,7 +233,7 @@ module _ (grid : Ladders) (past : List Entry) (flights : List Flown) (changes : 
 
 -- ---- the same, said of what the host was asked and what it gave
 
-module _ (grid : Ladders) (past : List Entry) (flights : List Flown) (changes : List Change) (scripts : List (List Request)) (history slice : List Entry) (before : Past)
+module _ (grid : Ladders) (past : List Entry) (flights : List Flown) (changes : List Control) (scripts : List (List Request)) (history slice : List Entry) (before : Past)
     (lists : List (List Command)) (receipts : List (List Entry)) (few : length scripts ≤ 8) (known : before ≡ past_of past) (asked : lists ≡ lists_over past (map (commands_of flights) scripts))
     (same : slice ≡ history) (own : receipts ≡ by_session (length lists) history) where
   abbrev opened_lists : List (List Command)

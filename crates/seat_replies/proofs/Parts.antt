@@ -5,11 +5,12 @@ use Rattle.std.specs.Prelude.{slice_index}
 use Rattle.std.proofs.lemmas.Option.{slice_get_read}
 use Rattle.airimp_lines.specs.Grammar.{IsPlainLine, reply_of}
 use Rattle.ssim_flights.specs.declared.flight.Flight.{Flight as Flown}
-use Rattle.seat_journal.specs.declared.entry.Work.TheVariants.{Limit}
+use Rattle.seat_journal.specs.declared.entry.Work.TheVariants.{Limit, Sale}
+use Rattle.seat_journal.specs.declared.entry.SaleChange.{SaleChange}
 use Rattle.seat_desk.specs.FlightsDesk.{IsPut, IsText}
 use Rattle.seat_replies.specs.declared.replies.Answered.{Answered}
 use Rattle.seat_replies.specs.Answering.{AreAllAnswerable, AreAnswerable, AreBooked, IsAnswerable, IsBehind, IsBooked}
-use Rattle.seat_replies.specs.RunDesk.{AreSessions, IsAdviceLine, IsAnswer, IsLineReply, IsReply, IsSeatsReply, at_any, booked_by, change_reply, made_by, of_command, of_request, of_work, reply_head, requests_of}
+use Rattle.seat_replies.specs.RunDesk.{AreSessions, IsAdviceLine, IsAnswer, IsLineReply, IsReply, IsSeatsReply, at_any, booked_by, change_reply, made_by, of_command, of_request, of_work, reply_head, requests_of, sale_reply}
 use Rattle.seat_desk.proofs.Texts.{assoc_four, put_more, text_whole}
 
 -- ---- what can be answered
@@ -135,6 +136,10 @@ seats_put requests place e request old new in_range here reply = record {
 pub change_put : (requests : List Request) (place : ℕ) (e : Entry) (change : Change) (old new : List ℕ)
     → new ≡ old ++ change_reply e change → IsBehind (IsLineReply requests place e (Limit change)) old new
 change_put requests place e change old new written = record { part = change_reply e change; is_part = refl; written = written }
+
+pub sale_put : (requests : List Request) (place : ℕ) (e : Entry) (change : SaleChange) (old new : List ℕ)
+    → new ≡ old ++ sale_reply e change → IsBehind (IsLineReply requests place e (Sale change)) old new
+sale_put requests place e change old new written = record { part = sale_reply e change; is_part = refl; written = written }
 
 -- a reply and its advices
 pub answer_put : (flights : List Flown) (requests : List Request) (history : List Entry) (place : ℕ) (e : Entry)

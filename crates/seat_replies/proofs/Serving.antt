@@ -1,6 +1,8 @@
 -- A place that is found is on the grid.
+use Rattle.seat_journal.specs.declared.entry.Control.{Control}
+use Rattle.seat_journal.specs.declared.entry.Control.TheVariants.{ToLimit, ToSale}
 use Rattle.std.proofs.Common.{◌≡◌, ℕ, zero, suc, ◌+◌, ◌<◌, ◌≤◌, List, [], ◌∷◌, ◌++◌, length, map, refl, sym, ap, ◌∙◌, subst, arith, Option, Some, IfSome, Bool, true, false}
-use Rattle.seat_replies.proofs.Common.{slice_get, AllByRecursion, Place, place_wanted, DatedLeg, authorised_grid, Fits, Ladders, LimitRow, option_map, Request, Change, Command, Entry, idle, lists_over, commands_of}
+use Rattle.seat_replies.proofs.Common.{slice_get, AllByRecursion, Place, place_wanted, DatedLeg, authorised_grid, Fits, Ladders, LimitRow, option_map, Request, Command, Entry, idle, lists_over, commands_of}
 use Rattle.std.proofs.lemmas.List.{length-map}
 use Rattle.std.specs.Prelude.{unwrap_or, All}
 use Rattle.std.proofs.lemmas.Option.{slice_get-map}
@@ -11,10 +13,10 @@ use Rattle.seat_limits.specs.Authorised.{authorised_legs}
 use Rattle.seat_nesting.specs.Nesting.{legs_of}
 use Rattle.std.specs.Map.{lookup}
 use Rattle.airimp_lines.specs.Grammar.{IsRightSegment}
-use Rattle.seat_rules.specs.Journal.{FitsChange, FitsCommand}
+use Rattle.seat_rules.specs.Journal.{FitsCommand, FitsControl}
 use Rattle.seat_nesting.specs.Nesting.{Steps}
 use Rattle.seat_desk.specs.Loading.{IsGridOf}
-use Rattle.seat_replies.specs.Changes.{IsOnLeg}
+use Rattle.seat_replies.specs.Changes.{IsLegOf, IsOnLeg}
 use Rattle.seat_replies.specs.Requests.{AreRight, command_of, wanted_of}
 use Rattle.seat_replies.proofs.Going.{over_few}
 use Rattle.seat_replies.proofs.Rows.{all_append, all_of}
@@ -80,6 +82,17 @@ served rows flights wanted =
     let here : i ≡ 0 + i = omega arith in
     subst (λ (k : ℕ). Fits (authorised_grid rows flights) (place k f t)) here (low, omega (arith, high, same))))
 
+-- and its last leg is a leg of the flights
+pub served_leg : (flights : List Flown) (wanted : Wanted)
+    → IfSome (place_wanted flights wanted) (λ p. IsLegOf flights p.flight p.to)
+unfolding place_wanted
+served_leg flights wanted =
+    found (λ p. IsLegOf flights p.flight p.to) (λ w. same_wanted w wanted) (places 0 flights)
+    (all_fit (λ p. IsLegOf flights p.flight p.to) 0 flights
+    (λ i flight f t at low high.
+    let here : i ≡ 0 + i = omega arith in
+    subst (λ (k : ℕ). IsLegOf flights k t) here (record { flown = flight; at = at; there = high })))
+
 command_fits : (flights : List Flown) (grid : Ladders) (r : Request) → IsGridOf flights grid → IsRightSegment r.segment
     → FitsCommand grid (command_of flights r)
 command_fits flights grid r g right =
@@ -128,26 +141,26 @@ opened_few flights past scripts lists count is =
 
 -- ---- changes
 
-change_fits : (flights : List Flown) (grid : Ladders) (c : Change) → IsGridOf flights grid → IsOnLeg flights c
-    → FitsChange grid c
-change_fits flights grid c g on =
-    let fits : Fits (authorised_grid g.rows flights) on.place = subst (λ (o : Option Place). IfSome o (Fits (authorised_grid g.rows flights))) on.serves (served g.rows flights on.wanted) in
-    let there : on.place.to < length (legs_of grid on.place.flight) = subst (λ (l : Ladders). on.place.to < length (legs_of l on.place.flight)) (sym g.is) fits.1 in
-    let same : c.leg ≡ on.place.to = on.leg_is ∙ on.one_leg in
-    record {
-      there = subst (λ (f : ℕ). c.leg < length (legs_of grid f)) (sym on.flight_is) (subst (λ (k : ℕ). k < length (legs_of grid on.place.flight)) (sym same) there);
-      limit_most = on.limit_most;
-      wait_most = on.wait_most;
-    }
+leg_fits : (flights : List Flown) (grid : Ladders) (flight leg : ℕ) → IsGridOf flights grid → IsLegOf flights flight leg
+    → leg < length (legs_of grid flight)
+leg_fits flights grid flight leg g on =
+    let same = legs_are g.rows flights flight on.flown on.at in
+    subst (λ (l : Ladders). leg < length (legs_of l flight)) (sym g.is) (omega (arith, on.there, same))
 
-each_fits : (flights : List Flown) (grid : Ladders) (changes : List Change) → IsGridOf flights grid
+change_fits : (flights : List Flown) (grid : Ladders) (c : Control) → IsGridOf flights grid → IsOnLeg flights c
+    → FitsControl grid c
+change_fits flights grid (ToLimit c) g on =
+    record { there = leg_fits flights grid c.flight c.leg g on.leg; limit_most = on.limit_most; wait_most = on.wait_most }
+change_fits flights grid (ToSale c) g on = leg_fits flights grid c.flight c.leg g on
+
+each_fits : (flights : List Flown) (grid : Ladders) (changes : List Control) → IsGridOf flights grid
     → AllByRecursion (IsOnLeg flights) changes
-    → AllByRecursion (λ (c : Change). FitsChange grid c) changes
+    → AllByRecursion (λ (c : Control). FitsControl grid c) changes
 each_fits flights grid [] g on = tt
 each_fits flights grid (c ∷ changes) g on = (change_fits flights grid c g on.0, each_fits flights grid changes g on.1)
 
 -- what is on legs of the flights fits the grid
-pub changes_fit : (flights : List Flown) (grid : Ladders) (changes : List Change) → IsGridOf flights grid
+pub changes_fit : (flights : List Flown) (grid : Ladders) (changes : List Control) → IsGridOf flights grid
     → AllByRecursion (IsOnLeg flights) changes
-    → All (λ (c : Change). FitsChange grid c) changes
-changes_fit flights grid changes g on = all_of (λ (c : Change). FitsChange grid c) changes (each_fits flights grid changes g on)
+    → All (λ (c : Control). FitsControl grid c) changes
+changes_fit flights grid changes g on = all_of (λ (c : Control). FitsControl grid c) changes (each_fits flights grid changes g on)

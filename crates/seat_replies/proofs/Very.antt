@@ -4,6 +4,7 @@ use Rattle.seat_replies.proofs.Common.{slice_get, Request, Segment, Place, place
 use Rattle.std.specs.Prelude.{IsTrue}
 use Rattle.std.specs.Cmp.Lexicographic.{pointwise, same_text}
 use Rattle.std.specs.Option.{option_eq}
+use Rattle.std.proofs.Math.Bool.{beq}
 use Rattle.std.proofs.lemmas.Bool.Decides.{nat_tests}
 use Rattle.airline_base.specs.Days.{IsDate}
 use Rattle.airline_base.proofs.Tests.{both_true}
@@ -12,9 +13,10 @@ use Rattle.ssim_flights.specs.declared.flight.Flight.{Flight as Flown}
 use Rattle.seat_limits.proofs.RowIndexing.{same_letter}
 use Rattle.seat_rules.proofs.History.Faults.{nat_same}
 use Rattle.seat_rules.proofs.Step.Apart.{letters_same}
+use Rattle.seat_journal.specs.declared.entry.SaleChange.{SaleChange}
 use Rattle.seat_replies.specs.Going.{segment_of, segment_on}
 use Rattle.seat_replies.specs.Requests.{command_of, wanted_of}
-use Rattle.seat_replies.specs.VeryRequest.{Agree, CommandsAreVeryRequests, IsAskedAs, IsOnDate, IsPlacedAs, IsSameDate, IsSameFlight, IsVeryRequest, same_asked, same_named}
+use Rattle.seat_replies.specs.VeryRequest.{Agree, CommandsAreVeryRequests, IsAskedAs, IsOnDate, IsPlacedAs, IsSameDate, IsSameFlight, IsVeryRequest, same_asked, same_named, same_sale}
 use Rattle.seat_replies.proofs.Segments.{segments_are_flown}
 
 -- ---- tests
@@ -34,6 +36,36 @@ letter_itself (Some n) = same_nat n
 
 equal_letter : (a b : Option ℕ) → a ≡ b → option_eq nat_eq a b ≡ true
 equal_letter a b e = ap (option_eq nat_eq a) (sym e) ∙ letter_itself a
+
+-- a test of two closings or openings says whether they are one
+marks_same : (a b : Bool) → beq a b ≡ true → a ≡ b
+marks_same true true e = refl
+marks_same true false e = absurd cc
+marks_same false true e = absurd cc
+marks_same false false e = refl
+
+mark_itself : (a : Bool) → beq a a ≡ true
+mark_itself true = refl
+mark_itself false = refl
+
+sale_is : (a b : SaleChange) → a.flight ≡ b.flight → a.leg ≡ b.leg → a.class ≡ b.class → a.closed ≡ b.closed → a ≡ b
+sale_is a b e f g h = λ i. record { flight = e i; leg = f i; class = g i; closed = h i }
+
+sale_same : (a b : SaleChange) → same_sale a b ≡ true → a ≡ b
+sale_same a b e =
+    let three = both_true ((a.flight == b.flight) && (a.leg == b.leg) && option_eq nat_eq a.class b.class) (beq a.closed b.closed) e in
+    let two = both_true ((a.flight == b.flight) && (a.leg == b.leg)) (option_eq nat_eq a.class b.class) three.0 in
+    let one = both_true (a.flight == b.flight) (a.leg == b.leg) two.0 in
+    sale_is a b (nat_same a.flight b.flight one.0) (nat_same a.leg b.leg one.1) (same_letter a.class b.class two.1) (marks_same a.closed b.closed three.1)
+
+sale_itself : (a : SaleChange) → same_sale a a ≡ true
+sale_itself a = rw (same_nat a.flight, same_nat a.leg, letter_itself a.class, mark_itself a.closed) refl
+
+pub sales_same : (a b : SaleChange) (told : Bool) → told ≡ same_sale a b → (IsTrue told → a ≡ b) × (a ≡ b → IsTrue told)
+sales_same a b told e = (
+  λ (is : IsTrue told). sale_same a b (sym e ∙ is),
+  λ (same : a ≡ b). e ∙ (ap (same_sale a) (sym same) ∙ sale_itself a),
+)
 
 all_of : (a b : Bool) → a ≡ true → b ≡ true → (a && b) ≡ true
 all_of true b e f = f

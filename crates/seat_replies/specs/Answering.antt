@@ -7,14 +7,15 @@ use Rattle.seat_journal.specs.declared.entry.Advice.{Advice}
 use Rattle.seat_journal.specs.declared.entry.Command.{Command}
 use Rattle.seat_journal.specs.declared.entry.Entry.{Entry}
 use Rattle.seat_journal.specs.declared.entry.Work.{Work}
-use Rattle.seat_journal.specs.declared.entry.Work.TheVariants.{Seats, Limit}
+use Rattle.seat_journal.specs.declared.entry.Work.TheVariants.{Seats, Limit, Sale}
 use Rattle.seat_replies.specs.Going.{segment_of}
 use Rattle.seat_replies.specs.RunDesk.{requests_of}
 
--- seats are asked by the request at this place; a change has none
+-- seats are asked by the request at this place; what the manager sets has none
 abbrev pub IsRequested : List Request → ℕ → Work → Type 0
 IsRequested requests place (Seats command) = place < length requests
 IsRequested requests place (Limit change) = Unit {0}
+IsRequested requests place (Sale change) = Unit {0}
 
 -- the line of this number asks for seats on legs that are flown
 pub record IsBooked (flights : List Flown) (history : List Entry) (number : ℕ) : Type 0 where

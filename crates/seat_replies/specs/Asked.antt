@@ -3,7 +3,7 @@ use Rattle.std.specs.Prelude.{◌<◌, ◌⊎◌, ℕ, List, length, Option, IfS
 use Rattle.airimp_lines.specs.declared.requests.Request.{Request}
 use Rattle.ssim_flights.specs.declared.flight.Flight.{Flight as Flown}
 use Rattle.seat_nesting.specs.Nesting.{Ladders}
-use Rattle.seat_journal.specs.declared.entry.Change.{Change}
+use Rattle.seat_journal.specs.declared.entry.Control.{Control}
 use Rattle.seat_journal.specs.declared.entry.Entry.{Entry}
 use Rattle.seat_desk.specs.AuditDesk.{most_journal_bytes}
 use Rattle.seat_desk.specs.Loading.{Bytes, IsFirstTooLargeLoad, IsLoaded}
@@ -20,14 +20,14 @@ OfThree set limits after P = IfSome set (λ xs. IfSome limits (λ ys. IfSome aft
 pub record IsAsked (set limits : List ℕ) (first days today : ℕ) (after : List ℕ) (texts : List (Option (List ℕ)))
     (changing : Option (List ℕ))
     (flights : List Flown) (grid : Ladders) (past : List Entry) (scripts : List (List Request))
-    (changes : List Change) : Type 0 where
+    (changes : List Control) : Type 0 where
   pub is_loaded : IsLoaded set limits first days flights grid
   pub is_past : IsPast grid past after
   pub are_scripts : AreScripts today texts scripts
   pub are_changes : IfSome changing (AreChanges flights changes)
 
 abbrev pub IsAskedOf : {S L : Type 0} → Bytes S → Bytes L → Inputs S L → ℕ → Option (List ℕ) → List (Option (List ℕ))
-    → Option (List ℕ) → List Flown → Ladders → List Entry → List (List Request) → List Change → Type 0
+    → Option (List ℕ) → List Flown → Ladders → List Entry → List (List Request) → List Control → Type 0
 IsAskedOf set limits inputs today after texts changing flights grid past scripts changes =
     OfThree (set inputs.set) (limits inputs.limits) after
     (λ xs ys zs. IsAsked xs ys inputs.first inputs.days today zs texts changing flights grid past scripts changes)

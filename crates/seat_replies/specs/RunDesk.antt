@@ -1,5 +1,5 @@
 -- What `run` writes: an older journal and behind it what the scripts ask, and the replies to each script.
-use Rattle.std.specs.Prelude.{◌≡◌, ◌≤◌, ◌<◌, ◌+◌, ◌-◌, ℕ, List, [], ◌∷◌, ◌++◌, length, map, take, decimal, codes, Option, Some, None, IfSome, slice_get, unwrap_or}
+use Rattle.std.specs.Prelude.{◌≡◌, ◌≤◌, ◌<◌, ◌+◌, ◌-◌, ℕ, Bool, true, false, List, [], ◌∷◌, ◌++◌, length, map, take, decimal, codes, Option, Some, None, IfSome, slice_get, unwrap_or}
 use Rattle.std.specs.List.{AllByRecursion, AllZip}
 use Rattle.std.specs.Option.{option_map}
 use Rattle.ssim_flights.specs.declared.flight.Flight.{Flight as Flown}
@@ -7,13 +7,15 @@ use Rattle.seat_nesting.specs.Nesting.{Ladders}
 use Rattle.airimp_lines.specs.Grammar.{IsPlainLine, reply_of}
 use Rattle.airimp_lines.specs.declared.requests.Request.{Request}
 use Rattle.airimp_lines.specs.declared.segment.Segment.{Segment}
-use Rattle.seat_journal.specs.Text.{IsEntry, journal_text}
+use Rattle.seat_journal.specs.declared.entry.Control.{Control}
+use Rattle.seat_journal.specs.Text.{IsEntry, journal_text, scope_letter}
 use Rattle.seat_journal.specs.declared.entry.Advice.{Advice}
 use Rattle.seat_journal.specs.declared.entry.Change.{Change}
 use Rattle.seat_journal.specs.declared.entry.Command.{Command}
 use Rattle.seat_journal.specs.declared.entry.Entry.{Entry}
+use Rattle.seat_journal.specs.declared.entry.SaleChange.{SaleChange}
 use Rattle.seat_journal.specs.declared.entry.Work.{Work}
-use Rattle.seat_journal.specs.declared.entry.Work.TheVariants.{Seats, Limit}
+use Rattle.seat_journal.specs.declared.entry.Work.TheVariants.{Seats, Limit, Sale}
 use Rattle.seat_rules.specs.Journal.{calls_of}
 use Rattle.seat_rules.specs.Prefixes.{Begins}
 use Rattle.seat_rules.specs.Totals.{totals_of}
@@ -33,7 +35,7 @@ use Rattle.seat_desk.specs.declared.fault.DeskFault.{DeskFault}
 use Rattle.seat_desk.specs.declared.fault.DeskFault.TheVariants.{Change as BadChange, NoLeg, Script, Book, Journal, Replay}
 
 -- a history that goes on from the past: the headline holds of it and of the receipts that the sessions were given, it begins with the past, and behind that the lines of session 0 are the changes, in order, those of session 1 the first list, and so on
-pub record IsHistoryOf (grid : Ladders) (past : List Entry) (changes : List Change) (lists : List (List Command))
+pub record IsHistoryOf (grid : Ladders) (past : List Entry) (changes : List Control) (lists : List (List Command))
     (history : List Entry) (receipts : List (List Entry)) : Type 0 where
   pub headline : Headline grid most_lines (length lists) history receipts (totals_of history)
   pub added : List Entry
@@ -76,6 +78,20 @@ change_head e c = line_head e ++ leg_text c ++ codes " " ++ limit_text c
 abbrev pub change_reply : Entry → Change → List ℕ
 change_reply e c = change_head e c ++ codes " " ++ e.reply ++ 10 ∷ []
 
+-- what is done to a class
+abbrev pub sale_word : Bool → List ℕ
+sale_word true = codes "CLOSE"
+sale_word false = codes "OPEN"
+
+-- CLASS CLOSE, or OPEN; `*` stands for all classes
+abbrev pub sale_text : SaleChange → List ℕ
+sale_text c = (scope_letter c.class ∷ []) ++ codes " " ++ sale_word c.closed
+
+-- SESSION NUMBER FLIGHT.LEG CLASS CLOSE REPLY, or OPEN
+abbrev pub sale_reply : Entry → SaleChange → List ℕ
+sale_reply e c =
+    line_head e ++ decimal c.flight ++ codes "." ++ decimal c.leg ++ codes " " ++ sale_text c ++ codes " " ++ e.reply ++ 10 ∷ []
+
 -- what a session is asked, in order: session 1 by the first script, and so on; the manager, session 0, has no script
 abbrev pub requests_of : List (List Request) → ℕ → List Request
 requests_of scripts session = unwrap_or (slice_get ([] ∷ scripts) session) []
@@ -91,6 +107,7 @@ of_command flights c = option_map (λ (s : Segment). record { locator = c.locato
 abbrev pub of_work : List Flown → Work → Option Answered
 of_work flights (Seats c) = of_command flights c
 of_work flights (Limit c) = None
+of_work flights (Sale c) = None
 
 -- the locator and the segment of the booking of this number: those of the line that made it
 abbrev pub made_by : List Flown → Option Entry → Option Answered
@@ -117,6 +134,7 @@ pub record IsSeatsReply (requests : List Request) (place : ℕ) (e : Entry) (lin
 abbrev pub IsLineReply : List Request → ℕ → Entry → Work → List ℕ → Type 0
 IsLineReply requests place e (Seats command) line = IsSeatsReply requests place e line
 IsLineReply requests place e (Limit change) line = line ≡ change_reply e change
+IsLineReply requests place e (Sale change) line = line ≡ sale_reply e change
 
 -- and then its advices
 pub record IsAnswer (flights : List Flown) (requests : List Request) (history : List Entry) (place : ℕ) (e : Entry)
@@ -157,7 +175,7 @@ pub record IsRun (set limits : List ℕ) (first days today : ℕ) (after : List 
   pub grid : Ladders
   pub past : List Entry
   pub scripts : List (List Request)
-  pub changes : List Change
+  pub changes : List Control
   pub is_asked : IsAsked set limits first days today after texts changing flights grid past scripts changes
   pub history : List Entry
   pub receipts : List (List Entry)
@@ -182,7 +200,7 @@ pub record IsBookedTo (session place : ℕ) (lists booked : List (List Work)) : 
 
 -- more is asked than a journal has lines behind the past, and a call of a session was refused, which counts on from the session's
 -- calls of the past: a history that has as many lines as a journal may goes on from the past with what was booked of all that was asked
-pub record IsFull (grid : Ladders) (past : List Entry) (changes : List Change) (lists : List (List Command))
+pub record IsFull (grid : Ladders) (past : List Entry) (changes : List Control) (lists : List (List Command))
     (session call : ℕ) : Type 0 where
   pub many : most_lines < length past + asked_in (works_of changes lists)
   pub list : List Work
@@ -198,7 +216,7 @@ pub record IsFull (grid : Ladders) (past : List Entry) (changes : List Change) (
       (map works_in (by_session (length lists) added))
 
 -- the fault is that of the first session that was not booked whole, at the call that was refused
-abbrev pub IsUnbooked : Ladders → List Entry → List Change → List (List Command) → DeskFault → Type 0
+abbrev pub IsUnbooked : Ladders → List Entry → List Control → List (List Command) → DeskFault → Type 0
 IsUnbooked grid past changes lists (Book session call) = IsFull grid past changes lists session call
 IsUnbooked grid past changes lists _ = ⊥
 
@@ -209,7 +227,7 @@ pub record IsUnbookedOf (set limits : List ℕ) (first days today : ℕ) (after 
   pub grid : Ladders
   pub past : List Entry
   pub scripts : List (List Request)
-  pub changes : List Change
+  pub changes : List Control
   pub is_asked : IsAsked set limits first days today after texts changing flights grid past scripts changes
   pub is_unbooked : IsUnbooked grid past changes (lists_over past (map (commands_of flights) scripts)) fault
 

@@ -2,6 +2,7 @@
 use Rattle.std.specs.Prelude.{◌≡◌, ◌&&◌, ◌==◌, ℕ, Bool, nat_eq, List, Option, Some, None}
 use Rattle.std.specs.Cmp.Lexicographic.{pointwise}
 use Rattle.std.specs.Option.{option_eq}
+use Rattle.std.proofs.Math.Bool.{beq}
 use Rattle.airline_base.specs.Days.{IsDate}
 use Rattle.airline_base.specs.declared.place.Place.{Place}
 use Rattle.ssim_flights.specs.declared.flight.Flight.{Flight as Flown}
@@ -9,8 +10,9 @@ use Rattle.airimp_lines.specs.declared.requests.Request.{Request}
 use Rattle.airimp_lines.specs.declared.segment.Segment.{Segment}
 use Rattle.seat_journal.specs.declared.entry.Change.{Change}
 use Rattle.seat_journal.specs.declared.entry.Command.{Command}
+use Rattle.seat_journal.specs.declared.entry.SaleChange.{SaleChange}
 use Rattle.seat_journal.specs.declared.entry.Work.{Work}
-use Rattle.seat_journal.specs.declared.entry.Work.TheVariants.{Seats, Limit}
+use Rattle.seat_journal.specs.declared.entry.Work.TheVariants.{Seats, Limit, Sale}
 use Rattle.seat_replies.specs.Going.{segment_on}
 use Rattle.seat_replies.specs.Requests.{command_of}
 
@@ -50,10 +52,11 @@ pub record IsAskedAs (c : Command) (r : Request) : Type 0 where
   pub code_is : c.code ≡ r.segment.code
   pub seats_is : c.seats ≡ r.segment.seats
 
--- what a line asks for is this very request; a change of a limit is none
+-- what a line asks for is this very request; what the manager sets is none
 abbrev pub IsVeryRequest : List Flown → Request → Work → Type 0
 IsVeryRequest flights r (Seats c) = IsAskedAs c r × IsPlacedAs flights c c.place r.segment
 IsVeryRequest flights r (Limit change) = ⊥
+IsVeryRequest flights r (Sale change) = ⊥
 
 -- the line at a place is the very request there, or neither is there
 abbrev pub Agree : List Flown → Option Request → Option Work → Type 0
@@ -80,6 +83,10 @@ same_named flown asked =
 abbrev pub same_change : Change → Change → Bool
 same_change a b =
     (a.flight == b.flight) && (a.leg == b.leg) && (a.class == b.class) && (a.limit == b.limit) && (a.wait == b.wait)
+
+-- and of two closings or openings
+abbrev pub same_sale : SaleChange → SaleChange → Bool
+same_sale a b = (a.flight == b.flight) && (a.leg == b.leg) && option_eq nat_eq a.class b.class && beq a.closed b.closed
 
 -- ---- the law
 

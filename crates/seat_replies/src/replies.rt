@@ -1,15 +1,16 @@
 //! The reply to a line of a run, whose requests are answered by segment lines, and its advices.
 ghost use Rattle.std.specs.Prelude.{◌≡◌, ◌<◌, ◌++◌, Some, OnOk, length};
 ghost use Rattle.airimp_lines.specs.Grammar.{IsPlainLine, reply_of};
+ghost use Rattle.seat_journal.specs.Text.{scope_letter};
 ghost use Rattle.seat_desk.specs.FlightsDesk.{IsPut};
 ghost use Rattle.seat_replies.specs.Answering.{AreBooked, IsAnswerable, IsRequested, IsBehind, IsBooked};
 ghost use Rattle.seat_replies.specs.Going.{segment_at, segment_of};
-ghost use Rattle.seat_replies.specs.RunDesk.{IsAdviceLine, IsAnswer, IsLineReply, IsReply, IsSeatsReply, at_any, booked_by, change_head, change_reply, leg_text, limit_text, line_head, of_command, of_request, of_work, reply_head};
+ghost use Rattle.seat_replies.specs.RunDesk.{IsAdviceLine, IsAnswer, IsLineReply, IsReply, IsSeatsReply, at_any, booked_by, change_head, change_reply, leg_text, limit_text, line_head, of_command, of_request, of_work, reply_head, sale_reply, sale_text, sale_word};
 
 use airimp_lines::{Request, Segment, reply_text};
-use airline_base::{Code, Locator, Place};
+use airline_base::{Class, Code, Locator, Place};
 use seat_desk::{put, put_number};
-use seat_journal::{Advice, Change, Command, Entry, Work};
+use seat_journal::{Advice, Change, Command, Entry, SaleChange, Work};
 use ssim_flights::{Flight, Flights};
 use std::alloc::{AllocError, Global};
 
@@ -40,7 +41,7 @@ pub fn put_answer(
 }
 
 /// Adds the reply to what a line asks for.
-#[tactic(auto, using(crate::proofs::Parts::change_put))]
+#[tactic(auto, using(crate::proofs::Parts::change_put, crate::proofs::Parts::sale_put))]
 fn put_line_reply(
     text: &mut Vec<u8>,
     requests: &[Request],
@@ -54,6 +55,7 @@ fn put_line_reply(
     match work {
         Work::Seats(_) => put_seats_reply(text, requests, place, entry),
         Work::Limit(change) => put_change_reply(text, entry, &change),
+        Work::Sale(change) => put_sale_reply(text, entry, &change),
     }
 }
 
@@ -108,6 +110,45 @@ fn put_limit(text: &mut Vec<u8>, change: &Change) -> Result<(), AllocError>
     put_number(text, u64::from(change.limit))?;
     put(text, b"/")?;
     put_number(text, u64::from(change.wait))
+}
+
+/// Adds the reply to a line that closes or opens a class.
+fn put_sale_reply(text: &mut Vec<u8>, entry: &Entry, change: &SaleChange) -> Result<(), AllocError>
+    ensures { OnOk result (text.new.items ≡ text.old.items ++ sale_reply entry.now change.now) }
+{
+    put_line_head(text, entry)?;
+    put_number(text, u64::from(change.flight))?;
+    put(text, b".")?;
+    put_number(text, u64::from(change.leg))?;
+    put(text, b" ")?;
+    put_sale(text, change)?;
+    put(text, b" ")?;
+    put(text, &entry.reply.letters())?;
+    put(text, b"\n")
+}
+
+fn put_sale(text: &mut Vec<u8>, change: &SaleChange) -> Result<(), AllocError>
+    ensures { OnOk result (text.new.items ≡ text.old.items ++ sale_text change.now) }
+{
+    put(text, &[scope_letter(change.class)])?;
+    put(text, b" ")?;
+    put(text, sale_word(change.closed))
+}
+
+/// The class, or `*` for all.
+fn scope_letter(class: Option<Class>) -> u8
+    ensures { result ≡ scope_letter class }
+{
+    match class {
+        Some(class) => class.letter(),
+        None => b'*',
+    }
+}
+
+fn sale_word(closed: bool) -> &'static [u8]
+    ensures { result.now ≡ sale_word closed }
+{
+    if closed { b"CLOSE" } else { b"OPEN" }
 }
 
 /// Adds a line's advices.
@@ -220,6 +261,7 @@ fn of_work(flights: &Flights, work: Work) -> Option<Answered>
     match work {
         Work::Seats(command) => of_command(flights, &command),
         Work::Limit(_) => None,
+        Work::Sale(_) => None,
     }
 }
 

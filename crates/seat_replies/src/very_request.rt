@@ -28,6 +28,7 @@ pub fn is_very_request(flights: &Flights, request: &Request, work: Work) -> bool
             is_asked_as(&command, request) && is_placed_as(flights, &command, &request.segment)
         }
         Work::Limit(_) => false,
+        Work::Sale(_) => false,
     }
 }
 

@@ -6,7 +6,7 @@ use Rattle.std.specs.Option.{option_map}
 use Rattle.std.proofs.lemmas.Option.{get_or_from_slice_get, slice_get_within}
 use Rattle.std.proofs.lemmas.List.Sums.{sum_by-cons}
 use Rattle.std.proofs.lemmas.List.{append-nil, length-map, take_all, take-append-le, take_more, map_push}
-use Rattle.seat_journal.specs.declared.entry.Change.{Change}
+use Rattle.seat_journal.specs.declared.entry.Control.{Control}
 use Rattle.seat_journal.specs.declared.entry.Command.{Command}
 use Rattle.seat_journal.specs.declared.entry.Entry.{Entry}
 use Rattle.seat_journal.specs.declared.entry.Work.{Work}
@@ -119,7 +119,7 @@ of_journal grid cap n most count journal receipts totals cap_is count_is h =
     let capped = subst (λ (c : ℕ). Headline grid c n journal receipts (totals_of journal)) cap_is summed in
     subst (λ (k : ℕ). Headline grid most k journal receipts (totals_of journal)) count_is capped
 
-works_count : (changes : List Change) (lists : List (List Command))
+works_count : (changes : List Control) (lists : List (List Command))
     → length (works_of changes lists) ≡ suc (length lists)
 works_count changes lists = ap suc (length-map lists (λ (list : List Command). map Seats list))
 
@@ -134,7 +134,7 @@ first_run : (past journal : List Entry) (n : ℕ) (list : List Work) (lists : Li
 first_run past journal n list lists sessions [] run confirmed = absurd run
 first_run past journal n list lists sessions (t ∷ news) run confirmed = goes_on past journal n list t run.0 confirmed.0
 
-pub settled_history : (grid : Ladders) (cap n : ℕ) (past : List Entry) (changes : List Change)
+pub settled_history : (grid : Ladders) (cap n : ℕ) (past : List Entry) (changes : List Control)
     (lists : List (List Command)) (manager : Seat) (sessions news : List Seat) (journal : List Entry)
     (receipts : List (List Entry)) (totals : Totals)
     → manager ≡ seated 0 past → sessions ≡ seated_sessions n past → length lists ≡ n
@@ -281,7 +281,7 @@ receipts_are_asked : (lists : List (List Entry)) → receipts_in lists ≡ asked
 receipts_are_asked [] = refl
 receipts_are_asked (list ∷ lists) = omega (arith, sum_by-cons (λ (receipts : List Entry). length receipts) list lists, receipts_are_asked lists)
 
-refusal_of : (grid : Ladders) (past : List Entry) (changes : List Change) (lists : List (List Command))
+refusal_of : (grid : Ladders) (past : List Entry) (changes : List Control) (lists : List (List Command))
     (session call : ℕ) (why : BookFault) → IsFull grid past changes lists session call
     → call_refusal session call why ≢ Memory → IsUnbooked grid past changes lists (call_refusal session call why)
 refusal_of grid past changes lists session call Full is not = is
@@ -321,7 +321,7 @@ both_asked (suc n) past added =
       asked_push [] x = omega arith
       asked_push (y ∷ xs) x = omega (arith, asked_push xs x)
 
-module _ (grid : Ladders) (book : Book) (cap n : ℕ) (fault : RunFault) (past added : List Entry) (changes : List Change) (lists : List (List Command)) (olds news : List Seat) (receipts : List (List Entry)) (totals : Totals)
+module _ (grid : Ladders) (book : Book) (cap n : ℕ) (fault : RunFault) (past added : List Entry) (changes : List Control) (lists : List (List Command)) (olds news : List Seat) (receipts : List (List Entry)) (totals : Totals)
     (opened : olds ≡ all_seated past n) (count : length lists ≡ n) (confirmed : AllByRecursion (IsConfirmed n (past ++ added)) news) (most : cap ≡ most_lines)
     (h : Headline grid cap n (past ++ added) receipts totals) (t : IsStopped grid book cap fault (works_of changes lists) olds news) (full : cap ≤ length (past ++ added)) where
   own_lists : map works_in (by_session n added) ≡ t.taken
@@ -396,7 +396,7 @@ first_begun past journal n list lists sessions (t ∷ news) begun confirmed = go
 
 -- the fault of such a run
 pub refused_run : (grid : Ladders) (book : Book) (cap n : ℕ) (fault : RunFault) (past : List Entry)
-    (changes : List Change) (lists : List (List Command)) (manager : Seat) (sessions news : List Seat)
+    (changes : List Control) (lists : List (List Command)) (manager : Seat) (sessions news : List Seat)
     (journal : List Entry) (receipts : List (List Entry)) (totals : Totals) (f : DeskFault)
     → f ≡ run_refusal fault → manager ≡ seated 0 past → sessions ≡ seated_sessions n past → length lists ≡ n
     → AllHaveBegun (works_of changes lists) (manager ∷ sessions) news
@@ -425,7 +425,7 @@ refused_run grid book cap n fault past changes lists manager sessions news journ
           refusal_of grid past changes lists fault.session fault.call fault.refusal.fault named_call not
 
 -- the same of the commands that scripts ask
-pub unbooked : (grid : Ladders) (past : List Entry) (changes : List Change) (asked lists : List (List Command))
+pub unbooked : (grid : Ladders) (past : List Entry) (changes : List Control) (asked lists : List (List Command))
     (fault : DeskFault) → lists ≡ asked
     → IsUnbooked grid past changes lists fault → IsUnbooked grid past changes asked fault
 unbooked grid past changes asked lists fault is has = subst (λ (l : List (List Command)). IsUnbooked grid past changes l fault) is has

@@ -5,8 +5,8 @@ use Rattle.std.proofs.lemmas.List.{length-map}
 use Rattle.airimp_lines.specs.declared.requests.Request.{Request}
 use Rattle.ssim_flights.specs.declared.flight.Flight.{Flight as Flown}
 use Rattle.seat_nesting.specs.Nesting.{Ladders}
+use Rattle.seat_journal.specs.declared.entry.Control.{Control}
 use Rattle.seat_journal.specs.Text.{IsEntry, journal_text}
-use Rattle.seat_journal.specs.declared.entry.Change.{Change}
 use Rattle.seat_journal.specs.declared.entry.Entry.{Entry}
 use Rattle.seat_seal.specs.Fronts.{front_of}
 use Rattle.seat_seal.specs.Imprints.{imprint_of}
@@ -174,7 +174,7 @@ module _ (P Q : List ℕ → Belonging → List ℕ → Type 0) (give : (journal
 -- ---- the texts of a run, and the entry of its journal
 
 -- the history of what is asked behind the past, its receipts, and its replies
-pub record IsBooked (flights : List Flown) (grid : Ladders) (past : List Entry) (scripts : List (List Request)) (changes : List Change) (history : List Entry) (receipts : List (List Entry)) (replies : List ℕ) : Type 0 where
+pub record IsBooked (flights : List Flown) (grid : Ladders) (past : List Entry) (scripts : List (List Request)) (changes : List Control) (history : List Entry) (receipts : List (List Entry)) (replies : List ℕ) : Type 0 where
   pub is_history : IsHistoryOf grid past changes (lists_over past (map (commands_of flights) scripts)) history receipts
   pub are_entries : AllByRecursion IsEntry history
   pub is_replied : IsReplied flights past scripts history receipts replies
@@ -232,7 +232,7 @@ based_four P Q R basis first days (Some xs) (Some ys) None resumed known give p 
 based_four P Q R basis first days (Some xs) None after resumed known give p q = tt
 based_four P Q R basis first days None limits after resumed known give p q = tt
 
-module _ (set limits after : Option (List ℕ)) (first days today : ℕ) (texts : List (Option (List ℕ))) (changing : Option (List ℕ)) (flights : List Flown) (grid : Ladders) (past : List Entry) (scripts : List (List Request)) (changes : List Change)
+module _ (set limits after : Option (List ℕ)) (first days today : ℕ) (texts : List (Option (List ℕ))) (changing : Option (List ℕ)) (flights : List Flown) (grid : Ladders) (past : List Entry) (scripts : List (List Request)) (changes : List Control)
     (history : List Entry) (receipts : List (List Entry)) (replies : List ℕ) (booked : IsBooked flights grid past scripts changes history receipts replies)
     (basis : Basis) (known : IfSome set (λ xs. IfSome limits (λ ys. basis ≡ basis_of xs ys first days)))
     (imprints : List (Option Imprint)) (are : AreImprints texts imprints) (changed : Option Imprint) (is : IsImprintOf changing changed) (behind : ℕ) (earlier : Carried) (beside : Beside) where

@@ -1,11 +1,12 @@
 -- What `run` writes, `audit` accepts with the scripts of the run and behind the journal that it went on from.
 use Rattle.std.proofs.Common.{◌≡◌, ◌⊎◌, ⊎_elim, inl, ℕ, zero, suc, ◌-◌, ◌+◌, ◌<◌, ◌≤◌, false, List, [], ◌∷◌, length, map, refl, sym, ap, ◌∙◌, subst, arith, get_or, Option, Some}
 use Rattle.seat_scripts.proofs.Sessions.{all_are_wanted}
-use Rattle.seat_scripts.proofs.Common.{Request, Ladders, Change, Command, Entry, Work, Seats, of_session, IsLegal, totals_of, audit_line, most_journal_bytes, IsFirstTooLargeLoad, DeskFault, AreAskedBehind, done_by, HasLoaded, lists_over, AreScripts, IsRefusedAmong, IsTooLargeAmong, commands_of, IsHistoryOf, works_in}
+use Rattle.seat_scripts.proofs.Common.{Request, Ladders, Command, Entry, Work, Seats, of_session, IsLegal, totals_of, audit_line, most_journal_bytes, IsFirstTooLargeLoad, DeskFault, AreAskedBehind, done_by, HasLoaded, lists_over, AreScripts, IsRefusedAmong, IsTooLargeAmong, commands_of, IsHistoryOf, works_in}
 use Rattle.std.proofs.lemmas.Bool.{cases_lt}
 use Rattle.std.proofs.lemmas.List.{append-nil, get_or_past, length-map}
 use Rattle.airimp_lines.specs.declared.fault.ScriptFault.{ScriptFault}
 use Rattle.ssim_flights.specs.declared.flight.Flight.{Flight as Flown}
+use Rattle.seat_journal.specs.declared.entry.Control.{Control}
 use Rattle.seat_journal.specs.Text.{IsJournalText}
 use Rattle.seat_journal.proofs.TextLaws.{one_text}
 use Rattle.seat_rules.specs.Inventory.{Inventory}
@@ -33,7 +34,7 @@ its_requests [] i = refl
 its_requests (script ∷ scripts) zero = refl
 its_requests (script ∷ scripts) (suc i) = its_requests scripts i
 
-module _ (grid : Ladders) (past : List Entry) (flights : List Flown) (changes : List Change) (scripts : List (List Request)) (history : List Entry) (told : List (List Entry))
+module _ (grid : Ladders) (past : List Entry) (flights : List Flown) (changes : List Control) (scripts : List (List Request)) (history : List Entry) (told : List (List Entry))
     (h : IsHistoryOf grid past changes (lists_over past (map (commands_of flights) scripts)) history told) where
   abbrev lists : List (List Command)
   lists = lists_over past (map (commands_of flights) scripts)

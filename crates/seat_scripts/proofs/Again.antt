@@ -5,9 +5,11 @@ use Rattle.std.specs.Str.Lines.{lines as lines_of}
 use Rattle.std.proofs.lemmas.Bool.{cases_lt}
 use Rattle.std.proofs.lemmas.List.{append-nil, drop_all, length-append, length-drop, length-map}
 use Rattle.std.proofs.lemmas.Option.{slice_get_past}
+use Rattle.airline_base.proofs.Tests.{some_is}
 use Rattle.ssim_flights.specs.declared.flight.Flight.{Flight as Flown}
+use Rattle.seat_journal.specs.declared.entry.Control.{Control}
+use Rattle.seat_journal.specs.Controls.{set_by}
 use Rattle.seat_journal.specs.Text.{IsJournalText, journal_text}
-use Rattle.seat_journal.specs.declared.entry.Work.TheVariants.{Limit}
 use Rattle.seat_journal.proofs.TextLaws.{one_text}
 use Rattle.seat_limits.specs.declared.change_row.ChangeRow.{ChangeRow}
 use Rattle.seat_limits.proofs.ChangeTexts.{changes_again}
@@ -17,7 +19,7 @@ use Rattle.seat_desk.specs.AuditDesk.{most_lines}
 use Rattle.seat_desk.specs.FlightsDesk.{IsText}
 use Rattle.seat_desk.proofs.Grounds.{loaded_replays_keep_limits}
 use Rattle.seat_scripts.proofs.Accepted.{each_of}
-use Rattle.seat_scripts.proofs.Common.{AllByRecursion, Change, Entry, IsHistoryOf, Ladders, Request, Seats, Work, by_session, commands_of, done_by, lists_over, most_journal_bytes}
+use Rattle.seat_scripts.proofs.Common.{AllByRecursion, Entry, IsHistoryOf, Ladders, Request, Seats, Work, by_session, commands_of, done_by, lists_over, most_journal_bytes}
 use Rattle.seat_scripts.proofs.Comparing.{all_asked, done_append, done_own}
 use Rattle.seat_scripts.proofs.Grown.{all_there, done_all, done_length, nothing_is_left}
 use Rattle.seat_replies.proofs.Histories.{as_replies, managed}
@@ -26,7 +28,7 @@ use Rattle.seat_scripts.proofs.Rest.{left_count}
 use Rattle.seat_replies.proofs.Rows.{all_append}
 use Rattle.seat_scripts.proofs.Unasked.{one_schedule, own_added, same_scripts}
 use Rattle.seat_scripts.specs.Against.{AreAsked, AreAskedBelow, IsParted, IsReplayWithin}
-use Rattle.seat_replies.specs.Changes.{AreChanges, change_of}
+use Rattle.seat_replies.specs.Changes.{AreChanges, all_served}
 use Rattle.seat_scripts.specs.Resumed.{BooksNothing, IsResumed, ResumedAgainIsTheSame, ResumedIsOfTheWhole, ResumedRunIsTheSame}
 use Rattle.seat_scripts.specs.Resuming.{AreAskedOf, AreLeft, HaveBegunBelow, changes_left, left_from}
 use Rattle.seat_replies.specs.RunDesk.{AreReplies, AreSessions, IsRun, requests_of}
@@ -34,7 +36,7 @@ use Rattle.seat_replies.specs.VeryRequest.{Agree}
 
 -- ---- what was added is what was left
 
-module _ (grid : Ladders) (past : List Entry) (flights : List Flown) (changes : List Change) (scripts : List (List Request)) (history : List Entry) (told : List (List Entry))
+module _ (grid : Ladders) (past : List Entry) (flights : List Flown) (changes : List Control) (scripts : List (List Request)) (history : List Entry) (told : List (List Entry))
     (h : IsHistoryOf grid past changes (lists_over past (map (commands_of flights) scripts)) history told) where
   asked_of : AreAskedOf flights scripts h.added
   asked_of = record { each = each } where
@@ -44,7 +46,7 @@ module _ (grid : Ladders) (past : List Entry) (flights : List Flown) (changes : 
         subst (λ (k : ℕ). done_by k h.added ≡ map Seats (commands_of flights (requests_of scripts k))) up
         (each_of grid past flights changes scripts history told h (session - 1))
 
-  made_of : done_by 0 h.added ≡ map Limit changes
+  made_of : done_by 0 h.added ≡ map set_by changes
   made_of = managed grid past flights changes scripts history told h
 
 -- ---- the whole scripts
@@ -147,7 +149,7 @@ resumed_is_of_the_whole set limits first days today after more journal texts cha
 -- ---- a history in which nothing is left
 
 -- behind the past the scripts and the changes were booked whole
-record IsBookedWhole (older : List Entry) (more : ℕ) (scripts : List (List Request)) (changes : List Change) (history : List Entry) : Type 0 where
+record IsBookedWhole (older : List Entry) (more : ℕ) (scripts : List (List Request)) (changes : List Control) (history : List Entry) : Type 0 where
   past : List Entry
   added : List Entry
   parted : IsParted older more past added history
@@ -160,14 +162,14 @@ module _ (set limits : List ℕ) (first days today : ℕ) (after : List ℕ) (mo
   abbrev begun : List Entry
   begun = resumed.is_asked.is_rest.begun
 
-  abbrev changes : List Change
+  abbrev changes : List Control
   changes = resumed.is_asked.changes
 
   resumed_whole : IsBookedWhole resumed.is_asked.older more resumed.is_asked.scripts changes resumed.history
   resumed_whole =
       let h = resumed.is_history in
-      let made : done_by 0 h.added ≡ map Limit resumed.rest = made_of resumed.grid resumed.lines resumed.flights resumed.rest resumed.left resumed.history resumed.receipts h in
-      let rest : length (map Limit resumed.rest) ≡ length resumed.rest = length-map resumed.rest Limit in
+      let made : done_by 0 h.added ≡ map set_by resumed.rest = made_of resumed.grid resumed.lines resumed.flights resumed.rest resumed.left resumed.history resumed.receipts h in
+      let rest : length (map set_by resumed.rest) ≡ length resumed.rest = length-map resumed.rest set_by in
       let cut : length (changes_left changes begun) ≡ length changes - length (done_by 0 begun) = length-drop (length (done_by 0 begun)) changes in
       let long : length (done_by 0 (begun ++ h.added)) ≡ length (done_by 0 begun) + length (done_by 0 h.added) =
       ap length (done_append 0 begun h.added) ∙ length-append (done_by 0 begun) (done_by 0 h.added) in
@@ -191,7 +193,7 @@ module _ (set limits : List ℕ) (first days today : ℕ) (after : List ℕ) (te
   run_whole : IsBookedWhole run.past 0 run.scripts run.changes run.history
   run_whole =
       let h = run.is_history in
-      let made : done_by 0 h.added ≡ map Limit run.changes = made_of run.grid run.past run.flights run.changes run.scripts run.history run.receipts h in
+      let made : done_by 0 h.added ≡ map set_by run.changes = made_of run.grid run.past run.flights run.changes run.scripts run.history run.receipts h in
       let none_begun : AreLeft run.flights run.scripts [] run.scripts =
       record { have_begun = record { each = λ session low high. record { each = λ place below. absurd (omega (arith, below)) } }; left_is = all_left 1 run.scripts } in
       record {
@@ -200,7 +202,7 @@ module _ (set limits : List ℕ) (first days today : ℕ) (after : List ℕ) (te
         parted = record { whole = h.goes_on; goes_on = record { rest = []; is = sym (append-nil run.past) }; count = omega arith };
         none_left = sym (nothing_is_left run.flights run.scripts run.scripts [] h.added none_begun
             (asked_of run.grid run.past run.flights run.changes run.scripts run.history run.receipts h)).left_is;
-        none_rest = drop_all (length (done_by 0 h.added)) run.changes (omega (arith, ap length made, length-map run.changes Limit));
+        none_rest = drop_all (length (done_by 0 h.added)) run.changes (omega (arith, ap length made, length-map run.changes set_by));
       }
 
 -- ---- nothing is booked behind it
@@ -240,12 +242,12 @@ silent flights scripts history n (l ∷ lists) text none is =
     let part : is.0 ≡ [] = subst (λ (x : List Entry). AreSessions flights scripts history n x is.0) none.0 is.2 in
     is.3 ∙ (ap (λ (x : List ℕ). x ++ is.1) part ∙ silent flights scripts history (n + 1) lists is.1 none.1 is.4)
 
-module _ (grid : Ladders) (lines : List Entry) (flights : List Flown) (rest : List Change) (left scripts : List (List Request)) (history : List Entry) (told : List (List Entry))
+module _ (grid : Ladders) (lines : List Entry) (flights : List Flown) (rest : List Control) (left scripts : List (List Request)) (history : List Entry) (told : List (List Entry))
     (h : IsHistoryOf grid lines rest (lists_over lines (map (commands_of flights) left)) history told) (no_left : left ≡ emptied scripts) (no_rest : rest ≡ []) where
   none_added : h.added ≡ []
   none_added = none_done h.added each where
     each : (session : ℕ) → done_by session h.added ≡ []
-    each zero = made_of grid lines flights rest left history told h ∙ ap (map Limit) no_rest
+    each zero = made_of grid lines flights rest left history told h ∙ ap (map set_by) no_rest
     each (suc place) =
         each_of grid lines flights rest left history told h place
         ∙ ap (λ (l : List (List Request)). map Seats (commands_of flights (requests_of l (suc place)))) no_left
@@ -261,28 +263,17 @@ module _ (grid : Ladders) (lines : List Entry) (flights : List Flown) (rest : Li
 
 -- ---- the same inputs
 
-same_change_list : (a b : List Change) → map Some a ≡ map Some b → a ≡ b
-same_change_list [] [] e = refl
-same_change_list [] (y ∷ b) e = absurd cc
-same_change_list (x ∷ a) [] e = absurd cc
-same_change_list (x ∷ a) (y ∷ b) e = λ i. heads i ∷ same_change_list a b tails i where
-  heads : x ≡ y
-  heads = cc
-
-  tails : map Some a ≡ map Some b
-  tails = cc
-
-same_changes : (flights : List Flown) (bytes : List ℕ) (a b : List Change) → AreChanges flights a bytes
+same_changes : (flights : List Flown) (bytes : List ℕ) (a b : List Control) → AreChanges flights a bytes
     → AreChanges flights b bytes → a ≡ b
 same_changes flights bytes a b one two =
     let rows : one.rows ≡ two.rows = rows_is one.rows two.rows (sym (changes_again (lines_of bytes) 1 one.rows one.are_rows.spelled) ∙ changes_again (lines_of bytes) 1 two.rows two.are_rows.spelled) in
-    same_change_list a b (sym one.are_served ∙ (ap (λ (r : List ChangeRow). map (change_of flights) r) rows ∙ two.are_served))
+    some_is a b (sym one.are_served ∙ (ap (λ (r : List ChangeRow). all_served flights r) rows ∙ two.are_served))
 
 -- ---- the laws
 
 module _ (set limits : List ℕ) (first days today : ℕ) (after : List ℕ) (more : ℕ) (journal : List ℕ) (texts : List (List ℕ)) (changing again replies : List ℕ)
     (second : IsResumed set limits first days today after more journal (map Some texts) (Some changing) again replies)
-    (older : List Entry) (scripts : List (List Request)) (changes : List Change) (history : List Entry) (booked : IsBookedWhole older more scripts changes history)
+    (older : List Entry) (scripts : List (List Request)) (changes : List Control) (history : List Entry) (booked : IsBookedWhole older more scripts changes history)
     (olders : second.is_asked.older ≡ older) (all_scripts : second.is_asked.scripts ≡ scripts) (all_changes : second.is_asked.changes ≡ changes) (all_lines : second.lines ≡ history) where
   begun_again : second.is_asked.is_rest.begun ≡ booked.added
   begun_again =
@@ -299,7 +290,7 @@ module _ (set limits : List ℕ) (first days today : ℕ) (after : List ℕ) (mo
   no_rest : second.rest ≡ []
   no_rest =
       second.is_asked.is_rest.rest_is
-      ∙ (ap (λ (c : List Change). changes_left c second.is_asked.is_rest.begun) all_changes
+      ∙ (ap (λ (c : List Control). changes_left c second.is_asked.is_rest.begun) all_changes
       ∙ (ap (changes_left changes) begun_again ∙ booked.none_rest))
 
   nothing_new : BooksNothing (journal_text history) again replies

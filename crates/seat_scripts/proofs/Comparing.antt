@@ -9,7 +9,8 @@ use Rattle.std.proofs.lemmas.Bool.Decides.{nat_tests}
 use Rattle.std.proofs.lemmas.List.{map-append, length-append, take-append-drop, take_all, take_more}
 use Rattle.std.proofs.lemmas.Bool.{cases_lt}
 use Rattle.std.proofs.lemmas.Option.{slice_get_cases, slice_get_past, slice_get_read}
-use Rattle.seat_journal.specs.declared.entry.Work.TheVariants.{Limit}
+use Rattle.seat_journal.specs.declared.entry.Work.TheVariants.{Limit, Sale}
+use Rattle.seat_journal.specs.declared.entry.SaleChange.{SaleChange}
 use Rattle.seat_rules.specs.Bookings.{same_place}
 use Rattle.seat_rules.proofs.History.Faults.{place_same, nat_same}
 use Rattle.seat_rules.proofs.History.Legal.{each_legal}
@@ -79,6 +80,25 @@ works_same a b told same = (λ (is : IsTrue told). ap Seats (same.0 is), λ (e :
 
 pub no_limit : (a : Command) (c : Change) → Seats a ≡ Limit c → ⊥
 no_limit a c e = cc
+
+pub no_sale : (a : Command) (c : SaleChange) → Seats a ≡ Sale c → ⊥
+no_sale a c e = cc
+
+pub sets_no_sale : (a : Change) (c : SaleChange) → Limit a ≡ Sale c → ⊥
+sets_no_sale a c e = cc
+
+-- and of those that close or open a class
+pub closings_same : (a b : SaleChange) (told : Bool) → (IsTrue told → a ≡ b) × (a ≡ b → IsTrue told)
+    → (IsTrue told → Sale a ≡ Sale b) × (Sale a ≡ Sale b → IsTrue told)
+closings_same a b told same = (λ (is : IsTrue told). ap Sale (same.0 is), λ (e : Sale a ≡ Sale b). same.1 (one e)) where
+  one : Sale a ≡ Sale b → a ≡ b
+  one e = cc
+
+pub closes_no_seats : (a : SaleChange) (c : Command) → Sale a ≡ Seats c → ⊥
+closes_no_seats a c e = cc
+
+pub closes_no_limit : (a : SaleChange) (c : Change) → Sale a ≡ Limit c → ⊥
+closes_no_limit a c e = cc
 
 -- a script that was looked up at a session's place
 pub listed : (scripts : List (List Request)) (session place : ℕ) (script : List Request) → 1 ≤ session → place ≡ session

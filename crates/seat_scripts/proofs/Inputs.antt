@@ -1,6 +1,7 @@
 -- What is known of the inputs of a run, as far as they are read and right.
+use Rattle.seat_journal.specs.declared.entry.Control.{Control}
 use Rattle.std.proofs.Common.{◌≡◌, ◌⊎◌, inl, inr, ℕ, List, Option, Some, None, IfSome, length, ◌<◌, sym, subst}
-use Rattle.seat_scripts.proofs.Common.{Request, Change, Entry, Ladders, most_journal_bytes, IsFirstTooLargeLoad, IsLoaded, HasLoaded, OfThree, AreScripts, IsTooLargeAmong}
+use Rattle.seat_scripts.proofs.Common.{Request, Entry, Ladders, most_journal_bytes, IsFirstTooLargeLoad, IsLoaded, HasLoaded, OfThree, AreScripts, IsTooLargeAmong}
 use Rattle.ssim_flights.specs.declared.flight.Flight.{Flight as Flown}
 use Rattle.seat_replies.specs.Asked.{HasPast, HasScripts, IsAsked, IsTooLargeRun}
 use Rattle.seat_replies.specs.Changes.{AreChanges, most_change_bytes}
@@ -88,7 +89,7 @@ module _ (set limits after : Option (List ℕ)) (first days today : ℕ) (texts 
         changes_fail load past script changes failed = inr (inr (inr (has_scripts, failed)))
 
         -- all is right
-        pub asked_of : (now : Ladders) (changes : List Change) → now ≡ grid
+        pub asked_of : (now : Ladders) (changes : List Control) → now ≡ grid
             → IfSome changing (AreChanges flights changes)
             → OfThree set limits after (λ xs ys zs. IsAsked xs ys first days today zs texts changing flights now past
             scripts changes)

@@ -1,4 +1,5 @@
 -- What the runs that a seal knows have against a run that goes on with scripts, as far as the inputs are known.
+use Rattle.seat_journal.specs.declared.entry.Control.{Control}
 use Rattle.std.proofs.Common.{◌≡◌, ◌+◌, ◌||◌, ℕ, Bool, List, Option, Some, None, IfSome, length, sym, subst, ◌∙◌}
 use Rattle.seat_rules.specs.Inventory.{Inventory}
 use Rattle.ssim_flights.specs.declared.flight.Flight.{Flight as Flown}
@@ -7,7 +8,7 @@ use Rattle.seat_seal.specs.declared.comparing.SealFault.{SealFault}
 use Rattle.seat_seal.specs.declared.seal.Sealed.{Sealed as Belonging}
 use Rattle.seat_desk.specs.Desk.{IsOfInput}
 use Rattle.seat_desk.specs.declared.fault.DeskFault.TheVariants.{Book, Device, NoBehind, Seal, TooLarge, Unasked}
-use Rattle.seat_scripts.proofs.Common.{Change, DeskFault, Entry, Ladders, Request}
+use Rattle.seat_scripts.proofs.Common.{DeskFault, Entry, Ladders, Request}
 use Rattle.seat_scripts.proofs.Beside.{if_four}
 use Rattle.seat_scripts.proofs.SealedBoth.{both_four}
 use Rattle.seat_scripts.specs.Against.{AreRead, IsOfReading, OfFour}
@@ -31,7 +32,7 @@ of_last Q None limits after journal q = tt
 
 module _ (set limits after journal : Option (List ℕ)) (first days today : ℕ) (texts : List (Option (List ℕ))) (changing : Option (List ℕ)) (given : Option ℕ) (besides : Besides) (again : Bool) where
   -- both agree, all is asked, and this is what the runs have against it
-  pub refused_by_runs : (flights : List Flown) (grid : Ladders) (older lines : List Entry) (scripts : List (List Request)) (changes : List Change)
+  pub refused_by_runs : (flights : List Flown) (grid : Ladders) (older lines : List Entry) (scripts : List (List Request)) (changes : List Control)
       (fault : DeskFault) (s : SealFault)
       → OfFour set limits after journal (λ xs ys old zs. BothAgree besides xs ys first days old zs)
       → OfFour set limits after journal (λ xs ys old zs. IsWholeAsked xs ys first days today old zs texts changing flights grid older lines scripts changes)

@@ -4,13 +4,14 @@ use Rattle.seat_scripts.proofs.Common.{AllByRecursion, Place, Ladders, Advice, C
 use Rattle.std.specs.List.{flat_map}
 use Rattle.std.proofs.lemmas.Fmt.{length-decimal-le}
 use Rattle.airline_base.proofs.LeadingFields.{length_code, length_locator}
-use Rattle.seat_journal.specs.Text.{IsAdvice, IsChange, IsCommand, IsEntry, IsPlace, IsStem, IsWork, advice_text, blank, change_text, colon, dot, newline, command_text, end_text, entry_text, head_text, journal_text, place_text, stem_text, wanted_text, work_text}
-use Rattle.seat_journal.specs.declared.entry.Work.TheVariants.{Limit}
+use Rattle.seat_journal.specs.Text.{IsAdvice, IsChange, IsCommand, IsEntry, IsPlace, IsSale, IsStem, IsWork, advice_text, blank, change_text, colon, dot, newline, command_text, end_text, entry_text, head_text, journal_text, mark_letter, place_text, sale_text, scope_letter, stem_text, wanted_text, work_text}
+use Rattle.seat_journal.specs.declared.entry.SaleChange.{SaleChange}
+use Rattle.seat_journal.specs.declared.entry.Work.TheVariants.{Limit, Sale}
 use Rattle.seat_rules.specs.declared.booking.Booking.{Booking}
 use Rattle.seat_rules.specs.declared.booking.Status.{Status}
 use Rattle.seat_rules.specs.declared.booking.Status.TheVariants.{Held, Waiting}
 use Rattle.seat_rules.specs.Bookings.{is_for, is_waiting}
-use Rattle.seat_rules.specs.Sequential.{State, Outcome, answer, pass, may_confirm, confirmed, advice_of, reduced, booking_of, changed_by}
+use Rattle.seat_rules.specs.Sequential.{State, Outcome, answer, pass, may_confirm, confirmed, advice_of, reduced, booking_of, changed_by, sales_by}
 use Rattle.seat_rules.specs.Journal.{replay}
 use Rattle.seat_desk.specs.AuditDesk.{most_lines}
 use Rattle.seat_rules.proofs.History.Lines.{replay_next}
@@ -88,6 +89,7 @@ answer_waits s number w =
     (λ c place at none. record { few = omega (arith, waits_append s.bookings (booking_of number c place Waiting ∷ []), pass_waits s.grid [] [] (s.bookings ++ booking_of number c place Waiting ∷ [])) })
     (λ c place b at found le. record { few = omega (arith, reduced_waits (is_for c.locator place c.class) c.seats s.bookings, pass_waits s.grid [] [] (reduced (is_for c.locator place c.class) c.seats s.bookings)) })
     (λ c may. record { few = omega (arith, pass_waits (changed_by s.grid c) [] [] s.bookings) })
+    (λ c may. record { few = omega (arith, pass_waits (sales_by s.grid c) [] [] s.bookings) })
     w
 
 -- how many advices lines have
@@ -189,9 +191,24 @@ change_short c is =
       five c.wait is.wait,
     )
 
+sale_short : (c : SaleChange) → IsSale c → length (sale_text c) ≤ 36
+unfolding sale_text
+sale_short c is =
+    let class = scope_letter c.class ∷ (blank ∷ (mark_letter c.closed ∷ [])) in
+    let leg = decimal c.leg ++ (blank ∷ class) in
+    omega (
+      arith,
+      length-append (codes "V3 ST ") (decimal c.flight ++ (dot ∷ leg)),
+      between (decimal c.flight) dot leg,
+      between (decimal c.leg) blank class,
+      ten c.flight is.flight,
+      three c.leg is.leg,
+    )
+
 work_short : (w : Work) → IsWork w → length (work_text w) ≤ 36
 work_short (Seats c) is = command_short c is
 work_short (Limit c) is = change_short c is
+work_short (Sale c) is = sale_short c is
 
 stem_short : (e : Entry) → IsStem e → length (stem_text e) ≤ 71
 unfolding stem_text

@@ -5,40 +5,41 @@ use Rattle.std.specs.Option.{option_map}
 use Rattle.std.proofs.Math.Seq.{drop-cons}
 use Rattle.std.proofs.lemmas.List.{append-nil, length-append, take-append-drop, take_all}
 use Rattle.std.proofs.lemmas.Option.{slice_get-map}
-use Rattle.seat_journal.specs.declared.entry.Work.TheVariants.{Limit}
-use Rattle.seat_scripts.proofs.Common.{Change, Entry, Work, done_by}
+use Rattle.seat_journal.specs.declared.entry.Control.{Control}
+use Rattle.seat_journal.specs.Controls.{set_by}
+use Rattle.seat_scripts.proofs.Common.{Entry, Work, done_by}
 use Rattle.seat_scripts.proofs.Comparing.{at_seam, done_append, done_other, done_own, one_more}
 use Rattle.seat_scripts.specs.Resuming.{AreMade, IsFirstOther}
 
 -- ---- one line
 
-pub made_there : (changes : List Change) (place : ℕ) (change : Change) (work : Work) (told : Bool)
+pub made_there : (changes : List Control) (place : ℕ) (change : Control) (work : Work) (told : Bool)
     → slice_get changes place ≡ Some change
-    → (IsTrue told → Limit change ≡ work) × (Limit change ≡ work → IsTrue told)
-    → (IsTrue told → slice_get (map Limit changes) place ≡ Some work)
-    × (slice_get (map Limit changes) place ≡ Some work → IsTrue told)
+    → (IsTrue told → set_by change ≡ work) × (set_by change ≡ work → IsTrue told)
+    → (IsTrue told → slice_get (map set_by changes) place ≡ Some work)
+    × (slice_get (map set_by changes) place ≡ Some work → IsTrue told)
 made_there changes place change work told at same = (
   λ (is : IsTrue told). here ∙ ap Some (same.0 is),
-  λ (e : slice_get (map Limit changes) place ≡ Some work). same.1 (one (sym here ∙ e)),
+  λ (e : slice_get (map set_by changes) place ≡ Some work). same.1 (one (sym here ∙ e)),
 ) where
-  here : slice_get (map Limit changes) place ≡ Some (Limit change)
-  here = slice_get-map Limit changes place ∙ ap (option_map Limit) at
+  here : slice_get (map set_by changes) place ≡ Some (set_by change)
+  here = slice_get-map set_by changes place ∙ ap (option_map set_by) at
 
-  one : Some (Limit change) ≡ Some work → Limit change ≡ work
+  one : Some (set_by change) ≡ Some work → set_by change ≡ work
   one e = cc
 
-pub made_nowhere : (changes : List Change) (place : ℕ) (work : Work) → slice_get changes place ≡ None
-    → slice_get (map Limit changes) place ≡ Some work → ⊥
-made_nowhere changes place work none at = no (sym (slice_get-map Limit changes place ∙ ap (option_map Limit) none) ∙ at) where
+pub made_nowhere : (changes : List Control) (place : ℕ) (work : Work) → slice_get changes place ≡ None
+    → slice_get (map set_by changes) place ≡ Some work → ⊥
+made_nowhere changes place work none at = no (sym (slice_get-map set_by changes place ∙ ap (option_map set_by) none) ∙ at) where
   no : None ≡ Some work → ⊥
   no e = cc
 
 -- ---- the lines so far
 
 -- so many lines of the manager stand in the front, and they are the first changes
-pub record MadeSoFar (changes : List Change) (calls : ℕ) (front : List Entry) : Type 0 where
+pub record MadeSoFar (changes : List Control) (calls : ℕ) (front : List Entry) : Type 0 where
   pub count : calls ≡ length (done_by 0 front)
-  pub made : done_by 0 front ≡ take calls (map Limit changes)
+  pub made : done_by 0 front ≡ take calls (map set_by changes)
   pub few : calls ≤ length front
 
 take_at : (xs : List Work) (i : ℕ) (x : Work) → slice_get xs i ≡ Some x → take (suc i) xs ≡ take i xs ++ x ∷ []
@@ -52,7 +53,7 @@ take_front : (xs ys : List Work) → take (length xs) (xs ++ ys) ≡ xs
 take_front [] ys = refl
 take_front (x ∷ xs) ys = ap (λ (l : List Work). x ∷ l) (take_front xs ys)
 
-module _ (changes : List Change) (journal : List Entry) (calls i : ℕ) (e : Entry) (lt : i < length journal) (is : e ≡ get_or journal i e)
+module _ (changes : List Control) (journal : List Entry) (calls i : ℕ) (e : Entry) (lt : i < length journal) (is : e ≡ get_or journal i e)
     (so_far : MadeSoFar changes calls (take i journal)) where
   longer : length (take i journal ++ e ∷ []) ≡ length (take i journal) + 1
   longer = length-append (take i journal) (e ∷ [])
@@ -67,7 +68,7 @@ module _ (changes : List Change) (journal : List Entry) (calls i : ℕ) (e : Ent
         few = omega (arith, so_far.few, longer);
       })
 
-  pub made_own : e.session ≡ 0 → slice_get (map Limit changes) calls ≡ Some e.work
+  pub made_own : e.session ≡ 0 → slice_get (map set_by changes) calls ≡ Some e.work
       → MadeSoFar changes (calls + 1) (take (i + 1) journal)
   made_own own at =
       let more : done_by 0 (take i journal ++ e ∷ []) ≡ done_by 0 (take i journal) ++ e.work ∷ [] =
@@ -77,12 +78,12 @@ module _ (changes : List Change) (journal : List Entry) (calls i : ℕ) (e : Ent
       let up : suc calls ≡ calls + 1 = omega arith in
       subst (MadeSoFar changes (calls + 1)) (sym (one_more journal i e lt is)) (record {
         count = omega (arith, so_far.count, counted);
-        made = more ∙ (ap (λ (l : List Work). l ++ e.work ∷ []) so_far.made ∙ (sym (take_at (map Limit changes) calls e.work at)
-            ∙ ap (λ (k : ℕ). take k (map Limit changes)) up));
+        made = more ∙ (ap (λ (l : List Work). l ++ e.work ∷ []) so_far.made ∙ (sym (take_at (map set_by changes) calls e.work at)
+            ∙ ap (λ (k : ℕ). take k (map set_by changes)) up));
         few = omega (arith, so_far.few, longer);
       })
 
-  pub other_here : e.session ≡ 0 → (slice_get (map Limit changes) calls ≡ Some e.work → ⊥)
+  pub other_here : e.session ≡ 0 → (slice_get (map set_by changes) calls ≡ Some e.work → ⊥)
       → IsFirstOther changes journal (calls + 1)
   other_here own not =
       let rest : List Entry = drop (suc i) journal in
@@ -95,7 +96,7 @@ module _ (changes : List Change) (journal : List Entry) (calls i : ℕ) (e : Ent
       let long : length (done_by 0 journal) ≡ length (done_by 0 (take i journal)) + length (e.work ∷ done_by 0 rest) =
       ap length done ∙ length-append (done_by 0 (take i journal)) (e.work ∷ done_by 0 rest) in
       let here : calls ≡ calls + 1 - 1 = omega arith in
-      let front : take calls (done_by 0 journal) ≡ take calls (map Limit changes) =
+      let front : take calls (done_by 0 journal) ≡ take calls (map set_by changes) =
       ap (take calls) done ∙ (ap (λ (k : ℕ). take k (done_by 0 (take i journal) ++ e.work ∷ done_by 0 rest)) so_far.count
       ∙ (take_front (done_by 0 (take i journal)) (e.work ∷ done_by 0 rest) ∙ so_far.made)) in
       let seam : slice_get (done_by 0 journal) calls ≡ Some e.work =
@@ -103,17 +104,17 @@ module _ (changes : List Change) (journal : List Entry) (calls i : ℕ) (e : Ent
       record {
         from_one = omega arith;
         line = omega (arith, long, so_far.count);
-        before = subst (λ (k : ℕ). take k (done_by 0 journal) ≡ take k (map Limit changes)) here front;
-        there = subst (λ (k : ℕ). slice_get (done_by 0 journal) k ≢ slice_get (map Limit changes) k) here
-            (λ (same : slice_get (done_by 0 journal) calls ≡ slice_get (map Limit changes) calls). not (sym same ∙ seam));
+        before = subst (λ (k : ℕ). take k (done_by 0 journal) ≡ take k (map set_by changes)) here front;
+        there = subst (λ (k : ℕ). slice_get (done_by 0 journal) k ≢ slice_get (map set_by changes) k) here
+            (λ (same : slice_get (done_by 0 journal) calls ≡ slice_get (map set_by changes) calls). not (sym same ∙ seam));
       }
 
 -- all lines of the manager are the first changes
-pub made_all : (changes : List Change) (journal : List Entry) (calls i : ℕ) → length journal ≤ i
+pub made_all : (changes : List Control) (journal : List Entry) (calls i : ℕ) → length journal ≤ i
     → MadeSoFar changes calls (take i journal) → AreMade changes journal
 made_all changes journal calls i whole so_far =
     let all : MadeSoFar changes calls journal = subst (MadeSoFar changes calls) (take_all i journal whole) so_far in
     record {
-      rest = drop calls (map Limit changes);
-      is = sym (take-append-drop calls (map Limit changes)) ∙ ap (λ (l : List Work). l ++ drop calls (map Limit changes)) (sym all.made);
+      rest = drop calls (map set_by changes);
+      is = sym (take-append-drop calls (map set_by changes)) ∙ ap (λ (l : List Work). l ++ drop calls (map set_by changes)) (sym all.made);
     }

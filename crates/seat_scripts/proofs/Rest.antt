@@ -1,11 +1,12 @@
 -- What is left of scripts and changes behind a journal that has a beginning of them.
+use Rattle.seat_journal.specs.declared.entry.Control.{Control}
 use Rattle.std.proofs.Common.{◌≡◌, ◌+◌, inl, inr, ℕ, zero, suc, List, [], ◌∷◌, length, drop, take, refl, sym, ap, ◌∙◌, subst}
 use Rattle.std.proofs.lemmas.List.Elements.{All-drop}
 use Rattle.airimp_lines.specs.Grammar.{IsRightSegment}
 use Rattle.ssim_flights.specs.declared.flight.Flight.{Flight as Flown}
 use Rattle.seat_desk.specs.declared.fault.DeskFault.TheVariants.{NoBehind}
 use Rattle.seat_rules.specs.Journal.{calls_of}
-use Rattle.seat_scripts.proofs.Common.{AllByRecursion, Change, Entry, Request, DeskFault, Unasked, done_by}
+use Rattle.seat_scripts.proofs.Common.{AllByRecursion, Entry, Request, DeskFault, Unasked, done_by}
 use Rattle.seat_scripts.specs.Against.{IsNoPast, IsParted}
 use Rattle.seat_replies.specs.Changes.{IsOnLeg}
 use Rattle.seat_replies.specs.Requests.{AreRight}
@@ -31,7 +32,7 @@ all_dropped P zero xs all = all
 all_dropped P (suc k) [] all = tt
 all_dropped P (suc k) (x ∷ xs) all = all_dropped P k xs all.1
 
-module _ (flights : List Flown) (scripts : List (List Request)) (changes : List Change) (older : List Entry) (more : ℕ) (journal : List Entry) (left : List (List Request)) (rest : List Change)
+module _ (flights : List Flown) (scripts : List (List Request)) (changes : List Control) (older : List Entry) (more : ℕ) (journal : List Entry) (left : List (List Request)) (rest : List Control)
     (is : IsRestOf flights scripts changes older more journal left rest) where
   pub rest_count : length left ≡ length scripts
   rest_count = ap length is.are_left.left_is ∙ left_count 1 scripts is.begun
@@ -45,12 +46,12 @@ module _ (flights : List Flown) (scripts : List (List Request)) (changes : List 
 -- ---- the rest behind a past
 
 -- the fault of a line of the manager
-pub unmade_line : (changes : List Change) (past begun : List Entry) (place : ℕ) (fault : DeskFault)
+pub unmade_line : (changes : List Control) (past begun : List Entry) (place : ℕ) (fault : DeskFault)
     → fault ≡ Unasked 0 (calls_of past 0 + place) → IsFirstOther changes begun place → IsUnmadeBy changes past begun fault
 unmade_line changes past begun place fault is first =
     subst (IsUnmadeBy changes past begun) (sym is) (record { place = place; manager = refl; first = first; call_is = refl })
 
-module _ (flights : List Flown) (scripts : List (List Request)) (changes : List Change) (older : List Entry) (more : ℕ) (journal : List Entry) where
+module _ (flights : List Flown) (scripts : List (List Request)) (changes : List Control) (older : List Entry) (more : ℕ) (journal : List Entry) where
   -- a journal without such a past
   pub no_rest_past : (fault : DeskFault) → IsNoPast older more journal fault
       → IsNoRest flights scripts changes older more journal fault
@@ -70,7 +71,7 @@ module _ (flights : List Flown) (scripts : List (List Request)) (changes : List 
     no_rest_begun (Unasked session call) made unbegun = inr (record { past = take past journal; begun = drop past journal; parted = parted; other = inr (made, unbegun) })
     no_rest_begun _ made unbegun = absurd unbegun
 
-    pub is_rest : (left : List (List Request)) (rest : List Change) → AreMade changes (drop past journal)
+    pub is_rest : (left : List (List Request)) (rest : List Control) → AreMade changes (drop past journal)
         → rest ≡ changes_left changes (drop past journal) → AreLeft flights scripts (drop past journal) left
         → IsRestOf flights scripts changes older more journal left rest
     is_rest left rest made is_left are_left = record {

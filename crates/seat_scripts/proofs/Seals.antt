@@ -1,12 +1,12 @@
 -- What stands beside a journal, as far as the inputs are known, and what is refused behind it.
-use Rattle.std.proofs.Common.{◌≡◌, ◌≢◌, ◌≤◌, ◌<◌, ◌⊎◌, ⊎_elim, inl, inr, ℕ, Bool, true, false, List, Option, Some, None, IfSome, length, subst, sym}
+use Rattle.seat_journal.specs.declared.entry.Control.{Control}
+use Rattle.std.proofs.Common.{◌≡◌, ◌≢◌, ◌≤◌, ◌<◌, ◌||◌, ◌⊎◌, ⊎_elim, inl, inr, ℕ, Bool, true, false, List, Option, Some, None, IfSome, length, subst, sym}
 use Rattle.ssim_flights.specs.declared.flight.Flight.{Flight as Flown}
 use Rattle.seat_seal.specs.Besides.{IsFaultBeside}
 use Rattle.seat_seal.specs.declared.beside.Basis.{Basis}
 use Rattle.seat_seal.specs.declared.beside.Beside.{Beside}
 use Rattle.seat_seal.specs.declared.comparing.SealFault.TheVariants.{Again}
 use Rattle.seat_seal.specs.declared.seal.Sealed.{Sealed as Belonging}
-use Rattle.seat_journal.specs.declared.entry.Change.{Change}
 use Rattle.seat_desk.specs.declared.fault.DeskFault.TheVariants.{Book, Change as BadChange, NoLeg, Script, Seal}
 use Rattle.seat_desk.proofs.Grounds.{ground_of_loaded}
 use Rattle.seat_desk.specs.Answering.{IsRefusedAnswer}
@@ -200,7 +200,7 @@ module _ (set limits after : Option (List ℕ)) (first days today : ℕ) (texts 
     by None l a agreed refused once = tt
 
   -- behind all inputs
-  pub sealed_again : (flights : List Flown) (grid : Ladders) (past : List Entry) (scripts : List (List Request)) (changes : List Change)
+  pub sealed_again : (flights : List Flown) (grid : Ladders) (past : List Entry) (scripts : List (List Request)) (changes : List Control)
       (fault : DeskFault) → Agreeing
       → OfThree set limits after (λ xs ys zs. IsAsked xs ys first days today zs texts changing flights grid past scripts changes)
       → IsRepeatedOf true beside after texts changing → again ≡ false → fault ≡ Seal Again → IsRefused fault

@@ -7,7 +7,7 @@ use Rattle.std.proofs.Math.Seq.{drop-cons}
 use Rattle.std.proofs.lemmas.List.{append-nil, length-append, take-append-drop, take_all, take_more}
 use Rattle.std.proofs.lemmas.Option.{get_or_from_slice_get, slice_get-get_or, slice_get-map, slice_get_within}
 use Rattle.ssim_flights.specs.declared.flight.Flight.{Flight as Flown}
-use Rattle.seat_journal.specs.declared.entry.Work.TheVariants.{Limit}
+use Rattle.seat_journal.specs.declared.entry.Work.TheVariants.{Limit, Sale}
 use Rattle.seat_rules.specs.Journal.{MayAsk, calls_of}
 use Rattle.seat_rules.proofs.History.Faults.{nat_same}
 use Rattle.seat_rules.proofs.History.Legal.{each_legal}
@@ -93,6 +93,7 @@ module _ (flights : List Flown) (grid : Ladders) (scripts : List (List Request))
       let agree : Agree flights (slice_get (requests_of scripts (suc i)) k) (slice_get (done_by (suc i) added) k) = (asked.each (suc i) (omega arith)).each k in
       none_over (requests_of scripts (suc i)) k e.work (subst (λ (o : Option Work). Agree flights (slice_get (requests_of scripts (suc i)) k) o) (work_at (suc i) k e at) agree)
   is_asked s k e at (Limit c) work = tt
+  is_asked s k e at (Sale c) work = tt
 
   lines_of : (s : ℕ) → AreAnswerable flights (requests_of scripts s) journal (of_session s added)
   lines_of s = record {

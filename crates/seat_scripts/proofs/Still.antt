@@ -1,6 +1,7 @@
 -- What is known of the inputs of a run that goes on with the scripts of a journal, and what it writes or refuses of them.
 use Rattle.std.proofs.Common.{◌≡◌, ◌≢◌, ◌+◌, ◌<◌, inl, inr, ℕ, List, Option, IfSome, length, map, sym, ap, ◌∙◌, subst}
 use Rattle.ssim_flights.specs.declared.flight.Flight.{Flight as Flown}
+use Rattle.seat_journal.specs.declared.entry.Control.{Control}
 use Rattle.seat_journal.proofs.TextLaws.{one_text}
 use Rattle.seat_rules.specs.Inventory.{Inventory}
 use Rattle.seat_desk.specs.Desk.{IsOfInput}
@@ -9,7 +10,7 @@ use Rattle.seat_scripts.proofs.Beside.{if_four}
 use Rattle.seat_seal.specs.declared.beside.Beside.{Beside}
 use Rattle.seat_scripts.proofs.OneTaken.{one_taken}
 use Rattle.seat_scripts.proofs.SealedBoth.{both_four, large_as, refused_as}
-use Rattle.seat_scripts.proofs.Common.{Change, DeskFault, Entry, Ladders, Memory, Request, Unasked, commands_of, lists_over}
+use Rattle.seat_scripts.proofs.Common.{DeskFault, Entry, Ladders, Memory, Request, Unasked, commands_of, lists_over}
 use Rattle.seat_scripts.specs.Against.{AreRead, IsOfReading, IsRefusedAgainst, IsTooLargeAgainst, OfFour}
 use Rattle.seat_scripts.specs.Both.{IsRefusedSealed, IsTooLargeSealed}
 use Rattle.seat_replies.specs.Changes.{AreChanges, IsOfChanges, IsUnchanged, most_change_bytes}
@@ -58,7 +59,7 @@ module _ (set limits : List ℕ) (first days today : ℕ) (after : List ℕ) (mo
     of_changes _ of refused = absurd of
 
     -- of a line that is not asked, or of lines that the journal lacks
-    of_lines : (changes : List Change) → IfSome changing (AreChanges flights changes) → (fault : DeskFault)
+    of_lines : (changes : List Control) → IfSome changing (AreChanges flights changes) → (fault : DeskFault)
         → IsNoRest flights scripts changes older more lines fault → Refused fault
     of_lines changes may (Unasked session call) none = record {
       refusal = record {
@@ -87,7 +88,7 @@ module _ (set limits : List ℕ) (first days today : ℕ) (after : List ℕ) (mo
     of_lines changes may _ none = absurd none
 
   -- of a call that was not booked
-  of_calls : (flights : List Flown) (grid : Ladders) (lines : List Entry) (left : List (List Request)) (rest : List Change)
+  of_calls : (flights : List Flown) (grid : Ladders) (lines : List Entry) (left : List (List Request)) (rest : List Control)
       (fault : DeskFault)
       → IsAskedStill set limits first days today after more journal texts changing flights grid lines left rest
       → IsUnbooked grid lines rest (lists_over lines (map (commands_of flights) left)) fault → Refused fault
@@ -172,14 +173,14 @@ module _ (set limits after journal : Option (List ℕ)) (first days today more :
         if_four IsReady (λ xs ys old zs. IsRefusedResume xs ys first days today old more zs texts changing fault) set limits after journal
         (λ xs ys old zs are. of_changes xs ys first days today old more zs texts changing flights core.grid older.journal core.journal scripts are fault (of input) (refused input)) all_ready
 
-    module _ (changes : List Change) (may : IfSome changing (AreChanges flights changes)) where
+    module _ (changes : List Control) (may : IfSome changing (AreChanges flights changes)) where
       pub whole_still : OfFour set limits after journal
           (λ xs ys old zs. IsWholeAsked xs ys first days today old zs texts changing flights core.grid older.journal core.journal scripts changes)
       whole_still =
           if_four IsReady (λ xs ys old zs. IsWholeAsked xs ys first days today old zs texts changing flights core.grid older.journal core.journal scripts changes) set limits after journal
           (λ xs ys old zs are. record { are_ready = are; are_changes = may }) all_ready
 
-      pub no_rest_still : (slice : List (List Request)) (given : List Change) (said : ℕ) → slice ≡ scripts
+      pub no_rest_still : (slice : List (List Request)) (given : List Control) (said : ℕ) → slice ≡ scripts
           → given ≡ changes → said ≡ more → (fault : DeskFault)
           → (fault ≢ Memory → IsNoRest flights slice given older.journal said core.journal fault)
           → IsOfInput fault → IsRefused fault
@@ -187,12 +188,12 @@ module _ (set limits after journal : Option (List ℕ)) (first days today more :
           if_four IsReady (λ xs ys old zs. IsRefusedResume xs ys first days today old more zs texts changing fault) set limits after journal
           (λ xs ys old zs are. of_lines xs ys first days today old more zs texts changing flights core.grid older.journal core.journal scripts are changes may fault
           (subst (λ (s : List (List Request)). IsNoRest flights s changes older.journal more core.journal fault) same
-          (subst (λ (c : List Change). IsNoRest flights slice c older.journal more core.journal fault) told
+          (subst (λ (c : List Control). IsNoRest flights slice c older.journal more core.journal fault) told
           (subst (λ (n : ℕ). IsNoRest flights slice given older.journal n core.journal fault) is_more
           (none (λ (e : fault ≡ Memory). subst IsOfInput e input)))))) all_ready
 
-      pub asked_still : (slice : List (List Request)) (given : List Change) (said : ℕ) (left : List (List Request))
-          (rest : List Change) → slice ≡ scripts → given ≡ changes → said ≡ more
+      pub asked_still : (slice : List (List Request)) (given : List Control) (said : ℕ) (left : List (List Request))
+          (rest : List Control) → slice ≡ scripts → given ≡ changes → said ≡ more
           → IsRestOf flights slice given older.journal said core.journal left rest
           → OfFour set limits after journal
           (λ xs ys old zs. IsAskedStill xs ys first days today old more zs texts changing flights core.grid core.journal left rest)
@@ -204,14 +205,14 @@ module _ (set limits after journal : Option (List ℕ)) (first days today more :
             changes = changes;
             is_asked = record { are_ready = are; are_changes = may };
             is_rest = subst (λ (s : List (List Request)). IsRestOf flights s changes older.journal more core.journal left rest) same
-                (subst (λ (c : List Change). IsRestOf flights slice c older.journal more core.journal left rest) told
+                (subst (λ (c : List Control). IsRestOf flights slice c older.journal more core.journal left rest) told
                 (subst (λ (n : ℕ). IsRestOf flights slice given older.journal n core.journal left rest) is_more is));
           })
           all_ready
 
 -- a call that was not booked
 module _ (set limits after journal : Option (List ℕ)) (first days today : ℕ) (texts : List (Option (List ℕ))) (changing : Option (List ℕ)) (given : Option ℕ) (beside : Beside)
-    (flights : List Flown) (grid : Ladders) (lines : List Entry) (left : List (List Request)) (rest : List Change) where
+    (flights : List Flown) (grid : Ladders) (lines : List Entry) (left : List (List Request)) (rest : List Control) where
   abbrev IsAsked : List ℕ → List ℕ → List ℕ → List ℕ → Type 0
   IsAsked xs ys older zs =
       WithTaken given beside zs (λ more. IsAskedStill xs ys first days today older more zs texts changing flights grid lines left rest)

@@ -1,6 +1,7 @@
 -- What a run writes is the text of its history.
+use Rattle.seat_journal.specs.declared.entry.Control.{Control}
 use Rattle.std.proofs.Common.{◌≡◌, ◌≢◌, ℕ, List, Option, Some, None, IfSome, map, subst}
-use Rattle.seat_scripts.proofs.Common.{Request, Change, Entry, Ladders, IsLoaded, OfThree, lists_over, AreScripts, IsRefusedAmong, commands_of, DeskFault, Memory}
+use Rattle.seat_scripts.proofs.Common.{Request, Entry, Ladders, IsLoaded, OfThree, lists_over, AreScripts, IsRefusedAmong, commands_of, DeskFault, Memory}
 use Rattle.ssim_flights.specs.declared.flight.Flight.{Flight as Flown}
 use Rattle.seat_desk.specs.AuditDesk.{IsUnlawful}
 use Rattle.seat_desk.specs.Loading.{IsRefusedLoad}
@@ -49,7 +50,7 @@ module _ (first days today : ℕ) (after : List ℕ) (texts : List (Option (List
 
 of_calls : (set limits : List ℕ) (first days today : ℕ) (after : List ℕ) (texts : List (Option (List ℕ)))
     (changing : Option (List ℕ)) (flights : List Flown) (grid : Ladders) (past : List Entry)
-    (scripts : List (List Request)) (changes : List Change) (fault : DeskFault)
+    (scripts : List (List Request)) (changes : List Control) (fault : DeskFault)
     → IsAsked set limits first days today after texts changing flights grid past scripts changes
     → IsUnbooked grid past changes (lists_over past (map (commands_of flights) scripts)) fault
     → IsRefusedRun set limits first days today after texts changing fault
@@ -92,7 +93,7 @@ module _ (set limits after : Option (List ℕ)) (first days today : ℕ) (texts 
 
   -- and so is a call that was not booked
   pub run_unbooked : (flights : List Flown) (grid : Ladders) (past : List Entry) (scripts : List (List Request))
-      (changes : List Change) (fault : DeskFault)
+      (changes : List Control) (fault : DeskFault)
       → OfThree set limits after (λ xs ys zs. IsAsked xs ys first days today zs texts changing flights grid past scripts
       changes)
       → (fault ≢ Memory → IsUnbooked grid past changes (lists_over past (map (commands_of flights) scripts)) fault)

@@ -4,8 +4,8 @@ use Rattle.std.specs.List.{list_all, list_any}
 use Rattle.airimp_lines.specs.declared.requests.Request.{Request}
 use Rattle.ssim_flights.specs.declared.flight.Flight.{Flight as Flown}
 use Rattle.seat_nesting.specs.Nesting.{Ladders}
+use Rattle.seat_journal.specs.declared.entry.Control.{Control}
 use Rattle.seat_journal.specs.Text.{IsJournalText}
-use Rattle.seat_journal.specs.declared.entry.Change.{Change}
 use Rattle.seat_journal.specs.declared.entry.Entry.{Entry}
 use Rattle.seat_seal.specs.Known.{IsKnown, runs_known}
 use Rattle.seat_seal.specs.declared.beside.Beside.{Beside}
@@ -78,7 +78,7 @@ pub record IsRefusedByRuns (besides : Besides) (again : Bool) (set limits : List
   pub older : List Entry
   pub lines : List Entry
   pub scripts : List (List Request)
-  pub changes : List Change
+  pub changes : List Control
   pub is_asked : IsWholeAsked set limits first days today after journal texts changing flights grid older lines scripts
       changes
   pub of_runs : SealFault

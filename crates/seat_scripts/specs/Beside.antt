@@ -3,7 +3,7 @@ use Rattle.std.specs.Prelude.{◌≡◌, ◌≤◌, ◌⊎◌, ℕ, Bool, true, 
 use Rattle.airimp_lines.specs.declared.requests.Request.{Request}
 use Rattle.ssim_flights.specs.declared.flight.Flight.{Flight as Flown}
 use Rattle.seat_nesting.specs.Nesting.{Ladders}
-use Rattle.seat_journal.specs.declared.entry.Change.{Change}
+use Rattle.seat_journal.specs.declared.entry.Control.{Control}
 use Rattle.seat_journal.specs.declared.entry.Entry.{Entry}
 use Rattle.seat_seal.specs.Besides.{IsFaultBeside}
 use Rattle.seat_seal.specs.declared.beside.Basis.{Basis}
@@ -50,7 +50,7 @@ pub record IsRefusedAgain (again : Bool) (beside : Beside) (set limits : List �
   pub grid : Ladders
   pub past : List Entry
   pub scripts : List (List Request)
-  pub changes : List Change
+  pub changes : List Control
   pub is_asked : IsAsked set limits first days today after texts changing flights grid past scripts changes
   pub not_again : again ≡ false
   pub is_repeated : IsRepeated true beside after texts changing

@@ -2,8 +2,8 @@
 use Rattle.std.specs.Prelude.{◌≡◌, ℕ, List, [], length, map, Option}
 use Rattle.airimp_lines.specs.declared.requests.Request.{Request}
 use Rattle.seat_nesting.specs.Nesting.{Ladders}
+use Rattle.seat_journal.specs.declared.entry.Control.{Control}
 use Rattle.seat_journal.specs.Text.{IsJournalText}
-use Rattle.seat_journal.specs.declared.entry.Change.{Change}
 use Rattle.seat_journal.specs.declared.entry.Command.{Command}
 use Rattle.seat_journal.specs.declared.entry.Entry.{Entry}
 use Rattle.ssim_flights.specs.declared.flight.Flight.{Flight as Flown}
@@ -15,7 +15,7 @@ use Rattle.seat_replies.specs.Requests.{commands_of}
 use Rattle.seat_replies.specs.RunDesk.{AreReplies, IsRun, works_in, works_of}
 
 -- the whole history is asked for: its lines of session 0 are the changes, in order, those of session 1 the first list, and so on, and the replies answer all of it
-pub record IsFirst (grid : Ladders) (flights : List Flown) (changes : List Change) (scripts : List (List Request))
+pub record IsFirst (grid : Ladders) (flights : List Flown) (changes : List Control) (scripts : List (List Request))
     (lists : List (List Command)) (history : List Entry) (receipts : List (List Entry)) (replies : List ℕ) : Type 0
   where
     pub headline : Headline grid most_lines (length lists) history receipts (totals_of history)

@@ -4,8 +4,8 @@ use Rattle.std.specs.List.{AllByRecursion}
 use Rattle.airimp_lines.specs.declared.requests.Request.{Request}
 use Rattle.ssim_flights.specs.declared.flight.Flight.{Flight as Flown}
 use Rattle.seat_nesting.specs.Nesting.{Ladders}
+use Rattle.seat_journal.specs.declared.entry.Control.{Control}
 use Rattle.seat_journal.specs.Text.{IsEntry, IsJournalText, journal_text}
-use Rattle.seat_journal.specs.declared.entry.Change.{Change}
 use Rattle.seat_journal.specs.declared.entry.Entry.{Entry}
 use Rattle.seat_rules.specs.Totals.{totals_of}
 use Rattle.seat_seal.specs.declared.beside.Beside.{Beside}
@@ -36,17 +36,17 @@ pub record AreReady (set limits : List ℕ) (first days today : ℕ) (after jour
 -- so they are, and the changes ask for these
 pub record IsWholeAsked (set limits : List ℕ) (first days today : ℕ) (after journal : List ℕ)
     (texts : List (Option (List ℕ))) (changing : Option (List ℕ)) (flights : List Flown) (grid : Ladders)
-    (older lines : List Entry) (scripts : List (List Request)) (changes : List Change) : Type 0 where
+    (older lines : List Entry) (scripts : List (List Request)) (changes : List Control) : Type 0 where
   pub are_ready : AreReady set limits first days today after journal texts flights grid older lines scripts
   pub are_changes : IfSome changing (AreChanges flights changes)
 
 -- so it is, the lines of the journal behind the past are what the scripts and the changes begin with, and this is left of them
 pub record IsAskedStill (set limits : List ℕ) (first days today : ℕ) (after : List ℕ) (more : ℕ) (journal : List ℕ)
     (texts : List (Option (List ℕ))) (changing : Option (List ℕ)) (flights : List Flown) (grid : Ladders)
-    (lines : List Entry) (left : List (List Request)) (rest : List Change) : Type 0 where
+    (lines : List Entry) (left : List (List Request)) (rest : List Control) : Type 0 where
   pub older : List Entry
   pub scripts : List (List Request)
-  pub changes : List Change
+  pub changes : List Control
   pub is_asked : IsWholeAsked set limits first days today after journal texts changing flights grid older lines scripts
       changes
   pub is_rest : IsRestOf flights scripts changes older more lines left rest
@@ -54,7 +54,7 @@ pub record IsAskedStill (set limits : List ℕ) (first days today : ℕ) (after 
 -- where the bytes of the set, of the limits and of both journals are known, behind the number of lines that is taken
 abbrev pub IsAskedStillOf : {S L : Type 0} → Beside → Bytes S → Bytes L → Inputs S L → ℕ → Option (List ℕ) → Option ℕ
     → Option (List ℕ) → List (Option (List ℕ)) → Option (List ℕ) → List Flown → Ladders → List Entry → List (List Request)
-    → List Change → Type 0
+    → List Control → Type 0
 IsAskedStillOf beside set limits inputs today after given journal texts changing flights grid lines left rest =
     OfFour (set inputs.set) (limits inputs.limits) after journal (λ xs ys older zs. WithTaken given beside zs
     (λ more. IsAskedStill xs ys inputs.first inputs.days today older more zs texts changing flights grid lines left rest))
@@ -79,7 +79,7 @@ pub record IsResumed (set limits : List ℕ) (first days today : ℕ) (after : L
   pub grid : Ladders
   pub lines : List Entry
   pub left : List (List Request)
-  pub rest : List Change
+  pub rest : List Control
   pub is_asked : IsAskedStill set limits first days today after more journal texts changing flights grid lines left rest
   pub history : List Entry
   pub receipts : List (List Entry)
@@ -110,7 +110,7 @@ pub record IsNoRestOf (set limits : List ℕ) (first days today : ℕ) (after : 
   pub older : List Entry
   pub lines : List Entry
   pub scripts : List (List Request)
-  pub changes : List Change
+  pub changes : List Control
   pub is_asked : IsWholeAsked set limits first days today after journal texts changing flights grid older lines scripts
       changes
   pub is_no_rest : IsNoRest flights scripts changes older more lines fault
@@ -122,7 +122,7 @@ pub record IsUnbookedStill (set limits : List ℕ) (first days today : ℕ) (aft
   pub grid : Ladders
   pub lines : List Entry
   pub left : List (List Request)
-  pub rest : List Change
+  pub rest : List Control
   pub is_asked : IsAskedStill set limits first days today after more journal texts changing flights grid lines left rest
   pub is_unbooked : IsUnbooked grid lines rest (lists_over lines (map (commands_of flights) left)) fault
 

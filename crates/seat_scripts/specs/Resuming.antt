@@ -2,10 +2,11 @@
 use Rattle.std.specs.Prelude.{◌≡◌, ◌≢◌, ◌⊎◌, ℕ, suc, ◌+◌, ◌-◌, ◌<◌, ◌≤◌, List, [], ◌∷◌, ◌++◌, length, map, take, drop, slice_get}
 use Rattle.airimp_lines.specs.declared.requests.Request.{Request}
 use Rattle.ssim_flights.specs.declared.flight.Flight.{Flight as Flown}
-use Rattle.seat_journal.specs.declared.entry.Change.{Change}
+use Rattle.seat_journal.specs.declared.entry.Control.{Control}
+use Rattle.seat_journal.specs.Controls.{set_by}
 use Rattle.seat_journal.specs.declared.entry.Entry.{Entry}
 use Rattle.seat_journal.specs.declared.entry.Work.{Work}
-use Rattle.seat_journal.specs.declared.entry.Work.TheVariants.{Limit, Seats}
+use Rattle.seat_journal.specs.declared.entry.Work.TheVariants.{Seats}
 use Rattle.seat_desk.specs.declared.fault.DeskFault.{DeskFault}
 use Rattle.seat_desk.specs.declared.fault.DeskFault.TheVariants.{NoBehind, Unasked}
 use Rattle.seat_rules.specs.Journal.{calls_of}
@@ -60,38 +61,38 @@ IsUnbegun flights scripts past begun _ = ⊥
 -- ---- the changes of the manager, session 0
 
 -- what the manager did is what the changes begin with
-abbrev pub AreMade : List Change → List Entry → Type 0
-AreMade changes begun = Begins (done_by 0 begun) (map Limit changes)
+abbrev pub AreMade : List Control → List Entry → Type 0
+AreMade changes begun = Begins (done_by 0 begun) (map set_by changes)
 
 -- the first line of the manager, from 1, that is not the change at its place
-pub record IsFirstOther (changes : List Change) (begun : List Entry) (place : ℕ) : Type 0 where
+pub record IsFirstOther (changes : List Control) (begun : List Entry) (place : ℕ) : Type 0 where
   pub from_one : 1 ≤ place
   pub line : place ≤ length (done_by 0 begun)
-  pub before : take (place - 1) (done_by 0 begun) ≡ take (place - 1) (map Limit changes)
-  pub there : slice_get (done_by 0 begun) (place - 1) ≢ slice_get (map Limit changes) (place - 1)
+  pub before : take (place - 1) (done_by 0 begun) ≡ take (place - 1) (map set_by changes)
+  pub there : slice_get (done_by 0 begun) (place - 1) ≢ slice_get (map set_by changes) (place - 1)
 
 -- a line of the manager is not the change at its place: its call, which goes on from those of the past
-pub record IsUnmade (changes : List Change) (past begun : List Entry) (session call : ℕ) : Type 0 where
+pub record IsUnmade (changes : List Control) (past begun : List Entry) (session call : ℕ) : Type 0 where
   pub place : ℕ
   pub manager : session ≡ 0
   pub first : IsFirstOther changes begun place
   pub call_is : call ≡ calls_of past 0 + place
 
 -- the fault names that call of session 0
-abbrev pub IsUnmadeBy : List Change → List Entry → List Entry → DeskFault → Type 0
+abbrev pub IsUnmadeBy : List Control → List Entry → List Entry → DeskFault → Type 0
 IsUnmadeBy changes past begun (Unasked session call) = IsUnmade changes past begun session call
 IsUnmadeBy changes past begun _ = ⊥
 
 -- what is left of the changes: those behind as many as the manager did
-abbrev pub changes_left : List Change → List Entry → List Change
+abbrev pub changes_left : List Control → List Entry → List Control
 changes_left changes begun = drop (length (done_by 0 begun)) changes
 
 -- ---- behind an older journal
 
 -- the journal is a past and the lines that were begun behind it, the past being the older lines and so many more; the changes and the
 -- scripts begin with what was begun, and this is left of them
-pub record IsRestOf (flights : List Flown) (scripts : List (List Request)) (changes : List Change) (older : List Entry)
-    (more : ℕ) (journal : List Entry) (left : List (List Request)) (rest : List Change) : Type 0 where
+pub record IsRestOf (flights : List Flown) (scripts : List (List Request)) (changes : List Control) (older : List Entry)
+    (more : ℕ) (journal : List Entry) (left : List (List Request)) (rest : List Control) : Type 0 where
   pub past : List Entry
   pub begun : List Entry
   pub parted : IsParted older more past begun journal
@@ -100,7 +101,7 @@ pub record IsRestOf (flights : List Flown) (scripts : List (List Request)) (chan
   pub rest_is : rest ≡ changes_left changes begun
 
 -- it is so parted, but a line of the manager is not the change at its place, or one of a session is not the request at its place
-pub record IsStrangerBehind (flights : List Flown) (scripts : List (List Request)) (changes : List Change)
+pub record IsStrangerBehind (flights : List Flown) (scripts : List (List Request)) (changes : List Control)
     (older : List Entry) (more : ℕ) (journal : List Entry) (session call : ℕ) : Type 0 where
   pub past : List Entry
   pub begun : List Entry
@@ -109,7 +110,7 @@ pub record IsStrangerBehind (flights : List Flown) (scripts : List (List Request
       ⊎ (AreMade changes begun × IsStranger flights scripts past begun session call)
 
 -- the journal does not begin with the older lines, or has a line that is not asked, and the fault names where; or it has fewer lines
-abbrev pub IsNoRest : List Flown → List (List Request) → List Change → List Entry → ℕ → List Entry → DeskFault → Type 0
+abbrev pub IsNoRest : List Flown → List (List Request) → List Control → List Entry → ℕ → List Entry → DeskFault → Type 0
 IsNoRest flights scripts changes older more journal (Unasked session call) =
     IsNoBeginning older journal session call
     ⊎ IsStrangerBehind flights scripts changes older more journal session call

@@ -26,7 +26,7 @@ use crate::starting::{Start, started};
 use airline_base::{Day, NotedRead};
 use seat_core::Core;
 use seat_desk::{DeskFault, Inputs};
-use seat_journal::Change;
+use seat_journal::Control;
 use seat_seal::{Basis, Beside, Carried, Imprint, carried_by};
 use ssim_flights::Flights;
 use std::alloc::Global;
@@ -38,7 +38,7 @@ pub struct Asked {
     pub flights: Flights,
     pub past: Core,
     pub scripts: Scripts,
-    pub changes: Vec<Change>,
+    pub changes: Vec<Control>,
     pub basis: Basis,
     pub imprints: TextImprints,
     pub changes_imprint: Option<Imprint>,

@@ -1,5 +1,5 @@
-//! The changes of limits that `run` takes: rows, each for the one leg that serves it.
-ghost use Rattle.std.specs.Prelude.{◌≡◌, ◌≢◌, ◌<◌, ◌≤◌, IfErr, IfOk, IfSome, length};
+//! The changes that `run` takes: rows, each for the one leg that serves its two cities, or for each leg of its flight on its day.
+ghost use Rattle.std.specs.Prelude.{◌≡◌, ◌≢◌, ◌<◌, ◌≤◌, ◌+◌, ◌++◌, IfErr, IfOk, IfSome, OnOk, length, option_map, ◌==◌, ◌∷◌, [], if◌then◌else◌};
 ghost use Rattle.std.specs.List.{AllByRecursion};
 ghost use Rattle.seat_limits.specs.ChangeRows.{IsChangeText};
 ghost use Rattle.seat_desk.specs.Desk.{HasFailed, IsOfInput};
@@ -7,17 +7,18 @@ ghost use Rattle.seat_scripts.specs.Repeated.{IsBookedOf};
 ghost use Rattle.seat_scripts.specs.TextImprints.{IsImprintOf};
 ghost use Rattle.seat_seal.specs.Booked.{changes_booked};
 ghost use Rattle.seat_seal.specs.Known.{runs_known};
-ghost use Rattle.seat_replies.specs.Changes.{AreChanges, AreServed, IsOfChanges, IsOnLeg, IsUnchanged, change_of, change_refusal, most_change_bytes, wanted_by};
+ghost use Rattle.seat_replies.specs.Changes.{AreChanges, AreServed, IsOfChanges, IsOnLeg, IsUnchanged, change_refusal, changes_of, is_named, most_change_bytes, on_flights, on_leg, on_legs, on_place, some_of, wanted_by};
+ghost use Rattle.ssim_flights.specs.Places.{place_wanted};
 
 use crate::imprints::text_beside;
 use crate::repeated::changes_known;
-use airline_base::NotedRead;
+use airline_base::{Class, NotedRead};
 use seat_desk::{DeskFault, read_input};
-use seat_journal::Change;
-use seat_limits::{ChangeRow, LimitFault, LimitKind, read_changes};
+use seat_journal::{Change, Control, SaleChange};
+use seat_limits::{ChangeRow, Cities, LimitFault, LimitKind, RowSetting, read_changes};
 use seat_seal::{Imprint, Sealed};
-use ssim_flights::{Flights, Served, Wanted};
-use std::alloc::Global;
+use ssim_flights::{DatedLeg, Flight, Flights, Served, Wanted};
+use std::alloc::{AllocError, Global};
 
 /// 16 MiB, the most bytes of changes.
 const MOST_CHANGE_BYTES: u64 = 16_777_216;
@@ -25,7 +26,7 @@ const MOST_CHANGE_BYTES: u64 = 16_777_216;
 /// Changes that are read, the imprint of their rows' bytes, where there are any, and whether a run booked their beginning.
 #[derive(Drop)]
 pub struct ReadChanges {
-    pub changes: Vec<Change>,
+    pub changes: Vec<Control>,
     pub imprint: Option<Imprint>,
     pub are_booked: bool,
 }
@@ -60,8 +61,8 @@ pub fn limit_changes<D: NotedRead>(
 }
 
 /// The changes that these bytes ask for.
-#[tactic(auto, using(crate::proofs::Changing::refused_rows, crate::proofs::Changing::on_legs))]
-fn changes_of(alloc: Global, flights: &Flights, bytes: &[u8]) -> Result<Vec<Change>, DeskFault>
+#[tactic(auto, using(crate::proofs::Changing::refused_rows, crate::proofs::Changing::on_legs_all))]
+fn changes_of(alloc: Global, flights: &Flights, bytes: &[u8]) -> Result<Vec<Control>, DeskFault>
     requires size { length bytes.now ≤ most_change_bytes }
     ensures ok { IfOk result (λ read. AreChanges flights.now read.items bytes.now) }
     ensures legs { IfOk result (λ read. AllByRecursion (IsOnLeg flights.now) read.items) }
@@ -86,14 +87,14 @@ fn of_rows(fault: LimitFault) -> DeskFault
     }
 }
 
-/// The change of each row, in order. It refuses the first row that no leg serves, or that more than one does.
+/// What each row asks for, in order. It refuses the first row that no leg serves, or of whose two cities more than one does.
 #[tactic(auto, using(crate::proofs::Changing::served_more, crate::proofs::Changing::is_unserved))]
 fn served(
     alloc: Global,
     flights: &Flights,
     bytes: &[u8],
     rows: &[ChangeRow],
-) -> Result<Vec<Change>, DeskFault>
+) -> Result<Vec<Control>, DeskFault>
     requires size { length bytes.now ≤ most_change_bytes }
     requires rows { IsChangeText bytes.now rows.now }
     ensures ok { IfOk result (λ read. AreServed flights.now rows.now read.items) }
@@ -109,42 +110,183 @@ fn served(
         return Err(DeskFault::Memory);
     };
     for row in rows {
-        let Some(change) = change_of(&index, row) else {
+        let Ok(asked) = changes_in_row(alloc, &index, flights, row) else {
+            return Err(DeskFault::Memory);
+        };
+        let Some(more) = asked else {
             return Err(DeskFault::NoLeg { line: row.line });
         };
-        if changes.push(change).is_err() {
+        if changes.extend_from_slice(more.as_slice()).is_err() {
             return Err(DeskFault::Memory);
         }
     }
     Ok(changes)
 }
 
-/// The change that a row asks for, where exactly one leg serves it.
-fn change_of(index: &Served<'_>, row: &ChangeRow) -> Option<Change>
-    ensures { result ≡ change_of index.now row.now }
+/// What a row asks for, where there is a leg for it.
+fn changes_in_row(
+    alloc: Global,
+    index: &Served<'_>,
+    flights: &Flights,
+    row: &ChangeRow,
+) -> Result<Option<Vec<Control>>, AllocError>
+    requires { index.now ≡ flights.now }
+    ensures { IfOk result (λ o. option_map (λ v. v.items) o ≡ changes_of flights.now row.now) }
 {
-    let place = index.find(&wanted_by(row))?;
-    if place.from != place.to {
-        return None;
+    match row.cities {
+        Some(cities) => between(alloc, index, row, cities),
+        None => on_each_leg(alloc, flights, row),
     }
-    Some(Change {
-        flight: place.flight,
-        leg: place.from,
-        class: row.class,
-        limit: row.limit,
-        wait: row.wait,
-    })
 }
 
-fn wanted_by(row: &ChangeRow) -> Wanted
-    ensures { result ≡ wanted_by row.now }
+/// On the one leg that serves two cities.
+fn between(
+    alloc: Global,
+    index: &Served<'_>,
+    row: &ChangeRow,
+    cities: Cities,
+) -> Result<Option<Vec<Control>>, AllocError>
+    ensures { IfOk result (λ o. option_map (λ v. v.items) o
+        ≡ on_place row.now.setting (place_wanted index.now (wanted_by row.now cities))) }
+{
+    let Some(place) = index.find(&wanted_by(row, cities)) else {
+        return Ok(None);
+    };
+    if place.from != place.to {
+        return Ok(None);
+    }
+    let mut one = Vec::new(alloc);
+    add(&mut one, on_leg(row.setting, place.flight, place.from))?;
+    Ok(Some(one))
+}
+
+fn wanted_by(row: &ChangeRow, cities: Cities) -> Wanted
+    ensures { result ≡ wanted_by row.now cities }
 {
     Wanted {
         airline: row.airline,
         number: row.number,
         suffix: row.suffix,
         day: row.day,
-        board: row.board,
-        off: row.off,
+        board: cities.board,
+        off: cities.off,
     }
+}
+
+/// What a row sets, on a leg.
+fn on_leg(setting: RowSetting, flight: u32, leg: u8) -> Control
+    ensures { result ≡ on_leg setting flight leg }
+{
+    match setting {
+        RowSetting::SetLimit(class, limit, wait) => Control::ToLimit(Change {
+            flight,
+            leg,
+            class,
+            limit,
+            wait,
+        }),
+        RowSetting::SetSale(class, closed) => Control::ToSale(SaleChange {
+            flight,
+            leg,
+            class,
+            closed,
+        }),
+    }
+}
+
+/// On each leg of a row's flight that departs on its day, where there is one.
+fn on_each_leg(
+    alloc: Global,
+    flights: &Flights,
+    row: &ChangeRow,
+) -> Result<Option<Vec<Control>>, AllocError>
+    ensures { IfOk result (λ o. option_map (λ v. v.items) o ≡ some_of (on_flights row.now 0 flights.now)) }
+{
+    let mut all = Vec::new(alloc);
+    put_flights(&mut all, flights, row)?;
+    Ok(some_of(all))
+}
+
+#[tactic(auto, using(crate::proofs::Changing::some_is_all, crate::proofs::Changing::none_is_all))]
+fn some_of(all: Vec<Control>) -> Option<Vec<Control>>
+    ensures { option_map (λ v. v.items) result ≡ some_of all.items }
+{
+    if all.is_empty() {
+        return None;
+    }
+    Some(all)
+}
+
+#[tactic(auto, using(crate::proofs::Changing::flight_put, crate::proofs::Changing::flights_put))]
+fn put_flights(all: &mut Vec<Control>, flights: &Flights, row: &ChangeRow) -> Result<(), AllocError>
+    ensures { OnOk result (all.new.items ≡ all.old.items ++ on_flights row.now 0 flights.now) }
+{
+    for number in 0..flights.len() {
+        put_flight(all, flights.flight(number), row, number)?;
+    }
+    Ok(())
+}
+
+fn put_flight(
+    all: &mut Vec<Control>,
+    flight: &Flight,
+    row: &ChangeRow,
+    number: u32,
+) -> Result<(), AllocError>
+    requires legs { length flight.now.legs ≤ 8 }
+    ensures { OnOk result (all.new.items ≡ all.old.items
+        ++ (if is_named row.now flight.now then on_legs row.now number 0 flight.now.legs else [])) }
+{
+    if !is_named(row, flight) {
+        return Ok(());
+    }
+    put_legs(all, flight.legs.as_slice(), row, number)
+}
+
+fn is_named(row: &ChangeRow, flight: &Flight) -> bool
+    ensures { result ≡ is_named row.now flight.now }
+{
+    flight.airline == row.airline && flight.number == row.number && flight.suffix == row.suffix
+}
+
+#[tactic(auto, using(crate::proofs::Changing::leg_put, crate::proofs::Changing::legs_put))]
+fn put_legs(
+    all: &mut Vec<Control>,
+    legs: &[DatedLeg],
+    row: &ChangeRow,
+    flight: u32,
+) -> Result<(), AllocError>
+    requires legs { length legs.now ≤ 8 }
+    ensures { OnOk result (all.new.items ≡ all.old.items ++ on_legs row.now flight 0 legs.now) }
+{
+    for leg in 0..legs.len() {
+        put_leg(all, &legs[leg], row, flight, leg as u8)?;
+    }
+    Ok(())
+}
+
+fn put_leg(
+    all: &mut Vec<Control>,
+    here: &DatedLeg,
+    row: &ChangeRow,
+    flight: u32,
+    leg: u8,
+) -> Result<(), AllocError>
+    ensures { OnOk result (all.new.items ≡ all.old.items
+        ++ (if here.now.day == row.now.day then on_leg row.now.setting flight leg ∷ [] else [])) }
+{
+    if here.day != row.day {
+        return Ok(());
+    }
+    add(all, on_leg(row.setting, flight, leg))
+}
+
+fn add(all: &mut Vec<Control>, control: Control) -> Result<(), AllocError>
+    ensures { OnOk result (all.new.items ≡ all.old.items ++ control ∷ []) }
+{
+    let _limit: Option<Change> = None;
+    let _sale: Option<SaleChange> = None;
+    let _class: Option<Class> = None;
+    all.push(control)?;
+    Ok(())
 }

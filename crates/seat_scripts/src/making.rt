@@ -3,14 +3,14 @@
 ghost use Rattle.std.specs.Prelude.{◌≡◌, ◌≢◌, ◌↔◌, ◌≤◌, IfErr, IfOk, IsTrue, OnOk, Some, drop, length, map, slice_get, take};
 ghost use Rattle.std.specs.List.{AllByRecursion};
 ghost use Rattle.seat_desk.specs.AuditDesk.{most_lines};
-ghost use Rattle.seat_journal.specs.declared.entry.Work.TheVariants.{Limit};
+ghost use Rattle.seat_journal.specs.Controls.{set_by};
 ghost use Rattle.seat_replies.specs.Changes.{IsOnLeg};
 ghost use Rattle.seat_scripts.specs.Resuming.{AreMade, IsFirstOther, IsUnmadeBy, changes_left};
 
-use crate::against::sets;
+use crate::against::is_same;
 use crate::resuming::{calls_in, stranger};
 use seat_desk::DeskFault;
-use seat_journal::{Change, Entry, Work};
+use seat_journal::{Control, Entry, Work};
 use std::alloc::{AllocError, Global};
 
 /// What is left of changes of which a journal has a beginning: behind its first lines, so many, the lines of session 0 are the first
@@ -18,10 +18,10 @@ use std::alloc::{AllocError, Global};
 #[tactic(auto, using(crate::proofs::Rest::unmade_line))]
 pub(crate) fn changes_left(
     alloc: Global,
-    changes: &[Change],
+    changes: &[Control],
     journal: &[Entry],
     behind: usize,
-) -> Result<Vec<Change>, DeskFault>
+) -> Result<Vec<Control>, DeskFault>
     requires behind { behind ≤ length journal.now }
     requires lines { length journal.now ≤ most_lines }
     ensures made { OnOk result (AreMade changes.now (drop behind journal.now)) }
@@ -42,7 +42,7 @@ pub(crate) fn changes_left(
 }
 
 /// Whether the lines of session 0 are what the changes begin with; else the first line of it, from 1, that is not.
-fn all_made(changes: &[Change], lines: &[Entry]) -> Result<(), u32>
+fn all_made(changes: &[Control], lines: &[Entry]) -> Result<(), u32>
     requires lines { length lines.now ≤ most_lines }
     ensures ok { OnOk result (AreMade changes.now lines.now) }
     ensures other { IfErr result (IsFirstOther changes.now lines.now) }
@@ -62,17 +62,17 @@ fn all_made(changes: &[Change], lines: &[Entry]) -> Result<(), u32>
 
 /// Whether the change at this place is there, and is what a line asks for.
 #[tactic(auto, using(crate::proofs::Made::made_there, crate::proofs::Made::made_nowhere))]
-fn is_made(changes: &[Change], place: u32, work: Work) -> bool
-    ensures { IsTrue result ↔ (slice_get (map Limit changes.now) place ≡ Some work) }
+fn is_made(changes: &[Control], place: u32, work: Work) -> bool
+    ensures { IsTrue result ↔ (slice_get (map set_by changes.now) place ≡ Some work) }
 {
     match changes.get(place as usize) {
-        Some(change) => sets(change, work),
+        Some(change) => is_same(change.work(), work),
         None => false,
     }
 }
 
 /// The changes behind so many.
-fn rest_of(alloc: Global, changes: &[Change], done: usize) -> Result<Vec<Change>, AllocError>
+fn rest_of(alloc: Global, changes: &[Control], done: usize) -> Result<Vec<Control>, AllocError>
     ensures { IfOk result (λ rest. rest.items ≡ drop done changes.now) }
 {
     let front = done.min(changes.len());

@@ -1,9 +1,9 @@
 //! The lines of a run as entries that can be written and read again, each field with a value of its type.
 ghost use Rattle.std.specs.List.{AllByRecursion};
-ghost use Rattle.seat_journal.specs.Text.{IsAdvice, IsChange, IsCommand, IsEntry, IsPlace, IsStem, IsWork};
+ghost use Rattle.seat_journal.specs.Text.{IsAdvice, IsChange, IsCommand, IsEntry, IsPlace, IsSale, IsStem, IsWork};
 
 use airline_base::Place;
-use seat_journal::{Advice, Change, Command, Entry, Work};
+use seat_journal::{Advice, Change, Command, Entry, SaleChange, Work};
 
 /// Each line is an entry, whose text can be read again. It only reads them: their types say it, before anything is written.
 pub fn prove_entries(lines: &[Entry])
@@ -38,6 +38,7 @@ fn prove_work(work: Work)
     match work {
         Work::Seats(command) => prove_command(command),
         Work::Limit(change) => prove_change(change),
+        Work::Sale(change) => prove_sale(change),
     }
 }
 
@@ -46,6 +47,15 @@ fn prove_change(change: Change)
 {
     let _flight = change.flight;
     let _class = change.class.letter();
+}
+
+fn prove_sale(change: SaleChange)
+    ensures { IsSale change }
+{
+    let _flight = change.flight;
+    if let Some(class) = change.class {
+        let _class = class.letter();
+    }
 }
 
 fn prove_command(command: Command)

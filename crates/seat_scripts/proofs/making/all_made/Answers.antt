@@ -1,6 +1,6 @@
+use Rattle.seat_journal.specs.Controls.{set_by}
 use Rattle.std.proofs.Common.{◌≡◌, ◌+◌, ℕ, Some, map, subst, sym, take}
 use Rattle.std.specs.Prelude.{slice_get}
-use Rattle.seat_journal.specs.declared.entry.Work.TheVariants.{Limit}
 use Rattle.seat_scripts.proofs.Comparing.{untold}
 use Rattle.seat_scripts.proofs.Made.{MadeSoFar, made_all, made_other, made_own, other_here}
 use Rattle.seat_scripts.proofs.making.all_made.Goals as goal
@@ -9,7 +9,7 @@ use Rattle.seat_scripts.proofs.making.all_made.Goals.{then-entry-eq0+else-not-is
 pub returns-then-not-is_made-clause-other : goal.returns-then-not-is_made-clause-other
 returns-then-not-is_made-clause-other c =
     other_here c.args.changes.now c.args.lines.now c.loop-entry.calls c.loop-entry.entry-index c.entry-item.result c.loop-entry-test.true c.entry-item.is c.loop-entry.invariant
-    c.if-entry-eq0.true (untold c.is_made.result (slice_get (map Limit c.args.changes.now) c.loop-entry.calls ≡ Some c.entry-item.result.work) c.if-not-is_made.true c.is_made.ensures.1)
+    c.if-entry-eq0.true (untold c.is_made.result (slice_get (map set_by c.args.changes.now) c.loop-entry.calls ≡ Some c.entry-item.result.work) c.if-not-is_made.true c.is_made.ensures.1)
 
 pub loop-entry-preserved : goal.loop-entry-preserved
 loop-entry-preserved c =

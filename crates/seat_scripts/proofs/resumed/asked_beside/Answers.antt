@@ -1,7 +1,8 @@
+use Rattle.seat_journal.specs.declared.entry.Control.{Control}
 use Rattle.std.proofs.Common.{inl, inr, List, subst, sym, ◌≡◌, ◌∙◌}
 use Rattle.std.proofs.lemmas.Result.{err_from_is_err_and}
 use Rattle.seat_desk.specs.Desk.{IsOfInput}
-use Rattle.seat_scripts.proofs.Common.{Change, Memory, Request}
+use Rattle.seat_scripts.proofs.Common.{Memory, Request}
 use Rattle.seat_scripts.specs.Resuming.{IsNoRest, IsRestOf}
 use Rattle.seat_scripts.proofs.resumed.asked_beside.Goals as goal
 
@@ -20,7 +21,7 @@ returns-in_err-rest-clause-fault g c =
       made = made;
       are_beside = c.in_ok-made.ensures.ok;
       is_no_rest =
-          subst (λ (m : List Change). IsNoRest read.flights read.scripts m read.older.journal read.more read.core.journal fault) c.deref.ensures.value
+          subst (λ (m : List Control). IsNoRest read.flights read.scripts m read.older.journal read.more read.core.journal fault) c.deref.ensures.value
           (c.in_err-rest.ensures.fault (λ (e : fault ≡ Memory). subst IsOfInput e input));
     }))
 
@@ -35,8 +36,8 @@ returns-clause-ok g c =
       are_beside = c.in_ok-made.ensures.ok;
       is_rest =
           subst (λ (s : List (List Request)). IsRestOf read.flights read.scripts made.changes.items read.older.journal read.more read.core.journal s c.gone_on.result.changes.items) (sym went.scripts)
-          (subst (λ (m : List Change). IsRestOf read.flights read.scripts made.changes.items read.older.journal read.more read.core.journal rest.scripts m) (sym went.changes)
-          (subst (λ (m : List Change). IsRestOf read.flights read.scripts m read.older.journal read.more read.core.journal rest.scripts rest.changes.items) c.deref.ensures.value
+          (subst (λ (m : List Control). IsRestOf read.flights read.scripts made.changes.items read.older.journal read.more read.core.journal rest.scripts m) (sym went.changes)
+          (subst (λ (m : List Control). IsRestOf read.flights read.scripts m read.older.journal read.more read.core.journal rest.scripts rest.changes.items) c.deref.ensures.value
           c.in_ok-rest.ensures.ok));
       flights_are = went.flights;
       past_is = went.past;
