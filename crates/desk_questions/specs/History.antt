@@ -9,7 +9,7 @@ use Rattle.seat_journal.specs.declared.entry.Advice.{Advice}
 use Rattle.seat_journal.specs.declared.entry.Command.{Command}
 use Rattle.seat_journal.specs.declared.entry.Entry.{Entry}
 use Rattle.seat_journal.specs.declared.entry.Work.{Work}
-use Rattle.seat_journal.specs.declared.entry.Work.TheVariants.{Seats, Limit}
+use Rattle.seat_journal.specs.declared.entry.Work.TheVariants.{Seats, Limit, Sale}
 use Rattle.seat_nesting.specs.Nesting.{Ladders}
 use Rattle.seat_rules.specs.Applying.{effect_of}
 use Rattle.seat_rules.specs.Journal.{IsLegal}
@@ -46,6 +46,7 @@ is_wanted flights wanted c = keeps_locator wanted.locators.now c.locator && keep
 abbrev pub under : (Command → Bool) → Work → Option Command
 under keeps (Seats c) = (if keeps c then Some c else None)
 under keeps (Limit c) = None
+under keeps (Sale c) = None
 
 abbrev pub asked_in : (Command → Bool) → Option Entry → Option Command
 asked_in keeps None = None

@@ -3,16 +3,19 @@ use Rattle.std.proofs.Common.{◌≡◌, ◌==◌, ◌&&◌, ℕ, ◌≤◌, Boo
 use Rattle.std.specs.List.{AllByRecursion, flat_map}
 use Rattle.seat_journal.specs.declared.entry.Change.{Change}
 use Rattle.seat_journal.specs.declared.entry.Entry.{Entry}
+use Rattle.seat_journal.specs.declared.entry.SaleChange.{SaleChange}
 use Rattle.seat_journal.specs.declared.entry.Work.{Work}
-use Rattle.seat_journal.specs.declared.entry.Work.TheVariants.{Limit}
+use Rattle.seat_journal.specs.declared.entry.Work.TheVariants.{Limit, Sale}
 use Rattle.seat_nesting.specs.Nesting.{ByClass, IsLegLadder, IsWithin, Ladders, Steps, Table, held_from, ladder_at}
-use Rattle.seat_nesting.specs.Changing.{limits_with, may_have, step_of, with_limit}
+use Rattle.seat_nesting.specs.Changing.{limits_with, may_have, step_of, with_limit, with_sale}
 use Rattle.seat_nesting.specs.declared.ladder.Step.{Step}
-use Rattle.seat_nesting.proofs.LimitChanges.{can_parts, each_ladder, leg_ladder_with}
+use Rattle.seat_nesting.proofs.LimitChanges.{can_parts, each_ladder, each_ladder_set, leg_ladder_with}
+use Rattle.seat_nesting.specs.declared.setting.Setting.TheVariants.{ToSale}
+use Rattle.seat_nesting.proofs.MarkChanges.{leg_ladder_marks, sale_marks}
 use Rattle.seat_nesting.proofs.Rooms.{held_cons}
 use Rattle.seat_rules.specs.Bookings.{held}
 use Rattle.seat_rules.specs.Journal.{replay}
-use Rattle.seat_rules.specs.Sequential.{State, answer, may_change, set, state_of}
+use Rattle.seat_rules.specs.Sequential.{State, answer, may_change, may_set_sale, sales_by, set, state_of}
 use Rattle.seat_rules.proofs.Counters.Limits.{within_none}
 use Rattle.seat_rules.proofs.History.Lines.{each_replay}
 use Rattle.seat_rules.proofs.Passes.Quiet.{quiet_answer}
@@ -39,7 +42,7 @@ ordered_answer s n w is = record {
     within = keeps_answer s n w is.stands.ladders is.stands.within;
     quiet = quiet_answer s n w is.stands.quiet;
   };
-  ladders = each_grid AreLadders s n w is.ladders set_one;
+  ladders = each_grid AreLadders s n w is.ladders set_one shut_one;
 }
   where
     set_one : (c : Change) → w ≡ Limit c → may_change s c ≡ true → AreLadders (limits_with s.grid c.flight c.leg c.class c.limit c.wait)
@@ -47,6 +50,13 @@ ordered_answer s n w is = record {
         let p = can_parts s.grid (held s.bookings) c.flight c.leg c.class c.limit c.wait may in
         each_ladder (λ (f at : ℕ) (steps : Steps). IsLegLadder steps) s.grid c.flight c.leg c.class c.limit c.wait is.ladders
         (leg_ladder_with (ladder_at s.grid c.flight c.leg) (held s.bookings c.flight c.leg) c.class c.limit c.wait (is.ladders c.flight c.leg) p.1 p.0)
+
+    shut_one : (c : SaleChange) → w ≡ Sale c → may_set_sale s c ≡ true → AreLadders (sales_by s.grid c)
+    shut_one c is_c may =
+        let steps : Steps = ladder_at s.grid c.flight c.leg in
+        let shut : Steps = with_sale steps c.class c.closed in
+        each_ladder_set (λ (f at : ℕ) (l : Steps). IsLegLadder l) s.grid c.flight c.leg (ToSale c.class c.closed) is.ladders
+        (subst (λ (l : Steps). IsLegLadder l) (sym (sale_marks steps c.class c.closed)) (leg_ladder_marks steps shut (is.ladders c.flight c.leg)))
 
 pub ordered_replay : (grid : Ladders) (journal : List Entry) → AreLadders grid → Ordered (replay grid journal)
 ordered_replay grid journal ladders =

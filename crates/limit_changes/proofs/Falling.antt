@@ -14,7 +14,7 @@ use Rattle.limit_changes.specs.Shorts.{short_of, shorts_from}
 use Rattle.limit_changes.specs.declared.legs.NamedLeg.{NamedLeg}
 use Rattle.limit_changes.specs.declared.rows.Row.{Row}
 use Rattle.limit_changes.specs.declared.shorts.Short.{Short}
-use Rattle.limit_changes.proofs.Ranks.{cut_class, lowest_of, raise_class, same_step}
+use Rattle.limit_changes.proofs.Ranks.{SameMarks, cut_class, lowest_of, raise_class, same_step}
 
 -- ---- where no class falls short
 
@@ -70,10 +70,10 @@ none_short leg wanted seats (s ∷ lower) highest class now w none found is =
     new : Step
     new = raise_to (step_of wanted cut.class) highest cut
 
-    kind : (cut.class ≡ s.class) × (cut.listed ≡ s.listed)
+    kind : (cut.class ≡ s.class) × SameMarks s cut
     kind = cut_class (step_of wanted s.class) (lowest_of wanted seats s lower) s
 
-    kind_new : (new.class ≡ cut.class) × (new.listed ≡ cut.listed)
+    kind_new : (new.class ≡ cut.class) × SameMarks cut new
     kind_new = raise_class (step_of wanted cut.class) highest cut
 
     parts : (short_of leg (step_of wanted s.class) (held_from seats (s ∷ lower)) new ≡ [])
@@ -97,7 +97,7 @@ none_short leg wanted seats (s ∷ lower) highest class now w none found is =
         ∙ ap (λ (x : Option Step). raise_to (Some w) highest (cut_to x (lowest_of wanted seats s lower) s)) o in
         let wait : new.wait ≡ w.wait = ap (λ (x : Step). x.wait) shape ∙ reach_wait w (lowest_of wanted seats s lower) highest s in
         let whole : record s { limit = w.limit; wait = w.wait } ≡ new =
-        same_step (record s { limit = w.limit; wait = w.wait }) new (kind_new.0 ∙ kind.0) (kind_new.1 ∙ kind.1) (sym limit) (sym wait) in
+        same_step (record s { limit = w.limit; wait = w.wait }) new (kind_new.0 ∙ kind.0) (record { listed = kind_new.1.listed ∙ kind.1.listed; closed = kind_new.1.closed ∙ kind.1.closed }) (sym limit) (sym wait) in
         let here : (new.class == class) ≡ true = eq-eqb new.class class (kind_new.0 ∙ kind.0 ∙ one) in
         ap (λ (b : Bool). if b then Some new else step_of (raise_steps wanted new.limit (cut_steps wanted seats lower)) class) here
         ∙ ap (λ (x : Step). Some x) (sym whole ∙ ap (λ (x : Step). record x { limit = w.limit; wait = w.wait }) same)

@@ -29,10 +29,12 @@ least_less f g from zero h = h from
 least_less f g from (suc n) h =
     min_less (least f from n) (f (from + suc n)) (least g from n) (g (from + suc n)) (least_less f g from n h) (h (from + suc n))
 
--- where the first of two rooms is the room of a rank, and the other of one whose limit is no lower
-room_step : (hit : Bool) (a b c d : ℕ) → a ≤ c → b ≤ d → (if hit then a else min a b) ≤ (if hit then c else min c d)
-room_step true a b c d p q = p
-room_step false a b c d p q = min_less a b c d p q
+-- where the first of two rooms is the room of a rank, and the other of one whose limit is no lower, both closed or both open
+room_step : (hit shut : Bool) (a b c d : ℕ) → a ≤ c → b ≤ d
+    → (if hit then (if shut then 0 else a) else min a b) ≤ (if hit then (if shut then 0 else c) else min c d)
+room_step true true a b c d p q = omega arith
+room_step true false a b c d p q = p
+room_step false shut a b c d p q = min_less a b c d p q
 
 room_cut : (steps : Steps) (seats : ByClass) (class limit wait k : ℕ) → IfSome (step_of steps class) (λ s. limit ≤ s.limit)
     → room_on (with_limit steps class limit wait) seats k ≤ room_on steps seats k
@@ -48,13 +50,13 @@ room_cut (s ∷ lower) seats class limit wait k less =
         let new : Step = record s { limit = limit; wait = wait } in
         let here : limit - held_from seats (new ∷ lower) ≤ s.limit - held_from seats (s ∷ lower) =
         omega (arith, le, held_cons seats new lower, held_cons seats s lower) in
-        room_step (s.class == k) (limit - held_from seats (new ∷ lower)) (room_on lower seats k) (s.limit - held_from seats (s ∷ lower)) (room_on lower seats k)
+        room_step (s.class == k) s.closed (limit - held_from seats (new ∷ lower)) (room_on lower seats k) (s.limit - held_from seats (s ∷ lower)) (room_on lower seats k)
         here (omega arith)
     cases false le below =
         let rest : Steps = with_limit lower class limit wait in
         let here : s.limit - held_from seats (s ∷ rest) ≤ s.limit - held_from seats (s ∷ lower) =
         omega (arith, held_cons seats s rest, held_cons seats s lower, held_with seats lower class limit wait) in
-        room_step (s.class == k) (s.limit - held_from seats (s ∷ rest)) (room_on rest seats k) (s.limit - held_from seats (s ∷ lower)) (room_on lower seats k)
+        room_step (s.class == k) s.closed (s.limit - held_from seats (s ∷ rest)) (room_on rest seats k) (s.limit - held_from seats (s ∷ lower)) (room_on lower seats k)
         here (below le)
 
 room_less : (grid : Ladders) (seats : Table) (flight leg class limit wait : ℕ) (place : Place) (k : ℕ)

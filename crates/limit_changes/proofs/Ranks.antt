@@ -35,19 +35,25 @@ pub sound_of : (above : ℕ) (seats : ByClass) (steps : Steps) → AllByRecursio
 sound_of above seats [] all order within = tt
 sound_of above seats (s ∷ lower) all order within = (all.0, within.0, sound_of s.limit seats lower order.0 order.1 within.1)
 
+-- the same marks
+pub record SameMarks (s t : Step) : Type 0 where
+  pub listed : t.listed ≡ s.listed
+  pub closed : t.closed ≡ s.closed
+
 -- the same classes with the same marks
 abbrev pub Alike : Steps → Steps → Type 0
 Alike [] [] = Unit {0}
 Alike [] (t ∷ new) = ⊥
 Alike (s ∷ lower) [] = ⊥
-Alike (s ∷ lower) (t ∷ new) = (t.class ≡ s.class) × (t.listed ≡ s.listed) × Alike lower new
+Alike (s ∷ lower) (t ∷ new) = (t.class ≡ s.class) × SameMarks s t × Alike lower new
 
-pub same_step : (s t : Step) → t.class ≡ s.class → t.listed ≡ s.listed → s.limit ≡ t.limit → s.wait ≡ t.wait → s ≡ t
-same_step s t class listed limit wait =
+pub same_step : (s t : Step) → t.class ≡ s.class → SameMarks s t → s.limit ≡ t.limit → s.wait ≡ t.wait → s ≡ t
+same_step s t class marks limit wait =
     ap (λ (n : ℕ). record s { limit = n }) limit
     ∙ ap (λ (n : ℕ). record s { limit = t.limit; wait = n }) wait
     ∙ ap (λ (n : ℕ). record s { limit = t.limit; wait = t.wait; class = n }) (sym class)
-    ∙ ap (λ (b : Bool). record t { listed = b }) (sym listed)
+    ∙ ap (λ (b : Bool). record t { listed = b; closed = s.closed }) (sym marks.listed)
+    ∙ ap (λ (b : Bool). record t { closed = b }) (sym marks.closed)
 
 pub held_alike : (seats : ByClass) (steps new : Steps) → Alike steps new → held_from seats new ≡ held_from seats steps
 held_alike seats [] [] is = refl
@@ -127,11 +133,11 @@ may_here above seats s t lower class high low held =
     (may_have_below s.limit lower seats t.class t.limit)) same
     ∙ rw (le-leb t.limit above high, le-leb (top_of lower) t.limit low, le-leb (held_from seats (s ∷ lower)) t.limit held) refl
 
-made_here : (s t : Step) (lower : Steps) → t.class ≡ s.class → t.listed ≡ s.listed → made (s ∷ lower) t ≡ t ∷ lower
-made_here s t lower class listed =
+made_here : (s t : Step) (lower : Steps) → t.class ≡ s.class → SameMarks s t → made (s ∷ lower) t ≡ t ∷ lower
+made_here s t lower class marks =
     let same : (s.class == t.class) ≡ true = eq-eqb s.class t.class (sym class) in
     ap (λ (b : Bool). if b then record s { limit = t.limit; wait = t.wait } ∷ lower else s ∷ made lower t) same
-    ∙ ap (λ (x : Step). x ∷ lower) (same_step (record s { limit = t.limit; wait = t.wait }) t class listed refl refl)
+    ∙ ap (λ (x : Step). x ∷ lower) (same_step (record s { limit = t.limit; wait = t.wait }) t class (record { listed = marks.listed; closed = marks.closed }) refl refl)
 
 -- the change of a step, where there is one
 abbrev IsHere : ℕ → ByClass → Step → Step → Steps → Type 0
@@ -152,15 +158,15 @@ one_may R above seats s t lower class here so = cases ((s.limit == t.limit) && (
   cases true = tt
   cases false = (may_here above seats s t lower class here.0 here.1 here.2, found, tt)
 
-one_made : (s t : Step) (lower : Steps) → t.class ≡ s.class → t.listed ≡ s.listed
+one_made : (s t : Step) (lower : Steps) → t.class ≡ s.class → SameMarks s t
     → all_made (s ∷ lower) (change_of s t) ≡ t ∷ lower
-one_made s t lower class listed = cases ((s.limit == t.limit) && (s.wait == t.wait)) refl where
+one_made s t lower class marks = cases ((s.limit == t.limit) && (s.wait == t.wait)) refl where
   cases : (b : Bool) → ((s.limit == t.limit) && (s.wait == t.wait)) ≡ b
       → all_made (s ∷ lower) (if b then [] else t ∷ []) ≡ t ∷ lower
   cases true e =
       let p = and_parts (s.limit == t.limit) (s.wait == t.wait) e in
-      ap (λ (x : Step). x ∷ lower) (same_step s t class listed (eqb-true s.limit t.limit p.0) (eqb-true s.wait t.wait p.1))
-  cases false e = made_here s t lower class listed
+      ap (λ (x : Step). x ∷ lower) (same_step s t class marks (eqb-true s.limit t.limit p.0) (eqb-true s.wait t.wait p.1))
+  cases false e = made_here s t lower class marks
 
 one_lacks : (k : ℕ) (s t : Step) → k ≢ s.class → t.class ≡ s.class → LacksClass k (change_of s t)
 one_lacks k s t other class = cases ((s.limit == t.limit) && (s.wait == t.wait)) where
@@ -186,13 +192,13 @@ down_lacks k (s ∷ lower) (t ∷ new) is lacks =
 
 -- ---- cuts
 
-pub cut_class : (o : Option Step) (lowest : ℕ) (s : Step) → ((cut_to o lowest s).class ≡ s.class) × ((cut_to o lowest s).listed ≡ s.listed)
-cut_class None lowest s = (refl, refl)
+pub cut_class : (o : Option Step) (lowest : ℕ) (s : Step) → ((cut_to o lowest s).class ≡ s.class) × SameMarks s (cut_to o lowest s)
+cut_class None lowest s = (refl, record { listed = refl; closed = refl })
 cut_class (Some w) lowest s = cases (nat_lt w.limit s.limit) where
   cases : (b : Bool) → ((if b then record s { limit = max w.limit lowest; wait = w.wait } else s).class ≡ s.class)
-      × ((if b then record s { limit = max w.limit lowest; wait = w.wait } else s).listed ≡ s.listed)
-  cases true = (refl, refl)
-  cases false = (refl, refl)
+      × SameMarks s (if b then record s { limit = max w.limit lowest; wait = w.wait } else s)
+  cases true = (refl, record { listed = refl; closed = refl })
+  cases false = (refl, record { listed = refl; closed = refl })
 
 pub cut_between : (o : Option Step) (lowest : ℕ) (s : Step) → lowest ≤ s.limit
     → (lowest ≤ (cut_to o lowest s).limit) × ((cut_to o lowest s).limit ≤ s.limit)
@@ -238,7 +244,7 @@ cut_sound wanted above seats (s ∷ lower) is =
 -- what is made of a rank that is cut
 record CutHere (wanted : Steps) (above : ℕ) (seats : ByClass) (s : Step) (lower : Steps) (new : Step) : Type 0 where
   class : new.class ≡ s.class
-  listed : new.listed ≡ s.listed
+  marks : SameMarks s new
   here : IsHere above seats s new (cut_steps wanted seats lower)
   less : new.limit ≤ s.limit
 
@@ -253,11 +259,11 @@ cut_here wanted above seats s lower is =
     let one : held_from seats (s ∷ lower) ≤ lowest_of wanted seats s lower = le-max_left (held_from seats (s ∷ lower)) (top_of (cut_steps wanted seats lower)) in
     let two : top_of (cut_steps wanted seats lower) ≤ lowest_of wanted seats s lower = le-max_right (held_from seats (s ∷ lower)) (top_of (cut_steps wanted seats lower)) in
     let held : held_from seats (s ∷ cut_steps wanted seats lower) ≡ held_from seats (s ∷ lower) =
-    held_alike seats (s ∷ lower) (s ∷ cut_steps wanted seats lower) (refl, refl, cut_alike wanted seats lower) in
+    held_alike seats (s ∷ lower) (s ∷ cut_steps wanted seats lower) (refl, record { listed = refl; closed = refl }, cut_alike wanted seats lower) in
     let high : new.limit ≤ above = omega (arith, p.1, is.0) in
     let top : top_of (cut_steps wanted seats lower) ≤ new.limit = omega (arith, two, p.0) in
     let over : held_from seats (s ∷ cut_steps wanted seats lower) ≤ new.limit = omega (arith, held, one, p.0) in
-    record { class = kind.0; listed = kind.1; here = (high, top, over); less = p.1 }
+    record { class = kind.0; marks = kind.1; here = (high, top, over); less = p.1 }
 
 abbrev pub Cuts : ℕ → ℕ → Type 0
 Cuts old new = new ≤ old
@@ -277,19 +283,19 @@ cuts_may wanted above seats (s ∷ lower) is distinct =
     let mid : all_made (s ∷ lower) ups ≡ s ∷ below = made_under s lower ups lacks ∙ ap (λ (l : Steps). s ∷ l) deep.1 in (
       may_more Cuts above seats (s ∷ lower) ups (change_of s new) (may_under Cuts above seats s lower ups lacks deep.0)
           (subst (λ (l : Steps). AllMay Cuts above seats l (change_of s new)) (sym mid) (one_may Cuts above seats s new below h.class h.here h.less)),
-      made_more (s ∷ lower) ups (change_of s new) ∙ ap (λ (l : Steps). all_made l (change_of s new)) mid ∙ one_made s new below h.class h.listed,
+      made_more (s ∷ lower) ups (change_of s new) ∙ ap (λ (l : Steps). all_made l (change_of s new)) mid ∙ one_made s new below h.class h.marks,
     )
 
 -- ---- raises
 
 pub raise_class : (o : Option Step) (highest : ℕ) (s : Step)
-    → ((raise_to o highest s).class ≡ s.class) × ((raise_to o highest s).listed ≡ s.listed)
-raise_class None highest s = (refl, refl)
+    → ((raise_to o highest s).class ≡ s.class) × SameMarks s (raise_to o highest s)
+raise_class None highest s = (refl, record { listed = refl; closed = refl })
 raise_class (Some w) highest s = cases (nat_le s.limit w.limit) where
   cases : (b : Bool) → ((if b then record s { limit = min w.limit highest; wait = w.wait } else s).class ≡ s.class)
-      × ((if b then record s { limit = min w.limit highest; wait = w.wait } else s).listed ≡ s.listed)
-  cases true = (refl, refl)
-  cases false = (refl, refl)
+      × SameMarks s (if b then record s { limit = min w.limit highest; wait = w.wait } else s)
+  cases true = (refl, record { listed = refl; closed = refl })
+  cases false = (refl, record { listed = refl; closed = refl })
 
 raise_between : (o : Option Step) (highest : ℕ) (s : Step) → s.limit ≤ highest
     → (s.limit ≤ (raise_to o highest s).limit) × ((raise_to o highest s).limit ≤ highest)

@@ -25,10 +25,10 @@ use Rattle.limit_changes.proofs.Ranks.{AllMay, Cuts, Raises, all_made}
 -- ---- the changes of one leg among all
 
 abbrev pub bare : Step → Step
-bare t = record t { listed = false }
+bare t = record t { listed = false; closed = false }
 
 abbrev pub step_in : Row → Step
-step_in row = record { class = row.class; limit = row.limit; wait = row.wait; listed = false }
+step_in row = record { class = row.class; limit = row.limit; wait = row.wait; listed = false; closed = false }
 
 abbrev pub is_at : ℕ → ℕ → NamedLeg → Bool
 is_at f l leg = (leg.flight == f) && (leg.leg == l)
@@ -122,7 +122,6 @@ module _ (g : NamedLeg → Steps) where
     others [] away is = tt
     others (x ∷ xs) away is = (behind x.flight x.leg k ks (turned x away.0) ∙ is.0, others xs away.1 is.1)
 
--- marks are no matter
 -- marks are no matter
 pub bare_may : (R : ℕ → ℕ → Type 0) (above : ℕ) (seats : ByClass) (steps ts : Steps) → AllMay R above seats steps ts
     → AllMay R above seats steps (map bare ts)

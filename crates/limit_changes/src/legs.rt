@@ -2,13 +2,11 @@
 //! It knows no limit.
 ghost use Rattle.std.specs.Prelude.{◌≡◌, ◌++◌, ◌≤◌, IfOk, OnOk, length};
 ghost use Rattle.limit_changes.specs.Legs.{each_from, is_chosen, is_kept, is_named, is_so, kept_leg, kept_on, legs_by, named_leg};
-ghost use Rattle.seat_questions.specs.Rooms.{is_place, wanted_of};
-ghost use Rattle.seat_questions.specs.Why.{one_leg};
 
-use airline_base::{Day, Place};
+use airline_base::Day;
 use seat_lists::{Designator, keeps_flight};
-use seat_questions::{CityPair, keeps_day, keeps_pair};
-use ssim_flights::{DatedLeg, Flight, Flights, Served, Wanted};
+use seat_questions::{CityPair, is_found, keeps_day, keeps_pair, one_leg};
+use ssim_flights::{DatedLeg, Flight, Flights, Served};
 use std::alloc::{AllocError, Global};
 
 /// A leg of a dated flight, with what names it.
@@ -153,42 +151,7 @@ fn is_so(named: bool, is: bool) -> bool
 fn is_named(served: &Served<'_>, index: u32, flight: &Flight, leg: u8, dated: &DatedLeg) -> bool
     ensures { result ≡ is_named served.now index flight.now leg dated.now }
 {
-    is_place(one_leg(index, leg), served.find(&wanted_of(flight, dated)))
-}
-
-fn one_leg(index: u32, leg: u8) -> Place
-    ensures { result ≡ one_leg index leg }
-{
-    Place {
-        flight: index,
-        from: leg,
-        to: leg,
-    }
-}
-
-fn is_place(place: Place, found: Option<Place>) -> bool
-    ensures { result ≡ is_place place found }
-{
-    match found {
-        Some(other) => {
-            other.flight == place.flight && other.from == place.from && other.to == place.to
-        }
-        None => false,
-    }
-}
-
-/// What a row for a leg names.
-fn wanted_of(flight: &Flight, dated: &DatedLeg) -> Wanted
-    ensures { result ≡ wanted_of flight.now dated.now }
-{
-    Wanted {
-        airline: flight.airline,
-        number: flight.number,
-        suffix: flight.suffix,
-        day: dated.day,
-        board: dated.board,
-        off: dated.off,
-    }
+    is_found(served, flight, one_leg(index, leg), dated)
 }
 
 /// Whether a leg is asked for, on a flight that is.

@@ -88,6 +88,7 @@ fn cut_to(wanted: Option<Step>, lowest: u16, step: &Step) -> Step
             limit: wanted.limit.max(lowest),
             wait: wanted.wait,
             listed: step.listed,
+            closed: step.closed,
         },
         _ => *step,
     }
@@ -103,6 +104,7 @@ fn raise_to(wanted: Option<Step>, highest: u16, step: &Step) -> Step
             limit: wanted.limit.min(highest),
             wait: wanted.wait,
             listed: step.listed,
+            closed: step.closed,
         },
         _ => *step,
     }

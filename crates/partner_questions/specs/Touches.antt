@@ -7,7 +7,7 @@ use Rattle.seat_journal.specs.declared.entry.Advice.{Advice}
 use Rattle.seat_journal.specs.declared.entry.Command.{Command}
 use Rattle.seat_journal.specs.declared.entry.Entry.{Entry}
 use Rattle.seat_journal.specs.declared.entry.Work.{Work}
-use Rattle.seat_journal.specs.declared.entry.Work.TheVariants.{Seats, Limit}
+use Rattle.seat_journal.specs.declared.entry.Work.TheVariants.{Seats, Limit, Sale}
 use Rattle.seat_rules.specs.Applying.{effect_of}
 use Rattle.seat_rules.specs.declared.effect.Effect.{Effect}
 use Rattle.seat_rules.specs.declared.effect.Effect.TheVariants.{Holds, Waits, Reduces, Nothing}
@@ -32,6 +32,7 @@ name_on flights c = name_in c.locator (segment_of flights c)
 abbrev pub name_asked : List Flown → Work → Option Name
 name_asked flights (Seats c) = name_on flights c
 name_asked flights (Limit c) = None
+name_asked flights (Sale c) = None
 
 -- seats are held or wait from then on, or are taken off
 abbrev pub touches : Effect → Bool

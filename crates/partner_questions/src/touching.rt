@@ -32,6 +32,7 @@ fn name_asked(flights: &Flights, work: &Work) -> Option<Name>
     match work {
         Work::Seats(command) => name_on(flights, command),
         Work::Limit(_) => None,
+        Work::Sale(_) => None,
     }
 }
 

@@ -35,7 +35,7 @@ abbrev pub same_mark : Bool → Bool → Bool
 same_mark true b = b
 same_mark false b = not b
 
--- the same class, limit and wait, and the same mark of the wait
+-- the same class, limit and wait, and the same mark of the wait; no limit row closes a class
 abbrev pub same_step : Step → Step → Bool
 same_step a b = (a.class == b.class) && ((a.limit == b.limit) && ((a.wait == b.wait) && same_mark a.listed b.listed))
 

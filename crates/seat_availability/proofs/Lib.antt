@@ -2,6 +2,7 @@ mod Adding
 mod Answering
 mod Apart
 mod Changing
+mod Closings
 mod Reading
 mod Standing
 mod Sufficing

@@ -1,5 +1,5 @@
 -- The segments of a horizon, and what a partner is told of each.
-use Rattle.std.specs.Prelude.{◌≡◌, ℕ, ◌+◌, ◌==◌, ◌&&◌, min, Bool, false, List, [], ◌∷◌, ◌++◌, drop, map, None, if◌then◌else◌}
+use Rattle.std.specs.Prelude.{◌≡◌, ℕ, ◌+◌, ◌==◌, ◌&&◌, min, Bool, true, false, List, [], ◌∷◌, ◌++◌, drop, map, None, if◌then◌else◌}
 use Rattle.std.specs.List.{AllByRecursion}
 use Rattle.airline_base.specs.declared.place.Place.{Place}
 use Rattle.ssim_flights.specs.declared.flight.DatedLeg.{DatedLeg}
@@ -8,11 +8,11 @@ use Rattle.seat_nesting.specs.Nesting.{HasLadders, Ladders, ladder_at}
 use Rattle.seat_nesting.specs.declared.ladder.Step.{Step}
 use Rattle.seat_rules.specs.Bookings.{same_place}
 use Rattle.seat_rules.specs.Sequential.{State, room_left}
-use Rattle.seat_questions.specs.Rooms.{is_shown, place_of, run_of}
+use Rattle.seat_questions.specs.Rooms.{is_shown, none_closed, place_of, run_of}
 use Rattle.seat_questions.specs.declared.rooms.RoomsOf.{RoomsOf}
 use Rattle.seat_lists.specs.Picking.{keeps_flight}
 use Rattle.seat_availability.specs.Partners.{threshold_of}
-use Rattle.seat_availability.specs.Statuses.{status_at}
+use Rattle.seat_availability.specs.Statuses.{is_operated, status_at}
 use Rattle.seat_availability.specs.declared.segments.Asked.{Asked}
 use Rattle.seat_availability.specs.declared.segments.Message.{Message}
 use Rattle.seat_availability.specs.declared.segments.Segment.{Segment}
@@ -92,6 +92,13 @@ message_of asked s segment = message_at asked s segment (room_left s segment.pla
 -- a message for each segment
 abbrev pub messages : Asked → List Flown → Ladders → State → List Message
 messages asked flights grid s = map (message_of asked s) (segments flights asked grid)
+
+-- ---- what is closed
+
+-- where seats are authorised on each leg, a class that is closed on any of them is told as closed, and its list with it
+abbrev pub ClosedIsTold : Type 0
+ClosedIsTold = (asked : Asked) (s : State) (segment : Segment) → is_operated s.grid segment.place ≡ true
+    → none_closed s.grid segment.place segment.class ≡ false → (message_of asked s segment).status ≡ Closed
 
 -- ---- each once
 

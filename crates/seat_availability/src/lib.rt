@@ -13,7 +13,7 @@ mod statuses;
 
 pub use availability::AvailabilityOf;
 pub use changes::changed;
-pub use laws::{changes_suffice, segments_stand_once};
+pub use laws::{changes_suffice, closed_is_told, segments_stand_once};
 pub use partner::{Threshold, Thresholds, read_thresholds};
 pub use partner_fault::{PartnerFault, PartnerKind};
 pub use segments::{Asked, Message, Segment, messages};

@@ -85,7 +85,7 @@ fn may_wait(core: &Core, place: Place, class: Class) -> bool
     may
 }
 
-/// Whether a seat may wait on a leg.
+/// Whether a seat may wait on a leg, where the class is open.
 fn may_wait_on(core: &Core, flight: u32, leg: u8, class: Class) -> bool
     requires capped { core.now.cap ≤ most_lines }
     ensures { result ≡ may_wait_on (ladder_at (state_now core.now).grid flight leg)
@@ -94,6 +94,9 @@ fn may_wait_on(core: &Core, flight: u32, leg: u8, class: Class) -> bool
     let steps = core.steps(flight, leg);
     for step in steps {
         if step.class == class {
+            if step.closed {
+                return false;
+            }
             return takes_one(core, flight, leg, class, step.wait);
         }
     }

@@ -9,7 +9,7 @@ use Rattle.seat_limits.specs.Authorised.{authorised_grid, authorised_legs}
 use Rattle.seat_journal.specs.declared.entry.Command.{Command}
 use Rattle.seat_rules.specs.Bookings.{is_for}
 use Rattle.seat_rules.specs.Journal.{FitsWork, IsLegal, IsNext}
-use Rattle.seat_rules.specs.Sequential.{answer, booking_of, changed_by, confirmed, pass, reduced}
+use Rattle.seat_rules.specs.Sequential.{answer, booking_of, changed_by, confirmed, pass, reduced, sales_by}
 use Rattle.seat_rules.specs.declared.booking.Status.{Status}
 use Rattle.seat_rules.specs.declared.booking.Status.TheVariants.{Held, Waiting}
 use Rattle.seat_rules.proofs.History.Legal.{each_legal}
@@ -101,6 +101,7 @@ made_answer grid past s e f h =
     (λ c place b at found le is. made_pass grid s.grid now (reduced (is_for c.locator place c.class) c.seats s.bookings)
     (all_reduced (IsMade grid now) (is_for c.locator place c.class) c.seats s.bookings (λ x t m. made_same grid now x (record x { seats = x.seats - c.seats }) refl refl refl m) before))
     (λ c may is. made_pass grid (changed_by s.grid c) now s.bookings before)
+    (λ c may is. made_pass grid (sales_by s.grid c) now s.bookings before)
     e.work refl
   where
     now : List Entry

@@ -10,7 +10,7 @@ use Rattle.seat_nesting.specs.Nesting.{Fits, Ladders}
 use Rattle.seat_journal.specs.declared.entry.Command.{Command}
 use Rattle.seat_journal.specs.declared.entry.Entry.{Entry}
 use Rattle.seat_journal.specs.declared.entry.Work.{Work}
-use Rattle.seat_journal.specs.declared.entry.Work.TheVariants.{Seats, Limit}
+use Rattle.seat_journal.specs.declared.entry.Work.TheVariants.{Seats, Limit, Sale}
 use Rattle.seat_rules.specs.Bookings.{is_waiting}
 use Rattle.seat_rules.specs.declared.booking.Booking.{Booking}
 use Rattle.seat_rules.specs.declared.booking.Status.{Status}
@@ -95,6 +95,7 @@ pub record IsLine (journal : List Entry) (line : Entry) : Type 0 where
 abbrev pub place_asked : Work → Option Place
 place_asked (Seats c) = c.place
 place_asked (Limit c) = None
+place_asked (Sale c) = None
 
 -- ---- where a booking is
 

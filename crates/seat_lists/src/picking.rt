@@ -115,6 +115,7 @@ fn place_asked(work: &Work) -> Option<Place>
     match work {
         Work::Seats(command) => command.place,
         Work::Limit(_) => None,
+        Work::Sale(_) => None,
     }
 }
 

@@ -3,7 +3,7 @@ use Rattle.std.proofs.Common.{◌≡◌, ◌==◌, ◌&&◌, ℕ, ◌+◌, ◌-�
 use Rattle.std.specs.Cmp.Lexicographic.{pointwise}
 use Rattle.std.proofs.lemmas.List.Sums.{sum_by_push, sum_by-append}
 use Rattle.airline_base.proofs.Tests.{both_true}
-use Rattle.seat_rules.proofs.Common.{Place, Ladders, Command, Work, Seats, Limit, Entry, IsLegal, is_for, is_held, is_waiting, State, Outcome, answer, changed_by, pass, reduced, booking_of, refused, booked, replay, next_line}
+use Rattle.seat_rules.proofs.Common.{Place, Ladders, Command, Work, Seats, Limit, Sale, Entry, IsLegal, is_for, is_held, is_waiting, State, Outcome, answer, changed_by, sales_by, pass, reduced, booking_of, refused, booked, replay, next_line}
 use Rattle.seat_rules.specs.Bookings.{same_place}
 use Rattle.seat_rules.specs.declared.booking.Booking.{Booking}
 use Rattle.seat_rules.specs.declared.booking.Status.{Status}
@@ -84,6 +84,7 @@ none_asked on (Seats c) f k = of c.place where
   of None = refl
   of (Some place) = none_those on place c.class f k
 none_asked on (Limit c) f k = refl
+none_asked on (Sale c) f k = refl
 
 abbrev pub Balances : Where → ℕ → ℕ → State → Work → Outcome → Type 0
 Balances on f k s w o = held_in on o.state.bookings f k + asked on w o.released f k
@@ -113,6 +114,7 @@ answer_balances on f k s number =
       pass_moves on f k s.grid (reduced (is_for c.locator place c.class) c.seats s.bookings),
     ))
     (λ c may. omega (arith, pass_moves on f k (changed_by s.grid c) s.bookings))
+    (λ c may. omega (arith, pass_moves on f k (sales_by s.grid c) s.bookings))
   where
     waits : (c : Command) (place : Place) (why : Listing)
         → Balances on f k s (Seats c) (booked s (booking_of number c place Waiting) (listing_code why))

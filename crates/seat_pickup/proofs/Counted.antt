@@ -11,8 +11,9 @@ use Rattle.seat_journal.specs.declared.entry.Advice.{Advice}
 use Rattle.seat_journal.specs.declared.entry.Change.{Change}
 use Rattle.seat_journal.specs.declared.entry.Command.{Command}
 use Rattle.seat_journal.specs.declared.entry.Entry.{Entry}
+use Rattle.seat_journal.specs.declared.entry.SaleChange.{SaleChange}
 use Rattle.seat_journal.specs.declared.entry.Work.{Work}
-use Rattle.seat_journal.specs.declared.entry.Work.TheVariants.{Seats, Limit}
+use Rattle.seat_journal.specs.declared.entry.Work.TheVariants.{Seats, Limit, Sale}
 use Rattle.seat_rules.specs.Totals.{is_confirmation, seats_asked}
 use Rattle.seat_pickup.specs.Counting.{Adds, AddsAt, AreCounts, count_at, spot}
 use Rattle.seat_questions.specs.Why.{has_leg}
@@ -299,6 +300,9 @@ module _ (on : Where) where
 
   pub no_work : (w : Work) (change : Change) (seats : ℕ) (row : List ℕ) → w ≡ Limit change → Adds (asked on w seats) row row
   no_work w change seats row is = nothing (asked on w seats) row (λ f k. ap (λ (x : Work). asked on x seats f k) is)
+
+  pub no_sale : (w : Work) (change : SaleChange) (seats : ℕ) (row : List ℕ) → w ≡ Sale change → Adds (asked on w seats) row row
+  no_sale w change seats row is = nothing (asked on w seats) row (λ f k. ap (λ (x : Work). asked on x seats f k) is)
 
   pub work_there : (w : Work) (c : Command) (seats : ℕ) (old new : List ℕ) → w ≡ Seats c
       → Adds (placed on c.place c.class seats) old new → Adds (asked on w seats) old new

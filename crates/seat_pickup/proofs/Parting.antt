@@ -2,6 +2,7 @@
 use Rattle.std.proofs.Common.{◌≡◌, ◌==◌, ◌&&◌, ℕ, ◌+◌, ◌<◌, ◌≤◌, Bool, true, false, nat_eq, List, [], ◌∷◌, ◌++◌, length, take, drop, get_or, slice_get, Option, Some, None, refl, sym, ap, subst, ◌∙◌, arith}
 use Rattle.std.specs.Cmp.Lexicographic.{pointwise, same_text}
 use Rattle.std.specs.Option.{option_eq}
+use Rattle.std.proofs.Math.Bool.{beq}
 use Rattle.std.proofs.lemmas.List.{length-append, take-append-drop, take_all, take_more}
 use Rattle.std.proofs.lemmas.Option.{slice_get_past, slice_get_read}
 use Rattle.airline_base.specs.declared.place.Place.{Place}
@@ -10,15 +11,17 @@ use Rattle.seat_journal.specs.declared.entry.Advice.{Advice}
 use Rattle.seat_journal.specs.declared.entry.Change.{Change}
 use Rattle.seat_journal.specs.declared.entry.Command.{Command}
 use Rattle.seat_journal.specs.declared.entry.Entry.{Entry}
+use Rattle.seat_journal.specs.declared.entry.SaleChange.{SaleChange}
 use Rattle.seat_journal.specs.declared.entry.Work.{Work}
-use Rattle.seat_journal.specs.declared.entry.Work.TheVariants.{Seats, Limit}
+use Rattle.seat_journal.specs.declared.entry.Work.TheVariants.{Seats, Limit, Sale}
+use Rattle.seat_limits.proofs.RowIndexing.{same_letter}
 use Rattle.seat_rules.specs.Bookings.{same_place}
 use Rattle.seat_rules.specs.Prefixes.{Begins}
 use Rattle.seat_rules.specs.Replaying.{same_advice}
 use Rattle.seat_rules.proofs.History.Faults.{advice_same, list_is, nat_same, place_same, same_nat}
 use Rattle.seat_desk.specs.declared.fault.DeskFault.{DeskFault}
 use Rattle.seat_desk.specs.declared.fault.DeskFault.TheVariants.{NoBehind}
-use Rattle.seat_pickup.specs.Older.{IsNoBeginning, IsNoPast, IsPast, IsTooShortFor, line_there, same_change, same_command, same_line, same_work}
+use Rattle.seat_pickup.specs.Older.{IsNoBeginning, IsNoPast, IsPast, IsTooShortFor, line_there, same_change, same_command, same_line, same_sale, same_work}
 use Rattle.seat_pickup.specs.declared.past.Past.{Past}
 use Rattle.seat_pickup.specs.declared.past.Past.TheVariants.{Lines}
 
@@ -70,15 +73,48 @@ change_same a b e =
 change_itself : (a : Change) → same_change a a ≡ true
 change_itself a = rw (same_nat a.flight, same_nat a.leg, same_nat a.class, same_nat a.limit, same_nat a.wait) refl
 
+class_itself : (a : Option ℕ) → option_eq nat_eq a a ≡ true
+class_itself None = refl
+class_itself (Some a) = same_nat a
+
+marks_same : (a b : Bool) → beq a b ≡ true → a ≡ b
+marks_same true true e = refl
+marks_same true false e = absurd cc
+marks_same false true e = absurd cc
+marks_same false false e = refl
+
+mark_itself : (a : Bool) → beq a a ≡ true
+mark_itself true = refl
+mark_itself false = refl
+
+sale_is : (a b : SaleChange) → a.flight ≡ b.flight → a.leg ≡ b.leg → a.class ≡ b.class → a.closed ≡ b.closed → a ≡ b
+sale_is a b e f g h = λ i. record { flight = e i; leg = f i; class = g i; closed = h i }
+
+sale_same : (a b : SaleChange) → same_sale a b ≡ true → a ≡ b
+sale_same a b e =
+    let three = both_true ((a.flight == b.flight) && (a.leg == b.leg) && option_eq nat_eq a.class b.class) (beq a.closed b.closed) e in
+    let two = both_true ((a.flight == b.flight) && (a.leg == b.leg)) (option_eq nat_eq a.class b.class) three.0 in
+    let one = both_true (a.flight == b.flight) (a.leg == b.leg) two.0 in
+    sale_is a b (nat_same a.flight b.flight one.0) (nat_same a.leg b.leg one.1) (same_letter a.class b.class two.1) (marks_same a.closed b.closed three.1)
+
+sale_itself : (a : SaleChange) → same_sale a a ≡ true
+sale_itself a = rw (same_nat a.flight, same_nat a.leg, class_itself a.class, mark_itself a.closed) refl
+
 work_same : (a b : Work) → same_work a b ≡ true → a ≡ b
 work_same (Seats a) (Seats b) e = ap Seats (command_same a b e)
 work_same (Seats a) (Limit b) e = absurd cc
+work_same (Seats a) (Sale b) e = absurd cc
 work_same (Limit a) (Seats b) e = absurd cc
 work_same (Limit a) (Limit b) e = ap Limit (change_same a b e)
+work_same (Limit a) (Sale b) e = absurd cc
+work_same (Sale a) (Seats b) e = absurd cc
+work_same (Sale a) (Limit b) e = absurd cc
+work_same (Sale a) (Sale b) e = ap Sale (sale_same a b e)
 
 work_itself : (a : Work) → same_work a a ≡ true
 work_itself (Seats a) = command_itself a
 work_itself (Limit a) = change_itself a
+work_itself (Sale a) = sale_itself a
 
 advice_itself : (a : Advice) → same_advice a a ≡ true
 advice_itself a = rw (same_nat a.number, place_itself a.place, same_nat a.class, same_nat a.seats) refl

@@ -5,7 +5,7 @@ use Rattle.airline_base.specs.declared.place.Place.{Place}
 use Rattle.seat_journal.specs.declared.entry.Advice.{Advice}
 use Rattle.seat_journal.specs.declared.entry.Entry.{Entry}
 use Rattle.seat_journal.specs.declared.entry.Work.{Work}
-use Rattle.seat_journal.specs.declared.entry.Work.TheVariants.{Seats, Limit}
+use Rattle.seat_journal.specs.declared.entry.Work.TheVariants.{Seats, Limit, Sale}
 use Rattle.seat_rules.specs.Bookings.{is_held}
 use Rattle.seat_rules.specs.Totals.{is_confirmation, seats_asked}
 use Rattle.seat_rules.specs.declared.booking.Booking.{Booking}
@@ -39,10 +39,11 @@ abbrev pub placed : Where → Option Place → ℕ → ℕ → Counts
 placed on None class seats f k = 0
 placed on (Some place) class seats f k = those on place class seats f k
 
--- where a line asks for seats; a change of a limit asks for none
+-- where a line asks for seats; what the manager sets asks for none
 abbrev pub asked : Where → Work → ℕ → Counts
 asked on (Seats command) seats f k = placed on command.place command.class seats f k
 asked on (Limit change) seats f k = 0
+asked on (Sale change) seats f k = 0
 
 -- those that a line sells: its reply confirms them at once
 abbrev pub sold_by : Where → Entry → Counts

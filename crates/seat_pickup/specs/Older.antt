@@ -2,11 +2,13 @@
 use Rattle.std.specs.Prelude.{◌≡◌, ◌≢◌, ◌≤◌, ◌<◌, ◌&&◌, ◌==◌, ℕ, Bool, false, nat_eq, List, length, take, Option, Some, None, slice_get}
 use Rattle.std.specs.Cmp.Lexicographic.{pointwise}
 use Rattle.std.specs.Option.{option_eq}
+use Rattle.std.proofs.Math.Bool.{beq}
 use Rattle.seat_journal.specs.declared.entry.Change.{Change}
 use Rattle.seat_journal.specs.declared.entry.Command.{Command}
 use Rattle.seat_journal.specs.declared.entry.Entry.{Entry}
+use Rattle.seat_journal.specs.declared.entry.SaleChange.{SaleChange}
 use Rattle.seat_journal.specs.declared.entry.Work.{Work}
-use Rattle.seat_journal.specs.declared.entry.Work.TheVariants.{Seats, Limit}
+use Rattle.seat_journal.specs.declared.entry.Work.TheVariants.{Seats, Limit, Sale}
 use Rattle.seat_rules.specs.Bookings.{same_place}
 use Rattle.seat_rules.specs.Prefixes.{Begins}
 use Rattle.seat_rules.specs.Replaying.{same_advice}
@@ -26,11 +28,14 @@ abbrev pub same_change : Change → Change → Bool
 same_change a b =
     (a.flight == b.flight) && (a.leg == b.leg) && (a.class == b.class) && (a.limit == b.limit) && (a.wait == b.wait)
 
+abbrev pub same_sale : SaleChange → SaleChange → Bool
+same_sale a b = (a.flight == b.flight) && (a.leg == b.leg) && option_eq nat_eq a.class b.class && beq a.closed b.closed
+
 abbrev pub same_work : Work → Work → Bool
 same_work (Seats a) (Seats b) = same_command a b
-same_work (Seats a) (Limit b) = false
-same_work (Limit a) (Seats b) = false
 same_work (Limit a) (Limit b) = same_change a b
+same_work (Sale a) (Sale b) = same_sale a b
+same_work _ _ = false
 
 abbrev pub same_line : Entry → Entry → Bool
 same_line a b =

@@ -99,13 +99,14 @@ fn add_sold_by(row: &mut Vec<u64>, tally: &Tally<'_>, line: &Entry) -> Result<()
     add_asked(row, tally, &line.work, seats_asked(&line.work))
 }
 
-/// The seats that a line asks for; a change asks for none.
+/// The seats that a line asks for; what the manager sets asks for none.
 fn seats_asked(work: &Work) -> u16
     ensures { result ≡ seats_asked work.now }
 {
     match work {
         Work::Seats(command) => command.seats,
         Work::Limit(_) => 0,
+        Work::Sale(_) => 0,
     }
 }
 
@@ -118,13 +119,14 @@ fn add_cancelled_by(row: &mut Vec<u64>, tally: &Tally<'_>, line: &Entry) -> Resu
 }
 
 /// Adds seats where a line asks for some.
-#[tactic(auto, using(crate::proofs::Counted::no_work, crate::proofs::Counted::work_there))]
+#[tactic(auto, using(crate::proofs::Counted::no_work, crate::proofs::Counted::no_sale, crate::proofs::Counted::work_there))]
 fn add_asked(row: &mut Vec<u64>, tally: &Tally<'_>, work: &Work, seats: u16) -> Result<(), Memory>
     ensures { OnOk result (Adds (asked (tally_at tally.now) work.now seats) row.old.items row.new.items) }
 {
     match work {
         Work::Seats(command) => add_placed(row, tally, command.place, command.class, seats),
         Work::Limit(_) => Ok(()),
+        Work::Sale(_) => Ok(()),
     }
 }
 

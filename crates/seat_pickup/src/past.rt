@@ -1,13 +1,13 @@
 //! The lines of a journal that stand ahead of those that are looked at: so many, or those of an older journal.
 //! It knows nothing of what lines move, and of no text.
 ghost use Rattle.std.specs.Prelude.{◌≡◌, ◌≤◌, IfErr, IfNone, IfOk, IfSome, length};
-ghost use Rattle.seat_journal.specs.declared.entry.Work.TheVariants.{Limit, Seats};
+ghost use Rattle.seat_journal.specs.declared.entry.Work.TheVariants.{Limit, Sale, Seats};
 ghost use Rattle.seat_rules.specs.Prefixes.{Begins};
 ghost use Rattle.seat_pickup.specs.Older.{IsNoBeginning, IsNoBeginningBy, IsNoPast, IsPast, IsTooShortFor, past_lines, same_line, same_work};
 
 use seat_core::are_same_advices;
 use seat_desk::DeskFault;
-use seat_journal::{Change, Command, Entry, Work};
+use seat_journal::{Change, Command, Entry, SaleChange, Work};
 
 /// Which lines stand ahead.
 #[derive(Clone, Copy)]
@@ -97,6 +97,7 @@ fn is_same_work(a: &Work, b: &Work) -> bool
     match a {
         Work::Seats(command) => asks(command, b),
         Work::Limit(change) => sets(change, b),
+        Work::Sale(change) => closes(change, b),
     }
 }
 
@@ -107,6 +108,7 @@ fn asks(command: &Command, work: &Work) -> bool
     match work {
         Work::Seats(other) => command == other,
         Work::Limit(_) => false,
+        Work::Sale(_) => false,
     }
 }
 
@@ -117,5 +119,17 @@ fn sets(change: &Change, work: &Work) -> bool
     match work {
         Work::Seats(_) => false,
         Work::Limit(other) => change == other,
+        Work::Sale(_) => false,
+    }
+}
+
+/// Whether a closing or opening is.
+fn closes(change: &SaleChange, work: &Work) -> bool
+    ensures { result ≡ same_work (Sale change.now) work.now }
+{
+    match work {
+        Work::Seats(_) => false,
+        Work::Limit(_) => false,
+        Work::Sale(other) => change == other,
     }
 }

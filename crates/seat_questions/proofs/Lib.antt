@@ -1,3 +1,4 @@
+pub mod Closings
 pub mod Common
 pub mod Coverages
 pub mod Covers

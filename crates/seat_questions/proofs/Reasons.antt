@@ -5,7 +5,7 @@ use Rattle.ssim_flights.specs.declared.flight.Flight.{Flight as Flown}
 use Rattle.seat_journal.specs.Reading.{IsFirstFault}
 use Rattle.seat_journal.specs.Text.{IsJournalText, entry_text}
 use Rattle.seat_journal.specs.declared.entry.Work.{Work}
-use Rattle.seat_journal.specs.declared.entry.Work.TheVariants.{Limit}
+use Rattle.seat_journal.specs.declared.entry.Work.TheVariants.{Limit, Sale}
 use Rattle.seat_journal.specs.declared.fault.JournalFault.{JournalFault}
 use Rattle.seat_journal.specs.declared.fault.JournalKind.{JournalKind}
 use Rattle.seat_journal.specs.declared.fault.JournalKind.TheVariants as journal_kinds
@@ -122,6 +122,7 @@ place_fits grid work place same fits = subst (λ (p : Option Place). IfSome p (F
   cases : (w : Work) → FitsWork grid w → IfSome (place_of_line w) (Fits grid)
   cases (Seats c) f = f.2
   cases (Limit c) f = (omega arith, f.there)
+  cases (Sale c) f = (omega arith, f)
 
 -- with its legs and the right line
 pub why_asked : (flights : List Flown) (grid : Ladders) (past asked_past : List Entry) (e prepared shown : Entry)

@@ -1,5 +1,5 @@
 -- What `rooms` writes: one line for each place of a flight, with the seats that are left on it in each class.
-use Rattle.std.specs.Prelude.{◌≡◌, ◌≢◌, ◌≤◌, ℕ, zero, suc, ◌-◌, ◌*◌, ◌/◌, ◌%◌, ◌==◌, ◌&&◌, nat_eq, nat_le, Bool, true, false, if◌then◌else◌, List, [], ◌∷◌, ◌++◌, length, drop, decimal, codes, Option, Some, None}
+use Rattle.std.specs.Prelude.{◌≡◌, ◌≢◌, ◌≤◌, ℕ, zero, suc, ◌-◌, ◌*◌, ◌/◌, ◌%◌, ◌==◌, ◌&&◌, nat_eq, nat_le, Bool, true, false, not, if◌then◌else◌, List, [], ◌∷◌, ◌++◌, length, drop, decimal, codes, Option, Some, None}
 use Rattle.std.specs.List.{flat_map}
 use Rattle.std.specs.Cmp.Lexicographic.{pointwise}
 use Rattle.airline_base.specs.declared.place.Place.{Place}
@@ -7,7 +7,7 @@ use Rattle.ssim_flights.specs.declared.flight.DatedLeg.{DatedLeg}
 use Rattle.ssim_flights.specs.declared.flight.Flight.{Flight as Flown}
 use Rattle.ssim_flights.specs.declared.flight.Wanted.{Wanted}
 use Rattle.ssim_flights.specs.Places.{place_wanted}
-use Rattle.seat_nesting.specs.Nesting.{ByClass, Ladders, Steps, held_from, ladder_at}
+use Rattle.seat_nesting.specs.Nesting.{ByClass, Ladders, Steps, each_leg, held_from, ladder_at}
 use Rattle.seat_nesting.specs.declared.ladder.Step.{Step}
 use Rattle.seat_journal.specs.Text.{IsJournalText}
 use Rattle.seat_journal.specs.declared.entry.Entry.{Entry}
@@ -69,9 +69,31 @@ is_shown flights asked flight place run = keeps asked run && is_found flights fl
 
 -- ---- rooms
 
--- a blank, the class and its room on the place
+-- the class is not closed on a leg with these steps; it may be missing there
+abbrev pub is_unclosed : Steps → ℕ → Bool
+is_unclosed [] class = true
+is_unclosed (s ∷ lower) class = (if s.class == class then not s.closed else is_unclosed lower class)
+
+-- on each leg of the place
+abbrev pub none_closed : Ladders → Place → ℕ → Bool
+none_closed grid place class =
+    each_leg (λ leg. is_unclosed (ladder_at grid place.flight leg) class) place.from (place.to - place.from)
+
+-- C, where the class is closed on a leg of the place
+abbrev pub closed_mark : Bool → List ℕ
+closed_mark true = []
+closed_mark false = codes "C"
+
+-- behind such a mark there is no room
+abbrev pub ClosedHasNoRoom : Type 0
+ClosedHasNoRoom = (state : State) (place : Place) (class : ℕ) → none_closed state.grid place class ≡ false →
+    room_left state place class ≡ 0
+
+-- a blank, the class, its room on the place, and the mark where it is closed
 abbrev pub room_text : State → Place → Step → List ℕ
-room_text state place step = codes " " ++ (step.class ∷ []) ++ decimal (room_left state place step.class)
+room_text state place step =
+    codes " " ++ (step.class ∷ []) ++ decimal (room_left state place step.class)
+    ++ closed_mark (none_closed state.grid place step.class)
 
 -- the room of each class that the place's first leg has, in the order of its ladder
 abbrev pub rooms_text : State → Place → List ℕ

@@ -1,6 +1,6 @@
 -- What `why` writes: a line of the journal, its legs as they stood before it, and the right answer beside the one that was given.
 use Rattle.std.specs.Prelude.{◌≡◌, ◌≤◌, ◌==◌, ◌&&◌, ℕ, ◌+◌, ◌-◌, nat_le, nat_lt, Bool, true, false, List, [], ◌∷◌, ◌++◌, length, take, slice_get, decimal, codes, Option, Some, None, if◌then◌else◌}
-use Rattle.std.specs.List.{flat_map}
+use Rattle.std.specs.List.{flat_map, list_any}
 use Rattle.airline_base.specs.declared.place.Place.{Place}
 use Rattle.ssim_flights.specs.declared.flight.DatedLeg.{DatedLeg}
 use Rattle.ssim_flights.specs.declared.flight.Flight.{Flight as Flown}
@@ -10,7 +10,7 @@ use Rattle.seat_journal.specs.Reading.{IsFirstFault}
 use Rattle.seat_journal.specs.Text.{IsJournalText, advice_text, entry_text}
 use Rattle.seat_journal.specs.declared.entry.Entry.{Entry}
 use Rattle.seat_journal.specs.declared.entry.Work.{Work}
-use Rattle.seat_journal.specs.declared.entry.Work.TheVariants.{Seats, Limit}
+use Rattle.seat_journal.specs.declared.entry.Work.TheVariants.{Seats, Limit, Sale}
 use Rattle.seat_rules.specs.Bookings.{held, waiting}
 use Rattle.seat_rules.specs.Journal.{IsLegal, asker, calls_of, next_line, replay}
 use Rattle.seat_rules.specs.Replaying.{fits_work, is_called, may_ask, replay_fault}
@@ -59,11 +59,22 @@ room_line s flight leg steps = codes "ROOM" ++ flat_map (room_text s flight leg)
 abbrev pub wait_line : ByClass → Steps → List ℕ
 wait_line seats steps = codes "WAIT" ++ flat_map (wait_text seats) steps ++ 10 ∷ []
 
--- LIMIT, HELD, ROOM and WAIT of a leg with this ladder
+-- a blank and the class, where it is closed
+abbrev pub closed_text : Step → List ℕ
+closed_text step = (if step.closed then codes " " ++ step.class ∷ [] else [])
+
+abbrev pub is_closed : Step → Bool
+is_closed step = step.closed
+
+-- the classes that are closed, where there are any
+abbrev pub closed_line : Steps → List ℕ
+closed_line steps = (if list_any is_closed steps then codes "CLOSED" ++ flat_map closed_text steps ++ 10 ∷ [] else [])
+
+-- LIMIT, HELD, ROOM and WAIT of a leg with this ladder, and CLOSED where a class is
 abbrev pub ladder_lines : State → ℕ → ℕ → Steps → List ℕ
 ladder_lines s flight leg steps =
     limit_line steps ++ held_line (held s.bookings flight leg) steps ++ room_line s flight leg steps
-    ++ wait_line (waiting s.bookings flight leg) steps
+    ++ wait_line (waiting s.bookings flight leg) steps ++ closed_line steps
 
 -- how a leg stands
 abbrev pub standing_text : State → ℕ → ℕ → List ℕ
@@ -119,10 +130,11 @@ pub record IsPlacePut (flights : List Flown) (s : State) (place : Option Place) 
   pub is_text : IsPlaceText flights s place part
   pub put : new ≡ old ++ part
 
--- the place of a line: that of its seats, or the one leg whose limit it changes
+-- the place of a line: that of its seats, or the one leg whose limit it changes, or on which it closes or opens a class
 abbrev pub place_of_line : Work → Option Place
 place_of_line (Seats c) = c.place
 place_of_line (Limit c) = Some (one_leg c.flight c.leg)
+place_of_line (Sale c) = Some (one_leg c.flight c.leg)
 
 -- ---- the answer
 

@@ -1,12 +1,12 @@
 //! The legs of a place as they stand after the lines so far.
 ghost use Rattle.std.specs.Prelude.{◌≡◌, ◌++◌, ◌≤◌, ◌<◌, IfSome, OnOk, length};
-ghost use Rattle.std.specs.List.{flat_map};
+ghost use Rattle.std.specs.List.{flat_map, list_any};
 ghost use Rattle.seat_nesting.specs.Nesting.{Fits, ladder_at};
 ghost use Rattle.seat_rules.specs.Bookings.{held, waiting, waits_on};
 ghost use Rattle.seat_rules.specs.Inventory.{state_now};
 ghost use Rattle.seat_desk.specs.AuditDesk.{most_lines};
 ghost use Rattle.seat_desk.specs.FlightsDesk.{IsPut};
-ghost use Rattle.seat_questions.specs.Why.{IsLegPart, IsLegPut, IsPlacePut, IsStandingPut, class_text, dated_legs, has_leg, held_line, held_texts, limit_line, limit_text, one_leg, room_line, room_text, standing_text, wait_line, wait_text};
+ghost use Rattle.seat_questions.specs.Why.{IsLegPart, IsLegPut, IsPlacePut, IsStandingPut, class_text, closed_line, closed_text, dated_legs, has_leg, held_line, held_texts, is_closed, limit_line, limit_text, one_leg, room_line, room_text, standing_text, wait_line, wait_text};
 
 use airline_base::{Class, Place};
 use seat_core::Core;
@@ -96,7 +96,7 @@ pub fn has_leg(place: Place, leg: u8) -> bool
     place.from <= leg && leg <= place.to
 }
 
-/// Adds the five lines of a leg.
+/// Adds the lines of a leg.
 #[tactic(auto, using(crate::proofs::Standings::standing_put))]
 fn put_covered(
     text: &mut Vec<u8>,
@@ -115,7 +115,18 @@ fn put_covered(
     put_standing(text, core, flight, leg)
 }
 
-/// Adds the limits, the seats held, the room and the seats that wait.
+/// One leg of a flight.
+pub fn one_leg(flight: u32, leg: u8) -> Place
+    ensures { result ≡ one_leg flight leg }
+{
+    Place {
+        flight,
+        from: leg,
+        to: leg,
+    }
+}
+
+/// Adds the limits, the seats held, the room and the seats that wait, and what is closed.
 fn put_standing(text: &mut Vec<u8>, core: &Core, flight: u32, leg: u8) -> Result<(), AllocError>
     requires capped { core.now.cap ≤ most_lines }
     requires fits { Fits core.now.grid (one_leg flight leg) }
@@ -125,7 +136,8 @@ fn put_standing(text: &mut Vec<u8>, core: &Core, flight: u32, leg: u8) -> Result
     put_limits(text, steps)?;
     put_held(text, core, flight, leg, steps)?;
     put_rooms(text, core, flight, leg, steps)?;
-    put_waits(text, core, flight, leg, steps)
+    put_waits(text, core, flight, leg, steps)?;
+    put_closed(text, steps)
 }
 
 /// Adds a class and a number behind a blank.
@@ -250,11 +262,7 @@ pub fn put_each_room(
     ensures { OnOk result (text.new.items ≡ text.old.items
         ++ flat_map (room_text (state_now core.now) flight leg) steps.now) }
 {
-    let place = Place {
-        flight,
-        from: leg,
-        to: leg,
-    };
+    let place = one_leg(flight, leg);
     for step in steps {
         put_class(text, step.class, u64::from(core.room(place, step.class)))?;
     }
@@ -310,4 +318,43 @@ fn put_wait(
     put_class(text, step.class, waiting(core, flight, leg, step.class))?;
     put(text, b"/")?;
     put_number(text, u64::from(step.wait))
+}
+
+/// Adds the classes that are closed, where there are any.
+fn put_closed(text: &mut Vec<u8>, steps: &[Step]) -> Result<(), AllocError>
+    ensures { OnOk result (text.new.items ≡ text.old.items ++ closed_line steps.now) }
+{
+    if !has_closed(steps) {
+        return put(text, &[]);
+    }
+    put(text, b"CLOSED")?;
+    put_each_closed(text, steps)?;
+    put(text, b"\n")
+}
+
+/// Whether any class is closed.
+fn has_closed(steps: &[Step]) -> bool
+    ensures { result ≡ list_any is_closed steps.now }
+{
+    steps.iter().any(|step| step.closed)
+}
+
+fn put_each_closed(text: &mut Vec<u8>, steps: &[Step]) -> Result<(), AllocError>
+    ensures { OnOk result (text.new.items ≡ text.old.items ++ flat_map closed_text steps.now) }
+{
+    for step in steps {
+        put_if_closed(text, step)?;
+    }
+    Ok(())
+}
+
+/// Adds a class behind a blank, where it is closed.
+fn put_if_closed(text: &mut Vec<u8>, step: &Step) -> Result<(), AllocError>
+    ensures { OnOk result (text.new.items ≡ text.old.items ++ closed_text step.now) }
+{
+    if step.closed {
+        put(text, &[b' ', step.class.letter()])
+    } else {
+        put(text, &[])
+    }
 }

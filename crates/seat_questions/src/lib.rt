@@ -15,10 +15,12 @@ mod winning;
 pub use cover::Cover;
 pub use coverage::Coverage;
 pub use laws::{
-    found_places_are_written, opening_rooms_are_of_no_lines, rows_without_effect_give_nothing,
-    written_places_are_found,
+    closed_has_no_room, found_places_are_written, opening_rooms_are_of_no_lines,
+    rows_without_effect_give_nothing, written_places_are_found,
 };
-pub use legs::{has_leg, put_class, put_each_room, put_each_wait, waiting};
-pub use rooms::{Bars, CityPair, RoomsOf, is_shown, keeps_day, keeps_pair, put_bars, run_of};
+pub use legs::{has_leg, one_leg, put_class, put_each_room, put_each_wait, waiting};
+pub use rooms::{
+    Bars, CityPair, RoomsOf, is_found, is_shown, keeps_day, keeps_pair, put_bars, run_of,
+};
 pub use why::Why;
 pub use winning::winners;

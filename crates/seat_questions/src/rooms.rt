@@ -5,7 +5,7 @@ ghost use Rattle.seat_rules.specs.Inventory.{state_now};
 ghost use Rattle.seat_desk.specs.AuditDesk.{IsUnlawful, most_journal_bytes};
 ghost use Rattle.seat_desk.specs.FlightsDesk.{IsPut};
 ghost use Rattle.seat_desk.specs.Loading.{IsGridOf};
-ghost use Rattle.seat_questions.specs.Rooms.{AreRoomsAfter, IsAdded, IsFirstPart, IsLastPart, IsPlaceText, IsRoomsText, IsRunText, bar, bar_line, bar_share, bars_text, block_bar, filled, has_half, is_found, is_place, is_shown, keeps, keeps_day, keeps_pair, leg_bars, place_bars, plain_bar, room_text, rooms_part, rooms_text, run_of, times, wanted_of};
+ghost use Rattle.seat_questions.specs.Rooms.{AreRoomsAfter, IsAdded, IsFirstPart, IsLastPart, IsPlaceText, IsRoomsText, IsRunText, bar, bar_line, bar_share, bars_text, block_bar, closed_mark, filled, has_half, is_found, is_place, is_shown, is_unclosed, keeps, keeps_day, keeps_pair, leg_bars, none_closed, place_bars, plain_bar, room_text, rooms_part, rooms_text, run_of, times, wanted_of};
 
 use airline_base::{Class, Day, Place, Station};
 use seat_core::Core;
@@ -248,7 +248,7 @@ pub fn is_shown(
 }
 
 /// Whether a request for a place's own designator, day and stations is answered from this very place.
-fn is_found(served: &Served<'_>, flight: &Flight, place: Place, run: &DatedLeg) -> bool
+pub fn is_found(served: &Served<'_>, flight: &Flight, place: Place, run: &DatedLeg) -> bool
     ensures { result ≡ is_found served.now flight.now place run.now }
 {
     is_place(place, served.find(&wanted_of(flight, run)))
@@ -354,7 +354,41 @@ fn put_room(text: &mut Vec<u8>, core: &Core, place: Place, step: &Step) -> Resul
 {
     put(text, b" ")?;
     put(text, &[step.class.letter()])?;
-    put_number(text, u64::from(core.room(place, step.class)))
+    put_number(text, u64::from(core.room(place, step.class)))?;
+    put(text, closed_mark(none_closed(core, place, step.class)))
+}
+
+/// The mark behind the room of a class, where the class is closed.
+fn closed_mark(unclosed: bool) -> &'static [u8]
+    ensures { result.now ≡ closed_mark unclosed }
+{
+    if unclosed { b"" } else { b"C" }
+}
+
+/// Whether a class is closed on no leg of a place.
+fn none_closed(core: &Core, place: Place, class: Class) -> bool
+    requires { place.from ≤ place.to }
+    ensures { result ≡ none_closed (state_now core.now).grid place class }
+{
+    let flight = place.flight;
+    let mut all = is_unclosed(core.steps(flight, place.from), class);
+    for leg in place.from..place.to {
+        let here = is_unclosed(core.steps(flight, leg + 1), class);
+        all = all && here;
+    }
+    all
+}
+
+/// Whether a class is not closed on a leg with these steps; it may be missing there.
+fn is_unclosed(steps: &[Step], class: Class) -> bool
+    ensures { result ≡ is_unclosed steps.now class }
+{
+    for step in steps {
+        if step.class == class {
+            return !step.closed;
+        }
+    }
+    true
 }
 
 /// Adds the bars of a place, where it is one leg and they are asked for.

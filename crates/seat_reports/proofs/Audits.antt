@@ -1,9 +1,8 @@
 -- What answers an audit is one.
-use Rattle.std.proofs.Common.{◌≡◌, ℕ, List, ⊎_elim, inl, inr, subst}
-use Rattle.ssim_flights.specs.declared.flight.Flight.{Flight as Flown}
+use Rattle.std.proofs.Common.{ℕ, List, ⊎_elim, inl, inr, subst}
 use Rattle.seat_limits.specs.Authorised.{authorised_grid}
 use Rattle.seat_nesting.specs.Nesting.{Ladders}
-use Rattle.seat_desk.specs.Answering.{IsAnswer, IsRefusedAnswer, IsRefusedJournalOver}
+use Rattle.seat_desk.specs.Answering.{IsAnswer, IsRefusedJournalOver}
 use Rattle.seat_desk.specs.Sealing.{Agrees}
 use Rattle.seat_seal.specs.declared.beside.Beside.{Beside}
 use Rattle.seat_desk.specs.AuditDesk.{IsAudit, IsAudited, IsRefusedAudit, IsUnlawful}

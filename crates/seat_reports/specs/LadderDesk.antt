@@ -4,7 +4,7 @@ use Rattle.std.specs.List.{flat_map}
 use Rattle.seat_journal.specs.declared.entry.Advice.{Advice}
 use Rattle.seat_journal.specs.declared.entry.Entry.{Entry}
 use Rattle.seat_journal.specs.declared.entry.Work.{Work}
-use Rattle.seat_journal.specs.declared.entry.Work.TheVariants.{Seats, Limit}
+use Rattle.seat_journal.specs.declared.entry.Work.TheVariants.{Seats, Limit, Sale}
 use Rattle.seat_nesting.specs.declared.ladder.Step.{Step}
 use Rattle.seat_limits.specs.declared.limit_fault.LimitKind.{LimitKind}
 use Rattle.seat_limits.specs.LadderText.{ladder_in}
@@ -53,10 +53,11 @@ lines_after grid past (w ∷ ws) = lines_after grid (past ++ line_for grid past 
 abbrev pub advice_text : Advice → List ℕ
 advice_text a = codes " KL" ++ decimal a.seats ++ codes "/" ++ decimal a.number
 
--- the seats that were asked; a change of a limit asks for none
+-- the seats that were asked; what the manager sets asks for none
 abbrev pub asked_text : Work → List ℕ
 asked_text (Seats c) = decimal c.seats
 asked_text (Limit c) = []
+asked_text (Sale c) = []
 
 -- the number, the reply with the seats asked, and the advices
 abbrev pub entry_text : Entry → List ℕ

@@ -10,7 +10,7 @@ use Rattle.airline_base.specs.declared.place.Place.{Place}
 use Rattle.seat_journal.specs.declared.entry.Change.{Change}
 use Rattle.seat_journal.specs.declared.entry.Command.{Command}
 use Rattle.seat_journal.specs.declared.entry.Work.{Work}
-use Rattle.seat_journal.specs.declared.entry.Work.TheVariants.{Seats, Limit}
+use Rattle.seat_journal.specs.declared.entry.Work.TheVariants.{Seats, Limit, Sale}
 use Rattle.seat_limits.specs.LadderText.{ladder_in}
 use Rattle.seat_nesting.specs.Nesting.{Steps}
 use Rattle.seat_nesting.specs.declared.ladder.Step.{Step}
@@ -102,6 +102,8 @@ pub record IsChangeHere (c : Change) : Type 0 where
   pub limit : c.limit ≤ 999
   pub wait : c.wait ≤ 999
 
+-- no line of a ladder's input closes or opens a class
 abbrev pub IsOrder : Work → Type 0
 IsOrder (Seats c) = IsCommandHere c
 IsOrder (Limit c) = IsChangeHere c
+IsOrder (Sale c) = ⊥

@@ -9,7 +9,7 @@ use crate::lines::cut_at_feed;
 use airline_base::fields::{are_digits, value_of, word_of};
 use airline_base::{Class, Code, Locator, Place};
 use seat_desk::{DeskFault, MOST_LINES};
-use seat_journal::{Change, Command, Work};
+use seat_journal::{Change, Command, SaleChange, Work};
 use seat_limits::read_ladder;
 use seat_nesting::Step;
 use std::alloc::Global;
@@ -54,6 +54,8 @@ fn take_order<'a>(orders: &mut Vec<Work>, bytes: &'a [u8]) -> Result<&'a [u8], D
     ensures orders { OnOk result (All IsOrder orders.new.items) }
     ensures few { OnOk result (length orders.new.items ≤ 999999) }
 {
+    let _class: Option<Class> = None;
+    let _sale: Option<SaleChange> = None;
     let (text, rest) = cut_at_feed(bytes);
     let line = orders.len() as u32 + 2;
     let Some(order) = order_of(text) else {

@@ -25,13 +25,14 @@ fn put_advices(text: &mut Vec<u8>, advices: &[Advice]) -> Result<(), AllocError>
     Ok(())
 }
 
-/// Adds the seats that were asked; a change of a limit asks for none.
+/// Adds the seats that were asked; what the manager sets asks for none.
 fn put_asked(text: &mut Vec<u8>, work: &Work) -> Result<(), AllocError>
     ensures { OnOk result (text.new.items ≡ text.old.items ++ asked_text work.now) }
 {
     match work {
         Work::Seats(command) => put_number(text, u64::from(command.seats)),
         Work::Limit(_) => Ok(()),
+        Work::Sale(_) => Ok(()),
     }
 }
 

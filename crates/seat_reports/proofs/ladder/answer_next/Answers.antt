@@ -1,4 +1,4 @@
-use Rattle.std.proofs.Common.{◌≡◌, ◌+◌, ◌++◌, ◌∷◌, [], ap, ◌∙◌}
+use Rattle.std.proofs.Common.{◌+◌, ◌++◌, ◌∷◌, [], ap, ◌∙◌}
 use Rattle.seat_rules.specs.Inventory.{HasLine}
 use Rattle.seat_rules.specs.Journal.{calls_of, next_line}
 use Rattle.seat_reports.proofs.ladder.answer_next.Goals as goal
