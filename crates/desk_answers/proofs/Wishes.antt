@@ -7,7 +7,7 @@ use Rattle.airimp_lines.specs.declared.requests.Request.{Request}
 use Rattle.ssim_flights.specs.declared.flight.Flight.{Flight as Flown}
 use Rattle.seat_journal.specs.declared.entry.Entry.{Entry}
 use Rattle.seat_journal.specs.declared.entry.Work.{Work}
-use Rattle.seat_journal.specs.declared.entry.Work.TheVariants.{Seats, Limit}
+use Rattle.seat_journal.specs.declared.entry.Work.TheVariants.{Seats, Limit, Sale}
 use Rattle.seat_nesting.specs.Nesting.{Fits, Ladders}
 use Rattle.ssim_flights.specs.Places.{place_wanted}
 use Rattle.seat_replies.specs.Requests.{wanted_of}
@@ -100,6 +100,7 @@ no_line past journal lines more none = more ∙ ap (λ (l : List Entry). past ++
 pub requested : (wish : Request) (work : Work) → IsRequested (wish ∷ []) 0 work
 requested wish (Seats c) = omega arith
 requested wish (Limit c) = tt
+requested wish (Sale c) = tt
 
 -- the last line of a legal journal can be told, with its advices
 pub answerable : (flights : List Flown) (grid : Ladders) (journal : List Entry) (wish : Request) (line : Entry)

@@ -1,14 +1,16 @@
 //! A look at the seats that are left.
 ghost use Rattle.std.specs.Prelude.{◌≡◌, ◌==◌, ◌++◌, IfOk, IfSome, OnOk, decimal};
 ghost use Rattle.ssim_flights.specs.Places.{place_wanted};
+ghost use Rattle.flight_days.specs.Leaving.{AreDaysOf};
 ghost use Rattle.seat_desk.specs.FlightsDesk.{IsText};
 ghost use Rattle.seat_desk.specs.Loading.{IsGridOf};
 ghost use Rattle.seat_nesting.specs.Nesting.{Fits};
-ghost use Rattle.desk_answers.specs.Looks.{class_text, classes_text, flight_text, left_text, wanted_at, wanted_on, IsAhead, IsDayLook, IsFlightLine, IsFoundLine, IsLookLine, IsNoneLine, IsOwnLine, IsPlaceLine, IsSeen};
+ghost use Rattle.desk_answers.specs.Looks.{class_text, classes_text, flight_text, left_text, wanted_at, wanted_on, IsAhead, IsDayLook, IsFlightLine, IsFoundLine, IsLookLine, IsNoneLine, IsOwnLine, IsPlaceLine, IsSaidOf, IsSeen};
 
 use crate::seats::Seats;
 use airimp_lines::{FlightClass, Look};
 use airline_base::{Class, Memory, Place};
+use flight_days::DayFlights;
 use seat_desk::{put, put_designator, put_number};
 use seat_nesting::Step;
 use ssim_flights::{Flight, Flights, Served, Wanted};
@@ -30,6 +32,27 @@ pub fn seen<S: Seats>(
     match &look.flight {
         Some(flight) => look_line(alloc, served, seats, flight, look),
         None => day_lines(alloc, flights, served, seats, look),
+    }
+}
+
+/// The same, where the flights of each day are known: a look at a day goes over its flights alone.
+pub fn seen_by_day<S: Seats>(
+    alloc: Global,
+    flights: &Flights,
+    served: &Served<'_>,
+    days: &DayFlights,
+    seats: &S,
+    look: &Look,
+) -> Result<Vec<u8>, Memory>
+    requires served { served.now ≡ flights.now }
+    requires days { AreDaysOf days.now flights.now }
+    requires grid { IsGridOf flights.now (S.ladders seats.now) }
+    ensures { IfOk result (λ text. IsSeen flights.now (S.ladders seats.now) (S.state seats.now) (S.count seats.now)
+        look.now.flight look.now text.items) }
+{
+    match &look.flight {
+        Some(flight) => look_line(alloc, served, seats, flight, look),
+        None => lines_by_day(alloc, flights, served, days, seats, look),
     }
 }
 
@@ -57,7 +80,7 @@ fn look_line<S: Seats>(
 }
 
 // The lines that answer a look at each flight of a day between two stations.
-#[tactic(auto, using(crate::proofs::Days::said_none, crate::proofs::Days::said_some))]
+#[tactic(auto, using(crate::proofs::Days::day_said))]
 fn day_lines<S: Seats>(
     alloc: Global,
     flights: &Flights,
@@ -70,6 +93,38 @@ fn day_lines<S: Seats>(
     ensures { IfOk result (λ text. IsDayLook flights.now (S.ladders seats.now) (S.state seats.now) (S.count seats.now) look.now text.items) }
 {
     let lines = flight_lines(alloc, flights, served, seats, look)?;
+    lines_or_none(alloc, seats, look, lines)
+}
+
+// The same, where the flights of each day are known.
+#[tactic(auto, using(crate::proofs::Days::day_said))]
+fn lines_by_day<S: Seats>(
+    alloc: Global,
+    flights: &Flights,
+    served: &Served<'_>,
+    days: &DayFlights,
+    seats: &S,
+    look: &Look,
+) -> Result<Vec<u8>, Memory>
+    requires served { served.now ≡ flights.now }
+    requires days { AreDaysOf days.now flights.now }
+    requires grid { IsGridOf flights.now (S.ladders seats.now) }
+    ensures { IfOk result (λ text. IsDayLook flights.now (S.ladders seats.now) (S.state seats.now) (S.count seats.now) look.now text.items) }
+{
+    let lines = lines_on_day(alloc, flights, served, days, seats, look)?;
+    lines_or_none(alloc, seats, look, lines)
+}
+
+// Where there are no lines, that of no flight.
+#[tactic(auto, using(crate::proofs::Days::none_said, crate::proofs::Days::some_said))]
+fn lines_or_none<S: Seats>(
+    alloc: Global,
+    seats: &S,
+    look: &Look,
+    lines: Vec<u8>,
+) -> Result<Vec<u8>, Memory>
+    ensures { IfOk result (λ text. IsSaidOf (S.count seats.now) look.now lines.items text.items) }
+{
     if lines.is_empty() {
         return none_line(alloc, seats, look);
     }
@@ -109,6 +164,31 @@ fn flight_lines<S: Seats>(
     let mut text = Vec::new(alloc);
     for index in 0..flights.len() {
         let line = flight_line(alloc, served, seats, look, index, flights.flight(index))?;
+        put(&mut text, line.as_slice())?;
+    }
+    Ok(text)
+}
+
+// The same: a flight that is not in the day's list has no line.
+fn lines_on_day<S: Seats>(
+    alloc: Global,
+    flights: &Flights,
+    served: &Served<'_>,
+    days: &DayFlights,
+    seats: &S,
+    look: &Look,
+) -> Result<Vec<u8>, Memory>
+    requires served { served.now ≡ flights.now }
+    requires days { AreDaysOf days.now flights.now }
+    requires grid { IsGridOf flights.now (S.ladders seats.now) }
+    ensures { IfOk result (λ text. IsText
+        (IsFlightLine flights.now (S.ladders seats.now) (S.state seats.now) (S.count seats.now) look.now) 0 flights.now text.items) }
+{
+    let mut text = Vec::new(alloc);
+    let numbers = days.on(look.day);
+    for index in numbers {
+        let flight = flights.flight(*index);
+        let line = flight_line(alloc, served, seats, look, *index, flight)?;
         put(&mut text, line.as_slice())?;
     }
     Ok(text)
